@@ -1,0 +1,64 @@
+ghost use Rattle.std.specs.Prelude.{◌≡◌, ◌↔◌, IsTrue, IfOk, [], length};
+
+use crate::NoMemory;
+use std::alloc::Global;
+use std::marker::Model;
+
+/// A list of 32-bit words. Contracts see it as that list.
+#[derive(Debug, Drop)]
+pub struct Words {
+    items: Vec<u32>,
+}
+
+impl Model for Words {
+    ghost use Rattle.std.specs.Prelude.{List, ℕ};
+
+    ghost Value = { List ℕ };
+
+    ghost view = { λ words. words.items.items };
+}
+
+impl Words {
+    /// The words of a vector. It takes no memory.
+    pub fn from_vec(v: Vec<u32>) -> Words
+        ensures { result ≡ v.items }
+    {
+        Words { items: v }
+    }
+
+    /// The vector of these words. It takes no memory.
+    pub fn into_vec(self) -> Vec<u32>
+        ensures { result.items ≡ self }
+    {
+        let Words { items } = self;
+        items
+    }
+
+    pub fn as_slice(&self) -> &[u32]
+        ensures { result.now ≡ self.now }
+    {
+        self.items.as_slice()
+    }
+
+    /// How many words there are.
+    pub fn len(&self) -> usize
+        ensures { result ≡ length self.now }
+    {
+        self.items.len()
+    }
+
+    pub fn is_empty(&self) -> bool
+        ensures { IsTrue result ↔ (self.now ≡ []) }
+    {
+        self.items.is_empty()
+    }
+
+    /// The same words in memory of their own.
+    pub fn copy(&self, alloc: Global) -> Result<Words, NoMemory>
+        ensures { IfOk result (λ copied. copied ≡ self.now) }
+    {
+        Ok(Words {
+            items: Vec::from_slice(alloc, self.items.as_slice())?,
+        })
+    }
+}
