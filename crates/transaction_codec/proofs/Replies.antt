@@ -1,16 +1,16 @@
 -- What is read as a reply is spelled so, and what is spelled so is read.
-use Rattle.std.proofs.Common.{◌≡◌, ℕ, zero, suc, ◌+◌, ◌^◌, ◌<◌, ◌≤◌, Bool, true, false, cond, not, ◌&&◌, ◌||◌, List, [], ◌∷◌, ◌++◌, length, take, drop, Result, Ok, Err, refl, sym, ap, subst, ◌∙◌, arith, eqb, ltb, inl, inr, ◌⊎◌, eq-eqb, Fits, w32, lit<, lit≤}
+use Rattle.std.proofs.Common.{◌≡◌, ℕ, zero, suc, ◌^◌, ◌<◌, ◌≤◌, Bool, true, false, cond, not, ◌&&◌, ◌||◌, List, [], ◌∷◌, ◌++◌, length, take, drop, Result, Ok, Err, refl, sym, ap, subst, ◌∙◌, arith, eqb, ltb, inl, inr, ◌⊎◌, eq-eqb}
 use Rattle.std.specs.Prelude.{MatchResult, IfOk}
 use Rattle.std.proofs.lemmas.Bool.{eqb-true, ltb-false, le-ltb}
 use Rattle.std.proofs.lemmas.Bool.Decides.{nat_tests}
 use Rattle.std.proofs.lemmas.List.{take_at, drop_at, take-append-drop, length-append, length-take}
-use Rattle.ipb_base.specs.Word.{IsWord, AreWords}
+use Rattle.ipb_base.specs.Word.{AreWords}
 use Rattle.transaction_codec.specs.declared.reply.Reply.{Reply}
 use Rattle.transaction_codec.specs.declared.refusal.Why.{Why}
 use Rattle.transaction_codec.specs.declared.refusal.Why.TheVariants.{Version, Kind, Code, Count, Short}
 use Rattle.transaction_codec.specs.declared.first.FirstReply.{FirstReply}
 use Rattle.transaction_codec.specs.First.{reply_of}
-use Rattle.transaction_codec.specs.Header.{header, version_of, tid_of, count_of, kind_of, code_of, is_rmw, is_write}
+use Rattle.transaction_codec.specs.Header.{header, version_of, tid_of, count_of, kind_of, code_of, is_rmw}
 use Rattle.transaction_codec.specs.Reply.{IsBusFault, Carries, HasForm, IsReply, is_reply_code, is_wrong_count, values_after, reply_words, reply_at}
 use Rattle.transaction_codec.proofs.Fields.{header-fields, HasFields, fields-header}
 use Rattle.transaction_codec.proofs.Steps.{passed, read, read_is, not-false, AreWords-take}
@@ -78,9 +78,9 @@ reply_found (word ∷ after) x fits e =
     let enough : n ≤ length after = ltb-false _ _ whole.0 in
     let len : length (take n after) ≡ n = omega (arith, length-take n after) in
     let form : HasForm (kind_of word) (code_of word) (count_of word) (length (take n after)) =
-        rw len (form_found (kind_of word) (code_of word) (count_of word) kind.0 (not-false _ code.0) count.0) in
+    rw len (form_found (kind_of word) (code_of word) (count_of word) kind.0 (not-false _ code.0) count.0) in
     let spelled : word ∷ after ≡ reply_words made.0 ++ made.1 =
-        rw (← header-fields word version_is) (ap (λ (ws : List ℕ). word ∷ ws) (sym (take-append-drop n after))) in
+    rw (← header-fields word version_is) (ap (λ (ws : List ℕ). word ∷ ws) (sym (take-append-drop n after))) in
     let ranges : IsReply made.0 = record { tid = omega arith; count = omega arith; form = form; values = AreWords-take n after fits.1 } in
     subst (λ (y : Reply × List ℕ). IsReply y.0 × (word ∷ after ≡ reply_words y.0 ++ y.1)) (read_is made x whole.1) (ranges, spelled)
 
@@ -116,7 +116,7 @@ reply_again reply rest is =
     let keeps = keeps_rules reply.kind reply.code reply.count (length reply.values) is.form in
     let small = fields_fit reply.kind reply.code reply.count (length reply.values) is.form in
     read_by_fields (header reply.tid reply.count reply.kind reply.code) reply.tid reply.kind reply.code reply.count (length reply.values) (reply.values ++ rest)
-        (fields-header reply.tid reply.count reply.kind reply.code is.tid is.count small.0 small.1) keeps (omega (arith, length-append reply.values rest))
+    (fields-header reply.tid reply.count reply.kind reply.code is.tid is.count small.0 small.1) keeps (omega (arith, length-append reply.values rest))
     ∙ rw (take_at reply.values rest (length reply.values) refl, drop_at reply.values rest (length reply.values) refl) refl
 
 pub is_found : (words : List ℕ) (r : Result FirstReply Why) → AreWords words

@@ -1,10 +1,9 @@
 -- What is read as a request is spelled so, and what is spelled so is read.
-use Rattle.std.proofs.Common.{◌≡◌, ℕ, zero, suc, ◌+◌, ◌^◌, ◌<◌, ◌≤◌, Bool, true, false, cond, not, ◌&&◌, List, [], ◌∷◌, ◌++◌, length, get_or, take, drop, Result, Ok, Err, refl, sym, ap, subst, ◌∙◌, arith, eqb, ltb, lit<, lit≤}
+use Rattle.std.proofs.Common.{◌≡◌, ℕ, zero, suc, ◌^◌, ◌<◌, ◌≤◌, false, not, ◌&&◌, List, [], ◌∷◌, ◌++◌, length, take, drop, Result, Ok, Err, refl, sym, ap, subst, ◌∙◌, arith, eqb, ltb, lit<, lit≤}
 use Rattle.std.specs.Prelude.{MatchResult, IfOk}
 use Rattle.std.proofs.lemmas.Bool.{eqb-true, ltb-false, le-ltb}
-use Rattle.std.proofs.lemmas.Bool.Decides.{nat_tests}
 use Rattle.std.proofs.lemmas.List.{take_at, drop_at, take-append-drop, length-append, length-take}
-use Rattle.ipb_base.specs.Word.{IsWord, AreWords}
+use Rattle.ipb_base.specs.Word.{AreWords}
 use Rattle.transaction_codec.specs.declared.request.Op.{Op}
 use Rattle.transaction_codec.specs.declared.request.Op.TheVariants.{Read, ReadPort, Write, WritePort, RmwBits, RmwSum}
 use Rattle.transaction_codec.specs.declared.request.Request.{Request}
@@ -61,9 +60,9 @@ request_found (word ∷ after) x fits e =
     let version_is : version_of word ≡ 2 = eqb-true (version_of word) 2 (not-false _ version.0) in
     let code_is : code_of word ≡ 15 = eqb-true (code_of word) 15 (not-false _ code.0) in
     let word_is : header (tid_of word) (op_count made.0.op) (op_kind made.0.op) 15 ≡ word =
-        rw (is.count_is, is.kind_is, ← code_is) (sym (header-fields word version_is)) in
+    rw (is.count_is, is.kind_is, ← code_is) (sym (header-fields word version_is)) in
     let spelled : word ∷ after ≡ request_words made.0 ++ made.1 =
-        rw (word_is, is.words_are) (ap (λ (ws : List ℕ). word ∷ ws) (sym (take-append-drop (words_after (kind_of word) (count_of word)) after))) in
+    rw (word_is, is.words_are) (ap (λ (ws : List ℕ). word ∷ ws) (sym (take-append-drop (words_after (kind_of word) (count_of word)) after))) in
     let count_lt : op_count made.0.op < 2 ^ 8 = rw is.count_is (omega arith) in
     let words_fit : AreWords (op_words made.0.op) = rw is.words_are (AreWords-take (words_after (kind_of word) (count_of word)) after fits.1) in
     let ranges : IsRequest made.0 = record { tid = omega arith; count = count_lt; words = words_fit } in
@@ -100,11 +99,11 @@ request_again_at tid (ReadPort base count) rest tid_lt count_lt =
     read_by_fields (header tid count 2 15) 2 count tid (base ∷ rest) (fields-header tid count 2 15 tid_lt count_lt (lit< tt) (lit< tt)) (lit≤ tt) refl (omega arith)
 request_again_at tid (Write base words) rest tid_lt count_lt =
     read_by_fields (header tid (length words) 1 15) 1 (length words) tid (base ∷ (words ++ rest)) (fields-header tid (length words) 1 15 tid_lt count_lt (lit< tt) (lit< tt))
-        (lit≤ tt) refl (omega (arith, length-append words rest))
+    (lit≤ tt) refl (omega (arith, length-append words rest))
     ∙ rw (drop-front, take_at words rest (length words) refl, drop_at words rest (length words) refl) refl
 request_again_at tid (WritePort base words) rest tid_lt count_lt =
     read_by_fields (header tid (length words) 3 15) 3 (length words) tid (base ∷ (words ++ rest)) (fields-header tid (length words) 3 15 tid_lt count_lt (lit< tt) (lit< tt))
-        (lit≤ tt) refl (omega (arith, length-append words rest))
+    (lit≤ tt) refl (omega (arith, length-append words rest))
     ∙ rw (drop-front, take_at words rest (length words) refl, drop_at words rest (length words) refl) refl
 request_again_at tid (RmwBits base and_term or_term) rest tid_lt count_lt =
     read_by_fields (header tid 1 4 15) 4 1 tid (base ∷ and_term ∷ or_term ∷ rest) (fields-header tid 1 4 15 tid_lt (lit< tt) (lit< tt) (lit< tt)) (lit≤ tt) refl (omega arith)

@@ -1,7 +1,6 @@
 -- Readings by rules in their order: a rule that was passed, and what was read then.
-use Rattle.std.proofs.Common.{◌≡◌, ℕ, ◌^◌, ◌<◌, Bool, true, false, cond, not, ◌&&◌, List, [], ◌∷◌, ◌++◌, length, get_or, take, drop, Result, Ok, Err, refl, suc, zero, Fits, w32, arith, ◌+◌, add_comm, add-one}
-use Rattle.std.specs.List.{AllByRecursion}
-use Rattle.ipb_base.specs.Word.{IsWord, AreWords}
+use Rattle.std.proofs.Common.{◌≡◌, ℕ, Bool, true, false, cond, not, List, [], ◌∷◌, get_or, take, drop, Result, Ok, Err, refl, suc, zero, Fits, w32, arith, ◌+◌, add_comm, add-one}
+use Rattle.ipb_base.specs.Word.{AreWords}
 use Rattle.transaction_codec.specs.declared.refusal.Why.{Why}
 
 -- a rule that is not broken

@@ -1,6 +1,5 @@
 -- Which words answer a body: of any device that answers each access by a word or a code. It need not remember.
-use Rattle.std.specs.Prelude.{◌≡◌, ℕ, ◌≤◌, ◌<◌, ◌⊎◌, List, [], ◌∷◌, ◌++◌, length, Result, IsErr}
-use Rattle.std.specs.List.{AllByRecursion}
+use Rattle.std.specs.Prelude.{◌≡◌, ℕ, ◌≤◌, ◌<◌, ◌⊎◌, List, [], ◌∷◌, ◌++◌, length, IsErr}
 use Rattle.transaction_codec.specs.declared.request.Op.{Op}
 use Rattle.transaction_codec.specs.declared.request.Op.TheVariants.{Read, ReadPort, Write, WritePort, RmwBits, RmwSum}
 use Rattle.transaction_codec.specs.declared.request.Request.{Request}
@@ -9,7 +8,7 @@ use Rattle.transaction_codec.specs.declared.transaction_type.TheConstants.{READ}
 use Rattle.transaction_codec.specs.declared.info_code.TheConstants.{SUCCESS, BAD_HEADER, READ_ERROR, WRITE_ERROR, READ_TIMEOUT, WRITE_TIMEOUT}
 use Rattle.transaction_codec.specs.Header.{tid_of}
 use Rattle.transaction_codec.specs.Request.{op_kind, op_count, AreRequests, requests_words, request_at}
-use Rattle.transaction_codec.specs.Reply.{IsBusFault, IsReply, AreReplies, replies_words}
+use Rattle.transaction_codec.specs.Reply.{IsBusFault, AreReplies, replies_words}
 
 -- the words of a reply that did all of the operation: those read, nothing for a write, the word before for an RMW
 abbrev pub values_done : Op → ℕ

@@ -2,8 +2,6 @@
 use Rattle.std.specs.Prelude.{◌≡◌, ℕ, ◌≤◌, ◌<◌, List, length, take, drop, Result, Err}
 use Rattle.std.specs.List.{AllByRecursion, flat_map}
 use Rattle.ipb_base.specs.Lists.{IsPrefix}
-use Rattle.transaction_codec.specs.declared.request.Request.{Request}
-use Rattle.transaction_codec.specs.declared.reply.Reply.{Reply}
 use Rattle.transaction_codec.specs.declared.refusal.Why.{Why}
 use Rattle.transaction_codec.specs.declared.refusal.BadWords.{BadWords}
 use Rattle.transaction_codec.specs.declared.refusal.BadWords.TheVariants.{At, NoMemory}

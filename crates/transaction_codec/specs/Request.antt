@@ -1,7 +1,7 @@
 -- Requests and their words. IPbus 2.0, transaction header, with the profile's rules on which headers are bad.
 use Rattle.std.specs.Prelude.{ℕ, ◌+◌, ◌^◌, ◌<◌, ◌==◌, ◌&&◌, not, nat_lt, if◌then◌else◌, List, [], ◌∷◌, length, take, drop, slice_index, Result, Ok, Err}
 use Rattle.std.specs.List.{AllByRecursion, flat_map}
-use Rattle.ipb_base.specs.Word.{IsWord, AreWords}
+use Rattle.ipb_base.specs.Word.{AreWords}
 use Rattle.transaction_codec.specs.declared.request.Op.{Op}
 use Rattle.transaction_codec.specs.declared.request.Op.TheVariants.{Read, ReadPort, Write, WritePort, RmwBits, RmwSum}
 use Rattle.transaction_codec.specs.declared.request.Request.{Request}

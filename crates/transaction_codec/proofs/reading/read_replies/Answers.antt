@@ -2,7 +2,6 @@ use Rattle.std.proofs.Common.{◌≡◌, ◌++◌, ◌<◌, [], length, ap, sym,
 use Rattle.std.proofs.lemmas.List.{append-nil, nil_from_length}
 use Rattle.std.proofs.lemmas.Bool.Decides.{nat_tests}
 use Rattle.transaction_codec.specs.Reply.{reply_words, IsReply, reply_at, replies_words}
-use Rattle.transaction_codec.specs.Listing.{IsFirstFault}
 use Rattle.transaction_codec.proofs.Lists.{first_fault, fault_is_no_list, one_list}
 use Rattle.transaction_codec.proofs.Formats.{replies_format}
 use Rattle.transaction_codec.proofs.reading.read_replies.Goals as goal
@@ -13,7 +12,7 @@ returns-in-Err-clause-refused c =
     let some : 0 < length c.loop-rest.rest.now = grind (arith, nat_tests) in
     let whole = c.loop-rest.invariant.parts in
     first_fault reply_words IsReply reply_at replies_format c.args.words.now c.loop-rest.list.items c.loop-rest.rest.now c.in-Err.why _
-        c.loop-rest.invariant.ranges whole some c.in-Err.ensures.exact (omega (arith, ap length whole, length-append (replies_words c.loop-rest.list.items) c.loop-rest.rest.now))
+    c.loop-rest.invariant.ranges whole some c.in-Err.ensures.exact (omega (arith, ap length whole, length-append (replies_words c.loop-rest.list.items) c.loop-rest.rest.now))
 
 pub returns-in-Err-clause-only : goal.returns-in-Err-clause-only
 returns-in-Err-clause-only c list ranges e =
