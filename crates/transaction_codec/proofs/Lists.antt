@@ -6,13 +6,16 @@ use Rattle.std.proofs.lemmas.List.Concat.{flat_map-cons}
 use Rattle.std.specs.List.{AllByRecursion, flat_map}
 use Rattle.ipb_base.specs.Lists.{IsProperPrefix}
 use Rattle.transaction_codec.specs.declared.refusal.Why.{Why}
-use Rattle.transaction_codec.specs.Listing.{IsFirstFault}
+use Rattle.transaction_codec.specs.Listing.{IsFirstRule, IsFirstFault}
 
-pub record IsFormat {Item : Type 0} (item_words : Item → List ℕ) (IsItem : Item → Type 0) (item_at : List ℕ → Result (Item × List ℕ) Why) : Type 0 where
+pub record IsFormat {Item : Type 0} (item_words : Item → List ℕ) (IsItem : Item → Type 0) (Breaks : Why → ℕ → List ℕ → Type 0)
+    (item_at : List ℕ → Result (Item × List ℕ) Why) : Type 0 where
   pub again : (item : Item) (rest : List ℕ) → IsItem item → item_at (item_words item ++ rest) ≡ Ok (item, rest)
   pub has_words : (item : Item) → 0 < length (item_words item)
+  pub refuses : (words : List ℕ) (why : Why) → 0 < length words → item_at words ≡ Err why → IsFirstRule Breaks words why
 
-module _ {Item : Type 0} (item_words : Item → List ℕ) (IsItem : Item → Type 0) (item_at : List ℕ → Result (Item × List ℕ) Why) (format : IsFormat item_words IsItem item_at) where
+module _ {Item : Type 0} (item_words : Item → List ℕ) (IsItem : Item → Type 0) (Breaks : Why → ℕ → List ℕ → Type 0)
+    (item_at : List ℕ → Result (Item × List ℕ) Why) (format : IsFormat item_words IsItem Breaks item_at) where
   abbrev pub read : Item × List ℕ → Result (Item × List ℕ) Why
   read x = Ok x
 
@@ -74,21 +77,20 @@ module _ {Item : Type 0} (item_words : Item → List ℕ) (IsItem : Item → Typ
 
   -- the words are a list and then words at whose front no item stands
   pub first_fault : (words : List ℕ) (before : List Item) (rest : List ℕ) (why : Why) (place : ℕ) → AllByRecursion IsItem before → words ≡ flat_map item_words before ++ rest
-      → 0 < length rest → item_at rest ≡ Err why → length words ≡ place + length rest → IsFirstFault item_words IsItem item_at words place why
+      → 0 < length rest → item_at rest ≡ Err why → length words ≡ place + length rest → IsFirstFault item_words IsItem Breaks words place why
   first_fault words before rest why place is_before parts some bad there =
       let len : length (flat_map item_words before) ≡ place = omega (arith, there, ap length parts, length-append (flat_map item_words before) rest) in
       record {
-        within = omega (arith, there, some);
         before = before;
         ranges = is_before;
         front = rw parts (take_at (flat_map item_words before) rest place len);
         longest = λ items is_items prefix. rw (← len) (longest before items rest prefix.0 why is_before is_items bad (sym parts ∙ prefix.1));
-        broken = rw (parts, drop_at (flat_map item_words before) rest place len) bad;
+        rule = rw (parts, drop_at (flat_map item_words before) rest place len) (format.refuses rest why some bad);
       }
 
   -- words with a fault are no list
-  pub fault_is_no_list : (words : List ℕ) (place : ℕ) (why : Why) → IsFirstFault item_words IsItem item_at words place why → (items : List Item) → AllByRecursion IsItem items
-      → words ≡ flat_map item_words items → ⊥
-  fault_is_no_list words place why fault items is_items e =
+  pub fault_is_no_list : (words : List ℕ) (place : ℕ) (why : Why) → place < length words → IsFirstFault item_words IsItem Breaks words place why → (items : List Item)
+      → AllByRecursion IsItem items → words ≡ flat_map item_words items → ⊥
+  fault_is_no_list words place why within fault items is_items e =
       let all : length (flat_map item_words items) ≤ place = fault.longest items is_items ([], e ∙ sym (append-nil (flat_map item_words items))) in
-      omega (arith, fault.within, all, ap length e)
+      omega (arith, within, all, ap length e)

@@ -8,7 +8,7 @@ use Rattle.transaction_codec.specs.declared.request.Op.TheVariants.{Read, ReadPo
 use Rattle.transaction_codec.specs.declared.request.Request.{Request}
 use Rattle.transaction_codec.specs.declared.reply.Reply.{Reply}
 use Rattle.transaction_codec.specs.declared.refusal.Why.{Why}
-use Rattle.transaction_codec.specs.Request.{op_kind, op_count, IsRequest, AreRequests, request_words, requests_words, request_at}
+use Rattle.transaction_codec.specs.Request.{op_kind, op_count, IsRequest, AreRequests, request_words, requests_words, BreaksRequest, request_at}
 use Rattle.transaction_codec.specs.Reply.{Carries, IsReply, AreReplies, reply_words, replies_words}
 use Rattle.transaction_codec.specs.Answer.{values_done, Fails, IsDone, IsFailed, Answers, bad_header_reply, ending_of, CanAnswer, IsLongestAnswer}
 use Rattle.transaction_codec.proofs.Lists.{same_first}
@@ -103,7 +103,7 @@ module _ (request : Request) (rest : List ℕ) (room : ℕ) (is : IsRequest requ
   step_bound (q ∷ qs) tail [] ranges parts bad items answers = absurd answers
   step_bound (q ∷ qs) tail (r ∷ rs) ranges parts bad items answers =
       let spread = ap (λ (ws : List ℕ). ws ++ tail) (flat_map-cons request_words q qs) ∙ append_assoc (request_words q) (requests_words qs) tail in
-      let same = same_first request_words IsRequest request_at requests_format request q rest (requests_words qs ++ tail) is ranges.0 (parts ∙ spread) in
+      let same = same_first request_words IsRequest BreaksRequest request_at requests_format request q rest (requests_words qs ++ tail) is ranges.0 (parts ∙ spread) in
       step_replies q qs tail r rs same.0 ranges.1 same.1 bad items.1 answers
 
 step_longest : (request : Request) (words rest : List ℕ) (room : ℕ) → IsRequest request → words ≡ request_words request ++ rest

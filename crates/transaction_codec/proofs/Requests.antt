@@ -1,7 +1,8 @@
 -- What is read as a request is spelled so, and what is spelled so is read.
 use Rattle.std.proofs.Common.{◌≡◌, ℕ, zero, suc, ◌^◌, ◌<◌, ◌≤◌, false, not, ◌&&◌, List, [], ◌∷◌, ◌++◌, length, take, drop, Result, Ok, Err, refl, sym, ap, subst, ◌∙◌, arith, eqb, ltb, lit<, lit≤}
 use Rattle.std.specs.Prelude.{MatchResult, IfOk}
-use Rattle.std.proofs.lemmas.Bool.{eqb-true, ltb-false, le-ltb}
+use Rattle.std.proofs.lemmas.Bool.Decides.{nat_tests}
+use Rattle.std.proofs.lemmas.Bool.{eqb-true, ltb-false, ltb-true, le-ltb}
 use Rattle.std.proofs.lemmas.List.{take_at, drop_at, take-append-drop, length-append, length-take}
 use Rattle.ipb_base.specs.Word.{AreWords}
 use Rattle.transaction_codec.specs.declared.request.Op.{Op}
@@ -10,11 +11,12 @@ use Rattle.transaction_codec.specs.declared.request.Request.{Request}
 use Rattle.transaction_codec.specs.declared.refusal.Why.{Why}
 use Rattle.transaction_codec.specs.declared.refusal.Why.TheVariants.{Version, Kind, Code, Count, Short}
 use Rattle.transaction_codec.specs.Header.{header, version_of, tid_of, count_of, kind_of, code_of, is_rmw}
-use Rattle.transaction_codec.specs.Request.{op_kind, op_count, op_words, request_words, IsRequest, words_after, asked, request_at}
+use Rattle.transaction_codec.specs.Request.{op_kind, op_count, op_words, request_words, IsRequest, words_after, BreaksRequest, asked, request_at}
 use Rattle.transaction_codec.specs.declared.first.FirstRequest.{FirstRequest}
 use Rattle.transaction_codec.specs.First.{request_of}
+use Rattle.transaction_codec.specs.Listing.{IsFirstRule}
 use Rattle.transaction_codec.proofs.Fields.{header-fields, HasFields, fields-header}
-use Rattle.transaction_codec.proofs.Steps.{passed, read, read_is, not-false, AreWords-take, take-front, drop-front}
+use Rattle.transaction_codec.proofs.Steps.{test_of, Says, first_test, first_rule, passed, read, read_is, not-false, AreWords-take, take-front, drop-front}
 
 -- what a header asks has its type and words field, and the words after it
 record IsAsked (op : Op) (kind count : ℕ) (words : List ℕ) : Type 0 where
@@ -67,6 +69,22 @@ request_found (word ∷ after) x fits e =
     let words_fit : AreWords (op_words made.0.op) = rw is.words_are (AreWords-take (words_after (kind_of word) (count_of word)) after fits.1) in
     let ranges : IsRequest made.0 = record { tid = omega arith; count = count_lt; words = words_fit } in
     subst (λ (y : Request × List ℕ). IsRequest y.0 × (word ∷ after ≡ request_words y.0 ++ y.1)) (read_is made x whole.1) (ranges, spelled)
+
+says_request : (word : ℕ) (after : List ℕ) (rule : Why) → Says
+    (test_of (not (eqb (version_of word) 2)) (ltb 5 (kind_of word)) (not (eqb (code_of word) 15)) (is_rmw (kind_of word) && not (eqb (count_of word) 1))
+        (ltb (length after) (words_after (kind_of word) (count_of word))) rule)
+    (BreaksRequest rule word after)
+says_request word after Version = record { yes = λ e. grind (arith, nat_tests); not_so = λ e. grind (arith, nat_tests) }
+says_request word after Kind = record { yes = λ e. grind (arith, nat_tests); not_so = λ e. grind (arith, nat_tests) }
+says_request word after Code = record { yes = λ e. grind (arith, nat_tests); not_so = λ e. grind (arith, nat_tests) }
+says_request word after Count = record { yes = λ e. grind (arith, nat_tests); not_so = λ e h. grind (arith, nat_tests) }
+says_request word after Short = record { yes = λ e. ltb-true _ _ e; not_so = λ e lt. omega (arith, ltb-false _ _ e, lt) }
+
+pub request_refuses : (words : List ℕ) (why : Why) → 0 < length words → request_at words ≡ Err why → IsFirstRule BreaksRequest words why
+unfolding request_at
+request_refuses [] why some e = absurd (omega arith)
+request_refuses (word ∷ after) why some e =
+    first_rule BreaksRequest word after _ _ _ _ _ why (says_request word after) (first_test _ _ _ _ _ _ why e)
 
 pub is_found : (words : List ℕ) (r : Result FirstRequest Why) → AreWords words
     → MatchResult r (λ first. request_at words ≡ Ok (request_of first, first.rest.now)) (λ why. request_at words ≡ Err why)
