@@ -1,7 +1,8 @@
 -- Lists of items one after the other, from the two laws of one item: what is read is spelled so, and what is spelled so is
 -- read, whatever follows.
-use Rattle.std.proofs.Common.{◌≡◌, ℕ, ◌+◌, ◌<◌, ◌≤◌, List, [], ◌∷◌, ◌++◌, length, drop, Result, Ok, Err, refl, sym, ap, ◌∙◌, append_assoc, arith}
-use Rattle.std.proofs.lemmas.List.{take_at, drop_at, length-append, append-nil, take-append-drop, length-drop}
+use Rattle.std.proofs.Common.{subst, inl, inr, ◌≡◌, ℕ, ◌+◌, ◌<◌, ◌≤◌, List, [], ◌∷◌, ◌++◌, length, drop, Result, Ok, Err, refl, sym, ap, ◌∙◌, append_assoc, arith}
+use Rattle.std.proofs.lemmas.Bool.{cases_lt}
+use Rattle.std.proofs.lemmas.List.{drop_all, take_at, drop_at, length-append, append-nil, take-append-drop, length-drop}
 use Rattle.std.proofs.lemmas.List.Concat.{flat_map-cons}
 use Rattle.std.specs.List.{AllByRecursion, flat_map}
 use Rattle.ipb_base.specs.Lists.{IsProperPrefix}
@@ -88,9 +89,17 @@ module _ {Item : Type 0} (item_words : Item → List ℕ) (IsItem : Item → Typ
         rule = rw (parts, drop_at (flat_map item_words before) rest place len) (format.refuses rest why some bad);
       }
 
+  -- a rule is broken at a place within the words
+  within : (words : List ℕ) (place : ℕ) (why : Why) → IsFirstRule Breaks (drop place words) why → place < length words
+  within words place why rule =
+      elim (cases_lt place (length words)) [
+        | inl lt ↦ lt
+        | inr le ↦ absurd (subst (λ (rest : List ℕ). IsFirstRule Breaks rest why) (drop_all place words le) rule)
+      ]
+
   -- words with a fault are no list
-  pub fault_is_no_list : (words : List ℕ) (place : ℕ) (why : Why) → place < length words → IsFirstFault item_words IsItem Breaks words place why → (items : List Item)
-      → AllByRecursion IsItem items → words ≡ flat_map item_words items → ⊥
-  fault_is_no_list words place why within fault items is_items e =
+  pub fault_is_no_list : (words : List ℕ) (place : ℕ) (why : Why) → IsFirstFault item_words IsItem Breaks words place why → (items : List Item) → AllByRecursion IsItem items
+      → words ≡ flat_map item_words items → ⊥
+  fault_is_no_list words place why fault items is_items e =
       let all : length (flat_map item_words items) ≤ place = fault.longest items is_items ([], e ∙ sym (append-nil (flat_map item_words items))) in
-      omega (arith, within, all, ap length e)
+      omega (arith, within words place why fault.rule, all, ap length e)

@@ -1,5 +1,6 @@
 -- The longest answer to a body, request by request.
-use Rattle.std.proofs.Common.{◌≡◌, ℕ, zero, suc, ◌+◌, ◌^◌, ◌<◌, ◌≤◌, List, [], ◌∷◌, ◌++◌, length, Result, Ok, Err, IsErr, refl, sym, ap, ◌∙◌, append_assoc, arith, inl, inr, ◌⊎◌, replicate, length-append, lit<}
+use Rattle.std.proofs.Common.{subst, ◌≡◌, ℕ, zero, suc, ◌+◌, ◌^◌, ◌<◌, ◌≤◌, List, [], ◌∷◌, ◌++◌, length, Result, Ok, Err, IsErr, refl, sym, ap, ◌∙◌, append_assoc, arith, inl, inr, ◌⊎◌, replicate, length-append, lit<}
+use Rattle.std.proofs.lemmas.List.{append-nil, nil_from_length}
 use Rattle.std.proofs.lemmas.List.Concat.{flat_map-cons}
 use Rattle.std.specs.Prelude.{is_err, true}
 use Rattle.ipb_base.specs.Word.{AreWords}
@@ -10,10 +11,11 @@ use Rattle.transaction_codec.specs.declared.reply.Reply.{Reply}
 use Rattle.transaction_codec.specs.declared.refusal.Why.{Why}
 use Rattle.transaction_codec.specs.Request.{op_kind, op_count, IsRequest, AreRequests, request_words, requests_words, BreaksRequest, request_at}
 use Rattle.transaction_codec.specs.Reply.{Carries, IsReply, AreReplies, reply_words, replies_words}
-use Rattle.transaction_codec.specs.Answer.{values_done, Fails, IsDone, IsFailed, Answers, bad_header_reply, ending_of, CanAnswer, IsLongestAnswer}
-use Rattle.transaction_codec.proofs.Lists.{same_first}
+use Rattle.transaction_codec.specs.Answer.{values_done, Fails, IsDone, IsFailed, Answers, bad_header_reply, ending_of, IsReplyTo, CanAnswer, IsLongestAnswer, room_first, room_from, reply_room}
+use Rattle.transaction_codec.proofs.Lists.{same_first, longest}
 use Rattle.transaction_codec.proofs.Formats.{requests_format}
-use Rattle.transaction_codec.proofs.Requests.{request_again}
+use Rattle.transaction_codec.proofs.Requests.{request_again, request_found}
+use Rattle.transaction_codec.proofs.Steps.{AreWords-after}
 
 -- ---- a reply that was done
 
@@ -74,7 +76,7 @@ done_is_reply request is = record {
 -- ---- one request more at the front
 
 -- a place where no request stands has no request
-no_request : (words : List ℕ) (request : Request) (rest : List ℕ) → IsErr (request_at words) → IsRequest request → words ≡ request_words request ++ rest → ⊥
+pub no_request : (words : List ℕ) (request : Request) (rest : List ℕ) → IsErr (request_at words) → IsRequest request → words ≡ request_words request ++ rest → ⊥
 no_request words request rest bad is parts =
     let reads : request_at words ≡ Ok (request, rest) = ap request_at parts ∙ request_again request rest is in
     let found : Result (Request × List ℕ) Why = Ok (request, rest) in
@@ -188,3 +190,67 @@ longest_bad word words why bad = record {
 pub longest_at_fault : (words : List ℕ) (why : Why) → 0 < length words → request_at words ≡ Err why → IsLongestAnswer words 1
 longest_at_fault [] why some bad = absurd (omega arith)
 longest_at_fault (word ∷ words) why some bad = longest_bad word words why bad
+
+-- ---- the room as a number
+
+pub longest_unique : (body : List ℕ) (m n : ℕ) → IsLongestAnswer body m → IsLongestAnswer body n → m ≡ n
+longest_unique body m n left right =
+    omega (arith, left.reached, right.reached, right.longest left.answer left.given, left.longest right.answer right.given)
+
+room_at : (most : ℕ) (words : List ℕ) (read : Result (Request × List ℕ) Why) → AreWords words → 0 < length words → length words ≤ suc most → request_at words ≡ read
+    → ((rest : List ℕ) → AreWords rest → length rest ≤ most → IsLongestAnswer rest (room_from most rest)) → IsLongestAnswer words (room_first read (room_from most))
+room_at most words (Ok (request, rest)) fits some short reads later =
+    let found = request_found words (request, rest) fits reads in
+    let rest_fits : AreWords rest = AreWords-after (request_words request) rest (subst AreWords found.1 fits) in
+    let rest_short : length rest ≤ most = omega (arith, short, ap length found.1, length-append (request_words request) rest) in
+    longest_step request words rest (room_from most rest) found.0 found.1 (later rest rest_fits rest_short)
+room_at most words (Err why) fits some short reads later = longest_at_fault words why some reads
+
+room_from_longest : (most : ℕ) (words : List ℕ) → AreWords words → length words ≤ most → IsLongestAnswer words (room_from most words)
+room_from_longest zero [] fits short = longest_nothing
+room_from_longest zero (word ∷ words) fits short = absurd (omega arith)
+room_from_longest (suc most) [] fits short = longest_nothing
+room_from_longest (suc most) (word ∷ words) fits short =
+    room_at most (word ∷ words) (request_at (word ∷ words)) fits (omega arith) short refl (room_from_longest most)
+
+pub reply_room_longest : (body : List ℕ) → AreWords body → IsLongestAnswer body (reply_room body)
+reply_room_longest body fits = room_from_longest (length body) body fits (omega arith)
+
+-- ---- a body of requests
+
+pub reply_can_answer : (body reply : List ℕ) → IsReplyTo body reply → CanAnswer body reply
+reply_can_answer body reply is = record {
+  requests = is.requests;
+  rest = [];
+  replies = is.replies;
+  ranges = is.ranges;
+  parts = is.asked ∙ sym (append-nil (requests_words is.requests));
+  bad = nothing_bad;
+  items = is.items;
+  answers = is.answers;
+  spelled = is.spelled;
+}
+
+which_error : (read : Result (Request × List ℕ) Why) → IsErr read → (why : Why) × (read ≡ Err why)
+which_error (Ok x) bad = absurd cc
+which_error (Err why) bad = (why, refl)
+
+-- after requests that are all of the words nothing stands
+nothing_after : (requests all : List Request) (rest : List ℕ) → AreRequests requests → AreRequests all → IsErr (request_at rest) → requests_words requests ++ rest ≡ requests_words all → rest ≡ []
+nothing_after requests all rest ranges all_ranges bad e =
+    let why = which_error (request_at rest) bad in
+    let bound = longest request_words IsRequest BreaksRequest request_at requests_format requests all rest [] why.0 ranges all_ranges why.1 (e ∙ sym (append-nil (requests_words all))) in
+    nil_from_length rest (omega (arith, bound, ap length e, length-append (requests_words requests) rest))
+
+pub answer_is_reply : (requests : List Request) (body answer : List ℕ) → AreRequests requests → body ≡ requests_words requests → CanAnswer body answer → IsReplyTo body answer
+answer_is_reply requests body answer ranges whole can =
+    let none = nothing_after can.requests requests can.rest can.ranges ranges can.bad (sym can.parts ∙ whole) in
+    record {
+      requests = can.requests;
+      replies = can.replies;
+      ranges = can.ranges;
+      asked = can.parts ∙ ap (λ (rest : List ℕ). requests_words can.requests ++ rest) none ∙ append-nil (requests_words can.requests);
+      items = can.items;
+      answers = subst (λ (rest : List ℕ). Answers can.requests (ending_of rest) can.replies) none can.answers;
+      spelled = can.spelled;
+    }

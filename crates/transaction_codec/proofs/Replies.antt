@@ -122,7 +122,7 @@ reply_again reply rest is =
 
 says_reply : (word : ℕ) (after : List ℕ) (rule : Why) → Says
     (test_of (not (eqb (version_of word) 2)) (is_wrong_kind (kind_of word) (code_of word)) (not (is_reply_code (code_of word)))
-        (is_wrong_count (kind_of word) (code_of word) (count_of word)) (ltb (length after) (values_after (kind_of word) (count_of word))) rule)
+    (is_wrong_count (kind_of word) (code_of word) (count_of word)) (ltb (length after) (values_after (kind_of word) (count_of word))) rule)
     (BreaksReply rule word after)
 says_reply word after Version = record { yes = λ e. grind (arith, nat_tests); not_so = λ e. grind (arith, nat_tests) }
 says_reply word after Kind = record { yes = λ e. grind (arith, nat_tests); not_so = λ e h. grind (arith, nat_tests) }

@@ -72,7 +72,7 @@ request_found (word ∷ after) x fits e =
 
 says_request : (word : ℕ) (after : List ℕ) (rule : Why) → Says
     (test_of (not (eqb (version_of word) 2)) (ltb 5 (kind_of word)) (not (eqb (code_of word) 15)) (is_rmw (kind_of word) && not (eqb (count_of word) 1))
-        (ltb (length after) (words_after (kind_of word) (count_of word))) rule)
+    (ltb (length after) (words_after (kind_of word) (count_of word))) rule)
     (BreaksRequest rule word after)
 says_request word after Version = record { yes = λ e. grind (arith, nat_tests); not_so = λ e. grind (arith, nat_tests) }
 says_request word after Kind = record { yes = λ e. grind (arith, nat_tests); not_so = λ e. grind (arith, nat_tests) }

@@ -1,5 +1,5 @@
 -- Readings by rules in their order: a rule that was passed, and what was read then.
-use Rattle.std.proofs.Common.{◌<◌, subst, ◌≡◌, ℕ, Bool, true, false, cond, not, List, [], ◌∷◌, get_or, take, drop, Result, Ok, Err, refl, suc, zero, Fits, w32, arith, ◌+◌, add_comm, add-one}
+use Rattle.std.proofs.Common.{◌<◌, subst, ◌≡◌, ℕ, Bool, true, false, cond, not, List, [], ◌∷◌, ◌++◌, get_or, take, drop, Result, Ok, Err, refl, suc, zero, Fits, w32, arith, ◌+◌, add_comm, add-one}
 use Rattle.ipb_base.specs.Word.{AreWords}
 use Rattle.transaction_codec.specs.declared.refusal.Why.{Why}
 use Rattle.transaction_codec.specs.declared.refusal.Why.TheVariants.{Version, Kind, Code, Count, Short}
@@ -110,3 +110,7 @@ pub AreWords-take : (n : ℕ) (words : List ℕ) → AreWords words → AreWords
 AreWords-take zero words fits = tt
 AreWords-take (suc n) [] fits = tt
 AreWords-take (suc n) (word ∷ words) fits = (fits.0, AreWords-take n words fits.1)
+
+pub AreWords-after : (front words : List ℕ) → AreWords (front ++ words) → AreWords words
+AreWords-after [] words fits = fits
+AreWords-after (word ∷ front) words fits = AreWords-after front words fits.1

@@ -67,7 +67,7 @@ BreaksReply Code word after = (code_of word ≢ SUCCESS) × (code_of word ≢ BA
 BreaksReply Count word after =
     ((code_of word ≡ BAD_HEADER) × (count_of word ≢ 0))
     ⊎ (((kind_of word ≡ RMW_BITS) ⊎ (kind_of word ≡ RMW_SUM))
-        × (((code_of word ≡ SUCCESS) × (count_of word ≢ 1)) ⊎ ((code_of word ≢ SUCCESS) × (count_of word ≢ 0))))
+    × (((code_of word ≡ SUCCESS) × (count_of word ≢ 1)) ⊎ ((code_of word ≢ SUCCESS) × (count_of word ≢ 0))))
 BreaksReply Short word after = length after < values_after (kind_of word) (count_of word)
 
 -- The reply at the front of the words and the words after it, or the first rule that the header there breaks.

@@ -16,8 +16,7 @@ returns-in-Err-clause-refused c =
 
 pub returns-in-Err-clause-only : goal.returns-in-Err-clause-only
 returns-in-Err-clause-only c list ranges e =
-    let some : 0 < length c.loop-rest.rest.now = grind (arith, nat_tests) in
-    absurd (fault_is_no_list reply_words IsReply BreaksReply reply_at replies_format c.args.words.now _ c.in-Err.why (omega (arith, some, ap length c.loop-rest.invariant.parts, length-append (replies_words c.loop-rest.list.items) c.loop-rest.rest.now)) (returns-in-Err-clause-refused c) list ranges e)
+    absurd (fault_is_no_list reply_words IsReply BreaksReply reply_at replies_format c.args.words.now _ c.in-Err.why (returns-in-Err-clause-refused c) list ranges e)
 
 -- nothing is left, so the words are this list and no other
 pub returns-clause-only : goal.returns-clause-only
