@@ -7,7 +7,7 @@ ghost use Rattle.transaction_codec.specs.Answer;
 use crate::{info_code, transaction_type};
 
 /// The protocol version, bits 31-28 of every header.
-pub const VERSION: u32 = 2;
+pub(crate) const VERSION: u32 = 2;
 
 /// The header of a transaction: its identifier (at most 4095), words, type (of `transaction_type`) and info code (of
 /// `info_code`). IPbus 2.0, transaction header.
