@@ -3,7 +3,7 @@ use Rattle.std.specs.Prelude.{ℕ, List, Bool}
 use Rattle.ipb_outside.specs.Calls.{Calls}
 
 -- a source of bytes in memory
-pub record Stock : Type 0 where
+pub record MemSourceState : Type 0 where
   -- the bytes that it has left
   pub left : List ℕ
   -- the most that one read gives
@@ -12,7 +12,7 @@ pub record Stock : Type 0 where
   pub calls : Calls
 
 -- a sink that keeps what it is given in memory
-pub record Store : Type 0 where
+pub record MemSinkState : Type 0 where
   -- what was written
   pub written : List ℕ
   -- for how many more bytes there is room
@@ -25,7 +25,7 @@ pub record Store : Type 0 where
   pub ended : Bool
 
 -- a sink that writes over memory of its own and fails only where that is full
-pub record Sheet : Type 0 where
+pub record CalmSinkState : Type 0 where
   -- what was written
   pub written : List ℕ
   -- for how many more bytes there is room

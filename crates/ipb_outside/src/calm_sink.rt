@@ -2,7 +2,7 @@ ghost use Rattle.std.specs.Prelude.{◌≡◌, ◌≤◌, ◌<◌, ◌-◌, ◌�
 ghost use Rattle.ipb_base.specs.Faults.{HasCause};
 ghost use Rattle.ipb_outside.specs.Calls.{one_more};
 
-use crate::copying::copy_front;
+use crate::copying::copy_behind;
 use crate::{Failed, Sink};
 use std::marker::Model;
 
@@ -17,9 +17,9 @@ pub struct CalmSink {
 
 impl Model for CalmSink {
     ghost use Rattle.std.specs.Prelude.{◌≤◌, ◌-◌, take, vec_len};
-    ghost use Rattle.ipb_outside.specs.Memory.{Sheet};
+    ghost use Rattle.ipb_outside.specs.Memory.{CalmSinkState};
 
-    ghost Value = { Sheet };
+    ghost Value = { CalmSinkState };
 
     ghost view = { λ s. record {
       written = take s.filled s.room.items;
@@ -75,7 +75,7 @@ impl Sink for CalmSink {
             self.faults = self.faults.saturating_add(1);
             return Err(Failed);
         }
-        let count = copy_front(&mut self.room[self.filled..], bytes, bytes.len());
+        let count = copy_behind(self.room.as_mut_slice(), self.filled, bytes);
         self.filled += count;
         Ok(count)
     }

@@ -19,7 +19,7 @@ pub use calm_sink::CalmSink;
 pub use calm_source::CalmSource;
 pub use failed::Failed;
 pub use ipb_base::NoMemory;
-pub use mem_sink::MemSink;
+pub use mem_sink::{MEM_SINK_ROOM, MemSink};
 pub use mem_source::MemSource;
 pub use reading::{ReadEnd, read_all};
 pub use sink::Sink;
