@@ -1,17 +1,26 @@
 //! Laws of the definitions. These functions do nothing when they run: their clauses are what is proved.
 
-ghost use Rattle.std.specs.Prelude.{◌≡◌, ℕ, ◌<◌, ◌≤◌, ◌↔◌, List, [], ◌∷◌, Some, Ok, None, length, take, Option, Result};
-ghost use Rattle.std.specs.Io.KnownBytes.{IsAtEnd, prepend_known};
-ghost use Rattle.ipb_outside.specs.Calls.{FailsNext, Calls};
+ghost use Rattle.std.specs.Prelude.{◌≡◌, ℕ, ◌<◌, ◌≤◌, ◌↔◌, List, [], ◌∷◌, Some, Ok, length, is_some, Option, Result};
+ghost use Rattle.std.specs.Io.KnownBytes.{IsAtEnd};
+ghost use Rattle.ipb_outside.specs.Calls.{FailsNext};
+ghost use Rattle.ipb_outside.specs.Told.{Reads, Writes};
 
 /// Calls are numbered from 1.
 pub fn first_call_has_number_one()
     ensures { FailsNext (record { fail = 1 ∷ []; made = 0; faults = 0 }) }
 {}
 
+/// What is told stays told, and what is not stays untold.
+pub fn telling_stays()
+    ensures read { (before now : Option (List ℕ)) (result : Result ℕ (Unit {0})) (buf : List ℕ)
+        → Reads before now result buf → is_some now ≡ is_some before }
+    ensures written { (before now : Option (List ℕ)) (result : Result ℕ (Unit {0})) (bytes : List ℕ)
+        → Writes before now result bytes → is_some now ≡ is_some before }
+{}
+
 /// A source that tells answers 0, for a buffer with room, exactly where nothing was left.
 pub fn zero_is_the_end()
     ensures { (before buf : List ℕ) (now : Option (List ℕ)) (count : ℕ) → count ≤ length buf → 0 < length buf
-        → Some before ≡ prepend_known (take count buf) now → (count ≡ 0 → IsAtEnd now)
+        → Reads (Some before) now (Ok {E = Unit {0}} count) buf → (count ≡ 0 → IsAtEnd now)
         → (count ≡ 0) ↔ (before ≡ []) }
 {}

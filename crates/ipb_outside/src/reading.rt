@@ -89,6 +89,7 @@ fn make_room(bytes: &mut Vec<u8>, filled: usize, most: usize) -> Result<(), NoMe
 }
 
 // One read, behind the bytes that were read before: those and what is left are together as before.
+#[tactic(auto, using(crate::proofs::Told::take_behind, crate::proofs::Told::prepended))]
 fn read_behind<S: Source>(src: &mut S, buf: &mut [u8], filled: usize) -> Result<usize, Failed>
     requires { filled < length buf.old }
     ensures within { IfOk result (λ count. filled + count ≤ length buf.new) }
