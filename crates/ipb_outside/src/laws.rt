@@ -21,6 +21,6 @@ pub fn telling_stays()
 /// A source that tells answers 0, for a buffer with room, exactly where nothing was left.
 pub fn zero_is_the_end()
     ensures { (before buf : List ℕ) (now : Option (List ℕ)) (count : ℕ) → count ≤ length buf → 0 < length buf
-        → Reads (Some before) now (Ok {E = Unit {0}} count) buf → (count ≡ 0 → IsAtEnd now)
+        → Reads {E = Unit {0}} (Some before) now (Ok count) buf → (count ≡ 0 → IsAtEnd now)
         → (count ≡ 0) ↔ (before ≡ []) }
 {}
