@@ -1,13 +1,20 @@
 //! Laws of the definitions. These functions do nothing when they run: their clauses are what is proved.
 
-ghost use Rattle.std.specs.Prelude.{◌≡◌, ℕ, ◌<◌, ◌≤◌, ◌↔◌, List, [], ◌∷◌, Some, Ok, length, is_some, Option, Result};
+ghost use Rattle.std.specs.Prelude.{◌≡◌, ℕ, ◌-◌, ◌^◌, ◌<◌, ◌≤◌, ◌↔◌, List, [], ◌∷◌, Some, Ok, length, is_some, Option, Result};
 ghost use Rattle.std.specs.Io.KnownBytes.{IsAtEnd};
-ghost use Rattle.ipb_outside.specs.Calls.{FailsNext};
+ghost use Rattle.ipb_base.specs.Faults.{Rose};
+ghost use Rattle.ipb_outside.specs.Calls.{FailsNext, one_more};
 ghost use Rattle.ipb_outside.specs.Told.{Reads, Writes};
 
 /// Calls are numbered from 1.
 pub fn first_call_has_number_one()
     ensures { FailsNext (record { fail = 1 ∷ []; made = 0; faults = 0 }) }
+{}
+
+/// A counted fault is one by which the count rose, and the count stands still at its end.
+pub fn counted_faults_rise()
+    ensures rose { (count : ℕ) → Rose count (one_more count) }
+    ensures at_its_end { one_more (2 ^ 64 - 1) ≡ 2 ^ 64 - 1 }
 {}
 
 /// What is told stays told, and what is not stays untold.
