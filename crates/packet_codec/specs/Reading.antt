@@ -13,6 +13,11 @@ use Rattle.packet_codec.specs.declared.reading.Start.{Start}
 use Rattle.packet_codec.specs.declared.packet.BadPacket.{BadPacket}
 use Rattle.packet_codec.specs.declared.packet.BadPacket.TheVariants as faults
 
+-- the word that four bytes are
+abbrev pub word_from : Order → List ℕ → ℕ
+word_from Big bytes = from_be_bytes w32 bytes
+word_from Little bytes = from_le_bytes w32 bytes
+
 -- the fields of a word that is a packet header
 abbrev pub header_of : ℕ → Option Header
 header_of word =
@@ -44,12 +49,11 @@ start_by None little = little_start little
 
 -- the first word, in the order in which it is a header
 unfoldable pub start_of : List ℕ → Result Start BadPacket
-start_of first = start_by (header_of (from_be_bytes w32 first)) (header_of (from_le_bytes w32 first))
+start_of first = start_by (header_of (word_from Big first)) (header_of (word_from Little first))
 
--- the words of which the bytes are made
+-- the words that bytes are, four bytes each
 abbrev pub words_of : Order → List ℕ → List ℕ
-words_of Big bytes = map (from_be_bytes w32) (first_chunks 4 (length bytes / 4) bytes)
-words_of Little bytes = map (from_le_bytes w32) (first_chunks 4 (length bytes / 4) bytes)
+words_of order bytes = map (word_from order) (first_chunks 4 (length bytes / 4) bytes)
 
 -- the rules on the number of bytes
 abbrev pub length_rule : ℕ → Result (Unit {0}) BadPacket

@@ -19,7 +19,7 @@ pub struct Header {
 pub fn header_word(id: u16, kind: PacketKind) -> u32
     ensures { result ≡ packet_header id (kind_code kind) }
 {
-    0x2000_00f0 | (u32::from(id) << 8) | kind as u32
+    0x2000_0000 | u32::from(id) << 8 | 0xf0 | u32::from(kind.code())
 }
 
 /// The fields of a word that is a packet header of some type, known or not.

@@ -32,6 +32,17 @@ pub enum PacketKind {
     Resend = 2,
 }
 
+impl PacketKind {
+    ghost use Rattle.packet_codec.specs.Header.{kind_code};
+
+    /// The type field of this type.
+    pub fn code(self) -> u8
+        ensures { result ≡ kind_code self }
+    {
+        self as u8
+    }
+}
+
 /// A packet: its header and the words after it.
 #[derive(Debug, Drop)]
 pub struct Packet {

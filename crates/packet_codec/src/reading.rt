@@ -39,6 +39,7 @@ pub fn read_packet(alloc: Global, bytes: &[u8]) -> Result<Packet, BadPacket>
     read_by_offsets(alloc, bytes)
 }
 
+#[tactic(auto, unfolding(crate::specs::Reading::packet_of))]
 fn read_by_offsets(alloc: Global, bytes: &[u8]) -> Result<Packet, BadPacket>
     ensures { (result ≡ packet_of bytes.now) ⊎ ((result ≡ Err BadPacket.NoMemory) × IsOk (packet_of bytes.now)) }
 {
@@ -69,6 +70,7 @@ fn check_length(length: usize) -> Result<(), BadPacket>
 }
 
 /// The rules on the first word.
+#[tactic(auto, unfolding(crate::specs::Reading::start_of))]
 fn read_start(first: [u8; 4]) -> Result<Start, BadPacket>
     ensures { result ≡ start_of first }
 {

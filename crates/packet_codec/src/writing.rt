@@ -1,7 +1,7 @@
 //! Writing a packet.
 
-ghost use Rattle.std.specs.Prelude.{◌≡◌, ◌≤◌, ◌++◌, length, IfOk, OnOk};
-ghost use Rattle.packet_codec.specs.Packet.{IsPacket, packet_bytes, word_in_order};
+ghost use Rattle.std.specs.Prelude.{◌≡◌, ◌≤◌, ◌∷◌, ◌++◌, length, IfOk, OnOk};
+ghost use Rattle.packet_codec.specs.Packet.{IsPacket, packet_bytes, in_order, word_in_order};
 
 use crate::header::header_word;
 use crate::packet::{MAX_BODY_WORDS, Order, Packet, PacketKind};
@@ -16,15 +16,20 @@ pub fn write_packet(alloc: Global, packet: &Packet) -> Result<Vec<u8>, NoMemory>
     // So what is written is read again.
     ensures packet { IsPacket packet.now }
 {
+    let header = header_word(packet.id, packet.kind);
     let body = packet.body.as_slice();
+    write_words(alloc, packet.order, header, body)
+}
+
+/// The bytes of the header and the words after it, in room that is taken once.
+fn write_words(alloc: Global, order: Order, header: u32, body: &[u32]) -> Result<Vec<u8>, NoMemory>
+    requires { length body.now ≤ MAX_BODY_WORDS }
+    ensures { IfOk result (λ bytes. bytes.items ≡ in_order order (header ∷ body.now)) }
+{
     let mut bytes = Vec::with_capacity(alloc, 4 + 4 * body.len())?;
-    push_word(
-        &mut bytes,
-        packet.order,
-        header_word(packet.id, packet.kind),
-    )?;
+    push_word(&mut bytes, order, header)?;
     for word in body {
-        push_word(&mut bytes, packet.order, *word)?;
+        push_word(&mut bytes, order, *word)?;
     }
     Ok(bytes)
 }
