@@ -1,10 +1,10 @@
 -- Packets, written and read.
 use Rattle.std.specs.Prelude.{is_ok, IfOk, IsOk, MatchResult, ◌↔◌}
-use Rattle.std.proofs.Common.{◌≡◌, ◌≢◌, ℕ, zero, suc, ◌+◌, ◌*◌, ◌/◌, ◌%◌, ◌<◌, ◌≤◌, ◌-◌, ◌^◌, ◌⊎◌, Bool, true, false, List, [], ◌∷◌, ◌++◌, length, take, drop, All, Result, Ok, Err, refl, sym, ap, subst, ◌∙◌, inl, inr, arith, lit<, take-append-drop}
+use Rattle.std.proofs.Common.{◌≡◌, ◌≢◌, ℕ, ◌*◌, ◌%◌, ◌<◌, ◌≤◌, ◌⊎◌, false, List, [], ◌∷◌, ◌++◌, length, take, drop, All, Result, Ok, Err, refl, sym, ap, subst, ◌∙◌, inl, inr, arith, lit<, take-append-drop}
 use Rattle.std.proofs.lemmas.Bool.{cases_lt}
 use Rattle.std.proofs.lemmas.Bool.Decides.{nat_tests}
-use Rattle.std.proofs.lemmas.List.{take_at, drop_at, length-append, length-take, length-drop, get_or_past}
-use Rattle.packet_codec.specs.declared.packet.TheConstants.{MAX_PACKET_WORDS, MAX_BODY_WORDS}
+use Rattle.std.proofs.lemmas.List.{take_at, drop_at, length-take, length-drop, get_or_past}
+use Rattle.packet_codec.specs.declared.packet.TheConstants.{MAX_PACKET_WORDS}
 use Rattle.packet_codec.specs.declared.packet.Order.{Order}
 use Rattle.packet_codec.specs.declared.packet.Order.TheVariants.{Big, Little}
 use Rattle.packet_codec.specs.declared.packet.PacketKind.{PacketKind}
@@ -14,10 +14,10 @@ use Rattle.packet_codec.specs.declared.packet.BadPacket.TheVariants as faults
 use Rattle.packet_codec.specs.declared.reading.Start.{Start}
 use Rattle.packet_codec.specs.Header.{kind_code, packet_header}
 use Rattle.packet_codec.specs.Packet.{in_order, word_in_order, packet_words, packet_bytes, IsPacket}
-use Rattle.packet_codec.specs.Faults.{AreWholeWords, IsTooLong, HasHeader, HasAllowedHeader, HasUnknownKind, IsSpelling}
-use Rattle.packet_codec.specs.Reading.{word_from, words_of, header_of, kind_of, big_start, little_start, start_by, start_of, length_rule, ◌>>=◌, packet_of}
+use Rattle.packet_codec.specs.Faults.{AreWholeWords, IsTooLong, HasAllowedHeader, HasUnknownKind, IsSpelling}
+use Rattle.packet_codec.specs.Reading.{words_of, start_of, length_rule, ◌>>=◌, packet_of}
 use Rattle.packet_codec.proofs.WordLemmas.{IsBytes, IsBytes-take, IsBytes-drop, length-word, in_order-cons, length-in_order, words_again, words_back, words_fit, length-words_of}
-use Rattle.packet_codec.proofs.StartLemmas.{IsStart, start_bytes, start_again, IsUnknown, IsNoHeader, StartVerdict, start_verdict, kind_code-below, unknown_start}
+use Rattle.packet_codec.proofs.StartLemmas.{IsStart, start_bytes, start_again, StartVerdict, start_verdict, kind_code-below, unknown_start}
 
 -- ---- the rules on the length
 

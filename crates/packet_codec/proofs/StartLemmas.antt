@@ -1,7 +1,7 @@
 -- The first word of a packet, written and read.
 use Rattle.std.specs.Prelude.{◌==◌, if◌then◌else◌}
-use Rattle.std.proofs.Common.{◌≡◌, ℕ, zero, suc, ◌+◌, ◌*◌, ◌/◌, ◌%◌, ◌<◌, ◌≤◌, ◌^◌, Bool, true, false, List, length, Option, Some, None, Result, Ok, Err, refl, sym, ap, subst, ◌∙◌, inl, inr, arith, lit<}
-use Rattle.std.proofs.lemmas.Bool.{eqb-true, cases_lt}
+use Rattle.std.proofs.Common.{◌≡◌, ℕ, zero, suc, ◌/◌, ◌%◌, ◌<◌, ◌^◌, Bool, true, false, List, length, Option, Some, None, Result, Ok, Err, refl, sym, ap, subst, ◌∙◌, arith, lit<}
+use Rattle.std.proofs.lemmas.Bool.{eqb-true}
 use Rattle.packet_codec.specs.declared.header.Header.{Header}
 use Rattle.packet_codec.specs.declared.packet.Order.{Order}
 use Rattle.packet_codec.specs.declared.packet.Order.TheVariants.{Big, Little}
@@ -13,8 +13,8 @@ use Rattle.packet_codec.specs.declared.reading.Start.{Start}
 use Rattle.packet_codec.specs.Header.{kind_code, packet_header}
 use Rattle.packet_codec.specs.Packet.{word_in_order}
 use Rattle.packet_codec.specs.Reading.{word_from, header_of, kind_of, big_start, little_start, start_by, start_of}
-use Rattle.packet_codec.proofs.HeaderLemmas.{header_again, header_back, IsHeader}
-use Rattle.packet_codec.proofs.WordLemmas.{IsBytes, word_again, word_back, word_below}
+use Rattle.packet_codec.proofs.HeaderLemmas.{header_again, header_back}
+use Rattle.packet_codec.proofs.WordLemmas.{IsBytes, word_again, word_back}
 
 -- ---- types
 

@@ -27,7 +27,11 @@ pub fn write_status_reply(status: &Status) -> [u8; 64]
     put_word(&mut bytes, 0, header_word(0, PacketKind::Status));
     put_word(&mut bytes, 1, status.mtu);
     put_word(&mut bytes, 2, status.buffers);
-    put_word(&mut bytes, 3, header_word(status.next.get(), PacketKind::Control));
+    put_word(
+        &mut bytes,
+        3,
+        header_word(status.next.get(), PacketKind::Control),
+    );
     bytes
 }
 

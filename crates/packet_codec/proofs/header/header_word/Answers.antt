@@ -1,4 +1,4 @@
-use Rattle.std.proofs.Common.{◌≡◌, ℕ, ◌<◌, ◌^◌, arith, lit<}
+use Rattle.std.proofs.Common.{◌<◌, ◌^◌, arith, lit<}
 use Rattle.packet_codec.specs.declared.packet.PacketKind.{PacketKind}
 use Rattle.packet_codec.specs.declared.packet.PacketKind.TheVariants.{Control, Status, Resend}
 use Rattle.packet_codec.specs.Header.{kind_code}

@@ -1,4 +1,4 @@
-use Rattle.std.proofs.Common.{◌≡◌, ℕ, ◌<◌, ◌^◌, rules, arith}
+use Rattle.std.proofs.Common.{rules, arith}
 use Rattle.packet_codec.proofs.WordLemmas.{AreWords-at}
 use Rattle.packet_codec.proofs.writing.write_packet.Goals as goal
 

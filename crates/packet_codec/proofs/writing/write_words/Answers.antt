@@ -1,4 +1,4 @@
-use Rattle.std.proofs.Common.{◌≡◌, ℕ, ◌∷◌, arith}
+use Rattle.std.proofs.Common.{◌∷◌, arith}
 use Rattle.std.proofs.lemmas.Grind.{common_steps}
 use Rattle.packet_codec.proofs.WordLemmas.{in_order-each}
 use Rattle.packet_codec.proofs.writing.write_words.Goals as goal
