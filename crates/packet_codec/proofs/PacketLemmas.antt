@@ -1,6 +1,6 @@
 -- Packets, written and read.
 use Rattle.std.specs.Prelude.{is_ok, IfOk, IsOk, MatchResult, ◌↔◌}
-use Rattle.std.proofs.Common.{◌≡◌, ◌≢◌, ℕ, ◌*◌, ◌%◌, ◌<◌, ◌≤◌, ◌⊎◌, false, List, [], ◌∷◌, ◌++◌, length, take, drop, All, Result, Ok, Err, refl, sym, ap, subst, ◌∙◌, inl, inr, arith, lit<, take-append-drop}
+use Rattle.std.proofs.Common.{◌≡◌, ◌≢◌, ℕ, ◌*◌, ◌%◌, ◌<◌, ◌≤◌, false, List, [], ◌∷◌, ◌++◌, length, take, drop, All, Result, Ok, Err, refl, sym, ap, subst, ◌∙◌, inl, inr, arith, lit<, take-append-drop}
 use Rattle.std.proofs.lemmas.Bool.{cases_lt}
 use Rattle.std.proofs.lemmas.Bool.Decides.{nat_tests}
 use Rattle.std.proofs.lemmas.List.{take_at, drop_at, length-take, length-drop, get_or_past}
@@ -15,7 +15,7 @@ use Rattle.packet_codec.specs.declared.reading.Start.{Start}
 use Rattle.packet_codec.specs.Header.{kind_code, packet_header}
 use Rattle.packet_codec.specs.Packet.{in_order, word_in_order, packet_words, packet_bytes, IsPacket}
 use Rattle.packet_codec.specs.Faults.{AreWholeWords, IsTooLong, HasAllowedHeader, HasUnknownKind, IsSpelling}
-use Rattle.packet_codec.specs.Reading.{words_of, start_of, length_rule, ◌>>=◌, packet_of}
+use Rattle.packet_codec.specs.Reading.{words_of, start_of, length_rule, ◌>>=◌, packet_of, Gives}
 use Rattle.packet_codec.proofs.WordLemmas.{IsBytes, IsBytes-take, IsBytes-drop, length-word, in_order-cons, length-in_order, words_again, words_back, words_fit, length-words_of}
 use Rattle.packet_codec.proofs.StartLemmas.{IsStart, start_bytes, start_again, StartVerdict, start_verdict, kind_code-below, unknown_start}
 
@@ -233,16 +233,14 @@ header_by bytes (Err faults.NoMemory) whole none verdict = absurd verdict
 header_refused : (bytes : List ℕ) → IsBytes bytes → AreWholeWords bytes → ¬ HasAllowedHeader bytes → packet_of bytes ≡ Err faults.Header
 header_refused bytes fits whole none = header_by bytes (packet_of bytes) whole none (verdict bytes fits)
 
--- ---- what a reader answers that gives what reading gives, or has no memory for it
-
-abbrev pub Gives : Result Packet BadPacket → Result Packet BadPacket → Type 0
-Gives result read = (result ≡ read) ⊎ ((result ≡ Err faults.NoMemory) × IsOk read)
+-- ---- a reader that gives what reading gives
 
 -- a refusal other than want of memory is what reading gives
-pub same_refusal : (result read : Result Packet BadPacket) (fault : BadPacket) → fault ≢ faults.NoMemory → Gives result read → (result ≡ Err fault) ↔ (read ≡ Err fault)
-same_refusal result read fault other (inl same) = (λ e. sym same ∙ e, λ e. same ∙ e)
-same_refusal result read fault other (inr (nothing, ok)) = (
-  λ e. let both : Err fault ≡ Err faults.NoMemory = sym e ∙ nothing in absurd (other cc),
+same_refusal : (result read : Result Packet BadPacket) (fault : BadPacket) → fault ≢ faults.NoMemory → Gives result read → (result ≡ Err fault) ↔ (read ≡ Err fault)
+same_refusal (Ok packet) read fault other same = (λ e. absurd cc, λ e. absurd cc)
+same_refusal (Err error) read fault other (inl same) = (λ e. same ∙ e, λ e. sym same ∙ e)
+same_refusal (Err error) read fault other (inr (nothing, ok)) = (
+  λ e. let both : fault ≡ faults.NoMemory = cc in absurd (other both),
   λ e. let refused : is_ok read ≡ false = ap (λ (r : Result Packet BadPacket). is_ok r) e in cc,
 )
 
@@ -254,15 +252,19 @@ spelled_by bytes (Ok packet) ok verdict = (packet, verdict.0, verdict.1)
 spelled_by bytes (Err fault) ok verdict = absurd cc
 
 found_by : (bytes : List ℕ) (result : Result Packet BadPacket) → IsBytes bytes → Gives result (packet_of bytes) → IfOk result (λ packet. IsPacket packet × (bytes ≡ packet_bytes packet))
-found_by bytes (Ok packet) fits (inl same) = packet_back bytes packet fits (sym same)
-found_by bytes (Ok packet) fits (inr nothing) = absurd (let bad = nothing.0 in cc)
+found_by bytes (Ok packet) fits same = packet_back bytes packet fits same
 found_by bytes (Err fault) fits gives = tt
 
 only_by : (result : Result Packet BadPacket) (packet : Packet) → Gives result (Ok packet) → MatchResult result (λ read. read ≡ packet) (λ error. error ≡ faults.NoMemory)
-only_by (Ok read) packet (inl same) = cc
-only_by (Ok read) packet (inr nothing) = absurd (let bad = nothing.0 in cc)
+only_by (Ok read) packet same = cc
 only_by (Err error) packet (inl same) = absurd cc
-only_by (Err error) packet (inr nothing) = let is = nothing.0 in cc
+only_by (Err error) packet (inr (nothing, ok)) = nothing
+
+no_memory_by : (bytes : List ℕ) (result read : Result Packet BadPacket) → Gives result read → Verdict read bytes → result ≡ Err faults.NoMemory → IsSpelling bytes
+no_memory_by bytes (Ok packet) read gives verdict e = absurd cc
+no_memory_by bytes (Err error) read (inl same) verdict e =
+    let bad : read ≡ Err faults.NoMemory = same ∙ e in absurd (subst (λ (r : Result Packet BadPacket). Verdict r bytes) bad verdict)
+no_memory_by bytes (Err error) read (inr (nothing, ok)) verdict e = spelled_by bytes read ok verdict
 
 -- The clauses of a reader of these bytes that gives what reading gives.
 module _ (bytes : List ℕ) (fits : IsBytes bytes) (result : Result Packet BadPacket) (gives : Gives result (packet_of bytes)) where
@@ -293,8 +295,4 @@ module _ (bytes : List ℕ) (fits : IsBytes bytes) (result : Result Packet BadPa
   kind = refusal faults.Kind (λ e. cc) (λ is. kind_refused bytes is.0 is.1)
 
   pub no_memory : result ≡ Err faults.NoMemory → IsSpelling bytes
-  no_memory e =
-      elim gives [
-        | inl same ↦ absurd (told bytes faults.NoMemory fits (sym same ∙ e))
-        | inr nothing ↦ spelled_by bytes (packet_of bytes) nothing.1 (verdict bytes fits)
-      ]
+  no_memory = no_memory_by bytes result (packet_of bytes) gives (verdict bytes fits)

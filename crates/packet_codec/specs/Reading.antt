@@ -1,5 +1,5 @@
 -- Reading as a function on lists: the packet, or the first rule that the bytes break.
-use Rattle.std.specs.Prelude.{ℕ, zero, suc, ◌*◌, ◌/◌, ◌%◌, ◌^◌, List, length, map, take, drop, ◌&&◌, ◌==◌, nat_lt, if◌then◌else◌, Option, Some, None, Result, Ok, Err}
+use Rattle.std.specs.Prelude.{ℕ, zero, suc, ◌*◌, ◌/◌, ◌%◌, ◌^◌, List, length, map, take, drop, ◌&&◌, ◌==◌, nat_lt, if◌then◌else◌, Option, Some, None, Result, Ok, Err, ◌≡◌, ◌⊎◌, IsOk, MatchResult}
 use Rattle.std.specs.Int.{w32, from_be_bytes, from_le_bytes}
 use Rattle.std.specs.Simd.{first_chunks}
 use Rattle.packet_codec.specs.declared.packet.TheConstants.{MAX_PACKET_WORDS}
@@ -73,3 +73,7 @@ packet_of bytes = do
   _ ← length_rule (length bytes)
   start ← start_of (take 4 bytes)
   Ok (record { order = start.order; id = start.id; kind = start.kind; body = words_of start.order (drop 4 bytes) })
+
+-- What was answered is what reading gives, but want of memory may stand for a packet.
+abbrev pub Gives : Result Packet BadPacket → Result Packet BadPacket → Type 0
+Gives result read = MatchResult result (λ packet. read ≡ Ok packet) (λ error. (read ≡ Err error) ⊎ ((error ≡ faults.NoMemory) × IsOk read))

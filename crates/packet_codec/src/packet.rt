@@ -64,11 +64,12 @@ pub enum BadPacket {
     Ragged,
     /// There are more than `MAX_PACKET_WORDS` words.
     Long,
-    /// The first word is a packet header of some type neither big-endian, nor of a control packet little-endian.
+    /// The first word is neither a big-endian packet header, of whatever type, nor the little-endian header of a
+    /// control packet.
     Header,
-    /// The header is big-endian, and its type is above 2.
+    /// The first word is a big-endian packet header, and its type is above 2.
     Kind,
-    /// Memory ran out.
+    /// The bytes are a packet, but memory ran out.
     NoMemory,
 }
 

@@ -1,9 +1,9 @@
 //! Reading a packet.
 
-ghost use Rattle.std.specs.Prelude.{◌≡◌, ◌≢◌, ◌↔◌, ℕ, ◌%◌, [], length, Ok, Err, IfOk, IsOk, MatchResult, ◌⊎◌};
+ghost use Rattle.std.specs.Prelude.{◌≡◌, ◌≢◌, ◌↔◌, ℕ, ◌%◌, [], length, Ok, Err, IfOk, MatchResult};
 ghost use Rattle.packet_codec.specs.Packet.{IsPacket, packet_bytes};
 ghost use Rattle.packet_codec.specs.Faults.{AreWholeWords, IsTooLong, HasAllowedHeader, HasUnknownKind, IsSpelling};
-ghost use Rattle.packet_codec.specs.Reading.{length_rule, start_of, words_of, packet_of};
+ghost use Rattle.packet_codec.specs.Reading.{length_rule, start_of, words_of, packet_of, Gives};
 ghost use Rattle.packet_codec.specs.declared.packet.Packet.{Packet as PacketValue};
 
 use crate::header::{Header, known_kind, read_header};
@@ -19,7 +19,8 @@ pub(crate) struct Start {
     kind: PacketKind,
 }
 
-/// Reads a packet. The rules are tried in the order of `BadPacket`, and the first that is broken is answered.
+/// Reads a packet (IPbus 2.0, packet header). Control packets are read in both byte orders, and the others only
+/// big-endian (profile). The rules are tried in the order of `BadPacket`, and the first that is broken is answered.
 pub fn read_packet(alloc: Global, bytes: &[u8]) -> Result<Packet, BadPacket>
     // What is read is spelled so.
     ensures found { IfOk result (λ packet. IsPacket packet × (bytes.now ≡ packet_bytes packet)) }
@@ -34,14 +35,15 @@ pub fn read_packet(alloc: Global, bytes: &[u8]) -> Result<Packet, BadPacket>
     ensures kind { (result ≡ Err BadPacket.Kind) ↔ (AreWholeWords bytes.now × HasUnknownKind bytes.now) }
     ensures no_memory { result ≡ Err BadPacket.NoMemory → IsSpelling bytes.now }
     // The same as a function of the bytes.
-    ensures exact { (result ≡ packet_of bytes.now) ⊎ ((result ≡ Err BadPacket.NoMemory) × IsOk (packet_of bytes.now)) }
+    ensures exact { Gives result (packet_of bytes.now) }
 {
     read_by_offsets(alloc, bytes)
 }
 
+/// Reads by offsets: the first word tells the order in which the words after it are read.
 #[tactic(auto, unfolding(crate::specs::Reading::packet_of))]
 fn read_by_offsets(alloc: Global, bytes: &[u8]) -> Result<Packet, BadPacket>
-    ensures { (result ≡ packet_of bytes.now) ⊎ ((result ≡ Err BadPacket.NoMemory) × IsOk (packet_of bytes.now)) }
+    ensures { Gives result (packet_of bytes.now) }
 {
     check_length(bytes.len())?;
     let (first, rest) = bytes.split_first_chunk::<4>().unwrap();
