@@ -1,16 +1,15 @@
 -- What the bytes of a status packet tell, and what reading them says.
 use Rattle.std.specs.Prelude.{◌&&◌, ◌==◌, nat_le, if◌then◌else◌, IsTrue, IfOk, IsOkAnd, MatchResult, ◌↔◌}
-use Rattle.std.proofs.Common.{◌≡◌, ◌≢◌, ℕ, zero, suc, ◌+◌, ◌*◌, ◌<◌, ◌≤◌, ◌^◌, ◌⊎◌, Bool, true, false, List, [], ◌∷◌, ◌++◌, length, get_or, drop, Option, Some, None, Result, Ok, Err, refl, sym, ap, subst, ◌∙◌, inl, inr, arith, lit<}
-use Rattle.std.specs.Int.{w32, to_be_bytes}
+use Rattle.std.proofs.Common.{◌≡◌, ◌≢◌, ℕ, zero, suc, ◌+◌, ◌*◌, ◌<◌, ◌≤◌, ◌^◌, ◌⊎◌, Bool, true, false, List, [], ◌∷◌, ◌++◌, length, drop, Option, Some, None, Result, Ok, Err, refl, sym, ap, subst, ◌∙◌, inl, inr, arith, lit<}
 use Rattle.std.proofs.Common.{eq-eqb}
 use Rattle.std.proofs.lemmas.Bool.{eqb-true, leb-true, le-leb}
 use Rattle.std.proofs.lemmas.Bool.Decides.{nat_tests}
-use Rattle.std.proofs.lemmas.List.{drop-drop, length-drop, get_or-drop}
+use Rattle.std.proofs.lemmas.List.{drop-drop, length-drop}
 use Rattle.std.proofs.lemmas.Nat.{be_bytes_4, from_be_bytes-to_be_bytes_4}
 use Rattle.ipb_base.specs.Word.{word_bytes, big_endian}
 use Rattle.ipb_base.specs.Lists.{IsPrefix}
 use Rattle.packet_ids.specs.Identifier.{IsIdentifier}
-use Rattle.packet_codec.specs.declared.packet.PacketKind.TheVariants.{Control, Status}
+use Rattle.packet_codec.specs.declared.packet.PacketKind.TheVariants.{Control}
 use Rattle.packet_codec.specs.declared.header.Header.{Header}
 use Rattle.packet_codec.specs.Header.{kind_code, packet_header}
 use Rattle.packet_codec.specs.Reading.{header_of}
@@ -22,7 +21,6 @@ use Rattle.status_packet.specs.declared.status.Status.{Status as BoardStatus}
 use Rattle.status_packet.specs.declared.status.BadStatus.{BadStatus}
 use Rattle.status_packet.specs.declared.status.BadStatus.TheVariants as faults
 use Rattle.status_packet.specs.Range.{IsMtu, IsBufferCount}
-use Rattle.status_packet.specs.Packets.{told_words}
 use Rattle.status_packet.specs.Told.{status_header, IsStatusPacket, TellsStatus, IsNextHeader, IsOutOfRange}
 use Rattle.status_packet.specs.Reading.{Report, report_of, word_at, asks_status, identifier_of, numbered, next_of, ranged, status_of}
 
@@ -86,13 +84,14 @@ first_was bytes word word_fits begins = ap (λ (b : List ℕ). word_at b 0) begi
 
 four_are : (bytes : List ℕ) (header mtu buffers next : ℕ) → 16 ≤ length bytes → IsBytes bytes → Begins bytes header mtu buffers next
     → IsPrefix (big_endian (header ∷ mtu ∷ buffers ∷ next ∷ [])) bytes
-four_are bytes header mtu buffers next long fits are =
-    (drop 16 bytes,
-     four_words bytes long fits
-     ∙ ap (λ (w : ℕ). big_endian (w ∷ word_at bytes 1 ∷ word_at bytes 2 ∷ word_at bytes 3 ∷ []) ++ drop 16 bytes) are.header_is
-     ∙ ap (λ (w : ℕ). big_endian (header ∷ w ∷ word_at bytes 2 ∷ word_at bytes 3 ∷ []) ++ drop 16 bytes) are.mtu_is
-     ∙ ap (λ (w : ℕ). big_endian (header ∷ mtu ∷ w ∷ word_at bytes 3 ∷ []) ++ drop 16 bytes) are.buffers_is
-     ∙ ap (λ (w : ℕ). big_endian (header ∷ mtu ∷ buffers ∷ w ∷ []) ++ drop 16 bytes) are.next_is)
+four_are bytes header mtu buffers next long fits are = (
+  drop 16 bytes,
+  four_words bytes long fits
+      ∙ ap (λ (w : ℕ). big_endian (w ∷ word_at bytes 1 ∷ word_at bytes 2 ∷ word_at bytes 3 ∷ []) ++ drop 16 bytes) are.header_is
+      ∙ ap (λ (w : ℕ). big_endian (header ∷ w ∷ word_at bytes 2 ∷ word_at bytes 3 ∷ []) ++ drop 16 bytes) are.mtu_is
+      ∙ ap (λ (w : ℕ). big_endian (header ∷ mtu ∷ w ∷ word_at bytes 3 ∷ []) ++ drop 16 bytes) are.buffers_is
+      ∙ ap (λ (w : ℕ). big_endian (header ∷ mtu ∷ buffers ∷ w ∷ []) ++ drop 16 bytes) are.next_is,
+)
 
 -- a longer front begins with the header too
 header_begins : (bytes : List ℕ) (header mtu buffers next : ℕ) → IsPrefix (big_endian (header ∷ mtu ∷ buffers ∷ next ∷ [])) bytes → IsPrefix (big_endian (header ∷ [])) bytes
@@ -227,11 +226,13 @@ verdict_header : (bytes : List ℕ) (test : Bool) → length bytes ≡ STATUS_BY
     → Verdict (if test then ranged (word_at bytes 1) (word_at bytes 2) (next_of (word_at bytes 3)) else Err faults.Header) bytes
 verdict_header bytes true whole fits e =
     verdict_next bytes (word_at bytes 1) (word_at bytes 2) (word_at bytes 3) (next_of (word_at bytes 3)) (status_words bytes whole fits (eqb-true _ _ e)) refl
-verdict_header bytes false whole fits e =
-    (whole, λ is.
-        let header_is = first_was bytes status_header status_header_fits is.begins in
-        let test : (word_at bytes 0 == status_header) ≡ true = eq-eqb _ _ header_is in
-        cc)
+verdict_header bytes false whole fits e = (
+  whole,
+  λ is.
+      let header_is = first_was bytes status_header status_header_fits is.begins in
+      let test : (word_at bytes 0 == status_header) ≡ true = eq-eqb _ _ header_is in
+      cc,
+)
 
 verdict_length : (bytes : List ℕ) (test : Bool) → IsBytes bytes → (length bytes == STATUS_BYTES) ≡ test
     → Verdict (if test then (if word_at bytes 0 == status_header then ranged (word_at bytes 1) (word_at bytes 2) (next_of (word_at bytes 3)) else Err faults.Header) else Err faults.Length) bytes
@@ -268,9 +269,9 @@ apart bytes report is outer =
     elim outer.broken [
       | inl no_mtu ↦ no_mtu (subst IsMtu mtu_same is.mtu)
       | inr rest ↦ elim rest [
-          | inl no_buffers ↦ no_buffers (subst IsBufferCount buffers_same is.buffers)
-          | inr nothing ↦ nothing (report.next, is.next, next_same)
-        ]
+        | inl no_buffers ↦ no_buffers (subst IsBufferCount buffers_same is.buffers)
+        | inr nothing ↦ nothing (report.next, is.next, next_same)
+      ]
     ]
 
 same_fields : (one other : Report) → one.mtu ≡ other.mtu → one.buffers ≡ other.buffers → one.next ≡ other.next → one ≡ other
@@ -345,9 +346,10 @@ module _ (bytes : List ℕ) (fits : IsBytes bytes) (result : Result BoardStatus 
       only_by result report (subst (λ (r : Result Report BadStatus). Gives result r) (one_verdict bytes (status_of bytes) (Ok report) (verdict bytes fits) is) gives)
 
   refusal : (fault : BadStatus) → (result ≡ Err fault) ↔ Verdict (Err fault) bytes
-  refusal fault =
-      (λ e. subst (λ (r : Result Report BadStatus). Verdict r bytes) (is_error result fault (status_of bytes) gives e) (verdict bytes fits),
-       λ is. error_is result fault (status_of bytes) gives (one_verdict bytes (status_of bytes) (Err fault) (verdict bytes fits) is))
+  refusal fault = (
+    λ e. subst (λ (r : Result Report BadStatus). Verdict r bytes) (is_error result fault (status_of bytes) gives e) (verdict bytes fits),
+    λ is. error_is result fault (status_of bytes) gives (one_verdict bytes (status_of bytes) (Err fault) (verdict bytes fits) is),
+  )
 
   pub header : (result ≡ Err faults.Header) ↔ ((length bytes ≡ STATUS_BYTES) × ¬ IsStatusPacket bytes)
   header = refusal faults.Header
@@ -358,12 +360,13 @@ module _ (bytes : List ℕ) (fits : IsBytes bytes) (result : Result BoardStatus 
 -- ---- requests
 
 pub asked : (bytes : List ℕ) → IsBytes bytes → IsTrue (asks_status bytes) ↔ IsStatusPacket bytes
-asked bytes fits =
-    (λ e.
-       let both = both_true (length bytes == STATUS_BYTES) (word_at bytes 0 == status_header) e in
-       let whole : length bytes ≡ STATUS_BYTES = eqb-true _ _ both.0 in
-       record { whole = whole; begins = first_is bytes status_header (omega arith) fits (eqb-true _ _ both.1) },
-     λ is.
-       let whole : (length bytes == STATUS_BYTES) ≡ true = eq-eqb _ _ is.whole in
-       let first : (word_at bytes 0 == status_header) ≡ true = eq-eqb _ _ (first_was bytes status_header status_header_fits is.begins) in
-       ap (λ (one : Bool). one && (word_at bytes 0 == status_header)) whole ∙ first)
+asked bytes fits = (
+  λ e.
+      let both = both_true (length bytes == STATUS_BYTES) (word_at bytes 0 == status_header) e in
+      let whole : length bytes ≡ STATUS_BYTES = eqb-true _ _ both.0 in
+      record { whole = whole; begins = first_is bytes status_header (omega arith) fits (eqb-true _ _ both.1) },
+  λ is.
+      let whole : (length bytes == STATUS_BYTES) ≡ true = eq-eqb _ _ is.whole in
+      let first : (word_at bytes 0 == status_header) ≡ true = eq-eqb _ _ (first_was bytes status_header status_header_fits is.begins) in
+      ap (λ (one : Bool). one && (word_at bytes 0 == status_header)) whole ∙ first,
+)

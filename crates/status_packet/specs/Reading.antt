@@ -1,9 +1,9 @@
 -- Reading as functions on lists.
-use Rattle.std.specs.Prelude.{◌≡◌, ℕ, ◌+◌, ◌*◌, List, length, drop, Bool, ◌&&◌, ◌==◌, nat_le, if◌then◌else◌, Option, Some, None, Result, Ok, Err}
+use Rattle.std.specs.Prelude.{ℕ, ◌*◌, List, length, drop, Bool, ◌&&◌, ◌==◌, nat_le, if◌then◌else◌, Option, Some, None, Result, Ok, Err}
 use Rattle.std.specs.Int.{w32, from_be_bytes}
-use Rattle.packet_codec.specs.declared.packet.PacketKind.TheVariants.{Control, Status, Resend}
+use Rattle.packet_codec.specs.declared.packet.PacketKind.TheVariants.{Control, Resend}
 use Rattle.packet_codec.specs.declared.header.Header.{Header}
-use Rattle.packet_codec.specs.Header.{kind_code, packet_header}
+use Rattle.packet_codec.specs.Header.{kind_code}
 use Rattle.packet_codec.specs.Reading.{header_of}
 use Rattle.status_packet.specs.declared.status.TheConstants.{MIN_MTU, MAX_MTU, MAX_BUFFERS, STATUS_BYTES}
 use Rattle.status_packet.specs.declared.status.Status.{Status as BoardStatus}

@@ -15,7 +15,8 @@ use packet_ids::Id;
 /// Whether the bytes are a request for the status of a board: 64 bytes that begin with the header of a status packet.
 /// The words after it are not looked at (profile).
 pub fn is_status_request(bytes: &[u8]) -> bool
-    ensures { IsTrue result ↔ IsStatusPacket bytes.now }
+    ensures told { IsTrue result ↔ IsStatusPacket bytes.now }
+    ensures exact { result ≡ asks_status bytes.now }
 {
     has_status_header(bytes)
 }
@@ -47,12 +48,14 @@ pub fn read_status_reply(bytes: &[u8]) -> Result<Status, BadStatus>
     read_by_words(bytes)
 }
 
+/// 64 bytes that begin with the header of a status packet.
 fn has_status_header(bytes: &[u8]) -> bool
     ensures { result ≡ asks_status bytes.now }
 {
     bytes.len() == STATUS_BYTES && word_at(bytes, 0) == header_word(0, PacketKind::Status)
 }
 
+/// The identifier in the header of a re-send request, where there is nothing but that.
 fn resend_id(bytes: &[u8]) -> Option<u16>
     ensures { result ≡ resend_of bytes.now }
 {
@@ -67,6 +70,7 @@ fn resend_id(bytes: &[u8]) -> Option<u16>
     }
 }
 
+/// The rules of `BadStatus` in turn.
 fn read_by_words(bytes: &[u8]) -> Result<Status, BadStatus>
     ensures { MatchResult result (λ status. status_of bytes.now ≡ Ok (report_of status)) (λ error. status_of bytes.now ≡ Err error) }
 {

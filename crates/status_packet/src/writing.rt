@@ -23,15 +23,12 @@ pub fn write_status_request() -> [u8; 64]
 pub fn write_status_reply(status: &Status) -> [u8; 64]
     ensures { result ≡ packet_bytes (status_reply status.now.mtu status.now.buffers status.now.next) }
 {
+    let next = header_word(status.next.get(), PacketKind::Control);
     let mut bytes = [0; STATUS_BYTES];
     put_word(&mut bytes, 0, header_word(0, PacketKind::Status));
     put_word(&mut bytes, 1, status.mtu);
     put_word(&mut bytes, 2, status.buffers);
-    put_word(
-        &mut bytes,
-        3,
-        header_word(status.next.get(), PacketKind::Control),
-    );
+    put_word(&mut bytes, 3, next);
     bytes
 }
 
@@ -42,7 +39,7 @@ pub fn write_resend(id: Id) -> [u8; 4]
     header_word(id.get(), PacketKind::Resend).to_be_bytes()
 }
 
-/// Writes one of the 16 words of a status packet.
+/// Writes one of the 16 words of a status packet. Places count from 0.
 fn put_word(bytes: &mut [u8; 64], place: usize, word: u32)
     requires { place < 16 }
     ensures { bytes.new ≡ take (4 * place) bytes.old ++ (word_bytes word ++ drop (4 * place + 4) bytes.old) }
