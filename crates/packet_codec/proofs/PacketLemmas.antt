@@ -1,6 +1,6 @@
 -- Packets, written and read.
 use Rattle.std.specs.Prelude.{is_ok, IfOk, IsOk, MatchResult, ◌↔◌}
-use Rattle.std.proofs.Common.{◌≡◌, ◌≢◌, ℕ, ◌*◌, ◌%◌, ◌<◌, ◌≤◌, false, List, [], ◌∷◌, ◌++◌, length, take, drop, All, Result, Ok, Err, refl, sym, ap, subst, ◌∙◌, inl, inr, arith, lit<, take-append-drop}
+use Rattle.std.proofs.Common.{◌≡◌, ◌^◌, ◌≢◌, ℕ, ◌*◌, ◌%◌, ◌<◌, ◌≤◌, false, List, [], ◌∷◌, ◌++◌, length, get_or, take, drop, All, Result, Ok, Err, refl, sym, ap, subst, ◌∙◌, inl, inr, arith, lit<, take-append-drop}
 use Rattle.std.proofs.lemmas.Bool.{cases_lt}
 use Rattle.std.proofs.lemmas.Bool.Decides.{nat_tests}
 use Rattle.std.proofs.lemmas.List.{take_at, drop_at, length-take, length-drop, get_or_past}
@@ -67,6 +67,25 @@ packet_again packet is =
     packet_by (packet_bytes packet) (written_whole packet is)
     ∙ ap (λ (r : Result Start BadPacket). r >>= λ s. Ok (made s (drop 4 (packet_bytes packet)))) read
     ∙ ap (λ (words : List ℕ). Ok (record packet { body = words })) body
+
+-- ---- the first byte
+
+first_big : (id code : ℕ) (body : List ℕ) → id < 2 ^ 16 → code < 2 ^ 4 → get_or (in_order Big (packet_header id code ∷ body)) 0 0 ≡ 0x20
+first_big id code body id_fits code_fits = omega arith
+
+first_little : (id : ℕ) (body : List ℕ) → get_or (in_order Little (packet_header id 0 ∷ body)) 0 0 ≡ 0xf0
+first_little id body = omega arith
+
+pub first_byte_big : (packet : Packet) → IsPacket packet → packet.order ≡ Big → get_or (packet_bytes packet) 0 0 ≡ 0x20
+first_byte_big packet is order-is =
+    ap (λ (order : Order). get_or (in_order order (packet_words packet)) 0 0) order-is
+    ∙ first_big packet.id (kind_code packet.kind) packet.body is.id (kind_code-below packet.kind)
+
+pub first_byte_little : (packet : Packet) → IsPacket packet → packet.order ≡ Little → get_or (packet_bytes packet) 0 0 ≡ 0xf0
+first_byte_little packet is order-is =
+    ap (λ (order : Order). get_or (in_order order (packet_words packet)) 0 0) order-is
+    ∙ ap (λ (kind : PacketKind). get_or (in_order Little (packet_header packet.id (kind_code kind) ∷ packet.body)) 0 0) (is.order order-is)
+    ∙ first_little packet.id packet.body
 
 -- ---- what reading says of the bytes
 

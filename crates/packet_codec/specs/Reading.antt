@@ -43,6 +43,7 @@ little_start None = Err faults.Header
 little_start (Some header) =
     if header.kind == 0 then Ok (record { order = Little; id = header.id; kind = Control }) else Err faults.Header
 
+-- the start by the first word read in either order: no word is a header in both
 abbrev pub start_by : Option Header → Option Header → Result Start BadPacket
 start_by (Some big) little = big_start big.id (kind_of big.kind)
 start_by None little = little_start little

@@ -1,6 +1,6 @@
 //! Laws of the definitions. These functions do nothing when they run: their clauses are what is proved.
 
-ghost use Rattle.std.specs.Prelude.{◌≡◌, ℕ, List, [], ◌∷◌, ◌++◌, replicate, Ok, Err, take};
+ghost use Rattle.std.specs.Prelude.{◌≡◌, ℕ, List, [], ◌∷◌, replicate, Ok, Err};
 ghost use Rattle.ipb_base.specs.Word.{big_endian};
 ghost use Rattle.packet_codec.specs.Packet.{packet_bytes, IsPacket};
 ghost use Rattle.packet_ids.specs.Identifier.{IsIdentifier};
