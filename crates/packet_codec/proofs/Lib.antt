@@ -1,0 +1,4 @@
+pub mod HeaderLemmas
+pub mod WordLemmas
+pub mod StartLemmas
+pub mod PacketLemmas

@@ -1,0 +1,40 @@
+-- What has a spelling as a packet, and its spelling.
+use Rattle.std.specs.Prelude.{◌≡◌, ℕ, ◌<◌, ◌≤◌, ◌^◌, List, ◌∷◌, length}
+use Rattle.std.specs.List.{flat_map}
+use Rattle.std.specs.Int.{w32, to_le_bytes}
+use Rattle.ipb_base.specs.Word.{AreWords, word_bytes, big_endian}
+use Rattle.packet_codec.specs.declared.packet.TheConstants.{MAX_BODY_WORDS}
+use Rattle.packet_codec.specs.declared.packet.Order.{Order}
+use Rattle.packet_codec.specs.declared.packet.Order.TheVariants.{Big, Little}
+use Rattle.packet_codec.specs.declared.packet.PacketKind.TheVariants.{Control}
+use Rattle.packet_codec.specs.declared.packet.Packet.{Packet}
+use Rattle.packet_codec.specs.Header.{kind_code, packet_header}
+
+-- the bytes of a list of words, the least significant byte of each first
+abbrev pub little_endian : List ℕ → List ℕ
+little_endian words = flat_map (to_le_bytes w32) words
+
+-- the bytes of a list of words in a byte order
+abbrev pub in_order : Order → List ℕ → List ℕ
+in_order Big words = big_endian words
+in_order Little words = little_endian words
+
+-- the four bytes of one word
+abbrev pub word_in_order : Order → ℕ → List ℕ
+word_in_order Big word = word_bytes word
+word_in_order Little word = to_le_bytes w32 word
+
+-- the header and the words after it
+abbrev pub packet_words : Packet → List ℕ
+packet_words packet = packet_header packet.id (kind_code packet.kind) ∷ packet.body
+
+-- the spelling of a packet
+abbrev pub packet_bytes : Packet → List ℕ
+packet_bytes packet = in_order packet.order (packet_words packet)
+
+-- What has a spelling: the fields are in their ranges, and only control packets are little-endian.
+pub record IsPacket (packet : Packet) : Type 0 where
+  pub id : packet.id < 2 ^ 16
+  pub body : AreWords packet.body
+  pub length : length packet.body ≤ MAX_BODY_WORDS
+  pub order : packet.order ≡ Little → packet.kind ≡ Control

@@ -1,0 +1,17 @@
+//! IPbus 2.0 packets: the packet header and the words after it, read and written in both byte orders.
+#![tactic(auto)]
+
+mod header;
+pub mod laws;
+mod packet;
+mod reading;
+mod writing;
+
+pub use header::{Header, header_word, read_header};
+pub use ipb_base::{NoMemory, Words};
+pub use packet::{BadPacket, MAX_BODY_WORDS, MAX_PACKET_WORDS, Order, Packet, PacketKind};
+pub use reading::read_packet;
+pub use writing::write_packet;
+
+#[cfg(test)]
+mod tests;

@@ -1,0 +1,115 @@
+//! Reading a packet.
+
+ghost use Rattle.std.specs.Prelude.{◌≡◌, ◌≢◌, ◌↔◌, ◌%◌, [], length, Ok, Err, IfOk, MatchResult};
+ghost use Rattle.packet_codec.specs.Packet.{IsPacket, packet_bytes};
+ghost use Rattle.packet_codec.specs.Faults.{AreWholeWords, IsTooLong, HasAllowedHeader, HasUnknownKind, IsSpelling};
+ghost use Rattle.packet_codec.specs.Reading.{length_rule, start_of, words_of, packet_of, Gives};
+ghost use Rattle.packet_codec.specs.declared.packet.Packet.{Packet as PacketValue};
+
+use crate::header::{Header, known_kind, read_header};
+use crate::packet::{BadPacket, MAX_PACKET_WORDS, Order, Packet, PacketKind};
+use ipb_base::{NoMemory, Words};
+use std::alloc::Global;
+
+/// What the first word of a packet tells.
+#[derive(Clone, Copy)]
+pub(crate) struct Start {
+    order: Order,
+    id: u16,
+    kind: PacketKind,
+}
+
+/// Reads a packet (IPbus 2.0, packet header). Control packets are read in both byte orders, and the others only
+/// big-endian (profile). The rules are tried in the order of `BadPacket`, and the first that is broken is answered.
+pub fn read_packet(alloc: Global, bytes: &[u8]) -> Result<Packet, BadPacket>
+    // What is read is spelled so.
+    ensures found { IfOk result (λ packet. IsPacket packet × (bytes.now ≡ packet_bytes packet)) }
+    // What is spelled so is read, unless memory runs out.
+    ensures only { (packet : PacketValue) → IsPacket packet → bytes.now ≡ packet_bytes packet
+        → MatchResult result (λ read. read ≡ packet) (λ error. error ≡ BadPacket.NoMemory) }
+    // Each refusal comes exactly by its rule, where those before it are kept.
+    ensures empty { (result ≡ Err BadPacket.Empty) ↔ (bytes.now ≡ []) }
+    ensures ragged { (result ≡ Err BadPacket.Ragged) ↔ (length bytes.now % 4 ≢ 0) }
+    ensures long { (result ≡ Err BadPacket.Long) ↔ IsTooLong bytes.now }
+    ensures header { (result ≡ Err BadPacket.Header) ↔ (AreWholeWords bytes.now × ¬ HasAllowedHeader bytes.now) }
+    ensures kind { (result ≡ Err BadPacket.Kind) ↔ (AreWholeWords bytes.now × HasUnknownKind bytes.now) }
+    ensures no_memory { result ≡ Err BadPacket.NoMemory → IsSpelling bytes.now }
+    // The same as a function of the bytes.
+    ensures exact { Gives result (packet_of bytes.now) }
+{
+    read_by_offsets(alloc, bytes)
+}
+
+/// Reads by offsets: the first word tells the order in which the words after it are read.
+#[tactic(auto, unfolding(crate::specs::Reading::packet_of))]
+fn read_by_offsets(alloc: Global, bytes: &[u8]) -> Result<Packet, BadPacket>
+    ensures { Gives result (packet_of bytes.now) }
+{
+    check_length(bytes.len())?;
+    let (first, rest) = bytes.split_first_chunk::<4>().unwrap();
+    let start = read_start(*first)?;
+    Ok(Packet {
+        order: start.order,
+        id: start.id,
+        kind: start.kind,
+        body: read_words(alloc, start.order, rest)?,
+    })
+}
+
+/// The rules on the number of bytes.
+fn check_length(length: usize) -> Result<(), BadPacket>
+    ensures { result ≡ length_rule length }
+{
+    if length == 0 {
+        Err(BadPacket::Empty)
+    } else if length % 4 != 0 {
+        Err(BadPacket::Ragged)
+    } else if length > 4 * MAX_PACKET_WORDS {
+        Err(BadPacket::Long)
+    } else {
+        Ok(())
+    }
+}
+
+/// The rules on the first word.
+#[tactic(auto, unfolding(crate::specs::Reading::start_of))]
+fn read_start(first: [u8; 4]) -> Result<Start, BadPacket>
+    ensures { result ≡ start_of first }
+{
+    if let Some(header) = read_header(u32::from_be_bytes(first)) {
+        return match known_kind(header.kind) {
+            Some(kind) => Ok(Start {
+                order: Order::Big,
+                id: header.id,
+                kind,
+            }),
+            None => Err(BadPacket::Kind),
+        };
+    }
+    match read_header(u32::from_le_bytes(first)) {
+        Some(Header { id, kind: 0 }) => Ok(Start {
+            order: Order::Little,
+            id,
+            kind: PacketKind::Control,
+        }),
+        _ => Err(BadPacket::Header),
+    }
+}
+
+/// The words of bytes that are whole words.
+fn read_words(alloc: Global, order: Order, bytes: &[u8]) -> Result<Words, NoMemory>
+    ensures { IfOk result (λ words. words ≡ words_of order bytes.now) }
+{
+    let (words, _) = bytes.as_chunks::<4>();
+    let words = match order {
+        Order::Big => words
+            .iter()
+            .map(|word| u32::from_be_bytes(*word))
+            .collect(alloc)?,
+        Order::Little => words
+            .iter()
+            .map(|word| u32::from_le_bytes(*word))
+            .collect(alloc)?,
+    };
+    Ok(Words::from_vec(words))
+}

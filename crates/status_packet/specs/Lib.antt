@@ -1,0 +1,4 @@
+pub mod Range
+pub mod Packets
+pub mod Told
+pub mod Reading
