@@ -1,0 +1,5 @@
+pub mod Fault
+pub mod Cells
+pub mod Ranges
+pub mod Blocks
+pub mod Spans

@@ -1,0 +1,12 @@
+//! The bus of a board: a map from addresses to words, in ranges of four kinds, on which IPbus 2.0 transactions are executed.
+#![tactic(auto)]
+
+mod bus;
+mod fault;
+mod kind;
+mod range;
+
+pub use bus::Bus;
+pub use fault::BusFault;
+pub use kind::RangeKind;
+pub use range::{BusRefusal, MAX_WORDS, Range, check_ranges};
