@@ -3,9 +3,11 @@
 #![tactic(auto)]
 
 pub mod laws;
+mod line;
 mod no_memory;
 mod words;
 
+pub use line::Line;
 pub use no_memory::NoMemory;
 pub use words::Words;
 

@@ -13,3 +13,10 @@ fn words_are_kept_and_given_back(rt: HostRuntime) -> Result<(), Fail> {
     assert_eq!(rt; vector.as_slice(), [7, 0xffff_ffff].as_slice());
     Ok(())
 }
+
+#[test]
+fn a_line_keeps_its_text(rt: HostRuntime) -> Result<(), Fail> {
+    let line = Line::copied(rt.alloc(), "read b0:id")?;
+    assert_eq!(rt; line.as_str(), "read b0:id");
+    Ok(())
+}

@@ -1,0 +1,248 @@
+ghost use Rattle.std.specs.Prelude.{◌≡◌, ◌+◌, ◌≤◌, IfOk, Ok, Err, MatchResult, ◌==◌, length, take, drop, IsTrue, ◌↔◌};
+ghost use Rattle.transaction_codec.specs.Header;
+ghost use Rattle.transaction_codec.specs.Request;
+ghost use Rattle.transaction_codec.specs.Reply;
+ghost use Rattle.transaction_codec.specs.Request.{request_at, asked, words_after};
+ghost use Rattle.transaction_codec.specs.Reply.{reply_at};
+ghost use Rattle.transaction_codec.specs.First.{op_of, request_of, reply_of};
+
+use crate::header_word::{VERSION, code_of, count_of, kind_of, tid_of, version_of};
+use crate::info_code::{BAD_HEADER, READ_ERROR, REQUEST, SUCCESS, WRITE_TIMEOUT};
+use crate::refusal::Why;
+use crate::request::Op;
+use crate::transaction_type::{READ, READ_PORT, RMW_BITS, RMW_SUM, WRITE, WRITE_PORT};
+use ipb_base::{NoMemory, Words};
+use std::alloc::Global;
+
+/// What a request asks, with its words where they stand in the body.
+#[derive(Clone, Copy, Debug)]
+pub enum OpRef<'a> {
+    Read {
+        base: u32,
+        count: u32,
+    },
+    ReadPort {
+        base: u32,
+        count: u32,
+    },
+    Write {
+        base: u32,
+        words: &'a [u32],
+    },
+    WritePort {
+        base: u32,
+        words: &'a [u32],
+    },
+    RmwBits {
+        base: u32,
+        and_term: u32,
+        or_term: u32,
+    },
+    RmwSum {
+        base: u32,
+        addend: u32,
+    },
+}
+
+/// The request at the front of a body and the words after it.
+#[derive(Clone, Copy, Debug)]
+pub struct FirstRequest<'a> {
+    pub tid: u16,
+    pub op: OpRef<'a>,
+    pub rest: &'a [u32],
+}
+
+/// The reply at the front of a body and the words after it.
+#[derive(Clone, Copy, Debug)]
+pub struct FirstReply<'a> {
+    pub tid: u16,
+    pub kind: u8,
+    pub count: u8,
+    pub code: u8,
+    pub values: &'a [u32],
+    pub rest: &'a [u32],
+}
+
+impl OpRef<'_> {
+    /// The same operation with its words in memory of its own.
+    pub fn to_op(&self, alloc: Global) -> Result<Op, NoMemory>
+        ensures { IfOk result (λ op. op ≡ op_of self.now) }
+    {
+        Ok(match *self {
+            OpRef::Read { base, count } => Op::Read { base, count },
+            OpRef::ReadPort { base, count } => Op::ReadPort { base, count },
+            OpRef::Write { base, words } => Op::Write {
+                base,
+                words: Words::from_vec(words.to_vec(alloc)?),
+            },
+            OpRef::WritePort { base, words } => Op::WritePort {
+                base,
+                words: Words::from_vec(words.to_vec(alloc)?),
+            },
+            OpRef::RmwBits {
+                base,
+                and_term,
+                or_term,
+            } => Op::RmwBits {
+                base,
+                and_term,
+                or_term,
+            },
+            OpRef::RmwSum { base, addend } => Op::RmwSum { base, addend },
+        })
+    }
+}
+
+fn is_write(kind: u8) -> bool
+    ensures { result ≡ Header.is_write kind }
+{
+    kind == WRITE || kind == WRITE_PORT
+}
+
+fn is_rmw(kind: u8) -> bool
+    ensures { result ≡ Header.is_rmw kind }
+{
+    kind == RMW_BITS || kind == RMW_SUM
+}
+
+fn words_after(kind: u8, count: u8) -> usize
+    ensures { result ≡ Request.words_after kind count }
+{
+    match kind {
+        WRITE | WRITE_PORT => 1 + count as usize,
+        RMW_BITS => 3,
+        RMW_SUM => 2,
+        _ => 1,
+    }
+}
+
+/// What a header of this type and words field asks with the words after it.
+fn op_at(kind: u8, count: u8, after: &[u32]) -> OpRef<'_>
+    requires known { kind ≤ RMW_SUM }
+    requires whole { Request.words_after kind count ≤ length after.now }
+    ensures { op_of result ≡ asked kind count after.now }
+{
+    let base = after[0];
+    match kind {
+        READ => OpRef::Read {
+            base,
+            count: u32::from(count),
+        },
+        READ_PORT => OpRef::ReadPort {
+            base,
+            count: u32::from(count),
+        },
+        WRITE => OpRef::Write {
+            base,
+            words: &after[1..1 + count as usize],
+        },
+        WRITE_PORT => OpRef::WritePort {
+            base,
+            words: &after[1..1 + count as usize],
+        },
+        RMW_BITS => OpRef::RmwBits {
+            base,
+            and_term: after[1],
+            or_term: after[2],
+        },
+        _ => OpRef::RmwSum {
+            base,
+            addend: after[1],
+        },
+    }
+}
+
+/// The request at the front of the words, or the first rule that is broken there. It takes no memory. No words are `Short`.
+#[tactic(auto, unfolding(crate::specs::Request::request_at))]
+pub fn first_request(words: &[u32]) -> Result<FirstRequest<'_>, Why>
+    ensures { MatchResult result
+        (λ first. request_at words.now ≡ Ok (request_of first, first.rest.now))
+        (λ why. request_at words.now ≡ Err why) }
+{
+    let [word, after @ ..] = words else {
+        return Err(Why::Short);
+    };
+    if version_of(*word) != VERSION {
+        return Err(Why::Version);
+    }
+    let kind = kind_of(*word);
+    if kind > RMW_SUM {
+        return Err(Why::Kind);
+    }
+    if code_of(*word) != REQUEST {
+        return Err(Why::Code);
+    }
+    let count = count_of(*word);
+    if is_rmw(kind) && count != 1 {
+        return Err(Why::Count);
+    }
+    let len = words_after(kind, count);
+    if after.len() < len {
+        return Err(Why::Short);
+    }
+    Ok(FirstRequest {
+        tid: tid_of(*word),
+        op: op_at(kind, count, after),
+        rest: &after[len..],
+    })
+}
+
+fn is_reply_code(code: u8) -> bool
+    ensures { result ≡ Reply.is_reply_code code }
+{
+    code == SUCCESS || code == BAD_HEADER || (READ_ERROR <= code && code <= WRITE_TIMEOUT)
+}
+
+fn is_wrong_count(kind: u8, code: u8, count: u8) -> bool
+    ensures { result ≡ Reply.is_wrong_count kind code count }
+{
+    if code == BAD_HEADER && count != 0 {
+        return true;
+    }
+    is_rmw(kind) && count != if code == SUCCESS { 1 } else { 0 }
+}
+
+fn values_after(kind: u8, count: u8) -> usize
+    ensures { result ≡ Reply.values_after kind count }
+{
+    if is_write(kind) { 0 } else { count as usize }
+}
+
+/// The reply at the front of the words, or the first rule that is broken there. It takes no memory. No words are `Short`.
+#[tactic(auto, unfolding(crate::specs::Reply::reply_at))]
+pub fn first_reply(words: &[u32]) -> Result<FirstReply<'_>, Why>
+    ensures { MatchResult result
+        (λ first. reply_at words.now ≡ Ok (reply_of first, first.rest.now))
+        (λ why. reply_at words.now ≡ Err why) }
+{
+    let [word, after @ ..] = words else {
+        return Err(Why::Short);
+    };
+    if version_of(*word) != VERSION {
+        return Err(Why::Version);
+    }
+    let kind = kind_of(*word);
+    let code = code_of(*word);
+    if kind > RMW_SUM || (code == BAD_HEADER && kind != READ) {
+        return Err(Why::Kind);
+    }
+    if !is_reply_code(code) {
+        return Err(Why::Code);
+    }
+    let count = count_of(*word);
+    if is_wrong_count(kind, code, count) {
+        return Err(Why::Count);
+    }
+    let len = values_after(kind, count);
+    if after.len() < len {
+        return Err(Why::Short);
+    }
+    Ok(FirstReply {
+        tid: tid_of(*word),
+        kind,
+        count,
+        code,
+        values: &after[..len],
+        rest: &after[len..],
+    })
+}

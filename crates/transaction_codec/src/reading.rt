@@ -1,0 +1,74 @@
+ghost use Rattle.std.specs.Prelude.{◌≡◌, List, IfOk, IfErr, MatchResult};
+ghost use Rattle.transaction_codec.specs.declared.request.Request.{Request};
+ghost use Rattle.transaction_codec.specs.declared.reply.Reply.{Reply};
+ghost use Rattle.transaction_codec.specs.Request.{AreRequests, requests_words};
+ghost use Rattle.transaction_codec.specs.Reply.{AreReplies, replies_words};
+ghost use Rattle.transaction_codec.specs.Listing.{IsRequestFault, IsReplyFault};
+
+use crate::first::{first_reply, first_request};
+use crate::refusal::BadWords;
+use crate::reply::Reply;
+use crate::request::Request;
+use ipb_base::Words;
+use std::alloc::Global;
+
+/// The requests that a body's words are, all of them. No words are no requests. A refusal names the first faulty header and
+/// the first rule that it breaks.
+pub fn read_requests(alloc: Global, words: &[u32]) -> Result<Vec<Request>, BadWords>
+    ensures found { IfOk result (λ list. AreRequests list.items × (words.now ≡ requests_words list.items)) }
+    // Only want of memory refuses what is a list.
+    ensures only { (list : List Request) → AreRequests list → words.now ≡ requests_words list →
+        MatchResult result (λ found. found.items ≡ list) (λ bad. bad ≡ BadWords.NoMemory) }
+    ensures refused { IfErr result (IsRequestFault words.now) }
+{
+    let mut list = Vec::new(alloc);
+    let mut rest = words;
+    while !rest.is_empty() {
+        match first_request(rest) {
+            Ok(first) => {
+                list.push(Request {
+                    tid: first.tid,
+                    op: first.op.to_op(alloc)?,
+                })?;
+                rest = first.rest;
+            }
+            Err(why) => {
+                let place = (words.len() - rest.len()) as u64;
+                return Err(BadWords::At { place, why });
+            }
+        }
+    }
+    Ok(list)
+}
+
+/// The replies that a body's words are, all of them. No words are no replies. A refusal names the first faulty header and
+/// the first rule that it breaks.
+pub fn read_replies(alloc: Global, words: &[u32]) -> Result<Vec<Reply>, BadWords>
+    ensures found { IfOk result (λ list. AreReplies list.items × (words.now ≡ replies_words list.items)) }
+    // Only want of memory refuses what is a list.
+    ensures only { (list : List Reply) → AreReplies list → words.now ≡ replies_words list →
+        MatchResult result (λ found. found.items ≡ list) (λ bad. bad ≡ BadWords.NoMemory) }
+    ensures refused { IfErr result (IsReplyFault words.now) }
+{
+    let mut list = Vec::new(alloc);
+    let mut rest = words;
+    while !rest.is_empty() {
+        match first_reply(rest) {
+            Ok(first) => {
+                list.push(Reply {
+                    tid: first.tid,
+                    kind: first.kind,
+                    count: first.count,
+                    code: first.code,
+                    values: Words::from_vec(first.values.to_vec(alloc)?),
+                })?;
+                rest = first.rest;
+            }
+            Err(why) => {
+                let place = (words.len() - rest.len()) as u64;
+                return Err(BadWords::At { place, why });
+            }
+        }
+    }
+    Ok(list)
+}
