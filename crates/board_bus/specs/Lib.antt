@@ -3,3 +3,5 @@ pub mod Cells
 pub mod Ranges
 pub mod Blocks
 pub mod Spans
+pub mod Transactions
+pub mod Bodies

@@ -2,11 +2,14 @@
 #![tactic(auto)]
 
 mod bus;
+mod execute;
 mod fault;
+pub mod laws;
 mod kind;
 mod range;
 
 pub use bus::Bus;
 pub use fault::BusFault;
+pub use ipb_base::{NoMemory, Words};
 pub use kind::RangeKind;
 pub use range::{BusRefusal, MAX_WORDS, Range, check_ranges};
