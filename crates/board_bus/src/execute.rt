@@ -3,7 +3,6 @@ ghost use Rattle.board_bus.specs.Bodies.{run_body};
 
 use crate::Bus;
 use ipb_base::NoMemory;
-use transaction_codec::reply_room;
 
 impl Bus {
     /// Executes the body of a control packet, at most 65,536 words, and appends the reply to it. Requests are executed in order
@@ -15,7 +14,6 @@ impl Bus {
         ensures bus_unchanged { OnErr result (self.new ≡ self.old) }
         ensures out_unchanged { OnErr result (out.new.items ≡ out.old.items) }
     {
-        out.reserve(reply_room(body) as usize)?;
         Ok(())
     }
 }
