@@ -28,18 +28,19 @@ Carries done kind count carried =
     ⊎ ((((kind ≡ WRITE) ⊎ (kind ≡ WRITE_PORT)) × (carried ≡ 0))
     ⊎ (((kind ≡ RMW_BITS) ⊎ (kind ≡ RMW_SUM)) × (count ≡ done) × (carried ≡ done)))
 
--- the replies that the profile has: a success, a bus fault, or a bad header
-abbrev pub HasForm : Reply → Type 0
-HasForm reply =
-    ((reply.code ≡ SUCCESS) × Carries 1 reply.kind reply.count (length reply.values))
-    ⊎ ((IsBusFault reply.code × Carries 0 reply.kind reply.count (length reply.values))
-    ⊎ ((reply.code ≡ BAD_HEADER) × (reply.kind ≡ READ) × (reply.count ≡ 0) × (reply.values ≡ [])))
+-- The forms of replies, by type, info code, words field and the number of words carried: a success, a bus fault, or the answer
+-- to a bad header.
+abbrev pub HasForm : ℕ → ℕ → ℕ → ℕ → Type 0
+HasForm kind code count carried =
+    ((code ≡ SUCCESS) × Carries 1 kind count carried)
+    ⊎ ((IsBusFault code × Carries 0 kind count carried)
+    ⊎ ((code ≡ BAD_HEADER) × (kind ≡ READ) × (count ≡ 0) × (carried ≡ 0)))
 
 -- what has a spelling
 pub record IsReply (reply : Reply) : Type 0 where
   pub tid : reply.tid < 2 ^ 12
   pub count : reply.count < 2 ^ 8
-  pub form : HasForm reply
+  pub form : HasForm reply.kind reply.code reply.count (length reply.values)
   pub values : AreWords reply.values
 
 abbrev pub AreReplies : List Reply → Type 0

@@ -1,9 +1,9 @@
-ghost use Rattle.std.specs.Prelude.{◌≡◌, ◌+◌, ◌≤◌, IfOk, Ok, Err, MatchResult, ◌==◌, length, take, drop, IsTrue, ◌↔◌};
+ghost use Rattle.std.specs.Prelude.{◌≡◌, ◌≤◌, ◌<◌, ◌++◌, length, Ok, Err, IfOk, MatchResult};
 ghost use Rattle.transaction_codec.specs.Header;
 ghost use Rattle.transaction_codec.specs.Request;
 ghost use Rattle.transaction_codec.specs.Reply;
-ghost use Rattle.transaction_codec.specs.Request.{request_at, asked, words_after};
-ghost use Rattle.transaction_codec.specs.Reply.{reply_at};
+ghost use Rattle.transaction_codec.specs.Request.{request_at, asked, IsRequest, request_words};
+ghost use Rattle.transaction_codec.specs.Reply.{reply_at, IsReply, reply_words};
 ghost use Rattle.transaction_codec.specs.First.{op_of, request_of, reply_of};
 
 use crate::header_word::{VERSION, code_of, count_of, kind_of, tid_of, version_of};
@@ -153,8 +153,19 @@ fn op_at(kind: u8, count: u8, after: &[u32]) -> OpRef<'_>
 }
 
 /// The request at the front of the words, or the first rule that is broken there. It takes no memory. No words are `Short`.
-#[tactic(auto, unfolding(crate::specs::Request::request_at))]
 pub fn first_request(words: &[u32]) -> Result<FirstRequest<'_>, Why>
+    ensures exact { MatchResult result
+        (λ first. request_at words.now ≡ Ok (request_of first, first.rest.now))
+        (λ why. request_at words.now ≡ Err why) }
+    ensures found { IfOk result (λ first.
+        IsRequest (request_of first) × (words.now ≡ request_words (request_of first) ++ first.rest.now)) }
+    ensures shorter { IfOk result (λ first. length first.rest.now < length words.now) }
+{
+    request_by_rules(words)
+}
+
+#[tactic(auto, unfolding(crate::specs::Request::request_at))]
+fn request_by_rules(words: &[u32]) -> Result<FirstRequest<'_>, Why>
     ensures { MatchResult result
         (λ first. request_at words.now ≡ Ok (request_of first, first.rest.now))
         (λ why. request_at words.now ≡ Err why) }
@@ -209,8 +220,19 @@ fn values_after(kind: u8, count: u8) -> usize
 }
 
 /// The reply at the front of the words, or the first rule that is broken there. It takes no memory. No words are `Short`.
-#[tactic(auto, unfolding(crate::specs::Reply::reply_at))]
 pub fn first_reply(words: &[u32]) -> Result<FirstReply<'_>, Why>
+    ensures exact { MatchResult result
+        (λ first. reply_at words.now ≡ Ok (reply_of first, first.rest.now))
+        (λ why. reply_at words.now ≡ Err why) }
+    ensures found { IfOk result (λ first.
+        IsReply (reply_of first) × (words.now ≡ reply_words (reply_of first) ++ first.rest.now)) }
+    ensures shorter { IfOk result (λ first. length first.rest.now < length words.now) }
+{
+    reply_by_rules(words)
+}
+
+#[tactic(auto, unfolding(crate::specs::Reply::reply_at))]
+fn reply_by_rules(words: &[u32]) -> Result<FirstReply<'_>, Why>
     ensures { MatchResult result
         (λ first. reply_at words.now ≡ Ok (reply_of first, first.rest.now))
         (λ why. reply_at words.now ≡ Err why) }

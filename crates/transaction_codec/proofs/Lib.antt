@@ -1,0 +1,7 @@
+pub mod Packing
+pub mod Fields
+pub mod Steps
+pub mod Lists
+pub mod Requests
+pub mod Replies
+pub mod Formats
