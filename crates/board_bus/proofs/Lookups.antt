@@ -115,14 +115,14 @@ pub first_holder : (blocks : List Block) (a place : ℕ) → position (λ b. hol
 first_holder blocks a place h d = record {
   within = (position-Some (λ b. holds b a) blocks place d h).0;
   holder = λ e. (position-Some (λ b. holds b a) blocks place e h).1;
-  before = λ e. (position-Some (λ b. holds b a) blocks place e h).2
+  before = λ e. (position-Some (λ b. holds b a) blocks place e h).2;
 }
 
 tail_holder : (b : Block) (bs : List Block) (a place : ℕ) → IsFirstHolder (b ∷ bs) a (suc place) → IsFirstHolder bs a place
 tail_holder b bs a place h = record {
   within = omega (arith, h.within);
   holder = λ d. h.holder d;
-  before = λ d k below. h.before d (suc k) (omega arith)
+  before = λ d k below. h.before d (suc k) (omega arith);
 }
 
 pub find-holder : (blocks : List Block) (a place : ℕ) → IsFirstHolder blocks a place → (d : Block) → find nat_cmp a (flat_map block_cells blocks) ≡ Some (cell_in (get_or blocks place d) a)
@@ -156,7 +156,7 @@ pub present : (blocks : List Block) (cells : CellMap) (a place : ℕ) (b : Block
     → position (λ b. holds b a) blocks ≡ Some place → b ≡ get_or blocks place b → cell_at cells a ≡ Some (cell_in b a)
 present blocks cells a place b view below some is =
     let there : find nat_cmp a (flat_map block_cells blocks) ≡ Some (cell_in b a) =
-        find-holder blocks a place (first_holder blocks a place some b) b ∙ ap (λ (x : Block). Some (cell_in x a)) (sym is) in
+    find-holder blocks a place (first_holder blocks a place some b) b ∙ ap (λ (x : Block). Some (cell_in x a)) (sym is) in
     at_address a cells _ (ap (find nat_cmp a) (sym view) ∙ find-cell_map a (flat_map block_cells blocks) ∙ there) below
 
 -- the block that was found holds the address
@@ -186,7 +186,7 @@ row-elsewhere : (a q base : ℕ) (kind : RangeKind) (words : List ℕ) (word : �
 row-elsewhere a q base kind words word low high apart =
     let size : length (set words (a - base) word) ≡ length words = length-set words (a - base) word in
     let outside : (q < base) ⊎ (base + length words ≤ q) → find nat_cmp q (cells_from base kind (set words (a - base) word)) ≡ find nat_cmp q (cells_from base kind words) =
-        λ h. find-outside q base kind (set words (a - base) word) (subst (λ (n : ℕ). (q < base) ⊎ (base + n ≤ q)) (sym size) h) ∙ sym (find-outside q base kind words h) in
+    λ h. find-outside q base kind (set words (a - base) word) (subst (λ (n : ℕ). (q < base) ⊎ (base + n ≤ q)) (sym size) h) ∙ sym (find-outside q base kind words h) in
     elim (cases_lt q base) [
       | inl below ↦ outside (inl below)
       | inr from ↦ elim (cases_lt q (base + length words)) [
@@ -248,15 +248,15 @@ pub written : (blocks : List Block) (cells : CellMap) (a place word : ℕ) (b ch
 written blocks cells a place word b changed view some is change =
     let first : IsFirstHolder blocks a place = first_holder blocks a place some b in
     let there : (d : Block) → ChangesOneWord (get_or blocks place d) changed a word =
-        λ d. subst (λ (x : Block). ChangesOneWord x changed a word) (is ∙ get_or_default blocks place b d first.within) change in
+    λ d. subst (λ (x : Block). ChangesOneWord x changed a word) (is ∙ get_or_default blocks place b d first.within) change in
     let cell : Cell = record { kind = b.kind; word = word } in
     let old : (q : ℕ) → find nat_cmp q cells ≡ find nat_cmp q (flat_map block_cells blocks) = λ q. ap (find nat_cmp q) (sym view) ∙ find-cell_map q _ in
     let order : T (is_sorted nat_cmp cells) = subst (λ (m : CellMap). T (is_sorted nat_cmp m)) view (cell_map-in_order (flat_map block_cells blocks)) in
     let at_change : find nat_cmp a (flat_map block_cells (set blocks place changed)) ≡ find nat_cmp a (put nat_cmp a cell cells) =
-        blocks-at_change blocks changed a place word first there b ∙ ap (λ (x : Block). Some (record { kind = x.kind; word = word })) (sym is)
-        ∙ sym (find-put nat_cmp nat_cmp_total a a cell cells ∙ ap (λ t. cond t (Some cell) (find nat_cmp a cells)) (tie_same a)) in
+    blocks-at_change blocks changed a place word first there b ∙ ap (λ (x : Block). Some (record { kind = x.kind; word = word })) (sym is)
+    ∙ sym (find-put nat_cmp nat_cmp_total a a cell cells ∙ ap (λ t. cond t (Some cell) (find nat_cmp a cells)) (tie_same a)) in
     same_cells _ _ (cell_map-in_order (flat_map block_cells (set blocks place changed))) (is_sorted-put nat_cmp nat_cmp_total a cell cells order) (λ q.
-        find-cell_map q _ ∙ elim (cases_order q a) [
-          | inl same ↦ subst (λ (x : ℕ). find nat_cmp x (flat_map block_cells (set blocks place changed)) ≡ find nat_cmp x (put nat_cmp a cell cells)) (sym same) at_change
-          | inr apart ↦ blocks-elsewhere blocks changed a q place word first there apart b ∙ sym (old q) ∙ sym (find-put nat_cmp nat_cmp_total q a cell cells ∙ ap (λ t. cond t (Some cell) (find nat_cmp q cells)) (tie_apart q a apart))
-        ])
+    find-cell_map q _ ∙ elim (cases_order q a) [
+      | inl same ↦ subst (λ (x : ℕ). find nat_cmp x (flat_map block_cells (set blocks place changed)) ≡ find nat_cmp x (put nat_cmp a cell cells)) (sym same) at_change
+      | inr apart ↦ blocks-elsewhere blocks changed a q place word first there apart b ∙ sym (old q) ∙ sym (find-put nat_cmp nat_cmp_total q a cell cells ∙ ap (λ t. cond t (Some cell) (find nat_cmp q cells)) (tie_apart q a apart))
+    ])

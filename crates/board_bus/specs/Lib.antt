@@ -5,3 +5,5 @@ pub mod Blocks
 pub mod Spans
 pub mod Transactions
 pub mod Bodies
+pub mod Answering
+pub mod Progress

@@ -1,6 +1,6 @@
 -- What one transaction does to a bus, and the reply to it. IPbus 2.0, transactions; what a failed one answers is the profile's.
-use Rattle.std.specs.Prelude.{ℕ, ◌+◌, ◌%◌, ◌^◌, zero, suc, bit_and, bit_or, List, [], ◌∷◌, map, length, replicate, Result, Ok, Err}
-use Rattle.std.specs.List.{enumerate_from, filter_map}
+use Rattle.std.specs.Prelude.{ℕ, ◌+◌, ◌%◌, ◌^◌, zero, suc, bit_and, bit_or, List, [], ◌∷◌, map, length, Result, Ok, Err}
+use Rattle.std.specs.List.{filter_map, zip}
 use Rattle.std.specs.Result.{ok_prefix, result_err}
 use Rattle.transaction_codec.specs.declared.request.Op.{Op}
 use Rattle.transaction_codec.specs.declared.request.Op.TheVariants.{Read, ReadPort, Write, WritePort, RmwBits, RmwSum}
@@ -17,10 +17,15 @@ abbrev pub ◌>>=◌ : {A B : Type 0} → Result A BusFault → (A → Result B 
 (Ok x) >>= f = f x
 (Err fault) >>= f = Err fault
 
--- base, base + 1, ..; an address is not cut to 32 bits, so that a block may run past the end
-abbrev pub addresses : ℕ → ℕ → List ℕ
-addresses base zero = []
-addresses base (suc count) = base ∷ addresses (base + 1) count
+-- The addresses of an operation: base, base + step, .. A block has step 1, a port step 0. They are not cut to 32 bits, so that
+-- a block may run past the end.
+abbrev pub addresses : ℕ → ℕ → ℕ → List ℕ
+addresses base step zero = []
+addresses base step (suc count) = base ∷ addresses (base + step) step count
+
+-- each word beside the address where it is written
+abbrev pub placed : ℕ → ℕ → List ℕ → List (ℕ × ℕ)
+placed base step words = zip (addresses base step (length words)) words
 
 -- the info code of accesses that were refused by these faults: the first one counts
 abbrev pub code_of_faults : List BusFault → ℕ
@@ -90,10 +95,10 @@ of_modifying cells (Ok modified) = record { cells = modified.cells; count = 1; c
 of_modifying cells (Err fault) = record { cells = cells; count = 0; code = fault_code fault; values = [] }
 
 abbrev pub outcome : CellMap → Op → Outcome
-outcome cells (Read base count) = of_reading cells (addresses base count)
-outcome cells (ReadPort base count) = of_reading cells (replicate count base)
-outcome cells (Write base words) = of_writing (write_words cells (enumerate_from base words))
-outcome cells (WritePort base words) = of_writing (write_words cells (map (λ word. (base, word)) words))
+outcome cells (Read base count) = of_reading cells (addresses base 1 count)
+outcome cells (ReadPort base count) = of_reading cells (addresses base 0 count)
+outcome cells (Write base words) = of_writing (write_words cells (placed base 1 words))
+outcome cells (WritePort base words) = of_writing (write_words cells (placed base 0 words))
 outcome cells (RmwBits base and_term or_term) = of_modifying cells (modify cells base (masked and_term or_term))
 outcome cells (RmwSum base addend) = of_modifying cells (modify cells base (added addend))
 
@@ -108,5 +113,5 @@ transact cells request =
     let done = outcome cells request.op in
     record {
       cells = done.cells;
-      reply = record { tid = request.tid; kind = op_kind request.op; count = done.count; code = done.code; values = done.values }
+      reply = record { tid = request.tid; kind = op_kind request.op; count = done.count; code = done.code; values = done.values };
     }

@@ -4,9 +4,11 @@
 mod bus;
 mod execute;
 mod fault;
-pub mod laws;
 mod kind;
+pub mod laws;
 mod range;
+mod room;
+mod transaction;
 
 pub use bus::Bus;
 pub use fault::BusFault;

@@ -85,7 +85,10 @@ pub fn check_ranges(alloc: Global, ranges: &[Range]) -> Result<(), BusRefusal>
     if is_too_large(ranges) {
         return Err(BusRefusal::TooLarge);
     }
-    if ranges.iter().any(|range| range.init.len() > range.size as usize) {
+    if ranges
+        .iter()
+        .any(|range| range.init.len() > range.size as usize)
+    {
         return Err(BusRefusal::InitLong);
     }
     Ok(())

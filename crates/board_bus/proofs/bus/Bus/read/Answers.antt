@@ -41,5 +41,5 @@ returns c =
     let b = c.index-block.result.now in
     let range = held_range b _ (found_holds _ _ _ b there c.index-block.ensures) in
     sym (ap read_cell (present _ _ _ _ _ c.self.view_is below there c.index-block.ensures)
-        ∙ ap (λ refused. unless refused (cell_in b c.args.address).word) fine
-        ∙ ap (λ (w : ℕ). Ok w) (sym (get_or_read b.words.items _ _ range.1 c.index.ensures 0)))
+    ∙ ap (λ refused. unless refused (cell_in b c.args.address).word) fine
+    ∙ ap (λ (w : ℕ). Ok w) (sym (get_or_read b.words.items _ _ range.1 c.index.ensures 0)))
