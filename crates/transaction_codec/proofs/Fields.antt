@@ -1,5 +1,5 @@
 -- The fields of a header word are those it was made of, and a word is the header of its fields.
-use Rattle.std.proofs.Common.{◌≡◌, ℕ, ◌+◌, ◌*◌, ◌/◌, ◌%◌, ◌^◌, ◌<◌, arith}
+use Rattle.std.proofs.Common.{◌≡◌, ℕ, ◌^◌, ◌<◌, arith}
 use Rattle.transaction_codec.specs.Header.{header, version_of, tid_of, count_of, kind_of, code_of}
 
 pub header-fields : (word : ℕ) → version_of word ≡ 2 → word ≡ header (tid_of word) (count_of word) (kind_of word) (code_of word)

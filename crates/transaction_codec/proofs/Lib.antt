@@ -5,3 +5,4 @@ pub mod Lists
 pub mod Requests
 pub mod Replies
 pub mod Formats
+pub mod Longest

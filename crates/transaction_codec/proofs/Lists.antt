@@ -1,21 +1,23 @@
 -- Lists of items one after the other, from the two laws of one item: what is read is spelled so, and what is spelled so is
 -- read, whatever follows.
-use Rattle.std.proofs.Common.{◌≡◌, ℕ, ◌+◌, ◌<◌, ◌≤◌, List, [], ◌∷◌, ◌++◌, length, take, drop, Result, Ok, Err, refl, sym, ap, subst, ◌∙◌, append_assoc, arith}
-use Rattle.std.proofs.lemmas.List.{take_at, drop_at, length-append, append-nil, take-append-drop, length-drop}
-use Rattle.std.proofs.lemmas.List.Concat.{flat_map-cons, flat_map-append}
+use Rattle.std.proofs.Common.{subst, inl, inr, ◌≡◌, ℕ, ◌+◌, ◌<◌, ◌≤◌, List, [], ◌∷◌, ◌++◌, length, drop, Result, Ok, Err, refl, sym, ap, ◌∙◌, append_assoc, arith}
+use Rattle.std.proofs.lemmas.Bool.{cases_lt}
+use Rattle.std.proofs.lemmas.List.{drop_all, take_at, drop_at, length-append, append-nil, take-append-drop, length-drop}
+use Rattle.std.proofs.lemmas.List.Concat.{flat_map-cons}
 use Rattle.std.specs.List.{AllByRecursion, flat_map}
-use Rattle.ipb_base.specs.Word.{AreWords}
-use Rattle.ipb_base.specs.Lists.{IsPrefix, IsProperPrefix}
+use Rattle.ipb_base.specs.Lists.{IsProperPrefix}
 use Rattle.transaction_codec.specs.declared.refusal.Why.{Why}
-use Rattle.transaction_codec.specs.Listing.{IsFirstFault}
+use Rattle.transaction_codec.specs.Listing.{IsFirstRule, IsFirstFault}
 
-pub record IsFormat {Item : Type 0} (item_words : Item → List ℕ) (IsItem : Item → Type 0) (item_at : List ℕ → Result (Item × List ℕ) Why) : Type 0 where
+pub record IsFormat {Item : Type 0} (item_words : Item → List ℕ) (IsItem : Item → Type 0) (Breaks : Why → ℕ → List ℕ → Type 0)
+    (item_at : List ℕ → Result (Item × List ℕ) Why) : Type 0 where
   pub again : (item : Item) (rest : List ℕ) → IsItem item → item_at (item_words item ++ rest) ≡ Ok (item, rest)
   pub has_words : (item : Item) → 0 < length (item_words item)
+  pub refuses : (words : List ℕ) (why : Why) → 0 < length words → item_at words ≡ Err why → IsFirstRule Breaks words why
 
-module _ {Item : Type 0} (item_words : Item → List ℕ) (IsItem : Item → Type 0) (item_at : List ℕ → Result (Item × List ℕ) Why) (format : IsFormat item_words IsItem item_at) where
-
-  abbrev read : Item × List ℕ → Result (Item × List ℕ) Why
+module _ {Item : Type 0} (item_words : Item → List ℕ) (IsItem : Item → Type 0) (Breaks : Why → ℕ → List ℕ → Type 0)
+    (item_at : List ℕ → Result (Item × List ℕ) Why) (format : IsFormat item_words IsItem Breaks item_at) where
+  abbrev pub read : Item × List ℕ → Result (Item × List ℕ) Why
   read x = Ok x
 
   abbrev fault : Why → Result (Item × List ℕ) Why
@@ -25,7 +27,7 @@ module _ {Item : Type 0} (item_words : Item → List ℕ) (IsItem : Item → Typ
   read_is x y e = cc
 
   -- the same words have one first item
-  same_first : (left right : Item) (x y : List ℕ) → IsItem left → IsItem right → item_words left ++ x ≡ item_words right ++ y → (left ≡ right) × (x ≡ y)
+  pub same_first : (left right : Item) (x y : List ℕ) → IsItem left → IsItem right → item_words left ++ x ≡ item_words right ++ y → (left ≡ right) × (x ≡ y)
   same_first left right x y is_left is_right e =
       let same = read_is (left, x) (right, y) (sym (format.again left x is_left) ∙ ap item_at e ∙ format.again right y is_right) in
       (ap (λ (p : Item × List ℕ). p.0) same, ap (λ (p : Item × List ℕ). p.1) same)
@@ -33,7 +35,7 @@ module _ {Item : Type 0} (item_words : Item → List ℕ) (IsItem : Item → Typ
   pub no_proper_prefix : (left right : Item) → IsItem left → IsItem right → IsProperPrefix (item_words left) (item_words right) → ⊥
   no_proper_prefix left right is_left is_right cut =
       let whole : item_words left ++ drop cut.0 (item_words right) ≡ item_words right ++ [] =
-          rw cut.2 (take-append-drop cut.0 (item_words right)) ∙ sym (append-nil (item_words right)) in
+      rw cut.2 (take-append-drop cut.0 (item_words right)) ∙ sym (append-nil (item_words right)) in
       let same = same_first left right (drop cut.0 (item_words right)) [] is_left is_right whole in
       omega (arith, cut.1, ap length same.1, length-drop cut.0 (item_words right))
 
@@ -52,38 +54,52 @@ module _ {Item : Type 0} (item_words : Item → List ℕ) (IsItem : Item → Typ
   longest before [] rest more why is_before is_items bad e = omega arith
   longest [] (item ∷ items) rest more why is_before is_items bad e =
       let reads : item_at rest ≡ Ok (item, flat_map item_words items ++ more) =
-          ap item_at (e ∙ ap (λ (ws : List ℕ). ws ++ more) (flat_map-cons item_words item items) ∙ append_assoc (item_words item) (flat_map item_words items) more)
-          ∙ format.again item (flat_map item_words items ++ more) is_items.0 in
+      ap item_at (e ∙ ap (λ (ws : List ℕ). ws ++ more) (flat_map-cons item_words item items) ∙ append_assoc (item_words item) (flat_map item_words items) more)
+      ∙ format.again item (flat_map item_words items ++ more) is_items.0 in
       let clash : fault why ≡ read (item, flat_map item_words items ++ more) = sym bad ∙ reads in
       absurd cc
   longest (b ∷ bs) (item ∷ items) rest more why is_before is_items bad e =
       let spread_left : flat_map item_words (b ∷ bs) ++ rest ≡ item_words b ++ (flat_map item_words bs ++ rest) =
-          ap (λ (ws : List ℕ). ws ++ rest) (flat_map-cons item_words b bs) ∙ append_assoc (item_words b) (flat_map item_words bs) rest in
+      ap (λ (ws : List ℕ). ws ++ rest) (flat_map-cons item_words b bs) ∙ append_assoc (item_words b) (flat_map item_words bs) rest in
       let spread_right : flat_map item_words (item ∷ items) ++ more ≡ item_words item ++ (flat_map item_words items ++ more) =
-          ap (λ (ws : List ℕ). ws ++ more) (flat_map-cons item_words item items) ∙ append_assoc (item_words item) (flat_map item_words items) more in
+      ap (λ (ws : List ℕ). ws ++ more) (flat_map-cons item_words item items) ∙ append_assoc (item_words item) (flat_map item_words items) more in
       let same = same_first b item (flat_map item_words bs ++ rest) (flat_map item_words items ++ more) is_before.0 is_items.0 (sym spread_left ∙ e ∙ spread_right) in
       let shorter = longest bs items rest more why is_before.1 is_items.1 bad same.1 in
       let first : length (item_words b) ≡ length (item_words item) = ap (λ (i : Item). length (item_words i)) same.0 in
-      omega (arith, first, shorter, ap length (flat_map-cons item_words b bs), ap length (flat_map-cons item_words item items),
-          length-append (item_words b) (flat_map item_words bs), length-append (item_words item) (flat_map item_words items))
+      omega (
+        arith,
+        first,
+        shorter,
+        ap length (flat_map-cons item_words b bs),
+        ap length (flat_map-cons item_words item items),
+        length-append (item_words b) (flat_map item_words bs),
+        length-append (item_words item) (flat_map item_words items),
+      )
 
   -- the words are a list and then words at whose front no item stands
   pub first_fault : (words : List ℕ) (before : List Item) (rest : List ℕ) (why : Why) (place : ℕ) → AllByRecursion IsItem before → words ≡ flat_map item_words before ++ rest
-      → 0 < length rest → item_at rest ≡ Err why → length words ≡ place + length rest → IsFirstFault item_words IsItem item_at words place why
+      → 0 < length rest → item_at rest ≡ Err why → length words ≡ place + length rest → IsFirstFault item_words IsItem Breaks words place why
   first_fault words before rest why place is_before parts some bad there =
       let len : length (flat_map item_words before) ≡ place = omega (arith, there, ap length parts, length-append (flat_map item_words before) rest) in
       record {
-        within = omega (arith, there, some);
         before = before;
         ranges = is_before;
         front = rw parts (take_at (flat_map item_words before) rest place len);
         longest = λ items is_items prefix. rw (← len) (longest before items rest prefix.0 why is_before is_items bad (sym parts ∙ prefix.1));
-        broken = rw (parts, drop_at (flat_map item_words before) rest place len) bad;
+        rule = rw (parts, drop_at (flat_map item_words before) rest place len) (format.refuses rest why some bad);
       }
 
+  -- a rule is broken at a place within the words
+  within : (words : List ℕ) (place : ℕ) (why : Why) → IsFirstRule Breaks (drop place words) why → place < length words
+  within words place why rule =
+      elim (cases_lt place (length words)) [
+        | inl lt ↦ lt
+        | inr le ↦ absurd (subst (λ (rest : List ℕ). IsFirstRule Breaks rest why) (drop_all place words le) rule)
+      ]
+
   -- words with a fault are no list
-  pub fault_is_no_list : (words : List ℕ) (place : ℕ) (why : Why) → IsFirstFault item_words IsItem item_at words place why → (items : List Item) → AllByRecursion IsItem items
+  pub fault_is_no_list : (words : List ℕ) (place : ℕ) (why : Why) → IsFirstFault item_words IsItem Breaks words place why → (items : List Item) → AllByRecursion IsItem items
       → words ≡ flat_map item_words items → ⊥
   fault_is_no_list words place why fault items is_items e =
       let all : length (flat_map item_words items) ≤ place = fault.longest items is_items ([], e ∙ sym (append-nil (flat_map item_words items))) in
-      omega (arith, fault.within, all, ap length e)
+      omega (arith, within words place why fault.rule, all, ap length e)

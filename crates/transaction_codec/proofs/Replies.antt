@@ -1,19 +1,20 @@
 -- What is read as a reply is spelled so, and what is spelled so is read.
-use Rattle.std.proofs.Common.{◌≡◌, ℕ, zero, suc, ◌+◌, ◌^◌, ◌<◌, ◌≤◌, Bool, true, false, cond, not, ◌&&◌, ◌||◌, List, [], ◌∷◌, ◌++◌, length, take, drop, Result, Ok, Err, refl, sym, ap, subst, ◌∙◌, arith, eqb, ltb, inl, inr, ◌⊎◌, eq-eqb, Fits, w32, lit<, lit≤}
+use Rattle.std.proofs.Common.{◌≡◌, ℕ, zero, suc, ◌^◌, ◌<◌, ◌≤◌, Bool, true, false, cond, not, ◌&&◌, ◌||◌, List, [], ◌∷◌, ◌++◌, length, take, drop, Result, Ok, Err, refl, sym, ap, subst, ◌∙◌, arith, eqb, ltb, inl, inr, ◌⊎◌, eq-eqb}
 use Rattle.std.specs.Prelude.{MatchResult, IfOk}
-use Rattle.std.proofs.lemmas.Bool.{eqb-true, ltb-false, le-ltb}
+use Rattle.std.proofs.lemmas.Bool.{eqb-true, ltb-false, ltb-true, le-ltb}
 use Rattle.std.proofs.lemmas.Bool.Decides.{nat_tests}
 use Rattle.std.proofs.lemmas.List.{take_at, drop_at, take-append-drop, length-append, length-take}
-use Rattle.ipb_base.specs.Word.{IsWord, AreWords}
+use Rattle.ipb_base.specs.Word.{AreWords}
 use Rattle.transaction_codec.specs.declared.reply.Reply.{Reply}
 use Rattle.transaction_codec.specs.declared.refusal.Why.{Why}
 use Rattle.transaction_codec.specs.declared.refusal.Why.TheVariants.{Version, Kind, Code, Count, Short}
 use Rattle.transaction_codec.specs.declared.first.FirstReply.{FirstReply}
 use Rattle.transaction_codec.specs.First.{reply_of}
-use Rattle.transaction_codec.specs.Header.{header, version_of, tid_of, count_of, kind_of, code_of, is_rmw, is_write}
-use Rattle.transaction_codec.specs.Reply.{IsBusFault, Carries, HasForm, IsReply, is_reply_code, is_wrong_count, values_after, reply_words, reply_at}
+use Rattle.transaction_codec.specs.Header.{header, version_of, tid_of, count_of, kind_of, code_of, is_rmw}
+use Rattle.transaction_codec.specs.Reply.{IsBusFault, Carries, HasForm, IsReply, is_reply_code, is_wrong_count, values_after, BreaksReply, reply_words, reply_at}
+use Rattle.transaction_codec.specs.Listing.{IsFirstRule}
 use Rattle.transaction_codec.proofs.Fields.{header-fields, HasFields, fields-header}
-use Rattle.transaction_codec.proofs.Steps.{passed, read, read_is, not-false, AreWords-take}
+use Rattle.transaction_codec.proofs.Steps.{test_of, Says, first_test, first_rule, passed, read, read_is, not-false, AreWords-take}
 
 -- the rules on a header's type, info code and words field, as tests
 abbrev is_wrong_kind : ℕ → ℕ → Bool
@@ -78,9 +79,9 @@ reply_found (word ∷ after) x fits e =
     let enough : n ≤ length after = ltb-false _ _ whole.0 in
     let len : length (take n after) ≡ n = omega (arith, length-take n after) in
     let form : HasForm (kind_of word) (code_of word) (count_of word) (length (take n after)) =
-        rw len (form_found (kind_of word) (code_of word) (count_of word) kind.0 (not-false _ code.0) count.0) in
+    rw len (form_found (kind_of word) (code_of word) (count_of word) kind.0 (not-false _ code.0) count.0) in
     let spelled : word ∷ after ≡ reply_words made.0 ++ made.1 =
-        rw (← header-fields word version_is) (ap (λ (ws : List ℕ). word ∷ ws) (sym (take-append-drop n after))) in
+    rw (← header-fields word version_is) (ap (λ (ws : List ℕ). word ∷ ws) (sym (take-append-drop n after))) in
     let ranges : IsReply made.0 = record { tid = omega arith; count = omega arith; form = form; values = AreWords-take n after fits.1 } in
     subst (λ (y : Reply × List ℕ). IsReply y.0 × (word ∷ after ≡ reply_words y.0 ++ y.1)) (read_is made x whole.1) (ranges, spelled)
 
@@ -116,8 +117,24 @@ reply_again reply rest is =
     let keeps = keeps_rules reply.kind reply.code reply.count (length reply.values) is.form in
     let small = fields_fit reply.kind reply.code reply.count (length reply.values) is.form in
     read_by_fields (header reply.tid reply.count reply.kind reply.code) reply.tid reply.kind reply.code reply.count (length reply.values) (reply.values ++ rest)
-        (fields-header reply.tid reply.count reply.kind reply.code is.tid is.count small.0 small.1) keeps (omega (arith, length-append reply.values rest))
+    (fields-header reply.tid reply.count reply.kind reply.code is.tid is.count small.0 small.1) keeps (omega (arith, length-append reply.values rest))
     ∙ rw (take_at reply.values rest (length reply.values) refl, drop_at reply.values rest (length reply.values) refl) refl
+
+says_reply : (word : ℕ) (after : List ℕ) (rule : Why) → Says
+    (test_of (not (eqb (version_of word) 2)) (is_wrong_kind (kind_of word) (code_of word)) (not (is_reply_code (code_of word)))
+    (is_wrong_count (kind_of word) (code_of word) (count_of word)) (ltb (length after) (values_after (kind_of word) (count_of word))) rule)
+    (BreaksReply rule word after)
+says_reply word after Version = record { yes = λ e. grind (arith, nat_tests); not_so = λ e. grind (arith, nat_tests) }
+says_reply word after Kind = record { yes = λ e. grind (arith, nat_tests); not_so = λ e h. grind (arith, nat_tests) }
+says_reply word after Code = record { yes = λ e. grind (arith, nat_tests); not_so = λ e h. grind (arith, nat_tests) }
+says_reply word after Count = record { yes = λ e. grind (arith, nat_tests); not_so = λ e h. grind (arith, nat_tests) }
+says_reply word after Short = record { yes = λ e. ltb-true _ _ e; not_so = λ e lt. omega (arith, ltb-false _ _ e, lt) }
+
+pub reply_refuses : (words : List ℕ) (why : Why) → 0 < length words → reply_at words ≡ Err why → IsFirstRule BreaksReply words why
+unfolding reply_at
+reply_refuses [] why some e = absurd (omega arith)
+reply_refuses (word ∷ after) why some e =
+    first_rule BreaksReply word after _ _ _ _ _ why (says_reply word after) (first_test _ _ _ _ _ _ why e)
 
 pub is_found : (words : List ℕ) (r : Result FirstReply Why) → AreWords words
     → MatchResult r (λ first. reply_at words ≡ Ok (reply_of first, first.rest.now)) (λ why. reply_at words ≡ Err why)

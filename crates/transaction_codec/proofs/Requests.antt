@@ -1,21 +1,22 @@
 -- What is read as a request is spelled so, and what is spelled so is read.
-use Rattle.std.proofs.Common.{◌≡◌, ℕ, zero, suc, ◌+◌, ◌^◌, ◌<◌, ◌≤◌, Bool, true, false, cond, not, ◌&&◌, List, [], ◌∷◌, ◌++◌, length, get_or, take, drop, Result, Ok, Err, refl, sym, ap, subst, ◌∙◌, arith, eqb, ltb, lit<, lit≤}
+use Rattle.std.proofs.Common.{◌≡◌, ℕ, zero, suc, ◌^◌, ◌<◌, ◌≤◌, false, not, ◌&&◌, List, [], ◌∷◌, ◌++◌, length, take, drop, Result, Ok, Err, refl, sym, ap, subst, ◌∙◌, arith, eqb, ltb, lit<, lit≤}
 use Rattle.std.specs.Prelude.{MatchResult, IfOk}
-use Rattle.std.proofs.lemmas.Bool.{eqb-true, ltb-false, le-ltb}
 use Rattle.std.proofs.lemmas.Bool.Decides.{nat_tests}
+use Rattle.std.proofs.lemmas.Bool.{eqb-true, ltb-false, ltb-true, le-ltb}
 use Rattle.std.proofs.lemmas.List.{take_at, drop_at, take-append-drop, length-append, length-take}
-use Rattle.ipb_base.specs.Word.{IsWord, AreWords}
+use Rattle.ipb_base.specs.Word.{AreWords}
 use Rattle.transaction_codec.specs.declared.request.Op.{Op}
 use Rattle.transaction_codec.specs.declared.request.Op.TheVariants.{Read, ReadPort, Write, WritePort, RmwBits, RmwSum}
 use Rattle.transaction_codec.specs.declared.request.Request.{Request}
 use Rattle.transaction_codec.specs.declared.refusal.Why.{Why}
 use Rattle.transaction_codec.specs.declared.refusal.Why.TheVariants.{Version, Kind, Code, Count, Short}
 use Rattle.transaction_codec.specs.Header.{header, version_of, tid_of, count_of, kind_of, code_of, is_rmw}
-use Rattle.transaction_codec.specs.Request.{op_kind, op_count, op_words, request_words, IsRequest, words_after, asked, request_at}
+use Rattle.transaction_codec.specs.Request.{op_kind, op_count, op_words, request_words, IsRequest, words_after, BreaksRequest, asked, request_at}
 use Rattle.transaction_codec.specs.declared.first.FirstRequest.{FirstRequest}
 use Rattle.transaction_codec.specs.First.{request_of}
+use Rattle.transaction_codec.specs.Listing.{IsFirstRule}
 use Rattle.transaction_codec.proofs.Fields.{header-fields, HasFields, fields-header}
-use Rattle.transaction_codec.proofs.Steps.{passed, read, read_is, not-false, AreWords-take, take-front, drop-front}
+use Rattle.transaction_codec.proofs.Steps.{test_of, Says, first_test, first_rule, passed, read, read_is, not-false, AreWords-take, take-front, drop-front}
 
 -- what a header asks has its type and words field, and the words after it
 record IsAsked (op : Op) (kind count : ℕ) (words : List ℕ) : Type 0 where
@@ -61,13 +62,29 @@ request_found (word ∷ after) x fits e =
     let version_is : version_of word ≡ 2 = eqb-true (version_of word) 2 (not-false _ version.0) in
     let code_is : code_of word ≡ 15 = eqb-true (code_of word) 15 (not-false _ code.0) in
     let word_is : header (tid_of word) (op_count made.0.op) (op_kind made.0.op) 15 ≡ word =
-        rw (is.count_is, is.kind_is, ← code_is) (sym (header-fields word version_is)) in
+    rw (is.count_is, is.kind_is, ← code_is) (sym (header-fields word version_is)) in
     let spelled : word ∷ after ≡ request_words made.0 ++ made.1 =
-        rw (word_is, is.words_are) (ap (λ (ws : List ℕ). word ∷ ws) (sym (take-append-drop (words_after (kind_of word) (count_of word)) after))) in
+    rw (word_is, is.words_are) (ap (λ (ws : List ℕ). word ∷ ws) (sym (take-append-drop (words_after (kind_of word) (count_of word)) after))) in
     let count_lt : op_count made.0.op < 2 ^ 8 = rw is.count_is (omega arith) in
     let words_fit : AreWords (op_words made.0.op) = rw is.words_are (AreWords-take (words_after (kind_of word) (count_of word)) after fits.1) in
     let ranges : IsRequest made.0 = record { tid = omega arith; count = count_lt; words = words_fit } in
     subst (λ (y : Request × List ℕ). IsRequest y.0 × (word ∷ after ≡ request_words y.0 ++ y.1)) (read_is made x whole.1) (ranges, spelled)
+
+says_request : (word : ℕ) (after : List ℕ) (rule : Why) → Says
+    (test_of (not (eqb (version_of word) 2)) (ltb 5 (kind_of word)) (not (eqb (code_of word) 15)) (is_rmw (kind_of word) && not (eqb (count_of word) 1))
+    (ltb (length after) (words_after (kind_of word) (count_of word))) rule)
+    (BreaksRequest rule word after)
+says_request word after Version = record { yes = λ e. grind (arith, nat_tests); not_so = λ e. grind (arith, nat_tests) }
+says_request word after Kind = record { yes = λ e. grind (arith, nat_tests); not_so = λ e. grind (arith, nat_tests) }
+says_request word after Code = record { yes = λ e. grind (arith, nat_tests); not_so = λ e. grind (arith, nat_tests) }
+says_request word after Count = record { yes = λ e. grind (arith, nat_tests); not_so = λ e h. grind (arith, nat_tests) }
+says_request word after Short = record { yes = λ e. ltb-true _ _ e; not_so = λ e lt. omega (arith, ltb-false _ _ e, lt) }
+
+pub request_refuses : (words : List ℕ) (why : Why) → 0 < length words → request_at words ≡ Err why → IsFirstRule BreaksRequest words why
+unfolding request_at
+request_refuses [] why some e = absurd (omega arith)
+request_refuses (word ∷ after) why some e =
+    first_rule BreaksRequest word after _ _ _ _ _ why (says_request word after) (first_test _ _ _ _ _ _ why e)
 
 pub is_found : (words : List ℕ) (r : Result FirstRequest Why) → AreWords words
     → MatchResult r (λ first. request_at words ≡ Ok (request_of first, first.rest.now)) (λ why. request_at words ≡ Err why)
@@ -100,11 +117,11 @@ request_again_at tid (ReadPort base count) rest tid_lt count_lt =
     read_by_fields (header tid count 2 15) 2 count tid (base ∷ rest) (fields-header tid count 2 15 tid_lt count_lt (lit< tt) (lit< tt)) (lit≤ tt) refl (omega arith)
 request_again_at tid (Write base words) rest tid_lt count_lt =
     read_by_fields (header tid (length words) 1 15) 1 (length words) tid (base ∷ (words ++ rest)) (fields-header tid (length words) 1 15 tid_lt count_lt (lit< tt) (lit< tt))
-        (lit≤ tt) refl (omega (arith, length-append words rest))
+    (lit≤ tt) refl (omega (arith, length-append words rest))
     ∙ rw (drop-front, take_at words rest (length words) refl, drop_at words rest (length words) refl) refl
 request_again_at tid (WritePort base words) rest tid_lt count_lt =
     read_by_fields (header tid (length words) 3 15) 3 (length words) tid (base ∷ (words ++ rest)) (fields-header tid (length words) 3 15 tid_lt count_lt (lit< tt) (lit< tt))
-        (lit≤ tt) refl (omega (arith, length-append words rest))
+    (lit≤ tt) refl (omega (arith, length-append words rest))
     ∙ rw (drop-front, take_at words rest (length words) refl, drop_at words rest (length words) refl) refl
 request_again_at tid (RmwBits base and_term or_term) rest tid_lt count_lt =
     read_by_fields (header tid 1 4 15) 4 1 tid (base ∷ and_term ∷ or_term ∷ rest) (fields-header tid 1 4 15 tid_lt (lit< tt) (lit< tt) (lit< tt)) (lit≤ tt) refl (omega arith)

@@ -1,13 +1,89 @@
 -- Readings by rules in their order: a rule that was passed, and what was read then.
-use Rattle.std.proofs.Common.{◌≡◌, ℕ, ◌^◌, ◌<◌, Bool, true, false, cond, not, ◌&&◌, List, [], ◌∷◌, ◌++◌, length, get_or, take, drop, Result, Ok, Err, refl, suc, zero, Fits, w32, arith, ◌+◌, add_comm, add-one}
-use Rattle.std.specs.List.{AllByRecursion}
-use Rattle.ipb_base.specs.Word.{IsWord, AreWords}
+use Rattle.std.proofs.Common.{◌<◌, subst, ◌≡◌, ℕ, Bool, true, false, cond, not, List, [], ◌∷◌, ◌++◌, get_or, take, drop, Result, Ok, Err, refl, suc, zero, Fits, w32, arith, ◌+◌, add_comm, add-one}
+use Rattle.ipb_base.specs.Word.{AreWords}
 use Rattle.transaction_codec.specs.declared.refusal.Why.{Why}
+use Rattle.transaction_codec.specs.declared.refusal.Why.TheVariants.{Version, Kind, Code, Count, Short}
+use Rattle.transaction_codec.specs.Listing.{why_number, IsFirstRule}
 
 -- a rule that is not broken
 pub passed : {A : Type 0} (broken : Bool) (why : Why) (then : Result A Why) (x : A) → cond broken (Err why) then ≡ Ok x → (broken ≡ false) × (then ≡ Ok x)
 passed true why then x e = absurd cc
 passed false why then x e = (refl, e)
+
+-- one of five tests
+abbrev pub test_of : Bool → Bool → Bool → Bool → Bool → Why → Bool
+test_of a b c d e Version = a
+test_of a b c d e Kind = b
+test_of a b c d e Code = c
+test_of a b c d e Count = d
+test_of a b c d e Short = e
+
+-- five tests in their order, each with its rule
+abbrev pub by_tests : {A : Type 0} → Bool → Bool → Bool → Bool → Bool → A → Result A Why
+by_tests a b c d e x = cond a (Err Version) (cond b (Err Kind) (cond c (Err Code) (cond d (Err Count) (cond e (Err Short) (Ok x)))))
+
+-- the rule of the first test that is true
+pub record IsFirstTest (a b c d e : Bool) (why : Why) : Type 0 where
+  pub broken : test_of a b c d e why ≡ true
+  pub earlier : (other : Why) → why_number other < why_number why → test_of a b c d e other ≡ false
+
+before_kind : (b c d e : Bool) (other : Why) → why_number other < 2 → test_of false b c d e other ≡ false
+before_kind b c d e Version lt = refl
+before_kind b c d e Kind lt = absurd (omega arith)
+before_kind b c d e Code lt = absurd (omega arith)
+before_kind b c d e Count lt = absurd (omega arith)
+before_kind b c d e Short lt = absurd (omega arith)
+
+before_code : (c d e : Bool) (other : Why) → why_number other < 3 → test_of false false c d e other ≡ false
+before_code c d e Version lt = refl
+before_code c d e Kind lt = refl
+before_code c d e Code lt = absurd (omega arith)
+before_code c d e Count lt = absurd (omega arith)
+before_code c d e Short lt = absurd (omega arith)
+
+before_count : (d e : Bool) (other : Why) → why_number other < 4 → test_of false false false d e other ≡ false
+before_count d e Version lt = refl
+before_count d e Kind lt = refl
+before_count d e Code lt = refl
+before_count d e Count lt = absurd (omega arith)
+before_count d e Short lt = absurd (omega arith)
+
+before_short : (e : Bool) (other : Why) → why_number other < 5 → test_of false false false false e other ≡ false
+before_short e Version lt = refl
+before_short e Kind lt = refl
+before_short e Code lt = refl
+before_short e Count lt = refl
+before_short e Short lt = absurd (omega arith)
+
+before_version : (a b c d e : Bool) (other : Why) → why_number other < 1 → test_of a b c d e other ≡ false
+before_version a b c d e Version lt = absurd (omega arith)
+before_version a b c d e Kind lt = absurd (omega arith)
+before_version a b c d e Code lt = absurd (omega arith)
+before_version a b c d e Count lt = absurd (omega arith)
+before_version a b c d e Short lt = absurd (omega arith)
+
+abbrev refused : (A : Type 0) → Why → Result A Why
+refused A why = Err why
+
+rule_is : (A : Type 0) (why other : Why) → refused A why ≡ refused A other → why ≡ other
+rule_is A why other e = cc
+
+pub first_test : {A : Type 0} (a b c d e : Bool) (x : A) (why : Why) → by_tests a b c d e x ≡ Err why → IsFirstTest a b c d e why
+first_test {A = A} true b c d e x why h = subst (IsFirstTest true b c d e) (rule_is A Version why h) (record { broken = refl; earlier = before_version true b c d e })
+first_test {A = A} false true c d e x why h = subst (IsFirstTest false true c d e) (rule_is A Kind why h) (record { broken = refl; earlier = before_kind true c d e })
+first_test {A = A} false false true d e x why h = subst (IsFirstTest false false true d e) (rule_is A Code why h) (record { broken = refl; earlier = before_code true d e })
+first_test {A = A} false false false true e x why h = subst (IsFirstTest false false false true e) (rule_is A Count why h) (record { broken = refl; earlier = before_count true e })
+first_test {A = A} false false false false true x why h = subst (IsFirstTest false false false false true) (rule_is A Short why h) (record { broken = refl; earlier = before_short true })
+first_test {A = A} false false false false false x why h = absurd cc
+
+-- each test says whether its rule is broken
+pub record Says (test : Bool) (Broken : Type 0) : Type 0 where
+  pub yes : test ≡ true → Broken
+  pub not_so : test ≡ false → Broken → ⊥
+
+pub first_rule : (Breaks : Why → ℕ → List ℕ → Type 0) (word : ℕ) (after : List ℕ) (a b c d e : Bool) (why : Why) → ((rule : Why) → Says (test_of a b c d e rule) (Breaks rule word after))
+    → IsFirstTest a b c d e why → IsFirstRule Breaks (word ∷ after) why
+first_rule Breaks word after a b c d e why says first = ((says why).yes first.broken, λ other lt. (says other).not_so (first.earlier other lt))
 
 abbrev pub read : {A : Type 0} → A → Result A Why
 read x = Ok x
@@ -34,3 +110,7 @@ pub AreWords-take : (n : ℕ) (words : List ℕ) → AreWords words → AreWords
 AreWords-take zero words fits = tt
 AreWords-take (suc n) [] fits = tt
 AreWords-take (suc n) (word ∷ words) fits = (fits.0, AreWords-take n words fits.1)
+
+pub AreWords-after : (front words : List ℕ) → AreWords (front ++ words) → AreWords words
+AreWords-after [] words fits = fits
+AreWords-after (word ∷ front) words fits = AreWords-after front words fits.1

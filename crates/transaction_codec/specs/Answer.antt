@@ -1,15 +1,15 @@
 -- Which words answer a body: of any device that answers each access by a word or a code. It need not remember.
-use Rattle.std.specs.Prelude.{◌≡◌, ℕ, ◌≤◌, ◌<◌, ◌⊎◌, List, [], ◌∷◌, ◌++◌, length, Result, IsErr}
-use Rattle.std.specs.List.{AllByRecursion}
+use Rattle.std.specs.Prelude.{Result, Ok, Err, ◌+◌, zero, suc, ◌≡◌, ℕ, ◌≤◌, ◌<◌, ◌⊎◌, List, [], ◌∷◌, ◌++◌, length, IsErr}
 use Rattle.transaction_codec.specs.declared.request.Op.{Op}
 use Rattle.transaction_codec.specs.declared.request.Op.TheVariants.{Read, ReadPort, Write, WritePort, RmwBits, RmwSum}
 use Rattle.transaction_codec.specs.declared.request.Request.{Request}
 use Rattle.transaction_codec.specs.declared.reply.Reply.{Reply}
+use Rattle.transaction_codec.specs.declared.refusal.Why.{Why}
 use Rattle.transaction_codec.specs.declared.transaction_type.TheConstants.{READ}
 use Rattle.transaction_codec.specs.declared.info_code.TheConstants.{SUCCESS, BAD_HEADER, READ_ERROR, WRITE_ERROR, READ_TIMEOUT, WRITE_TIMEOUT}
 use Rattle.transaction_codec.specs.Header.{tid_of}
 use Rattle.transaction_codec.specs.Request.{op_kind, op_count, AreRequests, requests_words, request_at}
-use Rattle.transaction_codec.specs.Reply.{IsBusFault, IsReply, AreReplies, replies_words}
+use Rattle.transaction_codec.specs.Reply.{IsBusFault, AreReplies, replies_words}
 
 -- the words of a reply that did all of the operation: those read, nothing for a write, the word before for an RMW
 abbrev pub values_done : Op → ℕ
@@ -90,3 +90,19 @@ pub record IsLongestAnswer (body : List ℕ) (room : ℕ) : Type 0 where
   pub answer : List ℕ
   pub given : CanAnswer body answer
   pub reached : length answer ≡ room
+
+-- The longest answer is one header for each request and the words of a reply that did all of it. A place where no request
+-- stands counts as one word, and nothing after it counts.
+abbrev pub room_first : Result (Request × List ℕ) Why → (List ℕ → ℕ) → ℕ
+room_first (Ok (request, rest)) later = 1 + values_done request.op + later rest
+room_first (Err why) later = 1
+
+-- that of at most so many requests at the front of the words
+abbrev pub room_from : ℕ → List ℕ → ℕ
+room_from zero words = 0
+room_from (suc most) [] = 0
+room_from (suc most) (word ∷ after) = room_first (request_at (word ∷ after)) (room_from most)
+
+-- the length in words of the longest answer to a body, which has no more requests than words
+abbrev pub reply_room : List ℕ → ℕ
+reply_room body = room_from (length body) body

@@ -1,5 +1,5 @@
 -- The header word of a transaction. IPbus 2.0, transaction header.
-use Rattle.std.specs.Prelude.{ℕ, ◌+◌, ◌*◌, ◌/◌, ◌%◌, ◌^◌, ◌<◌, Bool, ◌==◌, ◌||◌}
+use Rattle.std.specs.Prelude.{ℕ, ◌+◌, ◌*◌, ◌/◌, ◌%◌, ◌^◌, Bool, ◌==◌, ◌||◌}
 use Rattle.transaction_codec.specs.declared.transaction_type.TheConstants.{WRITE, WRITE_PORT, RMW_BITS, RMW_SUM}
 
 -- version 2 in bits 31-28, the transaction identifier in 27-16, the words in 15-8, the type in 7-4, the info code in 3-0

@@ -1,5 +1,5 @@
 -- Replies and their words. IPbus 2.0, transaction header; what a failed transaction carries is the profile's.
-use Rattle.std.specs.Prelude.{◌≡◌, ℕ, ◌^◌, ◌<◌, ◌≤◌, Bool, ◌==◌, ◌&&◌, ◌||◌, not, nat_lt, nat_le, ◌⊎◌, if◌then◌else◌, List, [], ◌∷◌, length, take, drop, Result, Ok, Err}
+use Rattle.std.specs.Prelude.{◌≡◌, ◌≢◌, ℕ, ◌^◌, ◌<◌, ◌≤◌, Bool, ◌==◌, ◌&&◌, ◌||◌, not, nat_lt, nat_le, ◌⊎◌, if◌then◌else◌, List, [], ◌∷◌, length, take, drop, Result, Ok, Err}
 use Rattle.std.specs.List.{AllByRecursion, flat_map}
 use Rattle.ipb_base.specs.Word.{AreWords}
 use Rattle.transaction_codec.specs.declared.reply.Reply.{Reply}
@@ -58,6 +58,17 @@ is_wrong_count kind code count =
 -- How many words a header of this type and count has after it. An RMW carries the word before where it did one.
 abbrev pub values_after : ℕ → ℕ → ℕ
 values_after kind count = if is_write kind then 0 else count
+
+-- What breaks each rule on the header of a reply, with the words after it.
+abbrev pub BreaksReply : Why → ℕ → List ℕ → Type 0
+BreaksReply Version word after = version_of word ≢ 2
+BreaksReply Kind word after = (RMW_SUM < kind_of word) ⊎ ((code_of word ≡ BAD_HEADER) × (kind_of word ≢ READ))
+BreaksReply Code word after = (code_of word ≢ SUCCESS) × (code_of word ≢ BAD_HEADER) × (IsBusFault (code_of word) → ⊥)
+BreaksReply Count word after =
+    ((code_of word ≡ BAD_HEADER) × (count_of word ≢ 0))
+    ⊎ (((kind_of word ≡ RMW_BITS) ⊎ (kind_of word ≡ RMW_SUM))
+    × (((code_of word ≡ SUCCESS) × (count_of word ≢ 1)) ⊎ ((code_of word ≢ SUCCESS) × (count_of word ≢ 0))))
+BreaksReply Short word after = length after < values_after (kind_of word) (count_of word)
 
 -- The reply at the front of the words and the words after it, or the first rule that the header there breaks.
 unfoldable pub reply_at : List ℕ → Result (Reply × List ℕ) Why

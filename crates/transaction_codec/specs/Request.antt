@@ -1,7 +1,7 @@
 -- Requests and their words. IPbus 2.0, transaction header, with the profile's rules on which headers are bad.
-use Rattle.std.specs.Prelude.{ℕ, ◌+◌, ◌^◌, ◌<◌, ◌==◌, ◌&&◌, not, nat_lt, if◌then◌else◌, List, [], ◌∷◌, length, take, drop, slice_index, Result, Ok, Err}
+use Rattle.std.specs.Prelude.{◌≡◌, ◌≢◌, ◌⊎◌, ℕ, ◌+◌, ◌^◌, ◌<◌, ◌==◌, ◌&&◌, not, nat_lt, if◌then◌else◌, List, [], ◌∷◌, length, take, drop, slice_index, Result, Ok, Err}
 use Rattle.std.specs.List.{AllByRecursion, flat_map}
-use Rattle.ipb_base.specs.Word.{IsWord, AreWords}
+use Rattle.ipb_base.specs.Word.{AreWords}
 use Rattle.transaction_codec.specs.declared.request.Op.{Op}
 use Rattle.transaction_codec.specs.declared.request.Op.TheVariants.{Read, ReadPort, Write, WritePort, RmwBits, RmwSum}
 use Rattle.transaction_codec.specs.declared.request.Request.{Request}
@@ -61,6 +61,14 @@ words_after kind count =
     else if kind == RMW_BITS then 3
     else if kind == RMW_SUM then 2
     else 1
+
+-- What breaks each rule on the header of a request, with the words after it.
+abbrev pub BreaksRequest : Why → ℕ → List ℕ → Type 0
+BreaksRequest Version word after = version_of word ≢ 2
+BreaksRequest Kind word after = RMW_SUM < kind_of word
+BreaksRequest Code word after = code_of word ≢ REQUEST
+BreaksRequest Count word after = ((kind_of word ≡ RMW_BITS) ⊎ (kind_of word ≡ RMW_SUM)) × (count_of word ≢ 1)
+BreaksRequest Short word after = length after < words_after (kind_of word) (count_of word)
 
 -- what a header of this type and count asks with the words after it
 abbrev pub asked : ℕ → ℕ → List ℕ → Op

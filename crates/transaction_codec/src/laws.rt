@@ -1,10 +1,18 @@
 //! Laws of the definitions. These functions do nothing when they run: their clauses are what is proved.
 
 ghost use Rattle.std.specs.Prelude.{◌≡◌, List, ℕ, ◌++◌, ◌∷◌, [], Ok, Err};
+ghost use Rattle.ipb_base.specs.Lists.{IsProperPrefix};
+ghost use Rattle.ipb_base.specs.Word.{AreWords};
+ghost use Rattle.transaction_codec.specs.declared.refusal.Why.{Why};
 ghost use Rattle.transaction_codec.specs.declared.request.Request.{Request};
 ghost use Rattle.transaction_codec.specs.declared.reply.Reply.{Reply};
-ghost use Rattle.transaction_codec.specs.Request.{AreRequests, IsRequest, request_words, requests_words};
-ghost use Rattle.transaction_codec.specs.Reply.{AreReplies, IsReply, reply_words, replies_words};
+ghost use Rattle.transaction_codec.specs.Request.{AreRequests, IsRequest, BreaksRequest, request_at, request_words, requests_words};
+ghost use Rattle.transaction_codec.specs.Reply.{AreReplies, IsReply, BreaksReply, reply_at, reply_words, replies_words};
+ghost use Rattle.transaction_codec.specs.Listing.{IsFirstRule, IsRequestFault, IsReplyFault};
+ghost use Rattle.transaction_codec.specs.Answer.{CanAnswer, IsReplyTo, IsLongestAnswer, reply_room};
+
+use crate::refusal::{BadWords, Why};
+use crate::request::Op;
 
 /// Words are the spelling of at most one list of requests, and of at most one list of replies.
 pub fn one_list_for_words()
@@ -12,4 +20,76 @@ pub fn one_list_for_words()
         requests_words left ≡ requests_words right → left ≡ right }
     ensures replies { (left right : List Reply) → AreReplies left → AreReplies right →
         replies_words left ≡ replies_words right → left ≡ right }
+{}
+
+/// No spelling of a request begins that of another, and no spelling of a reply that of another.
+pub fn no_spelling_begins_another()
+    ensures requests { (left right : Request) → IsRequest left → IsRequest right →
+        IsProperPrefix (request_words left) (request_words right) → ⊥ }
+    ensures replies { (left right : Reply) → IsReply left → IsReply right →
+        IsProperPrefix (reply_words left) (reply_words right) → ⊥ }
+{}
+
+/// What is written is read again, whatever follows it.
+pub fn written_is_read_again()
+    ensures request { (request : Request) (rest : List ℕ) → IsRequest request →
+        request_at (request_words request ++ rest) ≡ Ok (request, rest) }
+    ensures reply { (reply : Reply) (rest : List ℕ) → IsReply reply →
+        reply_at (reply_words reply ++ rest) ≡ Ok (reply, rest) }
+{}
+
+/// What is read of 32-bit words is spelled so.
+pub fn read_is_spelled_so()
+    ensures request { (words rest : List ℕ) (request : Request) → AreWords words → request_at words ≡ Ok (request, rest) →
+        IsRequest request × (words ≡ request_words request ++ rest) }
+    ensures reply { (words rest : List ℕ) (reply : Reply) → AreWords words → reply_at words ≡ Ok (reply, rest) →
+        IsReply reply × (words ≡ reply_words reply ++ rest) }
+{}
+
+/// Where nothing is read of a header, it breaks the rule that is named and none before it.
+pub fn refused_by_the_first_rule()
+    ensures request { (word : ℕ) (after : List ℕ) (why : Why) → request_at (word ∷ after) ≡ Err why →
+        IsFirstRule BreaksRequest (word ∷ after) why }
+    ensures reply { (word : ℕ) (after : List ℕ) (why : Why) → reply_at (word ∷ after) ≡ Err why →
+        IsFirstRule BreaksReply (word ∷ after) why }
+{}
+
+/// A reply to a body is what a board can answer to it, and to a body of requests alone a board can answer nothing else.
+pub fn replies_are_what_boards_answer()
+    ensures replies { (body reply : List ℕ) → IsReplyTo body reply → CanAnswer body reply }
+    ensures answers { (requests : List Request) (body answer : List ℕ) → AreRequests requests →
+        body ≡ requests_words requests → CanAnswer body answer → IsReplyTo body answer }
+{}
+
+/// Each body has one longest answer, and `reply_room` is its length.
+pub fn longest_answer_of_a_body()
+    ensures there { (body : List ℕ) → AreWords body → IsLongestAnswer body (reply_room body) }
+    ensures one { (body : List ℕ) (left right : ℕ) → IsLongestAnswer body left → IsLongestAnswer body right → left ≡ right }
+{}
+
+/// Words of requests and of replies, by hand.
+pub fn worked_spellings()
+    ensures no_requests { requests_words [] ≡ [] }
+    ensures read { requests_words (record { tid = 0; op = Op.Read 4 1 } ∷ []) ≡ 0x2000010f ∷ 4 ∷ [] }
+    ensures read_reply { replies_words (record { tid = 0; kind = 0; count = 1; code = 0; values = 0xabcd ∷ [] } ∷ [])
+        ≡ 0x20000100 ∷ 0xabcd ∷ [] }
+    ensures rmw_bits { requests_words (record { tid = 0; op = Op.RmwBits 8 0x7fffffff 0x80000000 } ∷ [])
+        ≡ 0x2000014f ∷ 8 ∷ 0x7fffffff ∷ 0x80000000 ∷ [] }
+    ensures two_writes { requests_words (record { tid = 1; op = Op.Write 16 (7 ∷ 9 ∷ []) } ∷ record { tid = 2; op = Op.WritePort 5 [] } ∷ [])
+        ≡ 0x2001021f ∷ 16 ∷ 7 ∷ 9 ∷ 0x2002003f ∷ 5 ∷ [] }
+{}
+
+/// Words that are no requests, by hand.
+pub fn worked_refusals()
+    ensures count { IsRequestFault (0x2000024f ∷ 8 ∷ 0 ∷ 0 ∷ []) (BadWords.At 0 Why.Count) }
+    ensures version { IsRequestFault (0x3000010f ∷ 0 ∷ []) (BadWords.At 0 Why.Version) }
+    ensures short { IsRequestFault (0x2000010f ∷ []) (BadWords.At 0 Why.Short) }
+    ensures kind { IsRequestFault (0x2000016f ∷ 0 ∷ []) (BadWords.At 0 Why.Kind) }
+    ensures code { IsRequestFault (0x20000100 ∷ 0 ∷ []) (BadWords.At 0 Why.Code) }
+    ensures second { IsRequestFault (0x2000010f ∷ 4 ∷ 0x2001041f ∷ 8 ∷ 1 ∷ []) (BadWords.At 2 Why.Short) }
+{}
+
+/// The longest answers of bodies, by hand: to a read of three words, an RMW, a write of two words and a bad header.
+pub fn worked_room()
+    ensures { reply_room (0x2000030f ∷ 0 ∷ 0x2001015f ∷ 4 ∷ 1 ∷ 0x2002021f ∷ 8 ∷ 7 ∷ 7 ∷ 0x3000010f ∷ 0x2000030f ∷ 0 ∷ []) ≡ 8 }
 {}

@@ -9,7 +9,8 @@ use crate::first::{OpRef, first_request};
 /// the words that it reads. A bad header counts as one word, and nothing after it counts. It takes no memory.
 pub fn reply_room(body: &[u32]) -> u32
     requires { length body.now ≤ 2 ^ 16 }
-    ensures { IsLongestAnswer body.now result }
+    ensures longest { IsLongestAnswer body.now result }
+    ensures value { result ≡ Answer.reply_room body.now }
 {
     let mut room = 0;
     let mut rest = body;

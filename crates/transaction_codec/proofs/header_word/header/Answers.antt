@@ -1,4 +1,4 @@
-use Rattle.std.proofs.Common.{◌≡◌, arith}
+use Rattle.std.proofs.Common.{arith}
 use Rattle.transaction_codec.proofs.Packing.{packed}
 use Rattle.transaction_codec.proofs.header_word.header.Goals as goal
 

@@ -1,8 +1,7 @@
 use Rattle.std.proofs.Common.{◌≡◌, ◌++◌, ◌<◌, [], length, ap, sym, ◌∙◌, arith, length-append}
 use Rattle.std.proofs.lemmas.List.{append-nil, nil_from_length}
 use Rattle.std.proofs.lemmas.Bool.Decides.{nat_tests}
-use Rattle.transaction_codec.specs.Request.{request_words, IsRequest, request_at, requests_words}
-use Rattle.transaction_codec.specs.Listing.{IsFirstFault}
+use Rattle.transaction_codec.specs.Request.{request_words, IsRequest, BreaksRequest, request_at, requests_words}
 use Rattle.transaction_codec.proofs.Lists.{first_fault, fault_is_no_list, one_list}
 use Rattle.transaction_codec.proofs.Formats.{requests_format}
 use Rattle.transaction_codec.proofs.reading.read_requests.Goals as goal
@@ -12,16 +11,16 @@ pub returns-in-Err-clause-refused : goal.returns-in-Err-clause-refused
 returns-in-Err-clause-refused c =
     let some : 0 < length c.loop-rest.rest.now = grind (arith, nat_tests) in
     let whole = c.loop-rest.invariant.parts in
-    first_fault request_words IsRequest request_at requests_format c.args.words.now c.loop-rest.list.items c.loop-rest.rest.now c.in-Err.why _
-        c.loop-rest.invariant.ranges whole some c.in-Err.ensures.exact (omega (arith, ap length whole, length-append (requests_words c.loop-rest.list.items) c.loop-rest.rest.now))
+    first_fault request_words IsRequest BreaksRequest request_at requests_format c.args.words.now c.loop-rest.list.items c.loop-rest.rest.now c.in-Err.why _
+    c.loop-rest.invariant.ranges whole some c.in-Err.ensures.exact (omega (arith, ap length whole, length-append (requests_words c.loop-rest.list.items) c.loop-rest.rest.now))
 
 pub returns-in-Err-clause-only : goal.returns-in-Err-clause-only
 returns-in-Err-clause-only c list ranges e =
-    absurd (fault_is_no_list request_words IsRequest request_at requests_format c.args.words.now _ c.in-Err.why (returns-in-Err-clause-refused c) list ranges e)
+    absurd (fault_is_no_list request_words IsRequest BreaksRequest request_at requests_format c.args.words.now _ c.in-Err.why (returns-in-Err-clause-refused c) list ranges e)
 
 -- nothing is left, so the words are this list and no other
 pub returns-clause-only : goal.returns-clause-only
 returns-clause-only c list ranges e =
     let none : c.loop-rest.rest.now ≡ [] = nil_from_length _ (grind (arith, nat_tests)) in
     let whole = c.loop-rest.invariant.parts ∙ ap (λ rest. requests_words c.loop-rest.list.items ++ rest) none ∙ append-nil (requests_words c.loop-rest.list.items) in
-    one_list request_words IsRequest request_at requests_format c.loop-rest.list.items list c.loop-rest.invariant.ranges ranges (sym whole ∙ e)
+    one_list request_words IsRequest BreaksRequest request_at requests_format c.loop-rest.list.items list c.loop-rest.invariant.ranges ranges (sym whole ∙ e)

@@ -6,7 +6,7 @@ use Rattle.transaction_codec.proofs.reading.read_requests.Given as goal
 abbrev pub invariant-loop-rest : goal.invariant-loop-rest
 invariant-loop-rest l = record {
   ranges : AreRequests l.list.items;
-  parts : l.words ≡ requests_words l.list.items ++ l.rest
+  parts : l.words ≡ requests_words l.list.items ++ l.rest;
 }
 
 abbrev pub decreases-loop-rest : goal.decreases-loop-rest
