@@ -6,7 +6,7 @@ use crate::Bus;
 use crate::room::push_within;
 use ipb_base::NoMemory;
 use transaction_codec::info_code::SUCCESS;
-use transaction_codec::{bad_header_reply, first_request};
+use transaction_codec::{bad_header_reply, first_request, reply_room};
 
 impl Bus {
     /// Executes the body of a control packet, at most 65,536 words, and appends the reply to it. Requests are executed in order
@@ -18,7 +18,7 @@ impl Bus {
         ensures bus_unchanged { OnErr result (self.new ≡ self.old) }
         ensures out_unchanged { OnErr result (out.new.items ≡ out.old.items) }
     {
-        out.reserve(1)?;
+        out.reserve(reply_room(body) as usize)?;
         self.run(body, out);
         Ok(())
     }
