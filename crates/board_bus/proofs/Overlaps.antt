@@ -1,14 +1,17 @@
 -- Things that stand on addresses from a low one up to a high one: two of them share an address exactly where an address is in
 -- two of them, and, in order, exactly where two neighbours do.
-use Rattle.std.proofs.Common.{◌≡◌, ℕ, ◌+◌, ◌<◌, ◌≤◌, ◌⊎◌, inl, inr, suc, zero, Bool, true, false, cond, ◌&&◌, ◌||◌, ltb, leb, List, [], ◌∷◌, length, get_or, map, refl, sym, ap, ◌∙◌, subst, arith}
+use Rattle.std.proofs.Common.{◌≡◌, ℕ, ◌+◌, ◌<◌, ◌≤◌, ◌⊎◌, inl, inr, suc, zero, Bool, true, false, cond, ◌&&◌, ◌||◌, ltb, leb, List, [], ◌∷◌, length, get_or, map, refl, sym, ap, ◌∙◌, subst, arith, zero-add}
 use Rattle.std.specs.List.{All, list_any, count_by, sum_by, AllAdjacentBelow}
 use Rattle.std.specs.List.Sorted.{IsPermutation, IsNonDecreasingBy}
-use Rattle.std.proofs.lemmas.List.Elements.{All-head, All-tail}
+use Rattle.std.proofs.lemmas.List.Elements.{All-head, All-tail, All-cons}
 use Rattle.std.proofs.lemmas.List.Sorted.{sum_by-IsPermutation, All-permutation}
 use Rattle.std.proofs.lemmas.List.Sums.{sum_by-append}
 use Rattle.std.proofs.lemmas.List.Folds.{list_any_none, list_any_at}
-use Rattle.std.proofs.lemmas.Bool.{or_cases, or_parts, or_from, or_left, or_right, and_parts, and_from, and_left, and_right, ltb-true, lt-ltb, le-ltb, leb-true, le-leb, cases_Bool, cases_lt, both_ways, false_from_ne_true, true_from_ne_false}
-use Rattle.board_bus.specs.Ranges.{any_pair}
+use Rattle.std.proofs.lemmas.Bool.{or_cases, or_parts, or_from, or_left, or_right, and_parts, and_from, and_left, and_right, ltb-true, lt-ltb, le-ltb, leb-true, le-leb, cases_Bool, cases_lt, both_ways, eqb-false, false_from_ne_true, true_from_ne_false}
+use Rattle.board_bus.specs.declared.range.Range.{Range}
+use Rattle.board_bus.specs.declared.range.Span.{Span}
+use Rattle.board_bus.specs.Ranges.{any_pair, share_address, is_empty_range}
+use Rattle.board_bus.specs.Spans.{span_of}
 
 module _ {X : Type 0} (low high : X → ℕ) where
   abbrev pub share : X → X → Bool
@@ -21,14 +24,14 @@ module _ {X : Type 0} (low high : X → ℕ) where
   IsThere x = low x < high x
 
   count-cons : (a : ℕ) (x : X) (xs : List X) → count_by (is_in a) (x ∷ xs) ≡ cond (is_in a x) 1 0 + count_by (is_in a) xs
-  count-cons a x xs = sum_by-append (λ y. cond (is_in a y) 1 0) (x ∷ []) xs
+  count-cons a x xs = sum_by-append (λ y. cond (is_in a y) 1 0) (x ∷ []) xs ∙ ap (λ (n : ℕ). n + count_by (is_in a) xs) (zero-add (cond (is_in a x) 1 0))
 
   in_both : (a : ℕ) (x y : X) → is_in a x ≡ true → is_in a y ≡ true → share x y ≡ true
   in_both a x y p q =
-      let x_low = leb-true _ _ (and_parts _ _ p).0 in
-      let x_high = ltb-true _ _ (and_parts _ _ p).1 in
-      let y_low = leb-true _ _ (and_parts _ _ q).0 in
-      let y_high = ltb-true _ _ (and_parts _ _ q).1 in
+      let x_low : low x ≤ a = leb-true _ _ (and_parts _ _ p).0 in
+      let x_high : a < high x = ltb-true _ _ (and_parts _ _ p).1 in
+      let y_low : low y ≤ a = leb-true _ _ (and_parts _ _ q).0 in
+      let y_high : a < high y = ltb-true _ _ (and_parts _ _ q).1 in
       and_from _ _ (lt-ltb (low x) (high y) (omega arith)) (lt-ltb (low y) (high x) (omega arith))
 
   -- where x shares with none of them, none of them holds an address of x
@@ -37,7 +40,7 @@ module _ {X : Type 0} (low high : X → ℕ) where
   none_shares a x (y ∷ ys) p h =
       let parts = or_parts (share x y) (list_any (share x) ys) h in
       let apart : is_in a y ≡ false = false_from_ne_true (is_in a y) (λ q. both_ways (share x y) parts.0 (in_both a x y p q)) in
-      count-cons a y ys ∙ ap (λ b. cond b 1 0 + count_by (is_in a) ys) apart ∙ none_shares a x ys p parts.1
+      count-cons a y ys ∙ ap (λ b. cond b 1 0 + count_by (is_in a) ys) apart ∙ zero-add (count_by (is_in a) ys) ∙ none_shares a x ys p parts.1
 
   pub at_most_one : (xs : List X) → any_pair share xs ≡ false → (a : ℕ) → count_by (is_in a) xs ≤ 1
   at_most_one [] h a = omega arith
@@ -54,8 +57,8 @@ module _ {X : Type 0} (low high : X → ℕ) where
   shared : (x y : X) → IsThere x → IsThere y → share x y ≡ true → (a : ℕ) × (is_in a x ≡ true) × (is_in a y ≡ true)
   shared x y p q h =
       let parts = and_parts (ltb (low x) (high y)) (ltb (low y) (high x)) h in
-      let first = ltb-true _ _ parts.0 in
-      let second = ltb-true _ _ parts.1 in
+      let first : low x < high y = ltb-true _ _ parts.0 in
+      let second : low y < high x = ltb-true _ _ parts.1 in
       elim (cases_lt (low x) (low y)) [
         | inl less ↦ (low y, and_from _ _ (le-leb (low x) (low y) (omega arith)) (lt-ltb (low y) (high x) second), and_from _ _ (le-leb (low y) (low y) (omega arith)) (lt-ltb (low y) (high y) q))
         | inr more ↦ (low x, and_from _ _ (le-leb (low x) (low x) (omega arith)) (lt-ltb (low x) (high x) p), and_from _ _ (le-leb (low y) (low x) more) (lt-ltb (low x) (high y) first))
@@ -115,5 +118,33 @@ module _ {X : Type 0} (low high : X → ℕ) where
       let later : (k : ℕ) (d : X) → k < length xs → high x ≤ low (get_or xs k d) =
           λ k d within. let next = apart 0 d (omega arith) in let order = up 1 (suc k) d (omega arith) (omega arith) in omega (arith, next, order) in
       let first : list_any (share x) xs ≡ false = list_any_none (share x) xs (λ k d within. and_right _ _ (le-ltb (low (get_or xs k d)) (high x) (later k d within))) in
-      let rest : any_pair share xs ≡ false = neighbours_apart xs (λ i j d p q. up (suc i) (suc j) d (omega arith) (omega arith)) (λ k d q. apart (suc k) d (omega arith)) in
+      let rest : any_pair share xs ≡ false = neighbours_apart xs (λ i j d p q. up (suc i) (suc j) d (omega arith) (omega arith)) (λ k d q. let e : suc k + 1 ≡ suc (k + 1) = omega arith in
+          subst (λ (n : ℕ). high (get_or xs k d) ≤ low (get_or (x ∷ xs) n d)) e (apart (suc k) d (omega arith))) in
       or_from (list_any (share x) xs) (any_pair share xs) first rest
+
+-- the ends of a span
+abbrev pub from : Span → ℕ
+from span = span.base
+
+abbrev pub until : Span → ℕ
+until span = span.end
+
+abbrev pub HasAddress : Span → Type 0
+HasAddress span = IsThere from until span
+
+list_any-spans : (r : Range) (ranges : List Range) → list_any (share from until (span_of r)) (map span_of ranges) ≡ list_any (share_address r) ranges
+list_any-spans r [] = refl
+list_any-spans r (s ∷ ss) = ap (λ b. share_address r s || b) (list_any-spans r ss)
+
+-- spans share as the ranges do
+pub any_pair-spans : (ranges : List Range) → any_pair (share from until) (map span_of ranges) ≡ any_pair share_address ranges
+any_pair-spans [] = refl
+any_pair-spans (r ∷ rs) = λ i. list_any-spans r rs i || any_pair-spans rs i
+
+-- where no range is empty, each span has an address
+pub spans_there : (ranges : List Range) → list_any is_empty_range ranges ≡ false → All HasAddress (map span_of ranges)
+spans_there [] h = λ k d within. absurd (omega arith)
+spans_there (r ∷ rs) h =
+    let parts = or_parts (is_empty_range r) (list_any is_empty_range rs) h in
+    let some : r.size ≡ 0 → ⊥ = eqb-false r.size 0 parts.0 in
+    All-cons HasAddress (span_of r) (map span_of rs) (omega arith) (spans_there rs parts.1)

@@ -1,7 +1,7 @@
 ghost use Rattle.std.specs.Prelude.{◌≡◌, ◌≢◌, OnOk, IfOk, IfErr, MatchBool, Some, None, sum_by, map, nat_lt, false};
 ghost use Rattle.std.specs.List.{list_any};
 ghost use Rattle.board_bus.specs.declared.range.BusRefusal.TheVariants.{NoMemory as no_memory};
-ghost use Rattle.board_bus.specs.Ranges.{any_pair, is_empty_range, refusal_of, share_address};
+ghost use Rattle.board_bus.specs.Ranges.{any_pair, is_empty_range, is_init_long, is_past_end, refusal_of, share_address};
 ghost use Rattle.board_bus.specs.Spans.{span_of, SomeMeetsNext, NoneMeetsNext};
 
 use crate::RangeKind;
@@ -73,10 +73,10 @@ pub fn check_ranges(alloc: Global, ranges: &[Range]) -> Result<(), BusRefusal>
     ensures ok { OnOk result (refusal_of ranges.now ≡ None) }
     ensures refused { IfErr result (λ refusal. refusal ≢ no_memory → refusal_of ranges.now ≡ Some refusal) }
 {
-    if ranges.iter().any(|range| range.size == 0) {
+    if any_empty(ranges) {
         return Err(BusRefusal::Empty);
     }
-    if ranges.iter().any(|range| u64::from(range.base) + u64::from(range.size) > ADDRESSES) {
+    if any_past_end(ranges) {
         return Err(BusRefusal::PastEnd);
     }
     if has_overlap(alloc, ranges)? {
@@ -85,13 +85,35 @@ pub fn check_ranges(alloc: Global, ranges: &[Range]) -> Result<(), BusRefusal>
     if is_too_large(ranges) {
         return Err(BusRefusal::TooLarge);
     }
-    if ranges
-        .iter()
-        .any(|range| range.init.len() > range.size as usize)
-    {
+    if any_init_long(ranges) {
         return Err(BusRefusal::InitLong);
     }
     Ok(())
+}
+
+/// Whether a range has no address.
+fn any_empty(ranges: &[Range]) -> bool
+    ensures { result ≡ list_any is_empty_range ranges.now }
+{
+    ranges.iter().any(|range| range.size == 0)
+}
+
+/// Whether a range ends past the last address.
+fn any_past_end(ranges: &[Range]) -> bool
+    ensures { result ≡ list_any is_past_end ranges.now }
+{
+    ranges
+        .iter()
+        .any(|range| u64::from(range.base) + u64::from(range.size) > ADDRESSES)
+}
+
+/// Whether a range starts with more words than it has addresses.
+fn any_init_long(ranges: &[Range]) -> bool
+    ensures { result ≡ list_any is_init_long ranges.now }
+{
+    ranges
+        .iter()
+        .any(|range| range.init.len() > range.size as usize)
 }
 
 /// Whether two ranges share an address. It takes memory for their ends, in order.
