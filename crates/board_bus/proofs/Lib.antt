@@ -3,3 +3,8 @@ pub mod Progress
 pub mod Requests
 pub mod ReplyLength
 pub mod Overlaps
+pub mod Shapes
+pub mod WordsKept
+pub mod Answered
+pub mod Openings
+pub mod Bodies

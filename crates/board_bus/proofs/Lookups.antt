@@ -143,7 +143,7 @@ position_none : (t : Bool) (n : ℕ) → ◌≡◌ {A = Option ℕ} (cond t (Som
 position_none true n h = cc
 position_none false n h = refl
 
-at_address : (a : ℕ) (cells : CellMap) (cell : Option Cell) → find nat_cmp a cells ≡ cell → a < 2 ^ 32 → cell_at cells a ≡ cell
+pub at_address : (a : ℕ) (cells : CellMap) (cell : Option Cell) → find nat_cmp a cells ≡ cell → a < 2 ^ 32 → cell_at cells a ≡ cell
 at_address a cells cell is below = let test : ltb a (2 ^ 32) ≡ true = lt-ltb a (2 ^ 32) below in ap (λ t. cond t (find nat_cmp a cells) None) test ∙ is
 
 -- The cell at an address of blocks in a row: none where no block holds it, and else that of the first block that does.

@@ -1,6 +1,6 @@
 -- Things that stand on addresses from a low one up to a high one: two of them share an address exactly where an address is in
 -- two of them, and, in order, exactly where two neighbours do.
-use Rattle.std.proofs.Common.{◌≡◌, ℕ, ◌+◌, ◌<◌, ◌≤◌, ◌⊎◌, inl, inr, suc, zero, Bool, true, false, cond, ◌&&◌, ◌||◌, ltb, leb, List, [], ◌∷◌, length, get_or, map, refl, sym, ap, ◌∙◌, subst, arith, zero-add}
+use Rattle.std.proofs.Common.{◌≡◌, ℕ, ◌+◌, ◌<◌, ◌≤◌, ◌⊎◌, ◌↔◌, inl, inr, suc, zero, Bool, true, false, cond, ◌&&◌, ◌||◌, ltb, leb, List, [], ◌∷◌, length, get_or, map, refl, sym, ap, ◌∙◌, subst, arith, zero-add}
 use Rattle.std.specs.List.{All, list_any, count_by, sum_by, AllAdjacentBelow}
 use Rattle.std.specs.List.Sorted.{IsPermutation, IsNonDecreasingBy}
 use Rattle.std.proofs.lemmas.List.Elements.{All-head, All-tail, All-cons}
@@ -10,7 +10,7 @@ use Rattle.std.proofs.lemmas.List.Folds.{list_any_none, list_any_at}
 use Rattle.std.proofs.lemmas.Bool.{or_cases, or_parts, or_from, or_left, or_right, and_parts, and_from, and_left, and_right, ltb-true, lt-ltb, le-ltb, leb-true, le-leb, cases_Bool, cases_lt, both_ways, eqb-false, false_from_ne_true, true_from_ne_false}
 use Rattle.board_bus.specs.declared.range.Range.{Range}
 use Rattle.board_bus.specs.declared.range.Span.{Span}
-use Rattle.board_bus.specs.Ranges.{any_pair, share_address, is_empty_range}
+use Rattle.board_bus.specs.Ranges.{any_pair, end_of, holds_address, share_address, is_empty_range}
 use Rattle.board_bus.specs.Spans.{span_of}
 
 module _ {X : Type 0} (low high : X → ℕ) where
@@ -28,10 +28,10 @@ module _ {X : Type 0} (low high : X → ℕ) where
 
   in_both : (a : ℕ) (x y : X) → is_in a x ≡ true → is_in a y ≡ true → share x y ≡ true
   in_both a x y p q =
-      let x_low : low x ≤ a = leb-true _ _ (and_parts _ _ p).0 in
-      let x_high : a < high x = ltb-true _ _ (and_parts _ _ p).1 in
-      let y_low : low y ≤ a = leb-true _ _ (and_parts _ _ q).0 in
-      let y_high : a < high y = ltb-true _ _ (and_parts _ _ q).1 in
+      let x_low : low x ≤ a = leb-true (low x) a (and_parts _ _ p).0 in
+      let x_high : a < high x = ltb-true a (high x) (and_parts _ _ p).1 in
+      let y_low : low y ≤ a = leb-true (low y) a (and_parts _ _ q).0 in
+      let y_high : a < high y = ltb-true a (high y) (and_parts _ _ q).1 in
       and_from _ _ (lt-ltb (low x) (high y) (omega arith)) (lt-ltb (low y) (high x) (omega arith))
 
   -- where x shares with none of them, none of them holds an address of x
@@ -92,7 +92,7 @@ module _ {X : Type 0} (low high : X → ℕ) where
             true_from_ne_false (any_pair share ys) (λ none. let one = at_most_one ys none two.0 in omega (arith, two.1, one, same two.0)) ∙ sym some
         | inr none ↦
             false_from_ne_true (any_pair share ys) (λ some. let two = two_somewhere ys (All-permutation IsThere xs ys moved all) some in
-              let one = at_most_one xs none two.0 in omega (arith, two.1, one, same two.0)) ∙ sym none
+            let one = at_most_one xs none two.0 in omega (arith, two.1, one, same two.0)) ∙ sym none
       ]
 
   -- two that share, one after the other
@@ -109,17 +109,17 @@ module _ {X : Type 0} (low high : X → ℕ) where
       let next = all (k + 1) d within in
       let order = up k (k + 1) d (omega arith) within in
       any_pair_at xs k (k + 1) d (omega arith) within
-        (and_from _ _ (lt-ltb (low (get_or xs k d)) (high (get_or xs (k + 1) d)) (omega (arith, next, order))) (lt-ltb (low (get_or xs (k + 1) d)) (high (get_or xs k d)) meets))
+      (and_from _ _ (lt-ltb (low (get_or xs k d)) (high (get_or xs (k + 1) d)) (omega (arith, next, order))) (lt-ltb (low (get_or xs (k + 1) d)) (high (get_or xs k d)) meets))
 
   -- in order, those that each end before the next share nothing
   pub neighbours_apart : (xs : List X) → IsNonDecreasingBy low xs → AllAdjacentBelow (λ x y. high x ≤ low y) xs (length xs) → any_pair share xs ≡ false
   neighbours_apart [] up apart = refl
   neighbours_apart (x ∷ xs) up apart =
       let later : (k : ℕ) (d : X) → k < length xs → high x ≤ low (get_or xs k d) =
-          λ k d within. let next = apart 0 d (omega arith) in let order = up 1 (suc k) d (omega arith) (omega arith) in omega (arith, next, order) in
+      λ k d within. let next = apart 0 d (omega arith) in let order = up 1 (suc k) d (omega arith) (omega arith) in omega (arith, next, order) in
       let first : list_any (share x) xs ≡ false = list_any_none (share x) xs (λ k d within. and_right _ _ (le-ltb (low (get_or xs k d)) (high x) (later k d within))) in
       let rest : any_pair share xs ≡ false = neighbours_apart xs (λ i j d p q. up (suc i) (suc j) d (omega arith) (omega arith)) (λ k d q. let e : suc k + 1 ≡ suc (k + 1) = omega arith in
-          subst (λ (n : ℕ). high (get_or xs k d) ≤ low (get_or (x ∷ xs) n d)) e (apart (suc k) d (omega arith))) in
+      subst (λ (n : ℕ). high (get_or xs k d) ≤ low (get_or (x ∷ xs) n d)) e (apart (suc k) d (omega arith))) in
       or_from (list_any (share x) xs) (any_pair share xs) first rest
 
 -- the ends of a span
@@ -148,3 +148,22 @@ spans_there (r ∷ rs) h =
     let parts = or_parts (is_empty_range r) (list_any is_empty_range rs) h in
     let some : r.size ≡ 0 → ⊥ = eqb-false r.size 0 parts.0 in
     All-cons HasAddress (span_of r) (map span_of rs) (omega arith) (spans_there rs parts.1)
+
+-- the base of a range
+abbrev base_of : Range → ℕ
+base_of range = range.base
+
+ranges_there : (ranges : List Range) → list_any is_empty_range ranges ≡ false → All (IsThere base_of end_of) ranges
+ranges_there [] h = λ k d within. absurd (omega arith)
+ranges_there (r ∷ rs) h =
+    let parts = or_parts (is_empty_range r) (list_any is_empty_range rs) h in
+    let some : r.size ≡ 0 → ⊥ = eqb-false r.size 0 parts.0 in
+    All-cons (IsThere base_of end_of) r rs (omega arith) (ranges_there rs parts.1)
+
+pub apart_everywhere : (ranges : List Range) → list_any is_empty_range ranges ≡ false
+    → (any_pair share_address ranges ≡ false) ↔ ((a : ℕ) → count_by (holds_address a) ranges ≤ 1)
+apart_everywhere ranges some = (
+  at_most_one base_of end_of ranges,
+  λ one. false_from_ne_true (any_pair share_address ranges) (λ meets.
+      let two = two_somewhere base_of end_of ranges (ranges_there ranges some) meets in omega (arith, two.1, one two.0)),
+)

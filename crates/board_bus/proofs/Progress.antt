@@ -34,7 +34,7 @@ pub reads_more : (cells : CellMap) (before out : List ℕ) (base address step co
     → left ≡ suc rest → read_word cells address ≡ Ok word → ReadsOn cells before (out ++ word ∷ []) base (address + step) step count rest
 reads_more cells before out base address step count left rest word on more is = record {
   words = append_assoc out (word ∷ []) _ ∙ ap (λ (ws : List ℕ). out ++ ws) (sym (words-read cells address step left rest more word is)) ∙ on.words;
-  code = sym (code-read cells address step left rest more word is) ∙ on.code
+  code = sym (code-read cells address step left rest more word is) ∙ on.code;
 }
 
 -- the room that is left for a word that was read
@@ -42,7 +42,7 @@ pub reads_fit : (cells : CellMap) (before out : List ℕ) (base address step cou
     → left ≡ suc rest → read_word cells address ≡ Ok word → length out < length before + length (words_read cells (addresses base step count))
 reads_fit cells before out base address step count left rest word on more is =
     let e : out ++ (word ∷ words_read cells (addresses (address + step) step rest)) ≡ before ++ words_read cells (addresses base step count) =
-        ap (λ (ws : List ℕ). out ++ ws) (sym (words-read cells address step left rest more word is)) ∙ on.words in
+    ap (λ (ws : List ℕ). out ++ ws) (sym (words-read cells address step left rest more word is)) ∙ on.words in
     omega (arith, ap length e, length-append out (word ∷ words_read cells (addresses (address + step) step rest)), length-append before (words_read cells (addresses base step count)))
 
 pub reads_end : (cells : CellMap) (before out : List ℕ) (base address step count left : ℕ) → ReadsOn cells before out base address step count left → left ≡ 0
@@ -53,9 +53,10 @@ reads_end cells before out base address step count left on none =
 pub reads_stop : (cells : CellMap) (before out : List ℕ) (base address step count left rest : ℕ) (fault : BusFault) → ReadsOn cells before out base address step count left
     → left ≡ suc rest → read_word cells address ≡ Err fault
     → (out ≡ before ++ words_read cells (addresses base step count)) × (fault_code fault ≡ code_of_reading cells (addresses base step count))
-reads_stop cells before out base address step count left rest fault on more is =
-    (sym (append-nil out) ∙ ap (λ (ws : List ℕ). out ++ ws) (sym (words-refused cells address step left rest more fault is)) ∙ on.words,
-      sym (code-refused cells address step left rest more fault is) ∙ on.code)
+reads_stop cells before out base address step count left rest fault on more is = (
+  sym (append-nil out) ∙ ap (λ (ws : List ℕ). out ++ ws) (sym (words-refused cells address step left rest more fault is)) ∙ on.words,
+  sym (code-refused cells address step left rest more fault is) ∙ on.code,
+)
 
 -- how far a loop that reads has come: the room did not shrink, and the address is as far as the words read
 pub record ReadingLoop (cells : CellMap) (before out : List ℕ) (room_before room_now base address step count done : ℕ) : Type 0 where

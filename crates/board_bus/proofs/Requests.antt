@@ -57,7 +57,7 @@ pub run_body-request : (cells : CellMap) (word : ℕ) (after : List ℕ) (reques
 run_body-request cells word after request rest is =
     ap (λ (r : Result (Request × List ℕ) Why). run_first cells word r (run_requests (length after))) is
     ∙ run_on_alike (transact cells request) (run_requests (length after) rest) (λ left. run_body left rest)
-        (run_alike (length after) (length rest) rest (transact cells request).cells (rest_shorter word after (request, rest) is) (omega arith))
+    (run_alike (length after) (length rest) rest (transact cells request).cells (rest_shorter word after (request, rest) is) (omega arith))
 
 pub run_body-fault : (cells : CellMap) (word : ℕ) (after : List ℕ) (why : Why) → request_at (word ∷ after) ≡ Err why
     → run_body cells (word ∷ after) ≡ record { cells = cells; reply = reply_words (bad_header_reply word) }
@@ -66,7 +66,7 @@ run_body-fault cells word after why is = ap (λ (r : Result (Request × List ℕ
 run_on-reply : (first : Transacted) (later : CellMap → Executed) → length (reply_words first.reply) ≤ length (run_on first later).reply
 run_on-reply first later =
     elim (eqb first.reply.code SUCCESS) as (λ b. length (reply_words first.reply)
-        ≤ length (cond b (after_reply (reply_words first.reply) (later first.cells)) (record { cells = first.cells; reply = reply_words first.reply })).reply) [
+    ≤ length (cond b (after_reply (reply_words first.reply) (later first.cells)) (record { cells = first.cells; reply = reply_words first.reply })).reply) [
       | true ↦ omega (arith, length-append (reply_words first.reply) (later first.cells).reply)
       | false ↦ omega arith
     ]
@@ -101,12 +101,12 @@ pub runs_more : (cells_before cells : CellMap) (before out : List ℕ) (room_bef
     → RunsOn cells_before (transact cells request).cells before (out ++ reply_words (transact cells request).reply) room_before room_later body rest
 runs_more cells_before cells before out room_before room_now room_later body left request rest on some is success room =
     let step : run_body cells left ≡ after_reply (reply_words (transact cells request).reply) (run_body (transact cells request).cells rest) =
-        run_body-success cells left request rest some is success in
+    run_body-success cells left request rest some is success in
     record {
       bus = sym (ap (λ (e : Executed). e.cells) step) ∙ on.bus;
       reply = append_assoc out (reply_words (transact cells request).reply) (run_body (transact cells request).cells rest).reply
           ∙ sym (ap (λ (e : Executed). out ++ e.reply) step) ∙ on.reply;
-      room = omega (arith, on.room)
+      room = omega (arith, on.room);
     }
 
 -- what is still to be answered fits

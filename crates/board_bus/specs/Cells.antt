@@ -1,8 +1,9 @@
 -- The bus as contracts see it: the cells that are there, each with a kind and a word.
-use Rattle.std.specs.Prelude.{ℕ, ◌^◌, nat_lt, if◌then◌else◌, List, [], ◌∷◌, ◌++◌, map, Option, Some, None, Result, Ok, Err}
+use Rattle.std.specs.Prelude.{ℕ, ◌^◌, nat_lt, if◌then◌else◌, List, [], ◌∷◌, ◌++◌, map, Option, Some, None, IfSome, Result, Ok, Err}
 use Rattle.std.specs.Ordering.{nat_cmp}
 use Rattle.std.specs.List.{enumerate_from}
 use Rattle.std.specs.FinMap.Entries.{find, put}
+use Rattle.ipb_base.specs.Word.{IsWord}
 use Rattle.board_bus.specs.declared.kind.RangeKind.{RangeKind}
 use Rattle.board_bus.specs.declared.kind.RangeKind.TheVariants.{Rw, Ro, Wo, Slow}
 use Rattle.board_bus.specs.declared.fault.BusFault.{BusFault}
@@ -56,6 +57,10 @@ write_cell cells address word (Some cell) = unless (write_fault cell.kind) (put 
 
 abbrev pub write_word : CellMap → ℕ → ℕ → Result CellMap BusFault
 write_word cells address word = write_cell cells address word (cell_at cells address)
+
+-- every word on the bus has 32 bits
+abbrev pub HoldsWords : CellMap → Type 0
+HoldsWords cells = (address : ℕ) → IfSome (cell_at cells address) (λ cell. IsWord cell.word)
 
 -- the map of a list of entries in any order; at an address that stands twice, the first one counts
 abbrev pub cell_map : List (ℕ × Cell) → CellMap

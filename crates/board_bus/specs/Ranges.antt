@@ -1,5 +1,5 @@
 -- Lists of ranges: which are refused, and the bus that the others open.
-use Rattle.std.specs.Prelude.{ℕ, ◌+◌, ◌-◌, ◌^◌, ◌==◌, ◌&&◌, ◌||◌, nat_lt, Bool, false, if◌then◌else◌, List, [], ◌∷◌, ◌++◌, length, sum_by, replicate, Option, Some, None}
+use Rattle.std.specs.Prelude.{ℕ, ◌+◌, ◌-◌, ◌^◌, ◌<◌, ◌≤◌, ◌⊎◌, nat_le, ◌==◌, ◌&&◌, ◌||◌, nat_lt, Bool, false, if◌then◌else◌, List, [], ◌∷◌, ◌++◌, length, sum_by, replicate, Option, Some, None}
 use Rattle.std.specs.List.{list_any, flat_map}
 use Rattle.board_bus.specs.declared.range.Range.{Range}
 use Rattle.board_bus.specs.declared.range.BusRefusal.{BusRefusal}
@@ -49,3 +49,11 @@ range_cells range = cells_from range.base range.kind (opening_words range)
 -- the bus that a list of ranges opens with
 abbrev pub opening_bus : List Range → CellMap
 opening_bus ranges = cell_map (flat_map range_cells ranges)
+
+-- a range holds the addresses from its base to the one before its end
+abbrev pub holds_address : ℕ → Range → Bool
+holds_address address range = nat_le range.base address && nat_lt address (end_of range)
+
+-- an address that a range does not hold
+abbrev pub IsOutside : ℕ → Range → Type 0
+IsOutside address range = (address < range.base) ⊎ (end_of range ≤ address)

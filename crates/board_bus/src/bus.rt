@@ -48,6 +48,15 @@ impl Bus {
         })
     }
 
+    /// The same bus in memory of its own.
+    pub fn copy(&self, alloc: Global) -> Result<Bus, NoMemory>
+        ensures { IfOk result (λ copied. copied ≡ self.now) }
+    {
+        Ok(Bus {
+            blocks: copies_of(alloc, &self.blocks)?,
+        })
+    }
+
     /// The word at an address. Code 4 where it is absent or write-only, 6 where it is slow.
     pub fn read(&self, address: u32) -> Result<u32, BusFault>
         ensures { result ≡ read_word self.now address }
@@ -105,6 +114,18 @@ impl Block {
         })
     }
 
+    fn copy(&self, alloc: Global) -> Result<Block, NoMemory>
+        ensures base { IfOk result (λ copied. copied.base ≡ self.now.base) }
+        ensures kind { IfOk result (λ copied. copied.kind ≡ self.now.kind) }
+        ensures words { IfOk result (λ copied. copied.words.items ≡ self.now.words.items) }
+    {
+        Ok(Block {
+            base: self.base,
+            kind: self.kind,
+            words: Vec::from_slice(alloc, &self.words)?,
+        })
+    }
+
     fn holds(&self, address: u32) -> bool
         ensures { result ≡ holds self.now address }
     {
@@ -120,4 +141,14 @@ fn blocks_of(alloc: Global, ranges: &[Range]) -> Result<Vec<Block>, NoMemory>
         blocks.push(Block::open(alloc, range)?)?;
     }
     Ok(blocks)
+}
+
+fn copies_of(alloc: Global, blocks: &[Block]) -> Result<Vec<Block>, NoMemory>
+    ensures { IfOk result (λ copies. flat_map block_cells copies.items ≡ flat_map block_cells blocks.now) }
+{
+    let mut copies = Vec::with_capacity(alloc, blocks.len())?;
+    for block in blocks {
+        copies.push(block.copy(alloc)?)?;
+    }
+    Ok(copies)
 }

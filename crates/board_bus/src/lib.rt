@@ -2,6 +2,7 @@
 #![tactic(auto)]
 
 mod bus;
+pub mod examples;
 mod execute;
 mod fault;
 mod kind;
@@ -15,3 +16,6 @@ pub use fault::BusFault;
 pub use ipb_base::{NoMemory, Words};
 pub use kind::RangeKind;
 pub use range::{BusRefusal, MAX_WORDS, Range, check_ranges};
+
+#[cfg(test)]
+mod tests;

@@ -102,9 +102,7 @@ fn any_empty(ranges: &[Range]) -> bool
 fn any_past_end(ranges: &[Range]) -> bool
     ensures { result ≡ list_any is_past_end ranges.now }
 {
-    ranges
-        .iter()
-        .any(|range| u64::from(range.base) + u64::from(range.size) > ADDRESSES)
+    ranges.iter().any(|range| u64::from(range.base) + u64::from(range.size) > ADDRESSES)
 }
 
 /// Whether a range starts with more words than it has addresses.

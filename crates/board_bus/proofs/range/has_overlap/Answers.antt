@@ -11,7 +11,6 @@ use Rattle.board_bus.specs.Spans.{span_of, SomeMeetsNext, NoneMeetsNext}
 use Rattle.board_bus.proofs.Overlaps.{share, HasAddress, from, until, any_pair-IsPermutation, any_pair-spans, spans_there, neighbours_share, neighbours_apart}
 use Rattle.board_bus.proofs.range.has_overlap.Goals as goal
 
-
 -- the answer, from spans in order
 found_is : (ranges : List Range) (spans sorted : List Span) (found : Bool) → list_any is_empty_range ranges ≡ false → spans ≡ map span_of ranges → IsPermutation spans sorted
     → IsNonDecreasingBy from sorted → MatchBool found (SomeMeetsNext sorted) (NoneMeetsNext sorted) → found ≡ any_pair share_address ranges
@@ -27,5 +26,5 @@ found_is ranges spans sorted false some is moved up apart =
 pub returns : goal.returns
 returns c =
     let up : IsNonDecreasingBy from c.sort_unstable_by_key.new.self.items =
-        IsNonDecreasingBy-from_sort_by_key from _ c.sort_unstable_by_key.ensures.sorted (λ a r q k. search rules) in
+    IsNonDecreasingBy-from_sort_by_key from _ c.sort_unstable_by_key.ensures.sorted (λ a r q k. search rules) in
     found_is c.args.ranges.now c.in_ok-spans.spans.items c.sort_unstable_by_key.new.self.items c.any_meets_next.result c.requires c.in_ok-spans.ensures c.sort_unstable_by_key.ensures.permutation up (rw (← c.deref.ensures.value) c.any_meets_next.ensures)

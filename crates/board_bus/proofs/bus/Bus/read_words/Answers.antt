@@ -29,5 +29,5 @@ loop-done-preserved c =
     record {
       on = rw c.push_within.ensures.items (reads_more _ _ _ _ _ _ _ _ _ _ c.loop-done.invariant.on more is);
       room = omega (arith, c.loop-done.invariant.room, c.push_within.ensures.capacity);
-      near = omega (arith, c.loop-done.invariant.near)
+      near = omega (arith, c.loop-done.invariant.near);
     }
