@@ -57,7 +57,7 @@ module _ (cells : CellMap) (request : Request) (holds : HoldsWords cells) (is : 
   failed_is : OpFailed request.op (transact cells request).reply.code (transact cells request).reply.count (length (transact cells request).reply.values) → IsFailed request (transact cells request).reply
   failed_is failed = record { tid = refl; kind = refl; fault = failed.fault }
 
-first_request_is : (cells : CellMap) (request : Request) (requests : List Request) (rest : List ℕ) → IsRequest request
+pub first_request_is : (cells : CellMap) (request : Request) (requests : List Request) (rest : List ℕ) → IsRequest request
     → run_body cells (requests_words (request ∷ requests) ++ rest) ≡ run_on (transact cells request) (λ left. run_body left (requests_words requests ++ rest))
 first_request_is cells request requests rest is =
     ap (run_body cells) (append_assoc (request_words request) (requests_words requests) rest)

@@ -8,3 +8,4 @@ pub mod WordsKept
 pub mod Answered
 pub mod Openings
 pub mod Bodies
+pub mod Untouched

@@ -28,10 +28,10 @@ module _ {X : Type 0} (low high : X → ℕ) where
 
   in_both : (a : ℕ) (x y : X) → is_in a x ≡ true → is_in a y ≡ true → share x y ≡ true
   in_both a x y p q =
-      let x_low : low x ≤ a = leb-true (low x) a (and_parts _ _ p).0 in
-      let x_high : a < high x = ltb-true a (high x) (and_parts _ _ p).1 in
-      let y_low : low y ≤ a = leb-true (low y) a (and_parts _ _ q).0 in
-      let y_high : a < high y = ltb-true a (high y) (and_parts _ _ q).1 in
+      let x_low : low x ≤ a = leb-true (low x) a (and_parts (leb (low x) a) (ltb a (high x)) p).0 in
+      let x_high : a < high x = ltb-true a (high x) (and_parts (leb (low x) a) (ltb a (high x)) p).1 in
+      let y_low : low y ≤ a = leb-true (low y) a (and_parts (leb (low y) a) (ltb a (high y)) q).0 in
+      let y_high : a < high y = ltb-true a (high y) (and_parts (leb (low y) a) (ltb a (high y)) q).1 in
       and_from _ _ (lt-ltb (low x) (high y) (omega arith)) (lt-ltb (low y) (high x) (omega arith))
 
   -- where x shares with none of them, none of them holds an address of x

@@ -115,3 +115,12 @@ transact cells request =
       cells = done.cells;
       reply = record { tid = request.tid; kind = op_kind request.op; count = done.count; code = done.code; values = done.values };
     }
+
+-- the addresses that an operation writes, up to the first that is refused
+abbrev pub written_by : Op → List ℕ
+written_by (Read base count) = []
+written_by (ReadPort base count) = []
+written_by (Write base words) = addresses base 1 (length words)
+written_by (WritePort base words) = addresses base 0 (length words)
+written_by (RmwBits base and_term or_term) = base ∷ []
+written_by (RmwSum base addend) = base ∷ []

@@ -1,6 +1,6 @@
 //! Laws of the definitions. These functions do nothing when they run: their clauses are what is proved.
 
-ghost use Rattle.std.specs.Prelude.{◌≡◌, ◌≤◌, ◌+◌, ◌<◌, ◌⊎◌, ◌++◌, ◌↔◌, ℕ, false, [], ◌∷◌, List, length, slice_index, Ok, None, Some, IsErr};
+ghost use Rattle.std.specs.Prelude.{◌≡◌, ◌≢◌, ◌≤◌, ◌+◌, ◌<◌, ◌⊎◌, ◌++◌, ◌↔◌, ℕ, false, [], ◌∷◌, List, length, slice_index, Ok, None, Some, IsErr};
 ghost use Rattle.std.specs.List.{AllByRecursion, count_by, list_any};
 ghost use Rattle.ipb_base.specs.Word.{AreWords};
 ghost use Rattle.transaction_codec.specs.declared.request.Op.TheVariants.{Read, ReadPort};
@@ -10,7 +10,7 @@ ghost use Rattle.transaction_codec.specs.Answer.{CanAnswer, IsReplyTo, reply_roo
 ghost use Rattle.board_bus.specs.declared.range.Range.{Range};
 ghost use Rattle.board_bus.specs.Cells.{Cell, CellMap, HoldsWords, cell_at, write_word};
 ghost use Rattle.board_bus.specs.Ranges.{IsOutside, any_pair, holds_address, is_empty_range, opening_bus, refusal_of, share_address};
-ghost use Rattle.board_bus.specs.Transactions.{transact};
+ghost use Rattle.board_bus.specs.Transactions.{transact, written_by};
 ghost use Rattle.board_bus.specs.Bodies.{replay, run_body, run_on};
 
 /// Of ranges that are not empty two share an address exactly where some address is in two of them.
@@ -50,6 +50,13 @@ pub fn reads_leave_the_bus()
 pub fn a_body_is_executed_in_order()
     ensures { (cells : CellMap) (request : Request) (rest : List ℕ) → IsRequest request →
         run_body cells (request_words request ++ rest) ≡ run_on (transact cells request) (λ left. run_body left rest) }
+{}
+
+/// What an address holds after a body depends on the writes to it alone: where no request writes there, it holds what it held.
+pub fn a_body_changes_what_it_writes()
+    ensures { (cells : CellMap) (requests : List Request) (address : ℕ) → AreRequests requests →
+        AllByRecursion (λ request. AllByRecursion (λ written. written ≢ address) (written_by request.op)) requests →
+        cell_at (run_body cells (requests_words requests)).cells address ≡ cell_at cells address }
 {}
 
 /// The reply to requests is a reply to them in the sense of the transaction grammar. With a bad header after them it is still
