@@ -14,7 +14,7 @@ use Rattle.transaction_codec.specs.Header.{header, version_of, tid_of, count_of,
 use Rattle.transaction_codec.specs.Reply.{IsBusFault, Carries, HasForm, IsReply, is_reply_code, is_wrong_count, values_after, BreaksReply, reply_words, reply_at}
 use Rattle.transaction_codec.specs.Listing.{IsFirstRule}
 use Rattle.transaction_codec.proofs.Fields.{header-fields, HasFields, fields-header}
-use Rattle.transaction_codec.proofs.Steps.{test_of, Says, first_test, first_rule, passed, read, read_is, not-false, AreWords-take}
+use Rattle.transaction_codec.proofs.Steps.{test_of, Says, first_test, first_rule, no_test, passed, read, read_is, not-false, AreWords-take}
 
 -- the rules on a header's type, info code and words field, as tests
 abbrev is_wrong_kind : ℕ → ℕ → Bool
@@ -135,6 +135,11 @@ unfolding reply_at
 reply_refuses [] why some e = absurd (omega arith)
 reply_refuses (word ∷ after) why some e =
     first_rule BreaksReply word after _ _ _ _ _ why (says_reply word after) (first_test _ _ _ _ _ _ why e)
+
+-- what is read breaks no rule
+pub reply_keeps_rules : (word : ℕ) (after : List ℕ) (x : Reply × List ℕ) (why : Why) → reply_at (word ∷ after) ≡ Ok x → BreaksReply why word after → ⊥
+unfolding reply_at
+reply_keeps_rules word after x why e broken = (says_reply word after why).not_so (no_test _ _ _ _ _ _ x e why) broken
 
 pub is_found : (words : List ℕ) (r : Result FirstReply Why) → AreWords words
     → MatchResult r (λ first. reply_at words ≡ Ok (reply_of first, first.rest.now)) (λ why. reply_at words ≡ Err why)

@@ -16,7 +16,7 @@ use Rattle.transaction_codec.specs.declared.first.FirstRequest.{FirstRequest}
 use Rattle.transaction_codec.specs.First.{request_of}
 use Rattle.transaction_codec.specs.Listing.{IsFirstRule}
 use Rattle.transaction_codec.proofs.Fields.{header-fields, HasFields, fields-header}
-use Rattle.transaction_codec.proofs.Steps.{test_of, Says, first_test, first_rule, passed, read, read_is, not-false, AreWords-take, take-front, drop-front}
+use Rattle.transaction_codec.proofs.Steps.{test_of, Says, first_test, first_rule, no_test, passed, read, read_is, not-false, AreWords-take, take-front, drop-front}
 
 -- what a header asks has its type and words field, and the words after it
 record IsAsked (op : Op) (kind count : ℕ) (words : List ℕ) : Type 0 where
@@ -85,6 +85,11 @@ unfolding request_at
 request_refuses [] why some e = absurd (omega arith)
 request_refuses (word ∷ after) why some e =
     first_rule BreaksRequest word after _ _ _ _ _ why (says_request word after) (first_test _ _ _ _ _ _ why e)
+
+-- what is read breaks no rule
+pub request_keeps_rules : (word : ℕ) (after : List ℕ) (x : Request × List ℕ) (why : Why) → request_at (word ∷ after) ≡ Ok x → BreaksRequest why word after → ⊥
+unfolding request_at
+request_keeps_rules word after x why e broken = (says_request word after why).not_so (no_test _ _ _ _ _ _ x e why) broken
 
 pub is_found : (words : List ℕ) (r : Result FirstRequest Why) → AreWords words
     → MatchResult r (λ first. request_at words ≡ Ok (request_of first, first.rest.now)) (λ why. request_at words ≡ Err why)

@@ -76,6 +76,19 @@ first_test {A = A} false false false true e x why h = subst (IsFirstTest false f
 first_test {A = A} false false false false true x why h = subst (IsFirstTest false false false false true) (rule_is A Short why h) (record { broken = refl; earlier = before_short true })
 first_test {A = A} false false false false false x why h = absurd cc
 
+-- where all is read, no test is true
+pub no_test : {A : Type 0} (a b c d e : Bool) (x y : A) → by_tests a b c d e x ≡ Ok y → (rule : Why) → test_of a b c d e rule ≡ false
+no_test true b c d e x y h rule = absurd cc
+no_test false true c d e x y h rule = absurd cc
+no_test false false true d e x y h rule = absurd cc
+no_test false false false true e x y h rule = absurd cc
+no_test false false false false true x y h rule = absurd cc
+no_test false false false false false x y h Version = refl
+no_test false false false false false x y h Kind = refl
+no_test false false false false false x y h Code = refl
+no_test false false false false false x y h Count = refl
+no_test false false false false false x y h Short = refl
+
 -- each test says whether its rule is broken
 pub record Says (test : Bool) (Broken : Type 0) : Type 0 where
   pub yes : test ≡ true → Broken

@@ -1,7 +1,7 @@
 ghost use Rattle.std.specs.Prelude.{◌≡◌, ◌≤◌, ◌<◌, ◌++◌, length, Ok, Err, IfOk, MatchResult};
-ghost use Rattle.transaction_codec.specs.Header;
-ghost use Rattle.transaction_codec.specs.Request;
-ghost use Rattle.transaction_codec.specs.Reply;
+ghost use Rattle.transaction_codec.specs.Header as of_header;
+ghost use Rattle.transaction_codec.specs.Request as of_request;
+ghost use Rattle.transaction_codec.specs.Reply as of_reply;
 ghost use Rattle.transaction_codec.specs.Request.{request_at, asked, IsRequest, request_words};
 ghost use Rattle.transaction_codec.specs.Reply.{reply_at, IsReply, reply_words};
 ghost use Rattle.transaction_codec.specs.First.{op_of, request_of, reply_of};
@@ -9,7 +9,8 @@ ghost use Rattle.transaction_codec.specs.First.{op_of, request_of, reply_of};
 use crate::header_word::{VERSION, code_of, count_of, kind_of, tid_of, version_of};
 use crate::info_code::{BAD_HEADER, READ_ERROR, REQUEST, SUCCESS, WRITE_TIMEOUT};
 use crate::refusal::Why;
-use crate::request::Op;
+use crate::reply::Reply;
+use crate::request::{Op, Request};
 use crate::transaction_type::{READ, READ_PORT, RMW_BITS, RMW_SUM, WRITE, WRITE_PORT};
 use ipb_base::{NoMemory, Words};
 use std::alloc::Global;
@@ -93,20 +94,47 @@ impl OpRef<'_> {
     }
 }
 
+impl FirstRequest<'_> {
+    /// The same request with its words in memory of its own.
+    pub fn to_request(&self, alloc: Global) -> Result<Request, NoMemory>
+        ensures { IfOk result (λ request. request ≡ request_of self.now) }
+    {
+        Ok(Request {
+            tid: self.tid,
+            op: self.op.to_op(alloc)?,
+        })
+    }
+}
+
+impl FirstReply<'_> {
+    /// The same reply with its words in memory of its own.
+    pub fn to_reply(&self, alloc: Global) -> Result<Reply, NoMemory>
+        ensures { IfOk result (λ reply. reply ≡ reply_of self.now) }
+    {
+        Ok(Reply {
+            tid: self.tid,
+            kind: self.kind,
+            count: self.count,
+            code: self.code,
+            values: Words::from_vec(self.values.to_vec(alloc)?),
+        })
+    }
+}
+
 fn is_write(kind: u8) -> bool
-    ensures { result ≡ Header.is_write kind }
+    ensures { result ≡ of_header.is_write kind }
 {
     kind == WRITE || kind == WRITE_PORT
 }
 
 fn is_rmw(kind: u8) -> bool
-    ensures { result ≡ Header.is_rmw kind }
+    ensures { result ≡ of_header.is_rmw kind }
 {
     kind == RMW_BITS || kind == RMW_SUM
 }
 
 fn words_after(kind: u8, count: u8) -> usize
-    ensures { result ≡ Request.words_after kind count }
+    ensures { result ≡ of_request.words_after kind count }
 {
     match kind {
         WRITE | WRITE_PORT => 1 + count as usize,
@@ -119,7 +147,7 @@ fn words_after(kind: u8, count: u8) -> usize
 /// What a header of this type and words field asks with the words after it.
 fn op_at(kind: u8, count: u8, after: &[u32]) -> OpRef<'_>
     requires known { kind ≤ RMW_SUM }
-    requires whole { Request.words_after kind count ≤ length after.now }
+    requires whole { of_request.words_after kind count ≤ length after.now }
     ensures { op_of result ≡ asked kind count after.now }
 {
     let base = after[0];
@@ -164,6 +192,7 @@ pub fn first_request(words: &[u32]) -> Result<FirstRequest<'_>, Why>
     request_by_rules(words)
 }
 
+/// The rules on a request's header, in their order.
 #[tactic(auto, unfolding(crate::specs::Request::request_at))]
 fn request_by_rules(words: &[u32]) -> Result<FirstRequest<'_>, Why>
     ensures { MatchResult result
@@ -199,13 +228,13 @@ fn request_by_rules(words: &[u32]) -> Result<FirstRequest<'_>, Why>
 }
 
 fn is_reply_code(code: u8) -> bool
-    ensures { result ≡ Reply.is_reply_code code }
+    ensures { result ≡ of_reply.is_reply_code code }
 {
     code == SUCCESS || code == BAD_HEADER || (READ_ERROR <= code && code <= WRITE_TIMEOUT)
 }
 
 fn is_wrong_count(kind: u8, code: u8, count: u8) -> bool
-    ensures { result ≡ Reply.is_wrong_count kind code count }
+    ensures { result ≡ of_reply.is_wrong_count kind code count }
 {
     if code == BAD_HEADER && count != 0 {
         return true;
@@ -214,7 +243,7 @@ fn is_wrong_count(kind: u8, code: u8, count: u8) -> bool
 }
 
 fn values_after(kind: u8, count: u8) -> usize
-    ensures { result ≡ Reply.values_after kind count }
+    ensures { result ≡ of_reply.values_after kind count }
 {
     if is_write(kind) { 0 } else { count as usize }
 }
@@ -231,6 +260,7 @@ pub fn first_reply(words: &[u32]) -> Result<FirstReply<'_>, Why>
     reply_by_rules(words)
 }
 
+/// The rules on a reply's header, in their order.
 #[tactic(auto, unfolding(crate::specs::Reply::reply_at))]
 fn reply_by_rules(words: &[u32]) -> Result<FirstReply<'_>, Why>
     ensures { MatchResult result
@@ -255,8 +285,8 @@ fn reply_by_rules(words: &[u32]) -> Result<FirstReply<'_>, Why>
     if is_wrong_count(kind, code, count) {
         return Err(Why::Count);
     }
-    let len = values_after(kind, count);
-    if after.len() < len {
+    let carried = values_after(kind, count);
+    if after.len() < carried {
         return Err(Why::Short);
     }
     Ok(FirstReply {
@@ -264,7 +294,7 @@ fn reply_by_rules(words: &[u32]) -> Result<FirstReply<'_>, Why>
         kind,
         count,
         code,
-        values: &after[..len],
-        rest: &after[len..],
+        values: &after[..carried],
+        rest: &after[carried..],
     })
 }

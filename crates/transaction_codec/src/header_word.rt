@@ -1,13 +1,13 @@
-ghost use Rattle.std.specs.Prelude.{◌≡◌, ◌<◌, ◌^◌};
+ghost use Rattle.std.specs.Prelude.{◌≡◌, ◌<◌, ◌^◌, ◌∷◌, []};
 ghost use Rattle.transaction_codec.specs.Header as field;
 ghost use Rattle.transaction_codec.specs.Header.{header};
-ghost use Rattle.transaction_codec.specs.declared.info_code.TheConstants.{BAD_HEADER};
-ghost use Rattle.transaction_codec.specs.declared.transaction_type.TheConstants.{READ};
+ghost use Rattle.transaction_codec.specs.Reply.{reply_words};
+ghost use Rattle.transaction_codec.specs.Answer;
 
 use crate::{info_code, transaction_type};
 
 /// The protocol version, bits 31-28 of every header.
-pub const VERSION: u32 = 2;
+pub(crate) const VERSION: u32 = 2;
 
 /// The header of a transaction: its identifier (at most 4095), words, type (of `transaction_type`) and info code (of
 /// `info_code`). IPbus 2.0, transaction header.
@@ -24,7 +24,7 @@ pub fn header(tid: u16, count: u8, kind: u8, code: u8) -> u32
 /// The answer to a bad header: the one word that a board puts there, with that header's transaction identifier, no words,
 /// type 0 and code 1. Profile.
 pub fn bad_header_reply(word: u32) -> u32
-    ensures { result ≡ header (field.tid_of word) 0 READ BAD_HEADER }
+    ensures { reply_words (Answer.bad_header_reply word) ≡ result ∷ [] }
 {
     header(
         tid_of(word),

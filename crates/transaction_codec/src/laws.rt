@@ -54,6 +54,14 @@ pub fn refused_by_the_first_rule()
         IsFirstRule BreaksReply (word ∷ after) why }
 {}
 
+/// The header of a request, and of a reply, breaks no rule. So a header is refused exactly where it breaks one.
+pub fn spellings_break_no_rule()
+    ensures request { (request : Request) (rest after : List ℕ) (word : ℕ) (why : Why) → IsRequest request →
+        request_words request ++ rest ≡ word ∷ after → BreaksRequest why word after → ⊥ }
+    ensures reply { (reply : Reply) (rest after : List ℕ) (word : ℕ) (why : Why) → IsReply reply →
+        reply_words reply ++ rest ≡ word ∷ after → BreaksReply why word after → ⊥ }
+{}
+
 /// A reply to a body is what a board can answer to it, and to a body of requests alone a board can answer nothing else.
 pub fn replies_are_what_boards_answer()
     ensures replies { (body reply : List ℕ) → IsReplyTo body reply → CanAnswer body reply }

@@ -1,4 +1,4 @@
-ghost use Rattle.std.specs.Prelude.{◌≡◌, List, IfOk, IfErr, MatchResult};
+ghost use Rattle.std.specs.Prelude.{◌≡◌, ◌≤◌, ◌-◌, length, List, IfOk, IfErr, MatchResult};
 ghost use Rattle.transaction_codec.specs.declared.request.Request.{Request};
 ghost use Rattle.transaction_codec.specs.declared.reply.Reply.{Reply};
 ghost use Rattle.transaction_codec.specs.Request.{AreRequests, requests_words};
@@ -6,10 +6,9 @@ ghost use Rattle.transaction_codec.specs.Reply.{AreReplies, replies_words};
 ghost use Rattle.transaction_codec.specs.Listing.{IsRequestFault, IsReplyFault};
 
 use crate::first::{first_reply, first_request};
-use crate::refusal::BadWords;
+use crate::refusal::{BadWords, Why};
 use crate::reply::Reply;
 use crate::request::Request;
-use ipb_base::Words;
 use std::alloc::Global;
 
 /// The requests that a body's words are, all of them. No words are no requests. A refusal names the first faulty header and
@@ -21,24 +20,18 @@ pub fn read_requests(alloc: Global, words: &[u32]) -> Result<Vec<Request>, BadWo
         MatchResult result (λ found. found.items ≡ list) (λ bad. bad ≡ BadWords.NoMemory) }
     ensures refused { IfErr result (IsRequestFault words.now) }
 {
-    let mut list = Vec::new(alloc);
+    let mut requests = Vec::new(alloc);
     let mut rest = words;
     while !rest.is_empty() {
         match first_request(rest) {
             Ok(first) => {
-                list.push(Request {
-                    tid: first.tid,
-                    op: first.op.to_op(alloc)?,
-                })?;
+                requests.push(first.to_request(alloc)?)?;
                 rest = first.rest;
             }
-            Err(why) => {
-                let place = (words.len() - rest.len()) as u64;
-                return Err(BadWords::At { place, why });
-            }
+            Err(why) => return Err(fault_at(words, rest, why)),
         }
     }
-    Ok(list)
+    Ok(requests)
 }
 
 /// The replies that a body's words are, all of them. No words are no replies. A refusal names the first faulty header and
@@ -50,25 +43,28 @@ pub fn read_replies(alloc: Global, words: &[u32]) -> Result<Vec<Reply>, BadWords
         MatchResult result (λ found. found.items ≡ list) (λ bad. bad ≡ BadWords.NoMemory) }
     ensures refused { IfErr result (IsReplyFault words.now) }
 {
-    let mut list = Vec::new(alloc);
+    let mut replies = Vec::new(alloc);
     let mut rest = words;
     while !rest.is_empty() {
         match first_reply(rest) {
             Ok(first) => {
-                list.push(Reply {
-                    tid: first.tid,
-                    kind: first.kind,
-                    count: first.count,
-                    code: first.code,
-                    values: Words::from_vec(first.values.to_vec(alloc)?),
-                })?;
+                replies.push(first.to_reply(alloc)?)?;
                 rest = first.rest;
             }
-            Err(why) => {
-                let place = (words.len() - rest.len()) as u64;
-                return Err(BadWords::At { place, why });
-            }
+            Err(why) => return Err(fault_at(words, rest, why)),
         }
     }
-    Ok(list)
+    Ok(replies)
+}
+
+/// The refusal of the header at which the rest of the words begins.
+fn fault_at(words: &[u32], rest: &[u32], why: Why) -> BadWords
+    requires { length rest.now ≤ length words.now }
+    ensures { result ≡ BadWords.At (length words.now - length rest.now) why }
+{
+    let place = words.len() - rest.len();
+    BadWords::At {
+        place: place as u64,
+        why,
+    }
 }

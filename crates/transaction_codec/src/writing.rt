@@ -1,4 +1,4 @@
-ghost use Rattle.std.specs.Prelude.{◌≡◌, ◌++◌, IfOk, OnOk};
+ghost use Rattle.std.specs.Prelude.{◌≡◌, ◌++◌, ◌∷◌, IfOk, OnOk};
 ghost use Rattle.transaction_codec.specs.Request.{IsRequest, AreRequests, request_words, requests_words, op_words};
 ghost use Rattle.transaction_codec.specs.Reply.{IsReply, AreReplies, reply_words, replies_words};
 
@@ -28,37 +28,55 @@ fn put_request(out: &mut Vec<u32>, request: &Request) -> Result<(), NoMemory>
 {
     let tid = request.tid;
     match &request.op {
-        Op::Read { base, count } => {
-            out.push(header(tid, *count as u8, READ, REQUEST))?;
-            out.push(*base)?;
-        }
-        Op::ReadPort { base, count } => {
-            out.push(header(tid, *count as u8, READ_PORT, REQUEST))?;
-            out.push(*base)?;
-        }
+        Op::Read { base, count } => put(out, header(tid, *count as u8, READ, REQUEST), *base, &[]),
+        Op::ReadPort { base, count } => put(
+            out,
+            header(tid, *count as u8, READ_PORT, REQUEST),
+            *base,
+            &[],
+        ),
         Op::Write { base, words } => {
-            out.push(header(tid, words.len() as u8, WRITE, REQUEST))?;
-            out.push(*base)?;
-            out.extend_from_slice(words.as_slice())?;
+            put(
+                out,
+                header(tid, words.len() as u8, WRITE, REQUEST),
+                *base,
+                words.as_slice(),
+            )
         }
         Op::WritePort { base, words } => {
-            out.push(header(tid, words.len() as u8, WRITE_PORT, REQUEST))?;
-            out.push(*base)?;
-            out.extend_from_slice(words.as_slice())?;
+            put(
+                out,
+                header(tid, words.len() as u8, WRITE_PORT, REQUEST),
+                *base,
+                words.as_slice(),
+            )
         }
         Op::RmwBits {
             base,
             and_term,
             or_term,
-        } => {
-            out.push(header(tid, 1, RMW_BITS, REQUEST))?;
-            out.extend_from_slice(&[*base, *and_term, *or_term])?;
-        }
-        Op::RmwSum { base, addend } => {
-            out.push(header(tid, 1, RMW_SUM, REQUEST))?;
-            out.extend_from_slice(&[*base, *addend])?;
-        }
+        } => put(
+            out,
+            header(tid, 1, RMW_BITS, REQUEST),
+            *base,
+            &[*and_term, *or_term],
+        ),
+        Op::RmwSum { base, addend } => put(
+            out,
+            header(tid, 1, RMW_SUM, REQUEST),
+            *base,
+            &[*addend],
+        ),
     }
+}
+
+/// Appends a request: its header, its base address and the words after that.
+fn put(out: &mut Vec<u32>, header: u32, base: u32, words: &[u32]) -> Result<(), NoMemory>
+    ensures { OnOk result (out.new.items ≡ out.old.items ++ header ∷ base ∷ words.now) }
+{
+    out.push(header)?;
+    out.push(base)?;
+    out.extend_from_slice(words)?;
     Ok(())
 }
 
