@@ -1,24 +1,20 @@
 -- The reply to a body is one that a device can give to it.
-use Rattle.std.proofs.Common.{◌≡◌, ℕ, ◌+◌, ◌%◌, ◌^◌, ◌<◌, ◌≤◌, ◌⊎◌, inl, inr, suc, zero, Bool, true, false, cond, eqb, eq-eqb, List, [], ◌∷◌, ◌++◌, length, append_assoc, append-nil, Result, Ok, Err, refl, sym, ap, ◌∙◌, subst, arith, lit<}
+use Rattle.std.proofs.Common.{◌≡◌, ℕ, ◌≤◌, inl, inr, true, cond, eqb, eq-eqb, List, [], ◌∷◌, ◌++◌, length, append_assoc, append-nil, Ok, Err, refl, sym, ap, ◌∙◌, subst, arith, lit<}
 use Rattle.std.specs.Prelude.{IsErr}
-use Rattle.std.specs.List.{AllByRecursion, flat_map}
-use Rattle.ipb_base.specs.Word.{AreWords}
 use Rattle.transaction_codec.specs.declared.request.Request.{Request}
 use Rattle.transaction_codec.specs.declared.reply.Reply.{Reply}
-use Rattle.transaction_codec.specs.declared.refusal.Why.{Why}
 use Rattle.transaction_codec.specs.declared.info_code.TheConstants.{SUCCESS}
-use Rattle.transaction_codec.specs.Header.{tid_of}
-use Rattle.transaction_codec.specs.Request.{op_count, op_words, IsRequest, AreRequests, request_words, requests_words, request_at}
+use Rattle.transaction_codec.specs.Request.{op_count, IsRequest, AreRequests, request_words, requests_words, request_at}
 use Rattle.transaction_codec.specs.Reply.{IsReply, AreReplies, reply_words, replies_words}
 use Rattle.transaction_codec.specs.Answer.{IsDone, IsFailed, Answers, ending_of, bad_header_reply, CanAnswer, IsReplyTo}
 use Rattle.transaction_codec.proofs.Requests.{request_again}
 use Rattle.transaction_codec.proofs.Longest.{answer_is_reply}
 use Rattle.board_bus.specs.Cells.{CellMap, HoldsWords}
-use Rattle.board_bus.specs.Transactions.{transact, outcome}
+use Rattle.board_bus.specs.Transactions.{transact}
 use Rattle.board_bus.specs.Bodies.{Executed, after_reply, run_on, run_body}
 use Rattle.board_bus.proofs.Requests.{run_body-request, run_body-fault}
-use Rattle.board_bus.proofs.Shapes.{shape_of, HasShape, OpDone, OpFailed}
-use Rattle.board_bus.proofs.WordsKept.{outcome-words, KeepsWords}
+use Rattle.board_bus.proofs.Shapes.{shape_of, OpDone, OpFailed}
+use Rattle.board_bus.proofs.WordsKept.{outcome-words}
 
 -- the replies that a body of these requests, and what stands after them, is answered by
 pub record HasReplies (cells : CellMap) (requests : List Request) (rest : List ℕ) : Type 0 where

@@ -1,20 +1,18 @@
 -- Looking addresses up in cells, in the words of one block and in blocks in a row.
-use Rattle.std.proofs.Common.{◌≡◌, ℕ, ◌+◌, ◌-◌, ◌^◌, ◌<◌, ◌≤◌, ◌⊎◌, inl, inr, Bool, true, false, cond, List, [], ◌∷◌, ◌++◌, length, get_or, set, get_or-set_other, get_or-set_same, length-set, Option, Some, None, Result, Ok, Err, refl, sym, ap, ◌∙◌, subst, arith, rules, nat_eq, suc, zero, not, ltb}
+use Rattle.std.proofs.Common.{◌≡◌, ℕ, ◌+◌, ◌-◌, ◌^◌, ◌<◌, ◌≤◌, ◌⊎◌, inl, inr, Bool, true, false, cond, List, [], ◌∷◌, ◌++◌, length, get_or, set, get_or-set_other, get_or-set_same, length-set, Option, Some, None, refl, sym, ap, ◌∙◌, subst, arith, suc, zero, not, ltb}
 use Rattle.std.proofs.Common.{T}
 use Rattle.std.specs.Ordering.{nat_cmp, eq_by_cmp}
 use Rattle.std.specs.Cmp.{nat_cmp_total}
 use Rattle.std.specs.FinMap.{nat_cmp-IsAntisymmetric}
 use Rattle.std.specs.FinMap.Entries.{find, put, is_sorted, find-put, is_sorted-put, same_entries}
-use Rattle.std.specs.List.{flat_map, enumerate_from, position, position_or_len}
+use Rattle.std.specs.List.{flat_map, position, position_or_len}
 use Rattle.std.proofs.lemmas.Bool.Decides.{nat_tests}
 use Rattle.std.proofs.lemmas.Bool.{ltb-true, ltb-false, leb-true, leb-false, and_parts, and_cases, lt-ltb, cases_lt, cases_order}
 use Rattle.std.proofs.lemmas.List.{get_or_default}
 use Rattle.std.proofs.lemmas.List.Quantifiers.{position-Some}
 use Rattle.board_bus.specs.declared.kind.RangeKind.{RangeKind}
 use Rattle.board_bus.specs.declared.bus.Block.{Block}
-use Rattle.board_bus.specs.declared.fault.BusFault.{BusFault}
-use Rattle.board_bus.specs.declared.fault.BusFault.TheVariants.{ReadError}
-use Rattle.board_bus.specs.Cells.{Cell, CellMap, cell_at, cell_map, cells_from, read_fault, read_word, read_cell, unless}
+use Rattle.board_bus.specs.Cells.{Cell, CellMap, cell_at, cell_map, cells_from}
 use Rattle.board_bus.specs.Blocks.{holds, block_cells, cells_of, cell_in}
 
 pub tie_same : (a : ℕ) → eq_by_cmp nat_cmp a a ≡ true

@@ -4,7 +4,7 @@ use Rattle.std.specs.Prelude.{IfSome}
 use Rattle.std.specs.Ordering.{nat_cmp, eq_by_cmp}
 use Rattle.std.specs.FinMap.Entries.{find}
 use Rattle.std.specs.List.{AllByRecursion, flat_map, list_any, sum_by}
-use Rattle.std.proofs.lemmas.Bool.{or_parts, ltb-false, lt-ltb, and_cases, and_parts, cases_lt, le-ltb}
+use Rattle.std.proofs.lemmas.Bool.{or_parts, ltb-false, and_cases, cases_lt}
 use Rattle.std.proofs.lemmas.List.{length-replicate, get_or_append_left, get_or-append_right, get_or-replicate, get_or_past}
 use Rattle.std.proofs.lemmas.List.Folds.{list_any-append}
 use Rattle.std.proofs.lemmas.Grind.{flat_map-append}
@@ -13,7 +13,7 @@ use Rattle.board_bus.specs.declared.kind.RangeKind.{RangeKind}
 use Rattle.board_bus.specs.declared.range.Range.{Range}
 use Rattle.board_bus.specs.declared.range.BusRefusal.{BusRefusal}
 use Rattle.board_bus.specs.declared.range.BusRefusal.TheVariants.{Empty, PastEnd, Overlap, TooLarge, InitLong}
-use Rattle.board_bus.specs.Cells.{Cell, CellMap, HoldsWords, cell_at, cell_map, cells_from}
+use Rattle.board_bus.specs.Cells.{Cell, HoldsWords, cell_at, cells_from}
 use Rattle.board_bus.specs.Ranges.{end_of, is_empty_range, is_past_end, is_init_long, share_address, any_pair, refusal_of, opening_words, range_cells, opening_bus, IsOutside}
 use Rattle.board_bus.proofs.Lookups.{find-cell_map, find-front, find-rest, find-within, find-outside, at_address}
 

@@ -1,13 +1,13 @@
 -- Things that stand on addresses from a low one up to a high one: two of them share an address exactly where an address is in
 -- two of them, and, in order, exactly where two neighbours do.
-use Rattle.std.proofs.Common.{◌≡◌, ℕ, ◌+◌, ◌<◌, ◌≤◌, ◌⊎◌, ◌↔◌, inl, inr, suc, zero, Bool, true, false, cond, ◌&&◌, ◌||◌, ltb, leb, List, [], ◌∷◌, length, get_or, map, refl, sym, ap, ◌∙◌, subst, arith, zero-add}
-use Rattle.std.specs.List.{All, list_any, count_by, sum_by, AllAdjacentBelow}
+use Rattle.std.proofs.Common.{◌≡◌, ℕ, ◌+◌, ◌<◌, ◌≤◌, ◌↔◌, inl, inr, suc, zero, Bool, true, false, cond, ◌&&◌, ◌||◌, ltb, leb, List, [], ◌∷◌, length, get_or, map, refl, sym, ap, ◌∙◌, subst, arith, zero-add}
+use Rattle.std.specs.List.{All, list_any, count_by, AllAdjacentBelow}
 use Rattle.std.specs.List.Sorted.{IsPermutation, IsNonDecreasingBy}
 use Rattle.std.proofs.lemmas.List.Elements.{All-head, All-tail, All-cons}
 use Rattle.std.proofs.lemmas.List.Sorted.{sum_by-IsPermutation, All-permutation}
 use Rattle.std.proofs.lemmas.List.Sums.{sum_by-append}
 use Rattle.std.proofs.lemmas.List.Folds.{list_any_none, list_any_at}
-use Rattle.std.proofs.lemmas.Bool.{or_cases, or_parts, or_from, or_left, or_right, and_parts, and_from, and_left, and_right, ltb-true, lt-ltb, le-ltb, leb-true, le-leb, cases_Bool, cases_lt, both_ways, eqb-false, false_from_ne_true, true_from_ne_false}
+use Rattle.std.proofs.lemmas.Bool.{or_cases, or_parts, or_from, or_left, or_right, and_parts, and_from, and_right, ltb-true, lt-ltb, le-ltb, leb-true, le-leb, cases_Bool, cases_lt, both_ways, eqb-false, false_from_ne_true, true_from_ne_false}
 use Rattle.board_bus.specs.declared.range.Range.{Range}
 use Rattle.board_bus.specs.declared.range.Span.{Span}
 use Rattle.board_bus.specs.Ranges.{any_pair, end_of, holds_address, share_address, is_empty_range}

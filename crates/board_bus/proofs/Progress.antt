@@ -1,14 +1,14 @@
 -- One step of a read or a write, and its ends.
-use Rattle.std.proofs.Common.{◌≡◌, ℕ, ◌+◌, ◌-◌, ◌^◌, ◌<◌, ◌≤◌, lit<, lit≤, set, suc, zero, List, [], ◌∷◌, ◌++◌, length, length-append, append_assoc, append-nil, zero-add, add-zero, drop, get_or, map, Result, Ok, Err, refl, sym, ap, ◌∙◌, subst, arith}
-use Rattle.std.specs.List.{filter_map, zip}
+use Rattle.std.proofs.Common.{◌≡◌, ℕ, ◌+◌, ◌-◌, ◌^◌, ◌<◌, ◌≤◌, lit<, lit≤, set, suc, zero, List, [], ◌∷◌, ◌++◌, length, length-append, append_assoc, append-nil, drop, map, Result, Ok, Err, refl, sym, ap, ◌∙◌, arith}
+use Rattle.std.specs.List.{filter_map}
 use Rattle.std.specs.Result.{ok_prefix, result_err}
 use Rattle.transaction_codec.specs.declared.info_code.TheConstants.{SUCCESS}
 use Rattle.board_bus.specs.declared.fault.BusFault.{BusFault}
 use Rattle.board_bus.specs.declared.fault.BusFault.TheVariants.{ReadError, WriteError, ReadTimeout, WriteTimeout}
 use Rattle.board_bus.specs.Fault.{fault_code}
 use Rattle.board_bus.specs.Cells.{CellMap, read_word, write_word}
-use Rattle.board_bus.specs.Transactions.{Writing, addresses, words_read, code_of_reading, code_of_faults, placed, write_on, write_words}
-use Rattle.board_bus.specs.Progress.{ReadsOn, WritesOn, after_writing}
+use Rattle.board_bus.specs.Transactions.{addresses, words_read, code_of_reading, code_of_faults, write_on, write_words}
+use Rattle.board_bus.specs.Progress.{ReadsOn, WritesOn}
 
 module _ (cells : CellMap) (address step left rest : ℕ) (more : left ≡ suc rest) where
   -- the first address is read

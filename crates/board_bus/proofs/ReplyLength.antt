@@ -1,9 +1,7 @@
 -- A reply is never longer than the room that its body has.
-use Rattle.std.proofs.Common.{◌≡◌, ℕ, ◌+◌, ◌<◌, ◌≤◌, suc, zero, Bool, true, false, cond, eqb, List, [], ◌∷◌, ◌++◌, length, length-append, Result, Ok, Err, refl, arith, lit≤}
+use Rattle.std.proofs.Common.{ℕ, ◌+◌, ◌≤◌, suc, zero, true, false, cond, eqb, List, [], ◌∷◌, length, length-append, Result, Ok, Err, arith, lit≤}
 use Rattle.transaction_codec.specs.declared.request.Op.{Op}
 use Rattle.transaction_codec.specs.declared.request.Op.TheVariants.{Read, ReadPort, Write, WritePort, RmwBits, RmwSum}
-use Rattle.transaction_codec.specs.declared.request.Request.{Request}
-use Rattle.transaction_codec.specs.declared.refusal.Why.{Why}
 use Rattle.transaction_codec.specs.declared.info_code.TheConstants.{SUCCESS}
 use Rattle.transaction_codec.specs.Request.{request_at}
 use Rattle.transaction_codec.specs.Reply.{reply_words}

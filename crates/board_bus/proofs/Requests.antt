@@ -1,5 +1,5 @@
 -- One request of a body, and the rest of it.
-use Rattle.std.proofs.Common.{◌≡◌, ℕ, ◌+◌, ◌-◌, ◌<◌, ◌≤◌, suc, zero, Bool, true, false, cond, eqb, List, [], ◌∷◌, ◌++◌, length, length-append, append_assoc, append-nil, drop, length-drop, Result, Ok, Err, refl, eq-eqb, sym, ap, ◌∙◌, subst, arith}
+use Rattle.std.proofs.Common.{◌≡◌, ℕ, ◌+◌, ◌<◌, ◌≤◌, suc, zero, true, false, cond, eqb, List, [], ◌∷◌, ◌++◌, length, length-append, append_assoc, drop, length-drop, Result, Ok, Err, refl, eq-eqb, sym, ap, ◌∙◌, subst, arith}
 use Rattle.transaction_codec.specs.declared.request.Request.{Request}
 use Rattle.transaction_codec.specs.declared.refusal.Why.{Why}
 use Rattle.transaction_codec.specs.declared.info_code.TheConstants.{SUCCESS}

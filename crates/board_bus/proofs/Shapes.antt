@@ -1,20 +1,19 @@
 -- The form of each reply that a bus gives: done or failed, how many words it counts and carries.
-use Rattle.std.proofs.Common.{◌≡◌, ℕ, ◌+◌, ◌^◌, ◌<◌, ◌≤◌, ◌⊎◌, inl, inr, suc, zero, Bool, true, false, eqb, List, [], ◌∷◌, length, map, Option, Some, None, Result, Ok, Err, refl, sym, ap, ◌∙◌, subst, arith, lit<, lit≤, rules}
-use Rattle.std.specs.List.{filter_map, zip}
+use Rattle.std.proofs.Common.{◌≡◌, ℕ, ◌+◌, ◌<◌, ◌≤◌, ◌⊎◌, inl, inr, suc, zero, false, eqb, List, [], ◌∷◌, length, map, Option, Some, None, Result, Ok, Err, refl, sym, ap, ◌∙◌, arith, lit≤}
+use Rattle.std.specs.List.{filter_map}
 use Rattle.std.specs.Result.{ok_prefix, result_err}
 use Rattle.transaction_codec.specs.declared.request.Op.{Op}
 use Rattle.transaction_codec.specs.declared.request.Op.TheVariants.{Read, ReadPort, Write, WritePort, RmwBits, RmwSum}
 use Rattle.transaction_codec.specs.declared.info_code.TheConstants.{SUCCESS, READ_ERROR, WRITE_ERROR, READ_TIMEOUT, WRITE_TIMEOUT}
 use Rattle.transaction_codec.specs.Request.{op_kind, op_count}
-use Rattle.transaction_codec.specs.Reply.{IsBusFault, Carries, HasForm}
+use Rattle.transaction_codec.specs.Reply.{IsBusFault, HasForm}
 use Rattle.transaction_codec.specs.Answer.{values_done, Fails}
-use Rattle.board_bus.specs.declared.kind.RangeKind.{RangeKind}
 use Rattle.board_bus.specs.declared.kind.RangeKind.TheVariants.{Rw, Ro, Wo, Slow}
 use Rattle.board_bus.specs.declared.fault.BusFault.{BusFault}
 use Rattle.board_bus.specs.declared.fault.BusFault.TheVariants.{ReadError, WriteError, ReadTimeout, WriteTimeout}
 use Rattle.board_bus.specs.Fault.{fault_code}
-use Rattle.board_bus.specs.Cells.{Cell, CellMap, cell_at, read_fault, write_fault, read_cell, read_word, write_cell, write_word}
-use Rattle.board_bus.specs.Transactions.{addresses, words_read, code_of_reading, code_of_faults, Writing, write_on, write_words, placed, Modified, modify, of_modifying, masked, added, outcome}
+use Rattle.board_bus.specs.Cells.{Cell, CellMap, cell_at, read_cell, read_word, write_cell, write_word}
+use Rattle.board_bus.specs.Transactions.{addresses, words_read, code_of_reading, code_of_faults, write_on, write_words, placed, Modified, modify, of_modifying, masked, added, outcome}
 
 -- a read is refused as a read, and a write as a write
 abbrev IsReadFault : ℕ → Type 0

@@ -1,5 +1,5 @@
 -- What a body does not write, it does not change.
-use Rattle.std.proofs.Common.{◌≡◌, ◌≢◌, ℕ, ◌+◌, ◌<◌, ◌⊎◌, inl, inr, Bool, true, false, cond, eqb, List, [], ◌∷◌, ◌++◌, length, append-nil, Result, Ok, Err, refl, sym, ap, ◌∙◌, subst}
+use Rattle.std.proofs.Common.{◌≡◌, ◌≢◌, ℕ, ◌+◌, ◌<◌, ◌⊎◌, inl, inr, true, false, cond, eqb, List, [], ◌∷◌, ◌++◌, length, append-nil, Result, Ok, Err, refl, sym, ap, ◌∙◌, subst}
 use Rattle.std.specs.List.{AllByRecursion}
 use Rattle.std.proofs.lemmas.Bool.{cases_order}
 use Rattle.transaction_codec.specs.declared.request.Op.{Op}
@@ -9,8 +9,8 @@ use Rattle.transaction_codec.specs.declared.info_code.TheConstants.{SUCCESS}
 use Rattle.transaction_codec.specs.Request.{AreRequests, requests_words}
 use Rattle.transaction_codec.specs.Reply.{reply_words}
 use Rattle.board_bus.specs.declared.fault.BusFault.{BusFault}
-use Rattle.board_bus.specs.Cells.{Cell, CellMap, cell_at, read_word, write_word}
-use Rattle.board_bus.specs.Transactions.{◌>>=◌, addresses, placed, Writing, write_on, write_words, Modified, modify, of_modifying, masked, added, outcome, written_by, Transacted, transact}
+use Rattle.board_bus.specs.Cells.{CellMap, cell_at, read_word, write_word}
+use Rattle.board_bus.specs.Transactions.{◌>>=◌, addresses, placed, write_on, write_words, Modified, modify, of_modifying, masked, added, outcome, written_by, Transacted, transact}
 use Rattle.board_bus.specs.Bodies.{Executed, after_reply, run_on, run_body}
 use Rattle.board_bus.proofs.WordsKept.{write-elsewhere}
 use Rattle.board_bus.proofs.Answered.{first_request_is}

@@ -29,7 +29,8 @@ impl Bus {
     /// Executes one request and appends its reply, for which `out` has room. Answers the info code of the reply.
     pub(crate) fn transact(&mut self, request: &FirstRequest<'_>, out: &mut Vec<u32>) -> u8
         requires request { IsRequest (request_of request.now) }
-        requires room { vec_len out.old + length (reply_words (transact self.old (request_of request.now)).reply) ≤ vec_capacity out.old }
+        requires room { vec_len out.old + length (reply_words (transact self.old (request_of request.now)).reply)
+            ≤ vec_capacity out.old }
         ensures bus { self.new ≡ (transact self.old (request_of request.now)).cells }
         ensures reply { out.new.items ≡ out.old.items ++ reply_words (transact self.old (request_of request.now)).reply }
         ensures code { result ≡ (transact self.old (request_of request.now)).reply.code }
@@ -74,8 +75,10 @@ impl Bus {
         requires kind { kind < 2 ^ 4 }
         requires step { step ≤ 1 }
         requires count { count < 2 ^ 8 }
-        requires room { vec_len out.old + length (outcome_words tid kind (of_reading self.now (addresses base step count))) ≤ vec_capacity out.old }
-        ensures reply { out.new.items ≡ out.old.items ++ outcome_words tid kind (of_reading self.now (addresses base step count)) }
+        requires room { vec_len out.old + length (outcome_words tid kind (of_reading self.now (addresses base step count)))
+            ≤ vec_capacity out.old }
+        ensures reply { out.new.items
+            ≡ out.old.items ++ outcome_words tid kind (of_reading self.now (addresses base step count)) }
         ensures code { result ≡ (of_reading self.now (addresses base step count)).code }
         ensures capacity { vec_capacity out.old ≤ vec_capacity out.new }
     {
@@ -148,7 +151,8 @@ impl Bus {
         requires count { length words.now < 2 ^ 8 }
         requires room { vec_len out.old < vec_capacity out.old }
         ensures bus { self.new ≡ (write_words self.old (placed base step words.now)).cells }
-        ensures reply { out.new.items ≡ out.old.items ++ outcome_words tid kind (of_writing (write_words self.old (placed base step words.now))) }
+        ensures reply { out.new.items
+            ≡ out.old.items ++ outcome_words tid kind (of_writing (write_words self.old (placed base step words.now))) }
         ensures code { result ≡ (write_words self.old (placed base step words.now)).code }
         ensures capacity { vec_capacity out.old ≤ vec_capacity out.new }
     {

@@ -1,4 +1,4 @@
-use Rattle.std.proofs.Common.{◌≡◌, ◌++◌, take}
+use Rattle.std.proofs.Common.{◌≡◌, take}
 use Rattle.std.specs.List.{flat_map}
 use Rattle.board_bus.specs.Ranges.{range_cells}
 use Rattle.board_bus.specs.Blocks.{block_cells}

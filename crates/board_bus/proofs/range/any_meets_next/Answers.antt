@@ -1,4 +1,4 @@
-use Rattle.std.proofs.Common.{◌+◌, ◌-◌, ◌<◌, ◌≡◌, ℕ, length, arith}
+use Rattle.std.proofs.Common.{◌+◌, ◌-◌, ◌<◌, ◌≡◌, length, arith}
 use Rattle.std.proofs.lemmas.List.{get_or_default}
 use Rattle.board_bus.specs.declared.range.Span.{Span}
 use Rattle.board_bus.proofs.range.any_meets_next.Goals as goal

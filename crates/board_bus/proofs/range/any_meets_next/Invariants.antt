@@ -1,4 +1,4 @@
-use Rattle.std.proofs.Common.{◌≡◌, ◌+◌, ◌≤◌, take}
+use Rattle.std.proofs.Common.{◌≤◌}
 use Rattle.std.specs.List.{AllAdjacentBelow}
 use Rattle.board_bus.proofs.range.any_meets_next.Given as goal
 

@@ -1,4 +1,4 @@
-use Rattle.std.proofs.Common.{◌≡◌, ◌++◌, ◌∷◌, [], ◌-◌, ◌+◌, ◌≤◌, ℕ, List, length, length-append, refl, sym, ap, ◌∙◌, arith}
+use Rattle.std.proofs.Common.{◌≡◌, ◌-◌, ◌+◌, ◌≤◌, length, length-append, refl, ap, ◌∙◌, arith}
 use Rattle.board_bus.specs.Transactions.{addresses, words_read}
 use Rattle.board_bus.proofs.Progress.{words_read-length, header_filled_in}
 use Rattle.board_bus.proofs.bus.Bus.answer_read.Goals as goal

@@ -1,8 +1,8 @@
 -- Each answer reads the cell at the address: there is none where no block was found, and else it is that of the block.
-use Rattle.std.proofs.Common.{◌≡◌, ◌<◌, ◌≤◌, ◌^◌, Bool, true, ℕ, length, Ok, Some, None, Option, sym, ap, ◌∙◌, arith}
+use Rattle.std.proofs.Common.{◌≡◌, ◌<◌, ◌^◌, ℕ, Ok, Some, None, sym, ap, ◌∙◌, arith}
 use Rattle.std.specs.List.{position}
 use Rattle.std.proofs.lemmas.List.{get_or_read}
-use Rattle.board_bus.specs.Cells.{Cell, cell_at, read_cell, read_fault, unless}
+use Rattle.board_bus.specs.Cells.{read_cell, read_fault, unless}
 use Rattle.board_bus.specs.Blocks.{holds, cell_in}
 use Rattle.board_bus.proofs.Lookups.{absent, present, found_holds, held_range}
 use Rattle.board_bus.proofs.bus.Bus.read.Goals as goal

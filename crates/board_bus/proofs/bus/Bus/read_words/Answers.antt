@@ -1,6 +1,6 @@
-use Rattle.std.proofs.Common.{◌≡◌, ◌+◌, ◌-◌, ◌<◌, ◌++◌, ◌∷◌, [], suc, List, ℕ, length, Ok, Err, sym, ap, ◌∙◌, subst, arith}
+use Rattle.std.proofs.Common.{◌≡◌, ◌+◌, ◌-◌, suc, Ok, Err, ◌∙◌, arith}
 use Rattle.board_bus.specs.Cells.{read_word}
-use Rattle.board_bus.proofs.Progress.{reads_more, reads_fit, reads_stop, ReadingLoop}
+use Rattle.board_bus.proofs.Progress.{reads_more, reads_fit, reads_stop}
 use Rattle.board_bus.proofs.bus.Bus.read_words.Goals as goal
 
 pub push_within-requires : goal.push_within-requires

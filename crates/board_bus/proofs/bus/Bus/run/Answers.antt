@@ -1,5 +1,4 @@
-use Rattle.std.proofs.Common.{◌≡◌, ◌++◌, ◌+◌, ◌<◌, ◌≤◌, ℕ, List, length, Ok, sym, ap, ◌∙◌, arith}
-use Rattle.std.proofs.lemmas.Bool.Decides.{nat_tests}
+use Rattle.std.proofs.Common.{◌≡◌, ◌+◌, ◌<◌, ◌≤◌, length, sym, ◌∙◌, arith}
 use Rattle.transaction_codec.specs.declared.info_code.TheConstants.{SUCCESS}
 use Rattle.transaction_codec.specs.First.{request_of}
 use Rattle.board_bus.specs.Bodies.{run_body}

@@ -1,12 +1,11 @@
 -- Each answer reads the cell at the address: there is none where no block was found, and else it is that of the block.
-use Rattle.std.proofs.Common.{◌≡◌, ◌<◌, ◌≤◌, ◌^◌, ◌-◌, Bool, true, ℕ, length, Ok, Err, Some, None, Option, refl, sym, ap, ◌∙◌, arith}
+use Rattle.std.proofs.Common.{◌≡◌, ◌<◌, ◌^◌, Ok, Some, None, refl, sym, ap, ◌∙◌, arith}
 use Rattle.std.specs.List.{position}
 use Rattle.std.specs.FinMap.Entries.{put}
 use Rattle.std.specs.Ordering.{nat_cmp}
-use Rattle.board_bus.specs.declared.bus.Block.{Block}
-use Rattle.board_bus.specs.Cells.{Cell, CellMap, cell_at, write_cell, write_fault, unless}
-use Rattle.board_bus.specs.Blocks.{holds, cell_in}
-use Rattle.board_bus.proofs.Lookups.{absent, present, found_holds, held_range, written, ChangesOneWord}
+use Rattle.board_bus.specs.Cells.{CellMap, write_cell, write_fault, unless}
+use Rattle.board_bus.specs.Blocks.{holds}
+use Rattle.board_bus.proofs.Lookups.{absent, present, found_holds, held_range, written}
 use Rattle.board_bus.proofs.bus.Bus.write.Goals as goal
 
 pub returns-in_default-clause-refused : goal.returns-in_default-clause-refused
