@@ -1,0 +1,54 @@
+-- Bodies one after another, and the words that a bus holds after them.
+use Rattle.std.proofs.Common.{◌≡◌, ℕ, suc, zero, true, false, cond, eqb, List, [], ◌∷◌, ◌++◌, length, Ok, Err, refl, ap, subst}
+use Rattle.ipb_base.specs.Word.{AreWords}
+use Rattle.transaction_codec.specs.declared.request.Request.{Request}
+use Rattle.transaction_codec.specs.declared.info_code.TheConstants.{SUCCESS}
+use Rattle.transaction_codec.specs.Request.{IsRequest, request_at, request_words}
+use Rattle.transaction_codec.specs.Reply.{reply_words}
+use Rattle.transaction_codec.proofs.Requests.{request_found, request_again}
+use Rattle.board_bus.specs.Cells.{CellMap, HoldsWords}
+use Rattle.board_bus.specs.Transactions.{Transacted, transact}
+use Rattle.board_bus.specs.Bodies.{Executed, after_reply, run_on, run_first, run_requests, run_body, replay}
+use Rattle.board_bus.proofs.Requests.{run_body-request}
+use Rattle.board_bus.proofs.WordsKept.{outcome-words}
+
+-- the bus after bodies and then others
+pub replay-append-cells : (cells : CellMap) (front back : List (List ℕ)) → (replay cells (front ++ back)).cells ≡ (replay (replay cells front).cells back).cells
+replay-append-cells cells [] back = refl
+replay-append-cells cells (body ∷ bodies) back = replay-append-cells (run_body cells body).cells bodies back
+
+pub replay-append-replies : (cells : CellMap) (front back : List (List ℕ)) → (replay cells (front ++ back)).replies ≡ (replay cells front).replies ++ (replay (replay cells front).cells back).replies
+replay-append-replies cells [] back = refl
+replay-append-replies cells (body ∷ bodies) back = ap (λ (rs : List (List ℕ)). (run_body cells body).reply ∷ rs) (replay-append-replies (run_body cells body).cells bodies back)
+
+pub replay-length : (cells : CellMap) (bodies : List (List ℕ)) → length (replay cells bodies).replies ≡ length bodies
+replay-length cells [] = refl
+replay-length cells (body ∷ bodies) = ap suc (replay-length (run_body cells body).cells bodies)
+
+rest-words : (front rest : List ℕ) → AreWords (front ++ rest) → AreWords rest
+rest-words [] rest fits = fits
+rest-words (w ∷ ws) rest fits = rest-words ws rest fits.1
+
+run_on-words : (first : Transacted) (later : CellMap → Executed) → HoldsWords first.cells → HoldsWords (later first.cells).cells → HoldsWords (run_on first later).cells
+run_on-words first later here after =
+    elim (eqb first.reply.code SUCCESS) as (λ b. HoldsWords (cond b (after_reply (reply_words first.reply) (later first.cells)) (record { cells = first.cells; reply = reply_words first.reply })).cells) [ true ↦ after | false ↦ here ]
+
+run_requests-words : (most : ℕ) (words : List ℕ) (cells : CellMap) → AreWords words → HoldsWords cells → HoldsWords (run_requests most words cells).cells
+run_requests-words zero words cells fits holds = holds
+run_requests-words (suc most) [] cells fits holds = holds
+run_requests-words (suc most) (word ∷ after) cells fits holds =
+    elim (request_at (word ∷ after)) as (λ r. request_at (word ∷ after) ≡ r → HoldsWords (run_first cells word r (run_requests most)).cells) [
+      | Ok x ↦ λ is.
+          let found = request_found (word ∷ after) x fits is in
+          let bus : HoldsWords (transact cells x.0).cells = (outcome-words cells (x.0).op holds (found.0).words).bus in
+          let rest : AreWords x.1 = rest-words (request_words x.0) x.1 (subst AreWords found.1 fits) in
+          run_on-words (transact cells x.0) (run_requests most x.1) bus (run_requests-words most x.1 (transact cells x.0).cells rest bus)
+      | Err why ↦ λ _. holds
+    ] refl
+
+-- words stay words
+pub run_body-words : (cells : CellMap) (body : List ℕ) → HoldsWords cells → AreWords body → HoldsWords (run_body cells body).cells
+run_body-words cells body holds fits = run_requests-words (length body) body cells fits holds
+
+pub run_body-first : (cells : CellMap) (request : Request) (rest : List ℕ) → IsRequest request → run_body cells (request_words request ++ rest) ≡ run_on (transact cells request) (λ left. run_body left rest)
+run_body-first cells request rest is = run_body-request cells _ _ request rest (request_again request rest is)

@@ -1,0 +1,11 @@
+pub mod Lookups
+pub mod Progress
+pub mod Requests
+pub mod ReplyLength
+pub mod Overlaps
+pub mod Shapes
+pub mod WordsKept
+pub mod Answered
+pub mod Openings
+pub mod Bodies
+pub mod Untouched

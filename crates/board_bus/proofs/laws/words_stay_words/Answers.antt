@@ -1,0 +1,9 @@
+use Rattle.board_bus.proofs.Openings.{opening-words}
+use Rattle.board_bus.proofs.Bodies.{run_body-words}
+use Rattle.board_bus.proofs.laws.words_stay_words.Goals as goal
+
+pub returns-clause-opening : goal.returns-clause-opening
+returns-clause-opening c = opening-words
+
+pub returns-clause-after : goal.returns-clause-after
+returns-clause-after c = run_body-words

@@ -1,0 +1,11 @@
+-- The info codes of refused accesses. IPbus 2.0, transaction header.
+use Rattle.std.specs.Prelude.{ℕ}
+use Rattle.transaction_codec.specs.declared.info_code.TheConstants.{READ_ERROR, WRITE_ERROR, READ_TIMEOUT, WRITE_TIMEOUT}
+use Rattle.board_bus.specs.declared.fault.BusFault.{BusFault}
+use Rattle.board_bus.specs.declared.fault.BusFault.TheVariants.{ReadError, WriteError, ReadTimeout, WriteTimeout}
+
+abbrev pub fault_code : BusFault → ℕ
+fault_code ReadError = READ_ERROR
+fault_code WriteError = WRITE_ERROR
+fault_code ReadTimeout = READ_TIMEOUT
+fault_code WriteTimeout = WRITE_TIMEOUT

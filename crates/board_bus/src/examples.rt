@@ -1,0 +1,57 @@
+//! Worked examples of the definitions. These functions do nothing when they run: their clauses are what is proved.
+
+ghost use Rattle.std.specs.Prelude.{◌≡◌, ℕ, [], ◌∷◌, List, Some, Err};
+ghost use Rattle.board_bus.specs.declared.range.Range.{Range};
+ghost use Rattle.board_bus.specs.declared.range.BusRefusal.TheVariants.{Overlap, PastEnd};
+ghost use Rattle.board_bus.specs.declared.kind.RangeKind.TheVariants.{Rw, Ro, Slow};
+ghost use Rattle.board_bus.specs.declared.fault.BusFault.TheVariants.{WriteError};
+ghost use Rattle.board_bus.specs.Cells.{write_word};
+ghost use Rattle.board_bus.specs.Ranges.{opening_bus, refusal_of};
+ghost use Rattle.board_bus.specs.Bodies.{run_body};
+
+/// A read of address 4 answers the word that the range opens with there.
+#[tactic(auto, unfolding(transaction_codec::specs::Request::request_at))]
+pub fn an_opening_word_is_read()
+    ensures { (run_body (opening_bus (record { base = 0; size = 16; kind = Rw; init = 0 ∷ 0 ∷ 0 ∷ 0 ∷ 0xabcd ∷ [] } ∷ []))
+        (0x2000010f ∷ 4 ∷ [])).reply ≡ 0x20000100 ∷ 0xabcd ∷ [] }
+{}
+
+/// A bad header after a read is answered by one header with its transaction identifier. Here a read-modify-write is cut short.
+#[tactic(auto, unfolding(transaction_codec::specs::Request::request_at))]
+pub fn a_request_cut_short_ends_the_reply()
+    ensures { (run_body (opening_bus (record { base = 0; size = 16; kind = Rw; init = 0 ∷ 0 ∷ 0 ∷ 0 ∷ 0xabcd ∷ [] } ∷ []))
+        (0x2000010f ∷ 4 ∷ 0x2001016f ∷ 0 ∷ [])).reply ≡ 0x20000100 ∷ 0xabcd ∷ 0x20010001 ∷ [] }
+{}
+
+/// A read of two words from the last address answers one word and code 4: no address follows 0xffffffff.
+#[tactic(auto, unfolding(transaction_codec::specs::Request::request_at))]
+pub fn a_block_stops_at_the_last_address()
+    ensures block { (run_body (opening_bus (record { base = 0xffffffff; size = 1; kind = Rw; init = 7 ∷ [] } ∷ []))
+        (0x2000020f ∷ 0xffffffff ∷ [])).reply ≡ 0x20000104 ∷ 7 ∷ [] }
+    ensures absent { write_word (opening_bus (record { base = 0xffffffff; size = 1; kind = Rw; init = 7 ∷ [] } ∷ [])) 0 1 ≡ Err WriteError }
+{}
+
+/// A masked write sets the top bit of a word, and the body's next request adds 1 modulo 2^32. Both answer the word before.
+#[tactic(auto, unfolding(transaction_codec::specs::Request::request_at))]
+pub fn a_word_is_masked_and_added_to()
+    ensures { (run_body (opening_bus (record { base = 8; size = 1; kind = Rw; init = 0x7fffffff ∷ [] } ∷ []))
+        (0x2000014f ∷ 8 ∷ 0x7fffffff ∷ 0x80000000 ∷ 0x2001015f ∷ 8 ∷ 1 ∷ 0x2002010f ∷ 8 ∷ [])).reply
+        ≡ 0x20000140 ∷ 0x7fffffff ∷ 0x20010150 ∷ 0xffffffff ∷ 0x20020100 ∷ 0 ∷ [] }
+{}
+
+/// What a failing write wrote before the fault stays written, and nothing after it is executed. Address 1 is slow.
+#[tactic(auto, unfolding(transaction_codec::specs::Request::request_at))]
+pub fn a_failing_write_stays_written()
+    ensures { run_body (opening_bus (record { base = 0; size = 1; kind = Rw; init = [] }
+        ∷ record { base = 1; size = 1; kind = Slow; init = [] } ∷ []))
+        (0x2000021f ∷ 0 ∷ 5 ∷ 6 ∷ 0x2001011f ∷ 0 ∷ 9 ∷ [])
+        ≡ record { cells = (0, record { kind = Rw; word = 5 }) ∷ (1, record { kind = Slow; word = 0 }) ∷ []; reply = 0x20000117 ∷ [] } }
+{}
+
+/// A range within another overlaps it, also where the inner one comes first; the first broken rule is the one answered.
+pub fn ranges_are_refused_by_the_first_rule()
+    ensures within { refusal_of (record { base = 4; size = 1; kind = Ro; init = [] }
+        ∷ record { base = 0; size = 16; kind = Rw; init = [] } ∷ []) ≡ Some Overlap }
+    ensures first { refusal_of (record { base = 0; size = 1; kind = Ro; init = 1 ∷ 2 ∷ [] }
+        ∷ record { base = 0xffffffff; size = 2; kind = Rw; init = [] } ∷ []) ≡ Some PastEnd }
+{}

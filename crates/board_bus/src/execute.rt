@@ -1,0 +1,44 @@
+ghost use Rattle.std.specs.Prelude.{◌≡◌, ◌+◌, ◌++◌, ◌≤◌, OnOk, OnErr, length};
+ghost use Rattle.std.specs.Vec.{vec_len, vec_capacity};
+ghost use Rattle.board_bus.specs.Bodies.{run_body};
+
+use crate::Bus;
+use crate::room::push_within;
+use ipb_base::NoMemory;
+use transaction_codec::info_code::SUCCESS;
+use transaction_codec::{bad_header_reply, first_request, reply_room};
+
+impl Bus {
+    /// Executes the body of a control packet, at most 65,536 words, and appends the reply to it. Requests are executed in order
+    /// while each succeeds. It takes its room first: after want of memory the bus and `out` are as they were.
+    pub fn execute(&mut self, body: &[u32], out: &mut Vec<u32>) -> Result<(), NoMemory>
+        requires { length body.now ≤ 65536 }
+        ensures bus { OnOk result (self.new ≡ (run_body self.old body.now).cells) }
+        ensures reply { OnOk result (out.new.items ≡ out.old.items ++ (run_body self.old body.now).reply) }
+        ensures bus_unchanged { OnErr result (self.new ≡ self.old) }
+        ensures out_unchanged { OnErr result (out.new.items ≡ out.old.items) }
+    {
+        out.reserve(reply_room(body) as usize)?;
+        self.run(body, out);
+        Ok(())
+    }
+
+    /// Executes a body and appends the reply, for which `out` has room.
+    fn run(&mut self, body: &[u32], out: &mut Vec<u32>)
+        requires room { vec_len out.old + length (run_body self.old body.now).reply ≤ vec_capacity out.old }
+        ensures bus { self.new ≡ (run_body self.old body.now).cells }
+        ensures reply { out.new.items ≡ out.old.items ++ (run_body self.old body.now).reply }
+    {
+        let mut rest = body;
+        while !rest.is_empty() {
+            let Ok(first) = first_request(rest) else {
+                push_within(out, bad_header_reply(rest[0]));
+                return;
+            };
+            if self.transact(&first, out) != SUCCESS {
+                return;
+            }
+            rest = first.rest;
+        }
+    }
+}

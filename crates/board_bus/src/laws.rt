@@ -1,0 +1,91 @@
+//! Laws of the definitions. These functions do nothing when they run: their clauses are what is proved.
+
+ghost use Rattle.std.specs.Prelude.{◌≡◌, ◌≢◌, ◌≤◌, ◌+◌, ◌<◌, ◌⊎◌, ◌++◌, ◌↔◌, ℕ, false, [], ◌∷◌, List, length, slice_index, Ok, None, Some, IsErr};
+ghost use Rattle.std.specs.List.{AllByRecursion, count_by, list_any};
+ghost use Rattle.ipb_base.specs.Word.{AreWords};
+ghost use Rattle.transaction_codec.specs.declared.request.Op.TheVariants.{Read, ReadPort};
+ghost use Rattle.transaction_codec.specs.declared.request.Request.{Request};
+ghost use Rattle.transaction_codec.specs.Request.{AreRequests, IsRequest, request_at, request_words, requests_words};
+ghost use Rattle.transaction_codec.specs.Answer.{CanAnswer, IsReplyTo, reply_room};
+ghost use Rattle.board_bus.specs.declared.range.Range.{Range};
+ghost use Rattle.board_bus.specs.Cells.{Cell, CellMap, HoldsWords, cell_at, write_word};
+ghost use Rattle.board_bus.specs.Ranges.{IsOutside, any_pair, holds_address, is_empty_range, opening_bus, refusal_of, share_address};
+ghost use Rattle.board_bus.specs.Transactions.{transact, written_by};
+ghost use Rattle.board_bus.specs.Bodies.{replay, run_body, run_on};
+
+/// Of ranges that are not empty two share an address exactly where some address is in two of them.
+pub fn an_overlap_is_an_address_in_two_ranges()
+    ensures { (ranges : List Range) → list_any is_empty_range ranges ≡ false →
+        (any_pair share_address ranges ≡ false) ↔ ((address : ℕ) → count_by (holds_address address) ranges ≤ 1) }
+{}
+
+/// A bus opens with the cells of its ranges and no others: each address of a range holds the word that the range names there, or
+/// 0 after those, and an address in no range is absent.
+pub fn a_bus_opens_with_its_ranges()
+    ensures within { (front back : List Range) (range : Range) (place : ℕ) → refusal_of (front ++ range ∷ back) ≡ None →
+        place < range.size →
+        cell_at (opening_bus (front ++ range ∷ back)) (range.base + place)
+        ≡ Some (record { kind = range.kind; word = slice_index range.init place }) }
+    ensures outside { (ranges : List Range) (address : ℕ) → refusal_of ranges ≡ None →
+        AllByRecursion (IsOutside address) ranges → cell_at (opening_bus ranges) address ≡ None }
+{}
+
+/// A write puts its word at its address and keeps the kind there. It changes no other cell.
+pub fn a_write_changes_one_word()
+    ensures here { (cells after : CellMap) (address word : ℕ) (cell : Cell) → write_word cells address word ≡ Ok after →
+        cell_at cells address ≡ Some cell → cell_at after address ≡ Some (record { kind = cell.kind; word = word }) }
+    ensures elsewhere { (cells after : CellMap) (address other word : ℕ) → write_word cells address word ≡ Ok after →
+        (other < address) ⊎ (address < other) → cell_at after other ≡ cell_at cells other }
+{}
+
+/// Reads leave the bus as it is, of a block and of a port.
+pub fn reads_leave_the_bus()
+    ensures block { (cells : CellMap) (tid base count : ℕ) →
+        (transact cells (record { tid = tid; op = Read base count })).cells ≡ cells }
+    ensures port { (cells : CellMap) (tid base count : ℕ) →
+        (transact cells (record { tid = tid; op = ReadPort base count })).cells ≡ cells }
+{}
+
+/// A body is executed request by request: the first one, and where it succeeds the rest as a body of its own.
+pub fn a_body_is_executed_in_order()
+    ensures { (cells : CellMap) (request : Request) (rest : List ℕ) → IsRequest request →
+        run_body cells (request_words request ++ rest) ≡ run_on (transact cells request) (λ left. run_body left rest) }
+{}
+
+/// What an address holds after a body depends on the writes to it alone: where no request writes there, it holds what it held.
+pub fn a_body_changes_what_it_writes()
+    ensures { (cells : CellMap) (requests : List Request) (address : ℕ) → AreRequests requests →
+        AllByRecursion (λ request. AllByRecursion (λ written. written ≢ address) (written_by request.op)) requests →
+        cell_at (run_body cells (requests_words requests)).cells address ≡ cell_at cells address }
+{}
+
+/// The reply to requests is a reply to them in the sense of the transaction grammar. With a bad header after them it is still
+/// one that a device can give.
+pub fn a_reply_answers_its_body()
+    ensures requests { (cells : CellMap) (requests : List Request) → HoldsWords cells → AreRequests requests →
+        IsReplyTo (requests_words requests) (run_body cells (requests_words requests)).reply }
+    ensures bad_header { (cells : CellMap) (requests : List Request) (rest : List ℕ) → HoldsWords cells → AreRequests requests →
+        IsErr (request_at rest) →
+        CanAnswer (requests_words requests ++ rest) (run_body cells (requests_words requests ++ rest)).reply }
+{}
+
+/// A reply is never longer than the longest answer to its body.
+pub fn a_reply_has_room()
+    ensures { (cells : CellMap) (body : List ℕ) → length (run_body cells body).reply ≤ reply_room body }
+{}
+
+/// A bus that opens with 32-bit words holds them, and still does after any body.
+pub fn words_stay_words()
+    ensures opening { (ranges : List Range) → AllByRecursion (λ range. AreWords range.init) ranges → HoldsWords (opening_bus ranges) }
+    ensures after { (cells : CellMap) (body : List ℕ) → HoldsWords cells → AreWords body → HoldsWords (run_body cells body).cells }
+{}
+
+/// To replay some bodies and then others is to replay them all, and each body has one reply.
+pub fn replay_goes_on()
+    ensures bus { (cells : CellMap) (front back : List (List ℕ)) →
+        (replay cells (front ++ back)).cells ≡ (replay (replay cells front).cells back).cells }
+    ensures replies { (cells : CellMap) (front back : List (List ℕ)) →
+        (replay cells (front ++ back)).replies
+        ≡ (replay cells front).replies ++ (replay (replay cells front).cells back).replies }
+    ensures one_each { (cells : CellMap) (bodies : List (List ℕ)) → length (replay cells bodies).replies ≡ length bodies }
+{}

@@ -1,0 +1,172 @@
+ghost use Rattle.std.specs.Prelude.{◌≡◌, ◌≢◌, OnOk, IfOk, IfErr, MatchBool, Some, None, sum_by, map, nat_lt, false};
+ghost use Rattle.std.specs.List.{list_any};
+ghost use Rattle.board_bus.specs.declared.range.BusRefusal.TheVariants.{NoMemory as no_memory};
+ghost use Rattle.board_bus.specs.Ranges.{any_pair, is_empty_range, is_init_long, is_past_end, refusal_of, share_address};
+ghost use Rattle.board_bus.specs.Spans.{span_of, SomeMeetsNext, NoneMeetsNext};
+
+use crate::RangeKind;
+use ipb_base::{NoMemory, Words};
+use std::alloc::{AllocError, AllocFailed, Global};
+
+/// The most words that the ranges of a bus may have together. Profile.
+pub const MAX_WORDS: u64 = 4_194_304;
+
+/// How many addresses there are.
+const ADDRESSES: u64 = 1 << 32;
+
+/// Consecutive addresses of one kind. Profile.
+#[derive(Debug, Drop)]
+pub struct Range {
+    /// The first address.
+    pub base: u32,
+    /// How many addresses there are, each of one word.
+    pub size: u32,
+    pub kind: RangeKind,
+    /// The words of the first addresses; those after them start as 0.
+    pub init: Words,
+}
+
+/// Why a list of ranges is no bus: the first of these rules that it breaks.
+#[derive(Clone, Copy, Debug, PartialEq, Eq)]
+pub enum BusRefusal {
+    /// A range has no address.
+    Empty = 1,
+    /// A range ends past address 0xffffffff.
+    PastEnd = 2,
+    /// Two ranges share an address.
+    Overlap = 3,
+    /// The ranges have more than `MAX_WORDS` words together.
+    TooLarge = 4,
+    /// A range starts with more words than it has addresses.
+    InitLong = 5,
+    /// Memory ran out.
+    NoMemory = 6,
+}
+
+impl From<NoMemory> for BusRefusal {
+    ghost from_gives = { λ _ refusal. refusal ≡ no_memory };
+
+    fn from(_error: NoMemory) -> BusRefusal {
+        BusRefusal::NoMemory
+    }
+}
+
+impl From<AllocError> for BusRefusal {
+    ghost from_gives = { λ _ refusal. refusal ≡ no_memory };
+
+    fn from(_error: AllocError) -> BusRefusal {
+        BusRefusal::NoMemory
+    }
+}
+
+impl<T: Drop> From<AllocFailed<T>> for BusRefusal {
+    ghost from_gives = { λ _ refusal. refusal ≡ no_memory };
+
+    fn from(_error: AllocFailed<T>) -> BusRefusal {
+        BusRefusal::NoMemory
+    }
+}
+
+/// Whether the ranges are the ranges of a bus. Each refusal is that of the first broken rule, over the whole list;
+/// want of memory may come instead.
+pub fn check_ranges(alloc: Global, ranges: &[Range]) -> Result<(), BusRefusal>
+    ensures ok { OnOk result (refusal_of ranges.now ≡ None) }
+    ensures refused { IfErr result (λ refusal. refusal ≢ no_memory → refusal_of ranges.now ≡ Some refusal) }
+{
+    if any_empty(ranges) {
+        return Err(BusRefusal::Empty);
+    }
+    if any_past_end(ranges) {
+        return Err(BusRefusal::PastEnd);
+    }
+    if has_overlap(alloc, ranges)? {
+        return Err(BusRefusal::Overlap);
+    }
+    if is_too_large(ranges) {
+        return Err(BusRefusal::TooLarge);
+    }
+    if any_init_long(ranges) {
+        return Err(BusRefusal::InitLong);
+    }
+    Ok(())
+}
+
+/// Whether a range has no address.
+fn any_empty(ranges: &[Range]) -> bool
+    ensures { result ≡ list_any is_empty_range ranges.now }
+{
+    ranges.iter().any(|range| range.size == 0)
+}
+
+/// Whether a range ends past the last address.
+fn any_past_end(ranges: &[Range]) -> bool
+    ensures { result ≡ list_any is_past_end ranges.now }
+{
+    ranges.iter().any(|range| u64::from(range.base) + u64::from(range.size) > ADDRESSES)
+}
+
+/// Whether a range starts with more words than it has addresses.
+fn any_init_long(ranges: &[Range]) -> bool
+    ensures { result ≡ list_any is_init_long ranges.now }
+{
+    ranges
+        .iter()
+        .any(|range| range.init.len() > range.size as usize)
+}
+
+/// Whether two ranges share an address. It takes memory for their ends, in order.
+fn has_overlap(alloc: Global, ranges: &[Range]) -> Result<bool, NoMemory>
+    requires { list_any is_empty_range ranges.now ≡ false }
+    ensures { IfOk result (λ found. found ≡ any_pair share_address ranges.now) }
+{
+    let mut spans = spans_of(alloc, ranges)?;
+    spans.sort_unstable_by_key(|span| span.base);
+    Ok(any_meets_next(&spans))
+}
+
+/// Whether the ranges have more words than a bus may have.
+fn is_too_large(ranges: &[Range]) -> bool
+    ensures { result ≡ nat_lt MAX_WORDS (sum_by (λ range. range.size) ranges.now) }
+{
+    let mut left = MAX_WORDS;
+    for range in ranges {
+        let size = u64::from(range.size);
+        if size > left {
+            return true;
+        }
+        left -= size;
+    }
+    false
+}
+
+/// The addresses of a range: from `base` to the one before `end`.
+#[derive(Clone, Copy)]
+struct Span {
+    base: u64,
+    end: u64,
+}
+
+fn spans_of(alloc: Global, ranges: &[Range]) -> Result<Vec<Span>, NoMemory>
+    ensures { IfOk result (λ spans. spans.items ≡ map span_of ranges.now) }
+{
+    let spans = ranges
+        .iter()
+        .map(|range| Span {
+            base: u64::from(range.base),
+            end: u64::from(range.base) + u64::from(range.size),
+        })
+        .collect(alloc)?;
+    Ok(spans)
+}
+
+/// Whether a span ends past the beginning of the next.
+fn any_meets_next(spans: &[Span]) -> bool
+    ensures { MatchBool result (SomeMeetsNext spans.now) (NoneMeetsNext spans.now) }
+{
+    for i in 1..spans.len() {
+        if spans[i - 1].end > spans[i].base {
+            return true;
+        }
+    }
+    false
+}
