@@ -1,0 +1,46 @@
+ghost use Rattle.std.specs.Prelude.{◌≡◌, ℕ, ◌+◌, ◌-◌, ◌%◌, ◌^◌, ◌<◌, ◌≤◌, Some, IfSome, IfNone};
+ghost use Rattle.packet_ids.specs.Identifier.{identifier_at, IsIdentifier, IsPlaceOf};
+
+use crate::Id;
+
+/// How many identifiers there are, 1 to 0xffff.
+const IDENTIFIERS: u64 = 0xffff;
+
+/// The identifier of the packet at a place, where the packet at place 1 has the identifier `first`
+/// (IPbus 2.0, packet identifiers: each goes up by one, and 1 follows 0xffff).
+pub fn id_at(first: Id, place: u64) -> Id
+    requires from_one { 1 ≤ place }
+    requires up_to_end { place ≤ 2 ^ 63 }
+    ensures identifier { result ≡ identifier_at first place }
+{
+    let steps = u64::from(first.get()) - 1 + (place - 1);
+    Id::numbered((steps % IDENTIFIERS + 1) as u16)
+}
+
+/// The place with the identifier `id` among the `len` places from `low` on, if it is there. At most 256 places
+/// are looked at, so that no identifier stands there twice.
+pub fn place_of(first: Id, low: u64, len: u64, id: Id) -> Option<u64>
+    requires few { len ≤ 256 }
+    requires from_one { 1 ≤ low }
+    requires up_to_end { low ≤ 2 ^ 62 }
+    ensures found { IfSome result (IsPlaceOf first low len id) }
+    ensures none { IfNone result ((place : ℕ) → ¬ IsPlaceOf first low len id place) }
+    ensures only { (place : ℕ) → IsPlaceOf first low len id place → result ≡ Some place }
+{
+    let ahead = steps(id_at(first, low), id);
+    if ahead < len { Some(low + ahead) } else { None }
+}
+
+/// How many steps lead from one identifier up to another, past 0xffff where need be: 0 to 65,534.
+fn steps(from: Id, to: Id) -> u64
+    ensures few { result < 65535 }
+    ensures reached { (from + result - 1) % 65535 + 1 ≡ to }
+{
+    let from = u64::from(from.get());
+    let to = u64::from(to.get());
+    if from <= to {
+        to - from
+    } else {
+        to + IDENTIFIERS - from
+    }
+}
