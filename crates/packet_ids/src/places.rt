@@ -1,5 +1,5 @@
 ghost use Rattle.std.specs.Prelude.{◌≡◌, ℕ, ◌+◌, ◌-◌, ◌%◌, ◌^◌, ◌<◌, ◌≤◌, Some, IfSome, IfNone};
-ghost use Rattle.packet_ids.specs.Identifier.{identifier_at, IsIdentifier, IsPlaceOf};
+ghost use Rattle.packet_ids.specs.Identifier.{identifier_at, IsPlaceOf};
 
 use crate::Id;
 
