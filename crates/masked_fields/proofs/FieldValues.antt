@@ -1,5 +1,5 @@
 -- Fields and the values that fit them.
-use Rattle.std.proofs.Common.{◌≡◌, ℕ, ◌+◌, ◌-◌, ◌*◌, ◌/◌, ◌%◌, ◌^◌, ◌<◌, ◌≤◌, bit_and, bit_or, sym, ◌∙◌, ap, arith}
+use Rattle.std.proofs.Common.{◌≡◌, ℕ, ◌+◌, ◌-◌, ◌*◌, ◌/◌, ◌%◌, ◌^◌, ◌<◌, bit_and, sym, ◌∙◌, ap, arith}
 use Rattle.std.specs.Int.Bits.{and_self, and_zero_r}
 use Rattle.std.proofs.lemmas.Nat.{shl-shr, shr_split, and_mod, and_assoc, and_le_r, shl_whole}
 use Rattle.masked_fields.specs.Field.{shift, field, shifted, FitsMask, put_field}

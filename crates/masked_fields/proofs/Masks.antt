@@ -1,5 +1,5 @@
 -- A mask m of 32 bits, its complement, and numbers that have no bit outside it.
-use Rattle.std.proofs.Common.{◌≡◌, ℕ, ◌+◌, ◌-◌, ◌^◌, ◌<◌, ◌≤◌, bit_and, bit_or, sym, ◌∙◌, ap, arith}
+use Rattle.std.proofs.Common.{◌≡◌, ℕ, ◌+◌, ◌^◌, ◌<◌, bit_and, bit_or, sym, ◌∙◌, ap, arith}
 use Rattle.std.specs.Int.{w32, bit_not}
 use Rattle.std.specs.Int.Bits.{and_self, and_zero_r}
 use Rattle.std.proofs.lemmas.Nat.{and-not, and_assoc, and_comm, and_le_l, and_le_r, and_or_apart, or_comm, or_disjoint, or_lt}

@@ -1,6 +1,6 @@
 -- The lowest one of a number stands above bit 0 by the greatest power of two that divides the number.
-use Rattle.std.proofs.Common.{◌≡◌, ℕ, ◌+◌, ◌*◌, ◌/◌, ◌%◌, ◌^◌, ◌<◌, ◌≤◌, sym, ◌∙◌, ap, arith, inl, inr}
-use Rattle.std.specs.Int.{w32, bit_at, trailing_zeros}
+use Rattle.std.proofs.Common.{◌≡◌, ℕ, ◌/◌, ◌%◌, ◌^◌, ◌<◌, sym, ◌∙◌, ap, arith, inl, inr}
+use Rattle.std.specs.Int.{w32, bit_at}
 use Rattle.std.proofs.lemmas.Nat.{shr_split, pow_pos, mod_below}
 use Rattle.std.proofs.lemmas.Nat.Bits.{bit_at-trailing_zeros, bit_at_cat_low, bit_at_above, bit_at-zero, same_from_bits}
 use Rattle.std.proofs.Math.Nat.{le_antisymm}

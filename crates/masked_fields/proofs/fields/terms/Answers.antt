@@ -1,4 +1,4 @@
-use Rattle.std.proofs.Common.{◌≡◌, ℕ, ◌-◌, ◌*◌, ◌%◌, ◌^◌, bit_and, bit_or, sym, ◌∙◌, ap, subst, rules}
+use Rattle.std.proofs.Common.{◌≡◌, ℕ, ◌-◌, ◌^◌, bit_and, bit_or, sym, ◌∙◌, ap, subst, rules}
 use Rattle.masked_fields.specs.Field.{shifted, FitsMask}
 use Rattle.masked_fields.proofs.Masks.{joined}
 use Rattle.masked_fields.proofs.FieldValues.{FitsMask-field, shifted_whole}
