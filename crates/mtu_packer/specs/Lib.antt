@@ -1,0 +1,5 @@
+pub mod Cutting
+pub mod Packing
+pub mod Packed
+pub mod Progress
+pub mod Span
