@@ -1,7 +1,8 @@
 -- What is known of each piece.
-use Rattle.std.proofs.Common.{◌≡◌, ℕ, ◌+◌, ◌-◌, ◌*◌, ◌/◌, ◌%◌, ◌^◌, ◌<◌, ◌≤◌, ◌++◌, [], ◌∷◌, length, map, min, take, drop, arith, length-take}
+use Rattle.std.proofs.Common.{◌≡◌, ℕ, ◌+◌, ◌-◌, ◌*◌, ◌/◌, ◌%◌, zero, suc, ◌^◌, ◌<◌, ◌≤◌, ◌++◌, [], ◌∷◌, length, map, min, take, drop, arith, length-take, List, sum_by, length-append}
 use Rattle.std.specs.Int.{div_ceil}
-use Rattle.std.specs.List.{AllByRecursion, range_with_len}
+use Rattle.std.specs.List.{AllByRecursion, flat_map, range_with_len}
+use Rattle.std.proofs.lemmas.List.Sums.{sum_by-append}
 use Rattle.std.proofs.lemmas.Grind.{div_ceil_times}
 use Rattle.std.proofs.lemmas.List.FromFn.{length-map-range_with_len}
 use Rattle.transaction_codec.specs.declared.request.Op.{Op}
@@ -36,3 +37,12 @@ pieces_fit payload op from (suc count) low = (piece_fits payload op from low, pi
 
 pub cut_fits : (payload : ℕ) (op : Op) → 16 ≤ payload → AllByRecursion (FitsAlone payload) (cut payload op)
 cut_fits payload op low = pieces_fit payload op 0 (piece_count payload op) low
+
+-- no operation has more pieces than words
+piece_count-le : (payload : ℕ) (op : Op) → 16 ≤ payload → piece_count payload op ≤ op_count op
+piece_count-le payload op low = ?
+
+pub pieces-le : (payload : ℕ) (ops : List Op) → 16 ≤ payload → length (flat_map (cut payload) ops) ≤ sum_by op_count ops
+pieces-le payload [] low = omega arith
+pieces-le payload (op ∷ ops) low =
+  omega (arith, pieces-le payload ops low, piece_count-le payload op low, length-cut payload op, length-append (cut payload op) (flat_map (cut payload) ops), sum_by-append op_count (op ∷ []) ops)

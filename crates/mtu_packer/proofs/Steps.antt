@@ -22,6 +22,12 @@ pub record Room (progress : Progress) (op : Op) : Type 0 where
 pub room : (progress : Progress) (op : Op) → has_room progress op ≡ true → Room progress op
 room progress op test = record { request = grind (arith, nat_tests); reply = grind (arith, nat_tests) }
 
+pub has_room_from : (progress : Progress) (op : Op) → Room progress op → has_room progress op ≡ true
+has_room_from progress op bounds =
+  let request : length progress.open_body + length (op_words op) + 2 ≤ progress.payload = bounds.request in
+  let reply : progress.reply + values_done op + 2 ≤ progress.payload = bounds.reply in
+  grind (arith, nat_tests)
+
 pub some_words : (op : Op) → 1 ≤ length (op_words op)
 some_words (Read base count) = omega arith
 some_words (ReadPort base count) = omega arith
@@ -32,9 +38,7 @@ some_words (RmwSum base addend) = omega arith
 
 pub room_for_one : (progress : Progress) (op : Op) → FitsAlone progress.payload op → length progress.open_body ≡ 0 → progress.reply ≡ 0 → has_room progress op ≡ true
 room_for_one progress op alone empty unread =
-  let request : length progress.open_body + length (op_words op) + 2 ≤ progress.payload = omega (arith, alone.request) in
-  let reply : progress.reply + values_done op + 2 ≤ progress.payload = omega (arith, alone.reply) in
-  grind (arith, nat_tests)
+  has_room_from progress op (record { request = omega (arith, alone.request); reply = omega (arith, alone.reply) })
 
 -- a piece finds no room only where another is there already
 pub begun_without_room : (progress : Progress) (op : Op) → IsWithin progress → FitsAlone progress.payload op → has_room progress op ≡ false → 1 ≤ progress.requests

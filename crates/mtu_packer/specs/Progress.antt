@@ -1,5 +1,5 @@
 -- The packer at work, piece by piece.
-use Rattle.std.specs.Prelude.{◌≡◌, ℕ, ◌+◌, ◌*◌, ◌^◌, ◌<◌, ◌≤◌, Bool, ◌&&◌, nat_le, if◌then◌else◌, min, List, [], ◌∷◌, ◌++◌, length, fold}
+use Rattle.std.specs.Prelude.{◌≡◌, ℕ, ◌+◌, ◌*◌, ◌^◌, ◌<◌, ◌≤◌, Bool, ◌&&◌, ◌==◌, nat_le, if◌then◌else◌, min, List, [], ◌∷◌, ◌++◌, length, fold}
 use Rattle.std.specs.List.{AllByRecursion}
 use Rattle.ipb_base.specs.Word.{AreWords}
 use Rattle.transaction_codec.specs.declared.request.Op.{Op}
@@ -42,6 +42,10 @@ step progress op = if has_room progress op then added progress op else added (cl
 
 abbrev pub run : Progress → List Op → Progress
 run progress pieces = fold step progress pieces
+
+-- the bodies, with the open one where it has a piece
+abbrev pub finished : Progress → List (List ℕ)
+finished progress = if progress.requests == 0 then progress.bodies else (closed progress).bodies
 
 -- a piece fits an empty body
 pub record FitsAlone (payload : ℕ) (op : Op) : Type 0 where

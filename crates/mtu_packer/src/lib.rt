@@ -5,7 +5,10 @@
 #![tactic(auto)]
 
 mod cutting;
+pub mod laws;
+mod packing;
 mod packed;
 mod packer;
 
+pub use packing::pack;
 pub use packed::{Packed, Piece};

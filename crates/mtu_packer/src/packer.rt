@@ -1,15 +1,17 @@
-ghost use Rattle.std.specs.Prelude.{◌≡◌, ◌+◌, ◌^◌, ◌<◌, ◌≤◌, ◌++◌, OnOk, length, true};
+ghost use Rattle.std.specs.Prelude.{◌≡◌, ◌+◌, ◌^◌, ◌<◌, ◌≤◌, ◌++◌, IfOk, OnOk, length, map, true};
+ghost use Rattle.std.specs.List.{AllByRecursion};
 ghost use Rattle.ipb_base.specs.Word.{AreWords};
 ghost use Rattle.transaction_codec.specs.First.{op_of};
 ghost use Rattle.transaction_codec.specs.Request.{op_count, op_words, request_words};
 ghost use Rattle.transaction_codec.specs.Answer as answer;
 ghost use Rattle.mtu_packer.specs.Cutting as spec;
 ghost use Rattle.mtu_packer.specs.Cutting.{CanBeCut, cut};
+ghost use Rattle.mtu_packer.specs.Span.{span_places, AreWithin};
 ghost use Rattle.mtu_packer.specs.Progress as progress;
 ghost use Rattle.mtu_packer.specs.Progress.{IsWithin, FitsAlone, closed, added, step, run};
 
 use crate::cutting::{piece, piece_count};
-use crate::packed::Piece;
+use crate::packed::{Packed, Piece, Span};
 use std::alloc::Global;
 use std::marker::Model;
 use std::mem;
@@ -136,6 +138,29 @@ impl Packer {
             self.push(&piece(op, payload, k))?;
         }
         Ok(())
+    }
+
+    /// Closes the last body. Each operation has the places of its span.
+    pub(crate) fn finish(mut self, spans: Vec<Span>) -> Result<Packed, NoMemory>
+        requires within { IsWithin self }
+        requires spans { AreWithin (length self.places) spans.items }
+        ensures bodies { IfOk result (λ packed. packed.bodies ≡ progress.finished self) }
+        ensures words { IfOk result (λ packed. AllByRecursion AreWords packed.bodies) }
+        ensures pieces { IfOk result (λ packed. packed.pieces ≡ map (span_places self.places) spans.items) }
+    {
+        if self.requests > 0 {
+            self.close()?;
+        }
+        let Packer {
+            alloc: _,
+            payload: _,
+            bodies,
+            open_body: _,
+            requests: _,
+            reply: _,
+            places,
+        } = self;
+        Ok(Packed::new(bodies, places, spans))
     }
 }
 
