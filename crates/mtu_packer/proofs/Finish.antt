@@ -30,18 +30,17 @@ all_fit payload (op ∷ ops) low = AllByRecursion-append (FitsAlone payload) (cu
 two_words_each : (tid : ℕ) (part : List Op) → 2 * length part ≤ length (requests_words (numbered tid part))
 two_words_each tid [] = omega arith
 two_words_each tid (op ∷ part) =
-  omega (arith, two_words_each (tid + 1) part, some_words op, length-append (request_words (record { tid = tid; op = op })) (requests_words (numbered (tid + 1) part)))
+    omega (arith, two_words_each (tid + 1) part, some_words op, length-append (request_words (record { tid = tid; op = op })) (requests_words (numbered (tid + 1) part)))
 
 spelled : (payload tid : ℕ) (part : List Op) → AreWords (requests_words (numbered tid part)) → AllByRecursion (FitsAlone payload) part → tid + length part ≤ 2 ^ 12 → AreRequests (numbered tid part)
 spelled payload tid [] words fit few = tt
 spelled payload tid (op ∷ part) words fit few =
-  let request : Request = record { tid = tid; op = op } in
-  let rest = requests_words (numbered (tid + 1) part) in
-  let own = front_of_all (λ (n : ℕ). n < 2 ^ 32) (request_words request) rest words in
-  (
-    record { tid = omega arith; count = omega (arith, fit.0.count); words = own.1 },
-    spelled payload (tid + 1) part (back_of_all (λ (n : ℕ). n < 2 ^ 32) (request_words request) rest words) fit.1 (omega arith),
-  )
+    let request : Request = record { tid = tid; op = op } in
+    let rest = requests_words (numbered (tid + 1) part) in
+    let own = front_of_all (λ (n : ℕ). n < 2 ^ 32) (request_words request) rest words in (
+      record { tid = omega arith; count = omega (arith, fit.0.count); words = own.1 },
+      spelled payload (tid + 1) part (back_of_all (λ (n : ℕ). n < 2 ^ 32) (request_words request) rest words) fit.1 (omega arith),
+    )
 
 all_spelled : (payload : ℕ) (parts : List (List Op)) → payload ≤ 2243 → AllByRecursion AreWords (map body_words parts) → AllByRecursion (AllByRecursion (FitsAlone payload)) parts
     → AllByRecursion (Fits payload) parts → AreSpelled parts
@@ -75,60 +74,60 @@ no_lists (part ∷ parts) none = absurd (omega arith)
 -- nothing is taken
 none_finished : (progress : Progress) (taken : List Op) → progress.requests ≡ 0 → Holds progress taken → Finished progress progress.payload taken
 none_finished progress taken none holds =
-  let last = nothing holds.part (omega (arith, holds.represents.requests, none)) in
-  let first = no_lists holds.parts (holds.is_open.begun (omega (arith, holds.represents.requests, none))) in
-  record {
-    parts = [];
-    whole = sym (ap (λ xs. flat_map (λ ys. ys) xs ++ holds.part) first ∙ last) ∙ holds.whole;
-    filled = tt;
-    fits = tt;
-    full = tt;
-    bodies = finished-none progress none ∙ holds.represents.bodies ∙ ap (map body_words) first;
-    places = holds.represents.places ∙ ap (λ xs. places_from 0 xs ++ places_in (length xs) (length holds.part)) first ∙ ap (λ xs. places_in 0 (length xs)) last;
-  }
+    let last = nothing holds.part (omega (arith, holds.represents.requests, none)) in
+    let first = no_lists holds.parts (holds.is_open.begun (omega (arith, holds.represents.requests, none))) in
+    record {
+      parts = [];
+      whole = sym (ap (λ xs. flat_map (λ ys. ys) xs ++ holds.part) first ∙ last) ∙ holds.whole;
+      filled = tt;
+      fits = tt;
+      full = tt;
+      bodies = finished-none progress none ∙ holds.represents.bodies ∙ ap (map body_words) first;
+      places = holds.represents.places ∙ ap (λ xs. places_from 0 xs ++ places_in (length xs) (length holds.part)) first ∙ ap (λ xs. places_in 0 (length xs)) last;
+    }
 
 some_finished : (progress : Progress) (taken : List Op) → 1 ≤ progress.requests → Holds progress taken → Finished progress progress.payload taken
 some_finished progress taken some holds =
-  let parts = holds.parts in
-  let part = holds.part in
-  let is = closed_represents progress parts part holds.represents in
-  record {
-    parts = parts ++ part ∷ [];
-    whole = closed_whole parts part ∙ holds.whole;
-    filled = AllByRecursion-append (λ xs. 0 < length xs) parts (part ∷ []) holds.is_open.filled (omega (arith, holds.represents.requests, some), tt);
-    fits = AllByRecursion-append (Fits progress.payload) parts (part ∷ []) holds.is_open.fits (holds.is_open.last, tt);
-    full = holds.is_open.full;
-    bodies = finished-some progress some ∙ is.bodies;
-    places = is.places ∙ append-nil (places_from 0 (parts ++ part ∷ []));
-  }
+    let parts = holds.parts in
+    let part = holds.part in
+    let is = closed_represents progress parts part holds.represents in
+    record {
+      parts = parts ++ part ∷ [];
+      whole = closed_whole parts part ∙ holds.whole;
+      filled = AllByRecursion-append (λ xs. 0 < length xs) parts (part ∷ []) holds.is_open.filled (omega (arith, holds.represents.requests, some), tt);
+      fits = AllByRecursion-append (Fits progress.payload) parts (part ∷ []) holds.is_open.fits (holds.is_open.last, tt);
+      full = holds.is_open.full;
+      bodies = finished-some progress some ∙ is.bodies;
+      places = is.places ∙ append-nil (places_from 0 (parts ++ part ∷ []));
+    }
 
 holds_finished : (progress : Progress) (taken : List Op) → Holds progress taken → Finished progress progress.payload taken
 holds_finished progress taken holds = elim (cases_eq progress.requests 0) [
-  inl none ↦ none_finished progress taken none holds
+  | inl none ↦ none_finished progress taken none holds
   | inr some ↦ some_finished progress taken (omega arith) holds
 ]
 
 run_finished : (payload : ℕ) (ops : List Op) → 16 ≤ payload → Finished (run (start payload) (flat_map (cut payload) ops)) payload (flat_map (cut payload) ops)
 run_finished payload ops low =
-  let pieces = flat_map (cut payload) ops in
-  subst (λ n. Finished (run (start payload) pieces) n pieces) (run-payload (start payload) pieces)
+    let pieces = flat_map (cut payload) ops in
+    subst (λ n. Finished (run (start payload) pieces) n pieces) (run-payload (start payload) pieces)
     (holds_finished (run (start payload) pieces) pieces (run_holds (start payload) [] pieces (all_fit payload ops low) (start_holds payload (omega arith))))
 
 pub over_packed : (ops : List Op) (payload : ℕ) (progress : Progress) (spans : List Span) (contents : Contents) → 16 ≤ payload → payload ≤ 2243 → Over ops payload progress spans
     → contents.bodies ≡ finished progress → AllByRecursion AreWords contents.bodies → contents.pieces ≡ map (span_places progress.places) spans → IsPacked ops payload contents
 over_packed ops payload progress spans contents low high over bodies words pieces =
-  let ended = run_finished payload ops low in
-  let same_bodies : contents.bodies ≡ map body_words ended.parts = bodies ∙ ap finished over.taken ∙ ended.bodies in
-  let counts = map (piece_count payload) ops in
-  record {
-    parts = ended.parts;
-    packing = record { whole = ended.whole; filled = ended.filled; fits = ended.fits; full = ended.full };
-    spelled = all_spelled payload ended.parts high (subst (AllByRecursion AreWords) same_bodies words)
-      (all_of_each (FitsAlone payload) ended.parts (subst (AllByRecursion (FitsAlone payload)) (sym ended.whole) (all_fit payload ops low))) ended.fits;
-    bodies = same_bodies;
-    pieces = pieces ∙ ap (map (span_places progress.places)) over.spanned ∙ places-dealt progress.places 0 counts
-      ∙ ap (dealt counts) (ap (λ p. p.places) over.taken ∙ ended.places);
-  }
+    let ended = run_finished payload ops low in
+    let same_bodies : contents.bodies ≡ map body_words ended.parts = bodies ∙ ap finished over.taken ∙ ended.bodies in
+    let counts = map (piece_count payload) ops in
+    record {
+      parts = ended.parts;
+      packing = record { whole = ended.whole; filled = ended.filled; fits = ended.fits; full = ended.full };
+      spelled = all_spelled payload ended.parts high (subst (AllByRecursion AreWords) same_bodies words)
+          (all_of_each (FitsAlone payload) ended.parts (subst (AllByRecursion (FitsAlone payload)) (sym ended.whole) (all_fit payload ops low))) ended.fits;
+      bodies = same_bodies;
+      pieces = pieces ∙ ap (map (span_places progress.places)) over.spanned ∙ places-dealt progress.places 0 counts
+          ∙ ap (dealt counts) (ap (λ p. p.places) over.taken ∙ ended.places);
+    }
 
 -- the three clauses of the last step, as one
 pub answer_packed : (ops : List Op) (payload : ℕ) (progress : Progress) (spans : List Span) → 16 ≤ payload → payload ≤ 2243 → Over ops payload progress spans → (result : Result Contents NoMemory)

@@ -5,4 +5,3 @@ pub mod Parts
 pub mod Whole
 pub mod Finish
 pub mod Unique
-

@@ -3,7 +3,8 @@ use Rattle.std.proofs.Common.{◌≡◌, ℕ, ◌+◌, ◌-◌, ◌*◌, ◌/◌
 use Rattle.std.specs.Int.{div_ceil}
 use Rattle.std.specs.List.{AllByRecursion, flat_map, range_with_len}
 use Rattle.std.proofs.lemmas.List.Sums.{sum_by-append}
-use Rattle.std.proofs.lemmas.Grind.{div_ceil_times}
+use Rattle.std.proofs.lemmas.Nat.{div-add-mod'}
+use Rattle.std.proofs.Math.Nat.{mul-le-mul_left}
 use Rattle.std.proofs.lemmas.List.FromFn.{length-map-range_with_len}
 use Rattle.transaction_codec.specs.declared.request.Op.{Op}
 use Rattle.transaction_codec.specs.declared.request.Op.TheVariants.{Read, ReadPort, Write, WritePort, RmwBits, RmwSum}
@@ -20,11 +21,11 @@ part_fits : (payload : ℕ) (op : Op) (offset count : ℕ) → 16 ≤ payload �
 part_fits payload (Read base all) offset count low few = record { count = omega arith; request = omega arith; reply = omega arith }
 part_fits payload (ReadPort base all) offset count low few = record { count = omega arith; request = omega arith; reply = omega arith }
 part_fits payload (Write base words) offset count low few =
-  let short = length-take count (drop offset words) in
-  record { count = omega (arith, short); request = omega (arith, short); reply = omega arith }
+    let short = length-take count (drop offset words) in
+    record { count = omega (arith, short); request = omega (arith, short); reply = omega arith }
 part_fits payload (WritePort base words) offset count low few =
-  let short = length-take count (drop offset words) in
-  record { count = omega (arith, short); request = omega (arith, short); reply = omega arith }
+    let short = length-take count (drop offset words) in
+    record { count = omega (arith, short); request = omega (arith, short); reply = omega arith }
 part_fits payload (RmwBits base and_term or_term) offset count low few = record { count = omega arith; request = omega arith; reply = omega arith }
 part_fits payload (RmwSum base addend) offset count low few = record { count = omega arith; request = omega arith; reply = omega arith }
 
@@ -38,11 +39,22 @@ pieces_fit payload op from (suc count) low = (piece_fits payload op from low, pi
 pub cut_fits : (payload : ℕ) (op : Op) → 16 ≤ payload → AllByRecursion (FitsAlone payload) (cut payload op)
 cut_fits payload op low = pieces_fit payload op 0 (piece_count payload op) low
 
+div_ceil-le : (n k : ℕ) → 1 ≤ k → div_ceil n k ≤ n
+div_ceil-le n k some = omega (arith, div-add-mod' n k, mul-le-mul_left (n / k) some)
+
+piece_limit-some : (payload : ℕ) (op : Op) → 16 ≤ payload → 1 ≤ piece_limit payload op
+piece_limit-some payload (Read base all) low = omega arith
+piece_limit-some payload (ReadPort base all) low = omega arith
+piece_limit-some payload (Write base words) low = omega arith
+piece_limit-some payload (WritePort base words) low = omega arith
+piece_limit-some payload (RmwBits base and_term or_term) low = omega arith
+piece_limit-some payload (RmwSum base addend) low = omega arith
+
 -- no operation has more pieces than words
 piece_count-le : (payload : ℕ) (op : Op) → 16 ≤ payload → piece_count payload op ≤ op_count op
-piece_count-le payload op low = ?
+piece_count-le payload op low = div_ceil-le (op_count op) (piece_limit payload op) (piece_limit-some payload op low)
 
 pub pieces-le : (payload : ℕ) (ops : List Op) → 16 ≤ payload → length (flat_map (cut payload) ops) ≤ sum_by op_count ops
 pieces-le payload [] low = omega arith
 pieces-le payload (op ∷ ops) low =
-  omega (arith, pieces-le payload ops low, piece_count-le payload op low, length-cut payload op, length-append (cut payload op) (flat_map (cut payload) ops), sum_by-append op_count (op ∷ []) ops)
+    omega (arith, pieces-le payload ops low, piece_count-le payload op low, length-cut payload op, length-append (cut payload op) (flat_map (cut payload) ops), sum_by-append op_count (op ∷ []) ops)

@@ -20,8 +20,8 @@ joined parts = flat_map (λ part. part) parts
 words_grow : (tid : ℕ) (front back : List Op) → length (requests_words (numbered tid front)) ≤ length (requests_words (numbered tid (front ++ back)))
 words_grow tid [] back = omega arith
 words_grow tid (op ∷ front) back =
-  let request = request_words (record { tid = tid; op = op }) in
-  omega (arith, words_grow (tid + 1) front back, length-append request (requests_words (numbered (tid + 1) front)), length-append request (requests_words (numbered (tid + 1) (front ++ back))))
+    let request = request_words (record { tid = tid; op = op }) in
+    omega (arith, words_grow (tid + 1) front back, length-append request (requests_words (numbered (tid + 1) front)), length-append request (requests_words (numbered (tid + 1) (front ++ back))))
 
 front_fits : (payload : ℕ) (front back : List Op) → Fits payload (front ++ back) → Fits payload front
 front_fits payload front back fits = record {
@@ -42,10 +42,10 @@ longer [] rest [] other same less = absurd (omega arith)
 longer [] rest (op ∷ long) other same less = record { next = op; more = long; split = refl; following = same }
 longer (op ∷ short) rest [] other same less = absurd (omega arith)
 longer (op ∷ short) rest (first ∷ long) other same less =
-  let tails : short ++ rest ≡ long ++ other = cc in
-  let heads : first ≡ op = cc in
-  let after = longer short rest long other tails (omega arith) in
-  record { next = after.next; more = after.more; split = ap (λ x. x ∷ long) heads ∙ ap (λ xs. op ∷ xs) after.split; following = after.following }
+    let tails : short ++ rest ≡ long ++ other = cc in
+    let heads : first ≡ op = cc in
+    let after = longer short rest long other tails (omega arith) in
+    record { next = after.next; more = after.more; split = ap (λ x. x ∷ long) heads ∙ ap (λ xs. op ∷ xs) after.split; following = after.following }
 
 record Same (left rest right other : List Op) : Type 0 where
   front : left ≡ right
@@ -56,10 +56,10 @@ same_front [] rest [] other same long = record { front = refl; back = same }
 same_front [] rest (op ∷ right) other same long = absurd (omega arith)
 same_front (op ∷ left) rest [] other same long = absurd (omega arith)
 same_front (op ∷ left) rest (first ∷ right) other same long =
-  let tails : left ++ rest ≡ right ++ other = cc in
-  let heads : op ≡ first = cc in
-  let after = same_front left rest right other tails (omega arith) in
-  record { front = ap (λ x. x ∷ left) heads ∙ ap (λ xs. first ∷ xs) after.front; back = after.back }
+    let tails : left ++ rest ≡ right ++ other = cc in
+    let heads : op ≡ first = cc in
+    let after = same_front left rest right other tails (omega arith) in
+    record { front = ap (λ x. x ∷ left) heads ∙ ap (λ xs. first ∷ xs) after.front; back = after.back }
 
 -- ---- no body is longer than the one that is packed there
 
@@ -68,15 +68,15 @@ over_full : (payload : ℕ) (part : List Op) (parts : List (List Op)) (long othe
 over_full payload part [] long other full filled fits is = let same = is.following in cc
 over_full payload part ([] ∷ parts) long other full filled fits is = absurd (let some = filled.0 in omega arith)
 over_full payload part ((op ∷ next) ∷ parts) long other full filled fits is =
-  let same = is.following in
-  let first : is.next ≡ op = cc in
-  let split : long ≡ (part ++ op ∷ []) ++ is.more = is.split ∙ ap (λ x. part ++ x ∷ is.more) first ∙ sym (append_assoc part (op ∷ []) is.more) in
-  full.0 (front_fits payload (part ++ op ∷ []) is.more (subst (Fits payload) split fits))
+    let same = is.following in
+    let first : is.next ≡ op = cc in
+    let split : long ≡ (part ++ op ∷ []) ++ is.more = is.split ∙ ap (λ x. part ++ x ∷ is.more) first ∙ sym (append_assoc part (op ∷ []) is.more) in
+    full.0 (front_fits payload (part ++ op ∷ []) is.more (subst (Fits payload) split fits))
 
 not_longer : (payload : ℕ) (part : List Op) (parts : List (List Op)) (long other : List Op) → AreFull payload (part ∷ parts) → AllByRecursion (λ xs. 0 < length xs) parts → Fits payload long
     → part ++ joined parts ≡ long ++ other → length long ≤ length part
 not_longer payload part parts long other full filled fits same = elim (cases_lt (length part) (length long)) [
-  inl less ↦ absurd (over_full payload part parts long other full filled fits (longer part (joined parts) long other same less))
+  | inl less ↦ absurd (over_full payload part parts long other full filled fits (longer part (joined parts) long other same less))
   | inr more ↦ more
 ]
 
@@ -98,19 +98,19 @@ one_packing : (payload : ℕ) (left right : List (List Op)) → IsFilledAndFull 
 one_packing payload [] right is has same = sym (nothing_joined payload right has (sym same))
 one_packing payload (part ∷ left) [] is has same = nothing_joined payload (part ∷ left) is same
 one_packing payload (part ∷ left) (other ∷ right) is has same =
-  let lengths = le_antisymm
+    let lengths = le_antisymm
     (not_longer payload other right part (joined left) has.full has.filled.1 is.fits.0 (sym same))
     (not_longer payload part left other (joined right) is.full is.filled.1 has.fits.0 same) in
-  let both = same_front part (joined left) other (joined right) same lengths in
-  let rest = one_packing payload left right
+    let both = same_front part (joined left) other (joined right) same lengths in
+    let rest = one_packing payload left right
     (record { filled = is.filled.1; fits = is.fits.1; full = full_tail payload part left is.full })
     (record { filled = has.filled.1; fits = has.fits.1; full = full_tail payload other right has.full })
     both.back in
-  ap (λ x. x ∷ left) both.front ∙ ap (λ xs. other ∷ xs) rest
+    ap (λ x. x ∷ left) both.front ∙ ap (λ xs. other ∷ xs) rest
 
 pub packing_unique : (ops : List Op) (payload : ℕ) (one other : List (List Op)) → IsPacking ops payload one → IsPacking ops payload other → one ≡ other
 packing_unique ops payload one other is has =
-  one_packing payload one other (record { filled = is.filled; fits = is.fits; full = is.full }) (record { filled = has.filled; fits = has.fits; full = has.full }) (is.whole ∙ sym has.whole)
+    one_packing payload one other (record { filled = is.filled; fits = is.fits; full = is.full }) (record { filled = has.filled; fits = has.fits; full = has.full }) (is.whole ∙ sym has.whole)
 
 abbrev contents_of : List (List ℕ) → List (List Piece) → Contents
 contents_of bodies pieces = record { bodies = bodies; pieces = pieces }
@@ -120,7 +120,7 @@ same_contents one other bodies pieces = ap (λ b. contents_of b one.pieces) bodi
 
 pub packed_unique : (ops : List Op) (payload : ℕ) (one other : Contents) → IsPacked ops payload one → IsPacked ops payload other → one ≡ other
 packed_unique ops payload one other is has =
-  let same = packing_unique ops payload is.parts has.parts is.packing has.packing in
-  let bodies : one.bodies ≡ other.bodies = is.bodies ∙ ap (map body_words) same ∙ sym has.bodies in
-  let pieces : one.pieces ≡ other.pieces = is.pieces ∙ ap (λ parts. dealt (map (piece_count payload) ops) (places_from 0 parts)) same ∙ sym has.pieces in
-  same_contents one other bodies pieces
+    let same = packing_unique ops payload is.parts has.parts is.packing has.packing in
+    let bodies : one.bodies ≡ other.bodies = is.bodies ∙ ap (map body_words) same ∙ sym has.bodies in
+    let pieces : one.pieces ≡ other.pieces = is.pieces ∙ ap (λ parts. dealt (map (piece_count payload) ops) (places_from 0 parts)) same ∙ sym has.pieces in
+    same_contents one other bodies pieces

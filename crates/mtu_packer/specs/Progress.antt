@@ -31,11 +31,11 @@ closed progress = record progress { bodies = progress.bodies ++ progress.open_bo
 
 abbrev pub added : Progress → Op → Progress
 added progress op = record progress {
-    open_body = progress.open_body ++ request_words (record { tid = progress.requests; op = op });
-    requests = progress.requests + 1;
-    reply = progress.reply + values_done op + 1;
-    places = progress.places ++ record { body = length progress.bodies; index = progress.requests } ∷ [];
-  }
+  open_body = progress.open_body ++ request_words (record { tid = progress.requests; op = op });
+  requests = progress.requests + 1;
+  reply = progress.reply + values_done op + 1;
+  places = progress.places ++ record { body = length progress.bodies; index = progress.requests } ∷ [];
+}
 
 abbrev pub step : Progress → Op → Progress
 step progress op = if has_room progress op then added progress op else added (closed progress) op

@@ -3,6 +3,7 @@
 ghost use Rattle.std.specs.Prelude.{◌≡◌, ℕ, ◌≤◌, List, [], ◌∷◌, length, sum_by};
 ghost use Rattle.std.specs.List.{flat_map};
 ghost use Rattle.transaction_codec.specs.declared.request.Op.{Op};
+ghost use Rattle.transaction_codec.specs.declared.request.Op.TheVariants.{Read, ReadPort, Write};
 ghost use Rattle.transaction_codec.specs.Request.{AreRequests, op_count};
 ghost use Rattle.transaction_codec.specs.Answer.{IsLongestAnswer};
 ghost use Rattle.mtu_packer.specs.Cutting.{cut};
@@ -39,8 +40,7 @@ pub fn reads_are_packed_by_their_replies()
 pub fn a_long_write_is_cut()
     ensures packing { IsPacking (Write 0x100 (1 ∷ 2 ∷ 3 ∷ 4 ∷ 5 ∷ 6 ∷ 7 ∷ 8 ∷ 9 ∷ 10 ∷ 11 ∷ 12 ∷ 13 ∷ 14 ∷ []) ∷ []) 16
         ((Write 0x100 (1 ∷ 2 ∷ 3 ∷ 4 ∷ 5 ∷ 6 ∷ 7 ∷ 8 ∷ 9 ∷ 10 ∷ 11 ∷ 12 ∷ 13 ∷ []) ∷ []) ∷ (Write 0x10d (14 ∷ []) ∷ []) ∷ []) }
-    ensures words {
-        length (body_words (Write 0x100 (1 ∷ 2 ∷ 3 ∷ 4 ∷ 5 ∷ 6 ∷ 7 ∷ 8 ∷ 9 ∷ 10 ∷ 11 ∷ 12 ∷ 13 ∷ []) ∷ [])) ≡ 15 }
+    ensures words { length (body_words (Write 0x100 (1 ∷ 2 ∷ 3 ∷ 4 ∷ 5 ∷ 6 ∷ 7 ∷ 8 ∷ 9 ∷ 10 ∷ 11 ∷ 12 ∷ 13 ∷ []) ∷ [])) ≡ 15 }
 {}
 
 /// A block read of 600 words at a payload of 368 words, and the same of a port.

@@ -6,9 +6,12 @@
 
 mod cutting;
 pub mod laws;
-mod packing;
 mod packed;
 mod packer;
+mod packing;
 
-pub use packing::pack;
 pub use packed::{Packed, Piece};
+pub use packing::pack;
+
+#[cfg(test)]
+mod tests;

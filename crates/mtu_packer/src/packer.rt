@@ -40,12 +40,12 @@ impl Model for Packer {
     ghost Value = { Progress };
 
     ghost view = { λ p. record {
-        payload = p.payload;
-        bodies = p.bodies.items;
-        open_body = p.open_body.items;
-        requests = p.requests;
-        reply = p.reply;
-        places = p.places.items
+      payload = p.payload;
+      bodies = p.bodies.items;
+      open_body = p.open_body.items;
+      requests = p.requests;
+      reply = p.reply;
+      places = p.places.items;
     } };
 }
 
