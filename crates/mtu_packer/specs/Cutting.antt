@@ -25,7 +25,16 @@ piece_offset payload op k = k * piece_limit payload op
 abbrev pub piece_length : ℕ → Op → ℕ → ℕ
 piece_length payload op k = min (piece_limit payload op) (op_count op - piece_offset payload op k)
 
--- the part of an operation that skips `offset` words and has `count` words: the addresses go on, but for a port
+-- the address of a part that skips `offset` words: it goes on, but for a port
+abbrev pub part_address : Op → ℕ → ℕ
+part_address (Read base count) offset = base + offset
+part_address (ReadPort base count) offset = base
+part_address (Write base words) offset = base + offset
+part_address (WritePort base words) offset = base
+part_address (RmwBits base and_term or_term) offset = base
+part_address (RmwSum base addend) offset = base
+
+-- the part of an operation that skips `offset` words and has `count` words
 abbrev pub part_of : Op → ℕ → ℕ → Op
 part_of (Read base all) offset count = Read (base + offset) count
 part_of (ReadPort base all) offset count = ReadPort base count

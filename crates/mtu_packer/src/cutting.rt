@@ -55,6 +55,19 @@ pub(crate) fn piece(op: &Op, payload: u32, k: usize) -> OpRef<'_>
     part(op, offset, limit.min(count - offset))
 }
 
+/// The address of a part that skips `offset` words: it goes on, but for a port.
+fn part_address(op: &Op, offset: usize) -> u32
+    requires sound { CanBeCut op.now }
+    requires within { offset < request.op_count op.now }
+    ensures { result ≡ spec.part_address op.now offset }
+{
+    match op {
+        Op::Read { base, .. } | Op::Write { base, .. } => *base + offset as u32,
+        Op::ReadPort { base, .. } | Op::WritePort { base, .. } => *base,
+        Op::RmwBits { base, .. } | Op::RmwSum { base, .. } => *base,
+    }
+}
+
 /// The part of an operation that skips `offset` words and has `count` words.
 fn part(op: &Op, offset: usize, count: usize) -> OpRef<'_>
     requires sound { CanBeCut op.now }
@@ -63,34 +76,35 @@ fn part(op: &Op, offset: usize, count: usize) -> OpRef<'_>
     requires few { count ≤ 255 }
     ensures { op_of result ≡ part_of op.now offset count }
 {
+    let base = part_address(op, offset);
     match op {
-        Op::Read { base, .. } => OpRef::Read {
-            base: *base + offset as u32,
+        Op::Read { .. } => OpRef::Read {
+            base,
             count: count as u32,
         },
-        Op::ReadPort { base, .. } => OpRef::ReadPort {
-            base: *base,
+        Op::ReadPort { .. } => OpRef::ReadPort {
+            base,
             count: count as u32,
         },
-        Op::Write { base, words } => OpRef::Write {
-            base: *base + offset as u32,
+        Op::Write { words, .. } => OpRef::Write {
+            base,
             words: &words.as_slice()[offset..offset + count],
         },
-        Op::WritePort { base, words } => OpRef::WritePort {
-            base: *base,
+        Op::WritePort { words, .. } => OpRef::WritePort {
+            base,
             words: &words.as_slice()[offset..offset + count],
         },
         Op::RmwBits {
-            base,
             and_term,
             or_term,
+            ..
         } => OpRef::RmwBits {
-            base: *base,
+            base,
             and_term: *and_term,
             or_term: *or_term,
         },
-        Op::RmwSum { base, addend } => OpRef::RmwSum {
-            base: *base,
+        Op::RmwSum { addend, .. } => OpRef::RmwSum {
+            base,
             addend: *addend,
         },
     }
