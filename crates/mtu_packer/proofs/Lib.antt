@@ -5,3 +5,4 @@ pub mod Parts
 pub mod Whole
 pub mod Finish
 pub mod Unique
+pub mod Doing

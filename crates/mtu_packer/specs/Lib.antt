@@ -1,3 +1,4 @@
+pub mod Accesses
 pub mod Cutting
 pub mod Packing
 pub mod Packed

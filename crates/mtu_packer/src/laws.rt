@@ -6,6 +6,7 @@ ghost use Rattle.transaction_codec.specs.declared.request.Op.{Op};
 ghost use Rattle.transaction_codec.specs.declared.request.Op.TheVariants.{Read, ReadPort, Write};
 ghost use Rattle.transaction_codec.specs.Request.{AreRequests, op_count};
 ghost use Rattle.transaction_codec.specs.Answer.{IsLongestAnswer};
+ghost use Rattle.mtu_packer.specs.Accesses.{accesses};
 ghost use Rattle.mtu_packer.specs.Cutting.{cut};
 ghost use Rattle.mtu_packer.specs.Packing.{IsPacking, body_requests, body_words, longest_reply};
 ghost use Rattle.mtu_packer.specs.Packed.{Contents, IsPacked, places_from};
@@ -50,4 +51,9 @@ pub fn a_block_read_is_cut_by_the_words_field()
     ensures packing { IsPacking (Read 0x1000 600 ∷ []) 368 ((Read 0x1000 255 ∷ []) ∷ (Read 0x10ff 255 ∷ Read 0x11fe 90 ∷ []) ∷ []) }
     ensures places { places_from 0 ((Read 0x1000 255 ∷ []) ∷ (Read 0x10ff 255 ∷ Read 0x11fe 90 ∷ []) ∷ [])
         ≡ record { body = 0; index = 0 } ∷ record { body = 1; index = 0 } ∷ record { body = 1; index = 1 } ∷ [] }
+{}
+
+/// To do the pieces of an operation one after the other is to do the operation, access by access.
+pub fn the_pieces_do_what_the_operation_does()
+    ensures { (op : Op) (payload : ℕ) → 16 ≤ payload → flat_map accesses (cut payload op) ≡ accesses op }
 {}
