@@ -1,5 +1,5 @@
 -- To do the pieces of an operation is to do the operation.
-use Rattle.std.proofs.Common.{◌≡◌, ℕ, zero, suc, ◌+◌, ◌-◌, ◌*◌, ◌/◌, ◌%◌, ◌<◌, ◌≤◌, ◌++◌, List, [], ◌∷◌, length, map, min, take, drop, refl, sym, subst, ap, ◌∙◌, inl, inr, arith, append-nil, length-take, length-drop}
+use Rattle.std.proofs.Common.{◌≡◌, ℕ, zero, suc, ◌+◌, ◌-◌, ◌*◌, ◌≤◌, ◌++◌, List, [], ◌∷◌, length, map, min, take, drop, refl, sym, ap, ◌∙◌, inl, inr, arith, append-nil, length-take, length-drop}
 use Rattle.std.specs.Int.{div_ceil}
 use Rattle.std.specs.List.{flat_map, range_with_len}
 use Rattle.std.proofs.lemmas.Bool.{cases_lt}
@@ -9,9 +9,8 @@ use Rattle.std.proofs.lemmas.List.FromFn.{map-range_with_len_more}
 use Rattle.std.proofs.Math.Seq.{take-add, take-length}
 use Rattle.transaction_codec.specs.declared.request.Op.{Op}
 use Rattle.transaction_codec.specs.declared.request.Op.TheVariants.{Read, ReadPort, Write, WritePort, RmwBits, RmwSum}
-use Rattle.transaction_codec.specs.Request.{op_count}
-use Rattle.mtu_packer.specs.Accesses.{Access, reads, writes, updates, reads_from, writes_from, accesses}
-use Rattle.mtu_packer.specs.Cutting.{cut, piece, piece_count, piece_limit, part_of}
+use Rattle.mtu_packer.specs.Accesses.{reads, writes, reads_from, writes_from, accesses}
+use Rattle.mtu_packer.specs.Cutting.{cut, piece}
 
 reads_from-add : (step base m n : ℕ) → reads_from step base (m + n) ≡ reads_from step base m ++ reads_from step (base + m * step) n
 reads_from-add step base zero n = let none : 0 + n ≡ n = omega arith in let same : base ≡ base + 0 * step = omega arith in ap (reads_from step base) none ∙ ap (λ b. reads_from step b n) same

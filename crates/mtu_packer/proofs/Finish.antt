@@ -1,5 +1,5 @@
 -- What is answered where all operations are packed.
-use Rattle.std.proofs.Common.{◌≡◌, ℕ, ◌+◌, ◌-◌, ◌*◌, ◌^◌, ◌<◌, ◌≤◌, ◌++◌, List, [], ◌∷◌, length, map, take, drop, Bool, true, false, if◌then◌else◌, ◌==◌, refl, sym, subst, ap, ◌∙◌, inl, inr, arith, length-append, append-nil, Result, Ok, Err, IfOk}
+use Rattle.std.proofs.Common.{◌≡◌, ℕ, ◌+◌, ◌*◌, ◌^◌, ◌<◌, ◌≤◌, ◌++◌, List, [], ◌∷◌, length, map, if◌then◌else◌, ◌==◌, refl, sym, subst, ap, ◌∙◌, inl, inr, arith, length-append, append-nil, Result, Ok, Err, IfOk}
 use Rattle.std.specs.List.{AllByRecursion, flat_map}
 use Rattle.std.proofs.lemmas.Bool.{cases_eq}
 use Rattle.std.proofs.lemmas.Bool.Decides.{nat_tests}
@@ -7,14 +7,13 @@ use Rattle.ipb_base.specs.Word.{AreWords}
 use Rattle.ipb_base.specs.declared.no_memory.NoMemory.{NoMemory}
 use Rattle.transaction_codec.specs.declared.request.Op.{Op}
 use Rattle.transaction_codec.specs.declared.request.Request.{Request}
-use Rattle.transaction_codec.specs.Request.{AreRequests, op_words, request_words, requests_words}
-use Rattle.mtu_packer.specs.declared.packed.Piece.{Piece}
+use Rattle.transaction_codec.specs.Request.{AreRequests, request_words, requests_words}
 use Rattle.mtu_packer.specs.declared.packed.Span.{Span}
 use Rattle.mtu_packer.specs.Cutting.{cut, piece_count}
-use Rattle.mtu_packer.specs.Packing.{numbered, body_words, Fits, AreFull, IsPacking, AreSpelled}
+use Rattle.mtu_packer.specs.Packing.{numbered, body_words, Fits, AreFull, AreSpelled}
 use Rattle.mtu_packer.specs.Packed.{places_in, places_from, dealt, Contents, IsPacked}
 use Rattle.mtu_packer.specs.Progress.{Progress, FitsAlone, start, closed, finished, run}
-use Rattle.mtu_packer.specs.Span.{span_places, spans_from}
+use Rattle.mtu_packer.specs.Span.{span_places}
 use Rattle.mtu_packer.proofs.Lists.{AllByRecursion-append, front_of_all, back_of_all, all_of_each}
 use Rattle.mtu_packer.proofs.Steps.{some_words, run-payload}
 use Rattle.mtu_packer.proofs.Pieces.{cut_fits}

@@ -1,6 +1,6 @@
 -- The bodies of a packer at work, as lists of pieces.
-use Rattle.std.proofs.Common.{◌≡◌, ℕ, ◌+◌, ◌-◌, ◌*◌, ◌^◌, ◌<◌, ◌≤◌, ◌++◌, List, [], ◌∷◌, length, map, take, sum_by, Bool, true, false, if◌then◌else◌, refl, sym, subst, ap, ◌∙◌, inl, inr, arith, length-append, append_assoc, append-nil}
-use Rattle.std.specs.List.{AllByRecursion, flat_map, range_with_len}
+use Rattle.std.proofs.Common.{◌≡◌, ℕ, ◌+◌, ◌<◌, ◌≤◌, ◌++◌, List, [], ◌∷◌, length, map, take, true, false, if◌then◌else◌, refl, sym, subst, ap, ◌∙◌, inl, inr, arith, length-append, append_assoc, append-nil}
+use Rattle.std.specs.List.{AllByRecursion, flat_map}
 use Rattle.std.proofs.lemmas.Grind.{flat_map-append}
 use Rattle.std.proofs.lemmas.List.Sums.{sum_by-append}
 use Rattle.std.proofs.lemmas.List.FromFn.{map-range_with_len_more}
@@ -12,7 +12,7 @@ use Rattle.transaction_codec.specs.Request.{AreRequests, op_words, request_words
 use Rattle.transaction_codec.specs.Answer.{values_done, IsLongestAnswer}
 use Rattle.transaction_codec.proofs.Longest.{longest_step, longest_nothing}
 use Rattle.mtu_packer.specs.declared.packed.Piece.{Piece}
-use Rattle.mtu_packer.specs.Packing.{numbered, body_requests, body_words, longest_reply, Fits, AreFull, IsPacking}
+use Rattle.mtu_packer.specs.Packing.{numbered, body_words, longest_reply, Fits, AreFull}
 use Rattle.mtu_packer.specs.Packed.{places_in, places_from}
 use Rattle.mtu_packer.specs.Progress.{Progress, FitsAlone, start, has_room, added, closed, step, run}
 use Rattle.mtu_packer.proofs.Lists.{AllByRecursion-append}

@@ -1,5 +1,5 @@
 -- What is known of each piece.
-use Rattle.std.proofs.Common.{◌≡◌, ℕ, ◌+◌, ◌-◌, ◌*◌, ◌/◌, ◌%◌, zero, suc, ◌^◌, ◌<◌, ◌≤◌, ◌++◌, [], ◌∷◌, length, map, min, take, drop, arith, length-take, List, sum_by, length-append}
+use Rattle.std.proofs.Common.{◌≡◌, ℕ, ◌+◌, ◌/◌, zero, suc, ◌≤◌, [], ◌∷◌, length, map, drop, arith, length-take, List, sum_by, length-append}
 use Rattle.std.specs.Int.{div_ceil}
 use Rattle.std.specs.List.{AllByRecursion, flat_map, range_with_len}
 use Rattle.std.proofs.lemmas.List.Sums.{sum_by-append}
@@ -8,8 +8,7 @@ use Rattle.std.proofs.Math.Nat.{mul-le-mul_left}
 use Rattle.std.proofs.lemmas.List.FromFn.{length-map-range_with_len}
 use Rattle.transaction_codec.specs.declared.request.Op.{Op}
 use Rattle.transaction_codec.specs.declared.request.Op.TheVariants.{Read, ReadPort, Write, WritePort, RmwBits, RmwSum}
-use Rattle.transaction_codec.specs.Request.{op_count, op_words}
-use Rattle.transaction_codec.specs.Answer.{values_done}
+use Rattle.transaction_codec.specs.Request.{op_count}
 use Rattle.mtu_packer.specs.Cutting.{cut, piece, piece_count, piece_length, piece_limit, piece_offset, part_of}
 use Rattle.mtu_packer.specs.Progress.{FitsAlone}
 

@@ -1,15 +1,15 @@
 -- What each step of the packer keeps.
-use Rattle.std.proofs.Common.{◌≡◌, ℕ, ◌+◌, ◌-◌, ◌*◌, ◌^◌, ◌<◌, ◌≤◌, ◌++◌, List, [], ◌∷◌, length, map, Bool, true, false, if◌then◌else◌, sym, ap, ◌∙◌, refl, inl, inr, arith, length-append}
+use Rattle.std.proofs.Common.{◌≡◌, ℕ, ◌+◌, ◌^◌, ◌<◌, ◌≤◌, List, [], ◌∷◌, length, map, true, false, if◌then◌else◌, sym, ap, ◌∙◌, refl, inl, inr, arith, length-append}
 use Rattle.std.proofs.lemmas.Bool.Decides.{nat_tests}
 use Rattle.std.proofs.lemmas.Bool.{cases_eq}
-use Rattle.std.specs.List.{AllByRecursion, range_with_len}
+use Rattle.std.specs.List.{range_with_len}
 use Rattle.std.proofs.lemmas.List.FromFn.{map-range_with_len_more}
 use Rattle.std.proofs.lemmas.List.Sums.{fold_push}
 use Rattle.ipb_base.specs.Word.{AreWords}
 use Rattle.mtu_packer.proofs.Lists.{AllByRecursion-append}
 use Rattle.transaction_codec.specs.declared.request.Op.{Op}
 use Rattle.transaction_codec.specs.declared.request.Op.TheVariants.{Read, ReadPort, Write, WritePort, RmwBits, RmwSum}
-use Rattle.transaction_codec.specs.Request.{op_count, op_words, request_words}
+use Rattle.transaction_codec.specs.Request.{op_words, request_words}
 use Rattle.transaction_codec.specs.Answer.{values_done}
 use Rattle.mtu_packer.specs.Cutting.{piece}
 use Rattle.mtu_packer.specs.Progress.{Progress, IsWithin, FitsAlone, has_room, added, closed, step, run}

@@ -1,5 +1,5 @@
 -- A packing is the only one of its operations.
-use Rattle.std.proofs.Common.{◌≡◌, ℕ, ◌+◌, ◌-◌, ◌*◌, ◌^◌, ◌<◌, ◌≤◌, ◌++◌, List, [], ◌∷◌, length, map, take, sum_by, refl, sym, subst, ap, ◌∙◌, inl, inr, arith, length-append, append_assoc}
+use Rattle.std.proofs.Common.{◌≡◌, ℕ, ◌+◌, ◌<◌, ◌≤◌, ◌++◌, List, [], ◌∷◌, length, map, refl, sym, subst, ap, ◌∙◌, inl, inr, arith, length-append, append_assoc}
 use Rattle.std.specs.List.{AllByRecursion, flat_map}
 use Rattle.std.proofs.lemmas.Bool.{cases_lt}
 use Rattle.std.proofs.lemmas.List.Sums.{sum_by-append}
@@ -8,8 +8,8 @@ use Rattle.transaction_codec.specs.declared.request.Op.{Op}
 use Rattle.transaction_codec.specs.Request.{request_words, requests_words}
 use Rattle.transaction_codec.specs.Answer.{values_done}
 use Rattle.mtu_packer.specs.declared.packed.Piece.{Piece}
-use Rattle.mtu_packer.specs.Cutting.{cut, piece_count}
-use Rattle.mtu_packer.specs.Packing.{numbered, body_words, longest_reply, Fits, AreFull, IsPacking}
+use Rattle.mtu_packer.specs.Cutting.{piece_count}
+use Rattle.mtu_packer.specs.Packing.{numbered, body_words, Fits, AreFull, IsPacking}
 use Rattle.mtu_packer.specs.Packed.{places_from, dealt, Contents, IsPacked}
 
 abbrev joined : List (List Op) → List Op

@@ -1,25 +1,18 @@
 -- All operations packed, one after the other.
-use Rattle.std.proofs.Common.{◌≡◌, ℕ, ◌+◌, ◌-◌, ◌*◌, ◌^◌, suc, ◌<◌, ◌≤◌, ◌++◌, List, [], ◌∷◌, length, map, take, drop, get_or, Bool, true, false, if◌then◌else◌, nat_eq, refl, sym, subst, ap, ◌∙◌, inl, inr, arith, length-append, append_assoc, append-nil, length-drop, drop-cons, add-one}
-use Rattle.std.specs.List.{AllByRecursion, flat_map}
-use Rattle.std.proofs.lemmas.Bool.{cases_eq}
-use Rattle.std.proofs.lemmas.Bool.Decides.{nat_tests}
+use Rattle.std.proofs.Common.{◌≡◌, ℕ, ◌+◌, suc, ◌<◌, ◌≤◌, ◌++◌, List, [], ◌∷◌, length, map, take, drop, get_or, refl, sym, subst, ap, ◌∙◌, arith, length-append, append_assoc, append-nil, length-drop, drop-cons}
+use Rattle.std.specs.List.{flat_map}
 use Rattle.std.proofs.lemmas.List.{drop-drop}
 use Rattle.std.proofs.lemmas.List.Sums.{fold-append}
-use Rattle.ipb_base.specs.Word.{AreWords}
 use Rattle.transaction_codec.specs.declared.request.Op.{Op}
-use Rattle.transaction_codec.specs.declared.request.Request.{Request}
-use Rattle.transaction_codec.specs.Request.{AreRequests, op_words, request_words, requests_words}
 use Rattle.mtu_packer.specs.declared.packed.Piece.{Piece}
 use Rattle.mtu_packer.specs.declared.packed.Span.{Span}
 use Rattle.mtu_packer.specs.Cutting.{cut, piece_count}
-use Rattle.mtu_packer.specs.Packing.{numbered, body_words, Fits, AreFull, IsPacking, AreSpelled}
-use Rattle.mtu_packer.specs.Packed.{places_from, dealt, Contents, IsPacked}
-use Rattle.mtu_packer.specs.Progress.{Progress, IsWithin, FitsAlone, start, closed, finished, step, run}
+use Rattle.mtu_packer.specs.Packed.{dealt}
+use Rattle.mtu_packer.specs.Progress.{Progress, IsWithin, start, step, run}
 use Rattle.mtu_packer.specs.Span.{span_places, AreWithin, spans_from}
-use Rattle.mtu_packer.proofs.Lists.{AllByRecursion-append, front_of_all, back_of_all, all_of_each}
-use Rattle.mtu_packer.proofs.Steps.{some_words, run-payload, run-places}
-use Rattle.mtu_packer.proofs.Pieces.{cut_fits, length-cut}
-use Rattle.mtu_packer.proofs.Parts.{Holds, closed_represents, closed_whole, nothing, run_holds, start_holds}
+use Rattle.mtu_packer.proofs.Steps.{run-payload, run-places}
+use Rattle.mtu_packer.proofs.Pieces.{length-cut}
+use Rattle.mtu_packer.proofs.Parts.{nothing}
 
 -- ---- the spans of operations
 

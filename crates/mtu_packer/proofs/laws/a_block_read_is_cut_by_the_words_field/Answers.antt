@@ -1,4 +1,4 @@
-use Rattle.std.proofs.Common.{◌+◌, ◌≤◌, refl, arith}
+use Rattle.std.proofs.Common.{◌≤◌, refl, arith}
 use Rattle.mtu_packer.proofs.laws.a_block_read_is_cut_by_the_words_field.Goals as goal
 
 pub returns-clause-cut : goal.returns-clause-cut

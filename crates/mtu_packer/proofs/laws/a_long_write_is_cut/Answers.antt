@@ -1,4 +1,4 @@
-use Rattle.std.proofs.Common.{◌+◌, ◌≤◌, refl, arith}
+use Rattle.std.proofs.Common.{◌≤◌, refl, arith}
 use Rattle.mtu_packer.proofs.laws.a_long_write_is_cut.Goals as goal
 
 pub returns-clause-packing : goal.returns-clause-packing

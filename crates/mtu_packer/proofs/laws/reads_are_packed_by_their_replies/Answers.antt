@@ -1,4 +1,4 @@
-use Rattle.std.proofs.Common.{◌+◌, ◌≤◌, refl, arith}
+use Rattle.std.proofs.Common.{◌≤◌, refl, arith}
 use Rattle.mtu_packer.proofs.laws.reads_are_packed_by_their_replies.Goals as goal
 
 pub returns : goal.returns

@@ -1,6 +1,5 @@
-use Rattle.std.proofs.Common.{◌≡◌, ◌+◌, ◌≤◌, ◌<◌, ◌^◌, ◌++◌, [], ◌∷◌, length, ◌∙◌, ap, subst, sym, arith, rules}
-use Rattle.std.specs.List.{flat_map}
-use Rattle.mtu_packer.specs.Cutting.{cut, piece_count}
+use Rattle.std.proofs.Common.{◌+◌, ◌<◌, ◌^◌, ◌++◌, [], ◌∷◌, ap, subst, sym, arith, rules}
+use Rattle.mtu_packer.specs.Cutting.{piece_count}
 use Rattle.mtu_packer.specs.declared.packed.Span.{Span}
 use Rattle.mtu_packer.proofs.Whole.{Underway, underway_room, underway_next, underway_over, over_within}
 use Rattle.mtu_packer.proofs.Finish.{answer_packed}

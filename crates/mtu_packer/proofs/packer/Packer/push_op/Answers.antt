@@ -1,5 +1,4 @@
 use Rattle.std.proofs.Common.{◌≡◌, ◌∙◌, ap, arith, length}
-use Rattle.transaction_codec.specs.First.{op_of}
 use Rattle.mtu_packer.specs.Cutting as spec
 use Rattle.mtu_packer.specs.Progress.{step}
 use Rattle.mtu_packer.proofs.Steps.{run_more, step-payload, step-places}

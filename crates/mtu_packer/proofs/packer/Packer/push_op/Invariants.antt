@@ -1,4 +1,4 @@
-use Rattle.std.proofs.Common.{◌≡◌, ◌+◌, ◌≤◌, ◌^◌, length, map}
+use Rattle.std.proofs.Common.{◌≡◌, ◌+◌, length, map}
 use Rattle.std.specs.List.{range_with_len}
 use Rattle.mtu_packer.specs.Cutting.{piece}
 use Rattle.mtu_packer.specs.Progress.{IsWithin, run}
