@@ -1,13 +1,15 @@
 -- What is answered where all operations are packed.
-use Rattle.std.proofs.Common.{◌≡◌, ℕ, ◌+◌, ◌*◌, ◌^◌, ◌<◌, ◌≤◌, ◌++◌, List, [], ◌∷◌, length, map, if◌then◌else◌, ◌==◌, refl, sym, subst, ap, ◌∙◌, inl, inr, arith, length-append, append-nil, Result, Ok, Err, IfOk}
+use Rattle.std.proofs.Common.{◌≡◌, ℕ, ◌+◌, ◌*◌, ◌^◌, ◌<◌, ◌≤◌, ◌++◌, List, [], ◌∷◌, length, map, drop, if◌then◌else◌, ◌==◌, refl, sym, subst, ap, ◌∙◌, inl, inr, arith, length-append, append-nil, Result, Ok, Err, IfOk}
 use Rattle.std.specs.List.{AllByRecursion, flat_map}
 use Rattle.std.proofs.lemmas.Bool.{cases_eq}
+use Rattle.std.proofs.lemmas.List.{length-map}
 use Rattle.std.proofs.lemmas.Bool.Decides.{nat_tests}
 use Rattle.ipb_base.specs.Word.{AreWords}
 use Rattle.ipb_base.specs.declared.no_memory.NoMemory.{NoMemory}
 use Rattle.transaction_codec.specs.declared.request.Op.{Op}
 use Rattle.transaction_codec.specs.declared.request.Request.{Request}
 use Rattle.transaction_codec.specs.Request.{AreRequests, request_words, requests_words}
+use Rattle.mtu_packer.specs.declared.packed.Piece.{Piece}
 use Rattle.mtu_packer.specs.declared.packed.Span.{Span}
 use Rattle.mtu_packer.specs.Cutting.{cut, piece_count}
 use Rattle.mtu_packer.specs.Packing.{numbered, body_words, Fits, AreFull, AreSpelled}
@@ -127,6 +129,14 @@ over_packed ops payload progress spans contents low high over bodies words piece
       pieces = pieces ∙ ap (map (span_places progress.places)) over.spanned ∙ places-dealt progress.places 0 counts
           ∙ ap (dealt counts) (ap (λ p. p.places) over.taken ∙ ended.places);
     }
+
+length-dealt : (counts : List ℕ) (places : List Piece) → length (dealt counts places) ≡ length counts
+length-dealt [] places = refl
+length-dealt (count ∷ counts) places = omega (arith, length-dealt counts (drop count places))
+
+pub packed_operations : (ops : List Op) (payload : ℕ) (result : Result Contents NoMemory) → IfOk result (IsPacked ops payload) → IfOk result (λ packed. length packed.pieces ≡ length ops)
+packed_operations ops payload (Ok contents) is = ap length is.pieces ∙ length-dealt (map (piece_count payload) ops) (places_from 0 is.parts) ∙ length-map ops (piece_count payload)
+packed_operations ops payload (Err why) is = tt
 
 -- the three clauses of the last step, as one
 pub answer_packed : (ops : List Op) (payload : ℕ) (progress : Progress) (spans : List Span) → 16 ≤ payload → payload ≤ 2243 → Over ops payload progress spans → (result : Result Contents NoMemory)

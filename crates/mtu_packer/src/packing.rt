@@ -1,4 +1,4 @@
-ghost use Rattle.std.specs.Prelude.{◌≤◌, ◌^◌, All, IfOk, length};
+ghost use Rattle.std.specs.Prelude.{◌≡◌, ◌≤◌, ◌^◌, All, IfOk, length};
 ghost use Rattle.std.specs.List.{flat_map};
 ghost use Rattle.mtu_packer.specs.Cutting.{CanBeCut, cut};
 ghost use Rattle.mtu_packer.specs.Packed.{IsPacked};
@@ -22,6 +22,7 @@ pub fn pack(alloc: Global, ops: &[Op], payload: u32) -> Result<Packed, NoMemory>
     requires sound { All CanBeCut ops.now }
     requires few { length (flat_map (cut payload) ops.now) ≤ 2 ^ 31 }
     ensures packed { IfOk result (IsPacked ops.now payload) }
+    ensures operations { IfOk result (λ packed. length packed.pieces ≡ length ops.now) }
 {
     let mut packer = Packer::new(alloc, payload);
     let mut spans = Vec::with_capacity(alloc, ops.len())?;

@@ -2,7 +2,7 @@ use Rattle.std.proofs.Common.{◌+◌, ◌<◌, ◌^◌, ◌++◌, [], ◌∷◌
 use Rattle.mtu_packer.specs.Cutting.{piece_count}
 use Rattle.mtu_packer.specs.declared.packed.Span.{Span}
 use Rattle.mtu_packer.proofs.Whole.{Underway, underway_room, underway_next, underway_over, over_within}
-use Rattle.mtu_packer.proofs.Finish.{answer_packed}
+use Rattle.mtu_packer.proofs.Finish.{answer_packed, packed_operations}
 use Rattle.mtu_packer.proofs.packing.pack.Goals as goal
 
 pub push_op-requires-clause-few : goal.push_op-requires-clause-few
@@ -38,6 +38,6 @@ finish-requires-clause-spans c = over_within _ _ _ _ (underway_over _ _ _ _ _ _ 
 pub returns : goal.returns
 returns c =
     let done = c.finish.ensures in
-    record {
-      packed = answer_packed c.args.ops.now c.args.payload c.loop-op.packer c.loop-op.spans.items c.requires.payload_low c.requires.payload_high (underway_over _ _ _ _ _ _ c.loop-op.invariant c.loop-op-test.false) c.finish.result done.bodies done.words done.pieces;
-    }
+    let over = underway_over _ _ _ _ _ _ c.loop-op.invariant c.loop-op-test.false in
+    let packed = answer_packed c.args.ops.now c.args.payload c.loop-op.packer c.loop-op.spans.items c.requires.payload_low c.requires.payload_high over c.finish.result done.bodies done.words done.pieces in
+    record { packed = packed; operations = packed_operations c.args.ops.now c.args.payload c.finish.result packed }
