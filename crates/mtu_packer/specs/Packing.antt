@@ -1,0 +1,47 @@
+-- How pieces are packed into the bodies of packets: each piece goes whole into the current body where the request and the
+-- longest reply of that body stay within the payload, and else it begins the next body. Profile.
+use Rattle.std.specs.Prelude.{◌≡◌, ℕ, ◌+◌, ◌<◌, ◌≤◌, List, [], ◌∷◌, ◌++◌, length, take, sum_by}
+use Rattle.std.specs.List.{AllByRecursion, flat_map}
+use Rattle.transaction_codec.specs.declared.request.Op.{Op}
+use Rattle.transaction_codec.specs.declared.request.Request.{Request}
+use Rattle.transaction_codec.specs.Request.{AreRequests, requests_words}
+use Rattle.transaction_codec.specs.Answer.{values_done}
+use Rattle.mtu_packer.specs.Cutting.{cut}
+
+-- the requests of operations, with transaction identifiers that count on from a number
+abbrev pub numbered : ℕ → List Op → List Request
+numbered tid [] = []
+numbered tid (op ∷ ops) = record { tid = tid; op = op } ∷ numbered (tid + 1) ops
+
+-- the requests of one body: their identifiers count from 0
+abbrev pub body_requests : List Op → List Request
+body_requests part = numbered 0 part
+
+abbrev pub body_words : List Op → List ℕ
+body_words part = requests_words (body_requests part)
+
+-- the words of the longest reply to a body: for each request a header and what it reads
+abbrev pub longest_reply : List Op → ℕ
+longest_reply part = sum_by (λ op. 1 + values_done op) part
+
+-- a body and its longest reply fit packets of `payload` words, each with its packet header
+pub record Fits (payload : ℕ) (part : List Op) : Type 0 where
+  pub request : length (body_words part) + 1 ≤ payload
+  pub reply : longest_reply part + 1 ≤ payload
+
+-- no body has room for the first piece of the next one
+abbrev pub AreFull : ℕ → List (List Op) → Type 0
+AreFull payload [] = Unit {0}
+AreFull payload (part ∷ []) = Unit {0}
+AreFull payload (part ∷ (next ∷ parts)) = (¬ Fits payload (part ++ take 1 next)) × AreFull payload (next ∷ parts)
+
+-- The parts are the bodies, each as the list of its pieces, into which operations are packed.
+pub record IsPacking (ops : List Op) (payload : ℕ) (parts : List (List Op)) : Type 0 where
+  pub whole : flat_map (λ part. part) parts ≡ flat_map (cut payload) ops
+  pub filled : AllByRecursion (λ part. 0 < length part) parts
+  pub fits : AllByRecursion (Fits payload) parts
+  pub full : AreFull payload parts
+
+-- every body is one that its words spell
+abbrev pub AreSpelled : List (List Op) → Type 0
+AreSpelled parts = AllByRecursion (λ part. AreRequests (body_requests part)) parts

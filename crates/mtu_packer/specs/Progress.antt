@@ -1,0 +1,67 @@
+-- The packer at work, piece by piece.
+use Rattle.std.specs.Prelude.{◌≡◌, ℕ, ◌+◌, ◌*◌, ◌^◌, ◌≤◌, Bool, ◌&&◌, ◌==◌, nat_le, if◌then◌else◌, min, List, [], ◌∷◌, ◌++◌, length, fold}
+use Rattle.std.specs.List.{AllByRecursion}
+use Rattle.ipb_base.specs.Word.{AreWords}
+use Rattle.transaction_codec.specs.declared.request.Op.{Op}
+use Rattle.transaction_codec.specs.Request.{request_words, op_count, op_words}
+use Rattle.transaction_codec.specs.Answer.{values_done}
+use Rattle.mtu_packer.specs.declared.packed.Piece.{Piece}
+
+-- the bodies that are closed, the open one with the number of its requests and the words of its longest reply, and the
+-- places of all pieces so far
+pub record Progress : Type 0 where
+  pub payload : ℕ
+  pub bodies : List (List ℕ)
+  pub open_body : List ℕ
+  pub requests : ℕ
+  pub reply : ℕ
+  pub places : List Piece
+
+abbrev pub start : ℕ → Progress
+start payload = record { payload = payload; bodies = []; open_body = []; requests = 0; reply = 0; places = [] }
+
+-- the request and the longest reply of the open body stay within the payload, with one piece more
+abbrev pub has_room : Progress → Op → Bool
+has_room progress op =
+    nat_le (length progress.open_body + length (op_words op) + 2) progress.payload
+    && nat_le (progress.reply + values_done op + 2) progress.payload
+
+abbrev pub closed : Progress → Progress
+closed progress = record progress { bodies = progress.bodies ++ progress.open_body ∷ []; open_body = []; requests = 0; reply = 0 }
+
+abbrev pub added : Progress → Op → Progress
+added progress op = record progress {
+  open_body = progress.open_body ++ request_words (record { tid = progress.requests; op = op });
+  requests = progress.requests + 1;
+  reply = progress.reply + values_done op + 1;
+  places = progress.places ++ record { body = length progress.bodies; index = progress.requests } ∷ [];
+}
+
+abbrev pub step : Progress → Op → Progress
+step progress op = if has_room progress op then added progress op else added (closed progress) op
+
+abbrev pub run : Progress → List Op → Progress
+run progress pieces = fold step progress pieces
+
+-- the bodies, with the open one where it has a piece
+abbrev pub finished : Progress → List (List ℕ)
+finished progress = if progress.requests == 0 then progress.bodies else (closed progress).bodies
+
+-- a piece fits an empty body
+pub record FitsAlone (payload : ℕ) (op : Op) : Type 0 where
+  pub count : op_count op ≤ 255
+  pub request : length (op_words op) + 2 ≤ payload
+  pub reply : values_done op + 2 ≤ payload
+
+-- What holds of a packer at work: the open body and its reply are within the payload, a request has two words at least, and
+-- every body has a piece.
+pub record IsWithin (progress : Progress) : Type 0 where
+  pub payload_low : 16 ≤ progress.payload
+  pub payload_high : progress.payload ≤ 2243
+  pub body : length progress.open_body + 1 ≤ progress.payload
+  pub reply : progress.reply + 1 ≤ progress.payload
+  pub requests : 2 * progress.requests ≤ length progress.open_body
+  pub begun : progress.requests ≡ 0 → (length progress.open_body ≡ 0) × (progress.reply ≡ 0)
+  pub pieces : length progress.bodies + min 1 progress.requests ≤ length progress.places
+  pub few : length progress.places ≤ 2 ^ 31
+  pub words : AllByRecursion AreWords progress.bodies
