@@ -1,0 +1,14 @@
+pub mod Members
+pub mod Hex
+pub mod Script
+pub mod Opening
+pub mod Answered
+pub mod CanRun
+pub mod Standing
+pub mod Causes
+pub mod FormParts
+pub mod FormLists
+pub mod FormRegisters
+pub mod FormBoards
+pub mod FormScripts
+pub mod FormWhole

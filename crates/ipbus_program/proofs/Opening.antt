@@ -1,0 +1,69 @@
+-- The words that a session's board opens with are what its bus gives to reads.
+use Rattle.std.proofs.Common.{◌≡◌, ℕ, zero, suc, ◌+◌, ◌-◌, ◌^◌, ◌<◌, ◌≤◌, List, [], ◌∷◌, ◌++◌, length, map, get_or, replicate, Option, Some, None, Result, Ok, refl, sym, ap, ◌∙◌, arith, lit<, length-append, append-nil, Bool, true, cond, nat_lt}
+use Rattle.std.proofs.lemmas.List.{length-replicate}
+use Rattle.std.proofs.lemmas.Bool.{lt-ltb}
+use Rattle.std.specs.List.{AllByRecursion}
+use Rattle.ipb_base.specs.Word.{IsWord, AreWords}
+use Rattle.std.specs.Ordering.{nat_cmp}
+use Rattle.std.specs.FinMap.Entries.{find}
+use Rattle.board_bus.specs.declared.kind.RangeKind.TheVariants.{Rw}
+use Rattle.board_bus.specs.declared.fault.BusFault.{BusFault}
+use Rattle.board_bus.specs.Cells.{Cell, CellMap, cell_at, cells_from, read_cell, read_word}
+use Rattle.board_bus.specs.Ranges.{opening_words, opening_bus}
+use Rattle.board_bus.proofs.Lookups.{find-cell_map, find-within}
+use Rattle.ipbus_program.specs.declared.session.Register.{Register}
+use Rattle.ipbus_program.specs.declared.session.BoardSpec.{BoardSpec}
+use Rattle.ipbus_program.specs.FirstForm.{Each}
+use Rattle.ipbus_program.specs.Plan.{board_range, GiveWords}
+
+-- the word that a board opens with at an address
+abbrev pub opening_word : BoardSpec → ℕ → ℕ
+opening_word board address = get_or (opening_words (board_range board)) address 0
+
+as_many_words : (board : BoardSpec) → length board.init ≤ board.size → length (opening_words (board_range board)) ≡ board.size
+as_many_words board fits =
+    omega (arith, length-append board.init (replicate (board.size - length board.init) 0), length-replicate {A = ℕ} (board.size - length board.init) 0)
+
+-- an address below the size of the range is read
+pub reads_opening : (board : BoardSpec) (address : ℕ) → length board.init ≤ board.size → board.size ≤ 65536 → address < board.size
+    → read_word (opening_bus (board_range board ∷ [])) address ≡ Ok (opening_word board address)
+reads_opening board address fits small inside =
+    let words : List ℕ = opening_words (board_range board) in
+    let cells : List (ℕ × Cell) = cells_from 0 Rw words in
+    let within : address < 0 + length words = omega (arith, as_many_words board fits) in
+    let found : find nat_cmp address (opening_bus (board_range board ∷ [])) ≡ Some (record { kind = Rw; word = get_or words (address - 0) 0 }) =
+    find-cell_map address (cells ++ []) ∙ ap (find nat_cmp address) (append-nil cells) ∙ find-within address 0 Rw words (omega arith) within in
+    let word : get_or words (address - 0) 0 ≡ get_or words address 0 = ap (λ n. get_or words n 0) (omega arith) in
+    let is_word : nat_lt address (2 ^ 32) ≡ true = lt-ltb address (2 ^ 32) (omega arith) in
+    let here : cell_at (opening_bus (board_range board ∷ [])) address ≡ Some (record { kind = Rw; word = get_or words (address - 0) 0 }) =
+    ap (λ t. cond t (find nat_cmp address (opening_bus (board_range board ∷ []))) None) is_word ∙ found in
+    ap read_cell here ∙ ap Ok word
+
+-- the words of a script's registers
+abbrev pub opening_values : BoardSpec → List Register → List ℕ
+opening_values board script = map (λ register. opening_word board register.address) script
+
+pub gives_opening : (board : BoardSpec) (script : List Register) → length board.init ≤ board.size → board.size ≤ 65536
+    → AllByRecursion (λ register. register.address < board.size) script → GiveWords (opening_bus (board_range board ∷ [])) script (opening_values board script)
+gives_opening board [] fits small inside = tt
+gives_opening board (register ∷ script) fits small inside =
+    (reads_opening board register.address fits small inside.0, gives_opening board script fits small inside.1)
+
+-- and they are words
+word_at : (words : List ℕ) (i : ℕ) → AreWords words → IsWord (get_or words i 0)
+word_at [] i fits = lit< tt
+word_at (word ∷ words) zero fits = fits.0
+word_at (word ∷ words) (suc i) fits = word_at words i fits.1
+
+zeros_fit : (n : ℕ) → AreWords (replicate n 0)
+zeros_fit zero = tt
+zeros_fit (suc n) = (lit< tt, zeros_fit n)
+
+both_fit : (xs ys : List ℕ) → AreWords xs → AreWords ys → AreWords (xs ++ ys)
+both_fit [] ys f g = g
+both_fit (x ∷ xs) ys f g = (f.0, both_fit xs ys f.1 g)
+
+pub opening_fits : (board : BoardSpec) (script : List Register) → AreWords board.init → AreWords (opening_values board script)
+opening_fits board [] fits = tt
+opening_fits board (register ∷ script) fits =
+    (word_at (opening_words (board_range board)) register.address (both_fit board.init _ fits (zeros_fit (board.size - length board.init))), opening_fits board script fits)

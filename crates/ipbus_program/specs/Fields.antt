@@ -1,0 +1,87 @@
+-- Fields of a parsed table: what stands under a key, and of which kind it is.
+use Rattle.std.specs.Prelude.{◌≡◌, ℕ, ◌+◌, ◌<◌, ◌≤◌, ◌^◌, pos, negsuc, List, [], ◌∷◌, ◌++◌, length, Bool, true, false, ◌&&◌, ◌||◌, ◌==◌, nat_lt, nat_le, if◌then◌else◌, Option, Some, None, option_map}
+use Rattle.std.specs.List.{list_all}
+use Rattle.toml.specs.Data.{Data, Items, no_items, item, Members, no_members, member, integer, get_member, as_str, as_array, as_table}
+
+infixl 10 ◌>>=◌
+abbrev pub ◌>>=◌ : {A B : Type 0} → Option A → (A → Option B) → Option B
+None >>= f = None
+(Some x) >>= f = f x
+
+-- the value where the test holds
+abbrev pub checked : {A : Type 0} → Bool → A → Option A
+checked test x = if test then Some x else None
+
+-- how many keys a table has
+abbrev pub member_count : Members → ℕ
+member_count no_members = 0
+member_count (member key value members) = member_count members + 1
+
+-- the one key of a table, and its value
+abbrev pub only_member : Members → Option (List ℕ × Data)
+only_member (member key value no_members) = Some (key, value)
+only_member _ = None
+
+-- the values of an array, in order
+abbrev pub values : Items → List Data
+values no_items = []
+values (item value items) = value ∷ values items
+
+-- the one item of a list
+abbrev pub only : {A : Type 0} → List A → Option A
+only (x ∷ []) = Some x
+only _ = None
+
+-- what a function gives at each item, where it gives something at all of them
+abbrev pub each : {A B : Type 0} → (A → Option B) → List A → Option (List B)
+each f [] = Some []
+each f (x ∷ xs) = do
+  y ← f x
+  ys ← each f xs
+  Some (y ∷ ys)
+
+-- what was read so far, and what reading the rest gives
+abbrev pub joined : {A : Type 0} → List A → Option (List A) → Option (List A)
+joined front None = None
+joined front (Some rest) = Some (front ++ rest)
+
+-- a byte of an identifier: a letter, a digit, `_` or `-`
+unfoldable pub is_identifier_byte : ℕ → Bool
+is_identifier_byte byte =
+    (nat_le 65 byte && nat_le byte 90) || (nat_le 97 byte && nat_le byte 122) || (nat_le 48 byte && nat_le byte 57) || (byte == 95) || (byte == 45)
+
+-- an identifier: 1 to 64 of these bytes
+unfoldable pub is_identifier : List ℕ → Bool
+is_identifier text = nat_le 1 (length text) && nat_le (length text) 64 && list_all is_identifier_byte text
+
+-- a number of the document: an integer from 0 to 2 ^ 32 - 1
+abbrev pub word_of : Data → Option ℕ
+word_of (integer (pos n)) = if nat_lt n (2 ^ 32) then Some n else None
+word_of _ = None
+
+-- the values of an array
+abbrev pub values_of : Data → Option (List Data)
+values_of value = do
+  items ← as_array value
+  Some (values items)
+
+-- a table with this number of keys
+abbrev pub fields_of : ℕ → Data → Option Members
+fields_of count value = do
+  fields ← as_table value
+  checked (member_count fields == count) fields
+
+-- what stands under a key: a text, an identifier, a number, the values of an array
+abbrev pub text_at : List ℕ → Members → Option (List ℕ)
+text_at key fields = get_member key fields >>= as_str
+
+abbrev pub identifier_at : List ℕ → Members → Option (List ℕ)
+identifier_at key fields = do
+  text ← text_at key fields
+  checked (is_identifier text) text
+
+abbrev pub word_at : List ℕ → Members → Option ℕ
+word_at key fields = get_member key fields >>= word_of
+
+abbrev pub values_at : List ℕ → Members → Option (List Data)
+values_at key fields = get_member key fields >>= values_of

@@ -1,0 +1,106 @@
+-- The first form of a session document: which parsed TOML stands for which session. The keys of a TOML table differ, so a table
+-- that has some keys and no more keys than these has exactly these.
+use Rattle.std.specs.Prelude.{◌≡◌, ℕ, ◌≤◌, ◌<◌, pos, List, [], ◌∷◌, ◌++◌, length, map, codes, true, Contains, Some}
+use Rattle.std.specs.List.{IsDistinct}
+use Rattle.std.specs.Str.{bytes_eq}
+use Rattle.toml.specs.Data.{Data, Items, no_items, item, Members, no_members, member, string, integer, array, table, get_member}
+use Rattle.ipb_base.specs.Word.{IsWord}
+use Rattle.ipbus_program.specs.declared.session.Register.{Register}
+use Rattle.ipbus_program.specs.declared.session.BoardSpec.{BoardSpec}
+use Rattle.ipbus_program.specs.declared.session.Session.{Session}
+use Rattle.ipbus_program.specs.Fields.{values, member_count, is_identifier}
+
+-- 1 to 64 of `A-Z`, `a-z`, `0-9`, `_`, `-`
+abbrev pub IsIdentifier : List ℕ → Type 0
+IsIdentifier text = is_identifier text ≡ true
+
+-- the two lists are as long as one another, and R relates their items in order
+abbrev pub Each : {A B : Type 0} → (A → B → Type 0) → List A → List B → Type 0
+Each R [] [] = Unit {0}
+Each R (x ∷ xs) (y ∷ ys) = R x y × Each R xs ys
+Each R _ _ = ⊥
+
+-- 1 to 100 items
+abbrev pub IsListed : {A : Type 0} → List A → Type 0
+IsListed xs = (1 ≤ length xs) × (length xs ≤ 100)
+
+-- a number is an integer from 0 to 2 ^ 32 - 1
+pub record IsNumber (value : Data) (number : ℕ) : Type 0 where
+  pub integer : value ≡ integer (pos number)
+  pub word : IsWord number
+
+-- a number under a key
+pub record HasNumber (fields : Members) (key : List ℕ) (number : ℕ) : Type 0 where
+  pub value : Data
+  pub under_key : get_member key fields ≡ Some value
+  pub is_number : IsNumber value number
+
+-- a node of the table has exactly the keys `id`, an identifier, and `address`, a number below the size of the board's range
+pub record IsNode (size : ℕ) (value : Data) (register : Register) : Type 0 where
+  pub fields : Members
+  pub is_table : value ≡ table fields
+  pub no_other_key : member_count fields ≡ 2
+  pub id : get_member (codes "id") fields ≡ Some (string register.id)
+  pub id_rule : IsIdentifier register.id
+  pub address : HasNumber fields (codes "address") register.address
+  pub below_size : register.address < size
+
+-- a range has exactly the keys `base`, which is 0, `size`, from 1 to 65,536, and `init`, an array of no more numbers than its size
+pub record IsRange (value : Data) (size : ℕ) (init : List ℕ) : Type 0 where
+  pub fields : Members
+  pub is_table : value ≡ table fields
+  pub no_other_key : member_count fields ≡ 3
+  pub base : HasNumber fields (codes "base") 0
+  pub size_key : HasNumber fields (codes "size") size
+  pub not_empty : 1 ≤ size
+  pub not_large : size ≤ 65536
+  pub numbers : Items
+  pub init_key : get_member (codes "init") fields ≡ Some (array numbers)
+  pub words : Each IsNumber (values numbers) init
+  pub fits : length init ≤ size
+
+-- a board has exactly the keys `name`, an identifier, `table`, the name of the table, and `ranges`, an array of one range
+pub record IsBoard (table_name : List ℕ) (value : Data) (board : BoardSpec) : Type 0 where
+  pub fields : Members
+  pub is_table : value ≡ table fields
+  pub no_other_key : member_count fields ≡ 3
+  pub name : get_member (codes "name") fields ≡ Some (string board.name)
+  pub name_rule : IsIdentifier board.name
+  pub table_key : get_member (codes "table") fields ≡ Some (string table_name)
+  pub range : Data
+  pub ranges : get_member (codes "ranges") fields ≡ Some (array (item range no_items))
+  pub is_range : IsRange range board.size board.init
+
+-- a line of a script is `read`, a space, the board's name, a colon and the id of a node of the table
+pub record IsRead (board_name : List ℕ) (registers : List Register) (value : Data) (register : Register) : Type 0 where
+  pub line : value ≡ string (codes "read " ++ board_name ++ codes ":" ++ register.id)
+  pub named : Contains registers register
+
+-- a client has exactly the key `script`, an array of 1 to 100 lines
+pub record IsClient (board_name : List ℕ) (registers : List Register) (value : Data) (script : List Register) : Type 0 where
+  pub fields : Members
+  pub is_table : value ≡ table fields
+  pub no_other_key : member_count fields ≡ 1
+  pub lines : Items
+  pub script_key : get_member (codes "script") fields ≡ Some (array lines)
+  pub reads : Each (IsRead board_name registers) (values lines) script
+  pub listed : IsListed script
+
+-- A document has exactly the keys `tables`, which has one table of 1 to 100 nodes with different ids, `board`, an array of one
+-- board, and `client`, an array of one client.
+pub record IsFirstForm (document : Members) (session : Session) : Type 0 where
+  pub no_other_key : member_count document ≡ 3
+  pub table_name : List ℕ
+  pub table_rule : IsIdentifier table_name
+  pub nodes : Items
+  pub tables : get_member (codes "tables") document ≡ Some (table (member table_name (array nodes) no_members))
+  pub registers : List Register
+  pub each_node : Each (IsNode session.board.size) (values nodes) registers
+  pub nodes_listed : IsListed registers
+  pub ids_differ : IsDistinct bytes_eq (map (λ register. register.id) registers)
+  pub board : Data
+  pub boards : get_member (codes "board") document ≡ Some (array (item board no_items))
+  pub is_board : IsBoard table_name board session.board
+  pub client : Data
+  pub clients : get_member (codes "client") document ≡ Some (array (item client no_items))
+  pub is_client : IsClient session.board.name registers client session.script

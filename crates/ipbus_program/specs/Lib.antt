@@ -1,0 +1,10 @@
+pub mod Fields
+pub mod Reading
+pub mod FirstForm
+pub mod Document
+pub mod Plan
+pub mod History
+pub mod Transcript
+pub mod Text
+pub mod Owed
+pub mod Exchange

@@ -1,0 +1,91 @@
+-- What the program owes to its words and its input. `before` and `now` are the bytes that the input had left at first and in the
+-- end, where it tells them.
+use Rattle.std.specs.Prelude.{◌≡◌, ℕ, ◌+◌, ◌≤◌, List, [], ◌∷◌, length, map, codes, Option, string_bytes, String, ◌⊎◌}
+use Rattle.std.specs.declared.alloc.Global.{Global}
+use Rattle.std.specs.Io.KnownBytes.{prepend_known, append_known, IsAtEnd}
+use Rattle.ipb_base.specs.Faults.{Rose}
+use Rattle.ipb_outside.specs.Told.{TakesCount, AppendsPart}
+use Rattle.ipbus_program.specs.declared.session.Session.{Session}
+use Rattle.ipbus_program.specs.declared.answer.Refusal.{Refusal}
+use Rattle.ipbus_program.specs.declared.answer.Refusal.TheVariants.{TooLong, NotToml, NotBuilt}
+use Rattle.ipbus_program.specs.declared.answer.TheConstants.{DONE, USAGE, REFUSED, READ_FAULT, WRITE_FAULT, NO_MEMORY, MAX_DOCUMENT}
+use Rattle.ipbus_program.specs.Document.{StandsFor, IsNotToml, IsNotBuilt}
+use Rattle.ipbus_program.specs.Plan.{session_bodies, session_bus}
+use Rattle.ipbus_program.specs.History.{Outcome, IsHistory}
+use Rattle.ipbus_program.specs.Transcript.{lines, ShowsAllValues}
+use Rattle.ipbus_program.specs.Text.{transcript_text, refusal_text, usage_text}
+
+-- the words are the one word `run`
+abbrev pub AreRun : List (String Global) → Type 0
+AreRun words = map string_bytes words ≡ codes "run" ∷ []
+
+-- the input was read to its end, and these bytes are all that it had
+pub record ReadToEnd (before now : Option (List ℕ)) (bytes : List ℕ) : Type 0 where
+  pub all : before ≡ prepend_known bytes now
+  pub at_end : IsAtEnd now
+  pub within : length bytes ≤ MAX_DOCUMENT
+
+-- the text is the transcript of the session, whose every line is a value: what a single-thread bus answers at the printed places
+pub record IsTranscriptOf (session : Session) (text : List ℕ) : Type 0 where
+  pub outcomes : List (List Outcome)
+  pub history : IsHistory (session_bus session) (session_bodies session) outcomes
+  pub values : ShowsAllValues (lines session outcomes)
+  pub spelled : text ≡ transcript_text (lines session outcomes)
+
+-- the input is a document that stands for a session, and the text is its transcript
+pub record OwesTranscript (before now : Option (List ℕ)) (text : List ℕ) : Type 0 where
+  pub bytes : List ℕ
+  pub read : ReadToEnd before now bytes
+  pub session : Session
+  pub stands : StandsFor bytes session
+  pub transcript : IsTranscriptOf session text
+
+-- nothing was read, and the text is the usage line
+pub record OwesUsage (before now : Option (List ℕ)) (text : List ℕ) : Type 0 where
+  pub unread : now ≡ before
+  pub usage : text ≡ usage_text
+
+-- Why an input is refused: it is longer than a document may be and was read to just past that, it is no TOML, or it is not of
+-- the first form.
+abbrev pub IsRefused : Refusal → Option (List ℕ) → Option (List ℕ) → Type 0
+IsRefused TooLong before now = TakesCount (MAX_DOCUMENT + 1) before now
+IsRefused NotToml before now = (bytes : List ℕ) × ReadToEnd before now bytes × IsNotToml bytes
+IsRefused NotBuilt before now = (bytes : List ℕ) × ReadToEnd before now bytes × IsNotBuilt bytes
+
+-- the input is refused, and the text is the line of the refusal
+pub record OwesRefusal (before now : Option (List ℕ)) (text : List ℕ) : Type 0 where
+  pub refusal : Refusal
+  pub refused : IsRefused refusal before now
+  pub line : text ≡ refusal_text refusal
+
+-- What bytes that were read to the end of an input are answered by.
+abbrev pub AnswersBytes : List ℕ → ℕ → List ℕ → Type 0
+AnswersBytes bytes status text =
+    ((status ≡ DONE) × ((session : Session) × (StandsFor bytes session × IsTranscriptOf session text)))
+    ⊎ ((status ≡ REFUSED) × ((IsNotToml bytes × (text ≡ refusal_text NotToml)) ⊎ (IsNotBuilt bytes × (text ≡ refusal_text NotBuilt))))
+
+-- What an input is answered by.
+abbrev pub AnswersInput : Option (List ℕ) → Option (List ℕ) → ℕ → List ℕ → Type 0
+AnswersInput before now status text =
+    ((status ≡ DONE) × OwesTranscript before now text) ⊎ ((status ≡ REFUSED) × OwesRefusal before now text)
+
+-- A status and the text that go together for these words and this input.
+abbrev pub Owes : List (String Global) → Option (List ℕ) → Option (List ℕ) → ℕ → List ℕ → Type 0
+Owes words before now status text =
+    (AreRun words × AnswersInput before now status text)
+    ⊎ ((AreRun words → ⊥) × ((status ≡ USAGE) × OwesUsage before now text))
+
+-- the statuses that there are
+abbrev pub IsStatus : ℕ → Type 0
+IsStatus status =
+    (status ≡ DONE) ⊎ ((status ≡ USAGE) ⊎ ((status ≡ REFUSED) ⊎ ((status ≡ READ_FAULT) ⊎ ((status ≡ WRITE_FAULT) ⊎ (status ≡ NO_MEMORY)))))
+
+-- all of this text went behind what was written
+abbrev pub Wrote : Option (List ℕ) → Option (List ℕ) → List ℕ → Type 0
+Wrote old new text = new ≡ append_known old text
+
+-- The text was written whole and its status answered, or the output met a fault, a part of the text was written, and the status
+-- says so. `old` and `new` are what the output was given, `before` and `now` its counts of faults.
+abbrev pub Delivers : ℕ → List ℕ → Option (List ℕ) → Option (List ℕ) → ℕ → ℕ → ℕ → Type 0
+Delivers status text old new before now result =
+    ((result ≡ status) × Wrote old new text) ⊎ ((result ≡ WRITE_FAULT) × (Rose before now × AppendsPart old new text))

@@ -1,0 +1,30 @@
+//! What the program answers: its statuses, and the refusals of the input.
+
+ghost use Rattle.std.specs.Prelude.{◌≡◌};
+
+/// Done whole: every line of an operation is a value.
+pub const DONE: u8 = 0;
+/// The words are no command; the usage line was written.
+pub const USAGE: u8 = 2;
+/// The input was refused; one line that says why was written.
+pub const REFUSED: u8 = 3;
+/// The input could not be read; nothing was written.
+pub const READ_FAULT: u8 = 4;
+/// The output could not be written; a part of the text was.
+pub const WRITE_FAULT: u8 = 5;
+/// Memory ran out; nothing was written.
+pub const NO_MEMORY: u8 = 6;
+
+/// The most bytes of a session document.
+pub const MAX_DOCUMENT: usize = 16_777_216;
+
+/// Why the input is refused, in the order in which the rules are tried.
+#[derive(Clone, Copy, Debug, PartialEq, Eq)]
+pub enum Refusal {
+    /// It has more than `MAX_DOCUMENT` bytes.
+    TooLong,
+    /// It is no TOML, or no UTF-8.
+    NotToml,
+    /// It is TOML, and not a document that this program runs yet.
+    NotBuilt,
+}

@@ -1,0 +1,153 @@
+//! The program's one call: words and an input in, a text and a status out.
+
+ghost use Rattle.std.specs.Prelude.{◌≡◌, ◌↔◌, ◌≤◌, ℕ, List, Some, Ok, Err, IsTrue, IfOk, length, string_bytes, ◌⊎◌};
+ghost use Rattle.std.specs.Io.KnownBytes.{append_known};
+ghost use Rattle.ipb_base.specs.Faults.{Rose};
+ghost use Rattle.ipb_outside.specs.Told.{AppendsPart};
+ghost use Rattle.ipbus_program.specs.declared.program.NoAnswer.TheVariants.{NoMemory as out_of_memory};
+ghost use Rattle.ipbus_program.specs.declared.session.Session.{Session};
+ghost use Rattle.ipbus_program.specs.Document.{StandsFor};
+ghost use Rattle.ipbus_program.specs.Text.{usage_text, refusal_text};
+ghost use Rattle.ipbus_program.specs.Owed.{AreRun, OwesTranscript, OwesUsage, OwesRefusal, Owes, AnswersBytes, AnswersInput, IsStatus, Wrote, Delivers};
+
+use crate::answer::{
+    DONE, MAX_DOCUMENT, NO_MEMORY, READ_FAULT, REFUSED, Refusal, USAGE, WRITE_FAULT,
+};
+use crate::document::{DocumentError, read_session};
+use crate::run::run;
+use ipb_base::NoMemory;
+use ipb_outside::{ReadEnd, Sink, Source, read_all, write_whole};
+use std::alloc::Global;
+
+/// The line for words that are no command.
+const USAGE_LINE: &str = "usage: ipbus run\n";
+
+/// A status, and the text that goes with it.
+#[derive(Drop)]
+struct Answer {
+    status: u8,
+    text: String,
+}
+
+/// Why there is no answer to an input.
+#[derive(Clone, Copy)]
+enum NoAnswer {
+    ReadFault,
+    NoMemory,
+}
+
+impl From<NoMemory> for NoAnswer {
+    ghost from_gives = { λ _ e. e ≡ out_of_memory };
+
+    fn from(_error: NoMemory) -> NoAnswer {
+        NoAnswer::NoMemory
+    }
+}
+
+/// The words are the one word `run`.
+fn are_run(words: &[String]) -> bool
+    ensures { IsTrue result ↔ AreRun words.now }
+{
+    if words.len() == 1 {
+        let word = &words[0];
+        word.as_str() == "run"
+    } else {
+        false
+    }
+}
+
+/// The line of a refusal.
+fn refusal(alloc: Global, refusal: Refusal) -> Result<String, NoMemory>
+    ensures { IfOk result (λ text. string_bytes text ≡ refusal_text refusal) }
+{
+    let name = match refusal {
+        Refusal::TooLong => "TooLong",
+        Refusal::NotToml => "NotToml",
+        Refusal::NotBuilt => "NotBuilt",
+    };
+    Ok(format!(in alloc; "refused: document - {name}\n")?)
+}
+
+/// What the bytes of a document are answered by.
+fn answer_to(alloc: Global, bytes: &[u8]) -> Result<Answer, NoMemory>
+    ensures { IfOk result (λ answer. AnswersBytes bytes.now answer.status (string_bytes answer.text)) }
+{
+    let session = match read_session(alloc, bytes) {
+        Ok(session) => session,
+        Err(DocumentError::NotToml) => return refused(alloc, Refusal::NotToml),
+        Err(DocumentError::NotBuilt) => return refused(alloc, Refusal::NotBuilt),
+        Err(DocumentError::NoMemory) => return Err(NoMemory),
+    };
+    Ok(Answer {
+        status: DONE,
+        text: run(alloc, session)?,
+    })
+}
+
+/// A refusal of the input.
+fn refused(alloc: Global, why: Refusal) -> Result<Answer, NoMemory>
+    ensures status { IfOk result (λ answer. answer.status ≡ REFUSED) }
+    ensures text { IfOk result (λ answer. string_bytes answer.text ≡ refusal_text why) }
+{
+    Ok(Answer {
+        status: REFUSED,
+        text: refusal(alloc, why)?,
+    })
+}
+
+/// What an input is answered by.
+fn answer_input<S: Source>(alloc: Global, input: &mut S) -> Result<Answer, NoAnswer>
+    ensures answer { IfOk result (λ answer. AnswersInput (S.left input.old) (S.left input.new) answer.status (string_bytes answer.text)) }
+    ensures read_fault { result ≡ Err NoAnswer.ReadFault → Rose (S.faults input.old) (S.faults input.new) }
+{
+    match read_all(alloc, input, MAX_DOCUMENT) {
+        Ok(bytes) => Ok(answer_to(alloc, &bytes)?),
+        Err(ReadEnd::TooLong) => Ok(refused(alloc, Refusal::TooLong)?),
+        Err(ReadEnd::Failed) => Err(NoAnswer::ReadFault),
+        Err(ReadEnd::NoMemory) => Err(NoAnswer::NoMemory),
+    }
+}
+
+/// Writes a text whole, and answers its status where that succeeds.
+fn deliver<O: Sink>(out: &mut O, text: &str, status: u8) -> u8
+    ensures { Delivers status text.now (O.written out.old) (O.written out.new) (O.faults out.old) (O.faults out.new) result }
+{
+    match write_whole(out, text.as_bytes()) {
+        Ok(()) => status,
+        Err(_) => WRITE_FAULT,
+    }
+}
+
+/// Does what the words ask. `run` reads a session document to its end, runs its script on its board and writes the
+/// transcript; other words are answered by the usage line. The text of an answer is handed to the output once. The result
+/// is the status: `DONE`, `USAGE`, `REFUSED`, `READ_FAULT`, `WRITE_FAULT` or `NO_MEMORY`.
+pub fn control<S: Source, O: Sink>(
+    alloc: Global,
+    words: &[String],
+    input: &mut S,
+    out: &mut O,
+) -> u8
+    // The transcript of the session that the input stands for was written, and nothing else.
+    ensures done { result ≡ DONE → AreRun words.now × ((text : List ℕ) × (OwesTranscript (S.left input.old) (S.left input.new) text × Wrote (O.written out.old) (O.written out.new) text)) }
+    // The usage line was written, and nothing was read.
+    ensures usage { result ≡ USAGE → (AreRun words.now → ⊥) × ((text : List ℕ) × (OwesUsage (S.left input.old) (S.left input.new) text × Wrote (O.written out.old) (O.written out.new) text)) }
+    // The line of the refusal was written, by the first rule that the input breaks.
+    ensures refused { result ≡ REFUSED → AreRun words.now × ((text : List ℕ) × (OwesRefusal (S.left input.old) (S.left input.new) text × Wrote (O.written out.old) (O.written out.new) text)) }
+
+    // The input met a fault, and nothing was written.
+    ensures read_fault { result ≡ READ_FAULT → AreRun words.now × (Rose (S.faults input.old) (S.faults input.new) × (O.written out.new ≡ O.written out.old)) }
+    // The output met a fault, and a part of the text that was owed was written.
+    ensures write_fault { result ≡ WRITE_FAULT → Rose (O.faults out.old) (O.faults out.new) × ((status : ℕ) × ((text : List ℕ) × (Owes words.now (S.left input.old) (S.left input.new) status text × AppendsPart (O.written out.old) (O.written out.new) text))) }
+    // Memory ran out, and nothing was written.
+    ensures no_memory { result ≡ NO_MEMORY → AreRun words.now × (O.written out.new ≡ O.written out.old) }
+    ensures no_other { IsStatus result }
+{
+    if !are_run(words) {
+        return deliver(out, USAGE_LINE, USAGE);
+    }
+    match answer_input(alloc, input) {
+        Ok(answer) => deliver(out, answer.text.as_str(), answer.status),
+        Err(NoAnswer::ReadFault) => READ_FAULT,
+        Err(NoAnswer::NoMemory) => NO_MEMORY,
+    }
+}
