@@ -1,18 +1,18 @@
 -- A session whose script is one body: its history, its lines, and that they show values.
-use Rattle.std.proofs.Common.{◌≡◌, ℕ, ◌+◌, ◌-◌, ◌*◌, ◌^◌, ◌<◌, ◌≤◌, ◌==◌, List, [], ◌∷◌, ◌++◌, length, map, Some, refl, sym, ap, subst, ◌∙◌, arith, append-nil, count_by}
-use Rattle.std.specs.List.{AllByRecursion, slice_get}
+use Rattle.std.proofs.Common.{◌≡◌, ℕ, ◌+◌, ◌^◌, ◌<◌, ◌≤◌, ◌==◌, List, [], ◌∷◌, ◌++◌, length, map, Some, refl, sym, ap, subst, ◌∙◌, arith, append-nil, count_by}
+use Rattle.std.specs.List.{AllByRecursion}
 use Rattle.std.proofs.lemmas.List.{length-map}
-use Rattle.ipb_base.specs.Word.{IsWord, AreWords}
+use Rattle.ipb_base.specs.Word.{AreWords}
 use Rattle.transaction_codec.specs.Reply.{replies_words}
 use Rattle.board_bus.specs.Cells.{CellMap}
 use Rattle.board_bus.specs.Bodies.{Executed, run_body}
 use Rattle.ipbus_program.specs.declared.session.Register.{Register}
 use Rattle.ipbus_program.specs.declared.session.Session.{Session}
 use Rattle.ipbus_program.specs.Document.{CanRun}
-use Rattle.ipbus_program.specs.Plan.{script_body, session_bodies, session_bus, word_replies, HaveWords, GiveWords, GivesValues}
+use Rattle.ipbus_program.specs.Plan.{script_body, session_bus, word_replies, HaveWords, GiveWords, GivesValues}
 use Rattle.ipbus_program.specs.History.{Outcome, placed, IsHistory}
-use Rattle.ipbus_program.specs.Transcript.{OpResult, Values, OpLine, ShowsValues, ShowsAllValues, results, op_lines, board_line, lines}
-use Rattle.ipbus_program.specs.Text.{client_text, board_text, transcript_text, one_body_text}
+use Rattle.ipbus_program.specs.Transcript.{OpResult, Values, ShowsValues, results, op_lines}
+use Rattle.ipbus_program.specs.Text.{client_text, board_text}
 use Rattle.ipbus_program.specs.Owed.{IsTranscriptOf}
 use Rattle.ipbus_program.proofs.Script.{script_reply, results_are_values}
 use Rattle.ipbus_program.proofs.Opening.{opening_values, gives_opening, opening_fits}

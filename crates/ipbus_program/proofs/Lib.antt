@@ -6,6 +6,7 @@ pub mod Answered
 pub mod CanRun
 pub mod Standing
 pub mod Causes
+pub mod Deserved
 pub mod FormParts
 pub mod FormLists
 pub mod FormRegisters

@@ -1,5 +1,5 @@
 -- The words that a session's board opens with are what its bus gives to reads.
-use Rattle.std.proofs.Common.{◌≡◌, ℕ, zero, suc, ◌+◌, ◌-◌, ◌^◌, ◌<◌, ◌≤◌, List, [], ◌∷◌, ◌++◌, length, map, get_or, replicate, Option, Some, None, Result, Ok, refl, sym, ap, ◌∙◌, arith, lit<, length-append, append-nil, Bool, true, cond, nat_lt}
+use Rattle.std.proofs.Common.{◌≡◌, ℕ, zero, suc, ◌+◌, ◌-◌, ◌^◌, ◌<◌, ◌≤◌, List, [], ◌∷◌, ◌++◌, length, map, get_or, replicate, Some, None, Ok, ap, ◌∙◌, arith, lit<, length-append, append-nil, true, cond, nat_lt}
 use Rattle.std.proofs.lemmas.List.{length-replicate}
 use Rattle.std.proofs.lemmas.Bool.{lt-ltb}
 use Rattle.std.specs.List.{AllByRecursion}
@@ -7,13 +7,11 @@ use Rattle.ipb_base.specs.Word.{IsWord, AreWords}
 use Rattle.std.specs.Ordering.{nat_cmp}
 use Rattle.std.specs.FinMap.Entries.{find}
 use Rattle.board_bus.specs.declared.kind.RangeKind.TheVariants.{Rw}
-use Rattle.board_bus.specs.declared.fault.BusFault.{BusFault}
-use Rattle.board_bus.specs.Cells.{Cell, CellMap, cell_at, cells_from, read_cell, read_word}
+use Rattle.board_bus.specs.Cells.{Cell, cell_at, cells_from, read_cell, read_word}
 use Rattle.board_bus.specs.Ranges.{opening_words, opening_bus}
 use Rattle.board_bus.proofs.Lookups.{find-cell_map, find-within}
 use Rattle.ipbus_program.specs.declared.session.Register.{Register}
 use Rattle.ipbus_program.specs.declared.session.BoardSpec.{BoardSpec}
-use Rattle.ipbus_program.specs.FirstForm.{Each}
 use Rattle.ipbus_program.specs.Plan.{board_range, GiveWords}
 
 -- the word that a board opens with at an address
