@@ -1,5 +1,5 @@
 -- A session of the first form can run.
-use Rattle.std.proofs.Common.{◌≡◌, ℕ, ◌<◌, ◌≤◌, zero, suc, List, [], ◌∷◌, length, Contains, subst, sym, arith, lit<}
+use Rattle.std.proofs.Common.{ℕ, ◌<◌, zero, suc, List, [], ◌∷◌, Contains, subst, arith}
 use Rattle.std.specs.List.{AllByRecursion}
 use Rattle.ipb_base.specs.Word.{AreWords}
 use Rattle.toml.specs.Data.{Data, Members}

@@ -1,13 +1,13 @@
 -- Which answer is owed to an input, and that an input of the first form is owed no refusal.
-use Rattle.std.proofs.Common.{◌≡◌, ℕ, ◌+◌, ◌<◌, ◌≤◌, ◌⊎◌, inl, inr, Bool, true, false, List, [], ◌∷◌, ◌++◌, length, map, get_or, Option, Some, None, refl, sym, ap, ◌∙◌, subst, arith, length-append, append-nil, String, Global, string_bytes}
+use Rattle.std.proofs.Common.{◌≡◌, ℕ, inl, inr, Bool, List, [], ◌∷◌, length, map, get_or, Option, sym, ap, ◌∙◌, subst, arith, String, Global, string_bytes}
 use Rattle.std.specs.Prelude.{IsTrue}
 use Rattle.std.specs.Str.{bytes_eq}
 use Rattle.std.specs.Bool.{Decides}
-use Rattle.ipbus_program.specs.declared.answer.Refusal.TheVariants.{TooLong, NotToml, NotBuilt}
+use Rattle.ipbus_program.specs.declared.answer.Refusal.TheVariants.{NotToml, NotBuilt}
 use Rattle.ipbus_program.specs.declared.answer.TheConstants.{WRITE_FAULT}
 use Rattle.ipb_base.specs.Faults.{Rose}
 use Rattle.ipb_outside.specs.Told.{AppendsPart}
-use Rattle.ipbus_program.specs.Owed.{ReadToEnd, OwesTranscript, OwesRefusal, AnswersBytes, AnswersInput, Owes, Delivers}
+use Rattle.ipbus_program.specs.Owed.{ReadToEnd, AnswersBytes, AnswersInput, Owes, Delivers}
 use Rattle.std.proofs.lemmas.Slice.Eq.{bytes_eq-Decides}
 
 first_of_one : {A : Type 0} {x y : A} → x ∷ [] ≡ y ∷ [] → x ≡ y

@@ -1,12 +1,12 @@
 -- What reading a parsed document gives, said of the bytes that it was parsed from.
-use Rattle.std.proofs.Common.{◌≡◌, ℕ, List, Option, Some, None, Result, Ok, Err, IfOk, sym, ◌∙◌}
+use Rattle.std.proofs.Common.{◌≡◌, ℕ, List, Some, None, Result, Ok, Err, IfOk}
 use Rattle.toml.specs.Data.{Members}
 use Rattle.ipbus_program.specs.declared.session.Session.{Session}
 use Rattle.ipbus_program.specs.declared.document.DocumentError.{DocumentError}
 use Rattle.ipbus_program.specs.declared.document.DocumentError.TheVariants.{NotToml, NotBuilt, NoMemory}
-use Rattle.ipbus_program.specs.Reading.{Gives, Refuses, session_of}
+use Rattle.ipbus_program.specs.Reading.{Gives, session_of}
 use Rattle.ipbus_program.specs.FirstForm.{IsFirstForm}
-use Rattle.ipbus_program.specs.Document.{IsToml, StandsFor, IsNotToml, IsNotBuilt, CanRun}
+use Rattle.ipbus_program.specs.Document.{IsToml, StandsFor, IsNotBuilt, CanRun}
 use Rattle.ipbus_program.proofs.FormWhole.{session_of_found, session_of_again}
 use Rattle.ipbus_program.proofs.CanRun.{can_run}
 

@@ -5,7 +5,6 @@ use Rattle.std.specs.Str.{IsUtf8}
 use Rattle.ipb_base.specs.Word.{AreWords}
 use Rattle.toml.specs.Data.{Members}
 use Rattle.toml.specs.Parse.{parse_document}
-use Rattle.ipbus_program.specs.declared.session.Register.{Register}
 use Rattle.ipbus_program.specs.declared.session.Session.{Session}
 use Rattle.ipbus_program.specs.FirstForm.{IsFirstForm, IsListed}
 
