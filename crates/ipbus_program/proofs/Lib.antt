@@ -7,6 +7,7 @@ pub mod OneTranscript
 pub mod CanRun
 pub mod Standing
 pub mod Causes
+pub mod Deserved
 pub mod FormParts
 pub mod FormLists
 pub mod FormRegisters

@@ -48,7 +48,8 @@ joined front (Some rest) = Some (front ++ rest)
 -- a byte of an identifier: a letter, a digit, `_` or `-`
 unfoldable pub is_identifier_byte : ℕ → Bool
 is_identifier_byte byte =
-    (nat_le 65 byte && nat_le byte 90) || (nat_le 97 byte && nat_le byte 122) || (nat_le 48 byte && nat_le byte 57) || (byte == 95) || (byte == 45)
+    (nat_le 65 byte && nat_le byte 90)
+    || ((nat_le 97 byte && nat_le byte 122) || ((nat_le 48 byte && nat_le byte 57) || ((byte == 95) || (byte == 45))))
 
 -- an identifier: 1 to 64 of these bytes
 unfoldable pub is_identifier : List ℕ → Bool

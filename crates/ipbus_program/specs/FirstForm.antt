@@ -1,18 +1,25 @@
--- The first form of a session document: which parsed TOML stands for which session. The keys of a TOML table differ, so a table
--- that has some keys and no more keys than these has exactly these.
-use Rattle.std.specs.Prelude.{◌≡◌, ℕ, ◌≤◌, ◌<◌, pos, List, [], ◌∷◌, ◌++◌, length, map, codes, true, Contains, Some}
-use Rattle.std.specs.List.{IsDistinct}
+-- The first form of a session document: which parsed TOML stands for which session. A table in which some number of different
+-- keys is found, and which has that number of keys, has exactly these.
+use Rattle.std.specs.Prelude.{◌≡◌, ℕ, ◌≤◌, ◌<◌, ◌⊎◌, pos, List, [], ◌∷◌, ◌++◌, length, map, codes, Contains, Some}
+use Rattle.std.specs.List.{AllByRecursion, IsDistinct}
 use Rattle.std.specs.Str.{bytes_eq}
 use Rattle.toml.specs.Data.{Data, Items, no_items, item, Members, no_members, member, string, integer, array, table, get_member}
 use Rattle.ipb_base.specs.Word.{IsWord}
 use Rattle.ipbus_program.specs.declared.session.Register.{Register}
 use Rattle.ipbus_program.specs.declared.session.BoardSpec.{BoardSpec}
 use Rattle.ipbus_program.specs.declared.session.Session.{Session}
-use Rattle.ipbus_program.specs.Fields.{values, member_count, is_identifier}
+use Rattle.ipbus_program.specs.Fields.{values, member_count}
 
--- 1 to 64 of `A-Z`, `a-z`, `0-9`, `_`, `-`
-abbrev pub IsIdentifier : List ℕ → Type 0
-IsIdentifier text = is_identifier text ≡ true
+-- in ASCII a letter from `A` to `Z` or from `a` to `z`, a digit from `0` to `9`, `_` or `-`
+abbrev pub IsIdentifierByte : ℕ → Type 0
+IsIdentifierByte byte =
+    (65 ≤ byte × byte ≤ 90) ⊎ (97 ≤ byte × byte ≤ 122) ⊎ (48 ≤ byte × byte ≤ 57) ⊎ (byte ≡ 95) ⊎ (byte ≡ 45)
+
+-- an identifier is 1 to 64 of these bytes
+pub record IsIdentifier (text : List ℕ) : Type 0 where
+  pub not_empty : 1 ≤ length text
+  pub not_long : length text ≤ 64
+  pub bytes : AllByRecursion IsIdentifierByte text
 
 -- the two lists are as long as one another, and R relates their items in order
 abbrev pub Each : {A B : Type 0} → (A → B → Type 0) → List A → List B → Type 0
