@@ -1,13 +1,13 @@
 -- Which answer is owed to an input, and that an input of the first form is owed no refusal.
-use Rattle.std.proofs.Common.{◌≡◌, ℕ, ◌+◌, ◌<◌, ◌≤◌, ◌⊎◌, inl, inr, Bool, true, false, List, [], ◌∷◌, ◌++◌, length, map, get_or, Option, Some, None, refl, sym, ap, ◌∙◌, subst, arith, length-append, append-nil, String, Global, string_bytes}
+use Rattle.std.proofs.Common.{◌≡◌, ℕ, inl, inr, Bool, List, [], ◌∷◌, length, map, get_or, Option, sym, ap, ◌∙◌, subst, arith, String, Global, string_bytes}
 use Rattle.std.specs.Prelude.{IsTrue}
 use Rattle.std.specs.Str.{bytes_eq}
 use Rattle.std.specs.Bool.{Decides}
-use Rattle.ipbus_program.specs.declared.answer.Refusal.TheVariants.{TooLong, NotToml, NotBuilt}
+use Rattle.ipbus_program.specs.declared.answer.Refusal.TheVariants.{NotToml, NotBuilt}
 use Rattle.ipbus_program.specs.declared.answer.TheConstants.{WRITE_FAULT}
 use Rattle.ipb_base.specs.Faults.{Rose}
 use Rattle.ipb_outside.specs.Told.{AppendsPart}
-use Rattle.ipbus_program.specs.Owed.{ReadToEnd, OwesTranscript, OwesRefusal, AnswersBytes, AnswersInput, Owes, Delivers}
+use Rattle.ipbus_program.specs.Owed.{ReadToEnd, AnswersBytes, AnswersInput, Owes, OwesText, WroteOwedPart, Delivers}
 use Rattle.std.proofs.lemmas.Slice.Eq.{bytes_eq-Decides}
 
 first_of_one : {A : Type 0} {x y : A} → x ∷ [] ≡ y ∷ [] → x ≡ y
@@ -39,9 +39,11 @@ not_a_fault words before now status text (inl (run, inl (is, owes))) fault = ome
 not_a_fault words before now status text (inl (run, inr (is, owes))) fault = omega arith
 not_a_fault words before now status text (inr (not_run, (is, owes))) fault = omega arith
 
--- where the status is that of an output's fault, a part of the text that is owed was written
-pub part_written : (words : List (String Global)) (before now : Option (List ℕ)) (status : ℕ) (text : List ℕ) (old new : Option (List ℕ)) (met meets result : ℕ)
-    → Owes words before now status text → Delivers status text old new met meets result → result ≡ WRITE_FAULT
-    → Rose met meets × ((s : ℕ) × ((t : List ℕ) × (Owes words before now s t × AppendsPart old new t)))
-part_written words before now status text old new met meets result owes (inl (is, wrote)) fault = absurd (not_a_fault words before now status text owes (sym is ∙ fault))
-part_written words before now status text old new met meets result owes (inr (is, (rose, part))) fault = (rose, (status, (text, (owes, part))))
+-- where the status is that of an output's fault, a part of the text that is owed was written; `given` is that text as it was
+-- handed to the output
+pub part_written : (words : List (String Global)) (before now : Option (List ℕ)) (status : ℕ) (text given : List ℕ) → given ≡ text → (old new : Option (List ℕ)) (met meets result : ℕ)
+    → Owes words before now status text → Delivers status given old new met meets result → result ≡ WRITE_FAULT
+    → Rose met meets × WroteOwedPart (OwesText words before now) old new
+part_written words before now status text given same old new met meets result owes (inl (is, wrote)) fault = absurd (not_a_fault words before now status text owes (sym is ∙ fault))
+part_written words before now status text given same old new met meets result owes (inr (is, (rose, part))) fault =
+    (rose, (text, (status, owes), subst (AppendsPart old new) same part))

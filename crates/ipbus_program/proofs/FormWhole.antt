@@ -1,12 +1,12 @@
 -- Reading a whole document: what was found is what the form says, and what the form says is found again.
-use Rattle.std.proofs.Common.{◌≡◌, ℕ, List, codes, ◌==◌, Some, sym, ap, subst, ◌∙◌, eqb-true, eq-eqb}
-use Rattle.std.proofs.lemmas.Option.{same_Some}
+use Rattle.std.proofs.Common.{◌≡◌, ℕ, List, codes, ◌==◌, Option, Some, None, refl, sym, ap, subst, ◌∙◌, eqb-true, eq-eqb}
+use Rattle.std.proofs.lemmas.Option.{none-some, same_Some}
 use Rattle.toml.specs.Data.{Data, Items, no_items, item, Members, no_members, member, array, table, get_member, as_table}
 use Rattle.ipbus_program.specs.declared.session.Session.{Session}
 use Rattle.ipbus_program.specs.Fields.{◌>>=◌, checked, values, only, only_member, member_count, is_identifier, values_of, values_at}
 use Rattle.ipbus_program.specs.Reading.{registers_of, board_of, script_of, table_of, session_of}
-use Rattle.ipbus_program.specs.FirstForm.{Each, IsIdentifier, IsNode, IsFirstForm}
-use Rattle.ipbus_program.proofs.FormParts.{step_found, step_again, checked_found, checked_again, as_table_found, values_of_found, values_at_again, only_member_found, one_at_found}
+use Rattle.ipbus_program.specs.FirstForm.{Each, IsListed, IsIdentifier, IsNode, IsFirstForm}
+use Rattle.ipbus_program.proofs.FormParts.{step_found, step_again, checked_found, checked_again, is_identifier-Decides, as_table_found, values_of_found, values_at_again, only_member_found, one_at_found}
 use Rattle.ipbus_program.proofs.FormRegisters.{are_distinct-Decides}
 use Rattle.ipbus_program.proofs.FormBoards.{AreNodes, registers_of_found, registers_of_again, board_of_found, board_of_again}
 use Rattle.ipbus_program.proofs.FormScripts.{script_of_found, script_of_again}
@@ -29,7 +29,7 @@ table_of_found document one found =
     let all = values_of_found named.1 nodes nodes_here in
     let whole = as_table_found value tables is_table ∙ ap table (only_member_found tables named named_here ∙ ap (λ v. member named.0 v no_members) all.is_array) in
     subst (λ (t : List ℕ × List Data). IsOnlyTable document t.0 t.1) both.1 (record {
-      rule = both.0;
+      rule = (is_identifier-Decides named.0).0 both.0;
       items = all.items;
       tables = value_here ∙ ap Some whole;
       the_values = all.the_values;
@@ -40,7 +40,7 @@ pub table_of_again : (document : Members) (name : List ℕ) (items : Items) → 
 unfolding table_of
 table_of_again document name items tables rule =
     step_again _ (step_again as_table tables)
-    ∙ checked_again (is_identifier name) (name, values items) rule
+    ∙ checked_again (is_identifier name) (name, values items) ((is_identifier-Decides name).1 rule)
 
 -- the document
 pub session_of_found : (document : Members) (session : Session) → session_of document ≡ Some session → IsFirstForm document session
@@ -66,7 +66,7 @@ session_of_found document session found =
       tables = tables.tables;
       registers = registers;
       each_node = subst (λ vs. Each (IsNode board.size) vs registers) (sym tables.the_values) nodes.each_node;
-      nodes_listed = nodes.nodes_listed;
+      nodes_listed = subst IsListed (sym tables.the_values) nodes.nodes_listed;
       ids_differ = nodes.ids_differ;
       board = one_board;
       boards = one_at_found (codes "board") fields boards one_board boards_here one_board_here;
@@ -90,3 +90,14 @@ session_of_again document session form =
   where
     nodes : AreNodes session.board.size (values form.nodes) form.registers
     nodes = record { each_node = form.each_node; nodes_listed = form.nodes_listed; ids_differ = form.ids_differ }
+
+-- nothing is read exactly where the document is of the form for no session
+none_of : {A : Type 0} (found : Option A) → ((x : A) → found ≡ Some x → ⊥) → found ≡ None
+none_of None apart = refl
+none_of (Some x) apart = absurd (apart x refl)
+
+pub no_session : (document : Members) → session_of document ≡ None → (session : Session) → IsFirstForm document session → ⊥
+no_session document none session form = none-some session (sym none ∙ session_of_again document session form)
+
+pub no_session_again : (document : Members) → ((session : Session) → IsFirstForm document session → ⊥) → session_of document ≡ None
+no_session_again document not_of_form = none_of (session_of document) (λ session found. not_of_form session (session_of_found document session found))

@@ -3,9 +3,11 @@ pub mod Hex
 pub mod Script
 pub mod Opening
 pub mod Answered
+pub mod OneTranscript
 pub mod CanRun
 pub mod Standing
 pub mod Causes
+pub mod Deserved
 pub mod FormParts
 pub mod FormLists
 pub mod FormRegisters

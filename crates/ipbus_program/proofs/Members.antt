@@ -1,5 +1,5 @@
 -- A parsed table beside the members that it stands for.
-use Rattle.std.proofs.Common.{◌≡◌, ℕ, ◌+◌, List, [], ◌∷◌, length, String, Global, refl, ap, ◌∙◌, add-one, suc, map, ◌≢◌, Option, Some, None, string_bytes, arith}
+use Rattle.std.proofs.Common.{◌≡◌, List, [], ◌∷◌, length, String, Global, refl, ap, ◌∙◌, add-one, suc, map, ◌≢◌, Some, None, string_bytes, arith}
 use Rattle.std.specs.List.{slice_get}
 use Rattle.toml.specs.declared.value.Value.{Value}
 use Rattle.toml.specs.View.{view, members_view, items_view}

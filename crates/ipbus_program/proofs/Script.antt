@@ -1,5 +1,5 @@
 -- A script's requests have a spelling, the words that a bus gives to them are its reply, and each line finds its value there.
-use Rattle.std.proofs.Common.{◌≡◌, ℕ, ◌+◌, ◌*◌, ◌^◌, ◌<◌, ◌≤◌, zero, suc, List, [], ◌∷◌, ◌++◌, length, map, lit<, Option, Some, None, Result, Ok, Err, refl, sym, ap, ◌∙◌, arith, inl, inr, length-append, add-one}
+use Rattle.std.proofs.Common.{◌≡◌, ℕ, ◌+◌, ◌*◌, ◌^◌, ◌<◌, ◌≤◌, zero, suc, List, [], ◌∷◌, ◌++◌, length, map, lit<, Result, Ok, refl, ap, ◌∙◌, arith, inl}
 use Rattle.std.specs.Prelude.{slice_index}
 use Rattle.std.specs.List.{AllByRecursion}
 use Rattle.ipb_base.specs.Word.{IsWord, AreWords}
@@ -10,16 +10,15 @@ use Rattle.transaction_codec.specs.declared.transaction_type.TheConstants.{READ}
 use Rattle.transaction_codec.specs.declared.info_code.TheConstants.{REQUEST}
 use Rattle.transaction_codec.specs.Header.{header}
 use Rattle.transaction_codec.specs.Request.{IsRequest, AreRequests, request_words, requests_words, request_at}
-use Rattle.transaction_codec.specs.Reply.{IsReply, AreReplies, reply_words, replies_words, reply_at}
+use Rattle.transaction_codec.specs.Reply.{IsReply, AreReplies, reply_words, replies_words}
 use Rattle.transaction_codec.proofs.Requests.{request_again}
 use Rattle.transaction_codec.proofs.Replies.{reply_again}
 use Rattle.board_bus.specs.Cells.{CellMap, read_word}
 use Rattle.board_bus.specs.Transactions.{Transacted, transact}
-use Rattle.board_bus.specs.Bodies.{Executed, after_reply, run_on, run_first, run_requests, run_body}
+use Rattle.board_bus.specs.Bodies.{after_reply, run_on, run_first, run_requests, run_body}
 use Rattle.ipbus_program.specs.declared.session.Register.{Register}
-use Rattle.ipbus_program.specs.FirstForm.{Each}
 use Rattle.ipbus_program.specs.Plan.{read_request, script_requests, script_body, word_reply, word_replies, HaveWords, GiveWords}
-use Rattle.ipbus_program.specs.Transcript.{OpResult, Values, result_of, results_from, results}
+use Rattle.ipbus_program.specs.Transcript.{OpResult, Values, results_from, results}
 
 is_request : (tid : ℕ) (register : Register) → tid < 2 ^ 12 → IsWord register.address → IsRequest (read_request tid register)
 is_request tid register small word = record { tid = small; count = lit< tt; words = (word, tt) }

@@ -5,7 +5,6 @@ use Rattle.std.specs.Str.{IsUtf8}
 use Rattle.ipb_base.specs.Word.{AreWords}
 use Rattle.toml.specs.Data.{Members}
 use Rattle.toml.specs.Parse.{parse_document}
-use Rattle.ipbus_program.specs.declared.session.Register.{Register}
 use Rattle.ipbus_program.specs.declared.session.Session.{Session}
 use Rattle.ipbus_program.specs.FirstForm.{IsFirstForm, IsListed}
 
@@ -19,11 +18,11 @@ StandsFor bytes session = (document : Members) × IsToml bytes document × IsFir
 
 -- the bytes are no TOML text
 abbrev pub IsNotToml : List ℕ → Type 0
-IsNotToml bytes = (document : Members) → IsToml bytes document → ⊥
+IsNotToml bytes = (document : Members) → ¬ IsToml bytes document
 
 -- the bytes are a TOML text, and not of the first form
 abbrev pub IsNotBuilt : List ℕ → Type 0
-IsNotBuilt bytes = (document : Members) × IsToml bytes document × ((session : Session) → IsFirstForm document session → ⊥)
+IsNotBuilt bytes = (document : Members) × IsToml bytes document × ((session : Session) → ¬ IsFirstForm document session)
 
 -- What running a session rests on: its board's range is one of the first form, and each address of its script is in it.
 pub record CanRun (session : Session) : Type 0 where

@@ -1,5 +1,5 @@
 -- Fields of a parsed table: what stands under a key, and of which kind it is.
-use Rattle.std.specs.Prelude.{◌≡◌, ℕ, ◌+◌, ◌<◌, ◌≤◌, ◌^◌, pos, negsuc, List, [], ◌∷◌, ◌++◌, length, Bool, true, false, ◌&&◌, ◌||◌, ◌==◌, nat_lt, nat_le, if◌then◌else◌, Option, Some, None, option_map}
+use Rattle.std.specs.Prelude.{ℕ, ◌+◌, ◌^◌, pos, List, [], ◌∷◌, ◌++◌, length, Bool, ◌&&◌, ◌||◌, ◌==◌, nat_lt, nat_le, if◌then◌else◌, Option, Some, None}
 use Rattle.std.specs.List.{list_all}
 use Rattle.toml.specs.Data.{Data, Items, no_items, item, Members, no_members, member, integer, get_member, as_str, as_array, as_table}
 
@@ -48,7 +48,8 @@ joined front (Some rest) = Some (front ++ rest)
 -- a byte of an identifier: a letter, a digit, `_` or `-`
 unfoldable pub is_identifier_byte : ℕ → Bool
 is_identifier_byte byte =
-    (nat_le 65 byte && nat_le byte 90) || (nat_le 97 byte && nat_le byte 122) || (nat_le 48 byte && nat_le byte 57) || (byte == 95) || (byte == 45)
+    (nat_le 65 byte && nat_le byte 90)
+    || ((nat_le 97 byte && nat_le byte 122) || ((nat_le 48 byte && nat_le byte 57) || ((byte == 95) || (byte == 45))))
 
 -- an identifier: 1 to 64 of these bytes
 unfoldable pub is_identifier : List ℕ → Bool

@@ -1,18 +1,25 @@
--- The first form of a session document: which parsed TOML stands for which session. The keys of a TOML table differ, so a table
--- that has some keys and no more keys than these has exactly these.
-use Rattle.std.specs.Prelude.{◌≡◌, ℕ, ◌≤◌, ◌<◌, pos, List, [], ◌∷◌, ◌++◌, length, map, codes, true, Contains, Some}
-use Rattle.std.specs.List.{IsDistinct}
+-- The first form of a session document: which parsed TOML stands for which session. A table in which some number of different
+-- keys is found, and which has that number of keys, has exactly these.
+use Rattle.std.specs.Prelude.{◌≡◌, ℕ, ◌≤◌, ◌<◌, ◌⊎◌, pos, List, [], ◌∷◌, ◌++◌, length, map, codes, Contains, Some}
+use Rattle.std.specs.List.{AllByRecursion, IsDistinct}
 use Rattle.std.specs.Str.{bytes_eq}
 use Rattle.toml.specs.Data.{Data, Items, no_items, item, Members, no_members, member, string, integer, array, table, get_member}
 use Rattle.ipb_base.specs.Word.{IsWord}
 use Rattle.ipbus_program.specs.declared.session.Register.{Register}
 use Rattle.ipbus_program.specs.declared.session.BoardSpec.{BoardSpec}
 use Rattle.ipbus_program.specs.declared.session.Session.{Session}
-use Rattle.ipbus_program.specs.Fields.{values, member_count, is_identifier}
+use Rattle.ipbus_program.specs.Fields.{values, member_count}
 
--- 1 to 64 of `A-Z`, `a-z`, `0-9`, `_`, `-`
-abbrev pub IsIdentifier : List ℕ → Type 0
-IsIdentifier text = is_identifier text ≡ true
+-- in ASCII a letter from `A` to `Z` or from `a` to `z`, a digit from `0` to `9`, `_` or `-`
+abbrev pub IsIdentifierByte : ℕ → Type 0
+IsIdentifierByte byte =
+    (65 ≤ byte × byte ≤ 90) ⊎ (97 ≤ byte × byte ≤ 122) ⊎ (48 ≤ byte × byte ≤ 57) ⊎ (byte ≡ 95) ⊎ (byte ≡ 45)
+
+-- an identifier is 1 to 64 of these bytes
+pub record IsIdentifier (text : List ℕ) : Type 0 where
+  pub not_empty : 1 ≤ length text
+  pub not_long : length text ≤ 64
+  pub bytes : AllByRecursion IsIdentifierByte text
 
 -- the two lists are as long as one another, and R relates their items in order
 abbrev pub Each : {A B : Type 0} → (A → B → Type 0) → List A → List B → Type 0
@@ -57,7 +64,7 @@ pub record IsRange (value : Data) (size : ℕ) (init : List ℕ) : Type 0 where
   pub numbers : Items
   pub init_key : get_member (codes "init") fields ≡ Some (array numbers)
   pub words : Each IsNumber (values numbers) init
-  pub fits : length init ≤ size
+  pub fits : length (values numbers) ≤ size
 
 -- a board has exactly the keys `name`, an identifier, `table`, the name of the table, and `ranges`, an array of one range
 pub record IsBoard (table_name : List ℕ) (value : Data) (board : BoardSpec) : Type 0 where
@@ -84,7 +91,7 @@ pub record IsClient (board_name : List ℕ) (registers : List Register) (value :
   pub lines : Items
   pub script_key : get_member (codes "script") fields ≡ Some (array lines)
   pub reads : Each (IsRead board_name registers) (values lines) script
-  pub listed : IsListed script
+  pub listed : IsListed (values lines)
 
 -- A document has exactly the keys `tables`, which has one table of 1 to 100 nodes with different ids, `board`, an array of one
 -- board, and `client`, an array of one client.
@@ -96,7 +103,7 @@ pub record IsFirstForm (document : Members) (session : Session) : Type 0 where
   pub tables : get_member (codes "tables") document ≡ Some (table (member table_name (array nodes) no_members))
   pub registers : List Register
   pub each_node : Each (IsNode session.board.size) (values nodes) registers
-  pub nodes_listed : IsListed registers
+  pub nodes_listed : IsListed (values nodes)
   pub ids_differ : IsDistinct bytes_eq (map (λ register. register.id) registers)
   pub board : Data
   pub boards : get_member (codes "board") document ≡ Some (array (item board no_items))

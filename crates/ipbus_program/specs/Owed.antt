@@ -1,6 +1,6 @@
 -- What the program owes to its words and its input. `before` and `now` are the bytes that the input had left at first and in the
 -- end, where it tells them.
-use Rattle.std.specs.Prelude.{◌≡◌, ℕ, ◌+◌, ◌≤◌, List, [], ◌∷◌, length, map, codes, Option, string_bytes, String, ◌⊎◌}
+use Rattle.std.specs.Prelude.{◌≡◌, ℕ, ◌+◌, ◌≤◌, ◌<◌, List, [], ◌∷◌, length, map, codes, Option, string_bytes, String, ◌⊎◌}
 use Rattle.std.specs.declared.alloc.Global.{Global}
 use Rattle.std.specs.Io.KnownBytes.{prepend_known, append_known, IsAtEnd}
 use Rattle.ipb_base.specs.Faults.{Rose}
@@ -18,6 +18,16 @@ use Rattle.ipbus_program.specs.Text.{transcript_text, refusal_text, usage_text}
 -- the words are the one word `run`
 abbrev pub AreRun : List (String Global) → Type 0
 AreRun words = map string_bytes words ≡ codes "run" ∷ []
+
+-- the bytes are a document of this session, and no more than a document may be
+abbrev pub IsAccepted : List ℕ → Session → Type 0
+IsAccepted bytes session = (length bytes ≤ MAX_DOCUMENT) × StandsFor bytes session
+
+-- The bytes deserve this refusal: it is that of the first rule that they break.
+abbrev pub Deserves : Refusal → List ℕ → Type 0
+Deserves TooLong bytes = MAX_DOCUMENT < length bytes
+Deserves NotToml bytes = (length bytes ≤ MAX_DOCUMENT) × IsNotToml bytes
+Deserves NotBuilt bytes = (length bytes ≤ MAX_DOCUMENT) × IsNotBuilt bytes
 
 -- the input was read to its end, and these bytes are all that it had
 pub record ReadToEnd (before now : Option (List ℕ)) (bytes : List ℕ) : Type 0 where
@@ -73,7 +83,11 @@ AnswersInput before now status text =
 abbrev pub Owes : List (String Global) → Option (List ℕ) → Option (List ℕ) → ℕ → List ℕ → Type 0
 Owes words before now status text =
     (AreRun words × AnswersInput before now status text)
-    ⊎ ((AreRun words → ⊥) × ((status ≡ USAGE) × OwesUsage before now text))
+    ⊎ (¬ AreRun words × ((status ≡ USAGE) × OwesUsage before now text))
+
+-- A text that is owed for these words and this input.
+abbrev pub OwesText : List (String Global) → Option (List ℕ) → Option (List ℕ) → List ℕ → Type 0
+OwesText words before now text = (status : ℕ) × Owes words before now status text
 
 -- the statuses that there are
 abbrev pub IsStatus : ℕ → Type 0
@@ -83,6 +97,14 @@ IsStatus status =
 -- all of this text went behind what was written
 abbrev pub Wrote : Option (List ℕ) → Option (List ℕ) → List ℕ → Type 0
 Wrote old new text = new ≡ append_known old text
+
+-- a text that is owed was written, and nothing else
+abbrev pub WroteOwed : (List ℕ → Type 0) → Option (List ℕ) → Option (List ℕ) → Type 0
+WroteOwed owed old new = (text : List ℕ) × owed text × Wrote old new text
+
+-- a proper part of a text that is owed was written, from its front
+abbrev pub WroteOwedPart : (List ℕ → Type 0) → Option (List ℕ) → Option (List ℕ) → Type 0
+WroteOwedPart owed old new = (text : List ℕ) × owed text × AppendsPart old new text
 
 -- The text was written whole and its status answered, or the output met a fault, a part of the text was written, and the status
 -- says so. `old` and `new` are what the output was given, `before` and `now` its counts of faults.

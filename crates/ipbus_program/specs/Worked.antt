@@ -1,6 +1,5 @@
 -- A session worked by hand: one board, one register, one read.
-use Rattle.std.specs.Prelude.{◌≡◌, ℕ, List, [], ◌∷◌, ◌++◌, codes}
-use Rattle.ipbus_program.specs.declared.session.Register.{Register}
+use Rattle.std.specs.Prelude.{ℕ, List, [], ◌∷◌, codes}
 use Rattle.ipbus_program.specs.declared.session.Session.{Session}
 use Rattle.ipbus_program.specs.History.{Outcome}
 

@@ -1,14 +1,11 @@
 //! The program's one call: words and an input in, a text and a status out.
 
-ghost use Rattle.std.specs.Prelude.{◌≡◌, ◌↔◌, ◌≤◌, ℕ, List, Some, Ok, Err, IsTrue, IfOk, length, string_bytes, ◌⊎◌};
-ghost use Rattle.std.specs.Io.KnownBytes.{append_known};
+ghost use Rattle.std.specs.Prelude.{◌≡◌, ◌↔◌, ◌⊎◌, ℕ, List, Some, Ok, Err, IsTrue, IfOk, string_bytes};
 ghost use Rattle.ipb_base.specs.Faults.{Rose};
-ghost use Rattle.ipb_outside.specs.Told.{AppendsPart};
 ghost use Rattle.ipbus_program.specs.declared.program.NoAnswer.TheVariants.{NoMemory as out_of_memory};
 ghost use Rattle.ipbus_program.specs.declared.session.Session.{Session};
-ghost use Rattle.ipbus_program.specs.Document.{StandsFor};
-ghost use Rattle.ipbus_program.specs.Text.{usage_text, refusal_text};
-ghost use Rattle.ipbus_program.specs.Owed.{AreRun, OwesTranscript, OwesUsage, OwesRefusal, Owes, AnswersBytes, AnswersInput, IsStatus, Wrote, Delivers};
+ghost use Rattle.ipbus_program.specs.Text.{refusal_text};
+ghost use Rattle.ipbus_program.specs.Owed.{AreRun, IsAccepted, Deserves, OwesTranscript, OwesUsage, OwesRefusal, OwesText, AnswersBytes, AnswersInput, IsStatus, Wrote, WroteOwed, WroteOwedPart, Delivers};
 
 use crate::answer::{
     DONE, MAX_DOCUMENT, NO_MEMORY, READ_FAULT, REFUSED, Refusal, USAGE, WRITE_FAULT,
@@ -128,18 +125,28 @@ pub fn control<S: Source, O: Sink>(
     out: &mut O,
 ) -> u8
     // The transcript of the session that the input stands for was written, and nothing else.
-    ensures done { result ≡ DONE → AreRun words.now × ((text : List ℕ) × (OwesTranscript (S.left input.old) (S.left input.new) text × Wrote (O.written out.old) (O.written out.new) text)) }
+    ensures done { result ≡ DONE → AreRun words.now × WroteOwed (OwesTranscript (S.left input.old) (S.left input.new)) (O.written out.old) (O.written out.new) }
     // The usage line was written, and nothing was read.
-    ensures usage { result ≡ USAGE → (AreRun words.now → ⊥) × ((text : List ℕ) × (OwesUsage (S.left input.old) (S.left input.new) text × Wrote (O.written out.old) (O.written out.new) text)) }
+    ensures usage { result ≡ USAGE → ¬ AreRun words.now × WroteOwed (OwesUsage (S.left input.old) (S.left input.new)) (O.written out.old) (O.written out.new) }
     // The line of the refusal was written, by the first rule that the input breaks.
-    ensures refused { result ≡ REFUSED → AreRun words.now × ((text : List ℕ) × (OwesRefusal (S.left input.old) (S.left input.new) text × Wrote (O.written out.old) (O.written out.new) text)) }
-
+    ensures refused { result ≡ REFUSED → AreRun words.now × WroteOwed (OwesRefusal (S.left input.old) (S.left input.new)) (O.written out.old) (O.written out.new) }
     // The input met a fault, and nothing was written.
-    ensures read_fault { result ≡ READ_FAULT → AreRun words.now × (Rose (S.faults input.old) (S.faults input.new) × (O.written out.new ≡ O.written out.old)) }
+    ensures read_fault { result ≡ READ_FAULT → AreRun words.now × Rose (S.faults input.old) (S.faults input.new) × (O.written out.new ≡ O.written out.old) }
     // The output met a fault, and a part of the text that was owed was written.
-    ensures write_fault { result ≡ WRITE_FAULT → Rose (O.faults out.old) (O.faults out.new) × ((status : ℕ) × ((text : List ℕ) × (Owes words.now (S.left input.old) (S.left input.new) status text × AppendsPart (O.written out.old) (O.written out.new) text))) }
+    ensures write_fault { result ≡ WRITE_FAULT → Rose (O.faults out.old) (O.faults out.new) × WroteOwedPart (OwesText words.now (S.left input.old) (S.left input.new)) (O.written out.old) (O.written out.new) }
     // Memory ran out, and nothing was written.
     ensures no_memory { result ≡ NO_MEMORY → AreRun words.now × (O.written out.new ≡ O.written out.old) }
+
+    // Other words get the usage line, or the output met a fault.
+    ensures other_words { ¬ AreRun words.now → (result ≡ USAGE) ⊎ (result ≡ WRITE_FAULT) }
+    // Of an input that tells its bytes, where neither count of faults rose: a document of the first form is done, and any
+    // other is refused as it deserves, want of memory aside.
+    ensures accepted { (bytes : List ℕ) (session : Session) → AreRun words.now → S.left input.old ≡ Some bytes → IsAccepted bytes session
+        → ¬ Rose (S.faults input.old) (S.faults input.new) → ¬ Rose (O.faults out.old) (O.faults out.new)
+        → (result ≡ DONE) ⊎ (result ≡ NO_MEMORY) }
+    ensures deserved { (bytes : List ℕ) (refusal : Refusal) → AreRun words.now → S.left input.old ≡ Some bytes → Deserves refusal bytes
+        → ¬ Rose (S.faults input.old) (S.faults input.new) → ¬ Rose (O.faults out.old) (O.faults out.new)
+        → ((result ≡ REFUSED) × Wrote (O.written out.old) (O.written out.new) (refusal_text refusal)) ⊎ (result ≡ NO_MEMORY) }
     ensures no_other { IsStatus result }
 {
     if !are_run(words) {

@@ -26,7 +26,8 @@ pub fn first_packets()
     ensures reply { packet_bytes (control_packet 1 (run_body (session_bus first_session) (script_body first_session.script)).reply) ≡ big_endian (0x200001f0 ∷ 0x20000100 ∷ 0x0000abcd ∷ []) }
 {}
 
-/// The three lines of its transcript.
+/// The three lines of its transcript, whose one value is what a single-thread bus answers.
 pub fn first_lines()
-    ensures { transcript_text (lines first_session first_outcomes) ≡ first_transcript }
+    ensures spelled { transcript_text (lines first_session first_outcomes) ≡ first_transcript }
+    ensures history { IsHistory (session_bus first_session) (session_bodies first_session) first_outcomes }
 {}

@@ -1,8 +1,8 @@
-use Rattle.std.proofs.Common.{◌≡◌, ◌∙◌, ◌*◌, ap, length, ℕ, List, arith}
+use Rattle.std.proofs.Common.{◌≡◌, ◌∙◌, ap, ℕ, List, arith}
 use Rattle.transaction_codec.specs.Request.{requests_words}
 use Rattle.transaction_codec.specs.Reply.{replies_words}
-use Rattle.board_bus.specs.Bodies.{Executed, run_body}
-use Rattle.ipbus_program.specs.Plan.{script_requests, script_body, word_replies}
+use Rattle.board_bus.specs.Bodies.{run_body}
+use Rattle.ipbus_program.specs.Plan.{script_body, word_replies}
 use Rattle.ipbus_program.proofs.Script.{are_requests, body-length, replies-length, script_reply}
 use Rattle.ipbus_program.proofs.run.ask.Goals as goal
 

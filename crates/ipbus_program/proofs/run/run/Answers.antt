@@ -1,4 +1,4 @@
-use Rattle.std.proofs.Common.{◌≡◌, ◌∙◌, ap, sym, length, ℕ, List, arith, string_bytes}
+use Rattle.std.proofs.Common.{◌≡◌, ◌∙◌, ap, ℕ, List, string_bytes}
 use Rattle.board_bus.specs.Bodies.{run_body}
 use Rattle.ipbus_program.specs.Plan.{script_body, session_bus}
 use Rattle.ipbus_program.specs.Text.{one_body_text}

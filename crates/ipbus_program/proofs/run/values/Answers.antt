@@ -1,7 +1,4 @@
-use Rattle.std.proofs.Common.{◌≡◌, ◌∙◌, ap, sym, map, length, ℕ, List, arith}
-use Rattle.std.specs.Prelude.{slice_index}
-use Rattle.std.specs.List.{AllByRecursion}
-use Rattle.transaction_codec.specs.declared.reply.Reply.{Reply}
+use Rattle.std.proofs.Common.{◌≡◌, arith}
 use Rattle.ipbus_program.specs.Plan.{word_replies}
 use Rattle.ipbus_program.proofs.Script.{are_replies, one_word_each, words_back}
 use Rattle.ipbus_program.proofs.run.values.Goals as goal
