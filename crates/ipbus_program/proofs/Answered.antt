@@ -1,5 +1,5 @@
 -- A session whose script is one body: its history, its lines, and that they show values.
-use Rattle.std.proofs.Common.{◌≡◌, ℕ, ◌+◌, ◌^◌, ◌<◌, ◌≤◌, ◌==◌, List, [], ◌∷◌, ◌++◌, length, map, Some, refl, sym, ap, subst, ◌∙◌, arith, append-nil, count_by}
+use Rattle.std.proofs.Common.{◌≡◌, ℕ, ◌+◌, ◌*◌, ◌^◌, ◌<◌, ◌≤◌, ◌==◌, List, [], ◌∷◌, ◌++◌, length, map, Some, refl, sym, ap, subst, ◌∙◌, arith, append-nil, count_by}
 use Rattle.std.specs.List.{AllByRecursion}
 use Rattle.std.proofs.lemmas.List.{length-map}
 use Rattle.ipb_base.specs.Word.{AreWords}
@@ -9,13 +9,13 @@ use Rattle.board_bus.specs.Bodies.{Executed, run_body}
 use Rattle.ipbus_program.specs.declared.session.Register.{Register}
 use Rattle.ipbus_program.specs.declared.session.Session.{Session}
 use Rattle.ipbus_program.specs.Document.{CanRun}
-use Rattle.ipbus_program.specs.Plan.{script_body, session_bus, word_replies, HaveWords, GiveWords, GivesValues}
+use Rattle.ipbus_program.specs.Plan.{opening_values, script_body, session_bus, word_replies, HaveWords, GiveWords, GivesValues}
 use Rattle.ipbus_program.specs.History.{Outcome, placed, IsHistory}
-use Rattle.ipbus_program.specs.Transcript.{OpResult, Values, ShowsValues, results, op_lines}
-use Rattle.ipbus_program.specs.Text.{client_text, board_text}
+use Rattle.ipbus_program.specs.Transcript.{OpResult, Values, ShowsValues, results, op_lines, lines}
+use Rattle.ipbus_program.specs.Text.{client_text, board_text, transcript_text, one_body_text}
 use Rattle.ipbus_program.specs.Owed.{IsTranscriptOf}
-use Rattle.ipbus_program.proofs.Script.{script_reply, results_are_values}
-use Rattle.ipbus_program.proofs.Opening.{opening_values, gives_opening, opening_fits}
+use Rattle.ipbus_program.proofs.Script.{script_reply, results_are_values, replies-length}
+use Rattle.ipbus_program.proofs.Opening.{gives_opening, opening_fits}
 
 -- one body, replied to at place 1
 abbrev pub one_outcome : List ℕ → List (List Outcome)
@@ -83,21 +83,34 @@ lines_show_values board place number [] words = tt
 lines_show_values board place number (register ∷ script) [] = tt
 lines_show_values board place number (register ∷ script) (word ∷ words) = ((word ∷ [], refl), lines_show_values board place (number + 1) script words)
 
--- The text of a client's lines and of its board's is the transcript of its session.
-pub is_transcript : (session : Session) (reply text : List ℕ) → CanRun session → reply ≡ (run_body (session_bus session) (script_body session.script)).reply
-    → text ≡ client_text 1 (op_lines session.board.name 1 1 session.script (map (λ word. Values (word ∷ [])) (session_values session)))
-    ++ board_text (record { name = session.board.name; places = 1; replied = 1; timed_out = 0; lost = 0 })
-    → IsTranscriptOf session text
-is_transcript session reply text can same written =
+-- the text of the lines of a session whose one body was replied to so
+pub text_of_one : (session : Session) (reply : List ℕ) → CanRun session → reply ≡ (run_body (session_bus session) (script_body session.script)).reply
+    → transcript_text (lines session (one_outcome reply)) ≡ one_body_text session.board.name session.script (session_values session)
+text_of_one session reply can same =
     let values : results (length session.script) reply ≡ map (λ word. Values (word ∷ [])) (session_values session) = results_of_session session reply can same in
     let board : List ℕ = board_text (record { name = session.board.name; places = 1; replied = 1; timed_out = 0; lost = 0 }) in
     let client : List OpResult → List ℕ = λ found. client_text 1 (op_lines session.board.name 1 1 session.script found) in
     let whole : List OpResult → List ℕ = λ found. (client found ++ []) ++ (board ++ []) in
     let shown : List OpResult = map (λ word. Values (word ∷ [])) (session_values session) in
-    let joined : whole shown ≡ client shown ++ board = ap (λ front. front ++ (board ++ [])) (append-nil (client shown)) ∙ ap (λ rest. client shown ++ rest) (append-nil board) in
+    ap whole values ∙ ap (λ front. front ++ (board ++ [])) (append-nil (client shown)) ∙ ap (λ rest. client shown ++ rest) (append-nil board)
+
+-- The text of a client's lines and of its board's is the transcript of its session.
+pub is_transcript : (session : Session) (reply text : List ℕ) → CanRun session → reply ≡ (run_body (session_bus session) (script_body session.script)).reply
+    → text ≡ one_body_text session.board.name session.script (session_values session) → IsTranscriptOf session text
+is_transcript session reply text can same written =
+    let values : results (length session.script) reply ≡ map (λ word. Values (word ∷ [])) (session_values session) = results_of_session session reply can same in
     record {
       outcomes = one_outcome reply;
       history = history_of_one (session_bus session) (script_body session.script) reply same;
       values = (rw values (lines_show_values session.board.name 1 1 session.script (session_values session)), tt);
-      spelled = written ∙ sym joined ∙ ap whole (sym values);
+      spelled = written ∙ sym (text_of_one session reply can same);
     }
+
+-- the script's body leaves the bus, and its reply is as long as it is
+pub bus_stays : (session : Session) → CanRun session → (run_body (session_bus session) (script_body session.script)).cells ≡ session_bus session
+bus_stays session can =
+    ap (λ (done : Executed). done.cells) (script_reply (session_bus session) session.script (session_values session) can.listed.1 (have_words session can) (values_given session can))
+
+pub reply_is_short : (session : Session) → CanRun session → length (run_body (session_bus session) (script_body session.script)).reply ≡ 2 * length session.script
+reply_is_short session can =
+    ap length (session_reply session can) ∙ replies-length 0 (session_values session) ∙ ap (λ n. 2 * n) (as_many_values session)

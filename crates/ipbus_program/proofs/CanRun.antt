@@ -8,6 +8,7 @@ use Rattle.ipbus_program.specs.declared.session.Session.{Session}
 use Rattle.ipbus_program.specs.Fields.{values}
 use Rattle.ipbus_program.specs.FirstForm.{Each, IsNumber, IsNode, IsRead, IsFirstForm}
 use Rattle.ipbus_program.specs.Document.{CanRun}
+use Rattle.ipbus_program.proofs.FormLists.{each_length}
 
 -- numbers of a document are words
 each_word : (found : List Data) (numbers : List ℕ) → Each IsNumber found numbers → AreWords numbers
@@ -43,9 +44,11 @@ pub can_run : (document : Members) (session : Session) → IsFirstForm document 
 can_run document session form = record {
   not_empty = form.is_board.is_range.not_empty;
   not_large = form.is_board.is_range.not_large;
-  fits = form.is_board.is_range.fits;
+  fits = omega (arith, form.is_board.is_range.fits, each_length IsNumber (values form.is_board.is_range.numbers) session.board.init form.is_board.is_range.words);
   words = each_word (values form.is_board.is_range.numbers) session.board.init form.is_board.is_range.words;
-  listed = form.is_client.listed;
+  listed =
+      let same = each_length (IsRead session.board.name form.registers) (values form.is_client.lines) session.script form.is_client.reads in
+      (omega (arith, form.is_client.listed.0, same), omega (arith, form.is_client.listed.1, same));
   inside = each_inside session.board.size session.board.name form.registers (values form.is_client.lines) session.script
       (each_below session.board.size (values form.nodes) form.registers form.each_node) form.is_client.reads;
 }

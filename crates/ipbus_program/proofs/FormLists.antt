@@ -1,15 +1,14 @@
 -- Reading each item of a list, and a text's front, beside what the form says.
-use Rattle.std.proofs.Common.{◌≡◌, ℕ, List, [], ◌∷◌, ◌++◌, length, take, drop, Option, Some, refl, sym, ap, ap₂, subst, ◌∙◌, nat_le, leb-true, le-leb, Decides, take-append-drop}
+use Rattle.std.proofs.Common.{◌≡◌, ℕ, suc, List, [], ◌∷◌, ◌++◌, length, take, drop, Option, Some, refl, sym, ap, ap₂, subst, ◌∙◌, nat_le, leb-true, le-leb, Decides, take-append-drop}
 use Rattle.std.proofs.lemmas.Option.{same_Some}
 use Rattle.std.proofs.lemmas.Bool.Decides.{Decides-and}
 use Rattle.std.proofs.lemmas.Slice.Eq.{bytes_eq-Decides}
 use Rattle.std.proofs.Math.Seq.{take-append_seam, drop-append_seam}
 use Rattle.std.specs.Str.{bytes_eq}
-use Rattle.toml.specs.Data.{Data, Items, Members, array, get_member}
-use Rattle.ipbus_program.specs.Fields.{◌>>=◌, values, each, values_at}
+use Rattle.ipbus_program.specs.Fields.{◌>>=◌, each}
 use Rattle.ipbus_program.specs.Reading.{after, is_listed}
 use Rattle.ipbus_program.specs.FirstForm.{Each, IsListed}
-use Rattle.ipbus_program.proofs.FormParts.{step_found, step_again, checked_found, checked_again, values_at_found}
+use Rattle.ipbus_program.proofs.FormParts.{step_found, step_again, checked_found, checked_again}
 
 -- where f finds what R says at each item, it does so along the list
 module _ {A B : Type 0} (f : A → Option B) (R : A → B → Type 0) where
@@ -41,15 +40,9 @@ pub after_again : (front rest : List ℕ) → after front (front ++ rest) ≡ So
 after_again front rest =
     checked_again _ _ ((bytes_eq-Decides (take (length front) (front ++ rest)) front).1 (take-append_seam front rest)) ∙ ap Some (drop-append_seam front rest)
 
--- an array under a key, each of whose values is read
-pub record HasEach {B : Type 0} (R : Data → B → Type 0) (key : List ℕ) (fields : Members) (ys : List B) : Type 0 where
-  pub items : Items
-  pub under_key : get_member key fields ≡ Some (array items)
-  pub each_item : Each R (values items) ys
-
-module _ {B : Type 0} (f : Data → Option B) (R : Data → B → Type 0) (key : List ℕ) (fields : Members) where
-  pub each_at_found : ((x : Data) (y : B) → f x ≡ Some y → R x y) → (vs : List Data) (ys : List B)
-      → values_at key fields ≡ Some vs → each f vs ≡ Some ys → HasEach R key fields ys
-  each_at_found law vs ys found all =
-      let here = values_at_found key fields vs found in
-      record { items = here.items; under_key = here.under_key; each_item = subst (λ xs. Each R xs ys) (sym here.the_values) (each_found f R law vs ys all) }
+-- related lists are as long as one another
+pub each_length : {A B : Type 0} (R : A → B → Type 0) (xs : List A) (ys : List B) → Each R xs ys → length xs ≡ length ys
+each_length R [] [] related = refl
+each_length R (x ∷ xs) (y ∷ ys) related = ap suc (each_length R xs ys related.1)
+each_length R [] (y ∷ ys) related = absurd related
+each_length R (x ∷ xs) [] related = absurd related

@@ -2,11 +2,11 @@
 use Rattle.std.proofs.Common.{◌≡◌, ℕ, List, ◌++◌, codes, Some, sym, ap, subst, ◌∙◌, true, append_assoc}
 use Rattle.toml.specs.Data.{Data, string, as_str}
 use Rattle.ipbus_program.specs.declared.session.Register.{Register}
-use Rattle.ipbus_program.specs.Fields.{◌>>=◌, values, each, fields_of, values_at}
+use Rattle.ipbus_program.specs.Fields.{◌>>=◌, checked, values, each, fields_of, values_at}
 use Rattle.ipbus_program.specs.Reading.{after, register_with, is_listed, are_distinct, read_of, script_of}
-use Rattle.ipbus_program.specs.FirstForm.{IsRead, IsClient}
-use Rattle.ipbus_program.proofs.FormParts.{step_found, step_again, checked_found, checked_again, as_str_found, fields_of_found, fields_of_again, values_at_again}
-use Rattle.ipbus_program.proofs.FormLists.{each_again, each_at_found, after_found, after_again, is_listed-Decides}
+use Rattle.ipbus_program.specs.FirstForm.{Each, IsListed, IsRead, IsClient}
+use Rattle.ipbus_program.proofs.FormParts.{step_found, step_again, checked_found, checked_again, as_str_found, fields_of_found, fields_of_again, values_at_found, values_at_again}
+use Rattle.ipbus_program.proofs.FormLists.{each_found, each_again, after_found, after_again, is_listed-Decides}
 use Rattle.ipbus_program.proofs.FormRegisters.{register_with_found, register_with_again}
 
 -- a line as its fronts, one after the other, and what follows them
@@ -48,19 +48,20 @@ unfolding script_of
 script_of_found board registers value script found =
     step_found (fields_of 1 value) _ found λ fields here more.
     step_found (values_at (codes "script") fields) _ more λ lines lines_here more.
-    step_found (each (read_of board registers) lines) _ more λ all all_here more.
+    step_found (checked (is_listed lines) lines) _ more λ listed listed_here all_here.
     let is_table = fields_of_found 1 value fields here in
-    let both = checked_found (is_listed all) all script more in
-    let reads = each_at_found (read_of board registers) (IsRead board registers) (codes "script") fields (read_of_found board registers) lines all lines_here all_here in
-    subst (IsClient board registers value) both.1 (record {
+    let kept = checked_found (is_listed lines) lines listed listed_here in
+    let items = values_at_found (codes "script") fields lines lines_here in
+    let AreReads : List Data → Type 0 = λ xs. Each (IsRead board registers) xs script in
+    record {
       fields = fields;
       is_table = is_table.is_table;
       no_other_key = is_table.no_other_key;
-      lines = reads.items;
-      script_key = reads.under_key;
-      reads = reads.each_item;
-      listed = (is_listed-Decides all).0 both.0;
-    })
+      lines = items.items;
+      script_key = items.under_key;
+      reads = subst AreReads (sym items.the_values) (each_found (read_of board registers) (IsRead board registers) (read_of_found board registers) lines script (ap (each (read_of board registers)) kept.1 ∙ all_here));
+      listed = subst IsListed (sym items.the_values) ((is_listed-Decides lines).0 kept.0);
+    }
 
 pub script_of_again : (board : List ℕ) (registers : List Register) → are_distinct registers ≡ true → (value : Data) (script : List Register)
     → IsClient board registers value script → script_of board registers value ≡ Some script
@@ -68,5 +69,5 @@ unfolding script_of
 script_of_again board registers distinct value script client =
     step_again _ (fields_of_again 1 value client.fields client.is_table client.no_other_key)
     ∙ step_again _ (values_at_again (codes "script") client.fields client.lines client.script_key)
-    ∙ step_again _ (each_again (read_of board registers) (IsRead board registers) (read_of_again board registers distinct) (values client.lines) script client.reads)
-    ∙ checked_again (is_listed script) script ((is_listed-Decides script).1 client.listed)
+    ∙ step_again _ (checked_again (is_listed (values client.lines)) (values client.lines) ((is_listed-Decides (values client.lines)).1 client.listed))
+    ∙ each_again (read_of board registers) (IsRead board registers) (read_of_again board registers distinct) (values client.lines) script client.reads

@@ -3,6 +3,7 @@ pub mod Hex
 pub mod Script
 pub mod Opening
 pub mod Answered
+pub mod OneTranscript
 pub mod CanRun
 pub mod Standing
 pub mod Causes

@@ -1,5 +1,5 @@
 -- The words that a session's board opens with are what its bus gives to reads.
-use Rattle.std.proofs.Common.{◌≡◌, ℕ, zero, suc, ◌+◌, ◌-◌, ◌^◌, ◌<◌, ◌≤◌, List, [], ◌∷◌, ◌++◌, length, map, get_or, replicate, Some, None, Ok, ap, ◌∙◌, arith, lit<, length-append, append-nil, true, cond, nat_lt}
+use Rattle.std.proofs.Common.{◌≡◌, ℕ, zero, suc, ◌+◌, ◌-◌, ◌^◌, ◌<◌, ◌≤◌, List, [], ◌∷◌, ◌++◌, length, get_or, replicate, Some, None, Ok, ap, ◌∙◌, arith, lit<, length-append, append-nil, true, cond, nat_lt}
 use Rattle.std.proofs.lemmas.List.{length-replicate}
 use Rattle.std.proofs.lemmas.Bool.{lt-ltb}
 use Rattle.std.specs.List.{AllByRecursion}
@@ -12,11 +12,7 @@ use Rattle.board_bus.specs.Ranges.{opening_words, opening_bus}
 use Rattle.board_bus.proofs.Lookups.{find-cell_map, find-within}
 use Rattle.ipbus_program.specs.declared.session.Register.{Register}
 use Rattle.ipbus_program.specs.declared.session.BoardSpec.{BoardSpec}
-use Rattle.ipbus_program.specs.Plan.{board_range, GiveWords}
-
--- the word that a board opens with at an address
-abbrev pub opening_word : BoardSpec → ℕ → ℕ
-opening_word board address = get_or (opening_words (board_range board)) address 0
+use Rattle.ipbus_program.specs.Plan.{board_range, opening_word, opening_values, GiveWords}
 
 as_many_words : (board : BoardSpec) → length board.init ≤ board.size → length (opening_words (board_range board)) ≡ board.size
 as_many_words board fits =
@@ -36,10 +32,6 @@ reads_opening board address fits small inside =
     let here : cell_at (opening_bus (board_range board ∷ [])) address ≡ Some (record { kind = Rw; word = get_or words (address - 0) 0 }) =
     ap (λ t. cond t (find nat_cmp address (opening_bus (board_range board ∷ []))) None) is_word ∙ found in
     ap read_cell here ∙ ap Ok word
-
--- the words of a script's registers
-abbrev pub opening_values : BoardSpec → List Register → List ℕ
-opening_values board script = map (λ register. opening_word board register.address) script
 
 pub gives_opening : (board : BoardSpec) (script : List Register) → length board.init ≤ board.size → board.size ≤ 65536
     → AllByRecursion (λ register. register.address < board.size) script → GiveWords (opening_bus (board_range board ∷ [])) script (opening_values board script)

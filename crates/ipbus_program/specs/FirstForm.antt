@@ -64,7 +64,7 @@ pub record IsRange (value : Data) (size : ℕ) (init : List ℕ) : Type 0 where
   pub numbers : Items
   pub init_key : get_member (codes "init") fields ≡ Some (array numbers)
   pub words : Each IsNumber (values numbers) init
-  pub fits : length init ≤ size
+  pub fits : length (values numbers) ≤ size
 
 -- a board has exactly the keys `name`, an identifier, `table`, the name of the table, and `ranges`, an array of one range
 pub record IsBoard (table_name : List ℕ) (value : Data) (board : BoardSpec) : Type 0 where
@@ -91,7 +91,7 @@ pub record IsClient (board_name : List ℕ) (registers : List Register) (value :
   pub lines : Items
   pub script_key : get_member (codes "script") fields ≡ Some (array lines)
   pub reads : Each (IsRead board_name registers) (values lines) script
-  pub listed : IsListed script
+  pub listed : IsListed (values lines)
 
 -- A document has exactly the keys `tables`, which has one table of 1 to 100 nodes with different ids, `board`, an array of one
 -- board, and `client`, an array of one client.
@@ -103,7 +103,7 @@ pub record IsFirstForm (document : Members) (session : Session) : Type 0 where
   pub tables : get_member (codes "tables") document ≡ Some (table (member table_name (array nodes) no_members))
   pub registers : List Register
   pub each_node : Each (IsNode session.board.size) (values nodes) registers
-  pub nodes_listed : IsListed registers
+  pub nodes_listed : IsListed (values nodes)
   pub ids_differ : IsDistinct bytes_eq (map (λ register. register.id) registers)
   pub board : Data
   pub boards : get_member (codes "board") document ≡ Some (array (item board no_items))

@@ -1,4 +1,4 @@
--- What became of the bodies that the clients of a session asked their board to execute.
+-- What became of the bodies that the clients of a session asked their board to execute. Profile.
 use Rattle.std.specs.Prelude.{◌≡◌, ℕ, ◌-◌, ◌≤◌, ◌<◌, ◌==◌, zero, suc, List, [], ◌∷◌, ◌++◌, length, map, count_by, Some}
 use Rattle.std.specs.List.{AllByRecursion, filter, flat_map, zip, slice_get}
 use Rattle.board_bus.specs.Cells.{CellMap}

@@ -8,3 +8,4 @@ pub mod Transcript
 pub mod Text
 pub mod Owed
 pub mod Exchange
+pub mod Worked

@@ -1,6 +1,6 @@
--- What a session asks of its board: one read of one word for each line of the script, all in one body, with transaction
+-- Profile. What a session asks of its board: one read of one word for each line of the script, all in one body, with transaction
 -- identifiers from 0.
-use Rattle.std.specs.Prelude.{◌≡◌, ℕ, ◌+◌, ◌≤◌, List, [], ◌∷◌, length, Ok}
+use Rattle.std.specs.Prelude.{◌≡◌, ℕ, ◌+◌, ◌≤◌, List, [], ◌∷◌, length, map, slice_index, Ok}
 use Rattle.std.specs.List.{AllByRecursion}
 use Rattle.ipb_base.specs.Word.{IsWord, AreWords}
 use Rattle.transaction_codec.specs.declared.request.Op.TheVariants.{Read}
@@ -13,7 +13,7 @@ use Rattle.transaction_codec.specs.Reply.{replies_words}
 use Rattle.board_bus.specs.declared.range.Range.{Range}
 use Rattle.board_bus.specs.declared.kind.RangeKind.TheVariants.{Rw}
 use Rattle.board_bus.specs.Cells.{CellMap, read_word}
-use Rattle.board_bus.specs.Ranges.{opening_bus}
+use Rattle.board_bus.specs.Ranges.{opening_words, opening_bus}
 use Rattle.ipbus_program.specs.declared.session.Register.{Register}
 use Rattle.ipbus_program.specs.declared.session.BoardSpec.{BoardSpec}
 use Rattle.ipbus_program.specs.declared.session.Session.{Session}
@@ -37,6 +37,13 @@ session_bodies session = (script_body session.script ∷ []) ∷ []
 -- the board's range
 abbrev pub board_range : BoardSpec → Range
 board_range board = record { base = 0; size = board.size; kind = Rw; init = board.init }
+
+-- the word that a board opens with at an address, and those of a script's registers
+abbrev pub opening_word : BoardSpec → ℕ → ℕ
+opening_word board address = slice_index (opening_words (board_range board)) address
+
+abbrev pub opening_values : BoardSpec → List Register → List ℕ
+opening_values board script = map (λ register. opening_word board register.address) script
 
 -- the bus of the session's board as it opens
 abbrev pub session_bus : Session → CellMap

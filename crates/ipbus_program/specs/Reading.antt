@@ -48,8 +48,9 @@ is_listed xs = nat_le 1 (length xs) && nat_le (length xs) 100
 
 unfoldable pub registers_of : ℕ → List Data → Option (List Register)
 registers_of size nodes = do
-  registers ← each (register_of size) nodes
-  checked (is_listed registers && are_distinct registers) registers
+  listed ← checked (is_listed nodes) nodes
+  registers ← each (register_of size) listed
+  checked (are_distinct registers) registers
 
 -- a range: from address 0, its size, and the words that it opens with
 unfoldable pub range_of : Data → Option (ℕ × List ℕ)
@@ -58,8 +59,9 @@ range_of value = do
   base ← word_at (codes "base") fields
   size ← word_at (codes "size") fields
   numbers ← values_at (codes "init") fields
-  init ← each word_of numbers
-  checked (base == 0 && nat_le 1 size && nat_le size 65536 && nat_le (length init) size) (size, init)
+  fitting ← checked (base == 0 && nat_le 1 size && nat_le size 65536 && nat_le (length numbers) size) numbers
+  init ← each word_of fitting
+  Some (size, init)
 
 -- a board, whose table has this name
 unfoldable pub board_of : List ℕ → Data → Option BoardSpec
@@ -86,8 +88,8 @@ unfoldable pub script_of : List ℕ → List Register → Data → Option (List 
 script_of board registers value = do
   fields ← fields_of 1 value
   lines ← values_at (codes "script") fields
-  script ← each (read_of board registers) lines
-  checked (is_listed script) script
+  listed ← checked (is_listed lines) lines
+  each (read_of board registers) listed
 
 -- the one table: its name and its nodes
 unfoldable pub table_of : Members → Option (List ℕ × List Data)

@@ -1,11 +1,11 @@
--- The bytes of what the program writes. Every line ends with a line feed.
+-- The bytes of what the program writes. Every line ends with a line feed. Profile.
 use Rattle.std.specs.Prelude.{ℕ, ◌+◌, ◌-◌, List, [], ◌∷◌, ◌++◌, length, map, replicate, codes, false}
 use Rattle.std.specs.List.{flat_map}
 use Rattle.std.specs.Fmt.{decimal, digits}
 use Rattle.ipbus_program.specs.declared.session.Register.{Register}
 use Rattle.ipbus_program.specs.declared.answer.Refusal.{Refusal}
 use Rattle.ipbus_program.specs.declared.answer.Refusal.TheVariants.{TooLong, NotToml, NotBuilt}
-use Rattle.ipbus_program.specs.Transcript.{OpResult, Values, Failed, Skipped, OpLine, op_lines, BoardLine, Transcript}
+use Rattle.ipbus_program.specs.Transcript.{OpResult, Values, Failed, Skipped, Garbled, OpLine, op_lines, BoardLine, Transcript}
 
 -- eight lower-case hexadecimal digits
 abbrev pub hex_text : ℕ → List ℕ
@@ -22,6 +22,7 @@ abbrev pub result_text : OpResult → List ℕ
 result_text (Values words) = codes "=" ++ words_text words
 result_text (Failed code after) = codes "error " ++ (decimal code ++ (codes " after " ++ decimal after))
 result_text Skipped = codes "skipped"
+result_text Garbled = codes "garbled"
 
 abbrev pub op_text : OpLine → List ℕ
 op_text line =

@@ -1,4 +1,4 @@
--- The lines that are printed of a session: a function of the session and of what became of its bodies.
+-- The lines that are printed of a session: a function of the session and of what became of its bodies. Profile.
 use Rattle.std.specs.Prelude.{◌≡◌, ℕ, ◌+◌, zero, suc, ◌==◌, if◌then◌else◌, List, [], ◌∷◌, length, map, replicate, Result, Ok, Err}
 use Rattle.std.specs.List.{AllByRecursion, flat_map}
 use Rattle.transaction_codec.specs.declared.reply.Reply.{Reply}
@@ -9,11 +9,13 @@ use Rattle.ipbus_program.specs.declared.session.Register.{Register}
 use Rattle.ipbus_program.specs.declared.session.Session.{Session}
 use Rattle.ipbus_program.specs.History.{Outcome}
 
--- the result of an operation: the words read, the info code and the words done before the fault, or nothing done behind a fault
+-- The result of an operation: the words read, the info code and the words done before the fault, nothing done behind a fault, or
+-- nothing told, since the words are no reply. Profile.
 pub data OpResult : Type 0 where
   Values : List ℕ → OpResult
   Failed : ℕ → ℕ → OpResult
   Skipped : OpResult
+  Garbled : OpResult
 
 abbrev pub result_of : Reply → OpResult
 result_of reply = if reply.code == SUCCESS then Values reply.values else Failed reply.code reply.count
@@ -22,7 +24,7 @@ result_of reply = if reply.code == SUCCESS then Values reply.values else Failed 
 abbrev pub results_from : Result (Reply × List ℕ) Why → ℕ → (List ℕ → List OpResult) → List OpResult
 results_from (Ok (reply, rest)) later others =
     result_of reply ∷ (if reply.code == SUCCESS then others rest else replicate later Skipped)
-results_from (Err why) later others = Skipped ∷ replicate later Skipped
+results_from (Err why) later others = Garbled ∷ replicate later Garbled
 
 -- the results of this number of operations, which are a body's transactions in order, from the words of the reply to it
 abbrev pub results : ℕ → List ℕ → List OpResult

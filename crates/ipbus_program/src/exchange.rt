@@ -13,17 +13,18 @@ use ipb_base::{NoMemory, Words};
 use packet_codec::{BadPacket, Order, Packet, PacketKind, read_packet, write_packet};
 use std::alloc::Global;
 
-/// Sends a body to the board as the control packet with this identifier, and answers the words of the board's reply.
-pub fn exchange(alloc: Global, bus: &mut Bus, id: u16, body: Words) -> Result<Words, NoMemory>
+/// Sends a body to the board as the control packet with this identifier, and answers the control packet that comes back
+/// with the board's reply.
+pub fn exchange(alloc: Global, bus: &mut Bus, id: u16, body: Words) -> Result<Packet, NoMemory>
     requires body { length body ≤ MAX_BODY_WORDS }
     requires reply { length (run_body bus.old body).reply ≤ MAX_BODY_WORDS }
-    ensures { IfOk result (λ reply. reply ≡ (run_body bus.old body).reply) }
+    ensures answer { IfOk result (λ answer. answer ≡ control_packet id (run_body bus.old body).reply) }
+    ensures bus { OnOk result (bus.new ≡ (run_body bus.old body).cells) }
 {
     let request = delivered(alloc, id, body)?;
     let mut reply = Vec::new(alloc);
     bus.execute(request.body.as_slice(), &mut reply)?;
-    let answer = delivered(alloc, request.id, Words::from_vec(reply))?;
-    Ok(answer.body)
+    delivered(alloc, request.id, Words::from_vec(reply))
 }
 
 /// A control packet as the other side reads it from its datagram.
@@ -41,8 +42,6 @@ fn datagram(alloc: Global, id: u16, body: Words) -> Result<Vec<u8>, NoMemory>
     ensures bytes { IfOk result (λ bytes. bytes.items ≡ packet_bytes (control_packet id body)) }
     ensures packet { OnOk result (IsPacket (control_packet id body)) }
 {
-    let words = body.as_slice();
-    let _ = words;
     write_packet(
         alloc,
         &Packet {

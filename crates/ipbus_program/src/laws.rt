@@ -1,8 +1,14 @@
 //! Laws of the definitions. These functions do nothing when they run: their clauses are what is proved.
 
-ghost use Rattle.std.specs.Prelude.{◌≡◌, ◌↔◌, ◌⊎◌, ℕ, List, Some, None};
+ghost use Rattle.std.specs.Prelude.{◌≡◌, ◌*◌, ◌↔◌, ◌⊎◌, ℕ, List, length, Some, None};
 ghost use Rattle.toml.specs.Data.{Members};
+ghost use Rattle.board_bus.specs.Bodies.{run_body};
+ghost use Rattle.ipbus_program.specs.declared.session.Register.{Register};
 ghost use Rattle.ipbus_program.specs.declared.session.Session.{Session};
+ghost use Rattle.ipbus_program.specs.Document.{CanRun};
+ghost use Rattle.ipbus_program.specs.Plan.{opening_values, script_body, session_bus};
+ghost use Rattle.ipbus_program.specs.Text.{one_body_text};
+ghost use Rattle.ipbus_program.specs.Owed.{IsTranscriptOf};
 ghost use Rattle.ipbus_program.specs.Reading.{session_of};
 ghost use Rattle.ipbus_program.specs.declared.answer.Refusal.{Refusal};
 ghost use Rattle.ipbus_program.specs.FirstForm.{IsFirstForm};
@@ -23,4 +29,27 @@ pub fn bytes_have_one_answer()
     ensures one_session { (bytes : List ℕ) (s t : Session) → IsAccepted bytes s → IsAccepted bytes t → s ≡ t }
     ensures one_refusal { (bytes : List ℕ) (r s : Refusal) → Deserves r bytes → Deserves s bytes → r ≡ s }
     ensures not_both { (bytes : List ℕ) (session : Session) (refusal : Refusal) → IsAccepted bytes session → ¬ Deserves refusal bytes }
+{}
+
+/// A session has one transcript: its lines show, in order, the words that its board opens with at the registers read. So two
+/// reads of one register show the same word, and the text of a script is the texts of its lines one after another.
+pub fn one_transcript()
+    ensures transcript { (session : Session) (text : List ℕ) → CanRun session → IsTranscriptOf session text
+        → text ≡ one_body_text session.board.name session.script (opening_values session.board session.script) }
+    ensures there { (session : Session) → CanRun session
+        → IsTranscriptOf session (one_body_text session.board.name session.script (opening_values session.board session.script)) }
+    ensures form { (document : Members) (session : Session) → IsFirstForm document session → CanRun session }
+{}
+
+/// The script's body leaves its board as it was.
+pub fn reads_leave_the_board()
+    ensures { (session : Session) → CanRun session → (run_body (session_bus session) (script_body session.script)).cells ≡ session_bus session }
+{}
+
+/// The body of a script and the reply to it have two words for each line, so that they fit a packet of 368 words, the most that
+/// an MTU of 1500 bytes leaves.
+pub fn bodies_fit_a_packet()
+    ensures body { (script : List Register) → length (script_body script) ≡ 2 * length script }
+    ensures reply { (session : Session) → CanRun session
+        → length (run_body (session_bus session) (script_body session.script)).reply ≡ 2 * length session.script }
 {}

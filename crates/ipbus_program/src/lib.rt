@@ -11,9 +11,9 @@ mod program;
 mod run;
 mod session;
 mod text;
+pub mod worked;
 
 pub use answer::{DONE, MAX_DOCUMENT, NO_MEMORY, READ_FAULT, REFUSED, Refusal, USAGE, WRITE_FAULT};
-pub use document::DocumentError;
 pub use edges::{ReaderSource, WriterSink};
 pub use program::control;
 pub use session::{BoardSpec, Register, Registers, Session};

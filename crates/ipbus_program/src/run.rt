@@ -132,5 +132,6 @@ fn ask(alloc: Global, bus: &mut Bus, script: &[Register]) -> Result<Words, NoMem
 {
     let requests = requests(alloc, script)?;
     let body = write_requests(alloc, &requests)?;
-    exchange(alloc, bus, FIRST_ID, Words::from_vec(body))
+    let answer = exchange(alloc, bus, FIRST_ID, Words::from_vec(body))?;
+    Ok(answer.body)
 }

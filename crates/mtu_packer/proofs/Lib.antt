@@ -6,3 +6,4 @@ pub mod Whole
 pub mod Finish
 pub mod Unique
 pub mod Doing
+pub mod Places

@@ -36,10 +36,10 @@ part_address (RmwSum base addend) offset = base
 
 -- the part of an operation that skips `offset` words and has `count` words
 abbrev pub part_of : Op → ℕ → ℕ → Op
-part_of (Read base all) offset count = Read (base + offset) count
-part_of (ReadPort base all) offset count = ReadPort base count
-part_of (Write base words) offset count = Write (base + offset) (take count (drop offset words))
-part_of (WritePort base words) offset count = WritePort base (take count (drop offset words))
+part_of (Read base all) offset count = Read (part_address (Read base all) offset) count
+part_of (ReadPort base all) offset count = ReadPort (part_address (ReadPort base all) offset) count
+part_of (Write base words) offset count = Write (part_address (Write base words) offset) (take count (drop offset words))
+part_of (WritePort base words) offset count = WritePort (part_address (WritePort base words) offset) (take count (drop offset words))
 part_of (RmwBits base and_term or_term) offset count = RmwBits base and_term or_term
 part_of (RmwSum base addend) offset count = RmwSum base addend
 

@@ -1,5 +1,5 @@
 -- What packing answers: the bodies as words, and for each operation where its pieces stand.
-use Rattle.std.specs.Prelude.{◌≡◌, ℕ, ◌+◌, List, [], ◌∷◌, ◌++◌, map, length, take, drop}
+use Rattle.std.specs.Prelude.{◌≡◌, ℕ, ◌+◌, List, [], ◌∷◌, ◌++◌, map, length, take, drop, Option, option_and_then, slice_get}
 use Rattle.std.specs.List.{range_with_len}
 use Rattle.transaction_codec.specs.declared.request.Op.{Op}
 use Rattle.mtu_packer.specs.declared.packed.Piece.{Piece}
@@ -14,6 +14,10 @@ places_in body count = map (λ index. record { body = body; index = index }) (ra
 abbrev pub places_from : ℕ → List (List Op) → List Piece
 places_from body [] = []
 places_from body (part ∷ parts) = places_in body (length part) ++ places_from (body + 1) parts
+
+-- the piece that stands at a place
+abbrev pub piece_at : List (List Op) → Piece → Option Op
+piece_at parts place = option_and_then (λ part. slice_get part place.index) (slice_get parts place.body)
 
 -- a list dealt out in turn into lists of these lengths
 abbrev pub dealt : List ℕ → List Piece → List (List Piece)

@@ -1,4 +1,4 @@
--- The packer at work, piece by piece.
+-- The packer at work, piece by piece. No public clause speaks of it.
 use Rattle.std.specs.Prelude.{◌≡◌, ℕ, ◌+◌, ◌*◌, ◌^◌, ◌≤◌, Bool, ◌&&◌, ◌==◌, nat_le, if◌then◌else◌, min, List, [], ◌∷◌, ◌++◌, length, fold}
 use Rattle.std.specs.List.{AllByRecursion}
 use Rattle.ipb_base.specs.Word.{AreWords}

@@ -1,4 +1,4 @@
--- The places of an operation as a part of one list.
+-- The places of an operation as a part of one list. No public clause speaks of it.
 use Rattle.std.specs.Prelude.{ℕ, ◌+◌, ◌≤◌, List, [], ◌∷◌, slice_range}
 use Rattle.std.specs.List.{AllByRecursion}
 use Rattle.mtu_packer.specs.declared.packed.Piece.{Piece}

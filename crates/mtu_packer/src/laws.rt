@@ -1,6 +1,6 @@
 //! Laws of the definitions. These functions do nothing when they run: their clauses are what is proved.
 
-ghost use Rattle.std.specs.Prelude.{◌≡◌, ℕ, ◌≤◌, List, [], ◌∷◌, length, sum_by};
+ghost use Rattle.std.specs.Prelude.{◌≡◌, ℕ, ◌≤◌, List, [], ◌∷◌, length, map, sum_by, Some};
 ghost use Rattle.std.specs.List.{flat_map};
 ghost use Rattle.transaction_codec.specs.declared.request.Op.{Op};
 ghost use Rattle.transaction_codec.specs.declared.request.Op.TheVariants.{Read, ReadPort, Write};
@@ -9,7 +9,7 @@ ghost use Rattle.transaction_codec.specs.Answer.{IsLongestAnswer};
 ghost use Rattle.mtu_packer.specs.Accesses.{accesses};
 ghost use Rattle.mtu_packer.specs.Cutting.{cut};
 ghost use Rattle.mtu_packer.specs.Packing.{IsPacking, body_requests, body_words, longest_reply};
-ghost use Rattle.mtu_packer.specs.Packed.{Contents, IsPacked, places_from};
+ghost use Rattle.mtu_packer.specs.Packed.{Contents, IsPacked, piece_at, places_from};
 
 /// Operations have one packing, and so one list of bodies and of places.
 pub fn a_packing_is_the_only_one()
@@ -17,6 +17,12 @@ pub fn a_packing_is_the_only_one()
         IsPacking ops payload one → IsPacking ops payload other → one ≡ other }
     ensures contents { (ops : List Op) (payload : ℕ) (one other : Contents) →
         IsPacked ops payload one → IsPacked ops payload other → one ≡ other }
+{}
+
+/// The places of all pieces, in order, are where all pieces stand, in order.
+pub fn each_piece_stands_at_its_place()
+    ensures { (parts : List (List Op)) →
+        map (piece_at parts) (places_from 0 parts) ≡ map Some (flat_map (λ part. part) parts) }
 {}
 
 /// The longest reply to a body is the longest answer that a board can give to its words.

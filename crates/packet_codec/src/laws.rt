@@ -7,7 +7,7 @@ ghost use Rattle.packet_codec.specs.declared.packet.Packet.{Packet};
 ghost use Rattle.packet_codec.specs.declared.packet.Order.TheVariants.{Big, Little};
 ghost use Rattle.packet_codec.specs.declared.packet.PacketKind.TheVariants.{Control};
 
-/// A control packet with identifier 1 that writes nothing, in both byte orders.
+/// A control packet with identifier 1 that reads the word at address 4, in both byte orders.
 pub fn a_control_packet_in_both_orders()
     ensures big { packet_bytes (record { order = Big; id = 1; kind = Control; body = 0x2000010f ∷ 4 ∷ [] })
         ≡ 0x20 ∷ 0 ∷ 1 ∷ 0xf0 ∷ 0x20 ∷ 0 ∷ 1 ∷ 0x0f ∷ 0 ∷ 0 ∷ 0 ∷ 4 ∷ [] }

@@ -17,8 +17,8 @@ pub fn id_at(first: Id, place: u64) -> Id
     Id::numbered((steps % IDENTIFIERS + 1) as u16)
 }
 
-/// The place with the identifier `id` among the `len` places from `low` on, if it is there. At most 256 places
-/// are looked at, so that no identifier stands there twice.
+/// The place with the identifier `id` among the `len` places from `low` on, or `None` where no place among them has
+/// it. `len` is at most 256; up to 65,535 places in a row no identifier stands twice.
 pub fn place_of(first: Id, low: u64, len: u64, id: Id) -> Option<u64>
     requires few { len ≤ 256 }
     requires from_one { 1 ≤ low }

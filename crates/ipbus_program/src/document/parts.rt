@@ -4,7 +4,7 @@ ghost use Rattle.std.specs.Prelude.{◌≡◌, map, option_map};
 ghost use Rattle.std.specs.Option.{option_copied};
 ghost use Rattle.toml.specs.View.{view};
 ghost use Rattle.ipbus_program.specs.Fields.{only, each, word_of};
-ghost use Rattle.ipbus_program.specs.Reading.{Gives, register_of, range_of, board_of, register_with, are_distinct, registers_of};
+ghost use Rattle.ipbus_program.specs.Reading.{Gives, register_of, range_of, board_of, register_with, are_distinct, is_listed, registers_of};
 
 use crate::document::DocumentError;
 use crate::document::fields::{array, fields, identifier, text, word, word_at};
@@ -60,10 +60,10 @@ fn range(alloc: Global, range: &Value) -> Result<(u32, Words), DocumentError>
     let base = word_at(range, "base").ok_or(DocumentError::NotBuilt)?;
     let size = word_at(range, "size").ok_or(DocumentError::NotBuilt)?;
     let numbers = array(range, "init").ok_or(DocumentError::NotBuilt)?;
-    let init = words(alloc, numbers)?;
-    if base != 0 || size < 1 || size > 65_536 || init.len() > size as usize {
+    if base != 0 || size < 1 || size > 65_536 || numbers.len() > size as usize {
         return Err(DocumentError::NotBuilt);
     }
+    let init = words(alloc, numbers)?;
     Ok((size, Words::from_vec(init)))
 }
 
@@ -121,13 +121,23 @@ fn are_distinct(registers: &[Register]) -> bool
     true
 }
 
+/// From 1 to 100 items.
+pub fn is_listed(items: &[Value]) -> bool
+    ensures { result ≡ is_listed (map view items.now) }
+{
+    !items.is_empty() && items.len() <= 100
+}
+
 /// The registers of a table.
 #[tactic(auto, unfolding(crate::specs::Reading::registers_of))]
 pub fn registers(alloc: Global, nodes: &[Value], size: u32) -> Result<Vec<Register>, DocumentError>
     ensures { Gives (λ registers. registers.items) result (registers_of size (map view nodes.now)) }
 {
+    if !is_listed(nodes) {
+        return Err(DocumentError::NotBuilt);
+    }
     let registers = each_register(alloc, nodes, size)?;
-    if registers.is_empty() || registers.len() > 100 || !are_distinct(&registers) {
+    if !are_distinct(&registers) {
         return Err(DocumentError::NotBuilt);
     }
     Ok(registers)

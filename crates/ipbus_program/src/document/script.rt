@@ -8,7 +8,7 @@ ghost use Rattle.ipbus_program.specs.Reading.{Gives, after, read_of, script_of, 
 
 use crate::document::DocumentError;
 use crate::document::fields::{array, fields, get, has_keys, is_identifier, only_member, values};
-use crate::document::parts::{board, only, register_with, registers};
+use crate::document::parts::{board, is_listed, only, register_with, registers};
 use crate::session::{Register, Registers, Session};
 use ipb_base::Line;
 use std::alloc::Global;
@@ -69,10 +69,10 @@ fn script(
 {
     let client = fields(client, 1).ok_or(DocumentError::NotBuilt)?;
     let lines = array(client, "script").ok_or(DocumentError::NotBuilt)?;
-    let reads = each_read(alloc, board, registers, lines)?;
-    if reads.is_empty() || reads.len() > 100 {
+    if !is_listed(lines) {
         return Err(DocumentError::NotBuilt);
     }
+    let reads = each_read(alloc, board, registers, lines)?;
     Ok(Registers::from_vec(reads))
 }
 

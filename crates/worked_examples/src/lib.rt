@@ -1,0 +1,7 @@
+//! Worked examples that cross crates: the program's call on sources and sinks in memory, and a board's bus behind packets.
+#![tactic(auto)]
+
+#[cfg(test)]
+mod packets;
+#[cfg(test)]
+mod program;

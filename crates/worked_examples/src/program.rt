@@ -1,0 +1,108 @@
+//! `control` on a source and a sink in memory.
+
+use ipb_outside::{CalmSource, MemSink, MemSource};
+use ipbus_program::{DONE, READ_FAULT, REFUSED, USAGE, WRITE_FAULT, control};
+use std::alloc::{AllocError, Global};
+use std::test::Fail;
+
+const FIRST: &str =
+    "[[tables.main]]\nid = \"id\"\naddress = 4\n[[board]]\nname = \"b0\"\ntable = \"main\"\n[[board.ranges]]\nbase = 0\nsize = 16\ninit = [0, 0, 0, 0, 0xabcd]\n[[client]]\nscript = [\"read b0:id\"]\n";
+
+const TRANSCRIPT: &str =
+    "client 1\n1 read b0:id = 0x0000abcd @1.1\nboard b0 places 1 replied 1 timeout 0 lost 0\n";
+
+const LONGEST: usize = 16_777_216;
+
+fn run_word(alloc: Global) -> Result<Vec<String>, AllocError> {
+    let mut words = Vec::new(alloc);
+    words.push(String::from_str(alloc, "run")?)?;
+    Ok(words)
+}
+
+fn calm(alloc: Global, text: &str) -> Result<CalmSource, AllocError> {
+    Ok(CalmSource::new(Vec::from_slice(alloc, text.as_bytes())?))
+}
+
+#[test]
+fn first_session(rt: HostRuntime) -> Result<(), Fail> {
+    let alloc = rt.alloc();
+    let mut input = calm(alloc, FIRST)?;
+    let mut out = MemSink::new(alloc, 1000, Vec::new(alloc))?;
+    let status = control(alloc, &run_word(alloc)?, &mut input, &mut out);
+    assert_eq!(rt; status, DONE);
+    assert_eq!(rt; out.bytes(), TRANSCRIPT.as_bytes());
+    Ok(())
+}
+
+#[test]
+fn a_byte_at_a_time(rt: HostRuntime) -> Result<(), Fail> {
+    let alloc = rt.alloc();
+    let bytes = Vec::from_slice(alloc, FIRST.as_bytes())?;
+    let mut input = MemSource::new(bytes, 1, Vec::new(alloc));
+    let mut out = MemSink::new(alloc, 1, Vec::new(alloc))?;
+    let status = control(alloc, &run_word(alloc)?, &mut input, &mut out);
+    assert_eq!(rt; status, DONE);
+    assert_eq!(rt; out.bytes(), TRANSCRIPT.as_bytes());
+    Ok(())
+}
+
+#[test]
+fn second_write_fails(rt: HostRuntime) -> Result<(), Fail> {
+    let alloc = rt.alloc();
+    let mut input = calm(alloc, FIRST)?;
+    let mut out = MemSink::new(alloc, 16, [2].to_vec(alloc)?)?;
+    let status = control(alloc, &run_word(alloc)?, &mut input, &mut out);
+    assert_eq!(rt; status, WRITE_FAULT);
+    assert_eq!(rt; out.bytes(), b"client 1\n1 read ".as_slice());
+    Ok(())
+}
+
+#[test]
+fn first_read_fails(rt: HostRuntime) -> Result<(), Fail> {
+    let alloc = rt.alloc();
+    let bytes = Vec::from_slice(alloc, FIRST.as_bytes())?;
+    let mut input = MemSource::new(bytes, 1000, [1].to_vec(alloc)?);
+    let mut out = MemSink::new(alloc, 1000, Vec::new(alloc))?;
+    let status = control(alloc, &run_word(alloc)?, &mut input, &mut out);
+    assert_eq!(rt; status, READ_FAULT);
+    assert_eq!(rt; out.bytes(), b"".as_slice());
+    Ok(())
+}
+
+#[test]
+fn an_input_one_byte_too_long(rt: HostRuntime) -> Result<(), Fail> {
+    let alloc = rt.alloc();
+    let mut input = CalmSource::new(vec![in alloc; b'#'; LONGEST + 1]?);
+    let mut out = MemSink::new(alloc, 1000, Vec::new(alloc))?;
+    let status = control(alloc, &run_word(alloc)?, &mut input, &mut out);
+    assert_eq!(rt; status, REFUSED);
+    assert_eq!(rt; out.bytes(), b"refused: document - TooLong\n".as_slice());
+    Ok(())
+}
+
+#[test]
+fn a_key_that_is_not_of_the_form(rt: HostRuntime) -> Result<(), Fail> {
+    let alloc = rt.alloc();
+    let text = FIRST.replace(
+        alloc,
+        "table = \"main\"\n",
+        "table = \"main\"\nmtu = 1500\n",
+    )?;
+    let mut input = calm(alloc, text.as_str())?;
+    let mut out = MemSink::new(alloc, 1000, Vec::new(alloc))?;
+    let status = control(alloc, &run_word(alloc)?, &mut input, &mut out);
+    assert_eq!(rt; status, REFUSED);
+    assert_eq!(rt; out.bytes(), b"refused: document - NotBuilt\n".as_slice());
+    Ok(())
+}
+
+#[test]
+fn no_words(rt: HostRuntime) -> Result<(), Fail> {
+    let alloc = rt.alloc();
+    let mut input = calm(alloc, FIRST)?;
+    let mut out = MemSink::new(alloc, 1000, Vec::new(alloc))?;
+    let status = control(alloc, &[], &mut input, &mut out);
+    assert_eq!(rt; status, USAGE);
+    assert_eq!(rt; out.bytes(), b"usage: ipbus run\n".as_slice());
+    Ok(())
+}
