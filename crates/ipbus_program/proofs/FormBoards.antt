@@ -8,10 +8,10 @@ use Rattle.std.specs.List.{IsDistinct}
 use Rattle.toml.specs.Data.{Data, no_items, item}
 use Rattle.ipbus_program.specs.declared.session.Register.{Register}
 use Rattle.ipbus_program.specs.declared.session.BoardSpec.{BoardSpec}
-use Rattle.ipbus_program.specs.Fields.{checked, values, only, each, word_of, fields_of, text_at, identifier_at, word_at, values_at}
+use Rattle.ipbus_program.specs.Fields.{checked, values, only, each, word_of, fields_of, text_at, name_at, word_at, values_at}
 use Rattle.ipbus_program.specs.Reading.{is_listed, register_of, are_distinct, registers_of, range_of, board_of}
 use Rattle.ipbus_program.specs.FirstForm.{Each, IsListed, IsNumber, IsNode, IsRange, IsBoard}
-use Rattle.ipbus_program.proofs.FormParts.{step_found, step_again, checked_found, checked_again, fields_of_found, fields_of_again, word_of_found, word_of_again, text_at_found, text_at_again, identifier_at_found, identifier_at_again, word_at_found, word_at_again, values_at_found, values_at_again, one_at_found}
+use Rattle.ipbus_program.proofs.FormParts.{step_found, step_again, checked_found, checked_again, fields_of_found, fields_of_again, word_of_found, word_of_again, text_at_found, text_at_again, name_at_found, name_at_again, word_at_found, word_at_again, values_at_found, values_at_again, one_at_found}
 use Rattle.ipbus_program.proofs.FormLists.{each_found, each_again, is_listed-Decides}
 use Rattle.ipbus_program.proofs.FormRegisters.{are_distinct-Decides}
 
@@ -20,17 +20,17 @@ pub register_of_found : (size : ℕ) (value : Data) (register : Register) → re
 unfolding register_of
 register_of_found size value register found =
     step_found (fields_of 2 value) _ found λ fields here more.
-    step_found (identifier_at (codes "id") fields) _ more λ id id_here more.
+    step_found (name_at (codes "id") fields) _ more λ id id_here more.
     step_found (word_at (codes "address") fields) _ more λ address address_here more.
     let is_table = fields_of_found 2 value fields here in
-    let identifier = identifier_at_found (codes "id") fields id id_here in
+    let ruled = name_at_found (codes "id") fields id id_here in
     let both = checked_found (nat_lt address size) (record { id = id; address = address }) register more in
     subst (IsNode size value) both.1 (record {
       fields = fields;
       is_table = is_table.is_table;
       no_other_key = is_table.no_other_key;
-      id = identifier.0;
-      id_rule = identifier.1;
+      id = ruled.0;
+      id_rule = ruled.1;
       address = word_at_found (codes "address") fields address address_here;
       below_size = ltb-true _ _ both.0;
     })
@@ -39,7 +39,7 @@ pub register_of_again : (size : ℕ) (value : Data) (register : Register) → Is
 unfolding register_of
 register_of_again size value register node =
     step_again _ (fields_of_again 2 value node.fields node.is_table node.no_other_key)
-    ∙ step_again _ (identifier_at_again (codes "id") node.fields register.id node.id node.id_rule)
+    ∙ step_again _ (name_at_again (codes "id") node.fields register.id node.id node.id_rule)
     ∙ step_again _ (word_at_again (codes "address") node.fields register.address node.address)
     ∙ checked_again (nat_lt register.address size) register (lt-ltb _ _ node.below_size)
 
@@ -139,20 +139,20 @@ pub board_of_found : (table_name : List ℕ) (value : Data) (board : BoardSpec) 
 unfolding board_of
 board_of_found table_name value board found =
     step_found (fields_of 3 value) _ found λ fields here more.
-    step_found (identifier_at (codes "name") fields) _ more λ name name_here more.
+    step_found (name_at (codes "name") fields) _ more λ name name_here more.
     step_found (text_at (codes "table") fields) _ more λ named named_here more.
     step_found (values_at (codes "ranges") fields) _ more λ ranges ranges_here more.
     step_found (only ranges) _ more λ one one_here more.
     step_found (range_of one) _ more λ range range_here more.
     let is_table = fields_of_found 3 value fields here in
-    let identifier = identifier_at_found (codes "name") fields name name_here in
+    let ruled = name_at_found (codes "name") fields name name_here in
     let both = checked_found (bytes_eq named table_name) (record { name = name; size = range.0; init = range.1 }) board more in
     subst (IsBoard table_name value) both.1 (record {
       fields = fields;
       is_table = is_table.is_table;
       no_other_key = is_table.no_other_key;
-      name = identifier.0;
-      name_rule = identifier.1;
+      name = ruled.0;
+      name_rule = ruled.1;
       table_key = text_at_found (codes "table") fields table_name (named_here ∙ ap Some ((bytes_eq-Decides named table_name).0 both.0));
       range = one;
       ranges = one_at_found (codes "ranges") fields ranges one ranges_here one_here;
@@ -163,7 +163,7 @@ pub board_of_again : (table_name : List ℕ) (value : Data) (board : BoardSpec) 
 unfolding board_of
 board_of_again table_name value board is =
     step_again _ (fields_of_again 3 value is.fields is.is_table is.no_other_key)
-    ∙ step_again _ (identifier_at_again (codes "name") is.fields board.name is.name is.name_rule)
+    ∙ step_again _ (name_at_again (codes "name") is.fields board.name is.name is.name_rule)
     ∙ step_again _ (text_at_again (codes "table") is.fields table_name is.table_key)
     ∙ step_again _ (values_at_again (codes "ranges") is.fields (item is.range no_items) is.ranges)
     ∙ step_again _ (range_of_again is.range board.size board.init is.is_range)

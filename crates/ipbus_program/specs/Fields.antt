@@ -45,15 +45,15 @@ abbrev pub joined : {A : Type 0} → List A → Option (List A) → Option (List
 joined front None = None
 joined front (Some rest) = Some (front ++ rest)
 
--- a byte of an identifier: a letter, a digit, `_` or `-`
-unfoldable pub is_identifier_byte : ℕ → Bool
-is_identifier_byte byte =
+-- a byte of a name: a letter, a digit, `_` or `-`
+unfoldable pub is_name_byte : ℕ → Bool
+is_name_byte byte =
     (nat_le 65 byte && nat_le byte 90)
     || ((nat_le 97 byte && nat_le byte 122) || ((nat_le 48 byte && nat_le byte 57) || ((byte == 95) || (byte == 45))))
 
--- an identifier: 1 to 64 of these bytes
-unfoldable pub is_identifier : List ℕ → Bool
-is_identifier text = nat_le 1 (length text) && nat_le (length text) 64 && list_all is_identifier_byte text
+-- a name: 1 to 64 of these bytes
+unfoldable pub is_name : List ℕ → Bool
+is_name text = nat_le 1 (length text) && nat_le (length text) 64 && list_all is_name_byte text
 
 -- a number of the document: an integer from 0 to 2 ^ 32 - 1
 abbrev pub word_of : Data → Option ℕ
@@ -72,14 +72,14 @@ fields_of count value = do
   fields ← as_table value
   checked (member_count fields == count) fields
 
--- what stands under a key: a text, an identifier, a number, the values of an array
+-- what stands under a key: a text, a name, a number, the values of an array
 abbrev pub text_at : List ℕ → Members → Option (List ℕ)
 text_at key fields = get_member key fields >>= as_str
 
-abbrev pub identifier_at : List ℕ → Members → Option (List ℕ)
-identifier_at key fields = do
+abbrev pub name_at : List ℕ → Members → Option (List ℕ)
+name_at key fields = do
   text ← text_at key fields
-  checked (is_identifier text) text
+  checked (is_name text) text
 
 abbrev pub word_at : List ℕ → Members → Option ℕ
 word_at key fields = get_member key fields >>= word_of

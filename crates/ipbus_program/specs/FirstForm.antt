@@ -11,15 +11,15 @@ use Rattle.ipbus_program.specs.declared.session.Session.{Session}
 use Rattle.ipbus_program.specs.Fields.{values, member_count}
 
 -- in ASCII a letter from `A` to `Z` or from `a` to `z`, a digit from `0` to `9`, `_` or `-`
-abbrev pub IsIdentifierByte : ℕ → Type 0
-IsIdentifierByte byte =
+abbrev pub IsNameByte : ℕ → Type 0
+IsNameByte byte =
     (65 ≤ byte × byte ≤ 90) ⊎ (97 ≤ byte × byte ≤ 122) ⊎ (48 ≤ byte × byte ≤ 57) ⊎ (byte ≡ 95) ⊎ (byte ≡ 45)
 
--- an identifier is 1 to 64 of these bytes
-pub record IsIdentifier (text : List ℕ) : Type 0 where
+-- a name, or the id of a register, is 1 to 64 of these bytes
+pub record IsName (text : List ℕ) : Type 0 where
   pub not_empty : 1 ≤ length text
   pub not_long : length text ≤ 64
-  pub bytes : AllByRecursion IsIdentifierByte text
+  pub bytes : AllByRecursion IsNameByte text
 
 -- the two lists are as long as one another, and R relates their items in order
 abbrev pub Each : {A B : Type 0} → (A → B → Type 0) → List A → List B → Type 0
@@ -42,13 +42,13 @@ pub record HasNumber (fields : Members) (key : List ℕ) (number : ℕ) : Type 0
   pub under_key : get_member key fields ≡ Some value
   pub is_number : IsNumber value number
 
--- a node of the table has exactly the keys `id`, an identifier, and `address`, a number below the size of the board's range
+-- a node of the table has exactly the keys `id`, by the rule of names, and `address`, a number below the size of the board's range
 pub record IsNode (size : ℕ) (value : Data) (register : Register) : Type 0 where
   pub fields : Members
   pub is_table : value ≡ table fields
   pub no_other_key : member_count fields ≡ 2
   pub id : get_member (codes "id") fields ≡ Some (string register.id)
-  pub id_rule : IsIdentifier register.id
+  pub id_rule : IsName register.id
   pub address : HasNumber fields (codes "address") register.address
   pub below_size : register.address < size
 
@@ -66,13 +66,13 @@ pub record IsRange (value : Data) (size : ℕ) (init : List ℕ) : Type 0 where
   pub words : Each IsNumber (values numbers) init
   pub fits : length (values numbers) ≤ size
 
--- a board has exactly the keys `name`, an identifier, `table`, the name of the table, and `ranges`, an array of one range
+-- a board has exactly the keys `name`, by the rule of names, `table`, the name of the table, and `ranges`, an array of one range
 pub record IsBoard (table_name : List ℕ) (value : Data) (board : BoardSpec) : Type 0 where
   pub fields : Members
   pub is_table : value ≡ table fields
   pub no_other_key : member_count fields ≡ 3
   pub name : get_member (codes "name") fields ≡ Some (string board.name)
-  pub name_rule : IsIdentifier board.name
+  pub name_rule : IsName board.name
   pub table_key : get_member (codes "table") fields ≡ Some (string table_name)
   pub range : Data
   pub ranges : get_member (codes "ranges") fields ≡ Some (array (item range no_items))
@@ -98,7 +98,7 @@ pub record IsClient (board_name : List ℕ) (registers : List Register) (value :
 pub record IsFirstForm (document : Members) (session : Session) : Type 0 where
   pub no_other_key : member_count document ≡ 3
   pub table_name : List ℕ
-  pub table_rule : IsIdentifier table_name
+  pub table_rule : IsName table_name
   pub nodes : Items
   pub tables : get_member (codes "tables") document ≡ Some (table (member table_name (array nodes) no_members))
   pub registers : List Register

@@ -68,12 +68,6 @@ pub record OwesRefusal (before now : Option (List ℕ)) (text : List ℕ) : Type
   pub refused : IsRefused refusal before now
   pub line : text ≡ refusal_text refusal
 
--- What bytes that were read to the end of an input are answered by.
-abbrev pub AnswersBytes : List ℕ → ℕ → List ℕ → Type 0
-AnswersBytes bytes status text =
-    ((status ≡ DONE) × ((session : Session) × (StandsFor bytes session × IsTranscriptOf session text)))
-    ⊎ ((status ≡ REFUSED) × ((IsNotToml bytes × (text ≡ refusal_text NotToml)) ⊎ (IsNotBuilt bytes × (text ≡ refusal_text NotBuilt))))
-
 -- What an input is answered by.
 abbrev pub AnswersInput : Option (List ℕ) → Option (List ℕ) → ℕ → List ℕ → Type 0
 AnswersInput before now status text =
@@ -92,7 +86,7 @@ OwesText words before now text = (status : ℕ) × Owes words before now status 
 -- the statuses that there are
 abbrev pub IsStatus : ℕ → Type 0
 IsStatus status =
-    (status ≡ DONE) ⊎ ((status ≡ USAGE) ⊎ ((status ≡ REFUSED) ⊎ ((status ≡ READ_FAULT) ⊎ ((status ≡ WRITE_FAULT) ⊎ (status ≡ NO_MEMORY)))))
+    (status ≡ DONE) ⊎ (status ≡ USAGE) ⊎ (status ≡ REFUSED) ⊎ (status ≡ READ_FAULT) ⊎ (status ≡ WRITE_FAULT) ⊎ (status ≡ NO_MEMORY)
 
 -- all of this text went behind what was written
 abbrev pub Wrote : Option (List ℕ) → Option (List ℕ) → List ℕ → Type 0
@@ -105,6 +99,14 @@ WroteOwed owed old new = (text : List ℕ) × owed text × Wrote old new text
 -- a proper part of a text that is owed was written, from its front
 abbrev pub WroteOwedPart : (List ℕ → Type 0) → Option (List ℕ) → Option (List ℕ) → Type 0
 WroteOwedPart owed old new = (text : List ℕ) × owed text × AppendsPart old new text
+
+-- ---- the steps of the call; no public clause cites these two
+
+-- What bytes that were read to the end of an input are answered by.
+abbrev pub AnswersBytes : List ℕ → ℕ → List ℕ → Type 0
+AnswersBytes bytes status text =
+    ((status ≡ DONE) × ((session : Session) × (StandsFor bytes session × IsTranscriptOf session text)))
+    ⊎ ((status ≡ REFUSED) × ((IsNotToml bytes × (text ≡ refusal_text NotToml)) ⊎ (IsNotBuilt bytes × (text ≡ refusal_text NotBuilt))))
 
 -- The text was written whole and its status answered, or the output met a fault, a part of the text was written, and the status
 -- says so. `old` and `new` are what the output was given, `before` and `now` its counts of faults.

@@ -8,7 +8,7 @@ use Rattle.ipbus_program.specs.declared.session.BoardSpec.{BoardSpec}
 use Rattle.ipbus_program.specs.declared.session.Session.{Session}
 use Rattle.ipbus_program.specs.declared.document.DocumentError.{DocumentError}
 use Rattle.ipbus_program.specs.declared.document.DocumentError.TheVariants as errors
-use Rattle.ipbus_program.specs.Fields.{◌>>=◌, checked, only, only_member, each, member_count, values_of, is_identifier, word_of, fields_of, text_at, identifier_at, word_at, values_at}
+use Rattle.ipbus_program.specs.Fields.{◌>>=◌, checked, only, only_member, each, member_count, values_of, is_name, word_of, fields_of, text_at, name_at, word_at, values_at}
 
 -- What a function returned, seen by view, is what reading gives, want of memory aside.
 abbrev pub Refuses : {Y : Type 0} → DocumentError → Option Y → Type 0
@@ -28,7 +28,7 @@ after front text = checked (bytes_eq (take (length front) text) front) (drop (le
 unfoldable pub register_of : ℕ → Data → Option Register
 register_of size value = do
   fields ← fields_of 2 value
-  id ← identifier_at (codes "id") fields
+  id ← name_at (codes "id") fields
   address ← word_at (codes "address") fields
   checked (nat_lt address size) (record { id = id; address = address })
 
@@ -67,7 +67,7 @@ range_of value = do
 unfoldable pub board_of : List ℕ → Data → Option BoardSpec
 board_of table value = do
   fields ← fields_of 3 value
-  name ← identifier_at (codes "name") fields
+  name ← name_at (codes "name") fields
   named ← text_at (codes "table") fields
   ranges ← values_at (codes "ranges") fields
   one ← only ranges
@@ -97,7 +97,7 @@ table_of document = do
   tables ← get_member (codes "tables") document >>= as_table
   one ← only_member tables
   nodes ← values_of one.1
-  checked (is_identifier one.0) (one.0, nodes)
+  checked (is_name one.0) (one.0, nodes)
 
 unfoldable pub session_of : Members → Option Session
 session_of document = do

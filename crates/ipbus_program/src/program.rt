@@ -1,7 +1,8 @@
 //! The program's one call: words and an input in, a text and a status out.
 
-ghost use Rattle.std.specs.Prelude.{◌≡◌, ◌↔◌, ◌⊎◌, ℕ, List, Some, Ok, Err, IsTrue, IfOk, string_bytes};
+ghost use Rattle.std.specs.Prelude.{◌≡◌, ◌↔◌, ◌⊎◌, ℕ, List, Some, Ok, Err, IsTrue, IfOk, OnErr, string_bytes, ◌+◌};
 ghost use Rattle.ipb_base.specs.Faults.{Rose};
+ghost use Rattle.ipb_outside.specs.Told.{TakesAtMost};
 ghost use Rattle.ipbus_program.specs.declared.program.NoAnswer.TheVariants.{NoMemory as out_of_memory};
 ghost use Rattle.ipbus_program.specs.declared.session.Session.{Session};
 ghost use Rattle.ipbus_program.specs.Text.{refusal_text};
@@ -96,6 +97,7 @@ fn refused(alloc: Global, why: Refusal) -> Result<Answer, NoMemory>
 fn answer_input<S: Source>(alloc: Global, input: &mut S) -> Result<Answer, NoAnswer>
     ensures answer { IfOk result (λ answer. AnswersInput (S.left input.old) (S.left input.new) answer.status (string_bytes answer.text)) }
     ensures read_fault { result ≡ Err NoAnswer.ReadFault → Rose (S.faults input.old) (S.faults input.new) }
+    ensures stopped { OnErr result (TakesAtMost (MAX_DOCUMENT + 1) (S.left input.old) (S.left input.new)) }
 {
     match read_all(alloc, input, MAX_DOCUMENT) {
         Ok(bytes) => Ok(answer_to(alloc, &bytes)?),
@@ -107,7 +109,8 @@ fn answer_input<S: Source>(alloc: Global, input: &mut S) -> Result<Answer, NoAns
 
 /// Writes a text whole, and answers its status where that succeeds.
 fn deliver<O: Sink>(out: &mut O, text: &str, status: u8) -> u8
-    ensures { Delivers status text.now (O.written out.old) (O.written out.new) (O.faults out.old) (O.faults out.new) result }
+    ensures ended_kept { O.ended out.new ≡ O.ended out.old }
+    ensures delivers { Delivers status text.now (O.written out.old) (O.written out.new) (O.faults out.old) (O.faults out.new) result }
 {
     match write_whole(out, text.as_bytes()) {
         Ok(()) => status,
@@ -131,11 +134,13 @@ pub fn control<S: Source, O: Sink>(
     // The line of the refusal was written, by the first rule that the input breaks.
     ensures refused { result ≡ REFUSED → AreRun words.now × WroteOwed (OwesRefusal (S.left input.old) (S.left input.new)) (O.written out.old) (O.written out.new) }
     // The input met a fault, and nothing was written.
-    ensures read_fault { result ≡ READ_FAULT → AreRun words.now × Rose (S.faults input.old) (S.faults input.new) × (O.written out.new ≡ O.written out.old) }
+    ensures read_fault { result ≡ READ_FAULT → AreRun words.now × Rose (S.faults input.old) (S.faults input.new)
+        × TakesAtMost (MAX_DOCUMENT + 1) (S.left input.old) (S.left input.new) × (O.written out.new ≡ O.written out.old) }
     // The output met a fault, and a part of the text that was owed was written.
     ensures write_fault { result ≡ WRITE_FAULT → Rose (O.faults out.old) (O.faults out.new) × WroteOwedPart (OwesText words.now (S.left input.old) (S.left input.new)) (O.written out.old) (O.written out.new) }
     // Memory ran out, and nothing was written.
-    ensures no_memory { result ≡ NO_MEMORY → AreRun words.now × (O.written out.new ≡ O.written out.old) }
+    ensures no_memory { result ≡ NO_MEMORY → AreRun words.now
+        × TakesAtMost (MAX_DOCUMENT + 1) (S.left input.old) (S.left input.new) × (O.written out.new ≡ O.written out.old) }
 
     // Other words get the usage line, or the output met a fault.
     ensures other_words { ¬ AreRun words.now → (result ≡ USAGE) ⊎ (result ≡ WRITE_FAULT) }
@@ -148,6 +153,7 @@ pub fn control<S: Source, O: Sink>(
         → ¬ Rose (S.faults input.old) (S.faults input.new) → ¬ Rose (O.faults out.old) (O.faults out.new)
         → ((result ≡ REFUSED) × Wrote (O.written out.old) (O.written out.new) (refusal_text refusal)) ⊎ (result ≡ NO_MEMORY) }
     ensures no_other { IsStatus result }
+    ensures ended_kept { O.ended out.new ≡ O.ended out.old }
 {
     if !are_run(words) {
         return deliver(out, USAGE_LINE, USAGE);

@@ -8,7 +8,7 @@ use std::marker::Model;
 /// A register of the board's table.
 #[derive(Debug, Drop)]
 pub struct Register {
-    /// Its identifier, 1 to 64 of `A-Z a-z 0-9 _ -`.
+    /// Its id, 1 to 64 of `A-Z a-z 0-9 _ -`.
     pub id: Line,
     /// Its address on the bus, in words.
     pub address: u32,

@@ -5,34 +5,34 @@ ghost use Rattle.std.specs.List.{list_all};
 ghost use Rattle.std.specs.Option.{option_copied};
 ghost use Rattle.toml.specs.Data.{get_member, as_table, as_array};
 ghost use Rattle.toml.specs.View.{view, table_view, items_view};
-ghost use Rattle.ipbus_program.specs.Fields.{member_count, is_identifier, is_identifier_byte, word_of, fields_of, text_at, identifier_at, word_at, values_of, values_at, only_member};
+ghost use Rattle.ipbus_program.specs.Fields.{member_count, is_name, is_name_byte, word_of, fields_of, text_at, name_at, word_at, values_of, values_at, only_member};
 
 use toml::{Table, Value};
 
 /// A letter, a digit, `_` or `-`.
-#[tactic(auto, unfolding(crate::specs::Fields::is_identifier_byte))]
-fn is_identifier_byte(byte: u8) -> bool
-    ensures { result ≡ is_identifier_byte byte }
+#[tactic(auto, unfolding(crate::specs::Fields::is_name_byte))]
+fn is_name_byte(byte: u8) -> bool
+    ensures { result ≡ is_name_byte byte }
 {
     matches!(byte, b'A'..=b'Z' | b'a'..=b'z' | b'0'..=b'9' | b'_' | b'-')
 }
 
-fn are_identifier_bytes(bytes: &[u8]) -> bool
-    ensures { result ≡ list_all is_identifier_byte bytes.now }
+fn are_name_bytes(bytes: &[u8]) -> bool
+    ensures { result ≡ list_all is_name_byte bytes.now }
 {
-    bytes.iter().all(|byte| is_identifier_byte(*byte))
+    bytes.iter().all(|byte| is_name_byte(*byte))
 }
 
 /// 1 to 64 of those bytes.
-#[tactic(auto, unfolding(crate::specs::Fields::is_identifier))]
-pub fn is_identifier(text: &str) -> bool
-    ensures { result ≡ is_identifier text.now }
+#[tactic(auto, unfolding(crate::specs::Fields::is_name))]
+pub fn is_name(text: &str) -> bool
+    ensures { result ≡ is_name text.now }
 {
     let bytes = text.as_bytes();
     if bytes.is_empty() || bytes.len() > 64 {
         return false;
     }
-    are_identifier_bytes(bytes)
+    are_name_bytes(bytes)
 }
 
 /// A number of the document.
@@ -89,16 +89,12 @@ pub fn text<'a>(fields: &'a Table, key: &str) -> Option<&'a str>
     value.as_str()
 }
 
-/// The identifier under a key.
-pub fn identifier<'a>(fields: &'a Table, key: &str) -> Option<&'a str>
-    ensures { option_copied result ≡ identifier_at key.now (table_view fields.now) }
+/// The name, or the id, under a key.
+pub fn name<'a>(fields: &'a Table, key: &str) -> Option<&'a str>
+    ensures { option_copied result ≡ name_at key.now (table_view fields.now) }
 {
     let text = text(fields, key)?;
-    if is_identifier(text) {
-        Some(text)
-    } else {
-        None
-    }
+    if is_name(text) { Some(text) } else { None }
 }
 
 /// The number under a key.

@@ -7,7 +7,7 @@ ghost use Rattle.ipbus_program.specs.Fields.{only, each, word_of};
 ghost use Rattle.ipbus_program.specs.Reading.{Gives, register_of, range_of, board_of, register_with, are_distinct, is_listed, registers_of};
 
 use crate::document::DocumentError;
-use crate::document::fields::{array, fields, identifier, text, word, word_at};
+use crate::document::fields::{array, fields, name, text, word, word_at};
 use crate::session::{BoardSpec, Register};
 use ipb_base::{Line, Words};
 use std::alloc::Global;
@@ -19,7 +19,7 @@ fn register(alloc: Global, node: &Value, size: u32) -> Result<Register, Document
     ensures { Gives (λ register. register) result (register_of size (view node.now)) }
 {
     let node = fields(node, 2).ok_or(DocumentError::NotBuilt)?;
-    let id = identifier(node, "id").ok_or(DocumentError::NotBuilt)?;
+    let id = name(node, "id").ok_or(DocumentError::NotBuilt)?;
     let address = word_at(node, "address").ok_or(DocumentError::NotBuilt)?;
     if address >= size {
         return Err(DocumentError::NotBuilt);
@@ -84,7 +84,7 @@ pub fn board(alloc: Global, table: &str, board: &Value) -> Result<BoardSpec, Doc
     ensures { Gives (λ board. board) result (board_of table.now (view board.now)) }
 {
     let board = fields(board, 3).ok_or(DocumentError::NotBuilt)?;
-    let name = identifier(board, "name").ok_or(DocumentError::NotBuilt)?;
+    let name = name(board, "name").ok_or(DocumentError::NotBuilt)?;
     let named = text(board, "table").ok_or(DocumentError::NotBuilt)?;
     let ranges = array(board, "ranges").ok_or(DocumentError::NotBuilt)?;
     let one = only(ranges).ok_or(DocumentError::NotBuilt)?;
@@ -96,7 +96,7 @@ pub fn board(alloc: Global, table: &str, board: &Value) -> Result<BoardSpec, Doc
     Ok(BoardSpec { name, size, init })
 }
 
-/// The first register with this identifier.
+/// The first register with this id.
 pub fn register_with<'a>(id: &[u8], registers: &'a [Register]) -> Option<&'a Register>
     ensures { option_copied result ≡ register_with id.now registers.now }
 {
@@ -108,7 +108,7 @@ pub fn register_with<'a>(id: &[u8], registers: &'a [Register]) -> Option<&'a Reg
     None
 }
 
-/// No two registers have the same identifier.
+/// No two registers have the same id.
 fn are_distinct(registers: &[Register]) -> bool
     ensures { result ≡ are_distinct registers.now }
 {

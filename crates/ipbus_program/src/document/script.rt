@@ -7,7 +7,7 @@ ghost use Rattle.ipbus_program.specs.Fields.{each};
 ghost use Rattle.ipbus_program.specs.Reading.{Gives, after, read_of, script_of, table_of, session_of};
 
 use crate::document::DocumentError;
-use crate::document::fields::{array, fields, get, has_keys, is_identifier, only_member, values};
+use crate::document::fields::{array, fields, get, has_keys, is_name, only_member, values};
 use crate::document::parts::{board, is_listed, only, register_with, registers};
 use crate::session::{Register, Registers, Session};
 use ipb_base::Line;
@@ -85,7 +85,7 @@ fn table(document: &Table) -> Option<(&str, &[Value])>
     let tables = tables.as_table()?;
     let (name, value) = only_member(tables)?;
     let nodes = values(value)?;
-    if is_identifier(name) {
+    if is_name(name) {
         Some((name, nodes))
     } else {
         None

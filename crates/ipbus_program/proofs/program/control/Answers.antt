@@ -10,23 +10,23 @@ pub returns-then-not-are_run-clause-write_fault : goal.returns-then-not-are_run-
 returns-then-not-are_run-clause-write_fault g c =
     let left = g.S.Source.left c.args.input.now in
     let not_run : ¬ AreRun c.args.words.now = search rules in
-    part_written c.args.words.now left left USAGE usage_text usage_text refl _ _ _ _ c.deliver.result (inr (not_run, (refl, record { unread = refl; usage = refl }))) c.deliver.ensures
+    part_written c.args.words.now left left USAGE usage_text usage_text refl _ _ _ _ c.deliver.result (inr (not_run, (refl, record { unread = refl; usage = refl }))) c.deliver.ensures.delivers
 
 pub returns-in-Ok-clause-write_fault : goal.returns-in-Ok-clause-write_fault
 returns-in-Ok-clause-write_fault g c =
     let run : AreRun c.args.words.now = search rules in
     let answer = c.in-Ok.answer in
     part_written c.args.words.now (g.S.Source.left c.args.input.now) (g.S.Source.left c.answer_input.new.input) answer.status (string_bytes answer.text) _ c.as_str.ensures.value
-    _ _ _ _ c.deliver-in-Ok.result (inl (run, c.in-Ok.ensures.answer)) c.deliver-in-Ok.ensures
+    _ _ _ _ c.deliver-in-Ok.result (inl (run, c.in-Ok.ensures.answer)) c.deliver-in-Ok.ensures.delivers
 
 pub returns-in-Ok-clause-accepted : goal.returns-in-Ok-clause-accepted
 returns-in-Ok-clause-accepted g c bytes session run told accepted unfaulted calm =
     let answer = c.in-Ok.answer in
     inl (accepted_done (g.S.Source.left c.args.input.now) (g.S.Source.left c.answer_input.new.input) bytes told answer.status (string_bytes answer.text) _ c.as_str.ensures.value
-    _ _ _ _ c.deliver-in-Ok.result session accepted c.in-Ok.ensures.answer c.deliver-in-Ok.ensures calm)
+    _ _ _ _ c.deliver-in-Ok.result session accepted c.in-Ok.ensures.answer c.deliver-in-Ok.ensures.delivers calm)
 
 pub returns-in-Ok-clause-deserved : goal.returns-in-Ok-clause-deserved
 returns-in-Ok-clause-deserved g c bytes refusal run told deserves unfaulted calm =
     let answer = c.in-Ok.answer in
     inl (deserved_refused (g.S.Source.left c.args.input.now) (g.S.Source.left c.answer_input.new.input) bytes told answer.status (string_bytes answer.text) _ c.as_str.ensures.value
-    _ _ _ _ c.deliver-in-Ok.result refusal deserves c.in-Ok.ensures.answer c.deliver-in-Ok.ensures calm)
+    _ _ _ _ c.deliver-in-Ok.result refusal deserves c.in-Ok.ensures.answer c.deliver-in-Ok.ensures.delivers calm)
