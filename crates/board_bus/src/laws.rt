@@ -6,7 +6,8 @@ ghost use Rattle.ipb_base.specs.Word.{AreWords};
 ghost use Rattle.transaction_codec.specs.declared.request.Op.TheVariants.{Read, ReadPort};
 ghost use Rattle.transaction_codec.specs.declared.request.Request.{Request};
 ghost use Rattle.transaction_codec.specs.Request.{AreRequests, IsRequest, request_at, request_words, requests_words};
-ghost use Rattle.transaction_codec.specs.Answer.{CanAnswer, IsReplyTo, reply_room};
+ghost use Rattle.transaction_codec.specs.Reply.{reply_words};
+ghost use Rattle.transaction_codec.specs.Answer.{CanAnswer, IsReplyTo, bad_header_reply, reply_room};
 ghost use Rattle.board_bus.specs.declared.range.Range.{Range};
 ghost use Rattle.board_bus.specs.Cells.{Cell, CellMap, HoldsWords, cell_at, write_word};
 ghost use Rattle.board_bus.specs.Ranges.{IsOutside, any_pair, holds_address, is_empty_range, opening_bus, refusal_of, share_address};
@@ -50,6 +51,15 @@ pub fn reads_leave_the_bus()
 pub fn a_body_is_executed_in_order()
     ensures { (cells : CellMap) (request : Request) (rest : List ℕ) → IsRequest request →
         run_body cells (request_words request ++ rest) ≡ run_on (transact cells request) (λ left. run_body left rest) }
+{}
+
+/// A body that begins with no request leaves the bus as it is and is answered by one header: version 2, the identifier in bits
+/// 27-16 of its first word, words 0, type 0, code 1. Nothing after that word counts. The empty body has the empty reply.
+pub fn a_bad_header_ends_a_body()
+    ensures bad_header { (cells : CellMap) (word : ℕ) (after : List ℕ) → AreWords (word ∷ after) →
+        ((request : Request) (rest : List ℕ) → IsRequest request → (word ∷ after) ≢ request_words request ++ rest) →
+        run_body cells (word ∷ after) ≡ record { cells = cells; reply = reply_words (bad_header_reply word) } }
+    ensures empty { (cells : CellMap) → run_body cells [] ≡ record { cells = cells; reply = [] } }
 {}
 
 /// What an address holds after a body depends on the writes to it alone: where no request writes there, it holds what it held.
