@@ -1,6 +1,6 @@
 -- What one transaction does to a bus, and the reply to it. IPbus 2.0, transactions; that a failed one keeps what it did, and how
 -- many words its reply counts and carries, is the profile's.
-use Rattle.std.specs.Prelude.{ℕ, ◌+◌, ◌%◌, ◌^◌, zero, suc, bit_and, bit_or, List, [], ◌∷◌, map, length, Result, Ok, Err}
+use Rattle.std.specs.Prelude.{◌≡◌, ℕ, ◌+◌, ◌%◌, ◌^◌, ◌<◌, ◌⊎◌, zero, suc, bit_and, bit_or, List, [], ◌∷◌, map, length, slice_index, Result, Ok, Err}
 use Rattle.std.specs.List.{filter_map, zip}
 use Rattle.std.specs.Result.{ok_prefix, result_err}
 use Rattle.transaction_codec.specs.declared.request.Op.{Op}
@@ -63,6 +63,14 @@ write_on before (Err fault) later = record { cells = before; done = 0; code = fa
 abbrev pub write_words : CellMap → List (ℕ × ℕ) → Writing
 write_words cells [] = record { cells = cells; done = 0; code = SUCCESS }
 write_words cells (entry ∷ rest) = write_on cells (write_word cells entry.0 entry.1) (λ after. write_words after rest)
+
+-- How a write of a block ends, by the bus before it: every word is written, or the first address that is left is refused, and that
+-- refusal gives the info code.
+abbrev pub EndsAtRefusal : CellMap → ℕ → List ℕ → Writing → Type 0
+EndsAtRefusal cells base words writing =
+    ((writing.done ≡ length words) × (writing.code ≡ SUCCESS))
+    ⊎ ((fault : BusFault) × (writing.done < length words)
+    × (write_word cells (base + writing.done) (slice_index words writing.done) ≡ Err fault) × (writing.code ≡ fault_code fault))
 
 -- The word before a change of one word, and the bus after it. IPbus 2.0, RMW bits and RMW sum.
 pub record Modified : Type 0 where
