@@ -1,15 +1,16 @@
 -- Bodies one after another, and the words that a bus holds after them.
-use Rattle.std.proofs.Common.{◌≡◌, ℕ, suc, zero, true, false, cond, eqb, List, [], ◌∷◌, ◌++◌, length, Ok, Err, refl, ap, subst}
+use Rattle.std.proofs.Common.{◌≡◌, ◌≢◌, ℕ, suc, zero, true, false, cond, eqb, List, [], ◌∷◌, ◌++◌, length, Ok, Err, refl, ap, subst}
 use Rattle.ipb_base.specs.Word.{AreWords}
 use Rattle.transaction_codec.specs.declared.request.Request.{Request}
 use Rattle.transaction_codec.specs.declared.info_code.TheConstants.{SUCCESS}
 use Rattle.transaction_codec.specs.Request.{IsRequest, request_at, request_words}
 use Rattle.transaction_codec.specs.Reply.{reply_words}
 use Rattle.transaction_codec.proofs.Requests.{request_found, request_again}
+use Rattle.transaction_codec.specs.Answer.{bad_header_reply}
 use Rattle.board_bus.specs.Cells.{CellMap, HoldsWords}
 use Rattle.board_bus.specs.Transactions.{Transacted, transact}
 use Rattle.board_bus.specs.Bodies.{Executed, after_reply, run_on, run_first, run_requests, run_body, replay}
-use Rattle.board_bus.proofs.Requests.{run_body-request}
+use Rattle.board_bus.proofs.Requests.{run_body-request, run_body-fault}
 use Rattle.board_bus.proofs.WordsKept.{outcome-words}
 
 -- the bus after bodies and then others
@@ -52,3 +53,12 @@ run_body-words cells body holds fits = run_requests-words (length body) body cel
 
 pub run_body-first : (cells : CellMap) (request : Request) (rest : List ℕ) → IsRequest request → run_body cells (request_words request ++ rest) ≡ run_on (transact cells request) (λ left. run_body left rest)
 run_body-first cells request rest is = run_body-request cells _ _ request rest (request_again request rest is)
+
+pub run_body-bad_header : (cells : CellMap) (word : ℕ) (after : List ℕ) → AreWords (word ∷ after)
+    → ((request : Request) (rest : List ℕ) → IsRequest request → (word ∷ after) ≢ request_words request ++ rest)
+    → run_body cells (word ∷ after) ≡ record { cells = cells; reply = reply_words (bad_header_reply word) }
+run_body-bad_header cells word after fits bad =
+    elim (request_at (word ∷ after)) as (λ r. request_at (word ∷ after) ≡ r → run_body cells (word ∷ after) ≡ record { cells = cells; reply = reply_words (bad_header_reply word) }) [
+      | Ok x ↦ λ is. let found = request_found (word ∷ after) x fits is in absurd (bad x.0 x.1 found.0 found.1)
+      | Err why ↦ λ is. run_body-fault cells word after why is
+    ] refl

@@ -9,3 +9,4 @@ pub mod Answered
 pub mod Openings
 pub mod Bodies
 pub mod Untouched
+pub mod Writes

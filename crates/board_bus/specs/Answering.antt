@@ -1,4 +1,4 @@
--- How the code answers a transaction. No public clause speaks of it.
+-- How the code answers a transaction: no public clause speaks of it. IPbus 2.0, transaction header.
 use Rattle.std.specs.Prelude.{◌≡◌, ℕ, List, [], ◌∷◌, Result, Ok, Err}
 use Rattle.transaction_codec.specs.declared.info_code.TheConstants.{SUCCESS}
 use Rattle.transaction_codec.specs.Header.{header}
@@ -16,10 +16,12 @@ abbrev pub IsModified : CellMap → CellMap → Result ℕ BusFault → Result M
 IsModified old new (Ok before) wanted = wanted ≡ Ok (record { before = before; cells = new })
 IsModified old new (Err fault) wanted = (wanted ≡ Err fault) × (new ≡ old)
 
+-- the words of the reply to a change of one word
 abbrev pub modified_words : ℕ → ℕ → Result ℕ BusFault → List ℕ
 modified_words tid kind (Ok before) = header tid 1 kind SUCCESS ∷ before ∷ []
 modified_words tid kind (Err fault) = header tid 0 kind (fault_code fault) ∷ []
 
+-- the info code of that reply
 abbrev pub modified_code : Result ℕ BusFault → ℕ
 modified_code (Ok before) = SUCCESS
 modified_code (Err fault) = fault_code fault

@@ -1,4 +1,5 @@
--- The bodies of control packets on a bus: one, and one after another.
+-- The bodies of control packets on a bus: one, and one after another. IPbus 2.0, control packet; that a failed transaction and a bad
+-- header end the body is the profile's.
 use Rattle.std.specs.Prelude.{ℕ, zero, suc, ◌==◌, if◌then◌else◌, List, [], ◌∷◌, ◌++◌, length, Result, Ok, Err}
 use Rattle.transaction_codec.specs.declared.request.Request.{Request}
 use Rattle.transaction_codec.specs.declared.refusal.Why.{Why}
@@ -18,13 +19,13 @@ pub record Executed : Type 0 where
 abbrev pub after_reply : List ℕ → Executed → Executed
 after_reply words later = record later { reply = words ++ later.reply }
 
--- After a transaction that succeeded the rest is executed; after one that failed nothing follows.
+-- After a transaction that succeeded the rest is executed; after one that failed nothing follows. Profile.
 abbrev pub run_on : Transacted → (CellMap → Executed) → Executed
 run_on first later =
     if first.reply.code == SUCCESS then after_reply (reply_words first.reply) (later first.cells)
     else record { cells = first.cells; reply = reply_words first.reply }
 
--- Where the words begin with no request, one header answers the word there and nothing follows.
+-- Where the words begin with no request, one header with info code 1 answers the word there and nothing follows. Profile.
 abbrev pub run_first : CellMap → ℕ → Result (Request × List ℕ) Why → (List ℕ → CellMap → Executed) → Executed
 run_first cells word (Ok (request, rest)) later = run_on (transact cells request) (later rest)
 run_first cells word (Err why) later = record { cells = cells; reply = reply_words (bad_header_reply word) }
@@ -35,7 +36,7 @@ run_requests zero words cells = record { cells = cells; reply = [] }
 run_requests (suc most) [] cells = record { cells = cells; reply = [] }
 run_requests (suc most) (word ∷ after) cells = run_first cells word (request_at (word ∷ after)) (run_requests most)
 
--- One body: its requests in order while each succeeds. It has no more requests than words.
+-- One body: its requests in order while each succeeds. It has no more requests than words. IPbus 2.0, control packet.
 abbrev pub run_body : CellMap → List ℕ → Executed
 run_body cells words = run_requests (length words) words cells
 

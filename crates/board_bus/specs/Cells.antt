@@ -1,4 +1,5 @@
--- The bus as contracts see it: the cells that are there, each with a kind and a word.
+-- The bus as contracts see it: the cells that are there, each with a kind and a word. Addresses and words of 32 bits are those of
+-- IPbus 2.0; the kinds are the profile's.
 use Rattle.std.specs.Prelude.{ℕ, ◌^◌, nat_lt, if◌then◌else◌, List, [], ◌∷◌, map, Option, Some, None, IfSome, Result, Ok, Err}
 use Rattle.std.specs.Ordering.{nat_cmp}
 use Rattle.std.specs.List.{enumerate_from}
@@ -19,18 +20,18 @@ pub record Cell : Type 0 where
 abbrev pub CellMap : Type 0
 CellMap = List (ℕ × Cell)
 
--- The cell at an address. An address is a number of 32 bits: what is past the end is absent.
+-- The cell at an address. An address is a number of 32 bits (IPbus 2.0): what is past the end is absent (profile).
 abbrev pub cell_at : CellMap → ℕ → Option Cell
 cell_at cells address = if nat_lt address (2 ^ 32) then find nat_cmp address cells else None
 
--- which kinds refuse to be read, and why
+-- Which kinds refuse to be read, and why. Profile.
 abbrev pub read_fault : RangeKind → Option BusFault
 read_fault Rw = None
 read_fault Ro = None
 read_fault Wo = Some ReadError
 read_fault Slow = Some ReadTimeout
 
--- which kinds refuse to be written, and why
+-- Which kinds refuse to be written, and why. Profile.
 abbrev pub write_fault : RangeKind → Option BusFault
 write_fault Rw = None
 write_fault Ro = Some WriteError
@@ -42,7 +43,7 @@ abbrev pub unless : {X : Type 0} → Option BusFault → X → Result X BusFault
 unless None x = Ok x
 unless (Some fault) x = Err fault
 
--- Reading an address gives its word; nothing can be read where no cell is.
+-- Reading an address gives its word; nothing can be read where no cell is. Profile.
 abbrev pub read_cell : Option Cell → Result ℕ BusFault
 read_cell None = Err ReadError
 read_cell (Some cell) = unless (read_fault cell.kind) cell.word
@@ -51,6 +52,7 @@ abbrev pub read_word : CellMap → ℕ → Result ℕ BusFault
 read_word cells address = read_cell (cell_at cells address)
 
 -- Writing an address changes the word of its cell, and no kind and no other cell; nothing can be written where no cell is.
+-- Profile.
 abbrev pub write_cell : CellMap → ℕ → ℕ → Option Cell → Result CellMap BusFault
 write_cell cells address word None = Err WriteError
 write_cell cells address word (Some cell) = unless (write_fault cell.kind) (put nat_cmp address (record cell { word = word }) cells)
@@ -58,7 +60,7 @@ write_cell cells address word (Some cell) = unless (write_fault cell.kind) (put 
 abbrev pub write_word : CellMap → ℕ → ℕ → Result CellMap BusFault
 write_word cells address word = write_cell cells address word (cell_at cells address)
 
--- every word on the bus has 32 bits
+-- Every word on the bus has 32 bits. IPbus 2.0, registers.
 abbrev pub HoldsWords : CellMap → Type 0
 HoldsWords cells = (address : ℕ) → IfSome (cell_at cells address) (λ cell. IsWord cell.word)
 

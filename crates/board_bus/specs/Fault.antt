@@ -1,4 +1,4 @@
--- The info codes of refused accesses. IPbus 2.0, transaction header.
+-- The info codes of refused accesses: 4 and 5 for bus errors, 6 and 7 for timeouts. IPbus 2.0, info codes.
 use Rattle.std.specs.Prelude.{ℕ}
 use Rattle.transaction_codec.specs.declared.info_code.TheConstants.{READ_ERROR, WRITE_ERROR, READ_TIMEOUT, WRITE_TIMEOUT}
 use Rattle.board_bus.specs.declared.fault.BusFault.{BusFault}

@@ -1,4 +1,4 @@
--- How far the code has come in a transaction. No public clause speaks of it.
+-- How far the code has come in a transaction: no public clause speaks of it. IPbus 2.0, read and write.
 use Rattle.std.specs.Prelude.{◌≡◌, ℕ, ◌+◌, List, ◌++◌}
 use Rattle.board_bus.specs.Cells.{CellMap}
 use Rattle.board_bus.specs.Transactions.{Writing, addresses, words_read, code_of_reading, placed, write_words}

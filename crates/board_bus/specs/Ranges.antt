@@ -1,4 +1,4 @@
--- Lists of ranges: which are refused, and the bus that the others open.
+-- Lists of ranges: which are refused, and the bus that the others open. Profile throughout.
 use Rattle.std.specs.Prelude.{ℕ, ◌+◌, ◌-◌, ◌^◌, ◌<◌, ◌≤◌, ◌⊎◌, nat_le, ◌==◌, ◌&&◌, ◌||◌, nat_lt, Bool, false, if◌then◌else◌, List, [], ◌∷◌, ◌++◌, length, sum_by, replicate, Option, Some, None}
 use Rattle.std.specs.List.{list_any, flat_map}
 use Rattle.board_bus.specs.declared.range.Range.{Range}
@@ -11,12 +11,15 @@ use Rattle.board_bus.specs.Cells.{Cell, CellMap, cell_map, cells_from}
 abbrev pub end_of : Range → ℕ
 end_of range = range.base + range.size
 
+-- a range of no address
 abbrev pub is_empty_range : Range → Bool
 is_empty_range range = range.size == 0
 
+-- a range that ends past address 0xffffffff
 abbrev pub is_past_end : Range → Bool
 is_past_end range = nat_lt (2 ^ 32) (end_of range)
 
+-- a range that names more words than it has addresses
 abbrev pub is_init_long : Range → Bool
 is_init_long range = nat_lt range.size (length range.init)
 
@@ -43,6 +46,7 @@ refusal_of ranges =
 abbrev pub opening_words : Range → List ℕ
 opening_words range = range.init ++ replicate (range.size - length range.init) 0
 
+-- the cells of a range as it opens
 abbrev pub range_cells : Range → List (ℕ × Cell)
 range_cells range = cells_from range.base range.kind (opening_words range)
 

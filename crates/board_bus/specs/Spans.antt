@@ -1,10 +1,11 @@
--- Spans of addresses, by which an overlap is found. No public clause speaks of them.
+-- Spans of addresses, by which an overlap is found: no public clause speaks of them. Profile.
 use Rattle.std.specs.Prelude.{ℕ, ◌+◌, ◌<◌, ◌≤◌, List, length, get_or}
 use Rattle.std.specs.List.{AllAdjacentBelow}
 use Rattle.board_bus.specs.declared.range.Range.{Range}
 use Rattle.board_bus.specs.declared.range.Span.{Span}
 use Rattle.board_bus.specs.Ranges.{end_of}
 
+-- the addresses of a range, from its base to the one before its end
 abbrev pub span_of : Range → Span
 span_of range = record { base = range.base; «end» = end_of range }
 

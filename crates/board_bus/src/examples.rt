@@ -16,11 +16,19 @@ pub fn an_opening_word_is_read()
         (0x2000010f ∷ 4 ∷ [])).reply ≡ 0x20000100 ∷ 0xabcd ∷ [] }
 {}
 
-/// A bad header after a read is answered by one header with its transaction identifier. Here a read-modify-write is cut short.
+/// A header of an unknown type after a read ends the reply: one header with its transaction identifier answers it. Type 6 is
+/// none of the six.
 #[tactic(auto, unfolding(transaction_codec::specs::Request::request_at))]
-pub fn a_request_cut_short_ends_the_reply()
+pub fn an_unknown_type_ends_the_reply()
     ensures { (run_body (opening_bus (record { base = 0; size = 16; kind = Rw; init = 0 ∷ 0 ∷ 0 ∷ 0 ∷ 0xabcd ∷ [] } ∷ []))
         (0x2000010f ∷ 4 ∷ 0x2001016f ∷ 0 ∷ [])).reply ≡ 0x20000100 ∷ 0xabcd ∷ 0x20010001 ∷ [] }
+{}
+
+/// A request cut short is a bad header too: a masked write has three words after its header, and here is one. The bus is left.
+#[tactic(auto, unfolding(transaction_codec::specs::Request::request_at))]
+pub fn a_request_cut_short_is_a_bad_header()
+    ensures { run_body (opening_bus (record { base = 0; size = 1; kind = Rw; init = 5 ∷ [] } ∷ [])) (0x2000014f ∷ 0 ∷ [])
+        ≡ record { cells = (0, record { kind = Rw; word = 5 }) ∷ []; reply = 0x20000001 ∷ [] } }
 {}
 
 /// A read of two words from the last address answers one word and code 4: no address follows 0xffffffff.

@@ -12,7 +12,7 @@ pub enum RangeKind {
     Ro,
     /// Written only: a read is refused with code 4.
     Wo,
-    /// Answers in no time that counts: a read is refused with code 6, a write with code 7.
+    /// Does not answer in time: a read is refused with code 6, a write with code 7.
     Slow,
 }
 

@@ -1,16 +1,20 @@
 //! Laws of the definitions. These functions do nothing when they run: their clauses are what is proved.
 
-ghost use Rattle.std.specs.Prelude.{◌≡◌, ◌≢◌, ◌≤◌, ◌+◌, ◌<◌, ◌⊎◌, ◌++◌, ◌↔◌, ℕ, false, [], ◌∷◌, List, length, slice_index, Ok, None, Some, IsErr};
+ghost use Rattle.std.specs.Prelude.{◌≡◌, ◌≢◌, ◌≤◌, ◌+◌, ◌<◌, ◌⊎◌, ◌++◌, ◌↔◌, ℕ, false, [], ◌∷◌, List, length, slice_index, Ok, Err, None, Some, IsErr, IsOk};
 ghost use Rattle.std.specs.List.{AllByRecursion, count_by, list_any};
 ghost use Rattle.ipb_base.specs.Word.{AreWords};
 ghost use Rattle.transaction_codec.specs.declared.request.Op.TheVariants.{Read, ReadPort};
 ghost use Rattle.transaction_codec.specs.declared.request.Request.{Request};
 ghost use Rattle.transaction_codec.specs.Request.{AreRequests, IsRequest, request_at, request_words, requests_words};
-ghost use Rattle.transaction_codec.specs.Answer.{CanAnswer, IsReplyTo, reply_room};
+ghost use Rattle.transaction_codec.specs.Reply.{reply_words};
+ghost use Rattle.transaction_codec.specs.Answer.{CanAnswer, IsReplyTo, bad_header_reply, reply_room};
+ghost use Rattle.transaction_codec.specs.declared.info_code.TheConstants.{SUCCESS};
+ghost use Rattle.board_bus.specs.declared.fault.BusFault.{BusFault};
 ghost use Rattle.board_bus.specs.declared.range.Range.{Range};
+ghost use Rattle.board_bus.specs.Fault.{fault_code};
 ghost use Rattle.board_bus.specs.Cells.{Cell, CellMap, HoldsWords, cell_at, write_word};
 ghost use Rattle.board_bus.specs.Ranges.{IsOutside, any_pair, holds_address, is_empty_range, opening_bus, refusal_of, share_address};
-ghost use Rattle.board_bus.specs.Transactions.{transact, written_by};
+ghost use Rattle.board_bus.specs.Transactions.{EndsAtRefusal, placed, transact, write_words, written_by};
 ghost use Rattle.board_bus.specs.Bodies.{replay, run_body, run_on};
 
 /// Of ranges that are not empty two share an address exactly where some address is in two of them.
@@ -38,6 +42,38 @@ pub fn a_write_changes_one_word()
         (other < address) ⊎ (address < other) → cell_at after other ≡ cell_at cells other }
 {}
 
+/// A write of words at `base`, `base` + 1, .. leaves each word that was done at its own address and changes no other cell. It is
+/// done up to the first address that the bus, as it was before the write, refuses; that refusal gives the info code.
+pub fn a_block_is_written_up_to_the_first_refusal()
+    ensures written { (cells : CellMap) (base place : ℕ) (words : List ℕ) (cell : Cell) →
+        place < (write_words cells (placed base 1 words)).done → cell_at cells (base + place) ≡ Some cell →
+        cell_at (write_words cells (placed base 1 words)).cells (base + place)
+        ≡ Some (record { kind = cell.kind; word = slice_index words place }) }
+    ensures elsewhere { (cells : CellMap) (base other : ℕ) (words : List ℕ) →
+        (other < base) ⊎ (base + (write_words cells (placed base 1 words)).done ≤ other) →
+        cell_at (write_words cells (placed base 1 words)).cells other ≡ cell_at cells other }
+    ensures allowed { (cells : CellMap) (base place : ℕ) (words : List ℕ) →
+        place < (write_words cells (placed base 1 words)).done → IsOk (write_word cells (base + place) (slice_index words place)) }
+    ensures ends { (cells : CellMap) (base : ℕ) (words : List ℕ) →
+        EndsAtRefusal cells base words (write_words cells (placed base 1 words)) }
+{}
+
+/// A write of words at one address, of a port, leaves the last of them there where the address may be written, and counts them
+/// all. Where it may not, nothing is written.
+pub fn a_port_write_leaves_its_last_word()
+    ensures done { (cells : CellMap) (base last : ℕ) (words : List ℕ) (cell : Cell) →
+        cell_at cells base ≡ Some cell → IsOk (write_word cells base last) →
+        ((write_words cells (placed base 0 (words ++ last ∷ []))).done ≡ length words + 1)
+        × ((write_words cells (placed base 0 (words ++ last ∷ []))).code ≡ SUCCESS) }
+    ensures last { (cells : CellMap) (base last : ℕ) (words : List ℕ) (cell : Cell) →
+        cell_at cells base ≡ Some cell → IsOk (write_word cells base last) →
+        cell_at (write_words cells (placed base 0 (words ++ last ∷ []))).cells base
+        ≡ Some (record { kind = cell.kind; word = last }) }
+    ensures refused { (cells : CellMap) (base word : ℕ) (words : List ℕ) (fault : BusFault) →
+        write_word cells base word ≡ Err fault →
+        write_words cells (placed base 0 (word ∷ words)) ≡ record { cells = cells; done = 0; code = fault_code fault } }
+{}
+
 /// Reads leave the bus as it is, of a block and of a port.
 pub fn reads_leave_the_bus()
     ensures block { (cells : CellMap) (tid base count : ℕ) →
@@ -50,6 +86,15 @@ pub fn reads_leave_the_bus()
 pub fn a_body_is_executed_in_order()
     ensures { (cells : CellMap) (request : Request) (rest : List ℕ) → IsRequest request →
         run_body cells (request_words request ++ rest) ≡ run_on (transact cells request) (λ left. run_body left rest) }
+{}
+
+/// A body that begins with no request leaves the bus as it is and is answered by one header: version 2, the identifier in bits
+/// 27-16 of its first word, words 0, type 0, code 1. Nothing after that word counts. The empty body has the empty reply.
+pub fn a_bad_header_ends_a_body()
+    ensures bad_header { (cells : CellMap) (word : ℕ) (after : List ℕ) → AreWords (word ∷ after) →
+        ((request : Request) (rest : List ℕ) → IsRequest request → (word ∷ after) ≢ request_words request ++ rest) →
+        run_body cells (word ∷ after) ≡ record { cells = cells; reply = reply_words (bad_header_reply word) } }
+    ensures empty { (cells : CellMap) → run_body cells [] ≡ record { cells = cells; reply = [] } }
 {}
 
 /// What an address holds after a body depends on the writes to it alone: where no request writes there, it holds what it held.

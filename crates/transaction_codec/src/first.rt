@@ -267,21 +267,21 @@ fn reply_by_rules(words: &[u32]) -> Result<FirstReply<'_>, Why>
         (λ first. reply_at words.now ≡ Ok (reply_of first, first.rest.now))
         (λ why. reply_at words.now ≡ Err why) }
 {
-    let [word, after @ ..] = words else {
+    let [header, after @ ..] = words else {
         return Err(Why::Short);
     };
-    if version_of(*word) != VERSION {
+    if version_of(*header) != VERSION {
         return Err(Why::Version);
     }
-    let kind = kind_of(*word);
-    let code = code_of(*word);
+    let kind = kind_of(*header);
+    let code = code_of(*header);
     if kind > RMW_SUM || (code == BAD_HEADER && kind != READ) {
         return Err(Why::Kind);
     }
     if !is_reply_code(code) {
         return Err(Why::Code);
     }
-    let count = count_of(*word);
+    let count = count_of(*header);
     if is_wrong_count(kind, code, count) {
         return Err(Why::Count);
     }
@@ -290,7 +290,7 @@ fn reply_by_rules(words: &[u32]) -> Result<FirstReply<'_>, Why>
         return Err(Why::Short);
     }
     Ok(FirstReply {
-        tid: tid_of(*word),
+        tid: tid_of(*header),
         kind,
         count,
         code,
