@@ -111,10 +111,13 @@ header_from request reply is =
     let at = answer_outcome request reply is.answers in
     (ap (λ n. header n reply.count reply.kind reply.code) at.0 ∙ ap (λ n. header request.tid reply.count n reply.code) at.1, at.2)
 
-pub done_not_failed : (request : Request) (reply : Reply) → IsDone request reply → IsFailed request reply → ⊥
-done_not_failed request reply done failed =
+pub fault_is_no_success : (request : Request) (reply : Reply) → IsFailed request reply → reply.code ≡ 0 → ⊥
+fault_is_no_success request reply failed success =
     let fault = fault_code request.op reply.code reply.count (length reply.values) failed.fault in
-    omega (arith, fault.0, done.code)
+    omega (arith, fault.0, success)
+
+pub done_not_failed : (request : Request) (reply : Reply) → IsDone request reply → IsFailed request reply → ⊥
+done_not_failed request reply done failed = fault_is_no_success request reply failed done.code
 
 -- ---- a header and the words behind it
 

@@ -3,3 +3,4 @@ pub mod Headers
 pub mod Parts
 pub mod Garbled
 pub mod Joined
+pub mod Steps
