@@ -134,8 +134,11 @@ module _ (request : Request) (reply : Reply) (asked : List ℕ) (is : IsRequest 
           | inr failed ↦ done_not_failed request reply done failed.0
         ];
         within = omega (arith, garbled.within, length-append (reply_words reply) rest);
-        begins = (reply_words reply ++ whole, done_then request reply asked whole is is_reply done garbled.begins.1,
-        (garbled.begins.2.0, spread ∙ ap (λ (ws : List ℕ). ws ++ garbled.begins.2.0) (sym front_is)));
+        begins = (
+          reply_words reply ++ whole,
+          done_then request reply asked whole is is_reply done garbled.begins.1,
+          (garbled.begins.2.0, spread ∙ ap (λ (ws : List ℕ). ws ++ garbled.begins.2.0) (sym front_is)),
+        );
         longest = λ front prefix begins. longest_behind rest front place (λ more later. longest_later rest more later place garbled.longest) prefix begins;
       }
 
@@ -158,8 +161,11 @@ module _ (request : Request) (reply : Reply) (asked : List ℕ) (is : IsRequest 
           | inr last ↦ garbled.is_none (subst (λ (ws : List ℕ). IsReplyTo [] ws) (sym last.1) nothing_replied)
         ];
         within = omega (arith, garbled.within, length-append (reply_words reply) rest);
-        begins = (reply_words reply ++ [], failed_last request reply asked is is_reply failed body,
-        ([], sym (append-nil (reply_words reply ++ [])) ∙ ap (λ (ws : List ℕ). ws ++ []) (sym front_is)));
+        begins = (
+          reply_words reply ++ [],
+          failed_last request reply asked is is_reply failed body,
+          ([], sym (append-nil (reply_words reply ++ [])) ∙ ap (λ (ws : List ℕ). ws ++ []) (sym front_is)),
+        );
         longest = λ front prefix begins. longest_behind rest front place (λ more later within. only more later) prefix begins;
       }
 

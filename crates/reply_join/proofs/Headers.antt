@@ -150,9 +150,10 @@ pub whole_of : (request : Request) (word count code : ℕ) (after : List ℕ) �
     → IsAnswer request (reply_with request count code (take (values_after (op_kind request.op) count) after))
     × (word ∷ after ≡ reply_words (reply_with request count code (take (values_after (op_kind request.op) count) after)) ++ drop (values_after (op_kind request.op) count) after)
 whole_of request word count code after is head fits enough =
-    let n : ℕ = values_after (op_kind request.op) count in
-    (answer_from request count code (take n after) is head.1 (AreWords-take n after fits) (omega (arith, enough, length-take n after)),
-    ap (λ w. w ∷ after) head.0 ∙ ap (λ (ws : List ℕ). header request.tid count (op_kind request.op) code ∷ ws) (sym (take-append-drop n after)))
+    let n : ℕ = values_after (op_kind request.op) count in (
+      answer_from request count code (take n after) is head.1 (AreWords-take n after fits) (omega (arith, enough, length-take n after)),
+      ap (λ w. w ∷ after) head.0 ∙ ap (λ (ws : List ℕ). header request.tid count (op_kind request.op) code ∷ ws) (sym (take-append-drop n after)),
+    )
 
 -- the rest of a slice to its end
 pub to_its_end : (n : ℕ) (words : List ℕ) → take (length words - n) (drop n words) ≡ drop n words

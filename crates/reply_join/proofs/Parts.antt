@@ -23,7 +23,6 @@ same_reply = same_first reply_words IsReply BreaksReply reply_at replies_format
 
 -- ---- taking a reply apart
 
-
 pub record Parts (request : Request) (asked whole : List ℕ) : Type 0 where
   pub reply : Reply
   pub rest : List ℕ
@@ -35,8 +34,10 @@ goes_on : (request other : Request) (asked : List ℕ) (requests : List Request)
     → AreReplies replies → (IsDone other reply × Answers requests [] replies) ⊎ (IsFailed other reply × (replies ≡ []))
     → (IsDone request reply × IsReplyTo asked (replies_words replies)) ⊎ (IsFailed request reply × (replies_words replies ≡ []))
 goes_on request other asked requests reply replies same ranges parts items (inl done) =
-    inl (subst (λ (r : Request). IsDone r reply) (sym same) done.0,
-    record { requests = requests; replies = replies; ranges = ranges; asked = parts; items = items; answers = done.1; spelled = refl })
+    inl (
+      subst (λ (r : Request). IsDone r reply) (sym same) done.0,
+      record { requests = requests; replies = replies; ranges = ranges; asked = parts; items = items; answers = done.1; spelled = refl },
+    )
 goes_on request other asked requests reply replies same ranges parts items (inr failed) =
     inr (subst (λ (r : Request). IsFailed r reply) (sym same) failed.0, ap replies_words failed.1)
 
@@ -101,9 +102,10 @@ failed_last request reply asked is is_reply failed body = record {
 longest_of : (requests : List Request) → AreRequests requests → (room : ℕ) × IsLongestAnswer (requests_words requests) room
 longest_of [] ranges = (0, longest_nothing)
 longest_of (request ∷ requests) ranges =
-    let later = longest_of requests ranges.1 in
-    (1 + values_done request.op + later.0,
-    longest_step request (requests_words (request ∷ requests)) (requests_words requests) later.0 ranges.0 (flat_map-cons request_words request requests) later.1)
+    let later = longest_of requests ranges.1 in (
+      1 + values_done request.op + later.0,
+      longest_step request (requests_words (request ∷ requests)) (requests_words requests) later.0 ranges.0 (flat_map-cons request_words request requests) later.1,
+    )
 
 pub some_reply : (body : List ℕ) → IsBody body → (whole : List ℕ) × IsReplyTo body whole
 some_reply body is =

@@ -19,11 +19,7 @@ use transaction_codec::{FirstReply, FirstRequest, first_request};
 /// The answers that a reply's words give to a body's requests, one for each in order. A request behind one that failed is
 /// `Skipped`. `Garbled` comes exactly where no device that answers each access by a word or a code gives this reply; it names
 /// the first word at fault, or the reply's length where the reply ends too early.
-pub fn join_reply(
-    alloc: Global,
-    body: &[u32],
-    reply: &[u32],
-) -> Result<Vec<Answer>, JoinRefusal>
+pub fn join_reply(alloc: Global, body: &[u32], reply: &[u32]) -> Result<Vec<Answer>, JoinRefusal>
     requires { IsBody body.now }
     ensures joined { IfOk result (λ answers. IsJoined body.now reply.now answers.items) }
     // Only want of memory refuses what is a reply to the body.
@@ -104,7 +100,7 @@ fn left_after<'a>(
     ensures { IfOk result (λ left.
         ((reply.now.code ≡ SUCCESS) × (left.now ≡ requests.now) × (answers.new.items ≡ answers.old.items))
         ⊎ ((reply.now.code ≢ SUCCESS) × (left.now ≡ []) × ((more : List Answer) × AreSkipped requests.now more
-            × (answers.new.items ≡ answers.old.items ++ more)))) }
+        × (answers.new.items ≡ answers.old.items ++ more)))) }
 {
     if reply.code == SUCCESS {
         return Ok(requests);

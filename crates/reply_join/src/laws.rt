@@ -1,14 +1,26 @@
 //! Laws of the definitions. These functions do nothing when they run: their clauses are what is proved.
 
-ghost use Rattle.std.specs.Prelude.{◌≡◌, ℕ, List, [], ◌∷◌, length};
-ghost use Rattle.transaction_codec.specs.declared.request.Op.TheVariants.{Read, Write};
+ghost use Rattle.std.specs.Prelude.{◌≡◌, ℕ, List, [], ◌∷◌, length, true, false};
 ghost use Rattle.transaction_codec.specs.declared.request.Request.{Request};
 ghost use Rattle.transaction_codec.specs.declared.reply.Reply.{Reply};
-ghost use Rattle.transaction_codec.specs.Answer.{IsReplyTo};
+ghost use Rattle.transaction_codec.specs.Header.{is_write};
+ghost use Rattle.transaction_codec.specs.Request.{op_kind};
+ghost use Rattle.transaction_codec.specs.Answer.{IsReplyTo, IsDone, IsFailed};
 ghost use Rattle.reply_join.specs.declared.answer.Answer.{Answer as OneAnswer};
 ghost use Rattle.reply_join.specs.declared.answer.Answer.TheVariants.{Values, Done, Fault, Skipped};
-ghost use Rattle.reply_join.specs.Joining.{IsJoined, answers_to};
+ghost use Rattle.reply_join.specs.Joining.{IsJoined, answer_of, answers_to};
 ghost use Rattle.reply_join.specs.Garbled.{IsGarbledAt};
+
+/// The answer to a request that was done is its values or that its writing was done, and the answer to one that failed is the
+/// fault.
+pub fn each_answer_says_how_its_request_ended()
+    ensures write { (request : Request) (reply : Reply) → IsDone request reply → is_write (op_kind request.op) ≡ true →
+        answer_of reply ≡ Done }
+    ensures values { (request : Request) (reply : Reply) → IsDone request reply → is_write (op_kind request.op) ≡ false →
+        answer_of reply ≡ Values reply.values }
+    ensures fault { (request : Request) (reply : Reply) → IsFailed request reply →
+        answer_of reply ≡ Fault reply.code reply.count }
+{}
 
 /// A reply to a body answers each request once.
 pub fn each_request_has_one_answer()

@@ -48,8 +48,10 @@ fn did_all(op: &OpRef<'_>, count: u8) -> bool
     ensures { MatchBool result (count ≡ of_request.op_count (op_of op.now)) (count ≡ of_request.op_count (op_of op.now) → ⊥) }
 {
     match *op {
-        OpRef::Read { count: all, .. } | OpRef::ReadPort { count: all, .. } => u32::from(count) == all,
-        OpRef::Write { words, .. } | OpRef::WritePort { words, .. } => count as usize == words.len(),
+        OpRef::Read { count: all, .. } | OpRef::ReadPort { count: all, .. } => u32::from(count)
+            == all,
+        OpRef::Write { words, .. } | OpRef::WritePort { words, .. } => count as usize
+            == words.len(),
         OpRef::RmwBits { .. } | OpRef::RmwSum { .. } => count == 1,
     }
 }
