@@ -11,7 +11,7 @@ use Rattle.transaction_codec.specs.Reply.{IsReply, reply_words}
 use Rattle.transaction_codec.specs.Answer.{IsDone, IsFailed, IsReplyTo}
 use Rattle.reply_join.specs.Joining.{IsBody}
 use Rattle.reply_join.specs.Garbled.{BeginsReply, IsGarbledAt}
-use Rattle.reply_join.specs.Progress.{IsHeaderTo, IsAnswer, HasNoHeader, IsShort, IsCut}
+use Rattle.reply_join.specs.Progress.{HasNoHeader, IsShort, IsCut}
 use Rattle.reply_join.proofs.Lists.{beyond, take_past, no_words}
 use Rattle.reply_join.proofs.Headers.{header_from, done_not_failed}
 use Rattle.reply_join.proofs.Parts.{Parts, same_reply, reply_parts, reply_to_nothing, nothing_replied, some_reply, answer_goes_on, first_answer, done_then, failed_last}

@@ -8,7 +8,7 @@ use Rattle.transaction_codec.specs.declared.request.Request.{Request}
 use Rattle.transaction_codec.specs.declared.reply.Reply.{Reply}
 use Rattle.transaction_codec.specs.Header.{header}
 use Rattle.transaction_codec.specs.Request.{op_kind, op_count, IsRequest}
-use Rattle.transaction_codec.specs.Reply.{IsBusFault, Carries, IsReply, values_after, reply_words}
+use Rattle.transaction_codec.specs.Reply.{IsBusFault, Carries, values_after, reply_words}
 use Rattle.transaction_codec.specs.Answer.{values_done, Fails, IsDone, IsFailed}
 use Rattle.reply_join.specs.Progress.{IsOutcome, IsHeaderTo, IsAnswer, IsShort, IsCut}
 use Rattle.transaction_codec.proofs.Steps.{AreWords-take}

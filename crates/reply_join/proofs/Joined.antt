@@ -1,11 +1,11 @@
 -- The answers of a body and its reply, request by request.
-use Rattle.std.proofs.Common.{◌≡◌, ◌⊎◌, inl, inr, ℕ, ◌+◌, ◌-◌, ◌<◌, ◌≤◌, List, [], ◌∷◌, ◌++◌, length, map, replicate, refl, sym, ap, subst, ◌∙◌, append_assoc, arith}
-use Rattle.std.proofs.lemmas.List.{length-append, append-nil, length-map, length-replicate}
+use Rattle.std.proofs.Common.{◌≡◌, inl, inr, ℕ, ◌-◌, ◌≤◌, List, [], ◌∷◌, ◌++◌, length, map, replicate, refl, sym, ap, ◌∙◌, arith}
+use Rattle.std.proofs.lemmas.List.{length-append, length-map, length-replicate}
 use Rattle.std.proofs.lemmas.List.Concat.{flat_map-cons}
 use Rattle.transaction_codec.specs.declared.request.Request.{Request}
 use Rattle.transaction_codec.specs.declared.reply.Reply.{Reply}
-use Rattle.transaction_codec.specs.Request.{IsRequest, AreRequests, request_words, requests_words, BreaksRequest, request_at}
-use Rattle.transaction_codec.specs.Reply.{IsReply, reply_words, replies_words, BreaksReply, reply_at}
+use Rattle.transaction_codec.specs.Request.{IsRequest, request_words, BreaksRequest, request_at}
+use Rattle.transaction_codec.specs.Reply.{IsReply, reply_words, BreaksReply, reply_at}
 use Rattle.transaction_codec.specs.Answer.{IsDone, IsFailed, Answers, IsReplyTo}
 use Rattle.transaction_codec.proofs.Lists.{one_list}
 use Rattle.transaction_codec.proofs.Formats.{requests_format, replies_format}
@@ -13,7 +13,7 @@ use Rattle.reply_join.specs.declared.answer.Answer.{Answer}
 use Rattle.reply_join.specs.declared.answer.Answer.TheVariants.{Skipped}
 use Rattle.reply_join.specs.Joining.{IsBody, IsJoined, answer_of, answers_to}
 use Rattle.reply_join.specs.Progress.{AreSkipped}
-use Rattle.reply_join.proofs.Parts.{done_then, failed_last, nothing_replied, reply_to_nothing}
+use Rattle.reply_join.proofs.Parts.{done_then, failed_last, nothing_replied}
 
 pub joined_nothing : IsJoined [] [] []
 unfolding nothing_replied

@@ -45,6 +45,9 @@ only_nothing rest later joined =
     let here = subst (λ (ws : List ℕ). IsJoined [] ws later) none joined in
     (none, here.1 ∙ one_answers [] [] here.0 joined_nothing.0 ∙ sym joined_nothing.1)
 
+pub answer_pushed : (answers new : List Answer) (pushed answer : Answer) → new ≡ answers ++ pushed ∷ [] → pushed ≡ answer → new ≡ answers ++ answer ∷ []
+answer_pushed answers new pushed answer new_is same = new_is ∙ ap (λ (last : Answer). answers ++ last ∷ []) same
+
 -- ---- one request and its reply
 
 module _ (body reply asked rest asked_left rest_left : List ℕ) (answers : List Answer) (request : Request) (first : Reply) (under : Underway body reply asked rest answers)

@@ -1,5 +1,5 @@
 -- What the steps of joining say of one request and the words that are left of the reply. No public clause speaks of it.
-use Rattle.std.specs.Prelude.{◌≡◌, ℕ, ◌<◌, ◌⊎◌, List, [], ◌∷◌, ◌++◌, length, replicate}
+use Rattle.std.specs.Prelude.{◌≡◌, ℕ, ◌<◌, ◌⊎◌, List, ◌∷◌, ◌++◌, length, replicate}
 use Rattle.transaction_codec.specs.declared.request.Op.{Op}
 use Rattle.transaction_codec.specs.declared.request.Request.{Request}
 use Rattle.transaction_codec.specs.declared.reply.Reply.{Reply}
@@ -11,9 +11,13 @@ use Rattle.transaction_codec.specs.Answer.{Fails, IsDone, IsFailed}
 use Rattle.reply_join.specs.declared.answer.Answer.{Answer}
 use Rattle.reply_join.specs.declared.answer.Answer.TheVariants.{Skipped}
 
+-- the operation can fail with this info code after so many words
+abbrev pub CanFail : Op → ℕ → ℕ → Type 0
+CanFail op count code = Fails op code count (values_after (op_kind op) count)
+
 -- a reply to the operation may have this words field and info code
 abbrev pub IsOutcome : Op → ℕ → ℕ → Type 0
-IsOutcome op count code = ((code ≡ SUCCESS) × (count ≡ op_count op)) ⊎ Fails op code count (values_after (op_kind op) count)
+IsOutcome op count code = ((code ≡ SUCCESS) × (count ≡ op_count op)) ⊎ CanFail op count code
 
 -- the word is the header of a reply to the request, with this words field and info code
 abbrev pub IsHeaderTo : Request → ℕ → ℕ → ℕ → Type 0

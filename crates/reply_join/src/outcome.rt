@@ -4,8 +4,7 @@ ghost use Rattle.transaction_codec.specs.First.{op_of, request_of};
 ghost use Rattle.transaction_codec.specs.Request as of_request;
 ghost use Rattle.transaction_codec.specs.Request.{IsRequest};
 ghost use Rattle.transaction_codec.specs.Reply as of_reply;
-ghost use Rattle.transaction_codec.specs.Answer.{Fails};
-ghost use Rattle.reply_join.specs.Progress.{IsOutcome, IsHeaderTo};
+ghost use Rattle.reply_join.specs.Progress.{CanFail, IsOutcome, IsHeaderTo};
 
 use transaction_codec::info_code::{READ_ERROR, READ_TIMEOUT, SUCCESS, WRITE_ERROR, WRITE_TIMEOUT};
 use transaction_codec::transaction_type::{READ, READ_PORT, RMW_BITS, RMW_SUM, WRITE, WRITE_PORT};
@@ -43,34 +42,31 @@ pub(crate) fn values_after(op: &OpRef<'_>, count: u8) -> usize
     }
 }
 
-/// Whether an operation that was done has this words field in its reply.
-fn did_all(op: &OpRef<'_>, count: u8) -> bool
-    ensures { MatchBool result (count ≡ of_request.op_count (op_of op.now)) (count ≡ of_request.op_count (op_of op.now) → ⊥) }
+/// The words that an operation reads or writes.
+fn op_count(op: &OpRef<'_>) -> usize
+    ensures { result ≡ of_request.op_count (op_of op.now) }
 {
     match *op {
-        OpRef::Read { count: all, .. } | OpRef::ReadPort { count: all, .. } => u32::from(count)
-            == all,
-        OpRef::Write { words, .. } | OpRef::WritePort { words, .. } => count as usize
-            == words.len(),
-        OpRef::RmwBits { .. } | OpRef::RmwSum { .. } => count == 1,
+        OpRef::Read { count, .. } | OpRef::ReadPort { count, .. } => count as usize,
+        OpRef::Write { words, .. } | OpRef::WritePort { words, .. } => words.len(),
+        OpRef::RmwBits { .. } | OpRef::RmwSum { .. } => 1,
     }
 }
 
-/// Whether an operation can fail with this info code after so many words. Profile.
+/// Whether an operation can fail with this info code after so many words: before its end, and an RMW before its word. Profile.
 fn can_fail(op: &OpRef<'_>, count: u8, code: u8) -> bool
-    ensures { MatchBool result
-        (Fails (op_of op.now) code count (of_reply.values_after (of_request.op_kind (op_of op.now)) count))
-        (Fails (op_of op.now) code count (of_reply.values_after (of_request.op_kind (op_of op.now)) count) → ⊥) }
+    ensures { MatchBool result (CanFail (op_of op.now) count code) (CanFail (op_of op.now) count code → ⊥) }
 {
+    let early = (count as usize) < op_count(op);
     match *op {
-        OpRef::Read { count: all, .. } | OpRef::ReadPort { count: all, .. } => {
-            (code == READ_ERROR || code == READ_TIMEOUT) && u32::from(count) < all
+        OpRef::Read { .. } | OpRef::ReadPort { .. } => {
+            early && (code == READ_ERROR || code == READ_TIMEOUT)
         }
-        OpRef::Write { words, .. } | OpRef::WritePort { words, .. } => {
-            (code == WRITE_ERROR || code == WRITE_TIMEOUT) && (count as usize) < words.len()
+        OpRef::Write { .. } | OpRef::WritePort { .. } => {
+            early && (code == WRITE_ERROR || code == WRITE_TIMEOUT)
         }
         OpRef::RmwBits { .. } | OpRef::RmwSum { .. } => {
-            READ_ERROR <= code && code <= WRITE_TIMEOUT && count == 0
+            count == 0 && READ_ERROR <= code && code <= WRITE_TIMEOUT
         }
     }
 }
@@ -80,7 +76,7 @@ fn is_outcome(op: &OpRef<'_>, count: u8, code: u8) -> bool
     ensures { MatchBool result (IsOutcome (op_of op.now) count code) (IsOutcome (op_of op.now) count code → ⊥) }
 {
     if code == SUCCESS {
-        return did_all(op, count);
+        return count as usize == op_count(op);
     }
     can_fail(op, count, code)
 }

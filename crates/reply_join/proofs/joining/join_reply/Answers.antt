@@ -1,8 +1,7 @@
-use Rattle.std.proofs.Common.{◌≡◌, ◌<◌, ◌++◌, ◌∷◌, [], List, length, ap, ◌∙◌, arith}
+use Rattle.std.proofs.Common.{◌≡◌, ◌<◌, length, arith}
 use Rattle.std.proofs.lemmas.Bool.Decides.{nat_tests}
 use Rattle.transaction_codec.specs.First.{request_of, reply_of}
-use Rattle.reply_join.specs.declared.answer.Answer.{Answer}
-use Rattle.reply_join.proofs.Steps.{begun, step, cut_at, words_left, all_joined, joined_is}
+use Rattle.reply_join.proofs.Steps.{begun, answer_pushed, step, cut_at, words_left, all_joined, joined_is}
 use Rattle.reply_join.proofs.joining.join_reply.Goals as goal
 
 pub loop-asked-init : goal.loop-asked-init
@@ -12,10 +11,10 @@ pub loop-asked-preserved : goal.loop-asked-preserved
 loop-asked-preserved c =
     let request = c.next_request-request in
     let first = c.in-Ok.first in
-    let one : Answer → List Answer = λ answer. c.loop-asked.answers.items ++ answer ∷ [] in
+    let pushed = answer_pushed c.loop-asked.answers.items c.push.new.self.items _ _ c.in_ok-push-in-Ok.ensures.items c.in_ok-answer_of-in-Ok.ensures in
     step c.args.body.now c.args.reply.now c.loop-asked.asked.now c.loop-asked.rest.now request.result.rest.now first.rest.now c.loop-asked.answers.items (request_of request.result) (reply_of first)
     c.loop-asked.invariant request.ensures.is c.in-Ok.ensures.found.0 request.ensures.parts c.in-Ok.ensures.found.1
-    c.push.new.self.items c.left_after.new.answers.items c.in_ok-asked-in-Ok.asked.now (c.in_ok-push-in-Ok.ensures.items ∙ ap one c.in_ok-answer_of-in-Ok.ensures) request.ensures.rest
+    c.push.new.self.items c.left_after.new.answers.items c.in_ok-asked-in-Ok.asked.now pushed request.ensures.rest
     c.in_ok-asked-in-Ok.ensures
 
 pub returns-in-Err-clause-refused : goal.returns-in-Err-clause-refused

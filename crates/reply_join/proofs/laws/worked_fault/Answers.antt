@@ -1,4 +1,4 @@
-use Rattle.std.proofs.Common.{◌≡◌, inl, inr, ℕ, List, [], ◌∷◌, refl, arith, lit<, lit≤}
+use Rattle.std.proofs.Common.{inl, inr, [], ◌∷◌, refl, lit<, lit≤}
 use Rattle.transaction_codec.specs.declared.request.Request.{Request}
 use Rattle.transaction_codec.specs.declared.request.Op.TheVariants.{Read}
 use Rattle.transaction_codec.specs.declared.reply.Reply.{Reply}

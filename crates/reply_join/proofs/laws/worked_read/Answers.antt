@@ -1,4 +1,4 @@
-use Rattle.std.proofs.Common.{◌≡◌, inl, inr, ℕ, ◌+◌, ◌*◌, List, [], ◌∷◌, ◌++◌, refl, arith, lit<}
+use Rattle.std.proofs.Common.{◌≡◌, inl, inr, ℕ, ◌+◌, ◌*◌, [], ◌∷◌, refl, arith, lit<}
 use Rattle.transaction_codec.specs.declared.request.Request.{Request}
 use Rattle.transaction_codec.specs.declared.request.Op.TheVariants.{Read}
 use Rattle.transaction_codec.specs.declared.reply.Reply.{Reply}
@@ -6,7 +6,7 @@ use Rattle.transaction_codec.specs.Request.{IsRequest}
 use Rattle.transaction_codec.specs.Reply.{IsReply}
 use Rattle.transaction_codec.specs.Answer.{IsDone}
 use Rattle.reply_join.specs.Joining.{IsBody}
-use Rattle.reply_join.specs.Progress.{IsHeaderTo, IsOutcome, IsAnswer}
+use Rattle.reply_join.specs.Progress.{IsOutcome}
 use Rattle.reply_join.proofs.Garbled.{cut_garbled, garbled_later, garbled_end}
 use Rattle.reply_join.proofs.Joined.{joined_nothing, joined_done}
 use Rattle.reply_join.proofs.laws.worked_read.Goals as goal
