@@ -11,7 +11,7 @@ use Rattle.transaction_codec.specs.Reply.{IsReply, reply_words}
 use Rattle.transaction_codec.specs.Answer.{IsDone, IsFailed, IsReplyTo}
 use Rattle.reply_join.specs.Joining.{IsBody}
 use Rattle.reply_join.specs.Garbled.{BeginsReply, IsGarbledAt}
-use Rattle.reply_join.specs.Progress.{HasNoHeader, IsShort, IsCut}
+use Rattle.reply_join.specs.Progress.{HasNoHeader, IsShort}
 use Rattle.reply_join.proofs.Lists.{beyond, take_past, no_words}
 use Rattle.reply_join.proofs.Headers.{header_from, done_not_failed}
 use Rattle.reply_join.proofs.Parts.{Parts, same_reply, reply_parts, reply_to_nothing, nothing_replied, some_reply, answer_goes_on, first_answer, done_then, failed_last}
@@ -44,7 +44,7 @@ begins_nothing body reply is =
     let some = some_reply body is in
     (some.0, some.1, (some.0, refl))
 
-no_header : (request : Request) (asked words : List ℕ) → IsRequest request → IsBody (request_words request ++ asked) → HasNoHeader request words → IsGarbledAt (request_words request ++ asked) words 0
+pub no_header : (request : Request) (asked words : List ℕ) → IsRequest request → IsBody (request_words request ++ asked) → HasNoHeader request words → IsGarbledAt (request_words request ++ asked) words 0
 no_header request asked words is body bad =
     let longest : (front : List ℕ) → IsPrefix front words → BeginsReply (request_words request ++ asked) front → length front ≤ 0 =
     λ front prefix begins. no_front request asked words front is bad prefix begins in
@@ -67,7 +67,7 @@ short_is_none request asked words is short parts =
     let same = same_reply short.reply parts.reply [] (parts.rest ++ short.more) short.is.is parts.is joined in
     omega (arith, short.some, ap length same.1, length-append parts.rest short.more)
 
-ends_early : (request : Request) (asked words : List ℕ) → IsRequest request → IsBody asked → IsShort request words → IsGarbledAt (request_words request ++ asked) words (length words)
+pub ends_early : (request : Request) (asked words : List ℕ) → IsRequest request → IsBody asked → IsShort request words → IsGarbledAt (request_words request ++ asked) words (length words)
 ends_early request asked words is body short =
     let goes = answer_goes_on request short.reply asked is short.is body in
     let all : take (length words) words ≡ words = ap (take (length words)) (sym (append-nil words)) ∙ take_at words [] (length words) refl in
@@ -79,11 +79,6 @@ ends_early request asked words is body short =
       begins = (reply_words short.reply ++ goes.0, goes.1, (short.more ++ goes.0, spread ∙ ap (λ (ws : List ℕ). ws ++ (short.more ++ goes.0)) (sym all)));
       longest = λ front prefix begins. prefix_length front words prefix;
     }
-
-pub cut_garbled : (request : Request) (asked words : List ℕ) (begun : ℕ) → IsRequest request → IsBody asked → IsBody (request_words request ++ asked) → IsCut request words begun
-    → IsGarbledAt (request_words request ++ asked) words begun
-cut_garbled request asked words begun is rest body (inl bad) = subst (IsGarbledAt (request_words request ++ asked) words) (sym bad.0) (no_header request asked words is body bad.1)
-cut_garbled request asked words begun is rest body (inr short) = subst (IsGarbledAt (request_words request ++ asked) words) (sym short.0) (ends_early request asked words is rest short.1)
 
 -- ---- the words behind a reply to the first request
 

@@ -172,7 +172,7 @@ found_of request words after rest word count code kind n is fits parts head kind
     rw (kind_is, n_is, rest_is, parts) (rw n_is (whole_of request word count code after is head words_fit.1 (omega (arith, enough, n_is))))
 
 pub cut_of : (request : Request) (words after : List ℕ) (word count code n : ℕ) → IsRequest request → AreWords words → words ≡ word ∷ after → IsHeaderTo request word count code
-    → n ≡ values_after (op_kind request.op) count → length after < n → IsCut request words (length words)
+    → n ≡ values_after (op_kind request.op) count → length after < n → IsCut request words []
 cut_of request words after word count code n is fits parts head n_is few =
     let words_fit : AreWords (word ∷ after) = subst AreWords parts fits in
     inr (refl, subst (IsShort request) (sym parts) (short_of request word count code after is head words_fit.1 (omega (arith, few, n_is))))

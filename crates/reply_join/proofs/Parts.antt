@@ -165,7 +165,7 @@ module _ (body : List ℕ) (is : IsBody body) where
   rest_is_body request rest is_request parts = rest_of is.requests is.ranges is.spelled (request, rest) is_request parts
 
 -- no words begin every reply
-pub no_words_cut : (request : Request) (words : List ℕ) → IsRequest request → length words < 1 → IsCut request words 0
+pub no_words_cut : (request : Request) (words : List ℕ) → IsRequest request → length words < 1 → IsCut request words words
 no_words_cut request [] is none =
     let some = some_answer request is in
     inr (refl, record { reply = some.0; more = reply_words some.0; is = some.1; some = omega arith; spelled = refl })

@@ -12,7 +12,7 @@ use Rattle.reply_join.specs.Garbled.{IsGarbledAt}
 use Rattle.reply_join.specs.Progress.{IsAnswer, IsCut, AreSkipped}
 use Rattle.reply_join.proofs.Headers.{fault_is_no_success}
 use Rattle.reply_join.proofs.Parts.{reply_to_nothing}
-use Rattle.reply_join.proofs.Garbled.{cut_garbled, garbled_later, garbled_behind_fault, garbled_end}
+use Rattle.reply_join.proofs.Garbled.{no_header, ends_early, garbled_later, garbled_behind_fault, garbled_end}
 use Rattle.reply_join.proofs.Joined.{joined_nothing, joined_done, joined_failed, one_answers}
 
 -- What the requests and the words that are left give, the whole body and reply give: the answers so far stand before theirs, and
@@ -105,15 +105,19 @@ module _ (body reply asked rest asked_left rest_left : List ℕ) (answers : List
 
 -- ---- the ends
 
-pub cut_at : (body reply asked rest asked_left : List ℕ) (answers : List Answer) (request : Request) (begun : ℕ) → Underway body reply asked rest answers → IsRequest request
-    → asked ≡ request_words request ++ asked_left → IsBody asked_left → IsCut request rest begun → IsGarbledAt body reply (length reply - length rest + begun)
-cut_at body reply asked rest asked_left answers request begun under is parts left cut =
-    under.garbled begun (rw parts (cut_garbled request asked_left rest begun is left (subst IsBody parts under.requests) cut))
+pub cut_at : (body reply asked rest asked_left at_fault : List ℕ) (answers : List Answer) (request : Request) → Underway body reply asked rest answers → IsRequest request
+    → asked ≡ request_words request ++ asked_left → IsBody asked_left → IsCut request rest at_fault → IsGarbledAt body reply (length reply - length at_fault)
+cut_at body reply asked rest asked_left at_fault answers request under is parts later (inl bad) =
+    subst (IsGarbledAt body reply) (omega (arith, ap length bad.0))
+    (under.garbled 0 (rw parts (no_header request asked_left rest is (subst IsBody parts under.requests) bad.1)))
+cut_at body reply asked rest asked_left at_fault answers request under is parts later (inr short) =
+    subst (IsGarbledAt body reply) (omega (arith, under.within, ap length short.0))
+    (under.garbled (length rest) (rw parts (ends_early request asked_left rest is later short.1)))
 
 pub words_left : (body reply asked rest : List ℕ) (answers : List Answer) → Underway body reply asked rest answers → length asked ≡ 0 → 0 < length rest
-    → IsGarbledAt body reply (length reply - length rest + 0)
+    → IsGarbledAt body reply (length reply - length rest)
 words_left body reply asked rest answers under none some =
-    under.garbled 0 (rw (nil_from_length asked none) (garbled_end rest some))
+    subst (IsGarbledAt body reply) (omega arith) (under.garbled 0 (rw (nil_from_length asked none) (garbled_end rest some)))
 
 pub all_joined : (body reply asked rest : List ℕ) (answers : List Answer) → Underway body reply asked rest answers → length asked ≡ 0 → length rest ≡ 0 → IsJoined body reply answers
 all_joined body reply asked rest answers under none over =

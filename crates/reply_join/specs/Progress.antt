@@ -1,5 +1,5 @@
 -- What the steps of joining say of one request and the words that are left of the reply. No public clause speaks of it.
-use Rattle.std.specs.Prelude.{◌≡◌, ℕ, ◌<◌, ◌⊎◌, List, ◌∷◌, ◌++◌, length, replicate}
+use Rattle.std.specs.Prelude.{◌≡◌, ℕ, ◌<◌, ◌⊎◌, List, [], ◌∷◌, ◌++◌, length, replicate}
 use Rattle.transaction_codec.specs.declared.request.Op.{Op}
 use Rattle.transaction_codec.specs.declared.request.Request.{Request}
 use Rattle.transaction_codec.specs.declared.reply.Reply.{Reply}
@@ -43,10 +43,11 @@ pub record IsShort (request : Request) (words : List ℕ) : Type 0 where
   pub some : 0 < length more
   pub spelled : reply_words reply ≡ words ++ more
 
--- how many of the words begin a reply to the request, where no reply to it stands at their front
-abbrev pub IsCut : Request → List ℕ → ℕ → Type 0
-IsCut request words begun =
-    ((begun ≡ 0) × HasNoHeader request words) ⊎ ((begun ≡ length words) × IsShort request words)
+-- No reply to the request stands at the front of the words. What is left of them from the first word at fault on is all, for
+-- the header is at fault, or nothing, for the words end too early.
+abbrev pub IsCut : Request → List ℕ → List ℕ → Type 0
+IsCut request words at_fault =
+    ((at_fault ≡ words) × HasNoHeader request words) ⊎ ((at_fault ≡ []) × IsShort request words)
 
 -- each of these requests stands behind one that failed
 pub record AreSkipped (body : List ℕ) (answers : List Answer) : Type 0 where

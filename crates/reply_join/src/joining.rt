@@ -1,4 +1,4 @@
-ghost use Rattle.std.specs.Prelude.{◌≡◌, ◌≢◌, ◌⊎◌, ◌+◌, ◌-◌, ◌<◌, ◌≤◌, ◌++◌, List, [], ◌∷◌, length, IfOk, IfErr, MatchResult};
+ghost use Rattle.std.specs.Prelude.{◌≡◌, ◌≢◌, ◌⊎◌, ◌-◌, ◌<◌, ◌≤◌, ◌++◌, List, [], ◌∷◌, length, IfOk, IfErr, MatchResult};
 ghost use Rattle.transaction_codec.specs.First.{request_of, reply_of};
 ghost use Rattle.transaction_codec.specs.Request.{IsRequest, request_words};
 ghost use Rattle.transaction_codec.specs.Reply.{reply_words};
@@ -39,11 +39,11 @@ pub fn join_reply(alloc: Global, body: &[u32], reply: &[u32]) -> Result<Vec<Answ
                 asked = left_after(&first, request.rest, &mut answers)?;
                 rest = first.rest;
             }
-            Err(begun) => return Err(garbled_at(reply, rest, begun)),
+            Err(at_fault) => return Err(garbled_at(reply, at_fault)),
         }
     }
     if !rest.is_empty() {
-        return Err(garbled_at(reply, rest, 0));
+        return Err(garbled_at(reply, rest));
     }
     Ok(answers)
 }
@@ -63,22 +63,23 @@ fn next_request(body: &[u32]) -> FirstRequest<'_>
     }
 }
 
-/// The reply to the request at the front of the words, or how many of the words begin one.
-fn reply_to<'a>(request: &FirstRequest<'_>, words: &'a [u32]) -> Result<FirstReply<'a>, usize>
+/// The reply to the request at the front of the words, or what is left of them from the first word at fault on: all of them
+/// where that is the header, and nothing where they end too early.
+fn reply_to<'a>(request: &FirstRequest<'_>, words: &'a [u32]) -> Result<FirstReply<'a>, &'a [u32]>
     requires { IsRequest (request_of request.now) }
     ensures found { IfOk result (λ first. IsAnswer (request_of request.now) (reply_of first)
         × (words.now ≡ reply_words (reply_of first) ++ first.rest.now)) }
-    ensures cut { IfErr result (IsCut (request_of request.now) words.now) }
+    ensures cut { IfErr result (λ at_fault. IsCut (request_of request.now) words.now at_fault.now) }
 {
     let [word, after @ ..] = words else {
-        return Err(0);
+        return Err(words);
     };
     let Some(outcome) = outcome_of(request, *word) else {
-        return Err(0);
+        return Err(words);
     };
     let carried = values_after(&request.op, outcome.count);
     if after.len() < carried {
-        return Err(words.len());
+        return Err(&[]);
     }
     Ok(FirstReply {
         tid: request.tid,
@@ -123,14 +124,12 @@ fn skip(requests: &[u32], answers: &mut Vec<Answer>) -> Result<(), NoMemory>
     Ok(())
 }
 
-/// The refusal of a reply: with so many of its last words left, the first `begun` of them begin a reply to the rest of the
-/// body.
-fn garbled_at(reply: &[u32], rest: &[u32], begun: usize) -> JoinRefusal
-    requires within { length rest.now ≤ length reply.now }
-    requires few { begun ≤ length rest.now }
-    ensures { result ≡ JoinRefusal.Garbled (length reply.now - length rest.now + begun) }
+/// The refusal of a reply that ends with these words, of which the first is at fault.
+fn garbled_at(reply: &[u32], at_fault: &[u32]) -> JoinRefusal
+    requires { length at_fault.now ≤ length reply.now }
+    ensures { result ≡ JoinRefusal.Garbled (length reply.now - length at_fault.now) }
 {
-    let place = reply.len() - rest.len() + begun;
+    let place = reply.len() - at_fault.len();
     JoinRefusal::Garbled {
         place: place as u64,
     }

@@ -20,8 +20,8 @@ loop-asked-preserved c =
 pub returns-in-Err-clause-refused : goal.returns-in-Err-clause-refused
 returns-in-Err-clause-refused c =
     let request = c.next_request-request in
-    rw c.garbled_at.ensures (cut_at c.args.body.now c.args.reply.now c.loop-asked.asked.now c.loop-asked.rest.now request.result.rest.now c.loop-asked.answers.items (request_of request.result)
-    c.in-Err.begun c.loop-asked.invariant request.ensures.is request.ensures.parts request.ensures.rest c.in-Err.ensures.cut)
+    rw c.garbled_at.ensures (cut_at c.args.body.now c.args.reply.now c.loop-asked.asked.now c.loop-asked.rest.now request.result.rest.now c.in-Err.at_fault.now c.loop-asked.answers.items
+    (request_of request.result) c.loop-asked.invariant request.ensures.is request.ensures.parts request.ensures.rest c.in-Err.ensures.cut)
 
 pub returns-in-Err-clause-only : goal.returns-in-Err-clause-only
 returns-in-Err-clause-only c is =
