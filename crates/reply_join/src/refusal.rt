@@ -1,0 +1,38 @@
+ghost use Rattle.std.specs.Prelude.{◌≡◌};
+ghost use Rattle.reply_join.specs.declared.refusal.JoinRefusal.TheVariants.{NoMemory as no_memory};
+
+use ipb_base::NoMemory;
+use std::alloc::{AllocError, AllocFailed};
+
+/// Why a reply was not joined to a body.
+#[derive(Clone, Copy, Debug, PartialEq, Eq)]
+pub enum JoinRefusal {
+    /// No device gives this reply to this body. `place`, in words from 0, is the first word at fault, or the reply's length
+    /// where it ends too early.
+    Garbled { place: u64 },
+    NoMemory,
+}
+
+impl From<NoMemory> for JoinRefusal {
+    ghost from_gives = { λ _ refusal. refusal ≡ no_memory };
+
+    fn from(_error: NoMemory) -> JoinRefusal {
+        JoinRefusal::NoMemory
+    }
+}
+
+impl From<AllocError> for JoinRefusal {
+    ghost from_gives = { λ _ refusal. refusal ≡ no_memory };
+
+    fn from(_error: AllocError) -> JoinRefusal {
+        JoinRefusal::NoMemory
+    }
+}
+
+impl<T: Drop> From<AllocFailed<T>> for JoinRefusal {
+    ghost from_gives = { λ _ refusal. refusal ≡ no_memory };
+
+    fn from(_error: AllocFailed<T>) -> JoinRefusal {
+        JoinRefusal::NoMemory
+    }
+}
