@@ -1,10 +1,10 @@
 -- Reading digits from the front: the value so far, and what is still to come.
-use Rattle.std.proofs.Common.{◌≡◌, ℕ, ◌+◌, ◌*◌, ◌^◌, ◌<◌, ◌≤◌, List, [], ◌∷◌, length, drop, get_or, Bool, true, false, ◌&&◌, nat_lt, Option, Some, None, cond, refl, ap, sym, ◌∙◌, arith}
+use Rattle.std.proofs.Common.{◌≡◌, ℕ, ◌+◌, ◌*◌, ◌^◌, ◌<◌, ◌≤◌, List, ◌∷◌, length, drop, get_or, Bool, true, false, ◌&&◌, nat_lt, Option, Some, None, cond, refl, ap, ◌∙◌, arith}
 use Rattle.std.proofs.Math.Nat.{one-le-pow, le-mul_of_pos_right}
 use Rattle.std.proofs.lemmas.Bool.Decides.{nat_tests}
 use Rattle.std.proofs.lemmas.List.{at_drop_more, at_drop_all}
 use native.Mathlib.Numerals.{unary_clauses}
-use Rattle.address_table.specs.Numbers.{are_digits, digit_value, value_of_digits, word, digits_in_base}
+use Rattle.address_table.specs.Numbers.{are_digits, digit_value, value_of_digits, word}
 
 -- the number that more digits of the base make of the value so far
 abbrev pub continued : ℕ → ℕ → List ℕ → ℕ

@@ -2,7 +2,7 @@
 use Rattle.std.specs.Prelude.{ℕ, Bool, true, false, not, ◌&&◌, ◌||◌, ◌==◌, if◌then◌else◌, List, [], ◌∷◌, length, codes, Option, Some, None, is_some}
 use Rattle.std.specs.List.{list_all}
 use Rattle.std.specs.Option.{option_map_or}
-use Rattle.toml.specs.Data.{Data, table, Members, get_member, as_str}
+use Rattle.toml.specs.Data.{Data, table, Members, get_member}
 use Rattle.address_table.specs.Numbers.{is_between}
 use Rattle.address_table.specs.Keys.{has_node_keys, text_at, address_at, mask_at, size_at, permission_at, mode_at, nodes_at}
 use Rattle.address_table.specs.declared.kinds.Mode.{Mode}

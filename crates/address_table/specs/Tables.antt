@@ -1,10 +1,10 @@
 -- Tables of nodes: the value that a table is written as, and the first fault of a value that is no table.
-use Rattle.std.specs.Prelude.{◌≡◌, ℕ, ◌+◌, List, [], ◌∷◌, ◌++◌, map, codes, Option, Some, None, option_map, unwrap_or, slice_get}
+use Rattle.std.specs.Prelude.{◌≡◌, ℕ, ◌+◌, List, [], ◌∷◌, ◌++◌, map, codes, Option, Some, None, option_map, option_and_then, unwrap_or, slice_get}
 use Rattle.std.specs.List.{filter_map}
 use Rattle.std.specs.Ordering.{nat_cmp, match_ordering}
 use Rattle.std.specs.Cmp.Lexicographic.{slice_cmp}
-use Rattle.toml.specs.Data.{Data, array, table, Items, no_items, item, Members, no_members, member}
-use Rattle.address_table.specs.Keys.{text_at, address_at, mask_at, size_at, permission_at, mode_at, module_at, nodes_at}
+use Rattle.toml.specs.Data.{Data, array, table, Items, no_items, item, Members, no_members, member, get_member, as_array}
+use Rattle.address_table.specs.Keys.{text_at, address_at, mask_at, size_at, permission_at, mode_at, module_at}
 use Rattle.address_table.specs.Rules.{broken_rule, node_fault}
 use Rattle.address_table.specs.declared.refusal.TableWhy.{TableWhy}
 use Rattle.address_table.specs.declared.refusal.TableWhy.TheVariants.{Shape}
@@ -27,7 +27,7 @@ pub record SaysKeys (ms : Members) (n : Node) : Type 0 where
 
 -- the items that the children are written as
 abbrev pub children : Members → Items
-children ms = unwrap_or (nodes_at ms) no_items
+children ms = unwrap_or (option_and_then as_array (get_member (codes "nodes") ms)) no_items
 
 mutual
   -- The value is written so that it is this node: it keeps the rules, its keys say what the node has, and its array of

@@ -1,8 +1,8 @@
 //! The keys of one node: what they say, and the first rule that they break.
-ghost use Rattle.std.specs.Prelude.{◌≡◌, None, Some, codes, is_some, IfOk, IfErr, option_copied, option_map};
+ghost use Rattle.std.specs.Prelude.{◌≡◌, None, Some, codes, is_some, IfOk, IfErr, option_copied, option_map, option_and_then};
 ghost use Rattle.std.specs.List.{list_all};
-ghost use Rattle.toml.specs.Data.{get_member};
-ghost use Rattle.toml.specs.View.{view, table_view};
+ghost use Rattle.toml.specs.Data.{get_member, as_array};
+ghost use Rattle.toml.specs.View.{view, array_view, table_view};
 ghost use Rattle.address_table.specs.Numbers.{number as number_of};
 ghost use Rattle.address_table.specs.Keys as spec;
 ghost use Rattle.address_table.specs.Rules as rule;
@@ -10,6 +10,7 @@ ghost use Rattle.address_table.specs.Fields.{SaysFields};
 
 use crate::kinds::{mode_named, permission_named};
 use crate::{Mode, Permission, TableWhy, number};
+use toml::value::Array;
 use toml::{Table, Value};
 
 /// The most words of a block or a port.
@@ -186,7 +187,7 @@ fn takes_size(mode: Mode, size: u32) -> bool
 }
 
 /// The value at a key.
-pub(crate) fn value_at<'a>(members: &'a Table, key: &str) -> Option<&'a Value>
+fn value_at<'a>(members: &'a Table, key: &str) -> Option<&'a Value>
     ensures { option_map (λ value. view value.now) result ≡ get_member key.now (table_view members.now) }
 {
     members.get(key)
@@ -209,6 +210,16 @@ fn has_array_of_nodes(members: &Table) -> bool
     match value_at(members, "nodes") {
         Some(value) => value.is_array(),
         None => true,
+    }
+}
+
+/// The items that the children are written as, where there are any.
+pub(crate) fn child_items(members: &Table) -> Option<&Array>
+    ensures { option_map (λ items. array_view items.now) result ≡ option_and_then as_array (get_member (codes "nodes") (table_view members.now)) }
+{
+    match value_at(members, "nodes") {
+        Some(value) => value.as_array(),
+        None => None,
     }
 }
 

@@ -5,6 +5,7 @@
 mod copies;
 mod keys;
 mod kinds;
+pub mod laws;
 mod nodes;
 mod numbers;
 mod read;
@@ -19,3 +20,6 @@ pub use numbers::{number, number_in_text};
 pub use read::read_table;
 pub use refusal::{Path, TableRefusal, TableWhy};
 pub use text::Text;
+
+#[cfg(test)]
+mod tests;

@@ -6,7 +6,7 @@ ghost use Rattle.address_table.specs.Fields.{SaysFields};
 ghost use Rattle.address_table.specs.Tables.{IsTable, IsNode, AreNodes, IsFault, table_fault, first_fault, preorder, preorder_items, children};
 
 use crate::copies::{copy_at, copy_module, refused_below, refused_here};
-use crate::keys::{Fields, read_fields, value_at};
+use crate::keys::{Fields, child_items, read_fields};
 use crate::{Node, Table, TableRefusal, TableWhy};
 use std::alloc::Global;
 use toml::Value;
@@ -85,8 +85,8 @@ fn read_children(alloc: Global, members: &toml::Table) -> Result<Vec<Node>, Tabl
     ensures read { IfOk result (λ nodes. AreNodes (children (table_view members.now)) nodes.items) }
     ensures refused { IfErr result (λ refusal. IsFault (first_fault (preorder_items 0 (children (table_view members.now)))) refusal) }
 {
-    match value_at(members, "nodes") {
-        Some(Value::Array(items)) => read_nodes(alloc, items),
-        _ => Ok(Vec::new(alloc)),
+    match child_items(members) {
+        Some(items) => read_nodes(alloc, items),
+        None => Ok(Vec::new(alloc)),
     }
 }

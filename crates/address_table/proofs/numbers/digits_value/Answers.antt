@@ -1,6 +1,6 @@
-use Rattle.std.proofs.Common.{◌≡◌, ◌<◌, ◌≤◌, ◌+◌, ◌*◌, ◌^◌, get_or, length, sym, subst, ◌∙◌, arith}
+use Rattle.std.proofs.Common.{◌≡◌, ◌<◌, ◌≤◌, ◌+◌, ◌*◌, ◌^◌, get_or, sym, ◌∙◌, arith}
 use Rattle.address_table.specs.Numbers.{digit_value}
-use Rattle.address_table.proofs.Digits.{number_after, next_digit, no_digit, past_word, last_digit}
+use Rattle.address_table.proofs.Digits.{next_digit, past_word, last_digit}
 use Rattle.address_table.proofs.numbers.digits_value.Goals as goal
 
 pub returns-in_err-checked_mul : goal.returns-in_err-checked_mul
