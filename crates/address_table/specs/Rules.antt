@@ -75,7 +75,7 @@ rules ms =
     ∷ register_rules ms
 
 -- the first rule that is not kept
-abbrev pub first_broken : List (TableWhy × Bool) → Option TableWhy
+abbrev pub first_broken : {Why : Type 0} → List (Why × Bool) → Option Why
 first_broken [] = None
 first_broken (rule ∷ rest) = if rule.1 then first_broken rest else Some rule.0
 
