@@ -1,5 +1,5 @@
 -- Modules: tables whose nodes are the children of nodes of other tables.
-use Rattle.std.specs.Prelude.{◌≡◌, Bool, true, false, List, [], ◌∷◌, ◌++◌, Option, Some, None}
+use Rattle.std.specs.Prelude.{◌≡◌, ◌⊎◌, Bool, true, false, List, [], ◌∷◌, ◌++◌, Option, Some, None}
 use Rattle.std.specs.List.{AllByRecursion}
 use Rattle.std.specs.Ordering.{nat_cmp}
 use Rattle.std.specs.Cmp.Lexicographic.{slice_cmp}
@@ -19,9 +19,21 @@ pub data Reaches (tables : TableMap) : Name → Name → Type 0 where
   direct : (a b : Name) → Mentions (nodes_of tables a) b → Reaches tables a b
   through : (a b c : Name) → Mentions (nodes_of tables a) b → Reaches tables b c → Reaches tables a c
 
+-- a map with a name
+abbrev pub IsIn : {V : Type 0} → FinMap (slice_cmp nat_cmp) V → Name → Type 0
+IsIn map name = contains_key map name ≡ true
+
+-- the map has each module of the nodes
+abbrev pub HasAll : {V : Type 0} → FinMap (slice_cmp nat_cmp) V → List Node → Type 0
+HasAll map ns = (m : Name) → Mentions ns m → IsIn map m
+
+-- the nodes have a module that the map has not
+abbrev pub LacksOne : {V : Type 0} → FinMap (slice_cmp nat_cmp) V → List Node → Type 0
+LacksOne map ns = (m : Name) × Mentions ns m × (contains_key map m ≡ false)
+
 -- a table has a module that is no table
 abbrev pub HasUnknown : TableMap → Name → Type 0
-HasUnknown tables name = (m : Name) × Mentions (nodes_of tables name) m × (get tables m ≡ None)
+HasUnknown tables name = LacksOne tables (nodes_of tables name)
 
 abbrev pub ReachesItself : TableMap → Name → Type 0
 ReachesItself tables name = Reaches tables name name
@@ -43,16 +55,11 @@ pub record IsFirstTable (tables : TableMap) (P : Name → Type 0) (name : Name) 
 abbrev pub NameSet : Type 0
 NameSet = FinMap (slice_cmp nat_cmp) (Unit {0})
 
-abbrev pub IsIn : NameSet → Name → Type 0
-IsIn set name = contains_key set name ≡ true
-
--- the set has each module of the nodes
-abbrev pub HasAll : NameSet → List Node → Type 0
-HasAll set ns = (m : Name) → Mentions ns m → IsIn set m
-
--- the nodes have a module that is not in the set
-abbrev pub LacksOne : NameSet → List Node → Type 0
-LacksOne set ns = (m : Name) × Mentions ns m × (contains_key set m ≡ false)
+-- a set after some names were added
+pub record Adds (old new : NameSet) (P : Name → Type 0) : Type 0 where
+  pub kept : (m : Name) → IsIn old m → IsIn new m
+  pub added : (m : Name) → P m → IsIn new m
+  pub only : (m : Name) → IsIn new m → IsIn old m ⊎ P m
 
 -- the tables of the set have all their modules in it
 abbrev pub IsClosed : TableMap → NameSet → Type 0

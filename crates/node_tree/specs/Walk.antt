@@ -30,7 +30,7 @@ siblings walk_below tables level above base (n ∷ ns) =
 -- before its children, and these before its later siblings.
 unfoldable pub walk : TableMap → ℕ → ℕ → Name → ℕ → List Node → List Visit
 walk tables zero level above base ns = []
-walk tables (suc levels) level above base ns = siblings (walk tables levels (suc level)) tables level above base ns
+walk tables (suc levels) level above base ns = siblings (walk tables levels (level + 1)) tables level above base ns
 
 -- The walk from a root. A node at the 17th level breaks a rule, so what is below it is not looked at.
 abbrev pub root_walk : TableMap → Name → List Visit
@@ -59,14 +59,12 @@ visit_rules before v =
     ∷ (AddressPastEnd, nat_lt (last_address v.register) (2 ^ 32))
     ∷ []
 
-abbrev pub or_else : {T : Type 0} → Option T → Option T → Option T
-or_else None other = other
-or_else (Some x) other = Some x
+-- the fault of a node, or else that of the rest
+abbrev pub fault_or : Visit → Option CompileWhy → Option (Name × CompileWhy) → Option (Name × CompileWhy)
+fault_or v None rest = rest
+fault_or v (Some why) rest = Some (v.name, why)
 
 -- the first node that breaks a rule, with the rule
 abbrev pub first_fault : List Visit → List Visit → Option (Name × CompileWhy)
 first_fault before [] = None
-first_fault before (v ∷ vs) = fault_or v (first_broken (visit_rules before v)) (first_fault (v ∷ before) vs) where
-  fault_or : Visit → Option CompileWhy → Option (Name × CompileWhy) → Option (Name × CompileWhy)
-  fault_or v None rest = rest
-  fault_or v (Some why) rest = Some (v.name, why)
+first_fault before (v ∷ vs) = fault_or v (first_broken (visit_rules before v)) (first_fault (v ∷ before) vs)

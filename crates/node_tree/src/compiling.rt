@@ -13,6 +13,7 @@ use crate::walking::{Fault, Found, nodes_of, walk};
 use crate::{CompileRefusal, CompileWhy, Index, NoMemory, Register, Tables};
 use address_table::Text;
 use std::alloc::Global;
+use std::collections::BTreeMap;
 
 /// The index of the registers that a table names (uHAL). The tables are compiled exactly where they break no rule of
 /// `CompileWhy`, and then the index has the registers that the root names and no others.
@@ -86,6 +87,13 @@ fn index_of(alloc: Global, found: Found) -> Result<Index, NoMemory>
     ensures { IfOk result (λ index. index ≡ found.names) }
 {
     let Found { names, count: _ } = found;
-    let entries: Vec<(String, Register)> = names.into_entries().into_iter().collect(alloc)?;
+    let entries = listed(alloc, names.into_entries())?;
     Ok(Index::from_sorted(entries))
+}
+
+/// The entries of a map, in order.
+fn listed(alloc: Global, names: BTreeMap<String, Register>) -> Result<Vec<(String, Register)>, NoMemory>
+    ensures { IfOk result (λ list. list.items ≡ names.entries) }
+{
+    Ok(names.into_iter().collect(alloc)?)
 }

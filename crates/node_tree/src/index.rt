@@ -53,7 +53,8 @@ impl Index {
     pub fn len(&self) -> usize
         ensures { result ≡ map.len self.now }
     {
-        self.entries.as_slice().len()
+        let entries = self.entries.as_slice();
+        entries.len()
     }
 
     pub fn is_empty(&self) -> bool

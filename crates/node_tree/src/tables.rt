@@ -56,6 +56,12 @@ impl Tables {
         self.by_name.get(name)
     }
 
+    pub(crate) fn by_name(&self) -> &NameMap<Table>
+        ensures { result.now ≡ self.now }
+    {
+        &self.by_name
+    }
+
     /// The names and tables, in byte order of the names.
     pub(crate) fn entries(&self) -> &BTreeMap<String, Table>
         ensures { named result.now.entries ≡ map.entries self.now }

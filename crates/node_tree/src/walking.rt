@@ -67,8 +67,14 @@ pub(crate) fn walk(
 {
     for node in nodes {
         let name = dotted(alloc, above, node.id.as_str())?;
-        let address = visit(alloc, name.as_str(), base, level, node, found)?;
-        walk(alloc, tables, children(tables, node), name.as_str(), address, level + 1, found)?;
+        let address = match visit(alloc, name.as_str(), base, level, node, found) {
+            Ok(address) => address,
+            Err(fault) => return Err(fault),
+        };
+        let below = children(tables, node);
+        if let Err(fault) = walk(alloc, tables, below, name.as_str(), address, level + 1, found) {
+            return Err(fault);
+        }
     }
     Ok(())
 }
