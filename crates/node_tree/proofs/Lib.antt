@@ -4,3 +4,6 @@ pub mod Runs
 pub mod Faults
 pub mod MentionLemmas
 pub mod SetLemmas
+pub mod EntryLemmas
+pub mod NamesLemmas
+pub mod CycleLemmas

@@ -24,7 +24,7 @@ pub in-added : (set : NameSet) (k : Name) → IsIn (insert set k tt) k
 in-added set k =
     ap is_some (get-insert nat_list_cmp_total set k tt k) ∙ ap (λ o. is_some (cond (is_eq o) (Some tt) (get set k))) (tied_itself nat_list_cmp_total k)
 
-equal_of : (o : Ordering) → is_eq o ≡ true → o ≡ Equal
+pub equal_of : (o : Ordering) → is_eq o ≡ true → o ≡ Equal
 equal_of Less h = absurd (false≢true h)
 equal_of Equal h = refl
 equal_of Greater h = absurd (false≢true h)

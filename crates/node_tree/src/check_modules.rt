@@ -66,8 +66,9 @@ pub(crate) fn add_modules(
 fn add_module(alloc: Global, set: &mut NameMap<()>, node: &Node) -> Result<(), NoMemory>
     ensures { IfOk result (λ _. Adds set.old set.new (λ m. (out-Node node.now).«module» ≡ Some m)) }
 {
-    match &node.module {
-        Some(name) => set.insert(alloc, name.as_str(), ()),
-        None => Ok(()),
+    if let Some(name) = &node.module {
+        set.insert(alloc, name.as_str(), ())?;
+        return Ok(());
     }
+    Ok(())
 }

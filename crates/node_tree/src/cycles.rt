@@ -1,7 +1,7 @@
 //! Tables that lead to themselves through modules.
 ghost use Rattle.std.specs.Prelude.{◌≡◌, MatchBool, MatchOption, IfOk};
 ghost use Rattle.node_tree.specs.Maps.{nodes_of as table_nodes, Name};
-ghost use Rattle.node_tree.specs.Modules.{Mentions, Reaches, HasUnknown, ReachesItself, NoTable, IsFirstTable, IsIn, IsClosed, LacksOne, Ends};
+ghost use Rattle.node_tree.specs.Modules.{Mentions, Reaches, HasUnknown, ReachesItself, NoTable, IsFirstTable, IsIn, IsClosed, HasAll, LacksOne, Ends};
 
 use crate::check_modules::{add_modules, has_modules};
 use crate::name_map::NameMap;
@@ -20,7 +20,8 @@ pub(crate) fn first_cycle<'a>(
 {
     let ended = ending(alloc, tables)?;
     for (name, _table) in tables.entries() {
-        if leads_to_itself(alloc, tables, &ended, name.as_str())? {
+        let leads = leads_to_itself(alloc, tables, &ended, name.as_str())?;
+        if leads {
             return Ok(Some(name.as_str()));
         }
     }
@@ -42,7 +43,10 @@ fn leads_to_itself(
         return Ok(false);
     }
     let reached = reached_from(alloc, tables, name)?;
-    Ok(reached.contains(name))
+    if reached.contains(name) {
+        return Ok(true);
+    }
+    Ok(false)
 }
 
 /// Tables that do not lead to themselves: those whose modules, and theirs, come to an end. It goes over the tables again
@@ -51,7 +55,7 @@ fn ending(alloc: Global, tables: &Tables) -> Result<NameMap<()>, NoMemory>
     ensures { IfOk result (λ ended. Ends tables.now ended) }
 {
     let mut ended = NameMap::new(alloc);
-    for _ in 0..tables.entries().len() {
+    'rounds: for _ in 0..tables.entries().len() {
         if !end_more(alloc, tables, &mut ended)? {
             break;
         }
@@ -62,16 +66,36 @@ fn ending(alloc: Global, tables: &Tables) -> Result<NameMap<()>, NoMemory>
 /// Adds the tables whose modules all come to an end, and says whether there was one.
 fn end_more(alloc: Global, tables: &Tables, ended: &mut NameMap<()>) -> Result<bool, NoMemory>
     requires { Ends tables.now ended.old }
-    ensures { Ends tables.now ended.new }
+    ensures { IfOk result (λ _. Ends tables.now ended.new) }
 {
     let mut grew = false;
     for (name, table) in tables.entries() {
-        if !ended.contains(name.as_str()) && has_modules(ended, &table.nodes) {
-            ended.insert(alloc, name.as_str(), ())?;
-            grew = true;
-        }
+        let added = end_one(alloc, tables, ended, name.as_str(), &table.nodes)?;
+        grew |= added;
     }
     Ok(grew)
+}
+
+/// Adds a table if its modules all come to an end and it was not there.
+fn end_one(
+    alloc: Global,
+    tables: &Tables,
+    ended: &mut NameMap<()>,
+    name: &str,
+    nodes: &[Node],
+) -> Result<bool, NoMemory>
+    requires ended { Ends tables.now ended.old }
+    requires its_nodes { table_nodes tables.now name.now ≡ nodes.now }
+    ensures { IfOk result (λ _. Ends tables.now ended.new) }
+{
+    if ended.contains(name) {
+        return Ok(false);
+    }
+    if !has_modules(ended, nodes) {
+        return Ok(false);
+    }
+    ended.insert(alloc, name, ())?;
+    Ok(true)
 }
 
 /// The tables that a table leads to.
@@ -93,9 +117,19 @@ fn next_open<'a>(tables: &'a Tables, set: &NameMap<()>) -> Option<&'a [Node]>
     ensures { MatchOption result (IsClosed tables.now set.now) (λ nodes. (a : Name) × IsIn set.now a × (nodes.now ≡ table_nodes tables.now a) × LacksOne set.now nodes.now) }
 {
     for (name, table) in tables.entries() {
-        if set.contains(name.as_str()) && !has_modules(set, &table.nodes) {
+        if is_open(set, name.as_str(), &table.nodes) {
             return Some(table.nodes.as_slice());
         }
     }
     None
+}
+
+/// Whether a table is in a set, and some module of its nodes is not.
+fn is_open(set: &NameMap<()>, name: &str, nodes: &[Node]) -> bool
+    ensures { MatchBool result (IsIn set.now name.now × LacksOne set.now nodes.now) (IsIn set.now name.now → HasAll set.now nodes.now) }
+{
+    if !set.contains(name) {
+        return false;
+    }
+    !has_modules(set, nodes)
 }

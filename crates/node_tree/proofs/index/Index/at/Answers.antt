@@ -1,4 +1,4 @@
-use Rattle.std.proofs.Common.{◌≡◌, ◌<◌, sym, ap, ◌∙◌, length, get_or, slice_get, subst, Some}
+use Rattle.std.proofs.Common.{◌≡◌, ◌<◌, sym, ap, ◌∙◌, length, get_or, slice_get, subst, Some, arith}
 use Rattle.std.specs.FinMap.{len, entries}
 use Rattle.node_tree.specs.Named.{named}
 use Rattle.node_tree.proofs.NamedLemmas.{len-named, at-named}
@@ -9,6 +9,13 @@ bounds-entries-i c =
     let whole = len-named c.self.inside.entries.items c.self.invariant in
     let same : len c.args.self.now ≡ length c.as_slice-entries.result.now = ap len (sym c.self.view_is) ∙ whole ∙ ap length (sym c.as_slice-entries.ensures.value) in
     subst (λ n. c.args.i < n) same c.requires
+
+pub offset_bounds-entries-i : goal.offset_bounds-entries-i
+offset_bounds-entries-i c =
+    let whole = len-named c.self.inside.entries.items c.self.invariant in
+    let same : len c.args.self.now ≡ length c.as_slice-entries.result.now = ap len (sym c.self.view_is) ∙ whole ∙ ap length (sym c.as_slice-entries.ensures.value) in
+    let within : c.args.i < length c.as_slice-entries.result.now = subst (λ n. c.args.i < n) same c.requires in
+    omega (arith, c.as_slice-entries.type_inv.1)
 
 pub returns : goal.returns
 returns c =
