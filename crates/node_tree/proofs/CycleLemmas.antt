@@ -3,13 +3,13 @@ use Rattle.std.proofs.Common.{◌≡◌, ◌⊎◌, inl, inr, ℕ, ◌+◌, ◌<
 use Rattle.std.proofs.lemmas.Bool.{false≢true}
 use Rattle.std.specs.Option.{option_map_or}
 use Rattle.std.specs.List.{AllByRecursion}
-use Rattle.std.specs.FinMap.{get, entries, contains_key, insert, find, get-entries, nat_cmp-IsAntisymmetric, slice_cmp-IsAntisymmetric}
+use Rattle.std.specs.FinMap.{get, entries, contains_key, insert, empty, find, get-entries, nat_cmp-IsAntisymmetric, slice_cmp-IsAntisymmetric}
 use Rattle.address_table.specs.declared.nodes.Node.{Node}
 use Rattle.address_table.specs.declared.nodes.Table.{Table}
 use Rattle.node_tree.specs.Maps.{Name, TableMap, nodes_of}
 use Rattle.node_tree.specs.Modules.{Mentions, Reaches, direct, through, ReachesItself, NoTable, HasUnknown, NameSet, IsIn, HasAll, LacksOne, IsClosed, Ends}
 use Rattle.node_tree.proofs.MentionLemmas.{none_mentioned}
-use Rattle.node_tree.proofs.SetLemmas.{in-kept, in-added, in-only, equal_of}
+use Rattle.node_tree.proofs.SetLemmas.{not_in_empty, in-kept, in-added, in-only, equal_of}
 use Rattle.std.specs.Ordering.{eq_by_cmp}
 use Rattle.node_tree.proofs.NamedLemmas.{by_bytes}
 use Rattle.node_tree.proofs.EntryLemmas.{all-get}
@@ -24,7 +24,7 @@ pub reach-more : (tables : TableMap) (a b c : Name) → Reaches tables a b → M
 reach-more tables a b c (direct x y mention) next = through x y c mention (direct y c next)
 reach-more tables a b c (through x y z mention more) next = through x y c mention (reach-more tables y z c more next)
 
-either : {A B C : Type 0} → A ⊎ B → (A → C) → (B → C) → C
+pub either : {A B C : Type 0} → A ⊎ B → (A → C) → (B → C) → C
 either (inl a) f g = f a
 either (inr b) f g = g b
 
@@ -103,3 +103,6 @@ known_at tables a m known (Some t) None is found mention =
 -- where all modules are known, a module is a table
 pub known-module : (tables : TableMap) (a m : Name) → NoTable tables (HasUnknown tables) → Mentions (nodes_of tables a) m → (t : Table) × (get tables m ≡ Some t)
 known-module tables a m known mention = known_at tables a m known (get tables a) (get tables m) refl refl mention
+
+pub Ends-empty : (tables : TableMap) → Ends tables empty
+Ends-empty tables = record { closed = λ a h. absurd (not_in_empty a h); acyclic = λ a h. absurd (not_in_empty a h) }

@@ -15,20 +15,20 @@ use Rattle.node_tree.specs.Named.{Name, named}
 use Rattle.node_tree.proofs.NamedLemmas.{by_bytes}
 use Rattle.node_tree.proofs.SetLemmas.{equal_of}
 
-first : (a b : Bool) → T (a && b) → T a
+pub first : (a b : Bool) → T (a && b) → T a
 first true b h = tt
 first false b h = absurd h
 
-second : (a b : Bool) → T (a && b) → T b
+pub second : (a b : Bool) → T (a && b) → T b
 second true b h = h
 second false b h = absurd h
 
-less_of : (o : Ordering) → T (is_lt o) → o ≡ Less
+pub less_of : (o : Ordering) → T (is_lt o) → o ≡ Less
 less_of Less h = refl
 less_of Equal h = absurd h
 less_of Greater h = absurd h
 
-apart : (x k : Name) → T (is_lt (by_bytes x k)) → eq_by_cmp by_bytes k x ≡ false
+pub apart : (x k : Name) → T (is_lt (by_bytes x k)) → eq_by_cmp by_bytes k x ≡ false
 apart x k h = ap is_eq (nat_list_cmp_total.antisymm k x ∙ ap ordering_reverse (less_of (by_bytes x k) h))
 
 module _ {V : Type 0} where

@@ -7,3 +7,5 @@ pub mod SetLemmas
 pub mod EntryLemmas
 pub mod NamesLemmas
 pub mod CycleLemmas
+pub mod SearchLemmas
+pub mod Compiled

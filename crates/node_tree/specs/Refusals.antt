@@ -2,7 +2,7 @@
 use Rattle.std.specs.Prelude.{◌≡◌, ◌⊎◌, List, [], Option, Some, None, IsSome}
 use Rattle.std.specs.FinMap.{get}
 use Rattle.node_tree.specs.declared.refusal.CompileWhy.{CompileWhy}
-use Rattle.node_tree.specs.declared.refusal.CompileWhy.TheVariants.{UnknownModule, ModuleCycle, TooMany, TooDeep, Duplicate, AddressPastEnd}
+use Rattle.node_tree.specs.declared.refusal.CompileWhy.TheVariants.{UnknownModule, ModuleCycle}
 use Rattle.node_tree.specs.declared.refusal.CompileRefusal.{CompileRefusal}
 use Rattle.node_tree.specs.declared.refusal.CompileRefusal.TheVariants.{At, NoMemory}
 use Rattle.node_tree.specs.Maps.{Name, TableMap}
@@ -34,18 +34,12 @@ abbrev pub TellsNode : TableMap → Name → Name → Name → CompileWhy → Ty
 TellsNode tables root name path why =
     AreKnown tables root × NoTable tables (ReachesItself tables) × (name ≡ root) × (first_fault [] (root_walk tables root) ≡ Some (path, why))
 
--- the table and the path that are told with each rule
-abbrev pub Tells : TableMap → Name → Name → Name → CompileWhy → Type 0
-Tells tables root name path UnknownModule = (path ≡ []) × TellsUnknown tables root name
-Tells tables root name path ModuleCycle = (path ≡ []) × TellsCycle tables root name
-Tells tables root name path TooMany = TellsNode tables root name path TooMany
-Tells tables root name path TooDeep = TellsNode tables root name path TooDeep
-Tells tables root name path Duplicate = TellsNode tables root name path Duplicate
-Tells tables root name path AddressPastEnd = TellsNode tables root name path AddressPastEnd
-
--- a refusal tells the first rule that is broken, want of memory aside
+-- A refusal tells the first rule that is broken, want of memory aside: an unknown module, then a cycle of modules, and
+-- then a rule that the first faulty node breaks.
 abbrev pub IsRefusal : TableMap → Name → CompileRefusal → Type 0
-IsRefusal tables root (At name path why) = Tells tables root name path why
+IsRefusal tables root (At name path why) =
+    ((why ≡ UnknownModule) × (path ≡ []) × TellsUnknown tables root name)
+    ⊎ (((why ≡ ModuleCycle) × (path ≡ []) × TellsCycle tables root name) ⊎ TellsNode tables root name path why)
 IsRefusal tables root NoMemory = Unit {0}
 
 -- a refusal tells this table, path and rule, want of memory aside

@@ -1,4 +1,4 @@
-ghost use Rattle.std.specs.Prelude.{◌≡◌, ◌<◌, ◌==◌, slice_get};
+ghost use Rattle.std.specs.Prelude.{◌≡◌, ◌<◌, ◌==◌, slice_get, string_bytes};
 ghost use Rattle.std.specs.Prelude.{T};
 ghost use Rattle.std.specs.Ordering.{nat_cmp};
 ghost use Rattle.std.specs.Cmp.Lexicographic.{slice_cmp};
@@ -6,6 +6,7 @@ ghost use Rattle.std.specs.FinMap as map;
 ghost use Rattle.node_tree.specs.Named.{named};
 
 use crate::Register;
+use std::cmp::Ordering;
 use std::marker::Model;
 
 /// The registers that a table names. Contracts see the map from the bytes of the names to the registers.
@@ -79,8 +80,15 @@ fn found_in(entries: &[(String, Register)], name: &str) -> Option<Register>
     requires { T (map.is_sorted (slice_cmp nat_cmp) (named entries.now)) }
     ensures { result ≡ map.find (slice_cmp nat_cmp) name.now (named entries.now) }
 {
-    match entries.binary_search_by(|entry| entry.0.as_str().cmp(name)) {
+    match entries.binary_search_by(|entry| order(entry, name)) {
         Ok(i) => Some(entries[i].1),
         Err(_) => None,
     }
+}
+
+/// How the name of an entry stands to another, in byte order.
+fn order(entry: &(String, Register), name: &str) -> Ordering
+    ensures { result ≡ slice_cmp nat_cmp (string_bytes entry.now.0) name.now }
+{
+    entry.0.as_str().cmp(name)
 }

@@ -1,6 +1,7 @@
 use Rattle.std.proofs.Common.{◌≡◌, List, [], ◌∷◌, ◌++◌, sym, ap, subst, ◌∙◌, string_bytes}
 use Rattle.std.specs.List.{AllByRecursion}
 use Rattle.std.specs.FinMap.{entries}
+use Rattle.node_tree.specs.Maps.{nodes_of}
 use Rattle.node_tree.specs.Named.{named}
 use Rattle.node_tree.specs.Modules.{Mentions, HasAll, LacksOne, IsIn}
 use Rattle.node_tree.proofs.EntryLemmas.{next_place, past_place, no_more, nodes-entry, all-push}
@@ -22,7 +23,16 @@ loop-name-preserved c =
     )
 
 pub returns-then-is_open : goal.returns-then-is_open
-returns-then-is_open c = ?
+returns-then-is_open c =
+    let (done, place, all) = c.loop-name.invariant in
+    let next = next_place c.args.tables.now done (c.in-Some.name.now, c.in-Some.table.now) c.next.new.self _ place c.in-Some.ensures.steps in
+    let nodes = ap (nodes_of c.args.tables.now) c.as_str.ensures.value ∙ nodes-entry c.args.tables.now _ c.in-Some.table.now done _ next in
+    (
+      c.as_str.result.now,
+      c.if-is_open.ensures.0,
+      c.as_slice.ensures.value ∙ sym nodes,
+      subst (LacksOne c.args.set.now) (c.deref.ensures.value ∙ sym c.as_slice.ensures.value) c.if-is_open.ensures.1,
+    )
 
 pub returns : goal.returns
 returns c =
