@@ -13,12 +13,17 @@ use Rattle.node_tree.specs.declared.refusal.CompileWhy.TheVariants.{TooMany, Too
 use Rattle.node_tree.specs.declared.walking.Found.{Found}
 use Rattle.node_tree.specs.Maps.{Name, RegisterMap, TableMap, nodes_of}
 use Rattle.node_tree.specs.Names.{RootNames}
-use Rattle.node_tree.specs.Walk.{Visit, siblings, walk, root_walk}
+use Rattle.node_tree.specs.Walk.{Visit, siblings, walk, root_walk, first_fault}
 use Rattle.node_tree.specs.Run.{run, run_on, visit_next, step, found_more}
 use Rattle.node_tree.proofs.NamedLemmas.{by_bytes}
 use Rattle.node_tree.proofs.SetLemmas.{equal_of}
 use Rattle.node_tree.proofs.Runs.{Outcome}
-use Rattle.node_tree.proofs.Faults.{Agree}
+use Rattle.node_tree.specs.declared.refusal.CompileWhy.{CompileWhy}
+use Rattle.node_tree.specs.declared.refusal.CompileRefusal.{CompileRefusal}
+use Rattle.node_tree.specs.declared.refusal.CompileRefusal.TheVariants.{At, NoMemory}
+use Rattle.node_tree.specs.Modules.{NoTable, ReachesItself}
+use Rattle.node_tree.specs.Refusals.{AreKnown, TellsNode, IsRefusal, Refuses}
+use Rattle.node_tree.proofs.Faults.{Agree, fault_of, run-first_fault}
 use Rattle.node_tree.proofs.NamesLemmas.{Listed, HasLevel, listed-named, named-listed}
 
 ok_rules : (found next : Found) (v : Visit) (a b c d : Bool)
@@ -123,7 +128,7 @@ pub root_walk-siblings : (tables : TableMap) (root : Name) → siblings (walk ta
 unfolding walk
 root_walk-siblings tables root = refl
 
-named_side : (tables : TableMap) (root : Name) (more : Found) (q : Name) (r : Register) → (get empty q ≡ Some r) ⊎ Listed (root_walk tables root) q r → RootNames tables root q r
+named_side : (tables : TableMap) (root : Name) (more : Found) (q : Name) (r : Register) → (get {R = by_bytes} empty q ≡ Some r) ⊎ Listed (root_walk tables root) q r → RootNames tables root q r
 named_side tables root more q r (inl none) = let bad : ⊥ = cc (get-empty {X = Register} by_bytes q) in absurd bad
 named_side tables root more q r (inr listed) = listed-named tables 17 1 [] 0 (nodes_of tables root) q r listed
 
@@ -137,3 +142,15 @@ names-iff tables root more h q r = (
   λ there. named_side tables root more q r (run-found (root_walk tables root) start more q r h there),
   λ named. found_side tables root more q r h (named-listed tables 16 1 [] 0 (nodes_of tables root) q r named),
 )
+
+refuses_node : (tables : TableMap) (root path : Name) (why : CompileWhy) (refusal : CompileRefusal) → Refuses root path why refusal → TellsNode tables root root path why → IsRefusal tables root refusal
+refuses_node tables root path why NoMemory told tells = tt
+refuses_node tables root path why (At n p w) told tells = inr (inr (tells.0, tells.1, told.0, rw (told.1, told.2) tells.3))
+
+pub refused : (tables : TableMap) (root path : Name) (why : CompileWhy) (refusal : CompileRefusal) → Refuses root path why refusal → AreKnown tables root → NoTable tables (ReachesItself tables)
+    → run (root_walk tables root) start ≡ Err (path, why) → IsRefusal tables root refusal
+refused tables root path why refusal told known acyclic stop =
+    refuses_node tables root path why refusal told (known, acyclic, refl, sym (run-first_fault (root_walk tables root) [] start Agree-start) ∙ ap fault_of stop)
+
+pub no_fault : (tables : TableMap) (root : Name) (more : Found) → run (root_walk tables root) start ≡ Ok more → first_fault [] (root_walk tables root) ≡ None
+no_fault tables root more walked = sym (run-first_fault (root_walk tables root) [] start Agree-start) ∙ ap fault_of walked

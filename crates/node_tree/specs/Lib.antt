@@ -4,5 +4,4 @@ pub mod Names
 pub mod Modules
 pub mod Walk
 pub mod Refusals
-pub mod Overlaps
 pub mod Run

@@ -6,7 +6,6 @@ mod compiling;
 mod cycles;
 mod index;
 mod name_map;
-mod overlapping;
 mod refusal;
 mod register;
 mod tables;
@@ -18,3 +17,6 @@ pub use index::Index;
 pub use refusal::{CompileRefusal, CompileWhy};
 pub use register::Register;
 pub use tables::Tables;
+
+#[cfg(test)]
+mod tests;

@@ -1,18 +1,22 @@
-use Rattle.std.proofs.Common.{◌≡◌, ◌⊎◌, inl, inr, ◌↔◌, [], Some, None, Ok, Err, ap, sym, subst, ◌∙◌}
-use Rattle.std.specs.FinMap.{get}
-use Rattle.node_tree.specs.Maps.{nodes_of}
-use Rattle.node_tree.specs.Names.{RootNames}
-use Rattle.node_tree.specs.Walk.{root_walk, first_fault, walk, siblings}
-use Rattle.node_tree.specs.Run.{run, IsStop}
-use Rattle.node_tree.proofs.Faults.{fault_of, run-first_fault}
-use Rattle.node_tree.proofs.Compiled.{start, Agree-start, root_walk-siblings, names-iff}
+use Rattle.std.proofs.Common.{◌≡◌, Ok, Err}
+use Rattle.node_tree.proofs.Compiled.{root_walk-siblings, names-iff, refused, no_fault}
 use Rattle.node_tree.proofs.compiling.compile.Goals as goal
 
 pub returns-in-Ok-clause-names : goal.returns-in-Ok-clause-names
-returns-in-Ok-clause-names c = ?
+returns-in-Ok-clause-names c =
+    let walked = rw (c.nodes_of.ensures, c.new.ensures, root_walk-siblings c.args.tables.now c.args.root.now) at c.in-Ok.ensures.walked in
+    rw c.in_ok-index_of-in-Ok.ensures (names-iff c.args.tables.now c.args.root.now c.walk.new.found walked)
 
 pub returns-in-Ok-clause-kept : goal.returns-in-Ok-clause-kept
-returns-in-Ok-clause-kept c = ?
+returns-in-Ok-clause-kept c =
+    let walked = rw (c.nodes_of.ensures, c.new.ensures, root_walk-siblings c.args.tables.now c.args.root.now) at c.in-Ok.ensures.walked in
+    record {
+      known = c.in_ok-check_known.ensures.known;
+      acyclic = c.in_ok-check_acyclic.ensures.acyclic;
+      nodes = no_fault c.args.tables.now c.args.root.now c.walk.new.found walked;
+    }
 
 pub returns-in-Err-At-clause-refused : goal.returns-in-Err-At-clause-refused
-returns-in-Err-At-clause-refused c = ?
+returns-in-Err-At-clause-refused c =
+    let stop = rw (c.nodes_of.ensures, c.new.ensures, root_walk-siblings c.args.tables.now c.args.root.now, c.in-Err-At.field-0-is) at c.in-Err-At.ensures.stopped in
+    refused c.args.tables.now c.args.root.now c.in-Err-At.name c.in-Err-At.why c.refused_node.result c.refused_node.ensures c.in_ok-check_known.ensures.known c.in_ok-check_acyclic.ensures.acyclic stop

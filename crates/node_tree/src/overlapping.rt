@@ -1,1 +1,0 @@
-ghost use Rattle.std.specs.Prelude.{◌≡◌};
