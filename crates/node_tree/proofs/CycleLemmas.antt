@@ -1,15 +1,14 @@
 -- Tables that lead to themselves, and sets of tables that do not.
-use Rattle.std.proofs.Common.{◌≡◌, ◌⊎◌, inl, inr, ℕ, ◌+◌, ◌<◌, ◌≤◌, List, [], ◌∷◌, Bool, true, false, not, cond, Option, Some, None, is_some, count_by, refl, ap, sym, ◌∙◌, subst, arith}
+use Rattle.std.proofs.Common.{◌≡◌, ◌⊎◌, inl, inr, ℕ, ◌+◌, ◌<◌, ◌≤◌, List, [], ◌∷◌, Bool, true, false, cond, Option, Some, None, is_some, refl, ap, sym, ◌∙◌, subst, arith}
 use Rattle.std.proofs.lemmas.Bool.{false≢true}
 use Rattle.std.specs.Option.{option_map_or}
 use Rattle.std.specs.List.{AllByRecursion}
 use Rattle.std.specs.FinMap.{get, entries, contains_key, insert, empty, find, get-entries, nat_cmp-IsAntisymmetric, slice_cmp-IsAntisymmetric}
-use Rattle.address_table.specs.declared.nodes.Node.{Node}
 use Rattle.address_table.specs.declared.nodes.Table.{Table}
 use Rattle.node_tree.specs.Maps.{Name, TableMap, nodes_of}
-use Rattle.node_tree.specs.Modules.{Mentions, Reaches, direct, through, ReachesItself, NoTable, HasUnknown, NameSet, IsIn, HasAll, LacksOne, IsClosed, Ends}
+use Rattle.node_tree.specs.Modules.{Mentions, Reaches, direct, through, NoTable, HasUnknown, NameSet, IsIn, HasAll, IsClosed, Ends}
 use Rattle.node_tree.proofs.MentionLemmas.{none_mentioned}
-use Rattle.node_tree.proofs.SetLemmas.{not_in_empty, in-kept, in-added, in-only, equal_of}
+use Rattle.node_tree.proofs.SetLemmas.{not_in_empty, in-kept, in-only, equal_of}
 use Rattle.std.specs.Ordering.{eq_by_cmp}
 use Rattle.node_tree.proofs.NamedLemmas.{by_bytes}
 use Rattle.node_tree.proofs.EntryLemmas.{all-get}
@@ -33,7 +32,7 @@ pub Ends-insert : (tables : TableMap) (set : NameSet) (a : Name) → Ends tables
 Ends-insert tables set a ends new own = record {
   closed = λ b h m mention. in-kept set a m (either (in-only set a b h) (λ old. ends.closed b old m mention) (λ same. own m (subst (λ x. Mentions (nodes_of tables x) m) same mention)));
   acyclic = λ b h loop. either (in-only set a b h) (λ old. ends.acyclic b old loop)
-  (λ same. false≢true (sym new ∙ reach-in tables set a a ends.closed own (subst (λ x. Reaches tables x x) same loop)));
+      (λ same. false≢true (sym new ∙ reach-in tables set a a ends.closed own (subst (λ x. Reaches tables x x) same loop)));
 }
 
 by_table : (tables : TableMap) (set : NameSet) (a m : Name) → ((t : Table) → get tables a ≡ Some t → HasAll set t.nodes.items)

@@ -1,9 +1,8 @@
 -- The entries of a map in their order.
-use Rattle.std.proofs.Common.{◌≡◌, List, [], ◌∷◌, ◌++◌, Bool, true, false, ◌&&◌, T, cond, Option, Some, None, is_eq, Ordering, Less, Equal, Greater, nat_cmp, refl, ap, sym, ◌∙◌, subst, append_assoc, String, Global, string_bytes}
+use Rattle.std.proofs.Common.{◌≡◌, List, [], ◌∷◌, ◌++◌, Bool, true, false, ◌&&◌, T, cond, Option, Some, is_eq, Ordering, Less, Equal, Greater, refl, ap, sym, ◌∙◌, subst, append_assoc, String, Global, string_bytes}
 use Rattle.std.specs.Ordering.{eq_by_cmp, is_lt, ordering_reverse}
 use Rattle.std.specs.List.{AllByRecursion}
 use Rattle.std.specs.Cmp.{tied_itself}
-use Rattle.std.specs.Cmp.Lexicographic.{slice_cmp}
 use Rattle.std.proofs.lemmas.List.{append-nil}
 use Rattle.std.proofs.lemmas.Cmp.{nat_list_cmp_total}
 use Rattle.std.specs.FinMap.{FinMap, get, entries, entries_sorted, get-entries, find, is_sorted, nat_cmp-IsAntisymmetric, slice_cmp-IsAntisymmetric}

@@ -1,12 +1,12 @@
 -- A tree of `String` keys, and the map of the bytes of its keys.
-use Rattle.std.proofs.Common.{◌≡◌, ℕ, zero, suc, ◌<◌, get_or, arith, List, [], ◌∷◌, length, map, Bool, true, false, ◌&&◌, T, cond, Option, Some, None, slice_get, String, string_bytes, string_cmp, nat_cmp, Ordering, Less, Equal, Greater, is_eq, refl, ap, sym, ◌∙◌, subst, BTreeMap, Global}
+use Rattle.std.proofs.Common.{◌≡◌, ℕ, zero, suc, ◌<◌, get_or, arith, List, [], ◌∷◌, length, Bool, true, false, ◌&&◌, T, cond, Some, slice_get, String, string_bytes, string_cmp, nat_cmp, Ordering, Less, Equal, Greater, is_eq, refl, ap, sym, ◌∙◌, Global}
 use Rattle.std.specs.Ordering.{match_ordering, is_lt}
 use Rattle.std.specs.Cmp.Lexicographic.{slice_cmp}
 use Rattle.std.specs.List.{AllByRecursion}
 use Rattle.std.specs.List.Sorted.{IsStrictlySortedBy}
 use Rattle.std.specs.Map.{keys_of, lookup}
 use Rattle.std.specs.BTreeMap.{insert_entry, is_at}
-use Rattle.std.specs.FinMap.{FinMap, entries, get, insert, find, put, is_sorted, from_sorted, entries-from_sorted, entries-insert, get-from_sorted, same_entries_map, empty, empty_of_len, len, len-entries}
+use Rattle.std.specs.FinMap.{entries, insert, find, put, is_sorted, from_sorted, entries-from_sorted, entries-insert, same_entries_map, empty, empty_of_len, len, len-entries}
 use Rattle.std.specs.FinMap.Entries.{below_all, by_order}
 use Rattle.std.proofs.lemmas.Cmp.{nat_list_cmp_total}
 use Rattle.node_tree.specs.Named.{Name, named}
@@ -57,8 +57,8 @@ module _ {V : Type 0} where
       → new ≡ insert_entry string_cmp old k v → from_sorted {R = by_bytes} (named new) ≡ insert (from_sorted {R = by_bytes} (named old)) (string_bytes k) v
   inserted old new k v was is e =
       same_entries_map _ _ (
-        entries-from_sorted by_bytes (named new) is ∙ ap named e ∙ named-insert_entry old k v
-        ∙ sym (entries-insert nat_list_cmp_total (from_sorted (named old)) (string_bytes k) v ∙ ap (put by_bytes (string_bytes k) v) (entries-from_sorted by_bytes (named old) was))
+      entries-from_sorted by_bytes (named new) is ∙ ap named e ∙ named-insert_entry old k v
+      ∙ sym (entries-insert nat_list_cmp_total (from_sorted (named old)) (string_bytes k) v ∙ ap (put by_bytes (string_bytes k) v) (entries-from_sorted by_bytes (named old) was))
       )
 
   pub empty-from_sorted : from_sorted {X = V} {R = by_bytes} [] ≡ empty

@@ -1,11 +1,11 @@
 -- The registers of the walk are those that the table names.
-use Rattle.std.proofs.Common.{◌≡◌, ◌⊎◌, inl, inr, ℕ, zero, suc, ◌+◌, ◌-◌, ◌<◌, ◌≤◌, List, [], ◌∷◌, ◌++◌, refl, ap, sym, ◌∙◌, subst, arith}
+use Rattle.std.proofs.Common.{◌≡◌, ◌⊎◌, inl, inr, ℕ, zero, suc, ◌+◌, List, [], ◌∷◌, ◌++◌, refl, subst, arith}
 use Rattle.address_table.specs.declared.nodes.Node.{Node}
 use Rattle.node_tree.specs.declared.register.Register.{Register}
 use Rattle.node_tree.specs.Maps.{Name, TableMap}
-use Rattle.node_tree.specs.Names.{Names, itself, child, later, children_of, node_name, node_address, register_of}
+use Rattle.node_tree.specs.Names.{Names, itself, child, later, children_of, node_name, node_address}
 use Rattle.node_tree.specs.Walk.{Visit, siblings, walk}
-use Rattle.node_tree.proofs.Runs.{Below, visit_of}
+use Rattle.node_tree.proofs.Runs.{Below}
 
 -- one of the nodes of a walk has this name and register
 abbrev pub Listed : List Visit → Name → Register → Type 0

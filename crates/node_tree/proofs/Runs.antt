@@ -1,5 +1,5 @@
 -- The walk of the code, node by node.
-use Rattle.std.proofs.Common.{◌≡◌, ℕ, suc, ◌+◌, ◌-◌, ◌<◌, ◌≤◌, List, [], ◌∷◌, ◌++◌, length, drop, get_or, Result, Ok, Err, refl, ap, sym, ◌∙◌, subst, arith}
+use Rattle.std.proofs.Common.{◌≡◌, ℕ, suc, ◌+◌, ◌-◌, ◌<◌, ◌≤◌, List, [], ◌∷◌, ◌++◌, length, drop, get_or, Result, Ok, Err, refl, ap, sym, ◌∙◌, arith}
 use Rattle.std.proofs.lemmas.List.{at_drop_more, at_drop_all}
 use Rattle.address_table.specs.declared.nodes.Node.{Node}
 use Rattle.node_tree.specs.declared.walking.Found.{Found}
@@ -36,7 +36,7 @@ module _ (below : Below) (tables : TableMap) (level : ℕ) (above : Name) (base 
   -- the nodes from a place on: the node there, what is below it, and the later nodes
   siblings-drop : (ns : List Node) (i : ℕ) (n : Node) → i < length ns → n ≡ get_or ns i n
       → siblings below tables level above base (drop i ns)
-        ≡ visit_of level above base n ∷ (below (node_name above n) (node_address base n) (children_of tables n) ++ siblings below tables level above base (drop (i + 1) ns))
+      ≡ visit_of level above base n ∷ (below (node_name above n) (node_address base n) (children_of tables n) ++ siblings below tables level above base (drop (i + 1) ns))
   unfolding siblings
   siblings-drop ns i n h here =
       at_drop_more (siblings below tables level above base) ns i n h
@@ -44,7 +44,7 @@ module _ (below : Below) (tables : TableMap) (level : ℕ) (above : Name) (base 
 
   run-drop : (ns : List Node) (i : ℕ) (n : Node) (found : Found) → i < length ns → n ≡ get_or ns i n
       → run (siblings below tables level above base (drop i ns)) found
-        ≡ run_on (run (below (node_name above n) (node_address base n) (children_of tables n) ++ siblings below tables level above base (drop (i + 1) ns))) (visit_next found (visit_of level above base n))
+      ≡ run_on (run (below (node_name above n) (node_address base n) (children_of tables n) ++ siblings below tables level above base (drop (i + 1) ns))) (visit_next found (visit_of level above base n))
   unfolding run
   run-drop ns i n found h here = ap (λ vs. run vs found) (siblings-drop ns i n h here)
 
@@ -58,7 +58,7 @@ module _ (below : Below) (tables : TableMap) (level : ℕ) (above : Name) (base 
   past_node : (ns : List Node) (i : ℕ) (n : Node) (found next : Found) → i < length ns → n ≡ get_or ns i n
       → visit_next found (visit_of level above base n) ≡ Ok next
       → run (siblings below tables level above base (drop i ns)) found
-        ≡ run_on (run (siblings below tables level above base (drop (i + 1) ns))) (run (below (node_name above n) (node_address base n) (children_of tables n)) next)
+      ≡ run_on (run (siblings below tables level above base (drop (i + 1) ns))) (run (below (node_name above n) (node_address base n) (children_of tables n)) next)
   past_node ns i n found next h here ok =
       run-drop ns i n found h here
       ∙ ap (run_on (run (below (node_name above n) (node_address base n) (children_of tables n) ++ siblings below tables level above base (drop (i + 1) ns)))) ok

@@ -1,16 +1,14 @@
 -- A binary search among entries in byte order of their names.
-use Rattle.std.proofs.Common.{◌≡◌, ◌⊎◌, inl, inr, ℕ, zero, suc, ◌<◌, ◌≤◌, List, [], ◌∷◌, length, get_or, Bool, true, false, ◌&&◌, T, cond, Option, Some, None, is_eq, Ordering, Less, Equal, Greater, nat_cmp, String, Global, string_bytes, refl, ap, sym, ◌∙◌, subst, arith}
-use Rattle.std.specs.Ordering.{eq_by_cmp, ordering_index, ordering_reverse, is_lt}
-use Rattle.std.specs.List.{AllByRecursion, AllWithin, HoldsAt}
+use Rattle.std.proofs.Common.{◌≡◌, ◌⊎◌, inl, inr, ℕ, zero, suc, ◌<◌, ◌≤◌, List, [], ◌∷◌, length, get_or, true, false, T, Some, None, is_eq, Ordering, Less, Equal, Greater, String, Global, string_bytes, refl, ap, sym, ◌∙◌, subst, arith}
+use Rattle.std.specs.Ordering.{eq_by_cmp, ordering_index, ordering_reverse}
 use Rattle.std.specs.List.Sorted.{IsNonDecreasingBy, IsPartitionPoint}
-use Rattle.std.specs.Cmp.Lexicographic.{slice_cmp}
 use Rattle.std.proofs.Math.Nat.{eq-or-lt_of_le}
 use Rattle.std.proofs.lemmas.Cmp.{nat_list_cmp_total}
 use Rattle.std.specs.FinMap.{find, is_sorted}
 use Rattle.std.specs.FinMap.Entries.{below_all}
 use Rattle.node_tree.specs.Named.{Name, named}
 use Rattle.node_tree.proofs.NamedLemmas.{by_bytes}
-use Rattle.node_tree.proofs.EntryLemmas.{first, second, less_of, apart}
+use Rattle.node_tree.proofs.EntryLemmas.{first, second, less_of}
 
 no_tie : (o r : Ordering) → o ≡ ordering_reverse r → (r ≡ Less) ⊎ (r ≡ Greater) → is_eq o ≡ false
 no_tie o r e (inl less) = rw (e, less) refl

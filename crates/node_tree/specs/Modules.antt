@@ -1,9 +1,9 @@
 -- Modules: tables whose nodes are the children of nodes of other tables.
-use Rattle.std.specs.Prelude.{◌≡◌, ◌⊎◌, Bool, true, false, List, [], ◌∷◌, ◌++◌, Option, Some, None}
+use Rattle.std.specs.Prelude.{◌≡◌, ◌⊎◌, true, false, List, ◌∷◌, ◌++◌, Some}
 use Rattle.std.specs.List.{AllByRecursion}
 use Rattle.std.specs.Ordering.{nat_cmp}
 use Rattle.std.specs.Cmp.Lexicographic.{slice_cmp}
-use Rattle.std.specs.FinMap.{FinMap, get, entries, contains_key}
+use Rattle.std.specs.FinMap.{FinMap, entries, contains_key}
 use Rattle.address_table.specs.declared.nodes.Node.{Node, out-Node}
 use Rattle.address_table.specs.declared.nodes.Table.{Table}
 use Rattle.node_tree.specs.Maps.{Name, TableMap, nodes_of}

@@ -1,16 +1,15 @@
 -- The nodes of a table in the order of a walk, each before its children, and the first that breaks a rule.
-use Rattle.std.specs.Prelude.{ℕ, zero, suc, ◌+◌, ◌-◌, ◌^◌, Bool, not, nat_lt, nat_le, if◌then◌else◌, List, [], ◌∷◌, ◌++◌, map, length, Option, Some, None}
+use Rattle.std.specs.Prelude.{ℕ, zero, suc, ◌+◌, ◌-◌, ◌^◌, Bool, not, nat_lt, nat_le, List, [], ◌∷◌, ◌++◌, length, Option, Some, None}
 use Rattle.std.specs.List.{list_any}
 use Rattle.std.specs.Str.{bytes_eq}
-use Rattle.std.specs.FinMap.{from_entries}
 use Rattle.address_table.specs.Rules.{first_broken}
 use Rattle.address_table.specs.declared.kinds.Mode.{Mode}
 use Rattle.address_table.specs.declared.kinds.Mode.TheVariants.{Single, Block, Port, Hierarchical}
-use Rattle.address_table.specs.declared.nodes.Node.{Node, out-Node}
+use Rattle.address_table.specs.declared.nodes.Node.{Node}
 use Rattle.node_tree.specs.declared.register.Register.{Register}
 use Rattle.node_tree.specs.declared.refusal.CompileWhy.{CompileWhy}
 use Rattle.node_tree.specs.declared.refusal.CompileWhy.TheVariants.{TooMany, TooDeep, Duplicate, AddressPastEnd}
-use Rattle.node_tree.specs.Maps.{Name, TableMap, RegisterMap, nodes_of}
+use Rattle.node_tree.specs.Maps.{Name, TableMap, nodes_of}
 use Rattle.node_tree.specs.Names.{children_of, node_name, node_address, register_of}
 
 -- a node where the walk comes to it: its name, the number of ids in the name, and its register

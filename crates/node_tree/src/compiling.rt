@@ -92,7 +92,10 @@ fn index_of(alloc: Global, found: Found) -> Result<Index, NoMemory>
 }
 
 /// The entries of a map, in order.
-fn listed(alloc: Global, names: BTreeMap<String, Register>) -> Result<Vec<(String, Register)>, NoMemory>
+fn listed(
+    alloc: Global,
+    names: BTreeMap<String, Register>,
+) -> Result<Vec<(String, Register)>, NoMemory>
     ensures { IfOk result (λ list. list.items ≡ names.entries) }
 {
     Ok(names.into_iter().collect(alloc)?)

@@ -48,11 +48,7 @@ fn tables_in(alloc: Global, text: &str) -> Result<Tables, Fail> {
 }
 
 /// The table, the path and the rule of a refusal.
-fn refusal_of(
-    alloc: Global,
-    text: &str,
-    root: &str,
-) -> Result<(String, String, CompileWhy), Fail> {
+fn refusal_of(alloc: Global, text: &str, root: &str) -> Result<(String, String, CompileWhy), Fail> {
     let tables = tables_in(alloc, text)?;
     match compile(alloc, &tables, root) {
         Ok(_) => Err("compiled")?,
@@ -113,13 +109,49 @@ fn an_empty_table_has_no_names(rt: HostRuntime) -> Result<(), Fail> {
 #[test]
 fn the_first_broken_rule_is_told(rt: HostRuntime) -> Result<(), Fail> {
     let cases = [
-        ("m = [{ id = \"a\", module = \"m\" }]", "m", "m", "", CompileWhy::ModuleCycle),
-        ("m = [{ id = \"a\", module = \"n\" }]", "m", "m", "", CompileWhy::UnknownModule),
+        (
+            "m = [{ id = \"a\", module = \"m\" }]",
+            "m",
+            "m",
+            "",
+            CompileWhy::ModuleCycle,
+        ),
+        (
+            "m = [{ id = \"a\", module = \"n\" }]",
+            "m",
+            "m",
+            "",
+            CompileWhy::UnknownModule,
+        ),
         ("m = []", "n", "n", "", CompileWhy::UnknownModule),
-        ("main = [{ id = \"x\" }, { id = \"w\" }, { id = \"x\" }]", "main", "main", "x", CompileWhy::Duplicate),
-        ("main = [{ id = \"y\", address = 0xffffffff, nodes = [{ id = \"z\", address = 1 }] }]", "main", "main", "y.z", CompileWhy::AddressPastEnd),
-        ("main = [{ id = \"b\", address = 0xffffffff, mode = \"inc\", size = 2 }]", "main", "main", "b", CompileWhy::AddressPastEnd),
-        ("a = [{ id = \"x\", module = \"b\" }]\nb = [{ id = \"y\", module = \"b\" }]", "a", "b", "", CompileWhy::ModuleCycle),
+        (
+            "main = [{ id = \"x\" }, { id = \"w\" }, { id = \"x\" }]",
+            "main",
+            "main",
+            "x",
+            CompileWhy::Duplicate,
+        ),
+        (
+            "main = [{ id = \"y\", address = 0xffffffff, nodes = [{ id = \"z\", address = 1 }] }]",
+            "main",
+            "main",
+            "y.z",
+            CompileWhy::AddressPastEnd,
+        ),
+        (
+            "main = [{ id = \"b\", address = 0xffffffff, mode = \"inc\", size = 2 }]",
+            "main",
+            "main",
+            "b",
+            CompileWhy::AddressPastEnd,
+        ),
+        (
+            "a = [{ id = \"x\", module = \"b\" }]\nb = [{ id = \"y\", module = \"b\" }]",
+            "a",
+            "b",
+            "",
+            CompileWhy::ModuleCycle,
+        ),
     ];
     for (text, root, table, path, why) in cases {
         let (told_table, told_path, rule) = refusal_of(rt.alloc(), text, root)?;

@@ -72,7 +72,15 @@ pub(crate) fn walk(
             Err(fault) => return Err(fault),
         };
         let below = children(tables, node);
-        if let Err(fault) = walk(alloc, tables, below, name.as_str(), address, level + 1, found) {
+        if let Err(fault) = walk(
+            alloc,
+            tables,
+            below,
+            name.as_str(),
+            address,
+            level + 1,
+            found,
+        ) {
             return Err(fault);
         }
     }

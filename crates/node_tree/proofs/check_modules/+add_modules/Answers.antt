@@ -1,5 +1,5 @@
-use Rattle.std.proofs.Common.{◌≡◌, ◌⊎◌, inl, inr, length, drop, get_or, subst, sym}
-use Rattle.node_tree.specs.Modules.{Mentions, IsIn}
+use Rattle.std.proofs.Common.{◌⊎◌, inl, inr, subst, sym}
+use Rattle.node_tree.specs.Modules.{Mentions}
 use Rattle.node_tree.proofs.MentionLemmas.{from_place, none_after, own_module, inner_module}
 use Rattle.node_tree.proofs.check_modules.+add_modules.Goals as goal
 
@@ -15,10 +15,10 @@ loop-node-preserved t c =
     record {
       kept = λ m h. inner.kept m (own.kept m (before.kept m h));
       added = λ m mention. either (before.added m mention) (λ h. inl (inner.kept m (own.kept m h)))
-      (from_place _ _ _ _ c.loop-node-test.true c.node-item.is (λ k is. inl (inner.kept k (own.added k is))) (λ k h. inl (inner.added k (subst (λ ns. Mentions ns k) (sym c.deref.ensures.value) h))) (λ k h. inr h) m);
+          (from_place _ _ _ _ c.loop-node-test.true c.node-item.is (λ k is. inl (inner.kept k (own.added k is))) (λ k h. inl (inner.added k (subst (λ ns. Mentions ns k) (sym c.deref.ensures.value) h))) (λ k h. inr h) m);
       only = λ m h. either (inner.only m h)
-      (λ old. either (own.only m old) (λ older. before.only m older) (λ is. inr (own_module _ _ _ m c.loop-node-test.true c.node-item.is is)))
-      (λ mention. inr (inner_module _ _ _ m c.loop-node-test.true c.node-item.is (subst (λ ns. Mentions ns m) c.deref.ensures.value mention)));
+          (λ old. either (own.only m old) (λ older. before.only m older) (λ is. inr (own_module _ _ _ m c.loop-node-test.true c.node-item.is is)))
+          (λ mention. inr (inner_module _ _ _ m c.loop-node-test.true c.node-item.is (subst (λ ns. Mentions ns m) c.deref.ensures.value mention)));
     }
 
 pub returns : goal.returns

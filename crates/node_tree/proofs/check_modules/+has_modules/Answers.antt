@@ -1,4 +1,4 @@
-use Rattle.std.proofs.Common.{◌≡◌, length, subst, sym}
+use Rattle.std.proofs.Common.{subst, sym}
 use Rattle.node_tree.specs.Modules.{Mentions}
 use Rattle.node_tree.proofs.MentionLemmas.{from_place, none_after, own_module, inner_module}
 use Rattle.node_tree.proofs.check_modules.+has_modules.Goals as goal

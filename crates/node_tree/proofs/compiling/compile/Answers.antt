@@ -1,4 +1,3 @@
-use Rattle.std.proofs.Common.{◌≡◌, Ok, Err}
 use Rattle.node_tree.proofs.Compiled.{root_walk-siblings, names-iff, refused, no_fault}
 use Rattle.node_tree.proofs.compiling.compile.Goals as goal
 

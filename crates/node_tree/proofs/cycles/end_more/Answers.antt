@@ -1,4 +1,4 @@
-use Rattle.std.proofs.Common.{◌≡◌, List, [], ◌∷◌, ◌++◌, sym, ap, subst, ◌∙◌, string_bytes}
+use Rattle.std.proofs.Common.{[], ◌∷◌, ◌++◌, sym, ap, ◌∙◌, string_bytes}
 use Rattle.node_tree.specs.Named.{named}
 use Rattle.node_tree.specs.Maps.{nodes_of}
 use Rattle.node_tree.proofs.EntryLemmas.{next_place, past_place, nodes-entry}
@@ -16,8 +16,7 @@ end_one-requires-clause-its_nodes c =
 pub loop-name-preserved : goal.loop-name-preserved
 loop-name-preserved c =
     let (done, place, ends) = c.loop-name.invariant in
-    let next = next_place c.args.tables.now done (c.in-Some.name.now, c.in-Some.table.now) c.next.new.self _ place c.in-Some.ensures.steps in
-    (
+    let next = next_place c.args.tables.now done (c.in-Some.name.now, c.in-Some.table.now) c.next.new.self _ place c.in-Some.ensures.steps in (
       done ++ (string_bytes c.in-Some.name.now, c.in-Some.table.now) ∷ [],
       past_place _ done (c.in-Some.name.now, c.in-Some.table.now) c.next.new.self next,
       c.in_ok-added.ensures,

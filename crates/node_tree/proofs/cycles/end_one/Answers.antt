@@ -1,5 +1,5 @@
-use Rattle.std.proofs.Common.{◌≡◌, sym, subst}
-use Rattle.node_tree.specs.Modules.{HasAll, Ends}
+use Rattle.std.proofs.Common.{sym, subst}
+use Rattle.node_tree.specs.Modules.{HasAll}
 use Rattle.node_tree.proofs.CycleLemmas.{Ends-insert}
 use Rattle.node_tree.proofs.cycles.end_one.Goals as goal
 

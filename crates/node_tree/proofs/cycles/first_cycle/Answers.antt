@@ -1,6 +1,5 @@
-use Rattle.std.proofs.Common.{◌≡◌, List, [], ◌∷◌, ◌++◌, Bool, true, false, MatchBool, sym, ap, subst, ◌∙◌, string_bytes}
+use Rattle.std.proofs.Common.{[], ◌∷◌, ◌++◌, MatchBool, sym, ap, subst, ◌∙◌, string_bytes}
 use Rattle.std.specs.List.{AllByRecursion}
-use Rattle.std.specs.FinMap.{entries}
 use Rattle.node_tree.specs.Named.{named}
 use Rattle.node_tree.specs.Modules.{ReachesItself, IsFirstTable}
 use Rattle.node_tree.proofs.EntryLemmas.{next_place, past_place, no_more, all-push}
@@ -13,8 +12,7 @@ pub loop-name-preserved : goal.loop-name-preserved
 loop-name-preserved c =
     let (done, place, none) = c.loop-name.invariant in
     let next = next_place c.args.tables.now done (c.in-Some.name.now, c.in-Some._table.now) c.next.new.self _ place c.in-Some.ensures.steps in
-    let ends = subst (λ b. MatchBool b (ReachesItself c.args.tables.now c.as_str.result.now) (ReachesItself c.args.tables.now c.as_str.result.now → ⊥)) c.if-leads.false c.in_ok-leads.ensures in
-    (
+    let ends = subst (λ b. MatchBool b (ReachesItself c.args.tables.now c.as_str.result.now) (ReachesItself c.args.tables.now c.as_str.result.now → ⊥)) c.if-leads.false c.in_ok-leads.ensures in (
       done ++ (string_bytes c.in-Some.name.now, c.in-Some._table.now) ∷ [],
       past_place _ done (c.in-Some.name.now, c.in-Some._table.now) c.next.new.self next,
       all-push (λ e. ReachesItself c.args.tables.now e.0 → ⊥) done _ none (subst (λ name. ReachesItself c.args.tables.now name → ⊥) c.as_str.ensures.value ends),

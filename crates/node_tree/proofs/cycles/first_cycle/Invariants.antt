@@ -3,7 +3,7 @@ use Rattle.std.specs.List.{AllByRecursion}
 use Rattle.std.specs.FinMap.{entries}
 use Rattle.address_table.specs.declared.nodes.Table.{Table}
 use Rattle.node_tree.specs.Named.{Name, named}
-use Rattle.node_tree.specs.Modules.{ReachesItself, Ends}
+use Rattle.node_tree.specs.Modules.{ReachesItself}
 use Rattle.node_tree.proofs.cycles.first_cycle.Given as goal
 
 abbrev pub invariant-loop-name : goal.invariant-loop-name

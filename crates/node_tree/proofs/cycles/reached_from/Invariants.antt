@@ -1,4 +1,3 @@
-use Rattle.std.proofs.Common.{◌≡◌}
 use Rattle.std.specs.FinMap.{entries}
 use Rattle.node_tree.specs.Maps.{Name, nodes_of}
 use Rattle.node_tree.specs.Modules.{IsIn, HasAll, Reaches}

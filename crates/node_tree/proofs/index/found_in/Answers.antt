@@ -1,4 +1,4 @@
-use Rattle.std.proofs.Common.{◌≡◌, ◌<◌, Equal, Some, length, get_or, sym, ap, ◌∙◌, rules}
+use Rattle.std.proofs.Common.{◌≡◌, get_or, sym, ap, ◌∙◌, rules}
 use Rattle.std.proofs.lemmas.Fn.{always_returns_same}
 use Rattle.node_tree.proofs.SearchLemmas.{key_cmp, find-place, find-gap, rises}
 use Rattle.node_tree.proofs.index.found_in.Goals as goal

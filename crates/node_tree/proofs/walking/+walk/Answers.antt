@@ -1,5 +1,5 @@
-use Rattle.std.proofs.Common.{◌≡◌, ◌<◌, ◌≤◌, ◌+◌, ◌-◌, Ok, length, get_or, sym, ap, ◌∙◌, subst, arith, refl}
-use Rattle.node_tree.specs.Names.{node_name, node_address, name_below, children_of}
+use Rattle.std.proofs.Common.{◌≡◌, ◌≤◌, Ok, sym, ap, ◌∙◌, subst, arith, refl}
+use Rattle.node_tree.specs.Names.{name_below}
 use Rattle.node_tree.specs.Run.{run, visit_next, IsStop}
 use Rattle.node_tree.proofs.Runs.{stopped_at, stopped_below, past_both, none_left, below_is, visit_named}
 use Rattle.node_tree.proofs.walking.+walk.Goals as goal

@@ -1,4 +1,4 @@
-use Rattle.std.proofs.Common.{◌≡◌, ◌<◌, ◌≤◌, ◌^◌, ap, sym, subst, arith}
+use Rattle.std.proofs.Common.{◌≤◌, ◌^◌, ap, sym, subst, arith}
 use Rattle.node_tree.specs.Names.{register_of}
 use Rattle.node_tree.specs.Walk.{last_address}
 use Rattle.node_tree.specs.Run.{IsStop}

@@ -1,6 +1,5 @@
-use Rattle.std.proofs.Common.{◌≡◌, sym, ap, ◌∙◌, length}
+use Rattle.std.proofs.Common.{sym, ap, ◌∙◌, length}
 use Rattle.std.specs.FinMap.{len}
-use Rattle.node_tree.specs.Named.{named}
 use Rattle.node_tree.proofs.NamedLemmas.{len-named}
 use Rattle.node_tree.proofs.index.Index.len.Goals as goal
 

@@ -1,7 +1,6 @@
 use Rattle.std.proofs.Common.{ap, ◌∙◌, string_bytes}
 use Rattle.std.specs.FinMap.{insert}
-use Rattle.node_tree.specs.Named.{named}
-use Rattle.node_tree.proofs.NamedLemmas.{by_bytes, is_sorted-named, inserted}
+use Rattle.node_tree.proofs.NamedLemmas.{is_sorted-named, inserted}
 use Rattle.node_tree.proofs.name_map.NameMap.insert.Goals as goal
 
 pub invariant_of-self-2 : goal.invariant_of-self-2

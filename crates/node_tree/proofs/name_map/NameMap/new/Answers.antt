@@ -1,4 +1,4 @@
-use Rattle.std.proofs.Common.{sym, ap, ◌∙◌, refl}
+use Rattle.std.proofs.Common.{ap, ◌∙◌}
 use Rattle.std.specs.FinMap.{from_sorted}
 use Rattle.node_tree.specs.Named.{named}
 use Rattle.node_tree.proofs.NamedLemmas.{by_bytes, empty-from_sorted}
