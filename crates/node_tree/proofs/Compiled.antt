@@ -1,18 +1,18 @@
 -- A walk to its end: the registers that were found are those that the table names.
-use Rattle.std.proofs.Common.{◌≡◌, ◌⊎◌, inl, inr, ◌↔◌, ℕ, ◌+◌, ◌-◌, ◌≤◌, List, [], ◌∷◌, Bool, true, false, not, nat_le, Option, Some, None, is_some, cond, Ok, Err, refl, ap, sym, ◌∙◌, subst, arith}
+use Rattle.std.proofs.Common.{◌≡◌, ◌⊎◌, inl, inr, ◌↔◌, ℕ, ◌+◌, ◌-◌, ◌^◌, ◌<◌, ◌≤◌, nat_lt, List, [], ◌∷◌, Bool, true, false, not, nat_le, Option, Some, None, is_some, cond, Ok, Err, refl, ap, sym, ◌∙◌, subst, arith}
 use Rattle.std.proofs.lemmas.Bool.{false≢true}
 use Rattle.std.proofs.lemmas.Bool.Decides.{nat_tests}
 use Rattle.std.proofs.lemmas.Cmp.{nat_list_cmp_total}
 use Rattle.std.specs.Ordering.{eq_by_cmp}
 use Rattle.std.specs.Cmp.{tied_itself}
-use Rattle.std.specs.FinMap.{get, contains_key, insert, empty, get-insert, get-empty, nat_cmp-IsAntisymmetric, slice_cmp-IsAntisymmetric}
+use Rattle.std.specs.FinMap.{get, contains_key, insert, empty, len, len-insert, len-empty, get-insert, get-empty, nat_cmp-IsAntisymmetric, slice_cmp-IsAntisymmetric}
 use Rattle.address_table.specs.Rules.{first_broken}
 use Rattle.node_tree.specs.declared.register.Register.{Register}
 use Rattle.node_tree.specs.declared.refusal.CompileWhy.TheVariants.{TooMany, TooDeep, Duplicate, AddressPastEnd}
 use Rattle.node_tree.specs.declared.walking.Found.{Found}
 use Rattle.node_tree.specs.Maps.{Name, RegisterMap, TableMap, nodes_of}
 use Rattle.node_tree.specs.Names.{RootNames}
-use Rattle.node_tree.specs.Walk.{Visit, siblings, walk, root_walk, first_fault}
+use Rattle.node_tree.specs.Walk.{Visit, siblings, walk, root_walk, first_fault, last_address}
 use Rattle.node_tree.specs.Run.{run, run_on, visit_next, step, found_more}
 use Rattle.node_tree.proofs.NamedLemmas.{by_bytes}
 use Rattle.node_tree.proofs.SetLemmas.{equal_of}
@@ -26,8 +26,8 @@ use Rattle.node_tree.proofs.Faults.{Agree, fault_of, run-first_fault}
 use Rattle.node_tree.proofs.NamesLemmas.{Listed, HasLevel, listed-named, named-listed}
 
 ok_rules : (found next : Found) (v : Visit) (a b c d : Bool)
-    → step found v (first_broken ((TooMany, a) ∷ (TooDeep, b) ∷ (Duplicate, c) ∷ (AddressPastEnd, d) ∷ [])) ≡ Ok next → (b ≡ true) × (c ≡ true) × (next ≡ found_more found v)
-ok_rules found next v true true true true h = (refl, refl, cc)
+    → step found v (first_broken ((TooMany, a) ∷ (TooDeep, b) ∷ (Duplicate, c) ∷ (AddressPastEnd, d) ∷ [])) ≡ Ok next → (b ≡ true) × (c ≡ true) × (next ≡ found_more found v) × (a ≡ true)
+ok_rules found next v true true true true h = (refl, refl, cc, refl)
 ok_rules found next v true true true false h = let bad : ⊥ = cc in absurd bad
 ok_rules found next v true true false d h = let bad : ⊥ = cc in absurd bad
 ok_rules found next v true false c d h = let bad : ⊥ = cc in absurd bad
@@ -44,7 +44,7 @@ not_true false h = refl
 visit-ok : (found next : Found) (v : Visit) → visit_next found v ≡ Ok next → (v.level ≤ 16) × (contains_key found.names v.name ≡ false) × (next ≡ found_more found v)
 unfolding visit_next
 visit-ok found next v h =
-    let (level, new, is) = ok_rules found next v _ _ _ _ h in
+    let (level, new, is, few) = ok_rules found next v _ _ _ _ h in
     (le_of v.level 16 level, not_true (contains_key found.names v.name) new, is)
 
 cons_case : (vs : List Visit) (found more : Found) (v : Visit) (r : Outcome) → visit_next found v ≡ r → run_on (run vs) r ≡ Ok more → (next : Found) × (visit_next found v ≡ Ok next) × (run vs next ≡ Ok more)
@@ -153,3 +153,35 @@ refused tables root path why refusal told known acyclic stop =
 
 pub no_fault : (tables : TableMap) (root : Name) (more : Found) → run (root_walk tables root) start ≡ Ok more → first_fault [] (root_walk tables root) ≡ None
 no_fault tables root more walked = sym (run-first_fault (root_walk tables root) [] start Agree-start) ∙ ap fault_of walked
+
+below_of : (a b : ℕ) → nat_lt a b ≡ true → a < b
+below_of a b h = grind (arith, nat_tests)
+
+-- the walk went past fewer than 65,536 nodes before each
+count-ok : (found next : Found) (v : Visit) → visit_next found v ≡ Ok next → found.count < 65536
+unfolding visit_next
+count-ok found next v h =
+    let (level, new, is, few) = ok_rules found next v (nat_lt found.count 65536) (nat_le v.level 16) (not (contains_key found.names v.name)) (nat_lt (last_address v.register) (2 ^ 32)) h in
+    below_of found.count 65536 few
+
+at_most_one : (b : Bool) (n : ℕ) → cond b n (n + 1) ≤ n + 1
+at_most_one true n = omega arith
+at_most_one false n = omega arith
+
+-- no more registers than nodes, of which there are 65,536 at most
+run-size : (vs : List Visit) (found more : Found) → run vs found ≡ Ok more → len found.names ≤ found.count → found.count ≤ 65536 → len more.names ≤ 65536
+unfolding run
+run-size [] found more h small few = let same : found ≡ more = cc in subst (λ f. len f.names ≤ 65536) same (omega arith)
+run-size (v ∷ vs) found more h small few =
+    let (next, ok, rest) = run-cons vs found more v h in
+    let (level, new, is) = visit-ok found next v ok in
+    let under = count-ok found next v ok in
+    let size : len (insert found.names v.name v.register) ≤ len found.names + 1 = rw (len-insert nat_list_cmp_total found.names v.name v.register) (at_most_one (contains_key found.names v.name) (len found.names)) in
+    let next_small : len next.names ≤ next.count = subst (λ f. len f.names ≤ f.count) (sym is) (omega arith) in
+    let next_few : next.count ≤ 65536 = subst (λ f. f.count ≤ 65536) (sym is) (omega arith) in
+    run-size vs next more rest next_small next_few
+
+pub few_names : (tables : TableMap) (root : Name) (more : Found) → run (root_walk tables root) start ≡ Ok more → len more.names ≤ 65536
+few_names tables root more h =
+    let none : len (empty {X = Register} {R = by_bytes}) ≡ 0 = len-empty by_bytes Register in
+    run-size (root_walk tables root) start more h (omega arith) (omega arith)

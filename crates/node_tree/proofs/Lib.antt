@@ -9,3 +9,4 @@ pub mod NamesLemmas
 pub mod CycleLemmas
 pub mod SearchLemmas
 pub mod Compiled
+pub mod OverlapLemmas

@@ -64,7 +64,7 @@ module _ {V : Type 0} where
   pub empty-from_sorted : from_sorted {X = V} {R = by_bytes} [] ≡ empty
   empty-from_sorted = empty_of_len (from_sorted []) (len-entries (from_sorted []) ∙ ap length (entries-from_sorted by_bytes [] tt))
 
-  length-named : (es : List (String Global × V)) → length (named es) ≡ length es
+  pub length-named : (es : List (String Global × V)) → length (named es) ≡ length es
   length-named [] = refl
   length-named (e ∷ es) = ap (λ n. suc n) (length-named es)
 

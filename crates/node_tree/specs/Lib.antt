@@ -5,3 +5,4 @@ pub mod Modules
 pub mod Walk
 pub mod Refusals
 pub mod Run
+pub mod Overlaps

@@ -1,4 +1,4 @@
-ghost use Rattle.std.specs.Prelude.{◌≡◌, ◌↔◌, [], Some, IfOk, IfErr, OnOk};
+ghost use Rattle.std.specs.Prelude.{◌≡◌, ◌≤◌, ◌↔◌, [], Some, IfOk, IfErr, OnOk};
 ghost use Rattle.std.specs.FinMap as map;
 ghost use Rattle.node_tree.specs.Named.{Name};
 ghost use Rattle.node_tree.specs.Names.{RootNames};
@@ -84,6 +84,7 @@ fn refused_node(alloc: Global, root: &str, path: Text, why: CompileWhy) -> Compi
 
 /// The index of the registers that the walk found.
 fn index_of(alloc: Global, found: Found) -> Result<Index, NoMemory>
+    requires { map.len found.names ≤ 65536 }
     ensures { IfOk result (λ index. index ≡ found.names) }
 {
     let Found { names, count: _ } = found;

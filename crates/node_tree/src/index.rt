@@ -1,11 +1,14 @@
-ghost use Rattle.std.specs.Prelude.{◌≡◌, ◌<◌, ◌==◌, slice_get, string_bytes};
+ghost use Rattle.std.specs.Prelude.{◌≡◌, ◌<◌, ◌≤◌, ◌==◌, [], IfOk, length, slice_get, string_bytes};
 ghost use Rattle.std.specs.Prelude.{T};
 ghost use Rattle.std.specs.Ordering.{nat_cmp};
 ghost use Rattle.std.specs.Cmp.Lexicographic.{slice_cmp};
 ghost use Rattle.std.specs.FinMap as map;
 ghost use Rattle.node_tree.specs.Named.{named};
+ghost use Rattle.node_tree.specs.Overlaps.{overlapping};
 
-use crate::Register;
+use crate::overlapping::overlapping_pairs;
+use crate::{NoMemory, Register};
+use std::alloc::Global;
 use std::cmp::Ordering;
 use std::marker::Model;
 
@@ -17,7 +20,7 @@ pub struct Index {
 }
 
 impl Model for Index {
-    ghost use Rattle.std.specs.Prelude.{T};
+    ghost use Rattle.std.specs.Prelude.{T, ◌≤◌, length};
     ghost use Rattle.std.specs.Ordering.{nat_cmp};
     ghost use Rattle.std.specs.Cmp.Lexicographic.{slice_cmp};
     ghost use Rattle.std.specs.Coded.{coded_ℕ, coded_list};
@@ -31,13 +34,14 @@ impl Model for Index {
 
     ghost view = { λ index. map.from_sorted (named index.entries.items) };
 
-    ghost invariant = { λ index. T (map.is_sorted (slice_cmp nat_cmp) (named index.entries.items)) };
+    ghost invariant = { λ index. T (map.is_sorted (slice_cmp nat_cmp) (named index.entries.items)) × (length index.entries.items ≤ 65536) };
 }
 
 impl Index {
     /// The index of entries in byte order.
     pub(crate) fn from_sorted(entries: Vec<(String, Register)>) -> Index
-        requires { T (map.is_sorted (slice_cmp nat_cmp) (named entries.items)) }
+        requires sorted { T (map.is_sorted (slice_cmp nat_cmp) (named entries.items)) }
+        requires few { length entries.items ≤ 65536 }
         ensures { result ≡ map.from_sorted (named entries.items) }
     {
         Index { entries }
@@ -72,6 +76,16 @@ impl Index {
         let entries = self.entries.as_slice();
         let entry = &entries[i];
         (entry.0.as_str(), entry.1)
+    }
+}
+
+impl Index {
+    /// The registers that share bits of a word with one before them, in byte order of the names: for each the places of
+    /// the first such one and of itself.
+    pub fn overlaps(&self, alloc: Global) -> Result<Vec<(u32, u32)>, NoMemory>
+        ensures { IfOk result (λ pairs. pairs.items ≡ overlapping [] (map.entries self.now)) }
+    {
+        overlapping_pairs(alloc, self.entries.as_slice())
     }
 }
 

@@ -106,6 +106,31 @@ fn an_empty_table_has_no_names(rt: HostRuntime) -> Result<(), Fail> {
     Ok(())
 }
 
+/// Two masks that share a bit, and pairs that do not count: names of which one begins with the other and a dot, and a
+/// name that begins with the other without a dot.
+#[test]
+fn registers_that_share_bits_are_paired(rt: HostRuntime) -> Result<(), Fail> {
+    let text =
+        "main = [{ id = \"x\", mask = 0xff }, { id = \"y\", mask = 1 }, { id = \"z\", mask = 0x100 }]";
+    let tables = tables_in(rt.alloc(), text)?;
+    let index = compile(rt.alloc(), &tables, "main")?;
+    let pairs = index.overlaps(rt.alloc())?;
+    assert_eq!(rt; pairs.len(), 1);
+    assert_eq!(rt; pairs[0].0, 0);
+    assert_eq!(rt; pairs[0].1, 1);
+    let text =
+        "main = [{ id = \"a\", nodes = [{ id = \"top\", mask = 1 }] }, { id = \"ab\" }, { id = \"m\", address = 1, mode = \"block\", size = 2 }, { id = \"n\", address = 2 }]";
+    let tables = tables_in(rt.alloc(), text)?;
+    let index = compile(rt.alloc(), &tables, "main")?;
+    let pairs = index.overlaps(rt.alloc())?;
+    assert_eq!(rt; pairs.len(), 2);
+    assert_eq!(rt; pairs[0].0, 0);
+    assert_eq!(rt; pairs[0].1, 2);
+    assert_eq!(rt; pairs[1].0, 3);
+    assert_eq!(rt; pairs[1].1, 4);
+    Ok(())
+}
+
 #[test]
 fn the_first_broken_rule_is_told(rt: HostRuntime) -> Result<(), Fail> {
     let cases = [

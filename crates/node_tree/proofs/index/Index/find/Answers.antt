@@ -7,4 +7,4 @@ use Rattle.node_tree.proofs.index.Index.find.Goals as goal
 pub returns : goal.returns
 returns c =
     c.found_in.ensures ∙ ap (λ es. find by_bytes c.args.name.now (named es)) c.deref.ensures.value
-    ∙ sym (get-from_sorted by_bytes (named c.self.inside.entries.items) c.args.name.now c.self.invariant) ∙ ap (λ m. get m c.args.name.now) c.self.view_is
+    ∙ sym (get-from_sorted by_bytes (named c.self.inside.entries.items) c.args.name.now c.self.invariant.0) ∙ ap (λ m. get m c.args.name.now) c.self.view_is
