@@ -1,0 +1,40 @@
+-- What a node that breaks no rule has.
+use Rattle.std.proofs.Common.{◌≡◌, List, ◌∷◌, Bool, true, false, None, IsSome, codes, drop, refl}
+use Rattle.std.proofs.lemmas.Bool.{and_parts}
+use Rattle.toml.specs.Data.{Members}
+use Rattle.address_table.specs.Keys.{text_at}
+use Rattle.address_table.specs.Rules.{broken_rule, first_broken, rules, has_shape, has_texts}
+use Rattle.address_table.specs.declared.refusal.TableWhy.{TableWhy}
+use Rattle.address_table.specs.declared.refusal.TableWhy.TheVariants.{Shape}
+
+-- no rule of a list is broken: the first is kept, and none of the rest is broken
+pub first_kept : (why : TableWhy) (kept : Bool) (rest : List (TableWhy × Bool)) → first_broken ((why, kept) ∷ rest) ≡ None → (kept ≡ true) × (first_broken rest ≡ None)
+first_kept why true rest h = (refl, h)
+first_kept why false rest h = cc
+
+pub kept-shape : (ms : Members) → broken_rule ms ≡ None → has_shape ms ≡ true
+unfolding broken_rule
+kept-shape ms kept = (first_kept Shape (has_shape ms) (drop 1 (rules ms)) kept).0
+
+pub kept-texts : (ms : Members) → broken_rule ms ≡ None → has_texts ms ≡ true
+unfolding has_shape
+kept-texts ms kept = (and_parts (has_texts ms) _ (and_parts _ _ (kept-shape ms kept)).0).0
+
+-- the texts of a node
+pub record AreTexts (ms : Members) : Type 0 where
+  pub id : IsSome (text_at (codes "id") ms)
+  pub permission : IsSome (text_at (codes "permission") ms)
+  pub mode : IsSome (text_at (codes "mode") ms)
+  pub «module» : IsSome (text_at (codes "module") ms)
+  pub tags : IsSome (text_at (codes "tags") ms)
+  pub description : IsSome (text_at (codes "description") ms)
+
+pub texts : (ms : Members) → broken_rule ms ≡ None → AreTexts ms
+unfolding has_texts
+texts ms kept =
+    let (id, a) = and_parts _ _ (kept-texts ms kept) in
+    let (permission, b) = and_parts _ _ a in
+    let (mode, c) = and_parts _ _ b in
+    let (name, d) = and_parts _ _ c in
+    let (tags, e) = and_parts _ _ d in
+    record { id = id; permission = permission; mode = mode; «module» = name; tags = tags; description = (and_parts _ _ e).0 }

@@ -1,0 +1,89 @@
+-- The rules that a node keeps, in the order in which they are judged.
+use Rattle.std.specs.Prelude.{ℕ, Bool, true, false, not, ◌&&◌, ◌||◌, ◌==◌, if◌then◌else◌, List, [], ◌∷◌, length, codes, Option, Some, None, is_some}
+use Rattle.std.specs.List.{list_all}
+use Rattle.std.specs.Option.{option_map_or}
+use Rattle.toml.specs.Data.{Data, table, Members, get_member}
+use Rattle.address_table.specs.Numbers.{is_between}
+use Rattle.address_table.specs.Keys.{has_node_keys, text_at, address_at, mask_at, size_at, permission_at, mode_at, nodes_at}
+use Rattle.address_table.specs.declared.kinds.Mode.{Mode}
+use Rattle.address_table.specs.declared.kinds.Mode.TheVariants.{Single, Block, Port, Hierarchical}
+use Rattle.address_table.specs.declared.refusal.TableWhy.{TableWhy}
+use Rattle.address_table.specs.declared.refusal.TableWhy.TheVariants.{Shape, UnknownKey, MissingId, BadId, BadNumber, BadMask, BadPermission, BadMode, BadSize}
+
+-- a letter, a digit, `_` or `-`
+abbrev pub is_id_byte : ℕ → Bool
+is_id_byte byte =
+    (is_between 65 90 byte || is_between 97 122 byte) || (is_between 48 57 byte || (byte == 95 || byte == 45))
+
+-- 1 to 64 of these
+abbrev pub is_id : List ℕ → Bool
+is_id text = is_between 1 64 (length text) && list_all is_id_byte text
+
+-- there is a value, and it passes the test
+abbrev pub holds_of : {T : Type 0} → (T → Bool) → Option T → Bool
+holds_of test value = option_map_or test value false
+
+abbrev pub has_key : List ℕ → Members → Bool
+has_key key ms = is_some (get_member key ms)
+
+-- each key that is there has a value of its kind, as far as texts and arrays go
+unfoldable pub has_texts : Members → Bool
+has_texts ms =
+    list_all (λ key. is_some (text_at key ms)) (codes "id" ∷ codes "permission" ∷ codes "mode" ∷ codes "module" ∷ codes "tags" ∷ codes "description" ∷ [])
+
+unfoldable pub has_shape : Members → Bool
+has_shape ms = (has_texts ms && is_some (nodes_at ms)) && not (has_key (codes "module") ms && has_key (codes "nodes") ms)
+
+abbrev pub has_numbers : Members → Bool
+has_numbers ms = (is_some (address_at ms) && is_some (mask_at ms)) && is_some (size_at ms)
+
+-- only whole words go in blocks and through ports
+abbrev pub takes_mask : Mode → ℕ → Bool
+takes_mask Block mask = mask == 0xffffffff
+takes_mask Port mask = mask == 0xffffffff
+takes_mask Single mask = true
+takes_mask Hierarchical mask = true
+
+-- the words of a register of this mode
+abbrev pub takes_size : Mode → ℕ → Bool
+takes_size Block size = is_between 1 4194304 size
+takes_size Port size = is_between 1 4194304 size
+takes_size Single size = size == 1
+takes_size Hierarchical size = size == 1
+
+-- a test of the mode with a number
+abbrev pub mode_takes : (Mode → ℕ → Bool) → Option ℕ → Members → Bool
+mode_takes takes number ms = holds_of (λ mode. holds_of (takes mode) number) (mode_at ms)
+
+-- the rules on what a node says of its register, each with whether it is kept
+abbrev pub register_rules : Members → List (TableWhy × Bool)
+register_rules ms =
+    (BadNumber, has_numbers ms)
+    ∷ (BadMask, holds_of (λ mask. not (mask == 0)) (mask_at ms))
+    ∷ (BadPermission, is_some (permission_at ms))
+    ∷ (BadMode, mode_takes takes_mask (mask_at ms) ms)
+    ∷ (BadSize, mode_takes takes_size (size_at ms) ms)
+    ∷ []
+
+-- all rules, in order
+abbrev pub rules : Members → List (TableWhy × Bool)
+rules ms =
+    (Shape, has_shape ms)
+    ∷ (UnknownKey, has_node_keys ms)
+    ∷ (MissingId, has_key (codes "id") ms)
+    ∷ (BadId, holds_of is_id (text_at (codes "id") ms))
+    ∷ register_rules ms
+
+-- the first rule that is not kept
+abbrev pub first_broken : {Why : Type 0} → List (Why × Bool) → Option Why
+first_broken [] = None
+first_broken (rule ∷ rest) = if rule.1 then first_broken rest else Some rule.0
+
+-- the first rule that a node breaks, its children left aside
+unfoldable pub broken_rule : Members → Option TableWhy
+broken_rule ms = first_broken (rules ms)
+
+-- the same for any value in the place of a node
+abbrev pub node_fault : Data → Option TableWhy
+node_fault (table ms) = broken_rule ms
+node_fault _ = Some Shape

@@ -1,0 +1,251 @@
+//! The keys of one node: what they say, and the first rule that they break.
+ghost use Rattle.std.specs.Prelude.{◌≡◌, None, Some, codes, is_some, IfOk, IfErr, option_copied, option_map, option_and_then};
+ghost use Rattle.std.specs.List.{list_all};
+ghost use Rattle.toml.specs.Data.{get_member, as_array};
+ghost use Rattle.toml.specs.View.{view, array_view, table_view};
+ghost use Rattle.address_table.specs.Numbers.{number as number_of};
+ghost use Rattle.address_table.specs.Keys as spec;
+ghost use Rattle.address_table.specs.Rules as rule;
+ghost use Rattle.address_table.specs.Fields.{SaysFields};
+
+use crate::kinds::{mode_named, permission_named};
+use crate::{Mode, Permission, TableWhy, number};
+use toml::value::Array;
+use toml::{Table, Value};
+
+/// The most words of a block or a port.
+const MOST_WORDS: u32 = 4_194_304;
+
+/// What a node says of its register.
+#[derive(Clone, Copy)]
+pub(crate) struct Fields {
+    pub address: u32,
+    pub mask: u32,
+    pub permission: Permission,
+    pub mode: Mode,
+    pub size: u32,
+}
+
+/// Whether a text is an id (profile): 1 to 64 letters, digits, `_` and `-`. Nodes, tables and boards are named so.
+pub fn is_id(text: &[u8]) -> bool
+    ensures { result ≡ rule.is_id text.now }
+{
+    !text.is_empty() && text.len() <= 64 && has_id_bytes(text)
+}
+
+fn has_id_bytes(text: &[u8]) -> bool
+    ensures { result ≡ list_all rule.is_id_byte text.now }
+{
+    text.iter().all(|byte| is_id_byte(*byte))
+}
+
+fn is_id_byte(byte: u8) -> bool
+    ensures { result ≡ rule.is_id_byte byte }
+{
+    matches!(byte, b'A'..=b'Z' | b'a'..=b'z' | b'0'..=b'9' | b'_' | b'-')
+}
+
+/// What a node says of its register, or the first rule that the node breaks, its children left aside.
+#[tactic(auto, unfolding(crate::specs::Rules::broken_rule))]
+pub(crate) fn read_fields(members: &Table) -> Result<Fields, TableWhy>
+    ensures read { IfOk result (λ fields. (rule.broken_rule (table_view members.now) ≡ None) × SaysFields (table_view members.now) fields) }
+    ensures refused { IfErr result (λ why. rule.broken_rule (table_view members.now) ≡ Some why) }
+{
+    if !has_shape(members) {
+        return Err(TableWhy::Shape);
+    }
+    if !has_node_keys(members) {
+        return Err(TableWhy::UnknownKey);
+    }
+    if !has_key(members, "id") {
+        return Err(TableWhy::MissingId);
+    }
+    if !has_good_id(members) {
+        return Err(TableWhy::BadId);
+    }
+    read_register(members)
+}
+
+/// The same, where the rules before those of the numbers are kept.
+fn read_register(members: &Table) -> Result<Fields, TableWhy>
+    ensures read { IfOk result (λ fields. (rule.first_broken (rule.register_rules (table_view members.now)) ≡ None) × SaysFields (table_view members.now) fields) }
+    ensures refused { IfErr result (λ why. rule.first_broken (rule.register_rules (table_view members.now)) ≡ Some why) }
+{
+    let Some(address) = number_at(members, "address", 0) else {
+        return Err(TableWhy::BadNumber);
+    };
+    let Some(mask) = number_at(members, "mask", u32::MAX) else {
+        return Err(TableWhy::BadNumber);
+    };
+    let Some(size) = number_at(members, "size", 1) else {
+        return Err(TableWhy::BadNumber);
+    };
+    if mask == 0 {
+        return Err(TableWhy::BadMask);
+    }
+    let Some(permission) = permission_at(members) else {
+        return Err(TableWhy::BadPermission);
+    };
+    let Some(mode) = mode_at(members) else {
+        return Err(TableWhy::BadMode);
+    };
+    if !takes_mask(mode, mask) {
+        return Err(TableWhy::BadMode);
+    }
+    if !takes_size(mode, size) {
+        return Err(TableWhy::BadSize);
+    }
+    Ok(Fields {
+        address,
+        mask,
+        permission,
+        mode,
+        size,
+    })
+}
+
+/// Whether the keys that are to have texts and arrays have them, and `module` does not stand beside `nodes`.
+#[tactic(auto, unfolding(crate::specs::Rules::has_shape))]
+fn has_shape(members: &Table) -> bool
+    ensures { result ≡ rule.has_shape (table_view members.now) }
+{
+    has_texts(members)
+        && has_array_of_nodes(members)
+        && !(has_key(members, "module") && has_key(members, "nodes"))
+}
+
+#[tactic(auto, unfolding(crate::specs::Rules::has_texts))]
+fn has_texts(members: &Table) -> bool
+    ensures { result ≡ rule.has_texts (table_view members.now) }
+{
+    text_at(members, "id").is_some()
+        && text_at(members, "permission").is_some()
+        && text_at(members, "mode").is_some()
+        && text_at(members, "module").is_some()
+        && text_at(members, "tags").is_some()
+        && text_at(members, "description").is_some()
+}
+
+/// Whether each key is one that a node may have.
+fn has_node_keys(members: &Table) -> bool
+    ensures { result ≡ spec.has_node_keys (table_view members.now) }
+{
+    for (key, _value) in members.iter() {
+        if !is_node_key(key.as_str()) {
+            return false;
+        }
+    }
+    true
+}
+
+fn is_node_key(key: &str) -> bool
+    ensures { result ≡ spec.is_node_key key.now }
+{
+    key == "id"
+        || key == "address"
+        || key == "mask"
+        || key == "permission"
+        || key == "mode"
+        || key == "size"
+        || key == "module"
+        || key == "tags"
+        || key == "description"
+        || key == "nodes"
+}
+
+pub(crate) fn has_key(members: &Table, key: &str) -> bool
+    ensures { result ≡ rule.has_key key.now (table_view members.now) }
+{
+    value_at(members, key).is_some()
+}
+
+fn has_good_id(members: &Table) -> bool
+    ensures { result ≡ rule.holds_of rule.is_id (spec.text_at (codes "id") (table_view members.now)) }
+{
+    match text_at(members, "id") {
+        Some(id) => is_id(id.as_bytes()),
+        None => false,
+    }
+}
+
+fn takes_mask(mode: Mode, mask: u32) -> bool
+    ensures { result ≡ rule.takes_mask mode mask }
+{
+    match mode {
+        Mode::Block | Mode::Port => mask == u32::MAX,
+        Mode::Single | Mode::Hierarchical => true,
+    }
+}
+
+fn takes_size(mode: Mode, size: u32) -> bool
+    ensures { result ≡ rule.takes_size mode size }
+{
+    match mode {
+        Mode::Block | Mode::Port => 1 <= size && size <= MOST_WORDS,
+        Mode::Single | Mode::Hierarchical => size == 1,
+    }
+}
+
+/// The value at a key.
+fn value_at<'a>(members: &'a Table, key: &str) -> Option<&'a Value>
+    ensures { option_map (λ value. view value.now) result ≡ get_member key.now (table_view members.now) }
+{
+    members.get(key)
+}
+
+/// The text at a key, or the empty text where the key is left out.
+pub(crate) fn text_at<'a>(members: &'a Table, key: &str) -> Option<&'a str>
+    ensures { option_copied result ≡ spec.text_at key.now (table_view members.now) }
+{
+    match value_at(members, key) {
+        Some(value) => value.as_str(),
+        None => Some(""),
+    }
+}
+
+/// Whether the children that stand in the node itself, if any, are an array.
+fn has_array_of_nodes(members: &Table) -> bool
+    ensures { result ≡ is_some (spec.nodes_at (table_view members.now)) }
+{
+    match value_at(members, "nodes") {
+        Some(value) => value.is_array(),
+        None => true,
+    }
+}
+
+/// The items that the children are written as, where there are any.
+pub(crate) fn child_items(members: &Table) -> Option<&Array>
+    ensures { option_map (λ items. array_view items.now) result ≡ option_and_then as_array (get_member (codes "nodes") (table_view members.now)) }
+{
+    match value_at(members, "nodes") {
+        Some(value) => value.as_array(),
+        None => None,
+    }
+}
+
+fn number_at(members: &Table, key: &str, default: u32) -> Option<u32>
+    ensures { result ≡ spec.at_key key.now default number_of (table_view members.now) }
+{
+    match value_at(members, key) {
+        Some(value) => number(value),
+        None => Some(default),
+    }
+}
+
+fn permission_at(members: &Table) -> Option<Permission>
+    ensures { result ≡ spec.permission_at (table_view members.now) }
+{
+    match value_at(members, "permission") {
+        Some(value) => permission_named(value.as_str()?),
+        None => Some(Permission::Rw),
+    }
+}
+
+fn mode_at(members: &Table) -> Option<Mode>
+    ensures { result ≡ spec.mode_at (table_view members.now) }
+{
+    match value_at(members, "mode") {
+        Some(value) => mode_named(value.as_str()?),
+        None => Some(Mode::Single),
+    }
+}

@@ -1,0 +1,25 @@
+//! Register tables as a document writes them: an array of nodes, each a TOML table. `read_table` turns a parsed value
+//! into a `Table`, or names the first faulty node and the rule that it breaks.
+#![tactic(auto)]
+
+mod copies;
+mod keys;
+mod kinds;
+pub mod laws;
+mod nodes;
+mod numbers;
+mod read;
+mod refusal;
+mod text;
+
+pub use ipb_base::NoMemory;
+pub use keys::is_id;
+pub use kinds::{Mode, Permission};
+pub use nodes::{Node, Table};
+pub use numbers::{number, number_in_text};
+pub use read::read_table;
+pub use refusal::{Path, TableRefusal, TableWhy};
+pub use text::Text;
+
+#[cfg(test)]
+mod tests;

@@ -1,0 +1,102 @@
+ghost use Rattle.std.specs.Prelude.{◌≡◌};
+
+use std::alloc::{AllocError, AllocFailed};
+use std::marker::Model;
+
+/// Where a node stands in a table: the positions from 0 that lead to it from the top. Contracts see it as that list. The
+/// path of the table itself is empty.
+#[derive(Debug, Drop)]
+pub struct Path {
+    positions: Vec<u64>,
+}
+
+impl Model for Path {
+    ghost use Rattle.std.specs.Prelude.{List, ℕ};
+
+    ghost Value = { List ℕ };
+
+    ghost view = { λ path. path.positions.items };
+}
+
+impl Path {
+    /// The path with these positions. It takes no memory.
+    pub fn from_vec(positions: Vec<u64>) -> Path
+        ensures { result ≡ positions.items }
+    {
+        Path { positions }
+    }
+
+    pub fn as_slice(&self) -> &[u64]
+        ensures { result.now ≡ self.now }
+    {
+        self.positions.as_slice()
+    }
+
+    /// The positions of this path. It takes no memory.
+    pub fn into_vec(self) -> Vec<u64>
+        ensures { result.items ≡ self }
+    {
+        let Path { positions } = self;
+        positions
+    }
+}
+
+/// The rule of the format that a node breaks (profile). Where a node breaks several, the first of this list is told.
+#[derive(Clone, Copy, Debug, PartialEq, Eq)]
+pub enum TableWhy {
+    /// The table is no array, the node is no TOML table, a key has a value of another kind than it should, or `module`
+    /// stands beside `nodes`.
+    Shape,
+    /// A key that no node has.
+    UnknownKey,
+    MissingId,
+    /// An id that is not 1 to 64 letters, digits, `_` or `-`.
+    BadId,
+    /// `address`, `mask` or `size` is no number of 32 bits.
+    BadNumber,
+    /// A mask of 0.
+    BadMask,
+    BadPermission,
+    /// An unknown mode, or a block or port whose mask leaves out a bit.
+    BadMode,
+    /// A size of 0 or past 4194304, or one other than 1 on a single or hierarchical node.
+    BadSize,
+}
+
+/// Why a table was not read.
+#[derive(Debug, Drop)]
+pub enum TableRefusal {
+    /// The first faulty node, each node before its children, and the first rule that it breaks.
+    At { path: Path, why: TableWhy },
+    NoMemory,
+}
+
+impl From<AllocError> for TableRefusal {
+    ghost use Rattle.address_table.specs.declared.refusal.TableRefusal.TheVariants.{NoMemory};
+
+    ghost from_gives = { λ _ e. e ≡ NoMemory };
+
+    fn from(_error: AllocError) -> TableRefusal {
+        TableRefusal::NoMemory
+    }
+}
+
+impl<T: Drop> From<AllocFailed<T>> for TableRefusal {
+    ghost use Rattle.address_table.specs.declared.refusal.TableRefusal.TheVariants.{NoMemory};
+
+    ghost from_gives = { λ _ e. e ≡ NoMemory };
+
+    fn from(_error: AllocFailed<T>) -> TableRefusal {
+        TableRefusal::NoMemory
+    }
+}
+
+impl From<crate::NoMemory> for TableRefusal {
+    ghost use Rattle.address_table.specs.declared.refusal.TableRefusal.TheVariants.{NoMemory};
+
+    ghost from_gives = { λ _ e. e ≡ NoMemory };
+
+    fn from(_error: crate::NoMemory) -> TableRefusal {
+        TableRefusal::NoMemory
+    }
+}

@@ -1,0 +1,12 @@
+pub mod NamedLemmas
+pub mod Visits
+pub mod Runs
+pub mod Faults
+pub mod MentionLemmas
+pub mod SetLemmas
+pub mod EntryLemmas
+pub mod NamesLemmas
+pub mod CycleLemmas
+pub mod SearchLemmas
+pub mod Compiled
+pub mod OverlapLemmas

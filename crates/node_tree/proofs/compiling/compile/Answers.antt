@@ -1,0 +1,26 @@
+use Rattle.node_tree.proofs.Compiled.{root_walk-siblings, names-iff, refused, no_fault, few_names}
+use Rattle.node_tree.proofs.compiling.compile.Goals as goal
+
+pub returns-in-Ok-clause-names : goal.returns-in-Ok-clause-names
+returns-in-Ok-clause-names c =
+    let walked = rw (c.nodes_of.ensures, c.new.ensures, root_walk-siblings c.args.tables.now c.args.root.now) at c.in-Ok.ensures.walked in
+    rw c.in_ok-index_of-in-Ok.ensures (names-iff c.args.tables.now c.args.root.now c.walk.new.found walked)
+
+pub returns-in-Ok-clause-kept : goal.returns-in-Ok-clause-kept
+returns-in-Ok-clause-kept c =
+    let walked = rw (c.nodes_of.ensures, c.new.ensures, root_walk-siblings c.args.tables.now c.args.root.now) at c.in-Ok.ensures.walked in
+    record {
+      known = c.in_ok-check_known.ensures.known;
+      acyclic = c.in_ok-check_acyclic.ensures.acyclic;
+      nodes = no_fault c.args.tables.now c.args.root.now c.walk.new.found walked;
+    }
+
+pub returns-in-Err-At-clause-refused : goal.returns-in-Err-At-clause-refused
+returns-in-Err-At-clause-refused c =
+    let stop = rw (c.nodes_of.ensures, c.new.ensures, root_walk-siblings c.args.tables.now c.args.root.now, c.in-Err-At.field-0-is) at c.in-Err-At.ensures.stopped in
+    refused c.args.tables.now c.args.root.now c.in-Err-At.name c.in-Err-At.why c.refused_node.result c.refused_node.ensures c.in_ok-check_known.ensures.known c.in_ok-check_acyclic.ensures.acyclic stop
+
+pub index_of-requires : goal.index_of-requires
+index_of-requires c =
+    let walked = rw (c.nodes_of.ensures, c.new.ensures, root_walk-siblings c.args.tables.now c.args.root.now) at c.in-Ok.ensures.walked in
+    few_names c.args.tables.now c.args.root.now c.walk.new.found walked

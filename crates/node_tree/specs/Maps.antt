@@ -1,0 +1,20 @@
+-- The tables of a document by their names, and registers by theirs. Names are bytes of texts, in byte order.
+use Rattle.std.specs.Prelude.{List, []}
+use Rattle.std.specs.Option.{option_map_or}
+use Rattle.std.specs.Ordering.{nat_cmp}
+use Rattle.std.specs.Cmp.Lexicographic.{slice_cmp}
+use Rattle.std.specs.FinMap.{FinMap, get}
+pub use Rattle.node_tree.specs.Named.{Name, named}
+use Rattle.address_table.specs.declared.nodes.Table.{Table}
+use Rattle.address_table.specs.declared.nodes.Node.{Node}
+use Rattle.node_tree.specs.declared.register.Register.{Register}
+
+abbrev pub TableMap : Type 0
+TableMap = FinMap (slice_cmp nat_cmp) Table
+
+abbrev pub RegisterMap : Type 0
+RegisterMap = FinMap (slice_cmp nat_cmp) Register
+
+-- the nodes of the table with a name; none where there is no such table
+abbrev pub nodes_of : TableMap → Name → List Node
+nodes_of tables name = option_map_or (λ t. t.nodes.items) (get tables name) []

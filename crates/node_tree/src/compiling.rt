@@ -1,0 +1,103 @@
+ghost use Rattle.std.specs.Prelude.{◌≡◌, ◌≤◌, ◌↔◌, [], Some, IfOk, IfErr, OnOk};
+ghost use Rattle.std.specs.FinMap as map;
+ghost use Rattle.node_tree.specs.Named.{Name};
+ghost use Rattle.node_tree.specs.Names.{RootNames};
+ghost use Rattle.node_tree.specs.Modules.{ReachesItself, NoTable};
+ghost use Rattle.node_tree.specs.Refusals.{AreKnown, KeepsRules, IsRefusal, Refuses};
+ghost use Rattle.node_tree.specs.declared.register.Register.{Register as Reg};
+
+use crate::check_modules::first_unknown;
+use crate::cycles::first_cycle;
+use crate::name_map::NameMap;
+use crate::walking::{Fault, Found, nodes_of, walk};
+use crate::{CompileRefusal, CompileWhy, Index, NoMemory, Register, Tables};
+use address_table::Text;
+use std::alloc::Global;
+use std::collections::BTreeMap;
+
+/// The index of the registers that a table names (uHAL). The tables are compiled exactly where they break no rule of
+/// `CompileWhy`, and then the index has the registers that the root names and no others.
+pub fn compile(alloc: Global, tables: &Tables, root: &str) -> Result<Index, CompileRefusal>
+    ensures names { IfOk result (λ index. (name : Name) (r : Reg) → (map.get index name ≡ Some r) ↔ RootNames tables.now root.now name r) }
+    ensures kept { OnOk result (KeepsRules tables.now root.now) }
+    ensures refused { IfErr result (λ refusal. IsRefusal tables.now root.now refusal) }
+{
+    check_known(alloc, tables, root)?;
+    check_acyclic(alloc, tables, root)?;
+    let mut found = Found {
+        names: NameMap::new(alloc),
+        count: 0,
+    };
+    match walk(alloc, tables, nodes_of(tables, root), "", 0, 1, &mut found) {
+        Ok(()) => Ok(index_of(alloc, found)?),
+        Err(Fault::At { name, why }) => Err(refused_node(alloc, root, name, why)),
+        Err(Fault::NoMemory) => Err(CompileRefusal::NoMemory),
+    }
+}
+
+/// Refuses unknown modules and an unknown root.
+fn check_known(alloc: Global, tables: &Tables, root: &str) -> Result<(), CompileRefusal>
+    ensures known { OnOk result (AreKnown tables.now root.now) }
+    ensures refused { IfErr result (λ refusal. IsRefusal tables.now root.now refusal) }
+{
+    if let Some(name) = first_unknown(tables) {
+        return Err(refused_table(alloc, name, CompileWhy::UnknownModule));
+    }
+    if tables.get(root).is_none() {
+        return Err(refused_table(alloc, root, CompileWhy::UnknownModule));
+    }
+    Ok(())
+}
+
+/// Refuses a table that leads to itself.
+fn check_acyclic(alloc: Global, tables: &Tables, root: &str) -> Result<(), CompileRefusal>
+    requires { AreKnown tables.now root.now }
+    ensures acyclic { OnOk result (NoTable tables.now (ReachesItself tables.now)) }
+    ensures refused { IfErr result (λ refusal. IsRefusal tables.now root.now refusal) }
+{
+    match first_cycle(alloc, tables) {
+        Ok(None) => Ok(()),
+        Ok(Some(name)) => Err(refused_table(alloc, name, CompileWhy::ModuleCycle)),
+        Err(NoMemory) => Err(CompileRefusal::NoMemory),
+    }
+}
+
+/// A refusal of a table as a whole.
+fn refused_table(alloc: Global, table: &str, why: CompileWhy) -> CompileRefusal
+    ensures { Refuses table.now [] why result }
+{
+    match (Text::copy_of(alloc, table), Text::copy_of(alloc, "")) {
+        (Ok(table), Ok(path)) => CompileRefusal::At { table, path, why },
+        _ => CompileRefusal::NoMemory,
+    }
+}
+
+/// A refusal of a node by its name.
+fn refused_node(alloc: Global, root: &str, path: Text, why: CompileWhy) -> CompileRefusal
+    ensures { Refuses root.now path why result }
+{
+    match Text::copy_of(alloc, root) {
+        Ok(table) => CompileRefusal::At { table, path, why },
+        Err(NoMemory) => CompileRefusal::NoMemory,
+    }
+}
+
+/// The index of the registers that the walk found.
+fn index_of(alloc: Global, found: Found) -> Result<Index, NoMemory>
+    requires { map.len found.names ≤ 65536 }
+    ensures { IfOk result (λ index. index ≡ found.names) }
+{
+    let Found { names, count: _ } = found;
+    let entries = listed(alloc, names.into_entries())?;
+    Ok(Index::from_sorted(entries))
+}
+
+/// The entries of a map, in order.
+fn listed(
+    alloc: Global,
+    names: BTreeMap<String, Register>,
+) -> Result<Vec<(String, Register)>, NoMemory>
+    ensures { IfOk result (λ list. list.items ≡ names.entries) }
+{
+    Ok(names.into_iter().collect(alloc)?)
+}

@@ -1,0 +1,108 @@
+ghost use Rattle.std.specs.Prelude.{◌≡◌, ◌<◌, ◌≤◌, ◌==◌, [], IfOk, length, slice_get, string_bytes};
+ghost use Rattle.std.specs.Prelude.{T};
+ghost use Rattle.std.specs.Ordering.{nat_cmp};
+ghost use Rattle.std.specs.Cmp.Lexicographic.{slice_cmp};
+ghost use Rattle.std.specs.FinMap as map;
+ghost use Rattle.node_tree.specs.Named.{named};
+ghost use Rattle.node_tree.specs.Overlaps.{overlapping};
+
+use crate::overlapping::overlapping_pairs;
+use crate::{NoMemory, Register};
+use std::alloc::Global;
+use std::cmp::Ordering;
+use std::marker::Model;
+
+/// The registers that a table names. Contracts see the map from the bytes of the names to the registers.
+#[derive(Drop)]
+pub struct Index {
+    /// In byte order of the names, no two of which are equal.
+    entries: Vec<(String, Register)>,
+}
+
+impl Model for Index {
+    ghost use Rattle.std.specs.Prelude.{T, ◌≤◌, length};
+    ghost use Rattle.std.specs.Ordering.{nat_cmp};
+    ghost use Rattle.std.specs.Cmp.Lexicographic.{slice_cmp};
+    ghost use Rattle.std.specs.Coded.{coded_ℕ, coded_list};
+    ghost use Rattle.std.specs.FinMap as map;
+    ghost use Rattle.node_tree.specs.Maps.{RegisterMap, named};
+    ghost use Rattle.node_tree.specs.contracts.register.Register as r;
+
+    ghost Value = { RegisterMap };
+
+    ghost coded = { map.code (coded_list coded_ℕ) r.the_row.coded };
+
+    ghost view = { λ index. map.from_sorted (named index.entries.items) };
+
+    ghost invariant = { λ index. T (map.is_sorted (slice_cmp nat_cmp) (named index.entries.items)) × (length index.entries.items ≤ 65536) };
+}
+
+impl Index {
+    /// The index of entries in byte order.
+    pub(crate) fn from_sorted(entries: Vec<(String, Register)>) -> Index
+        requires sorted { T (map.is_sorted (slice_cmp nat_cmp) (named entries.items)) }
+        requires few { length entries.items ≤ 65536 }
+        ensures { result ≡ map.from_sorted (named entries.items) }
+    {
+        Index { entries }
+    }
+
+    /// The register of a name, if the index has the name.
+    pub fn find(&self, name: &str) -> Option<Register>
+        ensures { result ≡ map.get self.now name.now }
+    {
+        found_in(&self.entries, name)
+    }
+
+    /// How many registers there are.
+    pub fn len(&self) -> usize
+        ensures { result ≡ map.len self.now }
+    {
+        let entries = self.entries.as_slice();
+        entries.len()
+    }
+
+    pub fn is_empty(&self) -> bool
+        ensures { result ≡ (map.len self.now == 0) }
+    {
+        self.len() == 0
+    }
+
+    /// A register by its place from 0, in byte order of the names.
+    pub fn at(&self, i: usize) -> (&str, Register)
+        requires { i < map.len self.now }
+        ensures { slice_get (map.entries self.now) i ≡ Some (result.0.now, result.1) }
+    {
+        let entries = self.entries.as_slice();
+        let entry = &entries[i];
+        (entry.0.as_str(), entry.1)
+    }
+}
+
+impl Index {
+    /// The registers that share bits of a word with one before them, in byte order of the names: for each the places of
+    /// the first such one and of itself.
+    pub fn overlaps(&self, alloc: Global) -> Result<Vec<(u32, u32)>, NoMemory>
+        ensures { IfOk result (λ pairs. pairs.items ≡ overlapping [] (map.entries self.now)) }
+    {
+        overlapping_pairs(alloc, self.entries.as_slice())
+    }
+}
+
+/// The register of a name among entries in byte order.
+fn found_in(entries: &[(String, Register)], name: &str) -> Option<Register>
+    requires { T (map.is_sorted (slice_cmp nat_cmp) (named entries.now)) }
+    ensures { result ≡ map.find (slice_cmp nat_cmp) name.now (named entries.now) }
+{
+    match entries.binary_search_by(|entry| order(entry, name)) {
+        Ok(i) => Some(entries[i].1),
+        Err(_) => None,
+    }
+}
+
+/// How the name of an entry stands to another, in byte order.
+fn order(entry: &(String, Register), name: &str) -> Ordering
+    ensures { result ≡ slice_cmp nat_cmp (string_bytes entry.now.0) name.now }
+{
+    entry.0.as_str().cmp(name)
+}

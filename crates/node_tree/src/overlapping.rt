@@ -1,0 +1,97 @@
+//! Registers that share bits of a word.
+ghost use Rattle.std.specs.Prelude.{◌≡◌, ◌<◌, ◌≤◌, ◌++◌, [], IfOk, IfSome, length, string_bytes, option_to_list};
+ghost use Rattle.std.specs.List.{position_from};
+ghost use Rattle.node_tree.specs.Named.{named};
+ghost use Rattle.node_tree.specs.Overlaps as spec;
+
+use crate::walking::words_of;
+use crate::{NoMemory, Register};
+use address_table::Mode;
+use std::alloc::Global;
+
+/// A name and its register.
+type Entry = (String, Register);
+
+/// For each entry that overlaps one before it, the places of the first such one and of the entry.
+pub(crate) fn overlapping_pairs(
+    alloc: Global,
+    entries: &[Entry],
+) -> Result<Vec<(u32, u32)>, NoMemory>
+    requires { length entries.now ≤ 65536 }
+    ensures { IfOk result (λ pairs. pairs.items ≡ spec.overlapping [] (named entries.now)) }
+{
+    let mut pairs = Vec::new(alloc);
+    for i in 0..entries.len() {
+        let entry = &entries[i];
+        let pair = pair_with(&entries[..i], entry);
+        push_some(&mut pairs, pair)?;
+    }
+    Ok(pairs)
+}
+
+fn push_some(pairs: &mut Vec<(u32, u32)>, pair: Option<(u32, u32)>) -> Result<(), NoMemory>
+    ensures { IfOk result (λ _. pairs.new.items ≡ pairs.old.items ++ option_to_list pair) }
+{
+    match pair {
+        Some(pair) => Ok(pairs.push(pair)?),
+        None => Ok(()),
+    }
+}
+
+/// The first entry that another overlaps, with the place after these entries.
+fn pair_with(before: &[Entry], entry: &Entry) -> Option<(u32, u32)>
+    requires { length before.now ≤ 65536 }
+    ensures { option_to_list result ≡ spec.pair_with (length before.now) (position_from (λ a. spec.overlap (string_bytes a.0, a.1) (string_bytes entry.now.0, entry.now.1)) 0 before.now) }
+{
+    match first_overlapping(before, entry) {
+        Some(first) => Some((first as u32, before.len() as u32)),
+        None => None,
+    }
+}
+
+fn first_overlapping(before: &[Entry], entry: &Entry) -> Option<usize>
+    ensures first { result ≡ position_from (λ a. spec.overlap (string_bytes a.0, a.1) (string_bytes entry.now.0, entry.now.1)) 0 before.now }
+    ensures within { IfSome result (λ i. i < length before.now) }
+{
+    for i in 0..before.len() {
+        let a = &before[i];
+        if overlap(a, entry) {
+            return Some(i);
+        }
+    }
+    None
+}
+
+/// Whether two registers share bits of a word: neither name is above the other, neither is hierarchical, and they share
+/// an address and a bit of their masks.
+fn overlap(a: &Entry, b: &Entry) -> bool
+    ensures { result ≡ spec.overlap (string_bytes a.now.0, a.now.1) (string_bytes b.now.0, b.now.1) }
+{
+    !is_above(a.0.as_bytes(), b.0.as_bytes())
+        && !is_above(b.0.as_bytes(), a.0.as_bytes())
+        && takes_words(a.1.mode)
+        && takes_words(b.1.mode)
+        && share_an_address(&a.1, &b.1)
+        && a.1.mask & b.1.mask != 0
+}
+
+/// Whether another name begins with this one and a dot.
+fn is_above(name: &[u8], other: &[u8]) -> bool
+    ensures { result ≡ spec.is_above name.now other.now }
+{
+    name.len() < other.len() && &other[..name.len()] == name && other[name.len()] == b'.'
+}
+
+fn takes_words(mode: Mode) -> bool
+    ensures { result ≡ spec.takes_words mode }
+{
+    mode != Mode::Hierarchical
+}
+
+fn share_an_address(a: &Register, b: &Register) -> bool
+    ensures { result ≡ spec.share_an_address a.now b.now }
+{
+    let a_end = a.address as u64 + words_of(a.mode, a.size) as u64;
+    let b_end = b.address as u64 + words_of(b.mode, b.size) as u64;
+    (a.address as u64) < b_end && (b.address as u64) < a_end
+}

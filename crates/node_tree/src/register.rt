@@ -1,0 +1,14 @@
+use address_table::{Mode, Permission};
+
+/// What a name of an index stands for (uHAL).
+#[derive(Clone, Copy, Debug, PartialEq, Eq)]
+pub struct Register {
+    /// The sum of the addresses of the nodes that lead to it, in words.
+    pub address: u32,
+    /// The bits of the word that the register has; not 0.
+    pub mask: u32,
+    pub permission: Permission,
+    pub mode: Mode,
+    /// The words of a block or a port; 1 for the other modes.
+    pub size: u32,
+}

@@ -1,0 +1,71 @@
+ghost use Rattle.std.specs.Prelude.{◌≡◌, OnOk, OnErr, option_copied};
+ghost use Rattle.std.specs.FinMap as map;
+ghost use Rattle.address_table.specs.Tables.{IsReadable};
+ghost use Rattle.node_tree.specs.Named.{named};
+
+use crate::name_map::NameMap;
+use address_table::{NoMemory, Table};
+use std::alloc::Global;
+use std::collections::BTreeMap;
+use std::marker::Model;
+
+/// The tables of a document by their names. Contracts see the map from the bytes of the names to the tables.
+#[derive(Drop)]
+pub struct Tables {
+    alloc: Global,
+    by_name: NameMap<Table>,
+}
+
+impl Model for Tables {
+    ghost use Rattle.std.specs.Coded.{coded_ℕ, coded_list};
+    ghost use Rattle.std.specs.FinMap as map;
+    ghost use Rattle.node_tree.specs.Maps.{TableMap};
+    ghost use Rattle.address_table.specs.contracts.nodes.Table as t;
+
+    ghost Value = { TableMap };
+
+    ghost coded = { map.code (coded_list coded_ℕ) t.the_row.coded };
+
+    ghost view = { λ tables. tables.by_name };
+}
+
+impl Tables {
+    /// No tables.
+    pub fn new(alloc: Global) -> Tables
+        ensures { result ≡ map.empty }
+    {
+        Tables {
+            alloc,
+            by_name: NameMap::new(alloc),
+        }
+    }
+
+    /// Keeps a table under a name, in the place of one of that name. After `NoMemory` the tables are as before.
+    pub fn put(&mut self, name: &str, table: Table) -> Result<(), NoMemory>
+        requires { IsReadable table }
+        ensures ok { OnOk result (self.new ≡ map.insert self.old name.now table) }
+        ensures err { OnErr result (self.new ≡ self.old) }
+    {
+        self.by_name.insert(self.alloc, name, table)
+    }
+
+    /// The table of a name.
+    pub fn get(&self, name: &str) -> Option<&Table>
+        ensures { option_copied result ≡ map.get self.now name.now }
+    {
+        self.by_name.get(name)
+    }
+
+    pub(crate) fn by_name(&self) -> &NameMap<Table>
+        ensures { result.now ≡ self.now }
+    {
+        &self.by_name
+    }
+
+    /// The names and tables, in byte order of the names.
+    pub(crate) fn entries(&self) -> &BTreeMap<String, Table>
+        ensures { named result.now.entries ≡ map.entries self.now }
+    {
+        self.by_name.entries()
+    }
+}

@@ -1,0 +1,229 @@
+use super::*;
+use address_table::{Mode, Permission, read_table};
+use std::alloc::Global;
+use std::test::*;
+
+const REALISTIC: &str = r#"
+[[channel]]
+id = "ctrl"
+[[channel.nodes]]
+id = "enable"
+mask = "0x1"
+[[channel.nodes]]
+id = "gain"
+mask = "0xf0"
+[[channel]]
+id = "status"
+address = 1
+permission = "r"
+[[channel]]
+id = "buffer"
+address = "0x10"
+mode = "block"
+size = 16
+[[frontend]]
+id = "id"
+permission = "r"
+[[frontend]]
+id = "ch0"
+address = 0x100
+mode = "hierarchical"
+module = "channel"
+[[frontend]]
+id = "ch1"
+address = 0x200
+mode = "hierarchical"
+module = "channel"
+"#;
+
+/// The tables of a document, each under its key.
+fn tables_in(alloc: Global, text: &str) -> Result<Tables, Fail> {
+    let document = toml::table_from_str(alloc, text)?;
+    let mut tables = Tables::new(alloc);
+    for (name, value) in document.iter() {
+        let table = read_table(alloc, value)?;
+        tables.put(name.as_str(), table)?;
+    }
+    Ok(tables)
+}
+
+/// The table, the path and the rule of a refusal.
+fn refusal_of(alloc: Global, text: &str, root: &str) -> Result<(String, String, CompileWhy), Fail> {
+    let tables = tables_in(alloc, text)?;
+    match compile(alloc, &tables, root) {
+        Ok(_) => Err("compiled")?,
+        Err(CompileRefusal::NoMemory) => Err("memory")?,
+        Err(CompileRefusal::At { table, path, why }) => {
+            Ok((table.into_string(), path.into_string(), why))
+        }
+    }
+}
+
+#[test]
+fn registers_are_listed_by_name(rt: HostRuntime) -> Result<(), Fail> {
+    let tables = tables_in(rt.alloc(), REALISTIC)?;
+    let index = compile(rt.alloc(), &tables, "channel")?;
+    assert_eq!(rt; index.len(), 5);
+    let names = ["buffer", "ctrl", "ctrl.enable", "ctrl.gain", "status"];
+    let addresses = [0x10, 0, 0, 0, 1];
+    let masks = [0xffff_ffff, 0xffff_ffff, 1, 0xf0, 0xffff_ffff];
+    for i in 0..5 {
+        assert!(rt; i < index.len());
+        let (name, register) = index.at(i);
+        assert_eq!(rt; name, names[i]);
+        assert_eq!(rt; register.address, addresses[i]);
+        assert_eq!(rt; register.mask, masks[i]);
+    }
+    Ok(())
+}
+
+#[test]
+fn nodes_of_a_module_stand_below_the_node(rt: HostRuntime) -> Result<(), Fail> {
+    let tables = tables_in(rt.alloc(), REALISTIC)?;
+    assert!(rt; tables.get("channel").is_some());
+    let index = compile(rt.alloc(), &tables, "frontend")?;
+    assert_eq!(rt; index.len(), 13);
+    let gain = index.find("ch1.ctrl.gain").ok_or("no such name")?;
+    assert_eq!(rt; gain.address, 0x200);
+    assert_eq!(rt; gain.mask, 0xf0);
+    let buffer = index.find("ch0.buffer").ok_or("no such name")?;
+    assert_eq!(rt; buffer.address, 0x110);
+    assert_eq!(rt; buffer.mode, Mode::Block);
+    assert_eq!(rt; buffer.size, 16);
+    let id = index.find("id").ok_or("no such name")?;
+    assert_eq!(rt; id.permission, Permission::R);
+    assert!(rt; index.find("ch0.").is_none());
+    assert!(rt; index.find("ctrl").is_none());
+    Ok(())
+}
+
+#[test]
+fn an_empty_table_has_no_names(rt: HostRuntime) -> Result<(), Fail> {
+    let tables = tables_in(rt.alloc(), "main = []")?;
+    let index = compile(rt.alloc(), &tables, "main")?;
+    assert!(rt; index.is_empty());
+    assert!(rt; index.find("x").is_none());
+    Ok(())
+}
+
+/// Two masks that share a bit, and pairs that do not count: names of which one begins with the other and a dot, and a
+/// name that begins with the other without a dot.
+#[test]
+fn registers_that_share_bits_are_paired(rt: HostRuntime) -> Result<(), Fail> {
+    let text =
+        "main = [{ id = \"x\", mask = 0xff }, { id = \"y\", mask = 1 }, { id = \"z\", mask = 0x100 }]";
+    let tables = tables_in(rt.alloc(), text)?;
+    let index = compile(rt.alloc(), &tables, "main")?;
+    let pairs = index.overlaps(rt.alloc())?;
+    assert_eq!(rt; pairs.len(), 1);
+    assert_eq!(rt; pairs[0].0, 0);
+    assert_eq!(rt; pairs[0].1, 1);
+    let text =
+        "main = [{ id = \"a\", nodes = [{ id = \"top\", mask = 1 }] }, { id = \"ab\" }, { id = \"m\", address = 1, mode = \"block\", size = 2 }, { id = \"n\", address = 2 }]";
+    let tables = tables_in(rt.alloc(), text)?;
+    let index = compile(rt.alloc(), &tables, "main")?;
+    let pairs = index.overlaps(rt.alloc())?;
+    assert_eq!(rt; pairs.len(), 2);
+    assert_eq!(rt; pairs[0].0, 0);
+    assert_eq!(rt; pairs[0].1, 2);
+    assert_eq!(rt; pairs[1].0, 3);
+    assert_eq!(rt; pairs[1].1, 4);
+    Ok(())
+}
+
+#[test]
+fn the_first_broken_rule_is_told(rt: HostRuntime) -> Result<(), Fail> {
+    let cases = [
+        (
+            "m = [{ id = \"a\", module = \"m\" }]",
+            "m",
+            "m",
+            "",
+            CompileWhy::ModuleCycle,
+        ),
+        (
+            "m = [{ id = \"a\", module = \"n\" }]",
+            "m",
+            "m",
+            "",
+            CompileWhy::UnknownModule,
+        ),
+        ("m = []", "n", "n", "", CompileWhy::UnknownModule),
+        (
+            "main = [{ id = \"x\" }, { id = \"w\" }, { id = \"x\" }]",
+            "main",
+            "main",
+            "x",
+            CompileWhy::Duplicate,
+        ),
+        (
+            "main = [{ id = \"y\", address = 0xffffffff, nodes = [{ id = \"z\", address = 1 }] }]",
+            "main",
+            "main",
+            "y.z",
+            CompileWhy::AddressPastEnd,
+        ),
+        (
+            "main = [{ id = \"b\", address = 0xffffffff, mode = \"inc\", size = 2 }]",
+            "main",
+            "main",
+            "b",
+            CompileWhy::AddressPastEnd,
+        ),
+        (
+            "a = [{ id = \"x\", module = \"b\" }]\nb = [{ id = \"y\", module = \"b\" }]",
+            "a",
+            "b",
+            "",
+            CompileWhy::ModuleCycle,
+        ),
+    ];
+    for (text, root, table, path, why) in cases {
+        let (told_table, told_path, rule) = refusal_of(rt.alloc(), text, root)?;
+        assert_eq!(rt; told_table.as_str(), table, "{text}");
+        assert_eq!(rt; told_path.as_str(), path, "{text}");
+        assert_eq!(rt; rule, why, "{text}");
+    }
+    Ok(())
+}
+
+/// Tables of 256 and of 257 nodes, the second with the first below each node: 66,049 nodes in all.
+#[test]
+fn too_many_nodes_are_refused(rt: HostRuntime) -> Result<(), Fail> {
+    let mut text = String::new(rt.alloc());
+    for i in 0..256 {
+        let n: u32 = i;
+        let node = format!(in rt.alloc(); "[[leaf]]\nid = \"n{n}\"\n")?;
+        text.push_str(node.as_str())?;
+    }
+    for i in 0..257 {
+        let n: u32 = i;
+        let node = format!(in rt.alloc(); "[[main]]\nid = \"m{n}\"\nmodule = \"leaf\"\n")?;
+        text.push_str(node.as_str())?;
+    }
+    let (table, path, why) = refusal_of(rt.alloc(), text.as_str(), "main")?;
+    assert_eq!(rt; table.as_str(), "main");
+    assert_eq!(rt; path.as_str(), "m255.n0");
+    assert_eq!(rt; why, CompileWhy::TooMany);
+    Ok(())
+}
+
+/// Seventeen tables, each below the one before.
+#[test]
+fn a_name_of_17_ids_is_refused(rt: HostRuntime) -> Result<(), Fail> {
+    let mut text = String::new(rt.alloc());
+    for i in 0..16 {
+        let n: u32 = i;
+        let next = n + 1;
+        let node = format!(in rt.alloc(); "[[t{n}]]\nid = \"a\"\nmodule = \"t{next}\"\n")?;
+        text.push_str(node.as_str())?;
+    }
+    text.push_str("[[t16]]\nid = \"a\"\n")?;
+    let (_table, path, why) = refusal_of(rt.alloc(), text.as_str(), "t0")?;
+    assert_eq!(rt; why, CompileWhy::TooDeep);
+    assert_eq!(rt; path.len(), 33);
+    let tables = tables_in(rt.alloc(), text.as_str())?;
+    let index = compile(rt.alloc(), &tables, "t1")?;
+    assert_eq!(rt; index.len(), 16);
+    Ok(())
+}
