@@ -4,6 +4,7 @@ pub mod Script
 pub mod Opening
 pub mod Answered
 pub mod OneTranscript
+pub mod ScriptLines
 pub mod CanRun
 pub mod Standing
 pub mod Causes

@@ -3,6 +3,8 @@ use Rattle.std.specs.Prelude.{ℕ, ◌+◌, ◌-◌, List, [], ◌∷◌, ◌++�
 use Rattle.std.specs.List.{flat_map}
 use Rattle.std.specs.Fmt.{decimal, digits}
 use Rattle.ipbus_program.specs.declared.session.Register.{Register}
+use Rattle.ipbus_program.specs.declared.session.BoardSpec.{BoardSpec}
+use Rattle.ipbus_program.specs.Plan.{opening_values}
 use Rattle.ipbus_program.specs.declared.answer.Refusal.{Refusal}
 use Rattle.ipbus_program.specs.declared.answer.Refusal.TheVariants.{TooLong, NotToml, NotBuilt}
 use Rattle.ipbus_program.specs.Transcript.{OpResult, Values, Failed, Skipped, Garbled, OpLine, op_lines, BoardLine, Transcript}
@@ -55,6 +57,13 @@ abbrev pub one_body_text : List ℕ → List Register → List ℕ → List ℕ
 one_body_text board script words =
     client_text 1 (op_lines board 1 1 script (map (λ word. Values (word ∷ [])) words))
     ++ board_text (record { name = board; places = 1; replied = 1; timed_out = 0; lost = 0 })
+
+-- the lines, from a number on, of a script whose board answers with its opening words, and their text
+abbrev pub value_lines : BoardSpec → ℕ → ℕ → List Register → List OpLine
+value_lines board place number script = op_lines board.name place number script (map (λ word. Values (word ∷ [])) (opening_values board script))
+
+abbrev pub lines_text : BoardSpec → ℕ → ℕ → List Register → List ℕ
+lines_text board place number script = flat_map op_text (value_lines board place number script)
 
 abbrev pub refusal_name : Refusal → List ℕ
 refusal_name TooLong = codes "TooLong"

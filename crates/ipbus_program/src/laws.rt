@@ -1,13 +1,15 @@
 //! Laws of the definitions. These functions do nothing when they run: their clauses are what is proved.
 
-ghost use Rattle.std.specs.Prelude.{◌≡◌, ◌*◌, ◌↔◌, ◌⊎◌, ℕ, List, length, Some, None};
+ghost use Rattle.std.specs.Prelude.{◌≡◌, ◌+◌, ◌*◌, ◌↔◌, ◌⊎◌, ℕ, List, [], ◌∷◌, ◌++◌, length, map, replicate, Some, None};
 ghost use Rattle.toml.specs.Data.{Members};
 ghost use Rattle.board_bus.specs.Bodies.{run_body};
 ghost use Rattle.ipbus_program.specs.declared.session.Register.{Register};
+ghost use Rattle.ipbus_program.specs.declared.session.BoardSpec.{BoardSpec};
 ghost use Rattle.ipbus_program.specs.declared.session.Session.{Session};
 ghost use Rattle.ipbus_program.specs.Document.{CanRun};
-ghost use Rattle.ipbus_program.specs.Plan.{opening_values, script_body, session_bus};
-ghost use Rattle.ipbus_program.specs.Text.{one_body_text};
+ghost use Rattle.ipbus_program.specs.Plan.{opening_word, opening_values, script_body, session_bus};
+ghost use Rattle.ipbus_program.specs.Transcript.{Values};
+ghost use Rattle.ipbus_program.specs.Text.{client_heading, board_text, value_lines, lines_text, one_body_text};
 ghost use Rattle.ipbus_program.specs.Owed.{IsTranscriptOf};
 ghost use Rattle.ipbus_program.specs.Reading.{session_of};
 ghost use Rattle.ipbus_program.specs.declared.answer.Refusal.{Refusal};
@@ -31,14 +33,26 @@ pub fn bytes_have_one_answer()
     ensures not_both { (bytes : List ℕ) (session : Session) (refusal : Refusal) → IsAccepted bytes session → ¬ Deserves refusal bytes }
 {}
 
-/// A session has one transcript: its lines show, in order, the words that its board opens with at the registers read. So two
-/// reads of one register show the same word, and the text of a script is the texts of its lines one after another.
+/// A session has one transcript: its lines show, in order, the words that its board opens with at the registers read.
 pub fn one_transcript()
     ensures transcript { (session : Session) (text : List ℕ) → CanRun session → IsTranscriptOf session text
         → text ≡ one_body_text session.board.name session.script (opening_values session.board session.script) }
+    ensures by_lines { (session : Session) (text : List ℕ) → CanRun session → IsTranscriptOf session text
+        → text ≡ client_heading 1 ++ lines_text session.board 1 1 session.script
+        ++ board_text (record { name = session.board.name; places = 1; replied = 1; timed_out = 0; lost = 0 }) }
     ensures there { (session : Session) → CanRun session
         → IsTranscriptOf session (one_body_text session.board.name session.script (opening_values session.board session.script)) }
     ensures form { (document : Members) (session : Session) → IsFirstForm document session → CanRun session }
+{}
+
+/// The lines of a script are those of its parts, one after the other, and two reads of one address show the same word.
+pub fn lines_follow_one_another()
+    ensures parts { (board : BoardSpec) (place number : ℕ) (script more : List Register)
+        → lines_text board place number (script ++ more)
+        ≡ lines_text board place number script ++ lines_text board place (number + length script) more }
+    ensures same_word { (board : BoardSpec) (place number : ℕ) (first second : Register) → first.address ≡ second.address
+        → map (λ line. line.result) (value_lines board place number (first ∷ second ∷ []))
+        ≡ replicate 2 (Values (opening_word board first.address ∷ [])) }
 {}
 
 /// The script's body leaves its board as it was.

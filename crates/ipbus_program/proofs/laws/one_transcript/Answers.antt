@@ -7,6 +7,9 @@ use Rattle.ipbus_program.proofs.laws.one_transcript.Goals as goal
 pub returns-clause-transcript : goal.returns-clause-transcript
 returns-clause-transcript c = same_text
 
+pub returns-clause-by_lines : goal.returns-clause-by_lines
+returns-clause-by_lines c = same_text
+
 pub returns-clause-there : goal.returns-clause-there
 returns-clause-there c session can = is_transcript session _ _ can refl refl
 
