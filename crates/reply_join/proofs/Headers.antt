@@ -10,7 +10,7 @@ use Rattle.transaction_codec.specs.Header.{header}
 use Rattle.transaction_codec.specs.Request.{op_kind, op_count, IsRequest}
 use Rattle.transaction_codec.specs.Reply.{IsBusFault, Carries, values_after, reply_words}
 use Rattle.transaction_codec.specs.Answer.{values_done, Fails, IsDone, IsFailed}
-use Rattle.reply_join.specs.Progress.{IsOutcome, IsHeaderTo, IsAnswer, IsShort, IsCut}
+use Rattle.reply_join.specs.Progress.{IsOutcome, IsHeaderTo, IsReplyOf, IsShort, IsCut}
 use Rattle.transaction_codec.proofs.Steps.{AreWords-take}
 
 -- ---- a request that was done
@@ -78,7 +78,7 @@ reply_with request count code values = record { tid = request.tid; kind = op_kin
 
 -- a header of a reply to the request and as many words as it tells are a reply to the request
 pub answer_from : (request : Request) (count code : ℕ) (values : List ℕ) → IsRequest request → IsOutcome request.op count code → AreWords values
-    → length values ≡ values_after (op_kind request.op) count → IsAnswer request (reply_with request count code values)
+    → length values ≡ values_after (op_kind request.op) count → IsReplyOf request (reply_with request count code values)
 answer_from request count code values is (inl done) fits len = record {
   is = record {
     tid = is.tid;
@@ -106,7 +106,7 @@ answer_outcome request reply (inl done) = (done.tid, done.kind, inl (done.code, 
 answer_outcome request reply (inr failed) = (failed.tid, failed.kind, inr (fails_again request.op reply.code reply.count (length reply.values) failed.fault))
 
 -- a reply to the request begins with a header of one
-pub header_from : (request : Request) (reply : Reply) → IsAnswer request reply → IsHeaderTo request (header reply.tid reply.count reply.kind reply.code) reply.count reply.code
+pub header_from : (request : Request) (reply : Reply) → IsReplyOf request reply → IsHeaderTo request (header reply.tid reply.count reply.kind reply.code) reply.count reply.code
 header_from request reply is =
     let at = answer_outcome request reply is.answers in
     (ap (λ n. header n reply.count reply.kind reply.code) at.0 ∙ ap (λ n. header request.tid reply.count n reply.code) at.1, at.2)
@@ -147,7 +147,7 @@ short_of request word count code after is head fits few =
 -- as many as it tells
 pub whole_of : (request : Request) (word count code : ℕ) (after : List ℕ) → IsRequest request → IsHeaderTo request word count code → AreWords after
     → values_after (op_kind request.op) count ≤ length after
-    → IsAnswer request (reply_with request count code (take (values_after (op_kind request.op) count) after))
+    → IsReplyOf request (reply_with request count code (take (values_after (op_kind request.op) count) after))
     × (word ∷ after ≡ reply_words (reply_with request count code (take (values_after (op_kind request.op) count) after)) ++ drop (values_after (op_kind request.op) count) after)
 whole_of request word count code after is head fits enough =
     let n : ℕ = values_after (op_kind request.op) count in (
@@ -166,7 +166,7 @@ first_and_rest (word ∷ words) some = ap (λ (ws : List ℕ). word ∷ ws) (sym
 -- the reply that was read, in the code's words
 pub found_of : (request : Request) (words after rest : List ℕ) (word count code kind n : ℕ) → IsRequest request → AreWords words → words ≡ word ∷ after → IsHeaderTo request word count code
     → kind ≡ op_kind request.op → n ≡ values_after (op_kind request.op) count → n ≤ length after → rest ≡ drop n after
-    → IsAnswer request (record { tid = request.tid; kind = kind; count = count; code = code; values = take n after }) × (words ≡ header request.tid count kind code ∷ (take n after ++ rest))
+    → IsReplyOf request (record { tid = request.tid; kind = kind; count = count; code = code; values = take n after }) × (words ≡ header request.tid count kind code ∷ (take n after ++ rest))
 found_of request words after rest word count code kind n is fits parts head kind_is n_is enough rest_is =
     let words_fit : AreWords (word ∷ after) = subst AreWords parts fits in
     rw (kind_is, n_is, rest_is, parts) (rw n_is (whole_of request word count code after is head words_fit.1 (omega (arith, enough, n_is))))

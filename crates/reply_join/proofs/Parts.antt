@@ -13,7 +13,7 @@ use Rattle.transaction_codec.proofs.Formats.{requests_format, replies_format}
 use Rattle.transaction_codec.proofs.Requests.{request_again}
 use Rattle.transaction_codec.proofs.Longest.{longest_nothing, longest_step, answer_is_reply}
 use Rattle.reply_join.specs.Joining.{IsBody}
-use Rattle.reply_join.specs.Progress.{IsAnswer, IsCut}
+use Rattle.reply_join.specs.Progress.{IsReplyOf, IsCut}
 
 pub same_request : (left right : Request) (x y : List ℕ) → IsRequest left → IsRequest right → request_words left ++ x ≡ request_words right ++ y → (left ≡ right) × (x ≡ y)
 same_request = same_first request_words IsRequest BreaksRequest request_at requests_format
@@ -120,7 +120,7 @@ reply_from request reply asked is is_reply body (inl done) =
     (later.0, done_then request reply asked later.0 is is_reply done later.1)
 reply_from request reply asked is is_reply body (inr failed) = ([], failed_last request reply asked is is_reply failed body)
 
-pub answer_goes_on : (request : Request) (reply : Reply) (asked : List ℕ) → IsRequest request → IsAnswer request reply → IsBody asked
+pub answer_goes_on : (request : Request) (reply : Reply) (asked : List ℕ) → IsRequest request → IsReplyOf request reply → IsBody asked
     → (rest : List ℕ) × IsReplyTo (request_words request ++ asked) (reply_words reply ++ rest)
 answer_goes_on request reply asked is answer body = reply_from request reply asked is answer.is body answer.answers
 
@@ -129,14 +129,14 @@ part_answers : (request : Request) (asked rest : List ℕ) (reply : Reply) → (
 part_answers request asked rest reply (inl done) = inl done.0
 part_answers request asked rest reply (inr failed) = inr failed.0
 
-pub first_answer : (request : Request) (asked whole : List ℕ) (parts : Parts request asked whole) → IsAnswer request parts.reply
+pub first_answer : (request : Request) (asked whole : List ℕ) (parts : Parts request asked whole) → IsReplyOf request parts.reply
 first_answer request asked whole parts = record { is = parts.is; answers = part_answers request asked parts.rest parts.reply parts.goes }
 
 body_of : (request : Request) → IsRequest request → IsBody (request_words request ++ [])
 body_of request is = record { requests = request ∷ []; ranges = (is, tt); spelled = sym (flat_map-cons request_words request []) }
 
 -- every request has a reply
-pub some_answer : (request : Request) → IsRequest request → (reply : Reply) × IsAnswer request reply
+pub some_answer : (request : Request) → IsRequest request → (reply : Reply) × IsReplyOf request reply
 some_answer request is =
     let some = some_reply (request_words request ++ []) (body_of request is) in
     let parts = reply_parts request [] some.0 is some.1 in

@@ -9,7 +9,7 @@ use Rattle.transaction_codec.specs.Answer.{IsDone, IsFailed, IsReplyTo}
 use Rattle.reply_join.specs.declared.answer.Answer.{Answer}
 use Rattle.reply_join.specs.Joining.{IsBody, IsJoined, answer_of, answers_to}
 use Rattle.reply_join.specs.Garbled.{IsGarbledAt}
-use Rattle.reply_join.specs.Progress.{IsAnswer, IsCut, AreSkipped}
+use Rattle.reply_join.specs.Progress.{IsReplyOf, IsCut, AreSkipped}
 use Rattle.reply_join.proofs.Headers.{fault_is_no_success}
 use Rattle.reply_join.proofs.Parts.{reply_to_nothing}
 use Rattle.reply_join.proofs.Garbled.{no_header, ends_early, garbled_later, garbled_behind_fault, garbled_end}
@@ -23,8 +23,8 @@ pub record Underway (body reply asked rest : List ℕ) (answers : List Answer) :
   pub joined : (later : List Answer) → IsJoined asked rest later → IsJoined body reply (answers ++ later)
   pub garbled : (place : ℕ) → IsGarbledAt asked rest place → IsGarbledAt body reply (length reply - length rest + place)
 
-pub begun : (body reply : List ℕ) (answers : List Answer) → IsBody body → answers ≡ [] → Underway body reply body reply answers
-begun body reply answers is none = record {
+pub underway_at_first : (body reply : List ℕ) (answers : List Answer) → IsBody body → answers ≡ [] → Underway body reply body reply answers
+underway_at_first body reply answers is none = record {
   requests = is;
   within = omega arith;
   joined = λ later joined. subst (λ (front : List Answer). IsJoined body reply (front ++ later)) (sym none) joined;
@@ -51,7 +51,7 @@ answer_pushed answers new pushed answer new_is same = new_is ∙ ap (λ (last : 
 -- ---- one request and its reply
 
 module _ (body reply asked rest asked_left rest_left : List ℕ) (answers : List Answer) (request : Request) (first : Reply) (under : Underway body reply asked rest answers)
-    (is : IsRequest request) (answer : IsAnswer request first) (parts : asked ≡ request_words request ++ asked_left) (spelled : rest ≡ reply_words first ++ rest_left) where
+    (is : IsRequest request) (answer : IsReplyOf request first) (parts : asked ≡ request_words request ++ asked_left) (spelled : rest ≡ reply_words first ++ rest_left) where
   moved : (place : ℕ) → IsGarbledAt (request_words request ++ asked_left) (reply_words first ++ rest_left) (length (reply_words first) + place)
       → IsGarbledAt body reply (length reply - length rest_left + place)
   moved place garbled =

@@ -24,7 +24,7 @@ abbrev pub IsHeaderTo : Request → ℕ → ℕ → ℕ → Type 0
 IsHeaderTo request word count code = (word ≡ header request.tid count (op_kind request.op) code) × IsOutcome request.op count code
 
 -- the reply is one to the request: done or failed
-pub record IsAnswer (request : Request) (reply : Reply) : Type 0 where
+pub record IsReplyOf (request : Request) (reply : Reply) : Type 0 where
   pub is : IsReply reply
   pub answers : IsDone request reply ⊎ IsFailed request reply
 
@@ -39,7 +39,7 @@ pub record HasNoHeader (request : Request) (words : List ℕ) : Type 0 where
 pub record IsShort (request : Request) (words : List ℕ) : Type 0 where
   pub reply : Reply
   pub more : List ℕ
-  pub is : IsAnswer request reply
+  pub is : IsReplyOf request reply
   pub some : 0 < length more
   pub spelled : reply_words reply ≡ words ++ more
 

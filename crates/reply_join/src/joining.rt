@@ -6,7 +6,7 @@ ghost use Rattle.transaction_codec.specs.Answer.{IsReplyTo};
 ghost use Rattle.reply_join.specs.declared.answer.Answer.{Answer};
 ghost use Rattle.reply_join.specs.Joining.{IsBody, IsJoined, answers_to};
 ghost use Rattle.reply_join.specs.Garbled.{IsRefusal};
-ghost use Rattle.reply_join.specs.Progress.{IsAnswer, IsCut, AreSkipped};
+ghost use Rattle.reply_join.specs.Progress.{IsReplyOf, IsCut, AreSkipped};
 
 use crate::answer::{Answer, answer_of};
 use crate::outcome::{kind_of, outcome_of, values_after};
@@ -67,7 +67,7 @@ fn next_request(body: &[u32]) -> FirstRequest<'_>
 /// where that is the header, and nothing where they end too early.
 fn reply_to<'a>(request: &FirstRequest<'_>, words: &'a [u32]) -> Result<FirstReply<'a>, &'a [u32]>
     requires { IsRequest (request_of request.now) }
-    ensures found { IfOk result (λ first. IsAnswer (request_of request.now) (reply_of first)
+    ensures found { IfOk result (λ first. IsReplyOf (request_of request.now) (reply_of first)
         × (words.now ≡ reply_words (reply_of first) ++ first.rest.now)) }
     ensures cut { IfErr result (λ at_fault. IsCut (request_of request.now) words.now at_fault.now) }
 {

@@ -1,11 +1,11 @@
 use Rattle.std.proofs.Common.{◌≡◌, ◌<◌, length, arith}
 use Rattle.std.proofs.lemmas.Bool.Decides.{nat_tests}
 use Rattle.transaction_codec.specs.First.{request_of, reply_of}
-use Rattle.reply_join.proofs.Steps.{begun, answer_pushed, step, cut_at, words_left, all_joined, joined_is}
+use Rattle.reply_join.proofs.Steps.{underway_at_first, answer_pushed, step, cut_at, words_left, all_joined, joined_is}
 use Rattle.reply_join.proofs.joining.join_reply.Goals as goal
 
 pub loop-asked-init : goal.loop-asked-init
-loop-asked-init c = begun c.args.body.now c.args.reply.now c.new-answers.result.items c.requires c.new-answers.ensures.items
+loop-asked-init c = underway_at_first c.args.body.now c.args.reply.now c.new-answers.result.items c.requires c.new-answers.ensures.items
 
 pub loop-asked-preserved : goal.loop-asked-preserved
 loop-asked-preserved c =
