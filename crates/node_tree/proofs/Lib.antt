@@ -7,7 +7,9 @@ pub mod MentionLemmas
 pub mod SetLemmas
 pub mod EntryLemmas
 pub mod NamesLemmas
+pub mod NodeLemmas
 pub mod CycleLemmas
 pub mod SearchLemmas
 pub mod Compiled
 pub mod OverlapLemmas
+pub mod RepeatLemmas

@@ -1,27 +1,21 @@
 -- Every register that readable tables name has a mask that is not 0.
-use Rattle.std.proofs.Common.{◌≡◌, ℕ, zero, suc, ◌<◌, List, [], ◌∷◌, drop, Bool, true, not, ◌==◌, Option, Some, None, Result, Ok, Err, OnOk, OnErr, IfSome, inl, inr, refl, sym, subst, arith}
+use Rattle.std.proofs.Common.{◌≡◌, ℕ, ◌<◌, List, [], ◌∷◌, drop, true, not, ◌==◌, Option, Some, None, Result, Ok, Err, OnOk, OnErr, IfSome, inl, inr, sym, subst, arith}
 use Rattle.std.proofs.lemmas.Bool.Decides.{nat_tests}
-use Rattle.std.specs.Option.{option_map_or}
 use Rattle.std.specs.FinMap.{get, insert, empty, get-empty}
-use Rattle.toml.specs.Data.{Data, string, integer, float, boolean, datetime, array, table, Items, no_items, Members}
+use Rattle.toml.specs.Data.{Data, Items, Members}
 use Rattle.address_table.specs.Keys.{mask_at}
-use Rattle.address_table.specs.Rules.{holds_of, first_broken, rules, broken_rule}
-use Rattle.address_table.specs.Tables.{IsNode, node, AreNodes, none, more, IsTable, IsReadable}
+use Rattle.address_table.specs.Rules.{holds_of, rules, broken_rule}
+use Rattle.address_table.specs.Tables.{IsNode, node, AreNodes, IsReadable}
 use Rattle.address_table.specs.declared.nodes.Node.{Node, out-Node}
 use Rattle.address_table.specs.declared.nodes.Table.{Table}
-use Rattle.address_table.specs.declared.refusal.TableWhy.{TableWhy}
 use Rattle.address_table.specs.declared.refusal.TableWhy.TheVariants.{BadMask}
 use Rattle.address_table.proofs.Kept.{first_kept}
 use Rattle.node_tree.specs.declared.register.Register.{Register}
 use Rattle.node_tree.specs.Maps.{Name, TableMap, RegisterMap, nodes_of, AreReadable, AreMasked}
 use Rattle.node_tree.specs.Names.{Names, itself, child, later, children_of, node_name, node_address}
+use Rattle.node_tree.proofs.NodeLemmas.{kept_rest, parts, node-children, named_nodes, children_if}
 use Rattle.node_tree.proofs.NamedLemmas.{by_bytes}
 use Rattle.node_tree.proofs.EntryLemmas.{get-cases}
-
-kept_rest : (i : ℕ) (rs : List (TableWhy × Bool)) → first_broken rs ≡ None → first_broken (drop i rs) ≡ None
-kept_rest zero rs kept = kept
-kept_rest (suc i) [] kept = kept
-kept_rest (suc i) (rule ∷ rs) kept = kept_rest i rs (first_kept rule.0 rule.1 rs kept).1
 
 kept-mask : (ms : Members) → broken_rule ms ≡ None → holds_of (λ mask. not (mask == 0)) (mask_at ms) ≡ true
 unfolding broken_rule
@@ -30,45 +24,9 @@ kept-mask ms kept = (first_kept BadMask (holds_of (λ mask. not (mask == 0)) (ma
 not_zero : (mask : ℕ) → not (mask == 0) ≡ true → 0 < mask
 not_zero mask h = grind (arith, nat_tests)
 
--- some items are these nodes
-AreFrom : List Node → Type 0
-AreFrom ns = (ds : Items) × AreNodes ds ns
-
 node-masked : (d : Data) (n : Node) → IsNode d n → 0 < (out-Node n).mask
 node-masked d n (node ms m kept says are) =
     not_zero (out-Node m).mask (subst (λ o. holds_of (λ mask. not (mask == 0)) o ≡ true) says.mask (kept-mask ms kept))
-
-node-children : (d : Data) (n : Node) → IsNode d n → (ds : Items) × AreNodes ds (out-Node n).nodes.items
-node-children d n (node ms m kept says are) = (_, are)
-
--- the first of some nodes, and the others
-abbrev Parts : List Node → Type 0
-Parts [] = Unit {0}
-Parts (n ∷ ns) = ((d : Data) × IsNode d n) × ((ds : Items) × AreNodes ds ns)
-
-parts : (ds : Items) (ns : List Node) → AreNodes ds ns → Parts ns
-parts ds ns none = tt
-parts ds ns (more d n es ms one others) = ((d, one), (es, others))
-
-table-nodes : (d : Data) (t : Table) → IsTable d t → (ds : Items) × AreNodes ds t.nodes.items
-table-nodes (array ds) t are = (ds, are)
-table-nodes (string s) t h = absurd h
-table-nodes (integer z) t h = absurd h
-table-nodes (float x) t h = absurd h
-table-nodes (boolean b) t h = absurd h
-table-nodes (datetime dt) t h = absurd h
-table-nodes (table ms) t h = absurd h
-
-nodes_if : (o : Option Table) → ((t : Table) → o ≡ Some t → IsReadable t) → (ds : Items) × AreNodes ds (option_map_or (λ t. t.nodes.items) o [])
-nodes_if None readable = (no_items, none)
-nodes_if (Some t) readable = let (d, is) = readable t refl in table-nodes d t is
-
-named_nodes : (tables : TableMap) → AreReadable tables → (name : Name) → (ds : Items) × AreNodes ds (nodes_of tables name)
-named_nodes tables readable name = nodes_if (get tables name) (readable name)
-
-children_if : (tables : TableMap) → AreReadable tables → (name : Option Name) (own : List Node) → (ds : Items) × AreNodes ds own → (ds : Items) × AreNodes ds (option_map_or (nodes_of tables) name own)
-children_if tables readable None own are = are
-children_if tables readable (Some name) own are = named_nodes tables readable name
 
 names-masked : (tables : TableMap) → AreReadable tables → (ns : List Node) (above : Name) (base : ℕ) (name : Name) (r : Register) (ds : Items) → AreNodes ds ns → Names tables ns above base name r → 0 < r.mask
 names-masked tables readable ms above base name r ds are (itself n ns above' base') =
