@@ -1,5 +1,5 @@
 -- A walk to its end: the registers that were found are those that the table names.
-use Rattle.std.proofs.Common.{◌≡◌, ◌⊎◌, inl, inr, ◌↔◌, ℕ, ◌+◌, ◌-◌, ◌^◌, ◌<◌, ◌≤◌, nat_lt, List, [], ◌∷◌, Bool, true, false, not, nat_le, Option, Some, None, is_some, cond, Ok, Err, refl, ap, sym, ◌∙◌, subst, arith}
+use Rattle.std.proofs.Common.{◌≡◌, ◌⊎◌, inl, inr, ◌↔◌, ℕ, ◌+◌, ◌-◌, ◌^◌, ◌<◌, ◌≤◌, nat_lt, List, [], ◌∷◌, Bool, true, false, not, nat_le, Some, None, is_some, cond, Ok, Err, refl, ap, sym, ◌∙◌, subst, arith}
 use Rattle.std.proofs.lemmas.Bool.{false≢true}
 use Rattle.std.proofs.lemmas.Bool.Decides.{nat_tests}
 use Rattle.std.proofs.lemmas.Cmp.{nat_list_cmp_total}
@@ -16,6 +16,7 @@ use Rattle.node_tree.specs.Walk.{Visit, siblings, walk, root_walk, first_fault, 
 use Rattle.node_tree.specs.Run.{run, run_on, visit_next, step, found_more}
 use Rattle.node_tree.proofs.NamedLemmas.{by_bytes}
 use Rattle.node_tree.proofs.SetLemmas.{equal_of}
+use Rattle.node_tree.proofs.EntryLemmas.{get-cases}
 use Rattle.node_tree.proofs.Runs.{Outcome}
 use Rattle.node_tree.specs.declared.refusal.CompileWhy.{CompileWhy}
 use Rattle.node_tree.specs.declared.refusal.CompileRefusal.{CompileRefusal}
@@ -62,16 +63,6 @@ no-level (v ∷ vs) found more h (inl same) =
     let level : v.level ≤ 16 = (visit-ok found next v ok).0 in
     omega arith
 no-level (v ∷ vs) found more h (inr deep) = let (next, ok, rest) = run-cons vs found more v h in no-level vs next more rest deep
-
-either_entry : (k q : Name) (v r : Register) (o : Option Register) (b : Bool) → eq_by_cmp by_bytes q k ≡ b → cond b (Some v) o ≡ Some r → ((k ≡ q) × (v ≡ r)) ⊎ (o ≡ Some r)
-either_entry k q v r o true tie h =
-    let same : q ≡ k = slice_cmp-IsAntisymmetric nat_cmp-IsAntisymmetric q k (equal_of (by_bytes q k) tie) in
-    let value : v ≡ r = cc in
-    inl (sym same, value)
-either_entry k q v r o false tie h = inr h
-
-get-cases : (m : RegisterMap) (k q : Name) (v r : Register) → get (insert m k v) q ≡ Some r → ((k ≡ q) × (v ≡ r)) ⊎ (get m q ≡ Some r)
-get-cases m k q v r h = either_entry k q v r (get m q) (eq_by_cmp by_bytes q k) refl (sym (get-insert nat_list_cmp_total m k v q) ∙ h)
 
 get-new : (m : RegisterMap) (k : Name) (v : Register) → get (insert m k v) k ≡ Some v
 get-new m k v = get-insert nat_list_cmp_total m k v k ∙ rw (tied_itself nat_list_cmp_total k) refl

@@ -1,11 +1,12 @@
 -- The entries of a map in their order.
-use Rattle.std.proofs.Common.{◌≡◌, List, [], ◌∷◌, ◌++◌, Bool, true, false, ◌&&◌, T, cond, Option, Some, is_eq, Ordering, Less, Equal, Greater, refl, ap, sym, ◌∙◌, subst, append_assoc, String, Global, string_bytes}
+use Rattle.std.proofs.Common.{◌≡◌, ◌⊎◌, inl, inr, ℕ, ◌+◌, take, drop, slice_get, List, [], ◌∷◌, ◌++◌, Bool, true, false, ◌&&◌, T, cond, Option, Some, is_eq, Ordering, Less, Equal, Greater, refl, ap, sym, ◌∙◌, subst, append_assoc, String, Global, string_bytes}
 use Rattle.std.specs.Ordering.{eq_by_cmp, is_lt, ordering_reverse}
 use Rattle.std.specs.List.{AllByRecursion}
 use Rattle.std.specs.Cmp.{tied_itself}
-use Rattle.std.proofs.lemmas.List.{append-nil}
+use Rattle.std.proofs.lemmas.List.{append-nil, drop_more, take-append-drop}
+use Rattle.std.proofs.lemmas.Option.{slice_get_within, get_or_from_slice_get}
 use Rattle.std.proofs.lemmas.Cmp.{nat_list_cmp_total}
-use Rattle.std.specs.FinMap.{FinMap, get, entries, entries_sorted, get-entries, find, is_sorted, nat_cmp-IsAntisymmetric, slice_cmp-IsAntisymmetric}
+use Rattle.std.specs.FinMap.{FinMap, get, insert, get-insert, entries, entries_sorted, get-entries, find, is_sorted, nat_cmp-IsAntisymmetric, slice_cmp-IsAntisymmetric}
 use Rattle.std.specs.FinMap.Entries.{below_all}
 use Rattle.std.specs.Option.{option_map_or}
 use Rattle.address_table.specs.declared.nodes.Table.{Table}
@@ -44,6 +45,26 @@ module _ {V : Type 0} where
   pub get-entry : (m : FinMap by_bytes V) (k : Name) (v : V) (done rest : List (Name × V)) → entries m ≡ done ++ (k, v) ∷ rest → get m k ≡ Some v
   get-entry m k v done rest place =
       get-entries m k ∙ ap (find by_bytes k) place ∙ find-middle k v done rest (subst (λ es. T (is_sorted by_bytes es)) place (entries_sorted m))
+
+  either_entry : (k q : Name) (v w : V) (o : Option V) (b : Bool) → eq_by_cmp by_bytes q k ≡ b → cond b (Some v) o ≡ Some w → ((k ≡ q) × (v ≡ w)) ⊎ (o ≡ Some w)
+  either_entry k q v w o true tie h =
+      let same : q ≡ k = slice_cmp-IsAntisymmetric nat_cmp-IsAntisymmetric q k (equal_of (by_bytes q k) tie) in
+      let value : v ≡ w = cc in
+      inl (sym same, value)
+  either_entry k q v w o false tie h = inr h
+
+  -- what a map has after one more entry: that entry, or what it had
+  pub get-cases : (m : FinMap by_bytes V) (k q : Name) (v w : V) → get (insert m k v) q ≡ Some w → ((k ≡ q) × (v ≡ w)) ⊎ (get m q ≡ Some w)
+  get-cases m k q v w h = either_entry k q v w (get m q) (eq_by_cmp by_bytes q k) refl (sym (get-insert nat_list_cmp_total m k v q) ∙ h)
+
+  place_of : (es : List (Name × V)) (i : ℕ) (e : Name × V) → slice_get es i ≡ Some e → es ≡ take i es ++ e ∷ drop (i + 1) es
+  place_of es i e h =
+      sym (take-append-drop i es)
+      ∙ ap (λ rest. take i es ++ rest) (drop_more es i e (slice_get_within es i e h) ∙ ap (λ x. x ∷ drop (i + 1) es) (get_or_from_slice_get es i e e h))
+
+  -- what a map has at the key of the entry at a place
+  pub get-at : (m : FinMap by_bytes V) (i : ℕ) (k : Name) (v : V) → slice_get (entries m) i ≡ Some (k, v) → get m k ≡ Some v
+  get-at m i k v h = get-entry m k v (take i (entries m)) (drop (i + 1) (entries m)) (place_of (entries m) i (k, v) h)
 
   by_tie : (P : Name × V → Type 0) (q k : Name) (v w : V) (rest : Option V) (b : Bool) → eq_by_cmp by_bytes q k ≡ b
       → cond b (Some w) rest ≡ Some v → (rest ≡ Some v → P (q, v)) → P (k, w) → P (q, v)

@@ -2,11 +2,14 @@ pub mod NamedLemmas
 pub mod Visits
 pub mod Runs
 pub mod Faults
+pub mod MaskLemmas
 pub mod MentionLemmas
 pub mod SetLemmas
 pub mod EntryLemmas
 pub mod NamesLemmas
+pub mod NodeLemmas
 pub mod CycleLemmas
 pub mod SearchLemmas
 pub mod Compiled
 pub mod OverlapLemmas
+pub mod RepeatLemmas

@@ -6,3 +6,4 @@ pub mod Walk
 pub mod Refusals
 pub mod Run
 pub mod Overlaps
+pub mod Repeats

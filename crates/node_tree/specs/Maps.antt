@@ -1,10 +1,11 @@
 -- The tables of a document by their names, and registers by theirs. Names are bytes of texts, in byte order.
-use Rattle.std.specs.Prelude.{List, []}
+use Rattle.std.specs.Prelude.{◌≡◌, ◌<◌, List, [], Some}
 use Rattle.std.specs.Option.{option_map_or}
 use Rattle.std.specs.Ordering.{nat_cmp}
 use Rattle.std.specs.Cmp.Lexicographic.{slice_cmp}
 use Rattle.std.specs.FinMap.{FinMap, get}
 pub use Rattle.node_tree.specs.Named.{Name, named}
+use Rattle.address_table.specs.Tables.{IsReadable}
 use Rattle.address_table.specs.declared.nodes.Table.{Table}
 use Rattle.address_table.specs.declared.nodes.Node.{Node}
 use Rattle.node_tree.specs.declared.register.Register.{Register}
@@ -18,3 +19,11 @@ RegisterMap = FinMap (slice_cmp nat_cmp) Register
 -- the nodes of the table with a name; none where there is no such table
 abbrev pub nodes_of : TableMap → Name → List Node
 nodes_of tables name = option_map_or (λ t. t.nodes.items) (get tables name) []
+
+-- each table is one that some value of a document is
+abbrev pub AreReadable : TableMap → Type 0
+AreReadable tables = (name : Name) (t : Table) → get tables name ≡ Some t → IsReadable t
+
+-- each register has some bit of a word
+abbrev pub AreMasked : RegisterMap → Type 0
+AreMasked registers = (name : Name) (r : Register) → get registers name ≡ Some r → 0 < r.mask

@@ -1,5 +1,6 @@
 ghost use Rattle.std.specs.Prelude.{◌≡◌, ◌≤◌, ◌↔◌, [], Some, IfOk, IfErr, OnOk};
 ghost use Rattle.std.specs.FinMap as map;
+ghost use Rattle.node_tree.specs.Maps.{AreMasked};
 ghost use Rattle.node_tree.specs.Named.{Name};
 ghost use Rattle.node_tree.specs.Names.{RootNames};
 ghost use Rattle.node_tree.specs.Modules.{ReachesItself, NoTable};
@@ -16,14 +17,16 @@ use std::alloc::Global;
 use std::collections::BTreeMap;
 
 /// The index of the registers that a table names (uHAL). The tables are compiled exactly where they break no rule of
-/// `CompileWhy`, and then the index has the registers that the root names and no others.
+/// `CompileWhy`, and then the index has the registers that the root names and no others. No mask is 0.
 pub fn compile(alloc: Global, tables: &Tables, root: &str) -> Result<Index, CompileRefusal>
     ensures names { IfOk result (λ index. (name : Name) (r : Reg) → (map.get index name ≡ Some r) ↔ RootNames tables.now root.now name r) }
     ensures kept { OnOk result (KeepsRules tables.now root.now) }
+    ensures masked { IfOk result (λ index. AreMasked index) }
     ensures refused { IfErr result (λ refusal. IsRefusal tables.now root.now refusal) }
 {
     check_known(alloc, tables, root)?;
     check_acyclic(alloc, tables, root)?;
+    tables.are_readable();
     let mut found = Found {
         names: NameMap::new(alloc),
         count: 0,
@@ -84,7 +87,8 @@ fn refused_node(alloc: Global, root: &str, path: Text, why: CompileWhy) -> Compi
 
 /// The index of the registers that the walk found.
 fn index_of(alloc: Global, found: Found) -> Result<Index, NoMemory>
-    requires { map.len found.names ≤ 65536 }
+    requires few { map.len found.names ≤ 65536 }
+    requires masked { AreMasked found.names }
     ensures { IfOk result (λ index. index ≡ found.names) }
 {
     let Found { names, count: _ } = found;

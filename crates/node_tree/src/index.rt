@@ -1,8 +1,9 @@
-ghost use Rattle.std.specs.Prelude.{◌≡◌, ◌<◌, ◌≤◌, ◌==◌, [], IfOk, length, slice_get, string_bytes};
+ghost use Rattle.std.specs.Prelude.{◌≡◌, ◌<◌, ◌≤◌, ◌==◌, [], IfOk, IfSome, length, slice_get, string_bytes};
 ghost use Rattle.std.specs.Prelude.{T};
 ghost use Rattle.std.specs.Ordering.{nat_cmp};
 ghost use Rattle.std.specs.Cmp.Lexicographic.{slice_cmp};
 ghost use Rattle.std.specs.FinMap as map;
+ghost use Rattle.node_tree.specs.Maps.{AreMasked};
 ghost use Rattle.node_tree.specs.Named.{named};
 ghost use Rattle.node_tree.specs.Overlaps.{overlapping};
 
@@ -25,7 +26,7 @@ impl Model for Index {
     ghost use Rattle.std.specs.Cmp.Lexicographic.{slice_cmp};
     ghost use Rattle.std.specs.Coded.{coded_ℕ, coded_list};
     ghost use Rattle.std.specs.FinMap as map;
-    ghost use Rattle.node_tree.specs.Maps.{RegisterMap, named};
+    ghost use Rattle.node_tree.specs.Maps.{RegisterMap, AreMasked, named};
     ghost use Rattle.node_tree.specs.contracts.register.Register as r;
 
     ghost Value = { RegisterMap };
@@ -34,7 +35,7 @@ impl Model for Index {
 
     ghost view = { λ index. map.from_sorted (named index.entries.items) };
 
-    ghost invariant = { λ index. T (map.is_sorted (slice_cmp nat_cmp) (named index.entries.items)) × (length index.entries.items ≤ 65536) };
+    ghost invariant = { λ index. T (map.is_sorted (slice_cmp nat_cmp) (named index.entries.items)) × (length index.entries.items ≤ 65536) × AreMasked (map.from_sorted (named index.entries.items)) };
 }
 
 impl Index {
@@ -42,14 +43,16 @@ impl Index {
     pub(crate) fn from_sorted(entries: Vec<(String, Register)>) -> Index
         requires sorted { T (map.is_sorted (slice_cmp nat_cmp) (named entries.items)) }
         requires few { length entries.items ≤ 65536 }
+        requires masked { AreMasked (map.from_sorted (named entries.items)) }
         ensures { result ≡ map.from_sorted (named entries.items) }
     {
         Index { entries }
     }
 
-    /// The register of a name, if the index has the name.
+    /// The register of a name, if the index has the name. Its mask is not 0.
     pub fn find(&self, name: &str) -> Option<Register>
-        ensures { result ≡ map.get self.now name.now }
+        ensures found { result ≡ map.get self.now name.now }
+        ensures masked { IfSome result (λ register. 0 < register.mask) }
     {
         found_in(&self.entries, name)
     }
@@ -68,10 +71,11 @@ impl Index {
         self.len() == 0
     }
 
-    /// A register by its place from 0, in byte order of the names.
+    /// A register by its place from 0, in byte order of the names. Its mask is not 0.
     pub fn at(&self, i: usize) -> (&str, Register)
         requires { i < map.len self.now }
-        ensures { slice_get (map.entries self.now) i ≡ Some (result.0.now, result.1) }
+        ensures entry { slice_get (map.entries self.now) i ≡ Some (result.0.now, result.1) }
+        ensures masked { 0 < result.1.mask }
     {
         let entries = self.entries.as_slice();
         let entry = &entries[i];

@@ -1,7 +1,17 @@
-//! Worked examples of the definitions. These functions do nothing when they run: their clauses are what is proved.
-ghost use Rattle.std.specs.Prelude.{◌≡◌, [], codes, true, false};
+//! Laws of the definitions, and worked examples of them. These functions do nothing when they run: their clauses are what is proved.
+ghost use Rattle.std.specs.Prelude.{◌≡◌, [], Some, codes, true, false};
+ghost use Rattle.node_tree.specs.declared.refusal.CompileWhy.TheVariants.{Duplicate};
+ghost use Rattle.node_tree.specs.Maps.{Name, TableMap, AreReadable};
 ghost use Rattle.node_tree.specs.Names.{name_below};
 ghost use Rattle.node_tree.specs.Overlaps.{is_above};
+ghost use Rattle.node_tree.specs.Repeats.{IsRepeated};
+ghost use Rattle.node_tree.specs.Walk.{first_fault, root_walk};
+
+/// Where the first faulty node has a name that is there already, an earlier sibling has its id: ids have no dot, so a
+/// name is cut into ids in one way alone.
+pub fn a_duplicate_has_an_earlier_sibling()
+    ensures { (tables : TableMap) (root path : Name) → AreReadable tables → first_fault [] (root_walk tables root) ≡ Some (path, Duplicate) → IsRepeated tables root path }
+{}
 
 /// A name has a dot before each id but the first.
 pub fn ids_are_joined_by_dots()

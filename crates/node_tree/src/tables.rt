@@ -1,6 +1,7 @@
 ghost use Rattle.std.specs.Prelude.{◌≡◌, OnOk, OnErr, option_copied};
 ghost use Rattle.std.specs.FinMap as map;
 ghost use Rattle.address_table.specs.Tables.{IsReadable};
+ghost use Rattle.node_tree.specs.Maps.{AreReadable};
 ghost use Rattle.node_tree.specs.Named.{named};
 
 use crate::name_map::NameMap;
@@ -19,7 +20,7 @@ pub struct Tables {
 impl Model for Tables {
     ghost use Rattle.std.specs.Coded.{coded_ℕ, coded_list};
     ghost use Rattle.std.specs.FinMap as map;
-    ghost use Rattle.node_tree.specs.Maps.{TableMap};
+    ghost use Rattle.node_tree.specs.Maps.{TableMap, AreReadable};
     ghost use Rattle.address_table.specs.contracts.nodes.Table as t;
 
     ghost Value = { TableMap };
@@ -27,6 +28,8 @@ impl Model for Tables {
     ghost coded = { map.code (coded_list coded_ℕ) t.the_row.coded };
 
     ghost view = { λ tables. tables.by_name };
+
+    ghost invariant = { λ tables. AreReadable tables.by_name };
 }
 
 impl Tables {
@@ -54,6 +57,13 @@ impl Tables {
         ensures { option_copied result ≡ map.get self.now name.now }
     {
         self.by_name.get(name)
+    }
+
+    /// Each table was read from a value of a document, since no other may be put.
+    pub fn are_readable(&self)
+        ensures { AreReadable self.now }
+    {
+        let _ = &self.by_name;
     }
 
     pub(crate) fn by_name(&self) -> &NameMap<Table>

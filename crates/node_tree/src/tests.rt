@@ -1,6 +1,7 @@
 use super::*;
-use address_table::{Mode, Permission, read_table};
+use address_table::{Mode, Node, Permission, read_table};
 use std::alloc::Global;
+use std::collections::BTreeMap;
 use std::test::*;
 
 const REALISTIC: &str = r#"
@@ -36,6 +37,37 @@ mode = "hierarchical"
 module = "channel"
 "#;
 
+const SMALL: &str = r#"
+[[main]]
+id = "sys"
+mode = "hierarchical"
+[[main.nodes]]
+id = "id"
+address = 4
+permission = "r"
+[[main]]
+id = "a"
+address = 8
+[[main.nodes]]
+id = "top"
+mask = 0x80000000
+[[main]]
+id = "mem"
+address = 0x100
+mode = "block"
+size = 600
+"#;
+
+/// Modules below nodes of modules, and names of which one begins with another.
+const NESTED: &str = r#"
+leaf = [{ id = "r", address = 1 }, { id = "r-2", address = 2, mask = 3 }]
+middle = [{ id = "in", address = 0x10, nodes = [{ id = "x", module = "leaf", address = 4 }] }, { id = "in0" }]
+top = [{ id = "b", module = "middle", address = 0x200 }, { id = "a", module = "middle" }, { id = "a0", module = "leaf" }]
+"#;
+
+/// A name with its address, mask, permission, mode and size.
+type Line = (&'static str, u32, u32, Permission, Mode, u32);
+
 /// The tables of a document, each under its key.
 fn tables_in(alloc: Global, text: &str) -> Result<Tables, Fail> {
     let document = toml::table_from_str(alloc, text)?;
@@ -63,18 +95,130 @@ fn refusal_of(alloc: Global, text: &str, root: &str) -> Result<(String, String, 
 fn registers_are_listed_by_name(rt: HostRuntime) -> Result<(), Fail> {
     let tables = tables_in(rt.alloc(), REALISTIC)?;
     let index = compile(rt.alloc(), &tables, "channel")?;
-    assert_eq!(rt; index.len(), 5);
-    let names = ["buffer", "ctrl", "ctrl.enable", "ctrl.gain", "status"];
-    let addresses = [0x10, 0, 0, 0, 1];
-    let masks = [0xffff_ffff, 0xffff_ffff, 1, 0xf0, 0xffff_ffff];
-    for i in 0..5 {
-        assert!(rt; i < index.len());
+    let listing = [
+        ("buffer", 0x10, 0xffff_ffff, Permission::Rw, Mode::Block, 16),
+        ("ctrl", 0, 0xffff_ffff, Permission::Rw, Mode::Single, 1),
+        ("ctrl.enable", 0, 1, Permission::Rw, Mode::Single, 1),
+        ("ctrl.gain", 0, 0xf0, Permission::Rw, Mode::Single, 1),
+        ("status", 1, 0xffff_ffff, Permission::R, Mode::Single, 1),
+    ];
+    assert!(rt; is_listed_as(&index, &listing));
+    let tables = tables_in(rt.alloc(), SMALL)?;
+    let index = compile(rt.alloc(), &tables, "main")?;
+    let listing = [
+        ("a", 8, 0xffff_ffff, Permission::Rw, Mode::Single, 1),
+        ("a.top", 8, 0x8000_0000, Permission::Rw, Mode::Single, 1),
+        ("mem", 0x100, 0xffff_ffff, Permission::Rw, Mode::Block, 600),
+        ("sys", 0, 0xffff_ffff, Permission::Rw, Mode::Hierarchical, 1),
+        ("sys.id", 4, 0xffff_ffff, Permission::R, Mode::Single, 1),
+    ];
+    assert!(rt; is_listed_as(&index, &listing));
+    Ok(())
+}
+
+/// Whether an index has these names and registers, in this order, and no others.
+fn is_listed_as(index: &Index, listing: &[Line]) -> bool {
+    for (i, line) in listing.iter().enumerate() {
+        if i >= index.len() {
+            return false;
+        }
         let (name, register) = index.at(i);
-        assert_eq!(rt; name, names[i]);
-        assert_eq!(rt; register.address, addresses[i]);
-        assert_eq!(rt; register.mask, masks[i]);
+        if name != line.0 || register != register_in(line) {
+            return false;
+        }
+    }
+    index.len() == listing.len()
+}
+
+fn register_in(line: &Line) -> Register {
+    Register {
+        address: line.1,
+        mask: line.2,
+        permission: line.3,
+        mode: line.4,
+        size: line.5,
+    }
+}
+
+/// A plain walk through nodes and modules, in which no rule is checked, lists what the index has.
+#[test]
+fn an_index_has_what_a_plain_walk_lists(rt: HostRuntime) -> Result<(), Fail> {
+    let cases = [
+        (REALISTIC, "channel", 5),
+        (REALISTIC, "frontend", 13),
+        (SMALL, "main", 5),
+        (NESTED, "middle", 5),
+        (NESTED, "top", 15),
+    ];
+    for (text, root, count) in cases {
+        let tables = tables_in(rt.alloc(), text)?;
+        let mut names = BTreeMap::new(rt.alloc());
+        let table = tables.get(root).ok_or("no such table")?;
+        list_names(rt.alloc(), &tables, &table.nodes, "", 0, 16, &mut names)?;
+        assert_eq!(rt; names.len(), count, "{root}");
+        let index = compile(rt.alloc(), &tables, root)?;
+        assert!(rt; has_names(&index, &names), "{root}");
     }
     Ok(())
+}
+
+/// Lists some levels of nodes, whose names begin with `above`.
+fn list_names(
+    alloc: Global,
+    tables: &Tables,
+    nodes: &[Node],
+    above: &str,
+    base: u32,
+    levels: u32,
+    names: &mut BTreeMap<String, Register>,
+) -> Result<(), Fail> {
+    if levels == 0 {
+        return Ok(());
+    }
+    for node in nodes {
+        let id = node.id.as_str();
+        let name = format!(in alloc; "{above}{id}")?;
+        let below = format!(in alloc; "{above}{id}.")?;
+        let address = base.checked_add(node.address).ok_or("past the end")?;
+        names.insert(name, register_at(address, node))?;
+        let children = match &node.module {
+            Some(module) => &tables.get(module.as_str()).ok_or("no such module")?.nodes,
+            None => &node.nodes,
+        };
+        list_names(
+            alloc,
+            tables,
+            children,
+            below.as_str(),
+            address,
+            levels - 1,
+            names,
+        )?;
+    }
+    Ok(())
+}
+
+fn register_at(address: u32, node: &Node) -> Register {
+    Register {
+        address,
+        mask: node.mask,
+        permission: node.permission,
+        mode: node.mode,
+        size: node.size,
+    }
+}
+
+/// Whether an index has these registers, in their order and by their names, and no others.
+fn has_names(index: &Index, names: &BTreeMap<String, Register>) -> bool {
+    for (i, (name, register)) in names.iter().enumerate() {
+        if i >= index.len() || index.at(i) != (name.as_str(), *register) {
+            return false;
+        }
+        if index.find(name.as_str()) != Some(*register) {
+            return false;
+        }
+    }
+    index.len() == names.len()
 }
 
 #[test]
@@ -149,6 +293,13 @@ fn the_first_broken_rule_is_told(rt: HostRuntime) -> Result<(), Fail> {
             CompileWhy::UnknownModule,
         ),
         ("m = []", "n", "n", "", CompileWhy::UnknownModule),
+        (
+            "main = [{ id = \"x\" }, { id = \"x\" }]",
+            "main",
+            "main",
+            "x",
+            CompileWhy::Duplicate,
+        ),
         (
             "main = [{ id = \"x\" }, { id = \"w\" }, { id = \"x\" }]",
             "main",

@@ -1,4 +1,5 @@
 use Rattle.node_tree.proofs.Compiled.{root_walk-siblings, names-iff, refused, no_fault, few_names}
+use Rattle.node_tree.proofs.MaskLemmas.{root-masked}
 use Rattle.node_tree.proofs.compiling.compile.Goals as goal
 
 pub returns-in-Ok-clause-names : goal.returns-in-Ok-clause-names
@@ -20,7 +21,17 @@ returns-in-Err-At-clause-refused c =
     let stop = rw (c.nodes_of.ensures, c.new.ensures, root_walk-siblings c.args.tables.now c.args.root.now, c.in-Err-At.field-0-is) at c.in-Err-At.ensures.stopped in
     refused c.args.tables.now c.args.root.now c.in-Err-At.name c.in-Err-At.why c.refused_node.result c.refused_node.ensures c.in_ok-check_known.ensures.known c.in_ok-check_acyclic.ensures.acyclic stop
 
-pub index_of-requires : goal.index_of-requires
-index_of-requires c =
+pub index_of-requires-clause-few : goal.index_of-requires-clause-few
+index_of-requires-clause-few c =
     let walked = rw (c.nodes_of.ensures, c.new.ensures, root_walk-siblings c.args.tables.now c.args.root.now) at c.in-Ok.ensures.walked in
     few_names c.args.tables.now c.args.root.now c.walk.new.found walked
+
+pub index_of-requires-clause-masked : goal.index_of-requires-clause-masked
+index_of-requires-clause-masked c =
+    let walked = rw (c.nodes_of.ensures, c.new.ensures, root_walk-siblings c.args.tables.now c.args.root.now) at c.in-Ok.ensures.walked in
+    λ q r there. root-masked c.args.tables.now c.args.root.now q r c.are_readable.ensures ((names-iff c.args.tables.now c.args.root.now c.walk.new.found walked q r).0 there)
+
+pub returns-in-Ok-clause-masked : goal.returns-in-Ok-clause-masked
+returns-in-Ok-clause-masked c =
+    let walked = rw (c.nodes_of.ensures, c.new.ensures, root_walk-siblings c.args.tables.now c.args.root.now) at c.in-Ok.ensures.walked in
+    rw c.in_ok-index_of-in-Ok.ensures (λ q r there. root-masked c.args.tables.now c.args.root.now q r c.are_readable.ensures ((names-iff c.args.tables.now c.args.root.now c.walk.new.found walked q r).0 there))

@@ -1,0 +1,5 @@
+use Rattle.node_tree.proofs.RepeatLemmas.{repeated-root}
+use Rattle.node_tree.proofs.laws.a_duplicate_has_an_earlier_sibling.Goals as goal
+
+pub returns : goal.returns
+returns c = repeated-root
