@@ -13,11 +13,14 @@ use Rattle.address_table.specs.declared.nodes.Node.{Node, out-Node}
 use Rattle.address_table.specs.declared.refusal.TableWhy.TheVariants.{BadId}
 use Rattle.address_table.proofs.Kept.{first_kept}
 use Rattle.node_tree.specs.declared.refusal.CompileWhy.{CompileWhy}
-use Rattle.node_tree.specs.declared.refusal.CompileWhy.TheVariants.{TooMany, TooDeep, Duplicate, AddressPastEnd}
+use Rattle.node_tree.specs.declared.refusal.CompileWhy.TheVariants.{UnknownModule, ModuleCycle, TooMany, TooDeep, Duplicate, AddressPastEnd}
+use Rattle.node_tree.specs.declared.refusal.CompileRefusal.{CompileRefusal}
+use Rattle.node_tree.specs.declared.refusal.CompileRefusal.TheVariants.{At, NoMemory}
+use Rattle.node_tree.specs.Refusals.{IsRefusal}
 use Rattle.node_tree.specs.Maps.{Name, TableMap, nodes_of, AreReadable}
 use Rattle.node_tree.specs.Names.{children_of, name_below, node_name, node_address}
 use Rattle.node_tree.specs.Walk.{Visit, siblings, walk, root_walk, is_named_by, visit_rules, first_fault, fault_or}
-use Rattle.node_tree.specs.Repeats.{AreSiblings, top, below, HasId, IsRepeated}
+use Rattle.node_tree.specs.Repeats.{AreSiblings, top, below, HasId, IsRepeated, TellsRepeated}
 use Rattle.node_tree.proofs.NodeLemmas.{kept_rest, parts, node-children, named_nodes, children_if}
 use Rattle.node_tree.proofs.Runs.{Below, visit_of}
 
@@ -330,3 +333,15 @@ pub repeated-root : (tables : TableMap) (root path : Name) → AreReadable table
 repeated-root tables root path readable fault =
     let (ds, are) = named_nodes tables readable root in
     repeated-walk tables root readable path 17 1 [] 0 (nodes_of tables root) [] ds are top tt fault
+
+not_unknown : UnknownModule ≡ Duplicate → ⊥
+not_unknown h = cc
+
+not_cycle : ModuleCycle ≡ Duplicate → ⊥
+not_cycle h = cc
+
+pub tells-repeated : (tables : TableMap) (root : Name) (refusal : CompileRefusal) → AreReadable tables → IsRefusal tables root refusal → TellsRepeated tables root refusal
+tells-repeated tables root NoMemory readable told = tt
+tells-repeated tables root (At name path why) readable (inl unknown) = λ same. absurd (not_unknown (sym unknown.0 ∙ same))
+tells-repeated tables root (At name path why) readable (inr (inl cycle)) = λ same. absurd (not_cycle (sym cycle.0 ∙ same))
+tells-repeated tables root (At name path why) readable (inr (inr tells)) = λ same. repeated-root tables root path readable (tells.3 ∙ ap (λ w. Some (path, w)) same)

@@ -1,6 +1,9 @@
 -- Ids that stand twice among siblings.
 use Rattle.std.specs.Prelude.{◌≡◌, ◌⊎◌, List, [], ◌∷◌, ◌++◌}
 use Rattle.address_table.specs.declared.nodes.Node.{Node, out-Node}
+use Rattle.node_tree.specs.declared.refusal.CompileWhy.TheVariants.{Duplicate}
+use Rattle.node_tree.specs.declared.refusal.CompileRefusal.{CompileRefusal}
+use Rattle.node_tree.specs.declared.refusal.CompileRefusal.TheVariants.{At, NoMemory}
 use Rattle.node_tree.specs.Maps.{Name, TableMap, nodes_of}
 use Rattle.node_tree.specs.Names.{children_of, node_name}
 
@@ -23,3 +26,8 @@ pub record IsRepeated (tables : TableMap) (root name : Name) : Type 0 where
   pub siblings : AreSiblings tables root above (before ++ repeated ∷ after)
   pub called : name ≡ node_name above repeated
   pub earlier : HasId (out-Node repeated).id before
+
+-- where a refusal tells of a duplicate, an earlier sibling has the id of the node that it names
+abbrev pub TellsRepeated : TableMap → Name → CompileRefusal → Type 0
+TellsRepeated tables root (At name path why) = why ≡ Duplicate → IsRepeated tables root path
+TellsRepeated tables root NoMemory = Unit {0}

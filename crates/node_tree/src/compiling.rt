@@ -5,6 +5,7 @@ ghost use Rattle.node_tree.specs.Named.{Name};
 ghost use Rattle.node_tree.specs.Names.{RootNames};
 ghost use Rattle.node_tree.specs.Modules.{ReachesItself, NoTable};
 ghost use Rattle.node_tree.specs.Refusals.{AreKnown, KeepsRules, IsRefusal, Refuses};
+ghost use Rattle.node_tree.specs.Repeats.{TellsRepeated};
 ghost use Rattle.node_tree.specs.declared.register.Register.{Register as Reg};
 
 use crate::check_modules::first_unknown;
@@ -17,16 +18,18 @@ use std::alloc::Global;
 use std::collections::BTreeMap;
 
 /// The index of the registers that a table names (uHAL). The tables are compiled exactly where they break no rule of
-/// `CompileWhy`, and then the index has the registers that the root names and no others. No mask is 0.
+/// `CompileWhy`, and then the index has the registers that the root names and no others, and no mask in it is 0.
+/// A refusal for a duplicate means that an earlier sibling of the node has its id.
 pub fn compile(alloc: Global, tables: &Tables, root: &str) -> Result<Index, CompileRefusal>
     ensures names { IfOk result (λ index. (name : Name) (r : Reg) → (map.get index name ≡ Some r) ↔ RootNames tables.now root.now name r) }
     ensures kept { OnOk result (KeepsRules tables.now root.now) }
     ensures masked { IfOk result (λ index. AreMasked index) }
     ensures refused { IfErr result (λ refusal. IsRefusal tables.now root.now refusal) }
+    ensures repeated { IfErr result (λ refusal. TellsRepeated tables.now root.now refusal) }
 {
+    tables.are_readable();
     check_known(alloc, tables, root)?;
     check_acyclic(alloc, tables, root)?;
-    tables.are_readable();
     let mut found = Found {
         names: NameMap::new(alloc),
         count: 0,

@@ -1,5 +1,9 @@
+use Rattle.std.proofs.Common.{IfErr, rules}
+use Rattle.std.proofs.lemmas.Result.{IfErr-weaker}
+use Rattle.node_tree.specs.Refusals.{IsRefusal}
 use Rattle.node_tree.proofs.Compiled.{root_walk-siblings, names-iff, refused, no_fault, few_names}
 use Rattle.node_tree.proofs.MaskLemmas.{root-masked}
+use Rattle.node_tree.proofs.RepeatLemmas.{tells-repeated}
 use Rattle.node_tree.proofs.compiling.compile.Goals as goal
 
 pub returns-in-Ok-clause-names : goal.returns-in-Ok-clause-names
@@ -20,6 +24,22 @@ pub returns-in-Err-At-clause-refused : goal.returns-in-Err-At-clause-refused
 returns-in-Err-At-clause-refused c =
     let stop = rw (c.nodes_of.ensures, c.new.ensures, root_walk-siblings c.args.tables.now c.args.root.now, c.in-Err-At.field-0-is) at c.in-Err-At.ensures.stopped in
     refused c.args.tables.now c.args.root.now c.in-Err-At.name c.in-Err-At.why c.refused_node.result c.refused_node.ensures c.in_ok-check_known.ensures.known c.in_ok-check_acyclic.ensures.acyclic stop
+
+pub returns-in-Err-At-clause-repeated : goal.returns-in-Err-At-clause-repeated
+returns-in-Err-At-clause-repeated c =
+    let stop = rw (c.nodes_of.ensures, c.new.ensures, root_walk-siblings c.args.tables.now c.args.root.now, c.in-Err-At.field-0-is) at c.in-Err-At.ensures.stopped in
+    tells-repeated c.args.tables.now c.args.root.now c.refused_node.result c.are_readable.ensures
+    (refused c.args.tables.now c.args.root.now c.in-Err-At.name c.in-Err-At.why c.refused_node.result c.refused_node.ensures c.in_ok-check_known.ensures.known c.in_ok-check_acyclic.ensures.acyclic stop)
+
+pub returns-in_err-check_known-clause-repeated : goal.returns-in_err-check_known-clause-repeated
+returns-in_err-check_known-clause-repeated c =
+    let told : IfErr c.from_residual.result (IsRefusal c.args.tables.now c.args.root.now) = search rules in
+    IfErr-weaker c.from_residual.result (IsRefusal c.args.tables.now c.args.root.now) _ (λ refusal h. tells-repeated c.args.tables.now c.args.root.now refusal c.are_readable.ensures h) told
+
+pub returns-in_err-check_acyclic-clause-repeated : goal.returns-in_err-check_acyclic-clause-repeated
+returns-in_err-check_acyclic-clause-repeated c =
+    let told : IfErr c.from_residual-in_err-check_acyclic.result (IsRefusal c.args.tables.now c.args.root.now) = search rules in
+    IfErr-weaker c.from_residual-in_err-check_acyclic.result (IsRefusal c.args.tables.now c.args.root.now) _ (λ refusal h. tells-repeated c.args.tables.now c.args.root.now refusal c.are_readable.ensures h) told
 
 pub index_of-requires-clause-few : goal.index_of-requires-clause-few
 index_of-requires-clause-few c =
