@@ -1,6 +1,7 @@
 -- The reply to a body is one that a device can give to it.
 use Rattle.std.proofs.Common.{◌≡◌, ℕ, ◌≤◌, inl, inr, true, cond, eqb, eq-eqb, List, [], ◌∷◌, ◌++◌, length, append_assoc, append-nil, Ok, Err, refl, sym, ap, ◌∙◌, subst, arith, lit<}
 use Rattle.std.specs.Prelude.{IsErr}
+use Rattle.ipb_base.specs.Word.{AreWords}
 use Rattle.transaction_codec.specs.declared.request.Request.{Request}
 use Rattle.transaction_codec.specs.declared.reply.Reply.{Reply}
 use Rattle.transaction_codec.specs.declared.info_code.TheConstants.{SUCCESS}
@@ -8,7 +9,7 @@ use Rattle.transaction_codec.specs.Request.{op_count, IsRequest, AreRequests, re
 use Rattle.transaction_codec.specs.Reply.{IsReply, AreReplies, reply_words, replies_words}
 use Rattle.transaction_codec.specs.Answer.{IsDone, IsFailed, Answers, ending_of, bad_header_reply, CanAnswer, IsReplyTo}
 use Rattle.transaction_codec.proofs.Requests.{request_again}
-use Rattle.transaction_codec.proofs.Longest.{answer_is_reply}
+use Rattle.transaction_codec.proofs.Longest.{answer_is_reply, reply_room_longest}
 use Rattle.board_bus.specs.Cells.{CellMap, HoldsWords}
 use Rattle.board_bus.specs.Transactions.{transact}
 use Rattle.board_bus.specs.Bodies.{Executed, after_reply, run_on, run_body}
@@ -102,3 +103,9 @@ is_reply_to cells requests holds are =
     let whole : requests_words requests ++ [] ≡ requests_words requests = append-nil (requests_words requests) in
     answer_is_reply requests (requests_words requests) (run_body cells (requests_words requests)).reply are refl
     (subst (λ (ws : List ℕ). CanAnswer ws (run_body cells ws).reply) whole (can_answer cells requests [] holds are no_request))
+
+-- Any body of words is requests and then nothing, or a bad header.
+pub answers_any : (cells : CellMap) (body : List ℕ) → HoldsWords cells → AreWords body → CanAnswer body (run_body cells body).reply
+answers_any cells body holds fits =
+    let cut = (reply_room_longest body fits).given in
+    subst (λ (ws : List ℕ). CanAnswer ws (run_body cells ws).reply) (sym cut.parts) (can_answer cells cut.requests cut.rest holds cut.ranges cut.bad)

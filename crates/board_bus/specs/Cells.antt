@@ -1,9 +1,9 @@
 -- The bus as contracts see it: the cells that are there, each with a kind and a word. Addresses and words of 32 bits are those of
 -- IPbus 2.0; the kinds are the profile's.
-use Rattle.std.specs.Prelude.{ℕ, ◌^◌, nat_lt, if◌then◌else◌, List, [], ◌∷◌, map, Option, Some, None, IfSome, Result, Ok, Err}
+use Rattle.std.specs.Prelude.{ℕ, ◌^◌, nat_lt, if◌then◌else◌, List, [], ◌∷◌, map, Option, Some, None, IfSome, IsTrue, Result, Ok, Err}
 use Rattle.std.specs.Ordering.{nat_cmp}
 use Rattle.std.specs.List.{enumerate_from}
-use Rattle.std.specs.FinMap.Entries.{find, put}
+use Rattle.std.specs.FinMap.Entries.{find, is_sorted, put}
 use Rattle.ipb_base.specs.Word.{IsWord}
 use Rattle.board_bus.specs.declared.kind.RangeKind.{RangeKind}
 use Rattle.board_bus.specs.declared.kind.RangeKind.TheVariants.{Rw, Ro, Wo, Slow}
@@ -19,6 +19,10 @@ pub record Cell : Type 0 where
 -- is in no entry is absent.
 abbrev pub CellMap : Type 0
 CellMap = List (ℕ × Cell)
+
+-- the entries stand by rising address, each address once
+abbrev pub IsInOrder : CellMap → Type 0
+IsInOrder cells = IsTrue (is_sorted nat_cmp cells)
 
 -- The cell at an address. An address is a number of 32 bits (IPbus 2.0): what is past the end is absent (profile).
 abbrev pub cell_at : CellMap → ℕ → Option Cell

@@ -1,11 +1,11 @@
 ghost use Rattle.std.specs.Prelude.{◌≡◌, ◌+◌, ◌++◌, ◌≤◌, OnOk, OnErr, length};
 ghost use Rattle.std.specs.Vec.{vec_len, vec_capacity};
+ghost use Rattle.transaction_codec.specs.Answer.{reply_room};
 ghost use Rattle.board_bus.specs.Bodies.{run_body};
 
 use crate::Bus;
 use crate::room::push_within;
 use ipb_base::NoMemory;
-use transaction_codec::info_code::SUCCESS;
 use transaction_codec::{bad_header_reply, first_request, reply_room};
 
 impl Bus {
@@ -15,6 +15,7 @@ impl Bus {
         requires { length body.now ≤ 65536 }
         ensures bus { OnOk result (self.new ≡ (run_body self.old body.now).cells) }
         ensures reply { OnOk result (out.new.items ≡ out.old.items ++ (run_body self.old body.now).reply) }
+        ensures room { OnOk result (length out.new.items ≤ length out.old.items + reply_room body.now) }
         ensures bus_unchanged { OnErr result (self.new ≡ self.old) }
         ensures out_unchanged { OnErr result (out.new.items ≡ out.old.items) }
     {
@@ -35,7 +36,7 @@ impl Bus {
                 push_within(out, bad_header_reply(rest[0]));
                 return;
             };
-            if self.transact(&first, out) != SUCCESS {
+            if self.transact(&first, out).is_err() {
                 return;
             }
             rest = first.rest;
