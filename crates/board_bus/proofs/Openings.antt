@@ -3,7 +3,8 @@ use Rattle.std.proofs.Common.{◌≡◌, ℕ, ◌+◌, ◌-◌, ◌^◌, ◌<◌
 use Rattle.std.specs.Prelude.{IfSome}
 use Rattle.std.specs.Ordering.{nat_cmp, eq_by_cmp}
 use Rattle.std.specs.FinMap.Entries.{find}
-use Rattle.std.specs.List.{AllByRecursion, flat_map, list_any, sum_by}
+use Rattle.std.proofs.lemmas.List.Elements.{All-cons}
+use Rattle.std.specs.List.{All, AllByRecursion, flat_map, list_any, sum_by}
 use Rattle.std.proofs.lemmas.Bool.{or_parts, ltb-false, and_cases}
 use Rattle.std.proofs.lemmas.List.{length-replicate}
 use Rattle.std.proofs.lemmas.List.Folds.{list_any-append}
@@ -137,3 +138,10 @@ opening-words ranges fits = λ a.
     let found : IfSome (find nat_cmp a (opening_bus ranges)) (λ cell. IsWord cell.word) =
     subst (λ (o : Option Cell). IfSome o (λ cell. IsWord cell.word)) (sym (find-cell_map a (flat_map range_cells ranges))) (entries-words (flat_map range_cells ranges) a (ranges-words ranges fits)) in
     elim (ltb a (2 ^ 32)) as (λ b. IfSome (cond b (find nat_cmp a (opening_bus ranges)) None) (λ cell. IsWord cell.word)) [ true ↦ found | false ↦ tt ]
+
+-- no range of a bus names more words than it has addresses
+pub init_fits : (ranges : List Range) → list_any is_init_long ranges ≡ false → All (λ (r : Range). length r.init ≤ r.size) ranges
+init_fits [] none = λ k d within. absurd (omega arith)
+init_fits (r ∷ rs) none =
+    let parts = or_parts (is_init_long r) (list_any is_init_long rs) none in
+    All-cons (λ (x : Range). length x.init ≤ x.size) r rs (ltb-false r.size (length r.init) parts.0) (init_fits rs parts.1)

@@ -88,7 +88,7 @@ pub fn a_block_is_written_up_to_the_first_refusal()
         place < (outcome cells (Write base words)).count → IsOk (write_word cells (base + place) (slice_index words place)) }
     ensures ends { (cells : CellMap) (base : ℕ) (words : List ℕ) →
         EndsAtRefusal (λ place. write_word cells (base + place) (slice_index words place)) (length words)
-            (outcome cells (Write base words)) }
+        (outcome cells (Write base words)) }
 {}
 
 /// A write of words at one address, of a port, leaves the last of them there where the address may be written, and counts them
@@ -122,8 +122,9 @@ pub fn a_body_is_executed_in_order()
         let first = transact cells request in
         first.reply.code ≡ SUCCESS →
         run_body cells (request_words request ++ rest) ≡ record {
-            cells = (run_body first.cells rest).cells;
-            reply = reply_words first.reply ++ (run_body first.cells rest).reply } }
+          cells = (run_body first.cells rest).cells;
+          reply = reply_words first.reply ++ (run_body first.cells rest).reply;
+        } }
     ensures failed { (cells : CellMap) (request : Request) (rest : List ℕ) → IsRequest request →
         let first = transact cells request in
         first.reply.code ≢ SUCCESS →

@@ -25,7 +25,11 @@ struct Written {
 
 impl Bus {
     /// Executes one request and appends its reply, for which `out` has room. Answers the refusal that ended it, if one did.
-    pub(crate) fn transact(&mut self, request: &FirstRequest<'_>, out: &mut Vec<u32>) -> Result<(), BusFault>
+    pub(crate) fn transact(
+        &mut self,
+        request: &FirstRequest<'_>,
+        out: &mut Vec<u32>,
+    ) -> Result<(), BusFault>
         requires request { IsRequest (request_of request.now) }
         requires room { vec_len out.old + length (reply_words (transact self.old (request_of request.now)).reply)
             ≤ vec_capacity out.old }
