@@ -2,9 +2,10 @@
 use Rattle.std.proofs.Common.{◌≡◌, ◌≢◌, ℕ, suc, zero, true, false, cond, eqb, List, [], ◌∷◌, ◌++◌, length, Ok, Err, inl, inr, refl, ap, ◌∙◌, subst, arith}
 use Rattle.std.proofs.lemmas.Bool.Decides.{eqb_tells}
 use Rattle.ipb_base.specs.Word.{AreWords}
+use Rattle.ipb_base.proofs.WordLemmas.{AreWords-after}
 use Rattle.transaction_codec.specs.declared.request.Request.{Request}
 use Rattle.transaction_codec.specs.declared.info_code.TheConstants.{SUCCESS}
-use Rattle.transaction_codec.specs.Request.{IsRequest, request_at, request_words}
+use Rattle.transaction_codec.specs.Request.{IsRequest, NoRequestAtFront, request_at, request_words}
 use Rattle.transaction_codec.specs.Reply.{reply_words}
 use Rattle.transaction_codec.proofs.Requests.{request_found, request_again}
 use Rattle.transaction_codec.specs.Answer.{bad_header_reply}
@@ -27,10 +28,6 @@ pub replay-length : (cells : CellMap) (bodies : List (List ℕ)) → length (rep
 replay-length cells [] = refl
 replay-length cells (body ∷ bodies) = ap suc (replay-length (run_body cells body).cells bodies)
 
-rest-words : (front rest : List ℕ) → AreWords (front ++ rest) → AreWords rest
-rest-words [] rest fits = fits
-rest-words (w ∷ ws) rest fits = rest-words ws rest fits.1
-
 run_on-words : (first : Transacted) (later : CellMap → Executed) → HoldsWords first.cells → HoldsWords (later first.cells).cells → HoldsWords (run_on first later).cells
 run_on-words first later here after =
     elim (eqb first.reply.code SUCCESS) as (λ b. HoldsWords (cond b (after_reply (reply_words first.reply) (later first.cells)) (record { cells = first.cells; reply = reply_words first.reply })).cells) [ true ↦ after | false ↦ here ]
@@ -43,7 +40,7 @@ run_requests-words (suc most) (word ∷ after) cells fits holds =
       | Ok x ↦ λ is.
           let found = request_found (word ∷ after) x fits is in
           let bus : HoldsWords (transact cells x.0).cells = (outcome-words cells (x.0).op holds (found.0).words).bus in
-          let rest : AreWords x.1 = rest-words (request_words x.0) x.1 (subst AreWords found.1 fits) in
+          let rest : AreWords x.1 = AreWords-after (request_words x.0) x.1 (subst AreWords found.1 fits) in
           run_on-words (transact cells x.0) (run_requests most x.1) bus (run_requests-words most x.1 (transact cells x.0).cells rest bus)
       | Err why ↦ λ _. holds
     ] refl
@@ -66,7 +63,7 @@ run_body-failed cells request rest is failed =
     ]
 
 pub run_body-bad_header : (cells : CellMap) (word : ℕ) (after : List ℕ) → AreWords (word ∷ after)
-    → ((request : Request) (rest : List ℕ) → IsRequest request → (word ∷ after) ≢ request_words request ++ rest)
+    → NoRequestAtFront (word ∷ after)
     → run_body cells (word ∷ after) ≡ record { cells = cells; reply = reply_words (bad_header_reply word) }
 run_body-bad_header cells word after fits bad =
     elim (request_at (word ∷ after)) as (λ r. request_at (word ∷ after) ≡ r → run_body cells (word ∷ after) ≡ record { cells = cells; reply = reply_words (bad_header_reply word) }) [

@@ -1,5 +1,5 @@
 -- What a bus holds as it opens.
-use Rattle.std.proofs.Common.{◌≡◌, ℕ, ◌+◌, ◌-◌, ◌^◌, ◌<◌, ◌≤◌, ◌⊎◌, inl, inr, suc, zero, Bool, true, false, cond, ltb, List, [], ◌∷◌, ◌++◌, length, length-append, replicate, append_assoc, append-nil, lit<, get_or, Option, Some, None, refl, sym, ap, ◌∙◌, subst, arith}
+use Rattle.std.proofs.Common.{◌≡◌, ℕ, ◌+◌, ◌-◌, ◌^◌, ◌<◌, ◌≤◌, ◌⊎◌, inl, inr, Bool, true, false, cond, ltb, List, [], ◌∷◌, ◌++◌, length, length-append, replicate, append_assoc, append-nil, get_or, Option, Some, None, refl, sym, ap, ◌∙◌, subst, arith}
 use Rattle.std.specs.Prelude.{IfSome}
 use Rattle.std.specs.Ordering.{nat_cmp, eq_by_cmp}
 use Rattle.std.specs.FinMap.Entries.{find}
@@ -10,6 +10,7 @@ use Rattle.std.proofs.lemmas.List.{length-replicate}
 use Rattle.std.proofs.lemmas.List.Folds.{list_any-append}
 use Rattle.std.proofs.lemmas.Grind.{flat_map-append}
 use Rattle.ipb_base.specs.Word.{IsWord, AreWords}
+use Rattle.ipb_base.proofs.WordLemmas.{AreWords-append, AreWords-zeros}
 use Rattle.board_bus.specs.declared.kind.RangeKind.{RangeKind}
 use Rattle.board_bus.specs.declared.range.Range.{Range}
 use Rattle.board_bus.specs.declared.range.BusRefusal.{BusRefusal}
@@ -120,18 +121,10 @@ cells-words : (base : ℕ) (kind : RangeKind) (words : List ℕ) (back : List (�
 cells-words base kind [] back fits more = more
 cells-words base kind (w ∷ ws) back fits more = (fits.0, cells-words (base + 1) kind ws back fits.1 more)
 
-zeros-words : (n : ℕ) → AreWords (replicate n 0)
-zeros-words zero = tt
-zeros-words (suc n) = (lit< tt, zeros-words n)
-
-append-words : (xs ys : List ℕ) → AreWords xs → AreWords ys → AreWords (xs ++ ys)
-append-words [] ys p q = q
-append-words (x ∷ xs) ys p q = (p.0, append-words xs ys p.1 q)
-
 ranges-words : (ranges : List Range) → AllByRecursion (λ (r : Range). AreWords r.init) ranges → AllByRecursion (λ (e : ℕ × Cell). IsWord e.1.word) (flat_map range_cells ranges)
 ranges-words [] fits = tt
 ranges-words (r ∷ rs) fits =
-    cells-words r.base r.kind (opening_words r) (flat_map range_cells rs) (append-words r.init (replicate (r.size - length r.init) 0) fits.0 (zeros-words (r.size - length r.init))) (ranges-words rs fits.1)
+    cells-words r.base r.kind (opening_words r) (flat_map range_cells rs) (AreWords-append r.init (replicate (r.size - length r.init) 0) fits.0 (AreWords-zeros (r.size - length r.init))) (ranges-words rs fits.1)
 
 pub opening-words : (ranges : List Range) → AllByRecursion (λ (r : Range). AreWords r.init) ranges → HoldsWords (opening_bus ranges)
 opening-words ranges fits = λ a.

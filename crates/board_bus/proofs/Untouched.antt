@@ -7,7 +7,7 @@ use Rattle.transaction_codec.specs.declared.request.Op.{Op}
 use Rattle.transaction_codec.specs.declared.request.Op.TheVariants.{Read, ReadPort, Write, WritePort, RmwBits, RmwSum}
 use Rattle.transaction_codec.specs.declared.request.Request.{Request}
 use Rattle.transaction_codec.specs.declared.info_code.TheConstants.{SUCCESS}
-use Rattle.transaction_codec.specs.Request.{IsRequest, AreRequests, request_words, requests_words}
+use Rattle.transaction_codec.specs.Request.{AreRequests, NoRequestAtFront, requests_words}
 use Rattle.transaction_codec.specs.Reply.{reply_words}
 use Rattle.board_bus.specs.declared.fault.BusFault.{BusFault}
 use Rattle.board_bus.specs.Cells.{CellMap, cell_at, read_word, write_word}
@@ -64,13 +64,12 @@ run_on-untouched first later q same =
     [ true ↦ same | false ↦ refl ]
 
 -- what begins with no request leaves all
-bad-untouched : (cells : CellMap) (rest : List ℕ) (q : ℕ) → AreWords rest → ((request : Request) (more : List ℕ) → IsRequest request → rest ≢ request_words request ++ more)
-    → cell_at (run_body cells rest).cells q ≡ cell_at cells q
+bad-untouched : (cells : CellMap) (rest : List ℕ) (q : ℕ) → AreWords rest → NoRequestAtFront rest → cell_at (run_body cells rest).cells q ≡ cell_at cells q
 bad-untouched cells [] q fits bad = refl
 bad-untouched cells (word ∷ after) q fits bad = ap (λ (e : Executed). cell_at e.cells q) (run_body-bad_header cells word after fits bad)
 
 pub untouched : (cells : CellMap) (requests : List Request) (rest : List ℕ) (q : ℕ) → AreRequests requests → AreWords rest
-    → ((request : Request) (more : List ℕ) → IsRequest request → rest ≢ request_words request ++ more) → AllByRecursion (λ (r : Request). AllByRecursion (λ a. a ≢ q) (written_by r.op)) requests
+    → NoRequestAtFront rest → AllByRecursion (λ (r : Request). AllByRecursion (λ a. a ≢ q) (written_by r.op)) requests
     → cell_at (run_body cells (requests_words requests ++ rest)).cells q ≡ cell_at cells q
 untouched cells [] rest q are fits bad differ = bad-untouched cells rest q fits bad
 untouched cells (request ∷ requests) rest q are fits bad differ =

@@ -6,13 +6,13 @@ ghost use Rattle.board_bus.specs.Bodies.{run_body};
 use crate::Bus;
 use crate::room::push_within;
 use ipb_base::NoMemory;
-use transaction_codec::{bad_header_reply, first_request, reply_room};
+use transaction_codec::{LONGEST_BODY, bad_header_reply, first_request, reply_room};
 
 impl Bus {
-    /// Executes the body of a control packet, at most 65,536 words, and appends the reply to it. Requests are executed in order
+    /// Executes the body of a control packet, at most `LONGEST_BODY` words, and appends the reply to it. Requests are executed in order
     /// while each succeeds. It takes its room first: after want of memory the bus and `out` are as they were.
     pub fn execute(&mut self, body: &[u32], out: &mut Vec<u32>) -> Result<(), NoMemory>
-        requires { length body.now ≤ 65536 }
+        requires { length body.now ≤ LONGEST_BODY }
         ensures bus { OnOk result (self.new ≡ (run_body self.old body.now).cells) }
         ensures reply { OnOk result (out.new.items ≡ out.old.items ++ (run_body self.old body.now).reply) }
         ensures room { OnOk result (length out.new.items ≤ length out.old.items + reply_room body.now) }

@@ -1,13 +1,13 @@
 //! Laws of the definitions. These functions do nothing when they run: their clauses are what is proved.
 
-ghost use Rattle.std.specs.Prelude.{◌≡◌, ◌≢◌, ◌≤◌, ◌+◌, ◌<◌, ◌⊎◌, ◌++◌, ◌↔◌, ℕ, false, [], ◌∷◌, List, length, replicate, slice_index, Ok, Err, None, Some, IsErr, IsOk};
+ghost use Rattle.std.specs.Prelude.{◌≡◌, ◌≢◌, ◌≤◌, ◌+◌, ◌<◌, ◌⊎◌, ◌++◌, ◌↔◌, ℕ, false, [], ◌∷◌, List, length, replicate, slice_index, Ok, Err, None, Some, IsOk};
 ghost use Rattle.std.specs.List.{AllByRecursion, count_by, list_any};
 ghost use Rattle.std.specs.Ordering.{nat_cmp};
 ghost use Rattle.std.specs.FinMap.Entries.{find};
 ghost use Rattle.ipb_base.specs.Word.{AreWords};
 ghost use Rattle.transaction_codec.specs.declared.request.Op.TheVariants.{Read, ReadPort, Write, WritePort};
 ghost use Rattle.transaction_codec.specs.declared.request.Request.{Request};
-ghost use Rattle.transaction_codec.specs.Request.{AreRequests, IsRequest, request_at, request_words, requests_words};
+ghost use Rattle.transaction_codec.specs.Request.{AreRequests, IsRequest, NoRequestAtFront, request_words, requests_words};
 ghost use Rattle.transaction_codec.specs.Reply.{reply_words};
 ghost use Rattle.transaction_codec.specs.Answer.{CanAnswer, IsReplyTo, bad_header_reply, reply_room};
 ghost use Rattle.transaction_codec.specs.declared.info_code.TheConstants.{SUCCESS};
@@ -135,7 +135,7 @@ pub fn a_body_is_executed_in_order()
 /// 27-16 of its first word, words 0, type 0, code 1. Nothing after that word counts. The empty body has the empty reply.
 pub fn a_bad_header_ends_a_body()
     ensures bad_header { (cells : CellMap) (word : ℕ) (after : List ℕ) → AreWords (word ∷ after) →
-        ((request : Request) (rest : List ℕ) → IsRequest request → (word ∷ after) ≢ request_words request ++ rest) →
+        NoRequestAtFront (word ∷ after) →
         run_body cells (word ∷ after) ≡ record { cells = cells; reply = reply_words (bad_header_reply word) } }
     ensures empty { (cells : CellMap) → run_body cells [] ≡ record { cells = cells; reply = [] } }
 {}
@@ -143,7 +143,7 @@ pub fn a_bad_header_ends_a_body()
 /// A body leaves each address that none of its requests writes as it was, also where a bad header stands behind them.
 pub fn a_body_leaves_what_it_does_not_write()
     ensures { (cells : CellMap) (requests : List Request) (rest : List ℕ) (address : ℕ) → AreRequests requests →
-        AreWords rest → ((request : Request) (later : List ℕ) → IsRequest request → rest ≢ request_words request ++ later) →
+        AreWords rest → NoRequestAtFront rest →
         AllByRecursion (λ request. AllByRecursion (λ written. written ≢ address) (written_by request.op)) requests →
         cell_at (run_body cells (requests_words requests ++ rest)).cells address ≡ cell_at cells address }
 {}
@@ -154,7 +154,7 @@ pub fn a_reply_answers_its_body()
     ensures requests { (cells : CellMap) (requests : List Request) → HoldsWords cells → AreRequests requests →
         IsReplyTo (requests_words requests) (run_body cells (requests_words requests)).reply }
     ensures bad_header { (cells : CellMap) (requests : List Request) (rest : List ℕ) → HoldsWords cells → AreRequests requests →
-        IsErr (request_at rest) →
+        AreWords rest → NoRequestAtFront rest →
         CanAnswer (requests_words requests ++ rest) (run_body cells (requests_words requests ++ rest)).reply }
     ensures any { (cells : CellMap) (body : List ℕ) → HoldsWords cells → AreWords body →
         CanAnswer body (run_body cells body).reply }

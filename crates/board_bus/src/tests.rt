@@ -4,6 +4,7 @@ use super::*;
 use std::alloc::Global;
 use std::process::Abort;
 use std::test::*;
+use transaction_codec::LONGEST_BODY;
 
 fn range(
     alloc: Global,
@@ -40,7 +41,7 @@ fn expect_reply(
     body: &[u32],
     reply: &[u32],
 ) -> Result<(), NoMemory>
-    requires { length body.now ≤ 65536 }
+    requires { length body.now ≤ LONGEST_BODY }
 {
     let mut out = Vec::from_slice(alloc, &[0x200000f0])?;
     bus.execute(body, &mut out)?;

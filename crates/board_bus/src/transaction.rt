@@ -107,7 +107,7 @@ impl Bus {
         push_within(out, 0);
         let ended = self.read_words(addressing, base, count, out);
         let done = (out.len() - place - 1) as u8;
-        out[place] = header(tid, done, addressing.read_type(), code_of(ended));
+        out[place] = header(tid, done, addressing.read_type(), info_code(ended));
         ended
     }
 
@@ -181,7 +181,7 @@ impl Bus {
         ensures capacity { vec_capacity out.old ≤ vec_capacity out.new }
     {
         let written = self.write_words(addressing, base, words);
-        let code = code_of(written.ended);
+        let code = info_code(written.ended);
         push_within(
             out,
             header(tid, written.done, addressing.write_type(), code),
@@ -231,7 +231,7 @@ impl Bus {
 }
 
 /// The info code of a transaction that ended so.
-fn code_of(ended: Result<(), BusFault>) -> u8
+fn info_code(ended: Result<(), BusFault>) -> u8
     ensures value { result ≡ info_code (result_err ended) }
     ensures fits { result < 2 ^ 4 }
 {
