@@ -145,7 +145,8 @@ position_none false n h = refl
 pub at_address : (a : ℕ) (cells : CellMap) (cell : Option Cell) → find nat_cmp a cells ≡ cell → a < 2 ^ 32 → cell_at cells a ≡ cell
 at_address a cells cell is below = let test : ltb a (2 ^ 32) ≡ true = lt-ltb a (2 ^ 32) below in ap (λ t. cond t (find nat_cmp a cells) None) test ∙ is
 
--- The cell at an address of blocks in a row: none where no block holds it, and else that of the first block that does.
+-- The cell at an address of blocks in a row: none where no block holds it, and else that of the first block that
+-- does.
 pub absent : (blocks : List Block) (cells : CellMap) (a : ℕ) → cells_of blocks ≡ cells → a < 2 ^ 32 → position (λ b. holds b a) blocks ≡ None → cell_at cells a ≡ None
 absent blocks cells a view below none =
     let nowhere : find nat_cmp a (flat_map block_cells blocks) ≡ None = none_holds blocks a (ltb-false _ _ (position_none _ _ none)) in

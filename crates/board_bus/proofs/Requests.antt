@@ -89,7 +89,8 @@ run_body-success cells (word ∷ after) request rest some is success =
     run_body-request cells word after request rest is
     ∙ ap (λ b. cond b (after_reply (reply_words first.reply) (run_body first.cells rest)) (record { cells = first.cells; reply = reply_words first.reply })) test
 
--- How far the execution of a body has come: what was answered so far and what the rest does are what the whole body does.
+-- How far the execution of a body has come: what was answered so far and what the rest does are what the whole body
+-- does.
 pub record RunsOn (cells_before cells : CellMap) (before out : List ℕ) (room_before room_now : ℕ) (body left : List ℕ) : Type 0 where
   pub bus : (run_body cells left).cells ≡ (run_body cells_before body).cells
   pub reply : out ++ (run_body cells left).reply ≡ before ++ (run_body cells_before body).reply

@@ -1,5 +1,5 @@
--- The bus as contracts see it: the cells that are there, each with a kind and a word. Addresses and words of 32 bits are those of
--- IPbus 2.0; the kinds are the profile's.
+-- The bus as contracts see it: the cells that are there, each with a kind and a word. Addresses and words of 32 bits
+-- are those of IPbus 2.0; the kinds are the profile's.
 use Rattle.std.specs.Prelude.{ℕ, ◌^◌, nat_lt, if◌then◌else◌, List, [], ◌∷◌, map, Option, Some, None, IfSome, IsTrue, Result, Ok, Err}
 use Rattle.std.specs.Ordering.{nat_cmp}
 use Rattle.std.specs.List.{enumerate_from}
@@ -15,8 +15,8 @@ pub record Cell : Type 0 where
   pub kind : RangeKind
   pub word : ℕ
 
--- A finite map from addresses to cells: its entries by rising address, as std's `find` and `put` keep them. An address that
--- is in no entry is absent.
+-- A finite map from addresses to cells: its entries by rising address, as std's `find` and `put` keep them. An
+-- address that is in no entry is absent.
 abbrev pub CellMap : Type 0
 CellMap = List (ℕ × Cell)
 
@@ -55,11 +55,12 @@ read_cell (Some cell) = unless (read_fault cell.kind) cell.word
 abbrev pub read_word : CellMap → ℕ → Result ℕ BusFault
 read_word cells address = read_cell (cell_at cells address)
 
--- Writing an address changes the word of its cell, and no kind and no other cell; nothing can be written where no cell is.
--- Profile.
+-- Writing an address changes the word of its cell, and no kind and no other cell; nothing can be written where no
+-- cell is. Profile.
 abbrev pub write_cell : CellMap → ℕ → ℕ → Option Cell → Result CellMap BusFault
 write_cell cells address word None = Err WriteError
-write_cell cells address word (Some cell) = unless (write_fault cell.kind) (put nat_cmp address (record cell { word = word }) cells)
+write_cell cells address word (Some cell) =
+    unless (write_fault cell.kind) (put nat_cmp address (record cell { word = word }) cells)
 
 abbrev pub write_word : CellMap → ℕ → ℕ → Result CellMap BusFault
 write_word cells address word = write_cell cells address word (cell_at cells address)

@@ -1,5 +1,5 @@
--- What one transaction does to a bus, and the reply to it. IPbus 2.0, transactions; that a failed one keeps what it did, and how
--- many words its reply counts and carries, is the profile's.
+-- What one transaction does to a bus, and the reply to it. IPbus 2.0, transactions; that a failed one keeps what it
+-- did, and how many words its reply counts and carries, is the profile's.
 use Rattle.std.specs.Prelude.{◌≡◌, ℕ, ◌+◌, ◌%◌, ◌^◌, ◌<◌, ◌⊎◌, bit_and, bit_or, List, [], ◌∷◌, map, length, replicate, Option, Some, None, Result, Ok, Err}
 use Rattle.std.specs.List.{enumerate_from, range_with_len}
 use Rattle.std.specs.Result.{ok_prefix}
@@ -24,16 +24,16 @@ first_fault [] = None
 first_fault (Ok x ∷ later) = first_fault later
 first_fault (Err fault ∷ later) = Some fault
 
--- What reading these addresses in order gives: the words up to the first that is refused, and that refusal. IPbus 2.0, read and
--- non-incrementing read; that the words before a refusal are answered is the profile's.
+-- What reading these addresses in order gives: the words up to the first that is refused, and that refusal. IPbus
+-- 2.0, read and non-incrementing read; that the words before a refusal are answered is the profile's.
 abbrev pub words_read : CellMap → List ℕ → List ℕ
 words_read cells addresses = ok_prefix (map (read_word cells) addresses)
 
 abbrev pub fault_of_reading : CellMap → List ℕ → Option BusFault
 fault_of_reading cells addresses = first_fault (map (read_word cells) addresses)
 
--- What writing did: the bus after it, how many words were written, and the refusal that ended it. IPbus 2.0, write and
--- non-incrementing write.
+-- What writing did: the bus after it, how many words were written, and the refusal that ended it. IPbus 2.0, write
+-- and non-incrementing write.
 pub record Writing : Type 0 where
   pub cells : CellMap
   pub done : ℕ
@@ -73,8 +73,8 @@ masked and_term or_term word = bit_or (bit_and word and_term) or_term
 abbrev pub added : ℕ → ℕ → ℕ
 added addend word = (word + addend) % 2 ^ 32
 
--- A transaction done: the bus after it, the words done, the refusal that ended it and the words that the reply carries. IPbus 2.0,
--- transaction header.
+-- A transaction done: the bus after it, the words done, the refusal that ended it and the words that the reply
+-- carries. IPbus 2.0, transaction header.
 pub record Outcome : Type 0 where
   pub cells : CellMap
   pub count : ℕ
@@ -93,11 +93,13 @@ of_writing writing = record { cells = writing.cells; count = writing.done; fault
 
 -- A change of one word carries the word before and counts 1. A refused one carries nothing and counts 0 (profile).
 abbrev pub of_modifying : CellMap → Result Modified BusFault → Outcome
-of_modifying cells (Ok modified) = record { cells = modified.cells; count = 1; fault = None; values = modified.before ∷ [] }
+of_modifying cells (Ok modified) =
+    record { cells = modified.cells; count = 1; fault = None; values = modified.before ∷ [] }
 of_modifying cells (Err fault) = record { cells = cells; count = 0; fault = Some fault; values = [] }
 
--- What each of the six operations does. IPbus 2.0, transaction types. A block is read and written at base, base + 1, .., a port at
--- base each time. Addresses are not cut to 32 bits: a block may run past the end, where nothing is there (profile).
+-- What each of the six operations does. IPbus 2.0, transaction types. A block is read and written at base, base + 1,
+-- .., a port at base each time. Addresses are not cut to 32 bits: a block may run past the end, where nothing is
+-- there (profile).
 abbrev pub outcome : CellMap → Op → Outcome
 outcome cells (Read base count) = of_reading cells (range_with_len base count)
 outcome cells (ReadPort base count) = of_reading cells (replicate count base)
@@ -106,8 +108,8 @@ outcome cells (WritePort base words) = of_writing (write_words cells (map (λ wo
 outcome cells (RmwBits base and_term or_term) = of_modifying cells (modify cells base (masked and_term or_term))
 outcome cells (RmwSum base addend) = of_modifying cells (modify cells base (added addend))
 
--- How an operation on a block ends: all the words asked for are done, or the first one that is left is refused, and that refusal is
--- the fault. `access` is what the bus before it gives at each place.
+-- How an operation on a block ends: all the words asked for are done, or the first one that is left is refused, and
+-- that refusal is the fault. `access` is what the bus before it gives at each place.
 abbrev pub EndsAtRefusal : {A : Type 0} → (ℕ → Result A BusFault) → ℕ → Outcome → Type 0
 EndsAtRefusal access asked done =
     ((done.count ≡ asked) × (done.fault ≡ None))
@@ -118,13 +120,20 @@ pub record Transacted : Type 0 where
   pub cells : CellMap
   pub reply : Reply
 
--- One transaction: the bus after it, and the reply with the identifier and the type of the request. IPbus 2.0, transaction header.
+-- One transaction: the bus after it, and the reply with the identifier and the type of the request. IPbus 2.0,
+-- transaction header.
 abbrev pub transact : CellMap → Request → Transacted
 transact cells request =
     let done = outcome cells request.op in
     record {
       cells = done.cells;
-      reply = record { tid = request.tid; kind = op_kind request.op; count = done.count; code = info_code done.fault; values = done.values };
+      reply = record {
+        tid = request.tid;
+        kind = op_kind request.op;
+        count = done.count;
+        code = info_code done.fault;
+        values = done.values;
+      };
     }
 
 -- The addresses of the words that an operation asks to write. None behind a refused one is written.

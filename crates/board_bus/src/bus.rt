@@ -18,8 +18,8 @@ struct Block {
     words: Vec<u32>,
 }
 
-/// The words behind the addresses of a board. Contracts see it as a finite map from addresses to cells, each with a kind
-/// and a word; an address that is in no range is absent.
+/// The words behind the addresses of a board. Contracts see it as a finite map from addresses to cells, each with a
+/// kind and a word; an address that is in no range is absent.
 #[derive(Drop)]
 pub struct Bus {
     blocks: Vec<Block>,
@@ -71,8 +71,8 @@ impl Bus {
         Ok(block.words[(address - block.base) as usize])
     }
 
-    /// Writes the word at an address. Code 5 where it is absent or read-only, 7 where it is slow. A refused write changes
-    /// nothing.
+    /// Writes the word at an address. Code 5 where it is absent or read-only, 7 where it is slow. A refused write
+    /// changes nothing.
     pub fn write(&mut self, address: u32, word: u32) -> Result<(), BusFault>
         ensures written { OnOk result (write_word self.old address word ≡ Ok self.new) }
         ensures refused { IfErr result (λ fault. write_word self.old address word ≡ Err fault) }

@@ -9,8 +9,9 @@ use ipb_base::NoMemory;
 use transaction_codec::{LONGEST_BODY, bad_header_reply, first_request, reply_room};
 
 impl Bus {
-    /// Executes the body of a control packet, at most `LONGEST_BODY` words, and appends the reply to it. Requests are executed in order
-    /// while each succeeds. It takes its room first: after want of memory the bus and `out` are as they were.
+    /// Executes the body of a control packet, at most `LONGEST_BODY` words, and appends the reply to it. Requests are
+    /// executed in order while each succeeds. It takes its room first: after want of memory the bus and `out` are as
+    /// they were.
     pub fn execute(&mut self, body: &[u32], out: &mut Vec<u32>) -> Result<(), NoMemory>
         requires { length body.now ≤ LONGEST_BODY }
         ensures bus { OnOk result (self.new ≡ (run_body self.old body.now).cells) }

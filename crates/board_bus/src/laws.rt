@@ -24,15 +24,15 @@ pub fn an_overlap_is_an_address_in_two_ranges()
         (any_pair share_address ranges ≡ false) ↔ ((address : ℕ) → count_by (holds_address address) ranges ≤ 1) }
 {}
 
-/// A bus opens with the cells of its ranges and no others: each address of a range holds the range's opening word there, a read
-/// answers it where the kind allows that, and an address in no range is absent.
+/// A bus opens with the cells of its ranges and no others: each address of a range holds the range's opening word
+/// there, a read answers it where the kind allows that, and an address in no range is absent.
 pub fn a_bus_opens_with_its_ranges()
-    ensures within { (front back : List Range) (range : Range) (place : ℕ) → refusal_of (front ++ range ∷ back) ≡ None →
-        place < range.size →
+    ensures within { (front back : List Range) (range : Range) (place : ℕ) →
+        refusal_of (front ++ range ∷ back) ≡ None → place < range.size →
         cell_at (opening_bus (front ++ range ∷ back)) (range.base + place)
         ≡ Some (record { kind = range.kind; word = slice_index (opening_words range) place }) }
-    ensures read { (front back : List Range) (range : Range) (place : ℕ) → refusal_of (front ++ range ∷ back) ≡ None →
-        place < range.size →
+    ensures read { (front back : List Range) (range : Range) (place : ℕ) →
+        refusal_of (front ++ range ∷ back) ≡ None → place < range.size →
         read_word (opening_bus (front ++ range ∷ back)) (range.base + place)
         ≡ unless (read_fault range.kind) (slice_index (opening_words range) place) }
     ensures outside { (ranges : List Range) (address : ℕ) → refusal_of ranges ≡ None →
@@ -41,8 +41,8 @@ pub fn a_bus_opens_with_its_ranges()
 
 /// A write puts its word at its address and keeps the kind there. It changes no other cell.
 pub fn a_write_changes_one_word()
-    ensures here { (cells after : CellMap) (address word : ℕ) (cell : Cell) → write_word cells address word ≡ Ok after →
-        cell_at cells address ≡ Some cell → cell_at after address ≡ Some (record { kind = cell.kind; word = word }) }
+    ensures here { (cells after : CellMap) (address word : ℕ) (cell : Cell) →
+        write_word cells address word ≡ Ok after → cell_at cells address ≡ Some cell → cell_at after address ≡ Some (record { kind = cell.kind; word = word }) }
     ensures elsewhere { (cells after : CellMap) (address other word : ℕ) → write_word cells address word ≡ Ok after →
         (other < address) ⊎ (address < other) → cell_at after other ≡ cell_at cells other }
 {}
@@ -55,8 +55,8 @@ pub fn a_written_word_is_read()
         (other < address) ⊎ (address < other) → read_word after other ≡ read_word cells other }
 {}
 
-/// A read of words at `base`, `base` + 1, .. answers the word at each address, up to the first one that is refused, whose fault
-/// ends it, or all that were asked for.
+/// A read of words at `base`, `base` + 1, .. answers the word at each address, up to the first one that is refused,
+/// whose fault ends it, or all that were asked for.
 pub fn a_block_is_read_up_to_the_first_refusal()
     ensures words { (cells : CellMap) (base count place : ℕ) →
         place < length (outcome cells (Read base count)).values →
@@ -70,12 +70,14 @@ pub fn a_port_read_repeats_one_word()
     ensures words { (cells : CellMap) (base count word : ℕ) → read_word cells base ≡ Ok word →
         outcome cells (ReadPort base count)
         ≡ record { cells = cells; count = count; fault = None; values = replicate count word } }
-    ensures refused { (cells : CellMap) (base count : ℕ) (fault : BusFault) → read_word cells base ≡ Err fault → 0 < count →
+    ensures refused { (cells : CellMap) (base count : ℕ) (fault : BusFault) →
+        read_word cells base ≡ Err fault → 0 < count →
         outcome cells (ReadPort base count) ≡ record { cells = cells; count = 0; fault = Some fault; values = [] } }
 {}
 
-/// A write of words at `base`, `base` + 1, .. leaves each word that was done at its own address and changes no other cell. It is
-/// done up to the first address that the bus, as it was before the write, refuses, and that refusal ends it.
+/// A write of words at `base`, `base` + 1, .. leaves each word that was done at its own address and changes no other
+/// cell. It is done up to the first address that the bus, as it was before the write, refuses, and that refusal ends
+/// it.
 pub fn a_block_is_written_up_to_the_first_refusal()
     ensures written { (cells : CellMap) (base place : ℕ) (words : List ℕ) (cell : Cell) →
         place < (outcome cells (Write base words)).count → cell_at cells (base + place) ≡ Some cell →
@@ -85,14 +87,15 @@ pub fn a_block_is_written_up_to_the_first_refusal()
         (other < base) ⊎ (base + (outcome cells (Write base words)).count ≤ other) →
         cell_at (outcome cells (Write base words)).cells other ≡ cell_at cells other }
     ensures allowed { (cells : CellMap) (base place : ℕ) (words : List ℕ) →
-        place < (outcome cells (Write base words)).count → IsOk (write_word cells (base + place) (slice_index words place)) }
+        place < (outcome cells (Write base words)).count →
+        IsOk (write_word cells (base + place) (slice_index words place)) }
     ensures ends { (cells : CellMap) (base : ℕ) (words : List ℕ) →
         EndsAtRefusal (λ place. write_word cells (base + place) (slice_index words place)) (length words)
         (outcome cells (Write base words)) }
 {}
 
-/// A write of words at one address, of a port, leaves the last of them there where the address may be written, and counts them
-/// all. Where it may not, nothing is written.
+/// A write of words at one address, of a port, leaves the last of them there where the address may be written, and
+/// counts them all. Where it may not, nothing is written.
 pub fn a_port_write_leaves_its_last_word()
     ensures done { (cells : CellMap) (base last : ℕ) (words : List ℕ) → IsOk (write_word cells base last) →
         ((outcome cells (WritePort base (words ++ last ∷ []))).count ≡ length words + 1)
@@ -115,8 +118,9 @@ pub fn reads_leave_the_bus()
         (transact cells (record { tid = tid; op = ReadPort base count })).cells ≡ cells }
 {}
 
-/// A body is executed request by request. Where the first succeeds, its reply stands before that of the rest, which is executed
-/// as a body of its own on the bus that the first left; where it fails, its reply is the last and nothing after it is executed.
+/// A body is executed request by request. Where the first succeeds, its reply stands before that of the rest, which
+/// is executed as a body of its own on the bus that the first left; where it fails, its reply is the last and nothing
+/// after it is executed.
 pub fn a_body_is_executed_in_order()
     ensures success { (cells : CellMap) (request : Request) (rest : List ℕ) → IsRequest request →
         let first = transact cells request in
@@ -128,11 +132,13 @@ pub fn a_body_is_executed_in_order()
     ensures failed { (cells : CellMap) (request : Request) (rest : List ℕ) → IsRequest request →
         let first = transact cells request in
         first.reply.code ≢ SUCCESS →
-        run_body cells (request_words request ++ rest) ≡ record { cells = first.cells; reply = reply_words first.reply } }
+        run_body cells (request_words request ++ rest)
+        ≡ record { cells = first.cells; reply = reply_words first.reply } }
 {}
 
-/// A body that begins with no request leaves the bus as it is and is answered by one header: version 2, the identifier in bits
-/// 27-16 of its first word, words 0, type 0, code 1. Nothing after that word counts. The empty body has the empty reply.
+/// A body that begins with no request leaves the bus as it is and is answered by one header: version 2, the
+/// identifier in bits 27-16 of its first word, words 0, type 0, code 1. Nothing after that word counts. The empty
+/// body has the empty reply.
 pub fn a_bad_header_ends_a_body()
     ensures bad_header { (cells : CellMap) (word : ℕ) (after : List ℕ) → AreWords (word ∷ after) →
         NoRequestAtFront (word ∷ after) →
@@ -148,13 +154,13 @@ pub fn a_body_leaves_what_it_does_not_write()
         cell_at (run_body cells (requests_words requests ++ rest)).cells address ≡ cell_at cells address }
 {}
 
-/// The reply to requests is a reply to them in the sense of the transaction grammar. With a bad header after them it is still
-/// one that a device can give, and so is the reply to any body.
+/// The reply to requests is a reply to them in the sense of the transaction grammar. With a bad header after them it
+/// is still one that a device can give, and so is the reply to any body.
 pub fn a_reply_answers_its_body()
     ensures requests { (cells : CellMap) (requests : List Request) → HoldsWords cells → AreRequests requests →
         IsReplyTo (requests_words requests) (run_body cells (requests_words requests)).reply }
-    ensures bad_header { (cells : CellMap) (requests : List Request) (rest : List ℕ) → HoldsWords cells → AreRequests requests →
-        AreWords rest → NoRequestAtFront rest →
+    ensures bad_header { (cells : CellMap) (requests : List Request) (rest : List ℕ) → HoldsWords cells →
+        AreRequests requests → AreWords rest → NoRequestAtFront rest →
         CanAnswer (requests_words requests ++ rest) (run_body cells (requests_words requests ++ rest)).reply }
     ensures any { (cells : CellMap) (body : List ℕ) → HoldsWords cells → AreWords body →
         CanAnswer body (run_body cells body).reply }
@@ -167,12 +173,14 @@ pub fn a_reply_has_room()
 
 /// A bus that opens with 32-bit words holds them, and still does after any body.
 pub fn words_stay_words()
-    ensures opening { (ranges : List Range) → AllByRecursion (λ range. AreWords range.init) ranges → HoldsWords (opening_bus ranges) }
-    ensures after { (cells : CellMap) (body : List ℕ) → HoldsWords cells → AreWords body → HoldsWords (run_body cells body).cells }
+    ensures opening { (ranges : List Range) → AllByRecursion (λ range. AreWords range.init) ranges →
+        HoldsWords (opening_bus ranges) }
+    ensures after { (cells : CellMap) (body : List ℕ) → HoldsWords cells → AreWords body →
+        HoldsWords (run_body cells body).cells }
 {}
 
-/// A bus is a finite map: its entries stand by rising address as it opens and after any body, and two that stand so and find the
-/// same cell at each address are equal.
+/// A bus is a finite map: its entries stand by rising address as it opens and after any body, and two that stand so
+/// and find the same cell at each address are equal.
 pub fn a_bus_is_known_by_its_cells()
     ensures opening { (ranges : List Range) → IsInOrder (opening_bus ranges) }
     ensures after { (cells : CellMap) (body : List ℕ) → IsInOrder cells → IsInOrder (run_body cells body).cells }
@@ -187,5 +195,6 @@ pub fn replay_goes_on()
     ensures replies { (cells : CellMap) (front back : List (List ℕ)) →
         (replay cells (front ++ back)).replies
         ≡ (replay cells front).replies ++ (replay (replay cells front).cells back).replies }
-    ensures one_each { (cells : CellMap) (bodies : List (List ℕ)) → length (replay cells bodies).replies ≡ length bodies }
+    ensures one_each { (cells : CellMap) (bodies : List (List ℕ)) →
+        length (replay cells bodies).replies ≡ length bodies }
 {}

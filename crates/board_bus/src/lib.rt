@@ -1,4 +1,5 @@
-//! The bus of a board: a map from addresses to words, in ranges of four kinds, on which IPbus 2.0 transactions are executed.
+//! The bus of a board: a map from addresses to words, in ranges of four kinds, on which IPbus 2.0 transactions are
+//! executed.
 #![tactic(auto)]
 
 mod addressing;

@@ -24,7 +24,8 @@ struct Written {
 }
 
 impl Bus {
-    /// Executes one request and appends its reply, for which `out` has room. Answers the refusal that ended it, if one did.
+    /// Executes one request and appends its reply, for which `out` has room. Answers the refusal that ended it, if
+    /// one did.
     pub(crate) fn transact(
         &mut self,
         request: &FirstRequest<'_>,
@@ -34,7 +35,8 @@ impl Bus {
         requires room { vec_len out.old + length (reply_words (transact self.old (request_of request.now)).reply)
             ≤ vec_capacity out.old }
         ensures bus { self.new ≡ (transact self.old (request_of request.now)).cells }
-        ensures reply { out.new.items ≡ out.old.items ++ reply_words (transact self.old (request_of request.now)).reply }
+        ensures reply { out.new.items
+            ≡ out.old.items ++ reply_words (transact self.old (request_of request.now)).reply }
         ensures fault { result_err result ≡ (outcome self.old (request_of request.now).op).fault }
         ensures capacity { vec_capacity out.old ≤ vec_capacity out.new }
     {
@@ -176,7 +178,8 @@ impl Bus {
         requires room { vec_len out.old < vec_capacity out.old }
         ensures bus { self.new ≡ (write_words self.old (placed addressing base words.now)).cells }
         ensures reply { out.new.items ≡ out.old.items
-            ++ outcome_words tid (write_type addressing) (of_writing (write_words self.old (placed addressing base words.now))) }
+            ++ outcome_words tid (write_type addressing)
+            (of_writing (write_words self.old (placed addressing base words.now))) }
         ensures fault { result_err result ≡ (write_words self.old (placed addressing base words.now)).fault }
         ensures capacity { vec_capacity out.old ≤ vec_capacity out.new }
     {
