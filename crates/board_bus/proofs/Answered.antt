@@ -1,5 +1,5 @@
 -- The reply to a body is one that a device can give to it.
-use Rattle.std.proofs.Common.{◌≡◌, ℕ, ◌≤◌, inl, inr, Bool, cond, eq-eqb, List, [], ◌∷◌, ◌++◌, length, append_assoc, append-nil, refl, sym, ap, ◌∙◌, subst, arith, lit<}
+use Rattle.std.proofs.Common.{◌≡◌, ℕ, ◌≤◌, inl, inr, Bool, eq-eqb, List, [], ◌∷◌, ◌++◌, length, append_assoc, append-nil, refl, sym, ap, ◌∙◌, subst, arith, lit<}
 use Rattle.ipb_base.specs.Word.{AreWords}
 use Rattle.ipb_base.proofs.WordLemmas.{AreWords-after}
 use Rattle.transaction_codec.specs.declared.request.Request.{Request}
@@ -12,9 +12,9 @@ use Rattle.transaction_codec.proofs.Requests.{request_again}
 use Rattle.transaction_codec.proofs.Longest.{answer_is_reply, nothing_bad, reply_room_longest}
 use Rattle.board_bus.specs.Cells.{CellMap, HoldsWords}
 use Rattle.board_bus.specs.Transactions.{transact}
-use Rattle.board_bus.specs.Bodies.{Executed, after_reply, run_on, run_body}
+use Rattle.board_bus.specs.Bodies.{Executed, run_on, run_body}
 use Rattle.board_bus.proofs.Bodies.{run_body-bad_header}
-use Rattle.board_bus.proofs.Requests.{run_body-request}
+use Rattle.board_bus.proofs.Requests.{followed, run_body-request}
 use Rattle.board_bus.proofs.Shapes.{shape_of, OpDone, OpFailed}
 use Rattle.board_bus.proofs.WordsKept.{outcome-words}
 
@@ -64,8 +64,7 @@ replies_of cells (request ∷ requests) rest holds are fits bad =
     let first = transact cells request in
     let after : List ℕ = requests_words requests ++ rest in
     let step = first_request_is cells request requests rest are.0 in
-    -- what the first reply is followed by, by whether its code is 0
-    let reply : Bool → List ℕ = λ b. (cond b (after_reply (reply_words first.reply) (run_body first.cells after)) (record { cells = first.cells; reply = reply_words first.reply })).reply in
+    let reply : Bool → List ℕ = λ done. (followed first (run_body first.cells after) done).reply in
     elim ((shape_of cells request.op).outcome) [
       | inl done ↦
           let later = replies_of first.cells requests rest (outcome-words cells request.op holds (are.0).words).bus are.1 fits bad in
@@ -73,7 +72,8 @@ replies_of cells (request ∷ requests) rest holds are fits bad =
             replies = first.reply ∷ later.replies;
             items = (reply_is_reply cells request holds are.0, later.items);
             answers = inl (done_is cells request holds are.0 done, later.answers);
-            spelled = ap (λ (e : Executed). e.reply) step ∙ ap reply (eq-eqb first.reply.code SUCCESS done.success) ∙ ap (λ (ws : List ℕ). reply_words first.reply ++ ws) later.spelled;
+            spelled = ap (λ (e : Executed). e.reply) step ∙ ap reply (eq-eqb first.reply.code SUCCESS done.success)
+                ∙ ap (λ (ws : List ℕ). reply_words first.reply ++ ws) later.spelled;
           }
       | inr failed ↦ record {
         replies = first.reply ∷ [];

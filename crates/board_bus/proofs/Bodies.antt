@@ -1,5 +1,5 @@
 -- Bodies one after another, and the words that a bus holds after them.
-use Rattle.std.proofs.Common.{◌≡◌, ◌≢◌, ℕ, suc, zero, true, false, cond, eqb, List, [], ◌∷◌, ◌++◌, length, Ok, Err, inl, inr, refl, ap, ◌∙◌, subst, arith}
+use Rattle.std.proofs.Common.{◌≡◌, ◌≢◌, ℕ, suc, zero, List, [], ◌∷◌, ◌++◌, length, Ok, Err, inl, inr, refl, ap, ◌∙◌, subst, arith}
 use Rattle.std.proofs.lemmas.Bool.Decides.{eqb_tells}
 use Rattle.ipb_base.specs.Word.{AreWords}
 use Rattle.ipb_base.proofs.WordLemmas.{AreWords-after}
@@ -12,7 +12,7 @@ use Rattle.transaction_codec.specs.Answer.{bad_header_reply}
 use Rattle.board_bus.specs.Cells.{CellMap, HoldsWords}
 use Rattle.board_bus.specs.Transactions.{Transacted, transact}
 use Rattle.board_bus.specs.Bodies.{Executed, after_reply, run_on, run_first, run_requests, run_body, replay}
-use Rattle.board_bus.proofs.Requests.{run_body-request, run_body-success, run_body-fault}
+use Rattle.board_bus.proofs.Requests.{followed, run_on-either, run_body-request, run_body-success, run_body-fault}
 use Rattle.board_bus.proofs.WordsKept.{outcome-words}
 
 -- the bus after bodies and then others
@@ -20,9 +20,11 @@ pub replay-append-cells : (cells : CellMap) (front back : List (List ℕ)) → (
 replay-append-cells cells [] back = refl
 replay-append-cells cells (body ∷ bodies) back = replay-append-cells (run_body cells body).cells bodies back
 
-pub replay-append-replies : (cells : CellMap) (front back : List (List ℕ)) → (replay cells (front ++ back)).replies ≡ (replay cells front).replies ++ (replay (replay cells front).cells back).replies
+pub replay-append-replies : (cells : CellMap) (front back : List (List ℕ))
+    → (replay cells (front ++ back)).replies ≡ (replay cells front).replies ++ (replay (replay cells front).cells back).replies
 replay-append-replies cells [] back = refl
-replay-append-replies cells (body ∷ bodies) back = ap (λ (rs : List (List ℕ)). (run_body cells body).reply ∷ rs) (replay-append-replies (run_body cells body).cells bodies back)
+replay-append-replies cells (body ∷ bodies) back =
+    ap (λ (rs : List (List ℕ)). (run_body cells body).reply ∷ rs) (replay-append-replies (run_body cells body).cells bodies back)
 
 pub replay-length : (cells : CellMap) (bodies : List (List ℕ)) → length (replay cells bodies).replies ≡ length bodies
 replay-length cells [] = refl
@@ -30,7 +32,7 @@ replay-length cells (body ∷ bodies) = ap suc (replay-length (run_body cells bo
 
 run_on-words : (first : Transacted) (later : CellMap → Executed) → HoldsWords first.cells → HoldsWords (later first.cells).cells → HoldsWords (run_on first later).cells
 run_on-words first later here after =
-    elim (eqb first.reply.code SUCCESS) as (λ b. HoldsWords (cond b (after_reply (reply_words first.reply) (later first.cells)) (record { cells = first.cells; reply = reply_words first.reply })).cells) [ true ↦ after | false ↦ here ]
+    run_on-either (λ e. HoldsWords e.cells) first later after here
 
 run_requests-words : (most : ℕ) (words : List ℕ) (cells : CellMap) → AreWords words → HoldsWords cells → HoldsWords (run_requests most words cells).cells
 run_requests-words zero words cells fits holds = holds
@@ -59,7 +61,7 @@ run_body-failed cells request rest is failed =
     let first = transact cells request in
     run_body-request cells _ _ request rest (request_again request rest is) ∙ elim (eqb_tells first.reply.code SUCCESS) [
       | inl same ↦ absurd (failed same.1)
-      | inr differ ↦ ap (λ b. cond b (after_reply (reply_words first.reply) (run_body first.cells rest)) (record { cells = first.cells; reply = reply_words first.reply })) differ.0
+      | inr differ ↦ ap (followed first (run_body first.cells rest)) differ.0
     ]
 
 pub run_body-bad_header : (cells : CellMap) (word : ℕ) (after : List ℕ) → AreWords (word ∷ after)

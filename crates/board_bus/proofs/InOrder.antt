@@ -1,23 +1,22 @@
 -- A bus keeps its entries by rising address.
-use Rattle.std.proofs.Common.{◌≡◌, ℕ, suc, zero, Bool, true, false, cond, eqb, List, [], ◌∷◌, map, Result, Ok, Err, refl, sym, subst, T}
+use Rattle.std.proofs.Common.{◌≡◌, ℕ, suc, zero, Bool, true, false, List, [], ◌∷◌, map, Result, Ok, Err, refl, sym, subst, T}
 use Rattle.std.specs.Ordering.{nat_cmp}
 use Rattle.std.specs.Cmp.{nat_cmp_total}
 use Rattle.std.specs.FinMap.Entries.{find, is_sorted-put}
 use Rattle.std.specs.List.{enumerate_from}
 use Rattle.transaction_codec.specs.declared.request.Op.{Op}
 use Rattle.transaction_codec.specs.declared.request.Op.TheVariants.{Read, ReadPort, Write, WritePort, RmwBits, RmwSum}
-use Rattle.transaction_codec.specs.declared.info_code.TheConstants.{SUCCESS}
 use Rattle.transaction_codec.specs.Request.{request_at}
-use Rattle.transaction_codec.specs.Reply.{reply_words}
 use Rattle.board_bus.specs.declared.fault.BusFault.{BusFault}
 use Rattle.board_bus.specs.declared.range.Range.{Range}
 use Rattle.board_bus.specs.Cells.{CellMap, IsInOrder, read_word, write_word}
 use Rattle.board_bus.specs.Ranges.{range_cells, opening_bus}
 use Rattle.std.specs.List.{flat_map}
 use Rattle.board_bus.specs.Transactions.{◌>>=◌, write_on, write_words, Modified, modify, of_modifying, masked, added, outcome, Transacted, transact}
-use Rattle.board_bus.specs.Bodies.{Executed, after_reply, run_on, run_first, run_requests, run_body}
+use Rattle.board_bus.specs.Bodies.{Executed, run_on, run_first, run_requests, run_body}
 use Rattle.board_bus.proofs.Lookups.{cell_map-in_order, same_cells}
 use Rattle.board_bus.proofs.WordsKept.{write-was}
+use Rattle.board_bus.proofs.Requests.{run_on-either}
 
 from_test : (b : Bool) → T b → b ≡ true
 from_test true h = refl
@@ -61,8 +60,7 @@ outcome-in_order cells (RmwSum base addend) order = modify-in_order cells base (
 
 run_on-in_order : (first : Transacted) (later : CellMap → Executed) → IsInOrder first.cells → IsInOrder (later first.cells).cells → IsInOrder (run_on first later).cells
 run_on-in_order first later here after =
-    elim (eqb first.reply.code SUCCESS) as (λ b. IsInOrder (cond b (after_reply (reply_words first.reply) (later first.cells)) (record { cells = first.cells; reply = reply_words first.reply })).cells)
-    [ true ↦ after | false ↦ here ]
+    run_on-either (λ e. IsInOrder e.cells) first later after here
 
 run_requests-in_order : (most : ℕ) (words : List ℕ) (cells : CellMap) → IsInOrder cells → IsInOrder (run_requests most words cells).cells
 run_requests-in_order zero words cells order = order

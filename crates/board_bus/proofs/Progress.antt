@@ -1,5 +1,5 @@
 -- How far a read or a write has come: one step of it, and its ends.
-use Rattle.std.proofs.Common.{◌≡◌, ℕ, ◌+◌, ◌-◌, ◌<◌, ◌≤◌, lit≤, set, suc, List, [], ◌∷◌, ◌++◌, length, length-append, append_assoc, append-nil, drop, map, replicate, None, Some, Result, Ok, Err, refl, sym, ap, ◌∙◌, arith}
+use Rattle.std.proofs.Common.{◌≡◌, ℕ, ◌+◌, ◌-◌, ◌<◌, ◌≤◌, lit≤, set, suc, List, [], ◌∷◌, ◌++◌, length, length-append, append_assoc, append-nil, drop, map, replicate, Some, Result, Ok, Err, refl, sym, ap, ◌∙◌, arith}
 use Rattle.std.specs.List.{range_with_len}
 use Rattle.std.specs.Result.{ok_prefix}
 use Rattle.std.proofs.lemmas.List.{length-replicate}
@@ -12,13 +12,10 @@ use Rattle.board_bus.specs.Transactions.{Writing, first_fault, words_read, fault
 use Rattle.board_bus.specs.Answering.{step_of, addresses, placed}
 
 -- the first address, and those that are left
-addresses-more : (addressing : Addressing) (address step count : ℕ) → step ≡ step_of addressing → addresses addressing address (suc count) ≡ address ∷ addresses addressing (address + step) count
+addresses-more : (addressing : Addressing) (address step count : ℕ) → step ≡ step_of addressing
+    → addresses addressing address (suc count) ≡ address ∷ addresses addressing (address + step) count
 addresses-more Block address step count is = ap (λ n. address ∷ range_with_len (address + n) count) (sym is)
 addresses-more Port address step count is = let same : address ≡ address + step = omega (arith, is) in ap (λ n. address ∷ replicate count n) same
-
-addresses-none : (addressing : Addressing) (address : ℕ) → addresses addressing address 0 ≡ []
-addresses-none Block address = refl
-addresses-none Port address = refl
 
 -- What was appended so far and what reading the addresses that are left gives are what reading all gives.
 pub record ReadsOn (cells : CellMap) (before out : List ℕ) (addressing : Addressing) (base address count left : ℕ) : Type 0 where
@@ -32,7 +29,8 @@ module _ (cells : CellMap) (before out : List ℕ) (addressing : Addressing) (ba
 
     -- what the reads that are left give, by what the first of them gives
     now : (r : Result ℕ BusFault) → read_word cells address ≡ r → map (read_word cells) (addresses addressing address left) ≡ r ∷ later
-    now r is = ap (λ n. map (read_word cells) (addresses addressing address n)) more ∙ ap (map (read_word cells)) (addresses-more addressing address step rest apart) ∙ ap (λ x. x ∷ later) is
+    now r is = ap (λ n. map (read_word cells) (addresses addressing address n)) more
+        ∙ ap (map (read_word cells)) (addresses-more addressing address step rest apart) ∙ ap (λ x. x ∷ later) is
 
     pub reads_more : (word : ℕ) → read_word cells address ≡ Ok word → ReadsOn cells before (out ++ word ∷ []) addressing base (address + step) count rest
     reads_more word is = record {
@@ -52,13 +50,6 @@ module _ (cells : CellMap) (before out : List ℕ) (addressing : Addressing) (ba
       sym (append-nil out) ∙ ap (λ rs. out ++ ok_prefix rs) (sym (now (Err fault) is)) ∙ on.words,
       ap first_fault (sym (now (Err fault) is)) ∙ on.fault,
     )
-
-  pub reads_end : left ≡ 0 → (out ≡ before ++ words_read cells (addresses addressing base count)) × (None ≡ fault_of_reading cells (addresses addressing base count))
-  reads_end none =
-      let over : addresses addressing address left ≡ [] = ap (addresses addressing address) none ∙ addresses-none addressing address in (
-        sym (append-nil out) ∙ ap (λ ns. out ++ words_read cells ns) (sym over) ∙ on.words,
-        ap (fault_of_reading cells) (sym over) ∙ on.fault,
-      )
 
 -- a number of words written, and then what came later
 abbrev pub after_writing : ℕ → Writing → Writing

@@ -1,21 +1,20 @@
 -- What a body does not write, it does not change.
-use Rattle.std.proofs.Common.{◌≡◌, ◌≢◌, ℕ, ◌+◌, ◌<◌, ◌⊎◌, inl, inr, true, false, cond, eqb, List, [], ◌∷◌, ◌++◌, length, map, replicate, Result, Ok, Err, refl, sym, ap, ◌∙◌}
+use Rattle.std.proofs.Common.{◌≡◌, ◌≢◌, ℕ, ◌+◌, ◌<◌, ◌⊎◌, inl, inr, List, [], ◌∷◌, ◌++◌, length, map, replicate, Result, Ok, Err, refl, sym, ap, ◌∙◌}
 use Rattle.std.specs.List.{AllByRecursion, enumerate_from, range_with_len}
 use Rattle.std.proofs.lemmas.Bool.{cases_order}
 use Rattle.ipb_base.specs.Word.{AreWords}
 use Rattle.transaction_codec.specs.declared.request.Op.{Op}
 use Rattle.transaction_codec.specs.declared.request.Op.TheVariants.{Read, ReadPort, Write, WritePort, RmwBits, RmwSum}
 use Rattle.transaction_codec.specs.declared.request.Request.{Request}
-use Rattle.transaction_codec.specs.declared.info_code.TheConstants.{SUCCESS}
 use Rattle.transaction_codec.specs.Request.{AreRequests, NoRequestAtFront, requests_words}
-use Rattle.transaction_codec.specs.Reply.{reply_words}
 use Rattle.board_bus.specs.declared.fault.BusFault.{BusFault}
 use Rattle.board_bus.specs.Cells.{CellMap, cell_at, read_word, write_word}
 use Rattle.board_bus.specs.Transactions.{◌>>=◌, write_on, write_words, Modified, modify, of_modifying, masked, added, outcome, written_by, Transacted, transact}
-use Rattle.board_bus.specs.Bodies.{Executed, after_reply, run_on, run_body}
+use Rattle.board_bus.specs.Bodies.{Executed, run_on, run_body}
 use Rattle.board_bus.proofs.WordsKept.{write-elsewhere}
 use Rattle.board_bus.proofs.Answered.{first_request_is}
 use Rattle.board_bus.proofs.Bodies.{run_body-bad_header}
+use Rattle.board_bus.proofs.Requests.{run_on-either}
 
 apart : (written q : ℕ) → written ≢ q → (q < written) ⊎ (written < q)
 apart written q differ = elim (cases_order q written) [ inl same ↦ absurd (differ (sym same)) | inr h ↦ h ]
@@ -58,10 +57,10 @@ outcome-untouched cells (WritePort base words) q differ = writes-untouched cells
 outcome-untouched cells (RmwBits base and_term or_term) q differ = modify-untouched cells base q (masked and_term or_term) differ.0
 outcome-untouched cells (RmwSum base addend) q differ = modify-untouched cells base q (added addend) differ.0
 
-run_on-untouched : (first : Transacted) (later : CellMap → Executed) (q : ℕ) → cell_at (later first.cells).cells q ≡ cell_at first.cells q → cell_at (run_on first later).cells q ≡ cell_at first.cells q
+run_on-untouched : (first : Transacted) (later : CellMap → Executed) (q : ℕ) → cell_at (later first.cells).cells q ≡ cell_at first.cells q
+    → cell_at (run_on first later).cells q ≡ cell_at first.cells q
 run_on-untouched first later q same =
-    elim (eqb first.reply.code SUCCESS) as (λ b. cell_at (cond b (after_reply (reply_words first.reply) (later first.cells)) (record { cells = first.cells; reply = reply_words first.reply })).cells q ≡ cell_at first.cells q)
-    [ true ↦ same | false ↦ refl ]
+    run_on-either (λ e. cell_at e.cells q ≡ cell_at first.cells q) first later same refl
 
 -- what begins with no request leaves all
 bad-untouched : (cells : CellMap) (rest : List ℕ) (q : ℕ) → AreWords rest → NoRequestAtFront rest → cell_at (run_body cells rest).cells q ≡ cell_at cells q

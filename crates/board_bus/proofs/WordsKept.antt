@@ -39,7 +39,8 @@ written_cell : (cells after : CellMap) (address word : ℕ) (cell : Option Cell)
     → (c : Cell) × (cell ≡ Some c) × (after ≡ put nat_cmp address (record c { word = word }) cells)
 written_cell cells after address word None is = absurd cc
 written_cell cells after address word (Some c) is =
-    elim (write_fault c.kind) as (λ f. unless f (put nat_cmp address (record c { word = word }) cells) ≡ Ok after → (d : Cell) × (Some c ≡ Some d) × (after ≡ put nat_cmp address (record d { word = word }) cells)) [
+    elim (write_fault c.kind) as (λ f. unless f (put nat_cmp address (record c { word = word }) cells) ≡ Ok after
+    → (d : Cell) × (Some c ≡ Some d) × (after ≡ put nat_cmp address (record d { word = word }) cells)) [
       | None ↦ λ e. (c, refl, sym (ok_is _ _ e))
       | Some fault ↦ λ e. absurd cc
     ] is

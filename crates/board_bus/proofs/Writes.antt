@@ -11,7 +11,8 @@ use Rattle.board_bus.specs.Transactions.{Writing, EndsAtRefusal, of_writing, wri
 use Rattle.board_bus.proofs.WordsKept.{write-here, write-elsewhere}
 
 -- Whether a cell may be written, and what refuses it, is seen in the cell alone.
-allowed_kind : (x y : CellMap) (a v w before now : ℕ) (kind : RangeKind) → IsOk (write_cell x a v (Some (record { kind = kind; word = before }))) → IsOk (write_cell y a w (Some (record { kind = kind; word = now })))
+allowed_kind : (x y : CellMap) (a v w before now : ℕ) (kind : RangeKind) → IsOk (write_cell x a v (Some (record { kind = kind; word = before })))
+    → IsOk (write_cell y a w (Some (record { kind = kind; word = now })))
 allowed_kind x y a v w before now Rw is = refl
 allowed_kind x y a v w before now Ro is = absurd cc
 allowed_kind x y a v w before now Wo is = refl

@@ -8,4 +8,6 @@ run-requires c = record { room = omega (arith, run_body-length c.args.self.now c
 
 pub returns-clause-room : goal.returns-clause-room
 returns-clause-room c =
-    omega (arith, ap length c.run.ensures.reply, ap length c.in_ok-reserve.ensures.items, length-append c.reserve.new.self.items (run_body c.args.self.now c.args.body.now).reply, run_body-length c.args.self.now c.args.body.now)
+    let reply = (run_body c.args.self.now c.args.body.now).reply in
+    let most = run_body-length c.args.self.now c.args.body.now in
+    omega (arith, ap length c.run.ensures.reply, ap length c.in_ok-reserve.ensures.items, length-append c.reserve.new.self.items reply, most)
