@@ -21,5 +21,14 @@ returns-clause-reply c =
     let done : c.len.result - c.len-place.result - 1 ≡ length words =
     omega (arith, c.read_words-ended.new.out.ok, c.push_within.new.out.ok, c.push_within.ensures.len, c.len.ensures, c.len-place.ensures) in
     let place : c.len-place.result ≡ length c.args.out.now.items = omega (arith, c.args.out.now.ok, c.len-place.ensures) in
-    rw (c.read_words-ended.ensures.words, c.push_within.ensures.items, place, header_filled_in, c.header.ensures, done,
-    c.info_code.ensures.value, c.read_words-ended.ensures.fault, c.read_type.ensures) refl
+    rw (
+      c.read_words-ended.ensures.words,
+      c.push_within.ensures.items,
+      place,
+      header_filled_in,
+      c.header.ensures,
+      done,
+      c.info_code.ensures.value,
+      c.read_words-ended.ensures.fault,
+      c.read_type.ensures,
+    ) refl
