@@ -9,7 +9,7 @@ ghost use Rattle.board_bus.specs.Cells.{read_word, write_word};
 ghost use Rattle.board_bus.specs.Transactions.{added, fault_of_reading, masked, modify, of_reading, of_writing, outcome, transact, words_read, write_words};
 ghost use Rattle.board_bus.specs.Answering.{IsModified, addresses, modified_words, outcome_words, placed, read_type, write_type};
 
-use crate::addressing::Addressing;
+use crate::addressing::Addressing::{self, Block, Port};
 use crate::room::push_within;
 use crate::{Bus, BusFault};
 use transaction_codec::info_code::SUCCESS;
@@ -42,34 +42,10 @@ impl Bus {
     {
         let tid = request.tid;
         match request.op {
-            OpRef::Read { base, count } => self.answer_read(
-                tid,
-                Addressing::Block,
-                base,
-                count,
-                out,
-            ),
-            OpRef::ReadPort { base, count } => self.answer_read(
-                tid,
-                Addressing::Port,
-                base,
-                count,
-                out,
-            ),
-            OpRef::Write { base, words } => self.answer_write(
-                tid,
-                Addressing::Block,
-                base,
-                words,
-                out,
-            ),
-            OpRef::WritePort { base, words } => self.answer_write(
-                tid,
-                Addressing::Port,
-                base,
-                words,
-                out,
-            ),
+            OpRef::Read { base, count } => self.answer_read(tid, Block, base, count, out),
+            OpRef::ReadPort { base, count } => self.answer_read(tid, Port, base, count, out),
+            OpRef::Write { base, words } => self.answer_write(tid, Block, base, words, out),
+            OpRef::WritePort { base, words } => self.answer_write(tid, Port, base, words, out),
             OpRef::RmwBits {
                 base,
                 and_term,
