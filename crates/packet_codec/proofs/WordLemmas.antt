@@ -25,11 +25,6 @@ IsBytes-take n bytes fits i =
       | inr past ↦ rw (get_or_past (take n bytes) i 0 (omega (arith, length-take n bytes))) (omega arith)
     ]
 
--- a list whose items are all below 2 ^ 32 is one of words
-pub AreWords-at : (words : List ℕ) → ((i : ℕ) → get_or words i 0 < 2 ^ 32) → AreWords words
-AreWords-at [] fits = tt
-AreWords-at (word ∷ words) fits = (fits 0, AreWords-at words (λ i. fits (suc i)))
-
 -- ---- one word
 
 pub length-word : (order : Order) (word : ℕ) → length (word_in_order order word) ≡ 4

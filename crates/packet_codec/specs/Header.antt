@@ -1,6 +1,7 @@
 -- The packet header of IPbus 2.0.
 use Rattle.std.specs.Prelude.{ℕ, ◌+◌, ◌*◌, ◌/◌, ◌%◌, ◌^◌, ◌==◌, ◌&&◌, if◌then◌else◌, Option, Some, None}
-use Rattle.packet_codec.specs.declared.header.TheConstants.{VERSION, BYTE_ORDER_QUALIFIER}
+use Rattle.ipb_base.specs.declared.version.TheConstants.{VERSION}
+use Rattle.packet_codec.specs.declared.header.TheConstants.{BYTE_ORDER_QUALIFIER}
 use Rattle.packet_codec.specs.declared.header.Header.{Header}
 use Rattle.packet_codec.specs.declared.packet.PacketKind.{PacketKind}
 use Rattle.packet_codec.specs.declared.packet.PacketKind.TheVariants.{Control, Status, Resend}

@@ -4,9 +4,7 @@ ghost use Rattle.std.specs.Prelude.{◌≡◌, ℕ, ◌^◌, ◌<◌, IfSome, So
 ghost use Rattle.packet_codec.specs.Header.{packet_header, header_of, kind_code};
 
 use crate::packet::PacketKind;
-
-/// The version of the protocol, in bits 31 to 28 of each header (IPbus 2.0, packet header).
-const VERSION: u32 = 2;
+use ipb_base::VERSION;
 
 /// The byte-order qualifier, in bits 7 to 4 of a header (IPbus 2.0, packet header).
 const BYTE_ORDER_QUALIFIER: u32 = 0xf;
