@@ -1,7 +1,7 @@
 -- The words with which bytes begin, and the status that they tell.
 use Rattle.std.specs.Prelude.{IfSome, IfNone, IfOk, IsOkAnd, ◌↔◌}
 use Rattle.std.specs.Option.{ok_or}
-use Rattle.std.proofs.Common.{Option, Some, None, Result, Ok, Err, ◌≡◌, ◌≢◌, ℕ, zero, suc, ◌+◌, ◌*◌, ◌<◌, ◌≤◌, ◌^◌, ◌⊎◌, List, [], ◌∷◌, ◌++◌, length, get_or, drop, refl, sym, ap, subst, ◌∙◌, inl, inr, arith, lit<, Fits, w8}
+use Rattle.std.proofs.Common.{Option, Some, None, Result, Err, ◌≡◌, ℕ, zero, suc, ◌+◌, ◌*◌, ◌<◌, ◌≤◌, ◌^◌, List, [], ◌∷◌, ◌++◌, length, get_or, drop, refl, sym, ap, subst, ◌∙◌, inl, inr, arith, lit<, Fits, w8}
 use Rattle.std.proofs.lemmas.List.{drop-drop, length-drop}
 use Rattle.std.proofs.lemmas.Nat.{be_bytes_4, from_be_bytes-to_be_bytes_4}
 use Rattle.ipb_base.specs.Word.{IsWord, word_bytes, big_endian}
@@ -16,7 +16,7 @@ use Rattle.status_packet.specs.declared.status.Status.{Status as BoardStatus}
 use Rattle.status_packet.specs.declared.status.BadStatus.{BadStatus}
 use Rattle.status_packet.specs.declared.status.BadStatus.TheVariants as faults
 use Rattle.status_packet.specs.Range.{IsMtu, IsBufferCount}
-use Rattle.status_packet.specs.StatusBytes.{status_header, IsStatusRequest, IsStatusReply, IsNextHeader, IsNoStatus, IsOutOfRange}
+use Rattle.status_packet.specs.StatusBytes.{status_header, IsStatusRequest, IsStatusReply, IsNoStatus, IsOutOfRange}
 use Rattle.status_packet.specs.Reading.{word_at}
 
 -- ---- words in bytes

@@ -1,4 +1,4 @@
-use Rattle.std.proofs.Common.{rules, tests, arith}
+use Rattle.std.proofs.Common.{rules, tests}
 use Rattle.status_packet.specs.StatusBytes.{IsStatusRequest}
 use Rattle.status_packet.proofs.StatusLemmas.{found, only, range}
 use Rattle.status_packet.proofs.reading.read_status_reply.Goals as goal
