@@ -17,6 +17,7 @@ use packet_ids::Id;
 
 /// Whether the bytes are a request for the status of a board: 64 bytes that begin with the header of a status packet
 /// (IPbus 2.0, status packet). The words after it are not looked at (profile).
+#[tactic(auto, using(crate::proofs::StatusLemmas::request, crate::proofs::StatusLemmas::request_word))]
 pub fn is_status_request(bytes: &[u8]) -> bool
     ensures request { IsTrue result ↔ IsStatusRequest bytes.now }
 {
