@@ -13,3 +13,6 @@ pub mod SearchLemmas
 pub mod Compiled
 pub mod OverlapLemmas
 pub mod RepeatLemmas
+pub mod SiblingLemmas
+pub mod Places
+pub mod Uniqueness

@@ -1,4 +1,5 @@
 pub mod Named
+pub mod Addresses
 pub mod Maps
 pub mod Names
 pub mod Modules
@@ -7,3 +8,4 @@ pub mod Refusals
 pub mod Run
 pub mod Overlaps
 pub mod Repeats
+pub mod Examples

@@ -1,4 +1,4 @@
--- The names of registers: dotted paths of node ids, with addresses that add up along the path.
+-- The names of registers: dotted paths of node ids, with addresses that add up along the path (uHAL).
 use Rattle.std.specs.Prelude.{ℕ, ◌+◌, List, [], ◌∷◌, ◌++◌}
 use Rattle.std.specs.Option.{option_map_or}
 use Rattle.address_table.specs.declared.nodes.Node.{Node, out-Node}
@@ -9,10 +9,14 @@ use Rattle.node_tree.specs.Maps.{Name, TableMap, nodes_of}
 abbrev pub children_of : TableMap → Node → List Node
 children_of tables n = option_map_or (nodes_of tables) (out-Node n).«module» (out-Node n).nodes.items
 
+-- the byte between ids
+abbrev pub dot : ℕ
+dot = 46
+
 -- an id below a name, after a dot; at the top the id alone
 abbrev pub name_below : Name → Name → Name
 name_below [] id = id
-name_below (byte ∷ bytes) id = (byte ∷ bytes) ++ 46 ∷ id
+name_below (byte ∷ bytes) id = (byte ∷ bytes) ++ dot ∷ id
 
 -- the name and the address of a node that stands below a name and an address
 abbrev pub node_name : Name → Node → Name

@@ -1,4 +1,4 @@
--- Ids that stand twice among siblings.
+-- Ids that stand twice among siblings. Profile.
 use Rattle.std.specs.Prelude.{◌≡◌, ◌⊎◌, List, [], ◌∷◌, ◌++◌}
 use Rattle.address_table.specs.declared.nodes.Node.{Node, out-Node}
 use Rattle.node_tree.specs.declared.refusal.CompileWhy.TheVariants.{Duplicate}

@@ -52,18 +52,12 @@ impl Tables {
         self.by_name.insert(self.alloc, name, table)
     }
 
-    /// The table of a name.
+    /// The table of a name. Each of the tables was read from a value of a document, since no other may be put.
     pub fn get(&self, name: &str) -> Option<&Table>
-        ensures { option_copied result ≡ map.get self.now name.now }
+        ensures found { option_copied result ≡ map.get self.now name.now }
+        ensures readable { AreReadable self.now }
     {
         self.by_name.get(name)
-    }
-
-    /// Each table was read from a value of a document, since no other may be put.
-    pub fn are_readable(&self)
-        ensures { AreReadable self.now }
-    {
-        let _ = &self.by_name;
     }
 
     pub(crate) fn by_name(&self) -> &NameMap<Table>
