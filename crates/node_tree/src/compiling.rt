@@ -19,8 +19,9 @@ use std::alloc::Global;
 use std::collections::BTreeMap;
 
 /// The index of the registers that a table names (uHAL). The tables are compiled exactly where they break no rule of
-/// `CompileWhy`, and then the index has the registers that the root names and no others, and no mask in it is 0.
-/// A refusal for a duplicate means that an earlier sibling of the node has its id.
+/// `CompileWhy`, and then the index has the registers that the root names and no others. No mask in it is 0, and each
+/// last address has 32 bits. A refusal tells the first rule that is broken, and where; one for a duplicate means that an
+/// earlier sibling of the node has its id.
 pub fn compile(alloc: Global, tables: &Tables, root: &str) -> Result<Index, CompileRefusal>
     ensures names { let named = RootNames tables.now root.now in
         IfOk result (λ index. (name : Name) (r : Reg) → (map.get index name ≡ Some r) ↔ named name r) }
@@ -38,7 +39,7 @@ pub fn compile(alloc: Global, tables: &Tables, root: &str) -> Result<Index, Comp
     };
     match walk(alloc, tables, nodes_of(tables, root), "", 0, 1, &mut found) {
         Ok(()) => Ok(index_of(alloc, found)?),
-        Err(Fault::At { name, why }) => Err(refused_node(alloc, root, name, why)),
+        Err(Fault::At { name, why }) => Err(refused_at(alloc, root, name, why)),
         Err(Fault::NoMemory) => Err(CompileRefusal::NoMemory),
     }
 }
@@ -71,21 +72,19 @@ fn check_acyclic(alloc: Global, tables: &Tables, root: &str) -> Result<(), Compi
     }
 }
 
-/// A refusal of a table as a whole.
+/// A refusal of a table as a whole: its path is empty.
 fn refused_table(alloc: Global, table: &str, why: CompileWhy) -> CompileRefusal
     ensures { Refuses table.now [] why result }
 {
-    match (Text::copy_of(alloc, table), Text::copy_of(alloc, "")) {
-        (Ok(table), Ok(path)) => CompileRefusal::At { table, path, why },
-        _ => CompileRefusal::NoMemory,
-    }
+    let path = Text::from_string(String::new(alloc));
+    refused_at(alloc, table, path, why)
 }
 
-/// A refusal of a node by its name.
-fn refused_node(alloc: Global, root: &str, path: Text, why: CompileWhy) -> CompileRefusal
-    ensures { Refuses root.now path why result }
+/// A refusal of a place in a table.
+fn refused_at(alloc: Global, table: &str, path: Text, why: CompileWhy) -> CompileRefusal
+    ensures { Refuses table.now path why result }
 {
-    match Text::copy_of(alloc, root) {
+    match Text::copy_of(alloc, table) {
         Ok(table) => CompileRefusal::At { table, path, why },
         Err(NoMemory) => CompileRefusal::NoMemory,
     }

@@ -66,12 +66,9 @@ pub(crate) fn walk(
 {
     for node in nodes {
         let name = dotted_name(alloc, above, node.id.as_str())?;
-        let address = match visit(alloc, name.as_str(), base, level, node, found) {
-            Ok(address) => address,
-            Err(fault) => return Err(fault),
-        };
+        let address = visit(alloc, name.as_str(), base, level, node, found)?;
         let below = children(tables, node);
-        if let Err(fault) = walk(
+        walk(
             alloc,
             tables,
             below,
@@ -79,9 +76,7 @@ pub(crate) fn walk(
             address,
             level + 1,
             found,
-        ) {
-            return Err(fault);
-        }
+        )?;
     }
     Ok(())
 }

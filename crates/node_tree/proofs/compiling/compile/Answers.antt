@@ -23,13 +23,13 @@ returns-in-Ok-clause-only_if_kept c =
 pub returns-in-Err-At-clause-refused : goal.returns-in-Err-At-clause-refused
 returns-in-Err-At-clause-refused c =
     let stop = rw (c.nodes_of.ensures, c.new.ensures, root_walk-siblings c.args.tables.now c.args.root.now, c.in-Err-At.field-0-is) at c.in-Err-At.ensures.stopped in
-    refused c.args.tables.now c.args.root.now c.in-Err-At.name c.in-Err-At.why c.refused_node.result c.in_ok-check_known.ensures.readable c.refused_node.ensures c.in_ok-check_known.ensures.known c.in_ok-check_acyclic.ensures.acyclic stop
+    refused c.args.tables.now c.args.root.now c.in-Err-At.name c.in-Err-At.why c.refused_at.result c.in_ok-check_known.ensures.readable c.refused_at.ensures c.in_ok-check_known.ensures.known c.in_ok-check_acyclic.ensures.acyclic stop
 
 pub returns-in-Err-At-clause-repeated : goal.returns-in-Err-At-clause-repeated
 returns-in-Err-At-clause-repeated c =
     let stop = rw (c.nodes_of.ensures, c.new.ensures, root_walk-siblings c.args.tables.now c.args.root.now, c.in-Err-At.field-0-is) at c.in-Err-At.ensures.stopped in
-    tells-repeated c.args.tables.now c.args.root.now c.refused_node.result
-    (refused c.args.tables.now c.args.root.now c.in-Err-At.name c.in-Err-At.why c.refused_node.result c.in_ok-check_known.ensures.readable c.refused_node.ensures c.in_ok-check_known.ensures.known c.in_ok-check_acyclic.ensures.acyclic stop)
+    tells-repeated c.args.tables.now c.args.root.now c.refused_at.result
+    (refused c.args.tables.now c.args.root.now c.in-Err-At.name c.in-Err-At.why c.refused_at.result c.in_ok-check_known.ensures.readable c.refused_at.ensures c.in_ok-check_known.ensures.known c.in_ok-check_acyclic.ensures.acyclic stop)
 
 pub returns-in_err-check_known-clause-repeated : goal.returns-in_err-check_known-clause-repeated
 returns-in_err-check_known-clause-repeated c =
