@@ -75,6 +75,16 @@ pub fn longest_answer_of_a_body()
     ensures one { (body : List ℕ) (left right : ℕ) → IsLongestAnswer body left → IsLongestAnswer body right → left ≡ right }
 {}
 
+/// Words have one first fault: one place and one rule.
+pub fn one_first_fault()
+    ensures requests { (words : List ℕ) (place other : ℕ) (why rule : Why) →
+        IsRequestFault words (BadWords.At place why) → IsRequestFault words (BadWords.At other rule) →
+        (place ≡ other) × (why ≡ rule) }
+    ensures replies { (words : List ℕ) (place other : ℕ) (why rule : Why) →
+        IsReplyFault words (BadWords.At place why) → IsReplyFault words (BadWords.At other rule) →
+        (place ≡ other) × (why ≡ rule) }
+{}
+
 /// Words of requests and of replies, by hand.
 pub fn worked_spellings()
     ensures no_requests { requests_words [] ≡ [] }
@@ -95,6 +105,14 @@ pub fn worked_refusals()
     ensures kind { IsRequestFault (0x2000016f ∷ 0 ∷ []) (BadWords.At 0 Why.Kind) }
     ensures code { IsRequestFault (0x20000100 ∷ 0 ∷ []) (BadWords.At 0 Why.Code) }
     ensures second { IsRequestFault (0x2000010f ∷ 4 ∷ 0x2001041f ∷ 8 ∷ 1 ∷ []) (BadWords.At 2 Why.Short) }
+{}
+
+/// Words that are no replies, by hand.
+pub fn worked_faults_of_replies()
+    ensures code { IsReplyFault (0x20000102 ∷ []) (BadWords.At 0 Why.Code) }
+    ensures kind { IsReplyFault (0x20000010 ∷ 0x20000141 ∷ []) (BadWords.At 1 Why.Kind) }
+    ensures count { IsReplyFault (0x20000144 ∷ 7 ∷ []) (BadWords.At 0 Why.Count) }
+    ensures short { IsReplyFault (0x20000100 ∷ []) (BadWords.At 0 Why.Short) }
 {}
 
 /// The longest answers of bodies, by hand: to a read of three words, an RMW, a write of two words and a bad header.
