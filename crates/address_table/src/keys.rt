@@ -214,10 +214,7 @@ fn has_array_of_nodes(members: &Table) -> bool
 pub(crate) fn child_items(members: &Table) -> Option<&Array>
     ensures { option_map (λ items. array_view items.now) result ≡ option_and_then as_array (get_member (codes "nodes") (table_view members.now)) }
 {
-    match value_at(members, "nodes") {
-        Some(value) => value.as_array(),
-        None => None,
-    }
+    value_at(members, "nodes")?.as_array()
 }
 
 fn number_at(members: &Table, key: &str, default: u32) -> Option<u32>
