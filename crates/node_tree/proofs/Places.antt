@@ -1,5 +1,5 @@
 -- The places of registers that overlap: the first is below the second, and both are places of entries.
-use Rattle.std.proofs.Common.{◌≡◌, ℕ, ◌+◌, ◌<◌, ◌≤◌, List, [], ◌∷◌, ◌++◌, length, All, Bool, cond, true, false, Option, Some, None, IfSome, sym, subst, arith, length-append}
+use Rattle.std.proofs.Common.{ℕ, ◌+◌, ◌<◌, ◌≤◌, List, [], ◌∷◌, ◌++◌, length, All, Bool, cond, true, false, Option, Some, None, IfSome, arith, length-append}
 use Rattle.std.proofs.lemmas.List.Elements.{All-nil, All-cons, All-append}
 use Rattle.std.specs.List.{position_from}
 use Rattle.std.specs.FinMap.{entries, len, len-entries}

@@ -12,7 +12,7 @@ use Rattle.node_tree.specs.declared.refusal.CompileRefusal.TheVariants.{At, NoMe
 use Rattle.node_tree.specs.Maps.{Name, TableMap, nodes_of}
 use Rattle.node_tree.specs.Names.{children_of, node_name, node_address}
 use Rattle.node_tree.specs.Walk.{Visit, visit_of, siblings, walk, root_walk, visit_rules, first_fault, fault_or}
-use Rattle.node_tree.specs.Repeats.{AreSiblings, top, below, HasId, IsRepeated, TellsRepeated}
+use Rattle.node_tree.specs.Repeats.{AreSiblings, top, below, IsRepeated, TellsRepeated}
 use Rattle.node_tree.specs.Refusals.{IsRefusal}
 use Rattle.node_tree.proofs.RepeatLemmas.{first_fault-append, true-id}
 use Rattle.node_tree.proofs.Runs.{Below}

@@ -1,12 +1,11 @@
 -- Tables that keep the rules are not refused, and tables that are refused are refused in one way.
-use Rattle.std.proofs.Common.{◌≡◌, ◌⊎◌, inl, inr, List, [], ◌∷◌, ◌++◌, Option, Some, None, IsSome, refl, ap, sym, ◌∙◌, subst}
+use Rattle.std.proofs.Common.{◌≡◌, inl, inr, List, [], ◌∷◌, ◌++◌, Option, Some, None, IsSome, refl, ap, sym, ◌∙◌, subst}
 use Rattle.std.proofs.lemmas.Bool.{false≢true}
 use Rattle.std.specs.List.{AllByRecursion}
-use Rattle.std.specs.FinMap.{get, entries}
+use Rattle.std.specs.FinMap.{get}
 use Rattle.address_table.specs.declared.nodes.Table.{Table}
 use Rattle.node_tree.specs.declared.refusal.CompileWhy.{CompileWhy}
 use Rattle.node_tree.specs.declared.refusal.CompileWhy.TheVariants.{UnknownModule, ModuleCycle, TooMany, TooDeep, Duplicate, AddressPastEnd}
-use Rattle.node_tree.specs.declared.refusal.CompileRefusal.{CompileRefusal}
 use Rattle.node_tree.specs.declared.refusal.CompileRefusal.TheVariants.{At}
 use Rattle.node_tree.specs.Maps.{Name, TableMap}
 use Rattle.node_tree.specs.Modules.{HasUnknown, ReachesItself, NoTable, IsFirstTable}

@@ -1,4 +1,4 @@
-use Rattle.std.proofs.Common.{◌≡◌, sym, ap, ◌∙◌, subst}
+use Rattle.std.proofs.Common.{sym, ap, ◌∙◌, subst}
 use Rattle.std.specs.FinMap.{get, get-from_sorted, find}
 use Rattle.node_tree.specs.Maps.{AreMasked, AreWithin}
 use Rattle.node_tree.specs.Named.{named}

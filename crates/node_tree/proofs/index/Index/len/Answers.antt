@@ -1,4 +1,4 @@
-use Rattle.std.proofs.Common.{◌≡◌, ◌≤◌, sym, ap, ◌∙◌, length, subst}
+use Rattle.std.proofs.Common.{◌≤◌, sym, ap, ◌∙◌, length, subst}
 use Rattle.std.specs.FinMap.{len}
 use Rattle.node_tree.specs.declared.limits.TheConstants.{MAX_NODES}
 use Rattle.node_tree.proofs.NamedLemmas.{len-named}

@@ -1,6 +1,6 @@
 use Rattle.std.proofs.Common.{◌≡◌, ◌<◌, All, IfOk, [], sym, ap, ◌∙◌, subst}
 use Rattle.std.proofs.lemmas.Result.{IfOk-weaker}
-use Rattle.std.specs.FinMap.{entries, entries-from_sorted, len, len-entries}
+use Rattle.std.specs.FinMap.{entries, entries-from_sorted, len}
 use Rattle.node_tree.specs.Named.{named}
 use Rattle.node_tree.specs.Overlaps.{overlapping}
 use Rattle.node_tree.proofs.NamedLemmas.{by_bytes, sorted}
