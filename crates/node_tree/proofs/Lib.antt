@@ -16,3 +16,4 @@ pub mod RepeatLemmas
 pub mod SiblingLemmas
 pub mod Places
 pub mod Uniqueness
+pub mod FaultlessLemmas

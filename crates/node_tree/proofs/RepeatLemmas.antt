@@ -249,7 +249,7 @@ same-append xs ys before a b =
     ∙ ap (option_or (first_fault (length before) xs)) (b ∙ ap (λ k. first_fault k ys) (length-pushed xs before))
     ∙ sym (first_fault-append xs ys (length before))
 
-id-true : (id : Name) (ns : List Node) → HasId id ns → has_id id ns ≡ true
+pub id-true : (id : Name) (ns : List Node) → HasId id ns → has_id id ns ≡ true
 id-true id [] h = absurd h
 id-true id (n ∷ ns) (inl same) = or_left (bytes_eq (out-Node n).id id) (has_id id ns) ((bytes_eq-Decides (out-Node n).id id).1 same)
 id-true id (n ∷ ns) (inr later) = or_right (bytes_eq (out-Node n).id id) (has_id id ns) (id-true id ns later)

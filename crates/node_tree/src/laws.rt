@@ -1,5 +1,6 @@
 //! Laws of the definitions, and worked examples of them. These functions do nothing when they run: their clauses are what is proved.
-ghost use Rattle.std.specs.Prelude.{◌≡◌, ◌⊎◌, ◌+◌, [], Some, codes, true, false};
+ghost use Rattle.std.specs.Prelude.{◌≡◌, ◌⊎◌, ◌+◌, List, [], ◌∷◌, ◌++◌, Some, codes, true, false};
+ghost use Rattle.address_table.specs.declared.nodes.Node.{Node, out-Node};
 ghost use Rattle.address_table.specs.declared.kinds.Mode.TheVariants.{Single, Block, Port, Hierarchical};
 ghost use Rattle.node_tree.specs.declared.limits.TheConstants.{MAX_NODES, MAX_IDS};
 ghost use Rattle.node_tree.specs.declared.refusal.CompileWhy.{CompileWhy as Why};
@@ -12,7 +13,7 @@ ghost use Rattle.node_tree.specs.Maps.{Name, TableMap};
 ghost use Rattle.node_tree.specs.Names.{RootNames, name_below};
 ghost use Rattle.node_tree.specs.Overlaps.{is_above};
 ghost use Rattle.node_tree.specs.Refusals.{KeepsRules, IsRefusal};
-ghost use Rattle.node_tree.specs.Repeats.{IsRepeated};
+ghost use Rattle.node_tree.specs.Repeats.{AreSiblings, HasId, IsRepeated};
 ghost use Rattle.node_tree.specs.Walk.{first_fault, root_walk, Lists, HasLevel};
 
 /// Tables that keep the rules are not refused.
@@ -46,6 +47,15 @@ pub fn a_duplicate_has_an_earlier_sibling()
     ensures { (tables : TableMap) (root path : Name)
         → first_fault 0 (root_walk tables root) ≡ Some (path, Duplicate)
         → IsRepeated tables root path }
+{}
+
+/// Where the rules are kept no two siblings have one id, however deep they stand.
+pub fn siblings_have_ids_of_their_own()
+    ensures { (tables : TableMap) (root above : Name) (before : List Node) (n : Node) (after : List Node)
+        → KeepsRules tables root
+        → AreSiblings tables root above (before ++ n ∷ after)
+        → HasId (out-Node n).id before
+        → ⊥ }
 {}
 
 /// The limits of an index.
