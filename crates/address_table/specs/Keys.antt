@@ -12,7 +12,10 @@ use Rattle.address_table.specs.declared.kinds.Mode.TheVariants.{Single}
 -- the keys that a node may have
 abbrev pub is_node_key : List ℕ → Bool
 is_node_key key =
-    is_one_of (codes "id" ∷ codes "address" ∷ codes "mask" ∷ codes "permission" ∷ codes "mode" ∷ codes "size" ∷ codes "module" ∷ codes "tags" ∷ codes "description" ∷ codes "nodes" ∷ []) key
+    is_one_of (
+    codes "id" ∷ codes "address" ∷ codes "mask" ∷ codes "permission" ∷ codes "mode"
+    ∷ codes "size" ∷ codes "module" ∷ codes "tags" ∷ codes "description" ∷ codes "nodes" ∷ []
+    ) key
 
 abbrev pub has_node_keys : Members → Bool
 has_node_keys no_members = true

@@ -30,7 +30,8 @@ has_key key ms = is_some (get_member key ms)
 -- each key that has a text has one
 unfoldable pub has_texts : Members → Bool
 has_texts ms =
-    list_all (λ key. is_some (text_at key ms)) (codes "id" ∷ codes "permission" ∷ codes "mode" ∷ codes "module" ∷ codes "tags" ∷ codes "description" ∷ [])
+    list_all (λ key. is_some (text_at key ms))
+    (codes "id" ∷ codes "permission" ∷ codes "mode" ∷ codes "module" ∷ codes "tags" ∷ codes "description" ∷ [])
 
 -- each key that has a text or an array has one, and `module` does not stand beside `nodes`
 unfoldable pub has_shape : Members → Bool

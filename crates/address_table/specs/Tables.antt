@@ -108,7 +108,12 @@ pub record SameKeys (n m : Node) : Type 0 where
 -- lists of nodes that are the same one for one, with all that is below them
 pub data SameNodes : List Node → List Node → Type 0 where
   neither : SameNodes [] []
-  both : (n m : Node) (ns ms : List Node) → SameKeys n m → SameNodes (out-Node n).nodes.items (out-Node m).nodes.items → SameNodes ns ms → SameNodes (n ∷ ns) (m ∷ ms)
+  both : (n m : Node) (ns ms : List Node)
+      → SameKeys n m
+      → SameNodes (out-Node n).nodes.items (out-Node m).nodes.items
+      → SameNodes ns ms
+      → SameNodes (n ∷ ns) (m ∷ ms)
 
+-- the tables have the same nodes
 abbrev pub SameTable : Table → Table → Type 0
 SameTable t u = SameNodes t.nodes.items u.nodes.items

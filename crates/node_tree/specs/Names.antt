@@ -37,9 +37,14 @@ register_of base n = record {
 -- What a list of nodes names below a name and an address: each node names its register, and its children name theirs
 -- below the node's name and address.
 pub data Names (tables : TableMap) : List Node → Name → ℕ → Name → Register → Type 0 where
-  itself : (n : Node) (ns : List Node) (above : Name) (base : ℕ) → Names tables (n ∷ ns) above base (node_name above n) (register_of base n)
-  child : (n : Node) (ns : List Node) (above : Name) (base : ℕ) (name : Name) (r : Register) → Names tables (children_of tables n) (node_name above n) (node_address base n) name r → Names tables (n ∷ ns) above base name r
-  later : (n : Node) (ns : List Node) (above : Name) (base : ℕ) (name : Name) (r : Register) → Names tables ns above base name r → Names tables (n ∷ ns) above base name r
+  itself : (n : Node) (ns : List Node) (above : Name) (base : ℕ)
+      → Names tables (n ∷ ns) above base (node_name above n) (register_of base n)
+  child : (n : Node) (ns : List Node) (above : Name) (base : ℕ) (name : Name) (r : Register)
+      → Names tables (children_of tables n) (node_name above n) (node_address base n) name r
+      → Names tables (n ∷ ns) above base name r
+  later : (n : Node) (ns : List Node) (above : Name) (base : ℕ) (name : Name) (r : Register)
+      → Names tables ns above base name r
+      → Names tables (n ∷ ns) above base name r
 
 -- what the table of a name names
 abbrev pub RootNames : TableMap → Name → Name → Register → Type 0

@@ -23,7 +23,8 @@ pub record KeepsRules (tables : TableMap) (root : Name) : Type 0 where
 -- the first table in byte order with an unknown module, or the root where all modules are known and it is no table
 abbrev pub TellsUnknown : TableMap → Name → Name → Type 0
 TellsUnknown tables root name =
-    IsFirstTable tables (HasUnknown tables) name ⊎ (NoTable tables (HasUnknown tables) × (name ≡ root) × (get tables root ≡ None))
+    IsFirstTable tables (HasUnknown tables) name
+    ⊎ (NoTable tables (HasUnknown tables) × (name ≡ root) × (get tables root ≡ None))
 
 -- all modules are known, and this is the first table in byte order that leads to itself
 abbrev pub TellsCycle : TableMap → Name → Name → Type 0
@@ -32,7 +33,10 @@ TellsCycle tables root name = AreKnown tables root × IsFirstTable tables (Reach
 -- the modules are in order, and this is the first faulty node of the walk from the root
 abbrev pub TellsNode : TableMap → Name → Name → Name → CompileWhy → Type 0
 TellsNode tables root name path why =
-    AreKnown tables root × NoTable tables (ReachesItself tables) × (name ≡ root) × (first_fault 0 (root_walk tables root) ≡ Some (path, why))
+    AreKnown tables root
+    × NoTable tables (ReachesItself tables)
+    × (name ≡ root)
+    × (first_fault 0 (root_walk tables root) ≡ Some (path, why))
 
 -- A refusal tells the first rule that is broken, want of memory aside: an unknown module, then a cycle of modules, both
 -- with an empty path, and then a rule that the first faulty node breaks.

@@ -34,7 +34,8 @@ visit_of level above base earlier n = record {
 }
 
 -- a node and what is below it, and then its later siblings, where `walk_below` goes through children
-unfoldable pub siblings : (Name → ℕ → List Node → List Visit) → TableMap → ℕ → Name → ℕ → List Node → List Node → List Visit
+unfoldable pub siblings : (Name → ℕ → List Node → List Visit) → TableMap → ℕ → Name → ℕ → List Node → List Node
+    → List Visit
 siblings walk_below tables level above base earlier [] = []
 siblings walk_below tables level above base earlier (n ∷ ns) =
     visit_of level above base earlier n

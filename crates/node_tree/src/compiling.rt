@@ -53,7 +53,7 @@ fn check_known(alloc: Global, tables: &Tables, root: &str) -> Result<(), Compile
     if let Some(name) = first_unknown(tables) {
         return Err(refused_table(alloc, name, CompileWhy::UnknownModule));
     }
-    if tables.get(root).is_none() {
+    if !tables.by_name().contains(root) {
         return Err(refused_table(alloc, root, CompileWhy::UnknownModule));
     }
     Ok(())

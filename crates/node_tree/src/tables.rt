@@ -52,16 +52,17 @@ impl Tables {
         self.by_name.insert(self.alloc, name, table)
     }
 
-    /// The table of a name. Each of the tables was read from a value of a document, since no other may be put.
+    /// The table of a name.
     pub fn get(&self, name: &str) -> Option<&Table>
-        ensures found { option_copied result ≡ map.get self.now name.now }
-        ensures readable { AreReadable self.now }
+        ensures { option_copied result ≡ map.get self.now name.now }
     {
         self.by_name.get(name)
     }
 
+    /// The tables by name. Each was read from a value of a document, since no other may be put.
     pub(crate) fn by_name(&self) -> &NameMap<Table>
-        ensures { result.now ≡ self.now }
+        ensures same { result.now ≡ self.now }
+        ensures readable { AreReadable self.now }
     {
         &self.by_name
     }
