@@ -9,6 +9,7 @@ pub mod EntryLemmas
 pub mod NamesLemmas
 pub mod NodeLemmas
 pub mod CycleLemmas
+pub mod ReachLemmas
 pub mod SearchLemmas
 pub mod Compiled
 pub mod OverlapLemmas

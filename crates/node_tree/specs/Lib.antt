@@ -2,6 +2,7 @@ pub mod Named
 pub mod Maps
 pub mod Names
 pub mod Modules
+pub mod CycleSearch
 pub mod Walk
 pub mod Refusals
 pub mod Run

@@ -3,9 +3,9 @@ use Rattle.std.specs.List.{AllByRecursion}
 use Rattle.std.specs.FinMap.{entries}
 use Rattle.address_table.specs.declared.nodes.Table.{Table}
 use Rattle.node_tree.specs.Named.{Name, named}
-use Rattle.node_tree.specs.Modules.{IsIn, HasAll}
-use Rattle.node_tree.proofs.cycles.next_open.Given as goal
+use Rattle.node_tree.proofs.CycleLemmas.{IsRising}
+use Rattle.node_tree.proofs.cycles.rising.are_rising.Given as goal
 
 abbrev pub invariant-loop-name : goal.invariant-loop-name
 invariant-loop-name l =
-    (done : List (Name × Table)) × (entries l.tables ≡ done ++ named l.name-iterator) × AllByRecursion (λ e. IsIn l.set e.0 → HasAll l.set e.1.nodes.items) done
+    (done : List (Name × Table)) × (entries l.tables ≡ done ++ named l.name-iterator) × AllByRecursion (IsRising l.ranks) done
