@@ -12,5 +12,7 @@ pub mod CycleLemmas
 pub mod ReachLemmas
 pub mod SearchLemmas
 pub mod Compiled
+pub mod DottedLemmas
 pub mod OverlapLemmas
+pub mod PairLemmas
 pub mod RepeatLemmas

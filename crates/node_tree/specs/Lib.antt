@@ -7,4 +7,5 @@ pub mod Walk
 pub mod Refusals
 pub mod Run
 pub mod Overlaps
+pub mod OverlapExamples
 pub mod Repeats

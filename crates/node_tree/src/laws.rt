@@ -3,7 +3,7 @@ ghost use Rattle.std.specs.Prelude.{◌≡◌, [], Some, codes, true, false};
 ghost use Rattle.node_tree.specs.declared.refusal.CompileWhy.TheVariants.{Duplicate};
 ghost use Rattle.node_tree.specs.Maps.{Name, TableMap, AreReadable};
 ghost use Rattle.node_tree.specs.Names.{name_below};
-ghost use Rattle.node_tree.specs.Overlaps.{is_above};
+ghost use Rattle.node_tree.specs.Overlaps.{is_dotted_prefix};
 ghost use Rattle.node_tree.specs.Repeats.{IsRepeated};
 ghost use Rattle.node_tree.specs.Walk.{first_fault, root_walk};
 
@@ -20,8 +20,8 @@ pub fn ids_are_joined_by_dots()
 {}
 
 /// A name is above those that begin with it and a dot, and not above those that only begin with it.
-pub fn a_name_is_above_its_children()
-    ensures child { is_above (codes "a") (codes "a.b") ≡ true }
-    ensures longer_id { is_above (codes "a") (codes "ab") ≡ false }
-    ensures itself { is_above (codes "a") (codes "a") ≡ false }
+pub fn a_name_is_dotted_prefix_its_children()
+    ensures child { is_dotted_prefix (codes "a") (codes "a.b") ≡ true }
+    ensures longer_id { is_dotted_prefix (codes "a") (codes "ab") ≡ false }
+    ensures itself { is_dotted_prefix (codes "a") (codes "a") ≡ false }
 {}

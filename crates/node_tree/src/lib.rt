@@ -7,6 +7,7 @@ mod cycles;
 mod index;
 pub mod laws;
 mod name_map;
+pub mod overlap_laws;
 mod overlapping;
 mod refusal;
 mod register;

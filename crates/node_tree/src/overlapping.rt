@@ -62,24 +62,30 @@ fn first_overlapping(before: &[Entry], entry: &Entry) -> Option<usize>
     None
 }
 
-/// Whether two registers share bits of a word: neither name is above the other, neither is hierarchical, and they share
-/// an address and a bit of their masks.
+/// Whether two registers share bits of a word: neither is hierarchical, they share an address and a bit of their masks,
+/// and neither name is a dotted prefix of the other.
 fn overlap(a: &Entry, b: &Entry) -> bool
     ensures { result ≡ spec.overlap (string_bytes a.now.0, a.now.1) (string_bytes b.now.0, b.now.1) }
 {
-    !is_above(a.0.as_bytes(), b.0.as_bytes())
-        && !is_above(b.0.as_bytes(), a.0.as_bytes())
-        && takes_words(a.1.mode)
+    takes_words(a.1.mode)
         && takes_words(b.1.mode)
         && share_an_address(&a.1, &b.1)
         && a.1.mask & b.1.mask != 0
+        && !is_dotted_prefix(a.0.as_bytes(), b.0.as_bytes())
+        && !is_dotted_prefix(b.0.as_bytes(), a.0.as_bytes())
 }
 
 /// Whether another name begins with this one and a dot.
-fn is_above(name: &[u8], other: &[u8]) -> bool
-    ensures { result ≡ spec.is_above name.now other.now }
+fn is_dotted_prefix(name: &[u8], other: &[u8]) -> bool
+    ensures { result ≡ spec.is_dotted_prefix name.now other.now }
 {
-    name.len() < other.len() && &other[..name.len()] == name && other[name.len()] == b'.'
+    if other.len() <= name.len() {
+        return false;
+    }
+    if &other[..name.len()] != name {
+        return false;
+    }
+    other[name.len()] == b'.'
 }
 
 fn takes_words(mode: Mode) -> bool
