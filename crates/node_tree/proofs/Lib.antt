@@ -15,4 +15,5 @@ pub mod Compiled
 pub mod DottedLemmas
 pub mod OverlapLemmas
 pub mod PairLemmas
+pub mod SweepLemmas
 pub mod RepeatLemmas

@@ -23,7 +23,7 @@ abbrev Entry : Type 0
 Entry = Name × Register
 
 -- the first place that passes, counted from a number
-found-first : (t : Entry → Bool) (k : ℕ) (xs : List Entry) (i : ℕ) → passes t (slice_get xs i) ≡ true → ((c : ℕ) → c < i → passes t (slice_get xs c) ≡ false) → position_from t k xs ≡ Some (k + i)
+pub found-first : (t : Entry → Bool) (k : ℕ) (xs : List Entry) (i : ℕ) → passes t (slice_get xs i) ≡ true → ((c : ℕ) → c < i → passes t (slice_get xs c) ≡ false) → position_from t k xs ≡ Some (k + i)
 found-first t k [] i h first = absurd (false≢true h)
 found-first t k (x ∷ xs) zero h first = rw h (ap Some (sym (omega arith)))
 found-first t k (x ∷ xs) (suc i) h first =

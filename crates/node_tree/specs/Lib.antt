@@ -8,4 +8,5 @@ pub mod Refusals
 pub mod Run
 pub mod Overlaps
 pub mod OverlapExamples
+pub mod OverlapSearch
 pub mod Repeats
