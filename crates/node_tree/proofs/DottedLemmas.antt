@@ -1,8 +1,7 @@
 -- A name that begins with another and a dot, byte by byte.
-use Rattle.std.proofs.Common.{◌≡◌, ℕ, ◌≤◌, List, [], ◌∷◌, ◌++◌, Bool, true, false, ◌&&◌, ◌==◌, nat_eq, length, take, slice_index, refl, ap, sym, ◌∙◌, arith}
+use Rattle.std.proofs.Common.{◌≡◌, ℕ, ◌≤◌, [], ◌∷◌, Bool, true, false, ◌&&◌, ◌==◌, nat_eq, length, take, slice_index, refl, ap, ◌∙◌, arith}
 use Rattle.std.proofs.lemmas.Bool.Decides.{nat_tests}
 use Rattle.std.specs.Str.{bytes_eq}
-use Rattle.std.specs.List.{starts_with}
 use Rattle.node_tree.specs.Named.{Name}
 use Rattle.node_tree.specs.Overlaps.{is_dotted_prefix}
 

@@ -1,11 +1,11 @@
 -- Pairs of registers, entry by entry.
-use Rattle.std.proofs.Common.{◌≡◌, ◌⊎◌, inl, inr, ℕ, zero, suc, ◌+◌, ◌<◌, ◌≤◌, List, [], ◌∷◌, ◌++◌, length, take, drop, get_or, Bool, true, false, cond, Option, Some, None, nat_lt, slice_get, slice_index, String, Global, string_bytes, refl, ap, sym, ◌∙◌, subst, arith}
+use Rattle.std.proofs.Common.{◌≡◌, ℕ, zero, suc, ◌+◌, ◌<◌, List, [], ◌∷◌, ◌++◌, length, take, drop, get_or, cond, Some, None, slice_get, slice_index, String, Global, string_bytes, refl, ap, sym, ◌∙◌, arith}
 use Rattle.std.specs.List.{position_from}
 use Rattle.std.proofs.lemmas.Bool.{lt-ltb, le-ltb, cases_lt}
 use Rattle.std.proofs.lemmas.List.{drop_more, take_more, length-take-le}
 use Rattle.std.proofs.lemmas.Option.{slice_get_past, slice_get_within, slice_get_cases, get_or_from_slice_get}
 use Rattle.node_tree.specs.declared.register.Register.{Register}
-use Rattle.node_tree.specs.Named.{Name, named}
+use Rattle.node_tree.specs.Named.{Name}
 use Rattle.node_tree.specs.Overlaps.{overlap, overlapping, pair_with, passes, overlap_at}
 use Rattle.node_tree.specs.OverlapSearch.{AreFirsts, pair_before}
 use Rattle.node_tree.proofs.CycleLemmas.{either}

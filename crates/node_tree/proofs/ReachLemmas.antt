@@ -1,12 +1,12 @@
 -- The search for what a table leads to, by a list of tables whose modules were not gone through yet.
-use Rattle.std.proofs.Common.{◌≡◌, ◌⊎◌, inl, inr, ℕ, suc, ◌+◌, ◌≤◌, List, [], ◌∷◌, ◌++◌, length, false, map, refl, sym, ap, ◌∙◌, subst, arith, length-append}
+use Rattle.std.proofs.Common.{◌≡◌, ◌⊎◌, inl, inr, ℕ, suc, List, [], ◌∷◌, ◌++◌, length, false, refl, sym, ap, subst, arith, length-append}
 use Rattle.std.specs.List.{Contains}
 use Rattle.std.specs.Borrow.{Bor}
-use Rattle.std.specs.FinMap.{contains_key, insert, entries, empty}
+use Rattle.std.specs.FinMap.{contains_key, insert, empty}
 use Rattle.std.proofs.lemmas.List.Elements.{Contains-push, Contains-push_cases, Contains-append_left}
 use Rattle.node_tree.specs.Maps.{Name, TableMap, nodes_of}
 use Rattle.node_tree.specs.Modules.{Mentions, Reaches, direct, IsIn, HasAll}
-use Rattle.node_tree.specs.CycleSearch.{NameSet, Opens, OpensAll, missing, names_of}
+use Rattle.node_tree.specs.CycleSearch.{NameSet, Opens, OpensAll, names_of}
 use Rattle.node_tree.proofs.SetLemmas.{not_in_empty, in-kept, in-added, in-only}
 use Rattle.node_tree.proofs.CycleLemmas.{either, reach-in, reach-more, missing-less}
 

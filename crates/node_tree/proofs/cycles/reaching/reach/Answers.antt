@@ -1,4 +1,4 @@
-use Rattle.std.proofs.Common.{◌≡◌, ◌++◌, [], ◌∷◌, sym, ap, ◌∙◌, subst}
+use Rattle.std.proofs.Common.{◌≡◌, sym, ap, ◌∙◌, subst}
 use Rattle.std.specs.FinMap.{insert}
 use Rattle.node_tree.specs.Modules.{IsIn}
 use Rattle.node_tree.specs.CycleSearch.{OpensAll, names_of}

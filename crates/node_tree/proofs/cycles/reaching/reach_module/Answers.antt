@@ -1,7 +1,6 @@
 use Rattle.std.proofs.Common.{◌≡◌, Some, ap, sym, ◌∙◌}
 use Rattle.address_table.specs.declared.nodes.Node.{out-Node}
-use Rattle.node_tree.specs.CycleSearch.{names_of}
-use Rattle.node_tree.proofs.ReachLemmas.{opens-as, opens-same}
+use Rattle.node_tree.proofs.ReachLemmas.{opens-as}
 use Rattle.node_tree.proofs.cycles.reaching.reach_module.Goals as goal
 
 pub returns-in-Some : goal.returns-in-Some

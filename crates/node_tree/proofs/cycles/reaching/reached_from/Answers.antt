@@ -1,7 +1,6 @@
-use Rattle.std.proofs.Common.{◌≡◌, ◌++◌, ◌∷◌, [], length, arith, sym, ap, ◌∙◌, subst, length-append}
-use Rattle.std.specs.FinMap.{entries}
+use Rattle.std.proofs.Common.{◌≡◌, length, arith, ap, ◌∙◌, subst, length-append}
 use Rattle.node_tree.specs.Modules.{Mentions}
-use Rattle.node_tree.specs.CycleSearch.{OpensAll, names_of}
+use Rattle.node_tree.specs.CycleSearch.{names_of}
 use Rattle.node_tree.proofs.CycleLemmas.{known-module}
 use Rattle.node_tree.proofs.ReachLemmas.{Searches, searches-first, searches-more, searches-all, names-push, length-names}
 use Rattle.node_tree.proofs.cycles.reaching.reached_from.Goals as goal

@@ -1,4 +1,4 @@
-use Rattle.std.proofs.Common.{take, subst}
+use Rattle.std.proofs.Common.{subst}
 use Rattle.std.proofs.lemmas.List.{take_all}
 use Rattle.node_tree.specs.Named.{named}
 use Rattle.node_tree.specs.OverlapSearch.{NotesEach}

@@ -1,4 +1,4 @@
-use Rattle.std.proofs.Common.{arith, refl, ap, sym, subst, ◌≡◌, ◌∙◌}
+use Rattle.std.proofs.Common.{arith}
 use Rattle.node_tree.specs.Named.{named}
 use Rattle.node_tree.specs.OverlapSearch.{IsSpan}
 use Rattle.node_tree.proofs.OverlapLemmas.{plain}
