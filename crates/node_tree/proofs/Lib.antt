@@ -9,9 +9,13 @@ pub mod EntryLemmas
 pub mod NamesLemmas
 pub mod NodeLemmas
 pub mod CycleLemmas
+pub mod ReachLemmas
 pub mod SearchLemmas
 pub mod Compiled
+pub mod DottedLemmas
 pub mod OverlapLemmas
+pub mod PairLemmas
+pub mod SweepLemmas
 pub mod RepeatLemmas
 pub mod SiblingLemmas
 pub mod Places

@@ -11,7 +11,7 @@ ghost use Rattle.node_tree.specs.Addresses.{last_address};
 ghost use Rattle.node_tree.specs.Examples.{full_register};
 ghost use Rattle.node_tree.specs.Maps.{Name, TableMap};
 ghost use Rattle.node_tree.specs.Names.{RootNames, name_below};
-ghost use Rattle.node_tree.specs.Overlaps.{is_above};
+ghost use Rattle.node_tree.specs.Overlaps.{is_dotted_prefix};
 ghost use Rattle.node_tree.specs.Refusals.{KeepsRules, IsRefusal};
 ghost use Rattle.node_tree.specs.Repeats.{AreSiblings, HasId, IsRepeated};
 ghost use Rattle.node_tree.specs.Walk.{first_fault, root_walk, Lists, HasLevel};
@@ -80,8 +80,8 @@ pub fn ids_are_joined_by_dots()
 {}
 
 /// A name is above those that begin with it and a dot, and not above those that only begin with it.
-pub fn a_name_is_above_its_children()
-    ensures child { is_above (codes "a") (codes "a.b") ≡ true }
-    ensures longer_id { is_above (codes "a") (codes "ab") ≡ false }
-    ensures itself { is_above (codes "a") (codes "a") ≡ false }
+pub fn a_name_is_the_dotted_prefix_of_its_children()
+    ensures child { is_dotted_prefix (codes "a") (codes "a.b") ≡ true }
+    ensures longer_id { is_dotted_prefix (codes "a") (codes "ab") ≡ false }
+    ensures itself { is_dotted_prefix (codes "a") (codes "a") ≡ false }
 {}

@@ -8,6 +8,7 @@ mod index;
 pub mod laws;
 mod limits;
 mod name_map;
+pub mod overlap_laws;
 mod overlapping;
 mod refusal;
 mod register;
