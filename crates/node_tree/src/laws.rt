@@ -20,7 +20,7 @@ pub fn ids_are_joined_by_dots()
 {}
 
 /// A name is above those that begin with it and a dot, and not above those that only begin with it.
-pub fn a_name_is_dotted_prefix_its_children()
+pub fn a_name_is_above_its_children()
     ensures child { is_dotted_prefix (codes "a") (codes "a.b") ≡ true }
     ensures longer_id { is_dotted_prefix (codes "a") (codes "ab") ≡ false }
     ensures itself { is_dotted_prefix (codes "a") (codes "a") ≡ false }
