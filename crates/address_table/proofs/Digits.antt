@@ -37,9 +37,6 @@ cond-none false o none = refl
 with_digit : (digit base : ℕ) (b : Bool) (o : Option ℕ) → digit < base → cond (nat_lt digit base && b) o None ≡ cond b o None
 with_digit digit base b o small = grind (arith, nat_tests)
 
-without_digit : (digit base : ℕ) (b : Bool) (o : Option ℕ) → base ≤ digit → cond (nat_lt digit base && b) o None ≡ None
-without_digit digit base b o large = grind (arith, nat_tests)
-
 number_after-cons : (base value byte : ℕ) (rest : List ℕ) → digit_value byte < base → number_after base value (byte ∷ rest) ≡ number_after base (value * base + digit_value byte) rest
 number_after-cons base value byte rest digit =
     with_digit (digit_value byte) base (are_digits base rest) (word (continued base value (byte ∷ rest))) digit
@@ -58,12 +55,6 @@ pub next_digit : (base value i : ℕ) (text : List ℕ) → i < length text → 
     → number_after base value (drop i text) ≡ number_after base (value * base + digit_value (get_or text i 0)) (drop (i + 1) text)
 next_digit base value i text more digit =
     at_first base value i text more ∙ number_after-cons base value (get_or text i 0) (drop (i + 1) text) digit
-
--- a byte that is no digit
-pub no_digit : (base value i : ℕ) (text : List ℕ) → i < length text → base ≤ digit_value (get_or text i 0) → number_after base value (drop i text) ≡ None
-no_digit base value i text more large =
-    at_first base value i text more
-    ∙ without_digit (digit_value (get_or text i 0)) base (are_digits base (drop (i + 1) text)) (word (continued base value (get_or text i 0 ∷ drop (i + 1) text))) large
 
 -- a value past 32 bits
 pub past_word : (base value i : ℕ) (text : List ℕ) → i < length text → 1 ≤ base → digit_value (get_or text i 0) < base

@@ -7,7 +7,7 @@ use Rattle.std.specs.Cmp.Lexicographic.{slice_cmp}
 use Rattle.std.proofs.lemmas.List.Elements.{filter_map-append}
 use Rattle.toml.specs.Data.{Data, string, integer, float, boolean, datetime, array, table, Items, no_items, item, Members, no_members, member, get_member, as_array}
 use Rattle.address_table.specs.Rules.{node_fault, broken_rule}
-use Rattle.address_table.specs.Tables.{below, children, fault_at, first_fault, preorder, preorder_array, preorder_children, preorder_items, table_fault, IsNode, node, AreNodes, none, more, IsTable}
+use Rattle.address_table.specs.Tables.{place_in, children, fault_at, first_fault, preorder, preorder_array, preorder_children, preorder_items, table_fault, IsNode, node, AreNodes, none, more, IsTable}
 use Rattle.address_table.specs.declared.nodes.Node.{Node}
 use Rattle.address_table.specs.declared.nodes.Table.{Table}
 use Rattle.address_table.specs.declared.refusal.TableWhy.{TableWhy}
@@ -27,12 +27,12 @@ pub first_fault-append : (xs ys : List (List ℕ × Data)) → first_fault (xs +
 first_fault-append xs ys = ap (λ fs. slice_get fs 0) (filter_map-append fault_at xs ys) ∙ first-append (filter_map fault_at xs) (filter_map fault_at ys)
 
 fault-below : (i : ℕ) (path : List ℕ) (d : Data) (others : List (List ℕ × Data)) (o : Option TableWhy) → node_fault d ≡ o
-    → first_fault (map (below i) others) ≡ option_map (below_fault i) (first_fault others)
-    → first_fault (map (below i) ((path, d) ∷ others)) ≡ option_map (below_fault i) (first_fault ((path, d) ∷ others))
+    → first_fault (map (place_in i) others) ≡ option_map (below_fault i) (first_fault others)
+    → first_fault (map (place_in i) ((path, d) ∷ others)) ≡ option_map (below_fault i) (first_fault ((path, d) ∷ others))
 fault-below i path d others None is ih = rw is ih
 fault-below i path d others (Some why) is ih = rw is refl
 
-pub first_fault-below : (i : ℕ) (xs : List (List ℕ × Data)) → first_fault (map (below i) xs) ≡ option_map (below_fault i) (first_fault xs)
+pub first_fault-below : (i : ℕ) (xs : List (List ℕ × Data)) → first_fault (map (place_in i) xs) ≡ option_map (below_fault i) (first_fault xs)
 first_fault-below i [] = refl
 first_fault-below i (x ∷ xs) = fault-below i x.0 x.1 xs (node_fault x.1) refl (first_fault-below i xs)
 
@@ -40,13 +40,10 @@ first_fault-below i (x ∷ xs) = fault-below i x.0 x.1 xs (node_fault x.1) refl 
 pub first_fault-table : (ms : Members) (ps : List (List ℕ × Data)) → broken_rule ms ≡ None → first_fault (([], table ms) ∷ ps) ≡ first_fault ps
 first_fault-table ms ps kept = rw kept
 
-pub first_fault-broken : (ms : Members) (ps : List (List ℕ × Data)) (why : TableWhy) → broken_rule ms ≡ Some why → first_fault (([], table ms) ∷ ps) ≡ Some ([], why)
-first_fault-broken ms ps why broken = rw broken
-
 -- the first fault of some items: that of the first item, or else that of the others
 pub first_fault-item : (i : ℕ) (d : Data) (ds : Items) → first_fault (preorder_items i (item d ds)) ≡ option_or (option_map (below_fault i) (first_fault (preorder d))) (first_fault (preorder_items (i + 1) ds))
 first_fault-item i d ds =
-    first_fault-append (map (below i) (preorder d)) (preorder_items (i + 1) ds)
+    first_fault-append (map (place_in i) (preorder d)) (preorder_items (i + 1) ds)
     ∙ ap (λ f. option_or f (first_fault (preorder_items (i + 1) ds))) (first_fault-below i (preorder d))
 
 preorder_array-items : (d : Data) → preorder_array d ≡ preorder_items 0 (unwrap_or (as_array d) no_items)

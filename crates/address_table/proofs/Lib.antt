@@ -2,3 +2,4 @@ pub mod Digits
 pub mod Faults
 pub mod ReadNodes
 pub mod Kept
+pub mod Same

@@ -1,4 +1,4 @@
--- What a node says of its register.
+-- What a node says of its register, as the code keeps it. No public clause speaks of it.
 use Rattle.std.specs.Prelude.{◌≡◌, Some}
 use Rattle.toml.specs.Data.{Members}
 use Rattle.address_table.specs.Keys.{address_at, mask_at, size_at, permission_at, mode_at}

@@ -1,4 +1,4 @@
--- The keys of a node: the kind of value that each one has, and what it says where it is left out.
+-- The keys of a node (uHAL, in TOML's spelling. Profile): the kind of value that each has, and what it says left out.
 use Rattle.std.specs.Prelude.{ℕ, Bool, true, ◌&&◌, List, [], ◌∷◌, codes, Option, Some, None, option_map, option_and_then}
 use Rattle.std.specs.Option.{option_map_or}
 use Rattle.toml.specs.Data.{Data, Items, no_items, Members, no_members, member, get_member, as_str, as_array}
@@ -12,7 +12,10 @@ use Rattle.address_table.specs.declared.kinds.Mode.TheVariants.{Single}
 -- the keys that a node may have
 abbrev pub is_node_key : List ℕ → Bool
 is_node_key key =
-    is_one_of (codes "id" ∷ codes "address" ∷ codes "mask" ∷ codes "permission" ∷ codes "mode" ∷ codes "size" ∷ codes "module" ∷ codes "tags" ∷ codes "description" ∷ codes "nodes" ∷ []) key
+    is_one_of (
+    codes "id" ∷ codes "address" ∷ codes "mask" ∷ codes "permission" ∷ codes "mode"
+    ∷ codes "size" ∷ codes "module" ∷ codes "tags" ∷ codes "description" ∷ codes "nodes" ∷ []
+    ) key
 
 abbrev pub has_node_keys : Members → Bool
 has_node_keys no_members = true

@@ -1,4 +1,4 @@
--- The words for permissions and modes.
+-- The words for permissions and modes (uHAL; the written mode `hierarchical` is the profile's).
 use Rattle.std.specs.Prelude.{ℕ, Bool, if◌then◌else◌, List, [], ◌∷◌, codes, Option, Some, None}
 use Rattle.std.specs.List.{list_any}
 use Rattle.std.specs.Str.{bytes_eq}

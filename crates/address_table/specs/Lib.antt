@@ -4,3 +4,4 @@ pub mod Keys
 pub mod Rules
 pub mod Fields
 pub mod Tables
+pub mod Examples

@@ -1,10 +1,11 @@
--- The rules that a node keeps, in the order in which they are judged.
+-- The rules that a node keeps, in the order in which they are judged. Profile; the modes and what they take are uHAL's.
 use Rattle.std.specs.Prelude.{ℕ, Bool, true, false, not, ◌&&◌, ◌||◌, ◌==◌, if◌then◌else◌, List, [], ◌∷◌, length, codes, Option, Some, None, is_some}
 use Rattle.std.specs.List.{list_all}
 use Rattle.std.specs.Option.{option_map_or}
 use Rattle.toml.specs.Data.{Data, table, Members, get_member}
 use Rattle.address_table.specs.Numbers.{is_between}
 use Rattle.address_table.specs.Keys.{has_node_keys, text_at, address_at, mask_at, size_at, permission_at, mode_at, nodes_at}
+use Rattle.address_table.specs.declared.limits.TheConstants.{MAX_ID_BYTES, MAX_WORDS}
 use Rattle.address_table.specs.declared.kinds.Mode.{Mode}
 use Rattle.address_table.specs.declared.kinds.Mode.TheVariants.{Single, Block, Port, Hierarchical}
 use Rattle.address_table.specs.declared.refusal.TableWhy.{TableWhy}
@@ -15,9 +16,9 @@ abbrev pub is_id_byte : ℕ → Bool
 is_id_byte byte =
     (is_between 65 90 byte || is_between 97 122 byte) || (is_between 48 57 byte || (byte == 95 || byte == 45))
 
--- 1 to 64 of these
+-- 1 to 64 of these: the name of a node, a table or a board
 abbrev pub is_id : List ℕ → Bool
-is_id text = is_between 1 64 (length text) && list_all is_id_byte text
+is_id text = is_between 1 MAX_ID_BYTES (length text) && list_all is_id_byte text
 
 -- there is a value, and it passes the test
 abbrev pub holds_of : {T : Type 0} → (T → Bool) → Option T → Bool
@@ -26,11 +27,13 @@ holds_of test value = option_map_or test value false
 abbrev pub has_key : List ℕ → Members → Bool
 has_key key ms = is_some (get_member key ms)
 
--- each key that is there has a value of its kind, as far as texts and arrays go
+-- each key that has a text has one
 unfoldable pub has_texts : Members → Bool
 has_texts ms =
-    list_all (λ key. is_some (text_at key ms)) (codes "id" ∷ codes "permission" ∷ codes "mode" ∷ codes "module" ∷ codes "tags" ∷ codes "description" ∷ [])
+    list_all (λ key. is_some (text_at key ms))
+    (codes "id" ∷ codes "permission" ∷ codes "mode" ∷ codes "module" ∷ codes "tags" ∷ codes "description" ∷ [])
 
+-- each key that has a text or an array has one, and `module` does not stand beside `nodes`
 unfoldable pub has_shape : Members → Bool
 has_shape ms = (has_texts ms && is_some (nodes_at ms)) && not (has_key (codes "module") ms && has_key (codes "nodes") ms)
 
@@ -46,8 +49,8 @@ takes_mask Hierarchical mask = true
 
 -- the words of a register of this mode
 abbrev pub takes_size : Mode → ℕ → Bool
-takes_size Block size = is_between 1 4194304 size
-takes_size Port size = is_between 1 4194304 size
+takes_size Block size = is_between 1 MAX_WORDS size
+takes_size Port size = is_between 1 MAX_WORDS size
 takes_size Single size = size == 1
 takes_size Hierarchical size = size == 1
 

@@ -1,4 +1,5 @@
--- Tables of nodes: the value that a table is written as, and the first fault of a value that is no table.
+-- Tables of nodes (uHAL, in TOML's spelling. Profile): the value that a table is written as, and the first fault of a
+-- value that is no table.
 use Rattle.std.specs.Prelude.{◌≡◌, ℕ, ◌+◌, List, [], ◌∷◌, ◌++◌, map, codes, Option, Some, None, option_map, option_and_then, unwrap_or, slice_get}
 use Rattle.std.specs.List.{filter_map}
 use Rattle.std.specs.Ordering.{nat_cmp, match_ordering}
@@ -49,9 +50,9 @@ IsTable _ t = ⊥
 abbrev pub IsReadable : Table → Type 0
 IsReadable t = (d : Data) × IsTable d t
 
--- a place below the item at a position
-abbrev pub below : ℕ → List ℕ × Data → List ℕ × Data
-below i place = (i ∷ place.0, place.1)
+-- a place in the item at a position
+abbrev pub place_in : ℕ → List ℕ × Data → List ℕ × Data
+place_in i place = (i ∷ place.0, place.1)
 
 -- All values in the place of nodes, each before its children, with the path from here: the positions that lead to it.
 abbrev mutual
@@ -72,7 +73,7 @@ abbrev mutual
   -- the items from a position on
   pub preorder_items : ℕ → Items → List (List ℕ × Data)
   preorder_items i no_items = []
-  preorder_items i (item d ds) = map (below i) (preorder d) ++ preorder_items (i + 1) ds
+  preorder_items i (item d ds) = map (place_in i) (preorder d) ++ preorder_items (i + 1) ds
 
 -- the fault of a place, with its path
 abbrev pub fault_at : List ℕ × Data → Option (List ℕ × TableWhy)
@@ -91,3 +92,28 @@ IsFault fault NoMemory = Unit {0}
 abbrev pub table_fault : Data → Option (List ℕ × TableWhy)
 table_fault (array ds) = first_fault (preorder_items 0 ds)
 table_fault _ = Some ([], Shape)
+
+-- What two nodes say, their children left aside, is the same.
+pub record SameKeys (n m : Node) : Type 0 where
+  pub id : (out-Node n).id ≡ (out-Node m).id
+  pub address : (out-Node n).address ≡ (out-Node m).address
+  pub mask : (out-Node n).mask ≡ (out-Node m).mask
+  pub permission : (out-Node n).permission ≡ (out-Node m).permission
+  pub mode : (out-Node n).mode ≡ (out-Node m).mode
+  pub size : (out-Node n).size ≡ (out-Node m).size
+  pub «module» : (out-Node n).«module» ≡ (out-Node m).«module»
+  pub tags : (out-Node n).tags ≡ (out-Node m).tags
+  pub description : (out-Node n).description ≡ (out-Node m).description
+
+-- lists of nodes that are the same one for one, with all that is below them
+pub data SameNodes : List Node → List Node → Type 0 where
+  neither : SameNodes [] []
+  both : (n m : Node) (ns ms : List Node)
+      → SameKeys n m
+      → SameNodes (out-Node n).nodes.items (out-Node m).nodes.items
+      → SameNodes ns ms
+      → SameNodes (n ∷ ns) (m ∷ ms)
+
+-- the tables have the same nodes
+abbrev pub SameTable : Table → Table → Type 0
+SameTable t u = SameNodes t.nodes.items u.nodes.items

@@ -15,10 +15,8 @@ pub(crate) fn copy_at(alloc: Global, members: &Table, key: &str) -> Result<Text,
     requires { IsSome (text_at_lem key.now (table_view members.now)) }
     ensures { IfOk result (λ text. text_at_lem key.now (table_view members.now) ≡ Some text) }
 {
-    match text_at(members, key) {
-        Some(text) => Text::copy_of(alloc, text),
-        None => unreachable!(),
-    }
+    let text = text_at(members, key).unwrap_or("");
+    Text::copy_of(alloc, text)
 }
 
 /// A copy of the name of the table whose nodes are the children.

@@ -9,12 +9,9 @@ ghost use Rattle.address_table.specs.Rules as rule;
 ghost use Rattle.address_table.specs.Fields.{SaysFields};
 
 use crate::kinds::{mode_named, permission_named};
-use crate::{Mode, Permission, TableWhy, number};
+use crate::{MAX_ID_BYTES, MAX_WORDS, Mode, Permission, TableWhy, number};
 use toml::value::Array;
 use toml::{Table, Value};
-
-/// The most words of a block or a port.
-const MOST_WORDS: u32 = 4_194_304;
 
 /// What a node says of its register.
 #[derive(Clone, Copy)]
@@ -26,11 +23,11 @@ pub(crate) struct Fields {
     pub size: u32,
 }
 
-/// Whether a text is an id (profile): 1 to 64 letters, digits, `_` and `-`. Nodes, tables and boards are named so.
+/// Whether a text is an id (profile): 1 to `MAX_ID_BYTES` letters, digits, `_` and `-`. Nodes, tables and boards are named so.
 pub fn is_id(text: &[u8]) -> bool
     ensures { result ≡ rule.is_id text.now }
 {
-    !text.is_empty() && text.len() <= 64 && has_id_bytes(text)
+    !text.is_empty() && text.len() <= MAX_ID_BYTES && has_id_bytes(text)
 }
 
 fn has_id_bytes(text: &[u8]) -> bool
@@ -181,7 +178,7 @@ fn takes_size(mode: Mode, size: u32) -> bool
     ensures { result ≡ rule.takes_size mode size }
 {
     match mode {
-        Mode::Block | Mode::Port => 1 <= size && size <= MOST_WORDS,
+        Mode::Block | Mode::Port => 1 <= size && size <= MAX_WORDS,
         Mode::Single | Mode::Hierarchical => size == 1,
     }
 }
@@ -217,10 +214,7 @@ fn has_array_of_nodes(members: &Table) -> bool
 pub(crate) fn child_items(members: &Table) -> Option<&Array>
     ensures { option_map (λ items. array_view items.now) result ≡ option_and_then as_array (get_member (codes "nodes") (table_view members.now)) }
 {
-    match value_at(members, "nodes") {
-        Some(value) => value.as_array(),
-        None => None,
-    }
+    value_at(members, "nodes")?.as_array()
 }
 
 fn number_at(members: &Table, key: &str, default: u32) -> Option<u32>

@@ -1,17 +1,27 @@
 //! Laws of the definitions, and worked examples of them. These functions do nothing when they run: their clauses are
 //! what is proved.
-ghost use Rattle.std.specs.Prelude.{◌≡◌, [], ◌∷◌, codes, true, false};
-ghost use Rattle.toml.specs.Data.{Data, string, array, table, no_items, item, no_members, member, boolean};
+ghost use Rattle.std.specs.Prelude.{◌≡◌, [], ◌∷◌, Some, None, codes, true, false};
+ghost use Rattle.toml.specs.Data.{Data, string, boolean};
+ghost use Rattle.address_table.specs.declared.kinds.Mode.TheVariants.{Single, Block, Port, Hierarchical};
+ghost use Rattle.address_table.specs.declared.kinds.Permission.TheVariants.{R, W, Rw};
+ghost use Rattle.address_table.specs.declared.limits.TheConstants.{MAX_ID_BYTES, MAX_WORDS};
+ghost use Rattle.address_table.specs.Examples.{node_with, array_of, key_with, says};
+ghost use Rattle.address_table.specs.Kinds.{permission_named, mode_named};
 ghost use Rattle.address_table.specs.Numbers.{number_in_text};
 ghost use Rattle.address_table.specs.declared.refusal.TableWhy.TheVariants.{Shape, UnknownKey, MissingId, BadMode};
 ghost use Rattle.address_table.specs.Rules.{is_id, node_fault};
-ghost use Rattle.address_table.specs.Tables.{IsTable, table_fault};
+ghost use Rattle.address_table.specs.Tables.{IsTable, SameTable, table_fault};
 ghost use Rattle.address_table.specs.declared.nodes.Table.{Table};
 
 /// A value that is written so that it is a table has no fault, so it is not refused.
 #[tactic(auto, using(crate::proofs::Faults::no_fault))]
 pub fn a_table_has_no_fault()
     ensures { (value : Data) (t : Table) → IsTable value t → table_fault value ≡ None }
+{}
+
+/// A value is written so that it is one table at most.
+pub fn a_value_is_one_table()
+    ensures { (value : Data) (t u : Table) → IsTable value t → IsTable value u → SameTable t u }
 {}
 
 /// Numbers in texts: both bases, both cases, the largest number, and texts that are no number.
@@ -29,6 +39,40 @@ pub fn numbers_in_texts()
     ensures upper_case_prefix { number_in_text (codes "0XF") ≡ None }
 {}
 
+/// The limits of an id, and of a block or a port.
+pub fn limits()
+    ensures id { MAX_ID_BYTES ≡ 64 }
+    ensures words { MAX_WORDS ≡ 4194304 }
+{}
+
+/// The words for permissions, and no others.
+pub fn words_for_permissions()
+    ensures r { permission_named (codes "r") ≡ Some R }
+    ensures read { permission_named (codes "read") ≡ Some R }
+    ensures w { permission_named (codes "w") ≡ Some W }
+    ensures write { permission_named (codes "write") ≡ Some W }
+    ensures rw { permission_named (codes "rw") ≡ Some Rw }
+    ensures wr { permission_named (codes "wr") ≡ Some Rw }
+    ensures readwrite { permission_named (codes "readwrite") ≡ Some Rw }
+    ensures writeread { permission_named (codes "writeread") ≡ Some Rw }
+    ensures upper_case { permission_named (codes "R") ≡ None }
+    ensures empty { permission_named [] ≡ None }
+{}
+
+/// The words for modes, and no others.
+pub fn words_for_modes()
+    ensures single { mode_named (codes "single") ≡ Some Single }
+    ensures block { mode_named (codes "block") ≡ Some Block }
+    ensures incremental { mode_named (codes "incremental") ≡ Some Block }
+    ensures inc { mode_named (codes "inc") ≡ Some Block }
+    ensures port { mode_named (codes "port") ≡ Some Port }
+    ensures non_incremental { mode_named (codes "non-incremental") ≡ Some Port }
+    ensures non_inc { mode_named (codes "non-inc") ≡ Some Port }
+    ensures hierarchical { mode_named (codes "hierarchical") ≡ Some Hierarchical }
+    ensures unknown { mode_named (codes "fifo") ≡ None }
+    ensures empty { mode_named [] ≡ None }
+{}
+
 /// An id has letters, digits, `_` and `-`, and no dot.
 pub fn ids()
     ensures letters { is_id (codes "Ch-0_b") ≡ true }
@@ -39,20 +83,30 @@ pub fn ids()
 /// Of the rules that one node breaks the first in their order is told.
 #[tactic(auto, unfolding(crate::specs::Rules::broken_rule, crate::specs::Rules::has_shape, crate::specs::Rules::has_texts, crate::specs::Numbers::digit_value))]
 pub fn first_rule_is_told()
-    ensures kept { node_fault (table (member (codes "id") (string (codes "x")) no_members)) ≡ None }
+    ensures kept { node_fault (node_with (says (codes "id") (codes "x") ∷ [])) ≡ None }
     ensures no_table { node_fault (string (codes "x")) ≡ Some Shape }
-    ensures shape_first { node_fault (table (member (codes "id") (boolean true) (member (codes "xyz") (boolean true) no_members))) ≡ Some Shape }
-    ensures unknown_key_before_missing_id { node_fault (table (member (codes "xyz") (boolean true) no_members)) ≡ Some UnknownKey }
-    ensures missing_id_before_bad_mode { node_fault (table (member (codes "mode") (string (codes "fifo")) no_members)) ≡ Some MissingId }
-    ensures partial_mask_on_a_port { node_fault (table (member (codes "id") (string (codes "x")) (member (codes "mask") (string (codes "0xff")) (member (codes "mode") (string (codes "port")) no_members)))) ≡ Some BadMode }
-    ensures module_beside_nodes { node_fault (table (member (codes "id") (string (codes "x")) (member (codes "module") (string (codes "m")) (member (codes "nodes") (array no_items) no_members)))) ≡ Some Shape }
+    ensures shape_first { let id = key_with (codes "id") (boolean true) in
+        let unknown = key_with (codes "xyz") (boolean true) in
+        node_fault (node_with (id ∷ unknown ∷ [])) ≡ Some Shape }
+    ensures unknown_key_before_missing_id { node_fault (node_with (key_with (codes "xyz") (boolean true) ∷ [])) ≡ Some UnknownKey }
+    ensures missing_id_before_bad_mode { node_fault (node_with (says (codes "mode") (codes "fifo") ∷ [])) ≡ Some MissingId }
+    ensures partial_mask_on_a_port { let id = says (codes "id") (codes "x") in
+        let mask = says (codes "mask") (codes "0xff") in
+        node_fault (node_with (id ∷ mask ∷ says (codes "mode") (codes "port") ∷ [])) ≡ Some BadMode }
+    ensures module_beside_nodes { let id = says (codes "id") (codes "x") in
+        let beside = says (codes "module") (codes "m") in
+        node_fault (node_with (id ∷ beside ∷ key_with (codes "nodes") (array_of []) ∷ [])) ≡ Some Shape }
 {}
 
 /// A faulty child is told before a faulty node that follows its parent, by the positions that lead to it.
 #[tactic(auto, unfolding(crate::specs::Rules::broken_rule, crate::specs::Rules::has_shape, crate::specs::Rules::has_texts, crate::specs::Numbers::digit_value))]
 pub fn first_node_is_told()
-    ensures child_first { table_fault (array (item (table (member (codes "id") (string (codes "x")) (member (codes "nodes") (array (item (table (member (codes "id") (string (codes "y")) no_members)) (item (boolean true) no_items))) no_members))) (item (boolean true) no_items))) ≡ Some (0 ∷ 1 ∷ [], Shape) }
-    ensures parent_first { table_fault (array (item (table (member (codes "nodes") (array (item (boolean true) no_items)) no_members)) no_items)) ≡ Some (0 ∷ [], MissingId) }
+    ensures child_first { let child = node_with (says (codes "id") (codes "y") ∷ []) in
+        let nodes = key_with (codes "nodes") (array_of (child ∷ boolean true ∷ [])) in
+        let parent = node_with (says (codes "id") (codes "x") ∷ nodes ∷ []) in
+        table_fault (array_of (parent ∷ boolean true ∷ [])) ≡ Some (0 ∷ 1 ∷ [], Shape) }
+    ensures parent_first { let parent = node_with (key_with (codes "nodes") (array_of (boolean true ∷ [])) ∷ []) in
+        table_fault (array_of (parent ∷ [])) ≡ Some (0 ∷ [], MissingId) }
     ensures no_array { table_fault (boolean true) ≡ Some ([], Shape) }
-    ensures empty { table_fault (array no_items) ≡ None }
+    ensures empty { table_fault (array_of []) ≡ None }
 {}

@@ -6,20 +6,20 @@ mod copies;
 mod keys;
 mod kinds;
 pub mod laws;
+mod limits;
 mod nodes;
 mod numbers;
 mod read;
 mod refusal;
-mod text;
 
-pub use ipb_base::NoMemory;
+pub use ipb_base::{NoMemory, Text};
 pub use keys::is_id;
 pub use kinds::{Mode, Permission};
+pub use limits::{MAX_ID_BYTES, MAX_WORDS};
 pub use nodes::{Node, Table};
 pub use numbers::{number, number_in_text};
 pub use read::read_table;
 pub use refusal::{Path, TableRefusal, TableWhy};
-pub use text::Text;
 
 #[cfg(test)]
 mod tests;

@@ -26,6 +26,7 @@ impl Path {
         Path { positions }
     }
 
+    /// The positions of this path, the outermost first.
     pub fn as_slice(&self) -> &[u64]
         ensures { result.now ≡ self.now }
     {
@@ -49,17 +50,19 @@ pub enum TableWhy {
     Shape,
     /// A key that no node has.
     UnknownKey,
+    /// There is no `id`.
     MissingId,
-    /// An id that is not 1 to 64 letters, digits, `_` or `-`.
+    /// An id that is not 1 to `MAX_ID_BYTES` letters, digits, `_` or `-`.
     BadId,
     /// `address`, `mask` or `size` is no number of 32 bits.
     BadNumber,
     /// A mask of 0.
     BadMask,
+    /// An unknown permission.
     BadPermission,
     /// An unknown mode, or a block or port whose mask leaves out a bit.
     BadMode,
-    /// A size of 0 or past 4194304, or one other than 1 on a single or hierarchical node.
+    /// A size of 0 or past `MAX_WORDS`, or one other than 1 on a single or hierarchical node.
     BadSize,
 }
 
@@ -68,6 +71,7 @@ pub enum TableWhy {
 pub enum TableRefusal {
     /// The first faulty node, each node before its children, and the first rule that it breaks.
     At { path: Path, why: TableWhy },
+    /// There was not enough memory.
     NoMemory,
 }
 

@@ -155,6 +155,10 @@ fn small_values_are_kept(rt: HostRuntime) -> Result<(), Fail> {
         Some(u32::MAX)
     );
     assert_eq!(rt; number(&toml::Value::Integer(4_294_967_296)), None);
+    assert_eq!(rt; number(&toml::Value::Integer(-1)), None);
+    let text = String::from_str(rt.alloc(), "0x10")?;
+    assert_eq!(rt; number(&toml::Value::String(text)), Some(16));
+    assert_eq!(rt; number(&toml::Value::Boolean(true)), None);
     assert!(rt; is_id(b"Ab-9_"));
     assert!(rt; !is_id(b"a b"));
     let text = Text::from_string(String::from_str(rt.alloc(), "abc")?);

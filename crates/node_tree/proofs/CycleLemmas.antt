@@ -1,20 +1,25 @@
--- Tables that lead to themselves, and sets of tables that do not.
+-- Tables that lead to themselves: tables below all their modules do not.
 use Rattle.std.proofs.Common.{◌≡◌, ◌⊎◌, inl, inr, ℕ, ◌+◌, ◌<◌, ◌≤◌, List, [], ◌∷◌, Bool, true, false, cond, Option, Some, None, is_some, refl, ap, sym, ◌∙◌, subst, arith}
 use Rattle.std.proofs.lemmas.Bool.{false≢true}
 use Rattle.std.specs.Option.{option_map_or}
 use Rattle.std.specs.List.{AllByRecursion}
-use Rattle.std.specs.FinMap.{get, entries, contains_key, insert, empty, find, get-entries, nat_cmp-IsAntisymmetric, slice_cmp-IsAntisymmetric}
+use Rattle.std.specs.Ordering.{eq_by_cmp}
+use Rattle.std.specs.FinMap.{FinMap, get, entries, contains_key, empty, find, get-entries, get-empty, nat_cmp-IsAntisymmetric, slice_cmp-IsAntisymmetric}
 use Rattle.address_table.specs.declared.nodes.Table.{Table}
 use Rattle.node_tree.specs.Maps.{Name, TableMap, nodes_of}
-use Rattle.node_tree.specs.Modules.{Mentions, Reaches, direct, through, NoTable, HasUnknown, NameSet, IsIn, HasAll, IsClosed, Ends}
+use Rattle.node_tree.specs.Modules.{Mentions, Reaches, direct, through, NoTable, HasUnknown, ReachesItself, IsIn, HasAll}
+use Rattle.node_tree.specs.CycleSearch.{Ranks, IsRanked, AllRanked, AreRising, IsBelowModules, missing}
 use Rattle.node_tree.proofs.MentionLemmas.{none_mentioned}
-use Rattle.node_tree.proofs.SetLemmas.{not_in_empty, in-kept, in-only, equal_of}
-use Rattle.std.specs.Ordering.{eq_by_cmp}
+use Rattle.node_tree.proofs.SetLemmas.{equal_of}
 use Rattle.node_tree.proofs.NamedLemmas.{by_bytes}
 use Rattle.node_tree.proofs.EntryLemmas.{all-get}
 
--- what a table leads to is in a closed set that has its modules
-pub reach-in : (tables : TableMap) (set : NameSet) (a c : Name) → IsClosed tables set → HasAll set (nodes_of tables a) → Reaches tables a c → IsIn set c
+pub either : {A B C : Type 0} → A ⊎ B → (A → C) → (B → C) → C
+either (inl a) f g = f a
+either (inr b) f g = g b
+
+-- what a table leads to is in a set that has its modules, and the modules of all tables in it
+pub reach-in : (tables : TableMap) (set : FinMap by_bytes (Unit {0})) (a c : Name) → ((b : Name) → IsIn set b → HasAll set (nodes_of tables b)) → HasAll set (nodes_of tables a) → Reaches tables a c → IsIn set c
 reach-in tables set a c closed own (direct x y mention) = own y mention
 reach-in tables set a c closed own (through x y z mention more) = reach-in tables set y z closed (closed y (own y mention)) more
 
@@ -23,32 +28,35 @@ pub reach-more : (tables : TableMap) (a b c : Name) → Reaches tables a b → M
 reach-more tables a b c (direct x y mention) next = through x y c mention (direct y c next)
 reach-more tables a b c (through x y z mention more) next = through x y c mention (reach-more tables y z c more next)
 
-pub either : {A B C : Type 0} → A ⊎ B → (A → C) → (B → C) → C
-either (inl a) f g = f a
-either (inr b) f g = g b
+-- where ranks rise, what a table leads to has a rank as high as its modules have
+reach-ranked : (tables : TableMap) (ranks : Ranks) (least : ℕ) (a c : Name) → AreRising tables ranks → AllRanked ranks least (nodes_of tables a) → Reaches tables a c → IsRanked ranks least c
+reach-ranked tables ranks least a c rising all (direct x y mention) = all y mention
+reach-ranked tables ranks least a c rising all (through x y z mention more) =
+    let (rank, is, above) = all y mention in
+    reach-ranked tables ranks least y z rising (λ m h. let (next, next_is, more_above) = rising y rank is m h in (next, next_is, omega arith)) more
 
--- one more table that comes to an end
-pub Ends-insert : (tables : TableMap) (set : NameSet) (a : Name) → Ends tables set → contains_key set a ≡ false → HasAll set (nodes_of tables a) → Ends tables (insert set a tt)
-Ends-insert tables set a ends new own = record {
-  closed = λ b h m mention. in-kept set a m (either (in-only set a b h) (λ old. ends.closed b old m mention) (λ same. own m (subst (λ x. Mentions (nodes_of tables x) m) same mention)));
-  acyclic = λ b h loop. either (in-only set a b h) (λ old. ends.acyclic b old loop)
-      (λ same. false≢true (sym new ∙ reach-in tables set a a ends.closed own (subst (λ x. Reaches tables x x) same loop)));
-}
+pub not_itself : (tables : TableMap) (ranks : Ranks) (a : Name) → AreRising tables ranks → IsBelowModules tables ranks a → ReachesItself tables a → ⊥
+not_itself tables ranks a rising (rank, is, all) loop =
+    let (again, again_is, above) = reach-ranked tables ranks (rank + 1) a a rising all loop in
+    let same : rank ≡ again = cc in
+    omega arith
 
-by_table : (tables : TableMap) (set : NameSet) (a m : Name) → ((t : Table) → get tables a ≡ Some t → HasAll set t.nodes.items)
-    → (o : Option Table) → get tables a ≡ o → Mentions (option_map_or (λ t. t.nodes.items) o []) m → IsIn set m
-by_table tables set a m each None is mention = absurd (none_mentioned m mention)
-by_table tables set a m each (Some t) is mention = each t is m mention
+-- what holds of the modules of a table holds of those of a name, which is no table or has that table
+by_table : (P : Name → Type 0) (tables : TableMap) (a m : Name) → ((t : Table) → get tables a ≡ Some t → (b : Name) → Mentions t.nodes.items b → P b)
+    → (o : Option Table) → get tables a ≡ o → Mentions (option_map_or (λ t. t.nodes.items) o []) m → P m
+by_table P tables a m each None is mention = absurd (none_mentioned m mention)
+by_table P tables a m each (Some t) is mention = each t is m mention
 
--- a set is closed where each table in it has its modules in it
-pub closed-all : (tables : TableMap) (set : NameSet) → AllByRecursion (λ e. IsIn set e.0 → HasAll set e.1.nodes.items) (entries tables) → IsClosed tables set
-closed-all tables set all a h m mention =
-    by_table tables set a m (λ t is. all-get (λ e. IsIn set e.0 → HasAll set e.1.nodes.items) tables a t all is h) (get tables a) refl mention
+-- a table's rank, where it has one, is not above those of its modules
+abbrev pub IsRising : Ranks → Name × Table → Type 0
+IsRising ranks e = (rank : ℕ) → get ranks e.0 ≡ Some rank → AllRanked ranks rank e.1.nodes.items
 
--- how many entries of a list a set has not
-abbrev pub missing : NameSet → List (Name × Table) → ℕ
-missing set [] = 0
-missing set (e ∷ es) = cond (contains_key set e.0) 0 1 + missing set es
+pub rising-all : (tables : TableMap) (ranks : Ranks) → AllByRecursion (IsRising ranks) (entries tables) → AreRising tables ranks
+rising-all tables ranks all a rank is m mention =
+    by_table (IsRanked ranks rank) tables a m (λ t found. all-get (IsRising ranks) tables a t all found rank is) (get tables a) refl mention
+
+pub rising-empty : (tables : TableMap) → AreRising tables empty
+rising-empty tables a rank is = let none : get {X = ℕ} {R = by_bytes} empty a ≡ None = get-empty by_bytes a in cc
 
 fewer : (a b : Bool) → (a ≡ true → b ≡ true) → cond b 0 1 ≤ cond a 0 1
 fewer true true h = omega arith
@@ -59,38 +67,39 @@ fewer false false h = omega arith
 one_fewer : (a b : Bool) → a ≡ false → b ≡ true → cond b 0 1 + 1 ≤ cond a 0 1
 one_fewer a b p q = rw (p, q) (omega arith)
 
-missing-kept : (old new : NameSet) (es : List (Name × Table)) → ((m : Name) → IsIn old m → IsIn new m) → missing new es ≤ missing old es
-missing-kept old new [] kept = omega arith
-missing-kept old new (e ∷ es) kept =
-    let here : cond (contains_key new e.0) 0 1 ≤ cond (contains_key old e.0) 0 1 = fewer (contains_key old e.0) (contains_key new e.0) (kept e.0) in
-    let rest : missing new es ≤ missing old es = missing-kept old new es kept in
-    omega arith
+module _ {V : Type 0} where
+  pub missing-kept : (old new : FinMap by_bytes V) (es : List (Name × Table)) → ((m : Name) → IsIn old m → IsIn new m) → missing new es ≤ missing old es
+  missing-kept old new [] kept = omega arith
+  missing-kept old new (e ∷ es) kept =
+      let here : cond (contains_key new e.0) 0 1 ≤ cond (contains_key old e.0) 0 1 = fewer (contains_key old e.0) (contains_key new e.0) (kept e.0) in
+      let rest : missing new es ≤ missing old es = missing-kept old new es kept in
+      omega arith
 
-less_at : (old new : NameSet) (q k : Name) (t u : Table) (es : List (Name × Table)) (b : Bool) → eq_by_cmp by_bytes q k ≡ b → ((m : Name) → IsIn old m → IsIn new m)
-    → contains_key old q ≡ false → IsIn new q → (find by_bytes q es ≡ Some t → missing new es + 1 ≤ missing old es) → cond b (Some u) (find by_bytes q es) ≡ Some t
-    → missing new ((k, u) ∷ es) + 1 ≤ missing old ((k, u) ∷ es)
-less_at old new q k t u es true tie kept absent there others is =
-    let same : q ≡ k = slice_cmp-IsAntisymmetric nat_cmp-IsAntisymmetric q k (equal_of (by_bytes q k) tie) in
-    let here : cond (contains_key new k) 0 1 + 1 ≤ cond (contains_key old k) 0 1 = one_fewer (contains_key old k) (contains_key new k) (subst (λ x. contains_key old x ≡ false) same absent) (subst (IsIn new) same there) in
-    let rest : missing new es ≤ missing old es = missing-kept old new es kept in
-    omega arith
-less_at old new q k t u es false tie kept absent there others is =
-    let here : cond (contains_key new k) 0 1 ≤ cond (contains_key old k) 0 1 = fewer (contains_key old k) (contains_key new k) (kept k) in
-    let rest : missing new es + 1 ≤ missing old es = others is in
-    omega arith
+  less_at : (old new : FinMap by_bytes V) (q k : Name) (t u : Table) (es : List (Name × Table)) (b : Bool) → eq_by_cmp by_bytes q k ≡ b → ((m : Name) → IsIn old m → IsIn new m)
+      → contains_key old q ≡ false → IsIn new q → (find by_bytes q es ≡ Some t → missing new es + 1 ≤ missing old es) → cond b (Some u) (find by_bytes q es) ≡ Some t
+      → missing new ((k, u) ∷ es) + 1 ≤ missing old ((k, u) ∷ es)
+  less_at old new q k t u es true tie kept absent there others is =
+      let same : q ≡ k = slice_cmp-IsAntisymmetric nat_cmp-IsAntisymmetric q k (equal_of (by_bytes q k) tie) in
+      let here : cond (contains_key new k) 0 1 + 1 ≤ cond (contains_key old k) 0 1 = one_fewer (contains_key old k) (contains_key new k) (subst (λ x. contains_key old x ≡ false) same absent) (subst (IsIn new) same there) in
+      let rest : missing new es ≤ missing old es = missing-kept old new es kept in
+      omega arith
+  less_at old new q k t u es false tie kept absent there others is =
+      let here : cond (contains_key new k) 0 1 ≤ cond (contains_key old k) 0 1 = fewer (contains_key old k) (contains_key new k) (kept k) in
+      let rest : missing new es + 1 ≤ missing old es = others is in
+      omega arith
 
-less_in : (old new : NameSet) (q : Name) (t : Table) (es : List (Name × Table)) → ((m : Name) → IsIn old m → IsIn new m)
-    → contains_key old q ≡ false → IsIn new q → find by_bytes q es ≡ Some t → missing new es + 1 ≤ missing old es
-less_in old new q t [] kept absent there is = cc
-less_in old new q t (e ∷ es) kept absent there is =
-    less_at old new q e.0 t e.1 es (eq_by_cmp by_bytes q e.0) refl kept absent there (less_in old new q t es kept absent there) is
+  less_in : (old new : FinMap by_bytes V) (q : Name) (t : Table) (es : List (Name × Table)) → ((m : Name) → IsIn old m → IsIn new m)
+      → contains_key old q ≡ false → IsIn new q → find by_bytes q es ≡ Some t → missing new es + 1 ≤ missing old es
+  less_in old new q t [] kept absent there is = cc
+  less_in old new q t (e ∷ es) kept absent there is =
+      less_at old new q e.0 t e.1 es (eq_by_cmp by_bytes q e.0) refl kept absent there (less_in old new q t es kept absent there) is
 
--- a set that got a table that it had not has fewer missing
-pub missing-less : (tables : TableMap) (old new : NameSet) (q : Name) (t : Table) → ((m : Name) → IsIn old m → IsIn new m)
-    → contains_key old q ≡ false → IsIn new q → get tables q ≡ Some t → missing new (entries tables) < missing old (entries tables)
-missing-less tables old new q t kept absent there is =
-    let less : missing new (entries tables) + 1 ≤ missing old (entries tables) = less_in old new q t (entries tables) kept absent there (sym (get-entries tables q) ∙ is) in
-    omega arith
+  -- a set that got a table that it had not has fewer missing
+  pub missing-less : (tables : TableMap) (old new : FinMap by_bytes V) (q : Name) (t : Table) → ((m : Name) → IsIn old m → IsIn new m)
+      → contains_key old q ≡ false → IsIn new q → get tables q ≡ Some t → missing new (entries tables) < missing old (entries tables)
+  missing-less tables old new q t kept absent there is =
+      let less : missing new (entries tables) + 1 ≤ missing old (entries tables) = less_in old new q t (entries tables) kept absent there (sym (get-entries tables q) ∙ is) in
+      omega arith
 
 known_at : (tables : TableMap) (a m : Name) → NoTable tables (HasUnknown tables) → (o p : Option Table) → get tables a ≡ o → get tables m ≡ p
     → Mentions (option_map_or (λ t. t.nodes.items) o []) m → (t : Table) × (get tables m ≡ Some t)
@@ -102,6 +111,3 @@ known_at tables a m known (Some t) None is found mention =
 -- where all modules are known, a module is a table
 pub known-module : (tables : TableMap) (a m : Name) → NoTable tables (HasUnknown tables) → Mentions (nodes_of tables a) m → (t : Table) × (get tables m ≡ Some t)
 known-module tables a m known mention = known_at tables a m known (get tables a) (get tables m) refl refl mention
-
-pub Ends-empty : (tables : TableMap) → Ends tables empty
-Ends-empty tables = record { closed = λ a h. absurd (not_in_empty a h); acyclic = λ a h. absurd (not_in_empty a h) }

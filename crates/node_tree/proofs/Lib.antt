@@ -9,7 +9,15 @@ pub mod EntryLemmas
 pub mod NamesLemmas
 pub mod NodeLemmas
 pub mod CycleLemmas
+pub mod ReachLemmas
 pub mod SearchLemmas
 pub mod Compiled
+pub mod DottedLemmas
 pub mod OverlapLemmas
+pub mod PairLemmas
+pub mod SweepLemmas
 pub mod RepeatLemmas
+pub mod SiblingLemmas
+pub mod Places
+pub mod Uniqueness
+pub mod FaultlessLemmas

@@ -1,5 +1,5 @@
 -- Every register that readable tables name has a mask that is not 0.
-use Rattle.std.proofs.Common.{◌≡◌, ℕ, ◌<◌, List, [], ◌∷◌, drop, true, not, ◌==◌, Option, Some, None, Result, Ok, Err, OnOk, OnErr, IfSome, inl, inr, sym, subst, arith}
+use Rattle.std.proofs.Common.{◌≡◌, ℕ, ◌<◌, ◌^◌, List, [], ◌∷◌, drop, true, not, ◌==◌, Option, Some, None, Result, Ok, Err, OnOk, OnErr, IfSome, inl, inr, sym, subst, arith}
 use Rattle.std.proofs.lemmas.Bool.Decides.{nat_tests}
 use Rattle.std.specs.FinMap.{get, insert, empty, get-empty}
 use Rattle.toml.specs.Data.{Data, Items, Members}
@@ -11,7 +11,8 @@ use Rattle.address_table.specs.declared.nodes.Table.{Table}
 use Rattle.address_table.specs.declared.refusal.TableWhy.TheVariants.{BadMask}
 use Rattle.address_table.proofs.Kept.{first_kept}
 use Rattle.node_tree.specs.declared.register.Register.{Register}
-use Rattle.node_tree.specs.Maps.{Name, TableMap, RegisterMap, nodes_of, AreReadable, AreMasked}
+use Rattle.node_tree.specs.Maps.{Name, TableMap, RegisterMap, nodes_of, AreReadable, AreMasked, AreWithin}
+use Rattle.node_tree.specs.Addresses.{last_address}
 use Rattle.node_tree.specs.Names.{Names, itself, child, later, children_of, node_name, node_address}
 use Rattle.node_tree.proofs.NodeLemmas.{kept_rest, parts, node-children, named_nodes, children_if}
 use Rattle.node_tree.proofs.NamedLemmas.{by_bytes}
@@ -57,7 +58,11 @@ pub put-readable : {X E : Type 0} (r : Result X E) (old new : TableMap) (k : Nam
 put-readable (Ok x) old new k t ok err readable here = subst AreReadable (sym ok) (inserted-readable old k t readable here)
 put-readable (Err e) old new k t ok err readable here = subst AreReadable (sym err) readable
 
--- what is found among registers with masks
+-- what is found among registers with masks, and within 32 bits
 pub found-masked : (m : RegisterMap) (name : Name) (o : Option Register) → AreMasked m → o ≡ get m name → IfSome o (λ r. 0 < r.mask)
 found-masked m name None masked is = tt
 found-masked m name (Some r) masked is = masked name r (sym is)
+
+pub found-within : (m : RegisterMap) (name : Name) (o : Option Register) → AreWithin m → o ≡ get m name → IfSome o (λ r. last_address r < 2 ^ 32)
+found-within m name None within is = tt
+found-within m name (Some r) within is = within name r (sym is)

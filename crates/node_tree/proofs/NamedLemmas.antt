@@ -1,18 +1,27 @@
 -- A tree of `String` keys, and the map of the bytes of its keys.
-use Rattle.std.proofs.Common.{◌≡◌, ℕ, zero, suc, ◌<◌, get_or, arith, List, [], ◌∷◌, length, Bool, true, false, ◌&&◌, T, cond, Some, slice_get, String, string_bytes, string_cmp, nat_cmp, Ordering, Less, Equal, Greater, is_eq, refl, ap, sym, ◌∙◌, Global}
+use Rattle.std.proofs.Common.{◌≡◌, ℕ, zero, suc, ◌<◌, get_or, arith, List, [], ◌∷◌, length, Bool, true, false, ◌&&◌, T, cond, Some, slice_get, String, string_bytes, string_cmp, nat_cmp, Ordering, Less, Equal, Greater, is_eq, refl, ap, sym, ◌∙◌, subst, Global}
 use Rattle.std.specs.Ordering.{match_ordering, is_lt}
 use Rattle.std.specs.Cmp.Lexicographic.{slice_cmp}
 use Rattle.std.specs.List.{AllByRecursion}
 use Rattle.std.specs.List.Sorted.{IsStrictlySortedBy}
 use Rattle.std.specs.Map.{keys_of, lookup}
 use Rattle.std.specs.BTreeMap.{insert_entry, is_at}
-use Rattle.std.specs.FinMap.{entries, insert, find, put, is_sorted, from_sorted, entries-from_sorted, entries-insert, same_entries_map, empty, empty_of_len, len, len-entries}
+use Rattle.std.specs.FinMap.{FinMap, entries, entries_sorted, insert, find, put, is_sorted, from_sorted, entries-from_sorted, entries-insert, same_entries_map, empty, empty_of_len, len, len-entries}
 use Rattle.std.specs.FinMap.Entries.{below_all, by_order}
+use Rattle.std.proofs.lemmas.Bool.{false≢true}
 use Rattle.std.proofs.lemmas.Cmp.{nat_list_cmp_total}
-use Rattle.node_tree.specs.Named.{Name, named}
+use Rattle.node_tree.specs.Named.{Name, named, AreInOrder}
 
 abbrev pub by_bytes : Name → Name → Ordering
 by_bytes = slice_cmp nat_cmp
+
+test_of : (b : Bool) → b ≡ true → T b
+test_of true h = tt
+test_of false h = absurd (false≢true h)
+
+true_of : (b : Bool) → T b → b ≡ true
+true_of true h = refl
+true_of false h = absurd h
 
 both : (a b : Bool) → T a → T b → T (a && b)
 both true b h k = k
@@ -47,18 +56,29 @@ module _ {V : Type 0} where
   below_all-named k [] h = tt
   below_all-named k (e ∷ es) h = both _ _ (less _ h.0) (below_all-named k es h.1)
 
-  pub is_sorted-named : (es : List (String Global × V)) → IsStrictlySortedBy string_cmp (keys_of es) → T (is_sorted by_bytes (named es))
+  is_sorted-named : (es : List (String Global × V)) → IsStrictlySortedBy string_cmp (keys_of es) → T (is_sorted by_bytes (named es))
   unfolding IsStrictlySortedBy
   is_sorted-named [] h = tt
   is_sorted-named (e ∷ es) h = both _ _ (below_all-named e.0 es h.0) (is_sorted-named es h.1)
 
+  pub tree-in_order : (es : List (String Global × V)) → IsStrictlySortedBy string_cmp (keys_of es) → AreInOrder es
+  tree-in_order es h = true_of (is_sorted by_bytes (named es)) (is_sorted-named es h)
+
+  -- the order as std's lemmas take it
+  pub sorted : (es : List (String Global × V)) → AreInOrder es → T (is_sorted by_bytes (named es))
+  sorted es h = test_of (is_sorted by_bytes (named es)) h
+
+  -- the entries of a map are in order
+  pub entries-in_order : (m : FinMap by_bytes V) (es : List (String Global × V)) → named es ≡ entries m → AreInOrder es
+  entries-in_order m es same = true_of (is_sorted by_bytes (named es)) (subst (λ fs. T (is_sorted by_bytes fs)) (sym same) (entries_sorted m))
+
   -- a tree after an insert is the map after one
-  pub inserted : (old new : List (String Global × V)) (k : String Global) (v : V) → T (is_sorted by_bytes (named old)) → T (is_sorted by_bytes (named new))
+  pub inserted : (old new : List (String Global × V)) (k : String Global) (v : V) → AreInOrder old → AreInOrder new
       → new ≡ insert_entry string_cmp old k v → from_sorted {R = by_bytes} (named new) ≡ insert (from_sorted {R = by_bytes} (named old)) (string_bytes k) v
   inserted old new k v was is e =
       same_entries_map _ _ (
-      entries-from_sorted by_bytes (named new) is ∙ ap named e ∙ named-insert_entry old k v
-      ∙ sym (entries-insert nat_list_cmp_total (from_sorted (named old)) (string_bytes k) v ∙ ap (put by_bytes (string_bytes k) v) (entries-from_sorted by_bytes (named old) was))
+      entries-from_sorted by_bytes (named new) (sorted new is) ∙ ap named e ∙ named-insert_entry old k v
+      ∙ sym (entries-insert nat_list_cmp_total (from_sorted (named old)) (string_bytes k) v ∙ ap (put by_bytes (string_bytes k) v) (entries-from_sorted by_bytes (named old) (sorted old was)))
       )
 
   pub empty-from_sorted : from_sorted {X = V} {R = by_bytes} [] ≡ empty
@@ -69,8 +89,8 @@ module _ {V : Type 0} where
   length-named (e ∷ es) = ap (λ n. suc n) (length-named es)
 
   -- as many entries as the map has names
-  pub len-named : (es : List (String Global × V)) → T (is_sorted by_bytes (named es)) → len (from_sorted {R = by_bytes} (named es)) ≡ length es
-  len-named es h = len-entries (from_sorted (named es)) ∙ ap length (entries-from_sorted by_bytes (named es) h) ∙ length-named es
+  pub len-named : (es : List (String Global × V)) → AreInOrder es → len (from_sorted {R = by_bytes} (named es)) ≡ length es
+  len-named es h = len-entries (from_sorted (named es)) ∙ ap length (entries-from_sorted by_bytes (named es) (sorted es h)) ∙ length-named es
 
   get-named : (es : List (String Global × V)) (i : ℕ) (e : String Global × V) → i < length es → e ≡ get_or es i e → slice_get (named es) i ≡ Some (string_bytes e.0, e.1)
   get-named [] i e h here = absurd (omega arith)
@@ -78,6 +98,6 @@ module _ {V : Type 0} where
   get-named (x ∷ es) (suc i) e h here = get-named es i e (omega arith) here
 
   -- the entry at a place of the map
-  pub at-named : (es : List (String Global × V)) (i : ℕ) (e : String Global × V) → T (is_sorted by_bytes (named es)) → i < length es → e ≡ get_or es i e
+  pub at-named : (es : List (String Global × V)) (i : ℕ) (e : String Global × V) → AreInOrder es → i < length es → e ≡ get_or es i e
       → slice_get (entries (from_sorted {R = by_bytes} (named es))) i ≡ Some (string_bytes e.0, e.1)
-  at-named es i e is h here = ap (λ fs. slice_get fs i) (entries-from_sorted by_bytes (named es) is) ∙ get-named es i e h here
+  at-named es i e is h here = ap (λ fs. slice_get fs i) (entries-from_sorted by_bytes (named es) (sorted es is)) ∙ get-named es i e h here

@@ -1,9 +1,10 @@
--- A name that is there twice belongs to two siblings with one id, since ids have no dot.
-use Rattle.std.proofs.Common.{◌≡◌, ◌⊎◌, inl, inr, ℕ, zero, suc, ◌+◌, List, [], ◌∷◌, ◌++◌, drop, length, Bool, true, false, not, ◌||◌, Option, Some, None, bytes_eq, refl, ap, sym, ◌∙◌, subst, append_assoc, codes}
-use Rattle.std.proofs.lemmas.Bool.{false≢true, and_parts}
+-- A name is there already exactly where an earlier sibling has the node's id, since ids have no dot.
+use Rattle.std.proofs.Common.{◌≡◌, ◌⊎◌, inl, inr, ℕ, zero, suc, ◌+◌, ◌^◌, nat_lt, nat_le, List, [], ◌∷◌, ◌++◌, drop, length, Bool, true, false, not, ◌||◌, Option, Some, None, bytes_eq, refl, ap, sym, ◌∙◌, subst, append_assoc, codes, arith}
+use Rattle.std.proofs.lemmas.Bool.{false≢true, and_parts, or_left, or_right}
 use Rattle.std.proofs.lemmas.List.{append-nil, append_cancel_left}
 use Rattle.std.proofs.lemmas.Slice.Eq.{bytes_eq-Decides}
 use Rattle.std.specs.List.{AllByRecursion, list_all}
+use Rattle.std.specs.Option.{option_or}
 use Rattle.toml.specs.Data.{Data, Items, Members}
 use Rattle.address_table.specs.Keys.{text_at}
 use Rattle.address_table.specs.Numbers.{is_between}
@@ -13,26 +14,25 @@ use Rattle.address_table.specs.declared.nodes.Node.{Node, out-Node}
 use Rattle.address_table.specs.declared.refusal.TableWhy.TheVariants.{BadId}
 use Rattle.address_table.proofs.Kept.{first_kept}
 use Rattle.node_tree.specs.declared.refusal.CompileWhy.{CompileWhy}
-use Rattle.node_tree.specs.declared.refusal.CompileWhy.TheVariants.{UnknownModule, ModuleCycle, TooMany, TooDeep, Duplicate, AddressPastEnd}
-use Rattle.node_tree.specs.declared.refusal.CompileRefusal.{CompileRefusal}
-use Rattle.node_tree.specs.declared.refusal.CompileRefusal.TheVariants.{At, NoMemory}
-use Rattle.node_tree.specs.Refusals.{IsRefusal}
+use Rattle.node_tree.specs.declared.limits.TheConstants.{MAX_NODES, MAX_IDS}
+use Rattle.node_tree.specs.declared.refusal.CompileWhy.TheVariants.{TooMany, TooDeep, Duplicate, AddressPastEnd}
 use Rattle.node_tree.specs.Maps.{Name, TableMap, nodes_of, AreReadable}
-use Rattle.node_tree.specs.Names.{children_of, name_below, node_name, node_address}
-use Rattle.node_tree.specs.Walk.{Visit, siblings, walk, root_walk, is_named_by, visit_rules, first_fault, fault_or}
-use Rattle.node_tree.specs.Repeats.{AreSiblings, top, below, HasId, IsRepeated, TellsRepeated}
+use Rattle.node_tree.specs.Names.{dot, children_of, name_below, node_name, node_address}
+use Rattle.node_tree.specs.Walk.{Visit, visit_of, has_id, siblings, walk, root_walk, visit_rules, first_fault, fault_or, last_address}
+use Rattle.node_tree.specs.Repeats.{HasId}
 use Rattle.node_tree.proofs.NodeLemmas.{kept_rest, parts, node-children, named_nodes, children_if}
-use Rattle.node_tree.proofs.Runs.{Below, visit_of}
+use Rattle.node_tree.proofs.Faults.{is_named_by, named_rules, first_named}
+use Rattle.node_tree.proofs.Runs.{Below}
 
 -- no byte of an id is a dot
 abbrev NoDots : Name → Type 0
-NoDots id = AllByRecursion (λ byte. byte ≡ 46 → ⊥) id
+NoDots id = AllByRecursion (λ byte. byte ≡ dot → ⊥) id
 
 abbrev Plain : Name → Type 0
 Plain id = (id ≡ [] → ⊥) × NoDots id
 
-byte_no_dot : (byte : ℕ) → is_id_byte byte ≡ true → byte ≡ 46 → ⊥
-byte_no_dot byte h dot = false≢true (subst (λ b. is_id_byte b ≡ true) dot h)
+byte_no_dot : (byte : ℕ) → is_id_byte byte ≡ true → byte ≡ dot → ⊥
+byte_no_dot byte h is = false≢true (subst (λ b. is_id_byte b ≡ true) is h)
 
 no_dots : (id : Name) → list_all is_id_byte id ≡ true → NoDots id
 no_dots [] h = tt
@@ -53,39 +53,39 @@ node-plain d n (node ms m kept says are) = id-plain (out-Node m).id (subst (λ o
 -- what stands before the ids below a name: nothing at the top, and else the name and a dot
 abbrev prefix : Name → Name
 prefix [] = []
-prefix (byte ∷ bytes) = (byte ∷ bytes) ++ 46 ∷ []
+prefix (byte ∷ bytes) = (byte ∷ bytes) ++ dot ∷ []
 
 below-prefix : (above id : Name) → name_below above id ≡ prefix above ++ id
 below-prefix [] id = refl
-below-prefix (byte ∷ bytes) id = sym (append_assoc (byte ∷ bytes) (46 ∷ []) id)
+below-prefix (byte ∷ bytes) id = sym (append_assoc (byte ∷ bytes) (dot ∷ []) id)
 
-prefix-more : (byte : ℕ) (bytes id : Name) → prefix (name_below (byte ∷ bytes) id) ≡ prefix (byte ∷ bytes) ++ (id ++ 46 ∷ [])
-prefix-more byte bytes id = append_assoc (byte ∷ bytes) (46 ∷ id) (46 ∷ []) ∙ sym (append_assoc (byte ∷ bytes) (46 ∷ []) (id ++ 46 ∷ []))
+prefix-more : (byte : ℕ) (bytes id : Name) → prefix (name_below (byte ∷ bytes) id) ≡ prefix (byte ∷ bytes) ++ (id ++ dot ∷ [])
+prefix-more byte bytes id = append_assoc (byte ∷ bytes) (dot ∷ id) (dot ∷ []) ∙ sym (append_assoc (byte ∷ bytes) (dot ∷ []) (id ++ dot ∷ []))
 
-prefix-id : (id : Name) → (id ≡ [] → ⊥) → prefix id ≡ id ++ 46 ∷ []
+prefix-id : (id : Name) → (id ≡ [] → ⊥) → prefix id ≡ id ++ dot ∷ []
 prefix-id [] some = absurd (some refl)
 prefix-id (byte ∷ bytes) some = refl
 
-prefix-below : (above id : Name) → (id ≡ [] → ⊥) → prefix (name_below above id) ≡ prefix above ++ (id ++ 46 ∷ [])
+prefix-below : (above id : Name) → (id ≡ [] → ⊥) → prefix (name_below above id) ≡ prefix above ++ (id ++ dot ∷ [])
 prefix-below [] id some = prefix-id id some
 prefix-below (byte ∷ bytes) id some = prefix-more byte bytes id
 
-name_after : (above id t name p : Name) → p ≡ prefix above ++ (id ++ 46 ∷ []) → name ≡ p ++ t → name ≡ prefix above ++ (id ++ 46 ∷ t)
+name_after : (above id t name p : Name) → p ≡ prefix above ++ (id ++ dot ∷ []) → name ≡ p ++ t → name ≡ prefix above ++ (id ++ dot ∷ t)
 name_after above id t name p is h =
-    h ∙ ap (λ x. x ++ t) is ∙ append_assoc (prefix above) (id ++ 46 ∷ []) t ∙ ap (λ q. prefix above ++ q) (append_assoc id (46 ∷ []) t)
+    h ∙ ap (λ x. x ++ t) is ∙ append_assoc (prefix above) (id ++ dot ∷ []) t ∙ ap (λ q. prefix above ++ q) (append_assoc id (dot ∷ []) t)
 
 -- a name below a node's
-deeper_name : (above id t name : Name) → (id ≡ [] → ⊥) → name ≡ prefix (name_below above id) ++ t → name ≡ prefix above ++ (id ++ 46 ∷ t)
+deeper_name : (above id t name : Name) → (id ≡ [] → ⊥) → name ≡ prefix (name_below above id) ++ t → name ≡ prefix above ++ (id ++ dot ∷ t)
 deeper_name above id t name some h = name_after above id t name (prefix (name_below above id)) (prefix-below above id some) h
 
 under-below : (above id t name : Name) → name ≡ prefix (name_below above id) ++ t → (tail : Name) × (name ≡ prefix above ++ tail)
 under-below [] id t name h = (name, refl)
-under-below (byte ∷ bytes) id t name h = (id ++ 46 ∷ t, name_after (byte ∷ bytes) id t name (prefix (name_below (byte ∷ bytes) id)) (prefix-more byte bytes id) h)
+under-below (byte ∷ bytes) id t name h = (id ++ dot ∷ t, name_after (byte ∷ bytes) id t name (prefix (name_below (byte ∷ bytes) id)) (prefix-more byte bytes id) h)
 
 -- after an id a name ends, or goes on with a dot
 abbrev Stops : Name → Type 0
 Stops [] = Unit {0}
-Stops (byte ∷ bytes) = byte ≡ 46
+Stops (byte ∷ bytes) = byte ≡ dot
 
 same_id : (a b r s : Name) → NoDots a → NoDots b → Stops r → Stops s → a ++ r ≡ b ++ s → a ≡ b
 same_id [] [] r s da db sr ss h = refl
@@ -138,21 +138,13 @@ all-pushed : (F : Visit → Type 0) (vs before : List Visit) → AllByRecursion 
 all-pushed F [] before a b = b
 all-pushed F (v ∷ vs) before a b = all-pushed F vs (v ∷ before) a.1 (a.0, b)
 
-or-right : (a b : Bool) → b ≡ true → (a || b) ≡ true
-or-right true b h = refl
-or-right false b h = h
-
-or-left : (a b : Bool) → a ≡ true → (a || b) ≡ true
-or-left true b h = refl
-or-left false b h = absurd (false≢true h)
-
 or-cases : (a b : Bool) → (a || b) ≡ true → (a ≡ true) ⊎ (b ≡ true)
 or-cases true b h = inl refl
 or-cases false b h = inr h
 
 named-pushed : (name : Name) (vs before : List Visit) → is_named_by name before ≡ true → is_named_by name (pushed vs before) ≡ true
 named-pushed name [] before h = h
-named-pushed name (v ∷ vs) before h = named-pushed name vs (v ∷ before) (or-right (bytes_eq name v.name) (is_named_by name before) h)
+named-pushed name (v ∷ vs) before h = named-pushed name vs (v ∷ before) (or_right (bytes_eq name v.name) (is_named_by name before) h)
 
 from_named : (G : Type 0) (name : Name) (before : List Visit) → is_named_by name before ≡ true → AllByRecursion (λ u. name ≡ u.name → G) before → G
 from_named G name [] h all = absurd (false≢true h)
@@ -163,60 +155,28 @@ from_named G name (u ∷ before) h all =
 abbrev Under : Name → Visit → Type 0
 Under above u = (tail : Name) × (u.name ≡ prefix above ++ tail)
 
-siblings-under : (tables : TableMap) (deeper : Below) (level : ℕ) (above : Name) (base : ℕ) (ns : List Node)
-    → ((called : Name) (address : ℕ) (ms : List Node) → AllByRecursion (Under called) (deeper called address ms)) → AllByRecursion (Under above) (siblings deeper tables level above base ns)
+siblings-under : (tables : TableMap) (deeper : Below) (level : ℕ) (above : Name) (base : ℕ) (earlier ns : List Node)
+    → ((called : Name) (address : ℕ) (ms : List Node) → AllByRecursion (Under called) (deeper called address ms)) → AllByRecursion (Under above) (siblings deeper tables level above base earlier ns)
 unfolding siblings
-siblings-under tables deeper level above base [] each = tt
-siblings-under tables deeper level above base (n ∷ ns) each = (
+siblings-under tables deeper level above base earlier [] each = tt
+siblings-under tables deeper level above base earlier (n ∷ ns) each = (
   ((out-Node n).id, below-prefix above (out-Node n).id),
-  all-append (Under above) (deeper (node_name above n) (node_address base n) (children_of tables n)) (siblings deeper tables level above base ns)
+  all-append (Under above) (deeper (node_name above n) (node_address base n) (children_of tables n)) (siblings deeper tables level above base (earlier ++ n ∷ []) ns)
       (all-map (Under (node_name above n)) (Under above) _ (λ u h. under-below above (out-Node n).id h.0 u.name h.1) (each _ _ _))
-      (siblings-under tables deeper level above base ns each),
+      (siblings-under tables deeper level above base (earlier ++ n ∷ []) ns each),
 )
 
 walk-under : (tables : TableMap) (levels level : ℕ) (above : Name) (base : ℕ) (ns : List Node) → AllByRecursion (Under above) (walk tables levels level above base ns)
 unfolding walk
 walk-under tables zero level above base ns = tt
 walk-under tables (suc levels) level above base ns =
-    siblings-under tables (walk tables levels (level + 1)) level above base ns (λ called address ms. walk-under tables levels (level + 1) called address ms)
-
--- a repeated name is the first fault of the first node, or of the others
-abbrev Repeats : Name → Option (Name × CompileWhy) → Type 0
-Repeats path fault = fault ≡ Some (path, Duplicate)
-
-first_case : (v : Visit) (o : Option CompileWhy) (rest : Option (Name × CompileWhy)) (path : Name) → Repeats path (fault_or v o rest) → ((o ≡ Some Duplicate) × (v.name ≡ path)) ⊎ ((o ≡ None) × Repeats path rest)
-first_case v None rest path h = inr (refl, h)
-first_case v (Some why) rest path h =
-    let same : ◌≡◌ {A = Name × CompileWhy} (v.name, why) (path, Duplicate) = cc in
-    inl (ap (λ f. Some f.1) same, ap (λ f. f.0) same)
-
-split_fault : (xs ys before : List Visit) (path : Name) → Repeats path (first_fault before (xs ++ ys)) → Repeats path (first_fault before xs) ⊎ Repeats path (first_fault (pushed xs before) ys)
-split_fault [] ys before path h = inr h
-split_fault (v ∷ xs) ys before path h =
-    elim (first_case v (first_broken (visit_rules before v)) (first_fault (v ∷ before) (xs ++ ys)) path h) [
-      | inl here ↦ inl (ap (λ o. fault_or v o (first_fault (v ∷ before) xs)) here.0 ∙ ap (λ name. Some (name, Duplicate)) here.1)
-      | inr later ↦ elim (split_fault xs ys (v ∷ before) path later.1) [
-        | inl l ↦ inl (ap (λ o. fault_or v o (first_fault (v ∷ before) xs)) later.0 ∙ l)
-        | inr r ↦ inr r
-      ]
-    ]
-
-repeated_rule : (a b c d : Bool) → first_broken ((TooMany, a) ∷ (TooDeep, b) ∷ (Duplicate, c) ∷ (AddressPastEnd, d) ∷ []) ≡ Some Duplicate → c ≡ false
-repeated_rule true true true true h = let bad : ⊥ = cc in absurd bad
-repeated_rule true true true false h = let bad : ⊥ = cc in absurd bad
-repeated_rule true true false d h = refl
-repeated_rule true false c d h = let bad : ⊥ = cc in absurd bad
-repeated_rule false b c d h = let bad : ⊥ = cc in absurd bad
+    siblings-under tables (walk tables levels (level + 1)) level above base [] ns (λ called address ms. walk-under tables levels (level + 1) called address ms)
 
 new_rule : (a b c d : Bool) → first_broken ((TooMany, a) ∷ (TooDeep, b) ∷ (Duplicate, c) ∷ (AddressPastEnd, d) ∷ []) ≡ None → c ≡ true
 new_rule true true true d h = refl
 new_rule true true false d h = let bad : ⊥ = cc in absurd bad
 new_rule true false c d h = let bad : ⊥ = cc in absurd bad
 new_rule false b c d h = let bad : ⊥ = cc in absurd bad
-
-not_false : (b : Bool) → not b ≡ false → b ≡ true
-not_false true h = refl
-not_false false h = absurd (false≢true (sym h))
 
 not_both : (b : Bool) → b ≡ true → not b ≡ true → ⊥
 not_both true h k = false≢true k
@@ -235,39 +195,93 @@ seen-id above id [] before h seen = absurd h
 seen-id above id (m ∷ ms) before (inl same) seen = subst (λ i. is_named_by (name_below above i) before ≡ true) same seen.0
 seen-id above id (m ∷ ms) before (inr h) seen = seen-id above id ms before h seen.1
 
-not_itself : (id tail : Name) → id ≡ id ++ 46 ∷ tail → ⊥
-not_itself id tail h = let none : [] ≡ 46 ∷ tail = append_cancel_left id [] (46 ∷ tail) (append-nil id ∙ h) in cc
+not_itself : (id tail : Name) → id ≡ id ++ dot ∷ tail → ⊥
+not_itself id tail h = let none : [] ≡ dot ∷ tail = append_cancel_left id [] (dot ∷ tail) (append-nil id ∙ h) in cc
 
-module _ (tables : TableMap) (root : Name) where
-  repeated-here : (above : Name) (done : List Node) (n : Node) (ns : List Node) (before : List Visit) (v : Visit) (path : Name) → v.name ≡ node_name above n → NoDots (out-Node n).id
-      → AllByRecursion (Known above done) before → AreSiblings tables root above (done ++ n ∷ ns)
-      → first_broken (visit_rules before v) ≡ Some Duplicate → v.name ≡ path → IsRepeated tables root path
-  repeated-here above done n ns before v path is dots known sibs rule called =
-      let named : is_named_by v.name before ≡ true = not_false (is_named_by v.name before) (repeated_rule _ _ _ _ rule) in
+-- both tell the same fault of some nodes, after those that the walk came to before
+abbrev SameFault : List Visit → List Visit → Type 0
+SameFault before vs = first_named before vs ≡ first_fault (length before) vs
+
+same_bool : (a b : Bool) → (a ≡ true → b ≡ true) → (b ≡ true → a ≡ true) → a ≡ b
+same_bool true true f g = refl
+same_bool true false f g = sym (f refl)
+same_bool false true f g = g refl
+same_bool false false f g = refl
+
+fault_or-same : (v : Visit) (o : Option CompileWhy) (a b : Option (Name × CompileWhy)) → (o ≡ None → a ≡ b) → fault_or v o a ≡ fault_or v o b
+fault_or-same v None a b h = h refl
+fault_or-same v (Some why) a b h = refl
+
+same-node : (before : List Visit) (v : Visit) (vs : List Visit) → is_named_by v.name before ≡ v.repeated
+    → (first_broken (named_rules before v) ≡ None → SameFault (v ∷ before) vs) → SameFault before (v ∷ vs)
+same-node before v vs here after =
+    let one : length (v ∷ before) ≡ length before + 1 = omega arith in
+    fault_or-same v (first_broken (named_rules before v)) (first_named (v ∷ before) vs) (first_fault (length before + 1) vs) (λ kept. after kept ∙ ap (λ k. first_fault k vs) one)
+    ∙ ap (λ b. fault_or v (first_broken ((TooMany, nat_lt (length before) MAX_NODES) ∷ (TooDeep, nat_le v.level MAX_IDS) ∷ (Duplicate, not b) ∷ (AddressPastEnd, nat_lt (last_address v.register) (2 ^ 32)) ∷ [])) (first_fault (length before + 1) vs)) here
+
+fault_or-or : (v : Visit) (o : Option CompileWhy) (a b : Option (Name × CompileWhy)) → fault_or v o (option_or a b) ≡ option_or (fault_or v o a) b
+fault_or-or v None a b = refl
+fault_or-or v (Some why) a b = refl
+
+first_named-append : (xs ys before : List Visit) → first_named before (xs ++ ys) ≡ option_or (first_named before xs) (first_named (pushed xs before) ys)
+first_named-append [] ys before = refl
+first_named-append (v ∷ xs) ys before =
+    ap (fault_or v (first_broken (named_rules before v))) (first_named-append xs ys (v ∷ before))
+    ∙ fault_or-or v (first_broken (named_rules before v)) (first_named (v ∷ before) xs) (first_named (pushed xs (v ∷ before)) ys)
+
+-- the first fault of nodes one after another
+pub first_fault-append : (xs ys : List Visit) (count : ℕ) → first_fault count (xs ++ ys) ≡ option_or (first_fault count xs) (first_fault (count + length xs) ys)
+first_fault-append [] ys count = let same : count ≡ count + 0 = omega arith in ap (λ k. first_fault k ys) same
+first_fault-append (v ∷ xs) ys count =
+    let same : count + 1 + length xs ≡ count + length (v ∷ xs) = omega arith in
+    ap (fault_or v (first_broken (visit_rules count v))) (first_fault-append xs ys (count + 1))
+    ∙ fault_or-or v (first_broken (visit_rules count v)) (first_fault (count + 1) xs) (first_fault (count + 1 + length xs) ys)
+    ∙ ap (λ k. option_or (first_fault count (v ∷ xs)) (first_fault k ys)) same
+
+length-pushed : (xs before : List Visit) → length (pushed xs before) ≡ length before + length xs
+length-pushed [] before = omega arith
+length-pushed (v ∷ xs) before = let rest = length-pushed xs (v ∷ before) in omega arith
+
+same-append : (xs ys before : List Visit) → SameFault before xs → SameFault (pushed xs before) ys → SameFault before (xs ++ ys)
+same-append xs ys before a b =
+    first_named-append xs ys before
+    ∙ ap (λ o. option_or o (first_named (pushed xs before) ys)) a
+    ∙ ap (option_or (first_fault (length before) xs)) (b ∙ ap (λ k. first_fault k ys) (length-pushed xs before))
+    ∙ sym (first_fault-append xs ys (length before))
+
+pub id-true : (id : Name) (ns : List Node) → HasId id ns → has_id id ns ≡ true
+id-true id [] h = absurd h
+id-true id (n ∷ ns) (inl same) = or_left (bytes_eq (out-Node n).id id) (has_id id ns) ((bytes_eq-Decides (out-Node n).id id).1 same)
+id-true id (n ∷ ns) (inr later) = or_right (bytes_eq (out-Node n).id id) (has_id id ns) (id-true id ns later)
+
+pub true-id : (id : Name) (ns : List Node) → has_id id ns ≡ true → HasId id ns
+true-id id [] h = absurd (false≢true h)
+true-id id (n ∷ ns) h =
+    elim (or-cases (bytes_eq (out-Node n).id id) (has_id id ns) h) [ inl here ↦ inl ((bytes_eq-Decides (out-Node n).id id).0 here) | inr later ↦ inr (true-id id ns later) ]
+
+module _ (tables : TableMap) where
+  -- a name is there already exactly where an earlier sibling has the id
+  named-repeated : (above : Name) (done : List Node) (n : Node) (before : List Visit) → NoDots (out-Node n).id → AllByRecursion (Known above done) before → AllByRecursion (Seen above before) done
+      → is_named_by (node_name above n) before ≡ has_id (out-Node n).id done
+  named-repeated above done n before dots known seen =
       let id = (out-Node n).id in
-      record {
-        above = above;
-        before = done;
-        repeated = n;
-        after = ns;
-        siblings = sibs;
-        called = sym called ∙ is;
-        earlier = from_named (HasId id done) v.name before named
-            (all-map (Known above done) (λ u. v.name ≡ u.name → HasId id done) before
-            (λ u known_u same. begins-id id [] id done dots tt (sym (append-nil id)) (known_u id (sym same ∙ is ∙ below-prefix above id))) known);
-      }
+      same_bool (is_named_by (node_name above n) before) (has_id id done)
+      (λ named. id-true id done (from_named (HasId id done) (node_name above n) before named
+      (all-map (Known above done) (λ u. node_name above n ≡ u.name → HasId id done) before
+      (λ u known_u same. begins-id id [] id done dots tt (sym (append-nil id)) (known_u id (sym same ∙ below-prefix above id))) known)))
+      (λ earlier. seen-id above id done before (true-id id done earlier) seen)
 
   -- nothing that the walk came to is below a node that it comes to for the first time
   known-below : (above : Name) (done : List Node) (n : Node) (before : List Visit) (v : Visit) → v.name ≡ node_name above n → Plain (out-Node n).id
-      → AllByRecursion (Known above done) before → AllByRecursion (Seen above before) done → first_broken (visit_rules before v) ≡ None
+      → AllByRecursion (Known above done) before → AllByRecursion (Seen above before) done → first_broken (named_rules before v) ≡ None
       → AllByRecursion (Known (node_name above n) []) (v ∷ before)
   known-below above done n before v is plain known seen rule =
       let id = (out-Node n).id in
       let new : not (is_named_by v.name before) ≡ true = new_rule _ _ _ _ rule in (
-        λ tail h. not_itself id tail (append_cancel_left (prefix above) id (id ++ 46 ∷ tail) (sym (below-prefix above id) ∙ sym is ∙ deeper_name above id tail v.name plain.0 h)),
+        λ tail h. not_itself id tail (append_cancel_left (prefix above) id (id ++ dot ∷ tail) (sym (below-prefix above id) ∙ sym is ∙ deeper_name above id tail v.name plain.0 h)),
         all-map (Known above done) (Known (node_name above n) []) before
             (λ u known_u tail h.
-            let earlier = begins-id id (46 ∷ tail) (id ++ 46 ∷ tail) done plain.1 refl refl (known_u (id ++ 46 ∷ tail) (deeper_name above id tail u.name plain.0 h)) in
+            let earlier = begins-id id (dot ∷ tail) (id ++ dot ∷ tail) done plain.1 refl refl (known_u (id ++ dot ∷ tail) (deeper_name above id tail u.name plain.0 h)) in
             not_both (is_named_by v.name before) (subst (λ name. is_named_by name before ≡ true) (sym is) (seen-id above id done before earlier seen)) new) known,
       )
 
@@ -279,7 +293,7 @@ module _ (tables : TableMap) (root : Name) where
       let id = (out-Node n).id in
       all-pushed (Known above (done ++ n ∷ [])) inner (v ∷ before)
       (all-map (Under (node_name above n)) (Known above (done ++ n ∷ [])) inner
-      (λ u under_u tail h. begins-last done n tail (46 ∷ under_u.0) plain.1 refl (append_cancel_left (prefix above) tail (id ++ 46 ∷ under_u.0) (sym h ∙ deeper_name above id under_u.0 u.name plain.0 under_u.1))) under) (
+      (λ u under_u tail h. begins-last done n tail (dot ∷ under_u.0) plain.1 refl (append_cancel_left (prefix above) tail (id ++ dot ∷ under_u.0) (sym h ∙ deeper_name above id under_u.0 u.name plain.0 under_u.1))) under) (
         λ tail h. begins-last done n tail [] plain.1 tt (append_cancel_left (prefix above) tail (id ++ []) (sym h ∙ is ∙ below-prefix above id ∙ ap (λ x. prefix above ++ x) (sym (append-nil id)))),
         all-map (Known above done) (Known above (done ++ n ∷ [])) before (λ u known_u tail h. begins-push done n tail (known_u tail h)) known,
       )
@@ -289,59 +303,43 @@ module _ (tables : TableMap) (root : Name) where
   seen-after above done n before inner v is seen =
       all-append (Seen above (pushed inner (v ∷ before))) done (n ∷ [])
       (all-map (Seen above before) (Seen above (pushed inner (v ∷ before))) done
-      (λ m seen_m. named-pushed (node_name above m) inner (v ∷ before) (or-right (bytes_eq (node_name above m) v.name) (is_named_by (node_name above m) before) seen_m)) seen) (
-        named-pushed (node_name above n) inner (v ∷ before) (or-left (bytes_eq (node_name above n) v.name) (is_named_by (node_name above n) before)
+      (λ m seen_m. named-pushed (node_name above m) inner (v ∷ before) (or_right (bytes_eq (node_name above m) v.name) (is_named_by (node_name above m) before) seen_m)) seen) (
+        named-pushed (node_name above n) inner (v ∷ before) (or_left (bytes_eq (node_name above n) v.name) (is_named_by (node_name above n) before)
             (subst (λ name. bytes_eq (node_name above n) name ≡ true) (sym is) ((bytes_eq-Decides (node_name above n) (node_name above n)).1 refl))),
         tt,
       )
 
-  repeated-in : AreReadable tables → (deeper : Below) (path : Name)
+  same-in : AreReadable tables → (deeper : Below)
       → ((called : Name) (address : ℕ) (ms : List Node) → AllByRecursion (Under called) (deeper called address ms))
-      → ((called : Name) (address : ℕ) (ms : List Node) (before : List Visit) (es : Items) → AreNodes es ms → AreSiblings tables root called ms → AllByRecursion (Known called []) before
-      → Repeats path (first_fault before (deeper called address ms)) → IsRepeated tables root path)
-      → (level : ℕ) (above : Name) (base : ℕ) (ns done : List Node) (before : List Visit) (ds : Items) → AreNodes ds ns → AreSiblings tables root above (done ++ ns)
+      → ((called : Name) (address : ℕ) (ms : List Node) (before : List Visit) (es : Items) → AreNodes es ms → AllByRecursion (Known called []) before → SameFault before (deeper called address ms))
+      → (level : ℕ) (above : Name) (base : ℕ) (ns done : List Node) (before : List Visit) (ds : Items) → AreNodes ds ns
       → AllByRecursion (Known above done) before → AllByRecursion (Seen above before) done
-      → Repeats path (first_fault before (siblings deeper tables level above base ns)) → IsRepeated tables root path
+      → SameFault before (siblings deeper tables level above base done ns)
   unfolding siblings
-  repeated-in readable deeper path under inner_case level above base [] done before ds are sibs known seen fault = let bad : ⊥ = cc in absurd bad
-  repeated-in readable deeper path under inner_case level above base (n ∷ ns) done before ds are sibs known seen fault =
+  same-in readable deeper under inner_case level above base [] done before ds are known seen = refl
+  same-in readable deeper under inner_case level above base (n ∷ ns) done before ds are known seen =
       let (first, others) = parts ds (n ∷ ns) are in
       let plain = node-plain first.0 n first.1 in
       let (es, children_are) = children_if tables readable (out-Node n).«module» (out-Node n).nodes.items (node-children first.0 n first.1) in
-      let v = visit_of level above base n in
+      let v = visit_of level above base done n in
       let inner = deeper (node_name above n) (node_address base n) (children_of tables n) in
-      elim (first_case v (first_broken (visit_rules before v)) (first_fault (v ∷ before) (inner ++ siblings deeper tables level above base ns)) path fault) [
-        | inl here ↦ repeated-here above done n ns before v path refl plain.1 known sibs here.0 here.1
-        | inr later ↦ elim (split_fault inner (siblings deeper tables level above base ns) (v ∷ before) path later.1) [
-          | inl fault_in ↦ inner_case (node_name above n) (node_address base n) (children_of tables n) (v ∷ before) es children_are (below above done n ns sibs) (known-below above done n before v refl plain known seen later.0) fault_in
-          | inr fault_after ↦ repeated-in readable deeper path under inner_case level above base ns (done ++ n ∷ []) (pushed inner (v ∷ before)) others.0 others.1
-              (subst (AreSiblings tables root above) (sym (append_assoc done (n ∷ []) ns)) sibs) (known-after above done n before inner v refl plain known (under _ _ _)) (seen-after above done n before inner v refl seen) fault_after
-        ]
-      ]
+      same-node before v (inner ++ siblings deeper tables level above base (done ++ n ∷ []) ns) (named-repeated above done n before plain.1 known seen)
+      (λ kept. same-append inner (siblings deeper tables level above base (done ++ n ∷ []) ns) (v ∷ before)
+      (inner_case (node_name above n) (node_address base n) (children_of tables n) (v ∷ before) es children_are (known-below above done n before v refl plain known seen kept))
+      (same-in readable deeper under inner_case level above base ns (done ++ n ∷ []) (pushed inner (v ∷ before)) others.0 others.1
+      (known-after above done n before inner v refl plain known (under _ _ _)) (seen-after above done n before inner v refl seen)))
 
-  repeated-walk : AreReadable tables → (path : Name) (levels level : ℕ) (above : Name) (base : ℕ) (ns : List Node) (before : List Visit) (ds : Items) → AreNodes ds ns → AreSiblings tables root above ns
-      → AllByRecursion (Known above []) before → Repeats path (first_fault before (walk tables levels level above base ns)) → IsRepeated tables root path
+  same-walk : AreReadable tables → (levels level : ℕ) (above : Name) (base : ℕ) (ns : List Node) (before : List Visit) (ds : Items) → AreNodes ds ns
+      → AllByRecursion (Known above []) before → SameFault before (walk tables levels level above base ns)
   unfolding walk
-  repeated-walk readable path zero level above base ns before ds are sibs known fault = let bad : ⊥ = cc in absurd bad
-  repeated-walk readable path (suc levels) level above base ns before ds are sibs known fault =
-      repeated-in readable (walk tables levels (level + 1)) path (λ called address ms. walk-under tables levels (level + 1) called address ms)
-      (λ called address ms seen_before es are_ms sibs_ms known_ms inner. repeated-walk readable path levels (level + 1) called address ms seen_before es are_ms sibs_ms known_ms inner)
-      level above base ns [] before ds are sibs known tt fault
+  same-walk readable zero level above base ns before ds are known = refl
+  same-walk readable (suc levels) level above base ns before ds are known =
+      same-in readable (walk tables levels (level + 1)) (λ called address ms. walk-under tables levels (level + 1) called address ms)
+      (λ called address ms seen_before es are_ms known_ms. same-walk readable levels (level + 1) called address ms seen_before es are_ms known_ms)
+      level above base ns [] before ds are known tt
 
--- the first fault is a repeated name only where an earlier sibling has the id
-pub repeated-root : (tables : TableMap) (root path : Name) → AreReadable tables → first_fault [] (root_walk tables root) ≡ Some (path, Duplicate) → IsRepeated tables root path
-repeated-root tables root path readable fault =
+-- the first fault by names is the first fault
+pub same-root : (tables : TableMap) (root : Name) → AreReadable tables → first_named [] (root_walk tables root) ≡ first_fault 0 (root_walk tables root)
+same-root tables root readable =
     let (ds, are) = named_nodes tables readable root in
-    repeated-walk tables root readable path 17 1 [] 0 (nodes_of tables root) [] ds are top tt fault
-
-not_unknown : UnknownModule ≡ Duplicate → ⊥
-not_unknown h = cc
-
-not_cycle : ModuleCycle ≡ Duplicate → ⊥
-not_cycle h = cc
-
-pub tells-repeated : (tables : TableMap) (root : Name) (refusal : CompileRefusal) → AreReadable tables → IsRefusal tables root refusal → TellsRepeated tables root refusal
-tells-repeated tables root NoMemory readable told = tt
-tells-repeated tables root (At name path why) readable (inl unknown) = λ same. absurd (not_unknown (sym unknown.0 ∙ same))
-tells-repeated tables root (At name path why) readable (inr (inl cycle)) = λ same. absurd (not_cycle (sym cycle.0 ∙ same))
-tells-repeated tables root (At name path why) readable (inr (inr tells)) = λ same. repeated-root tables root path readable (tells.3 ∙ ap (λ w. Some (path, w)) same)
+    same-walk tables readable (MAX_IDS + 1) 1 [] 0 (nodes_of tables root) [] ds are tt

@@ -3,6 +3,7 @@ use Rattle.std.proofs.Common.{◌≡◌, ◌⊎◌, inl, inr, ℕ, zero, suc, �
 use Rattle.std.specs.Ordering.{eq_by_cmp, ordering_index, ordering_reverse}
 use Rattle.std.specs.List.Sorted.{IsNonDecreasingBy, IsPartitionPoint}
 use Rattle.std.proofs.Math.Nat.{eq-or-lt_of_le}
+use Rattle.std.proofs.lemmas.Bool.{cases_lt}
 use Rattle.std.proofs.lemmas.Cmp.{nat_list_cmp_total}
 use Rattle.std.specs.FinMap.{find, is_sorted}
 use Rattle.std.specs.FinMap.Entries.{below_all}
@@ -13,11 +14,6 @@ use Rattle.node_tree.proofs.EntryLemmas.{first, second, less_of}
 no_tie : (o r : Ordering) → o ≡ ordering_reverse r → (r ≡ Less) ⊎ (r ≡ Greater) → is_eq o ≡ false
 no_tie o r e (inl less) = rw (e, less) refl
 no_tie o r e (inr greater) = rw (e, greater) refl
-
-split : (k i : ℕ) → (k < i) ⊎ (i ≤ k)
-split k zero = inr (omega arith)
-split zero (suc i) = inl (omega arith)
-split (suc k) (suc i) = elim (split k i) [ inl h ↦ inl (omega arith) | inr h ↦ inr (omega arith) ]
 
 at_most_two : (o : Ordering) → ordering_index o ≤ 2
 at_most_two Less = omega arith
@@ -56,7 +52,7 @@ module _ {V : Type 0} where
 
   pub find-gap : (q : Name) (es : List (String Global × V)) (i : ℕ) → IsPartitionPoint (λ e. key_cmp q e ≡ Less) (λ e. key_cmp q e ≡ Greater) es i → find by_bytes q (named es) ≡ None
   find-gap q es i parts =
-      find-none q es (λ k d h. elim (split k i) [ inl low ↦ inl (parts.0 k d (omega arith) low) | inr high ↦ inr (parts.1 k d high h) ])
+      find-none q es (λ k d h. elim (cases_lt k i) [ inl low ↦ inl (parts.0 k d (omega arith) low) | inr high ↦ inr (parts.1 k d high h) ])
 
   -- a later name is above an earlier one
   head-below : (x : Name) (es : List (String Global × V)) (j : ℕ) (d : String Global × V) → T (below_all by_bytes x (named es)) → j < length es → by_bytes x (string_bytes (get_or es j d).0) ≡ Less

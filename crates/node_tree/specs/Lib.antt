@@ -1,9 +1,14 @@
 pub mod Named
+pub mod Addresses
 pub mod Maps
 pub mod Names
 pub mod Modules
+pub mod CycleSearch
 pub mod Walk
 pub mod Refusals
 pub mod Run
 pub mod Overlaps
+pub mod OverlapExamples
+pub mod OverlapSearch
 pub mod Repeats
+pub mod Examples

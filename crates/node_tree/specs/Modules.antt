@@ -1,5 +1,5 @@
 -- Modules: tables whose nodes are the children of nodes of other tables.
-use Rattle.std.specs.Prelude.{◌≡◌, ◌⊎◌, true, false, List, ◌∷◌, ◌++◌, Some}
+use Rattle.std.specs.Prelude.{◌≡◌, true, false, List, ◌∷◌, ◌++◌, Some}
 use Rattle.std.specs.List.{AllByRecursion}
 use Rattle.std.specs.Ordering.{nat_cmp}
 use Rattle.std.specs.Cmp.Lexicographic.{slice_cmp}
@@ -50,22 +50,3 @@ pub record IsFirstTable (tables : TableMap) (P : Name → Type 0) (name : Name) 
   pub place : entries tables ≡ before ++ (name, «table») ∷ after
   pub holds : P name
   pub first : AllByRecursion (λ e. P e.0 → ⊥) before
-
--- a set of names
-abbrev pub NameSet : Type 0
-NameSet = FinMap (slice_cmp nat_cmp) (Unit {0})
-
--- a set after some names were added
-pub record Adds (old new : NameSet) (P : Name → Type 0) : Type 0 where
-  pub kept : (m : Name) → IsIn old m → IsIn new m
-  pub added : (m : Name) → P m → IsIn new m
-  pub only : (m : Name) → IsIn new m → IsIn old m ⊎ P m
-
--- the tables of the set have all their modules in it
-abbrev pub IsClosed : TableMap → NameSet → Type 0
-IsClosed tables set = (a : Name) → IsIn set a → HasAll set (nodes_of tables a)
-
--- and none of them leads to itself
-pub record Ends (tables : TableMap) (set : NameSet) : Type 0 where
-  pub closed : IsClosed tables set
-  pub acyclic : (a : Name) → IsIn set a → ReachesItself tables a → ⊥

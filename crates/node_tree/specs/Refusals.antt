@@ -1,4 +1,4 @@
--- When tables are compiled, and which refusal comes where they are not.
+-- When tables are compiled, and which refusal comes where they are not. Profile.
 use Rattle.std.specs.Prelude.{◌≡◌, ◌⊎◌, [], Some, None, IsSome}
 use Rattle.std.specs.FinMap.{get}
 use Rattle.node_tree.specs.declared.refusal.CompileWhy.{CompileWhy}
@@ -18,12 +18,13 @@ pub record AreKnown (tables : TableMap) (root : Name) : Type 0 where
 pub record KeepsRules (tables : TableMap) (root : Name) : Type 0 where
   pub known : AreKnown tables root
   pub acyclic : NoTable tables (ReachesItself tables)
-  pub nodes : first_fault [] (root_walk tables root) ≡ None
+  pub nodes : first_fault 0 (root_walk tables root) ≡ None
 
 -- the first table in byte order with an unknown module, or the root where all modules are known and it is no table
 abbrev pub TellsUnknown : TableMap → Name → Name → Type 0
 TellsUnknown tables root name =
-    IsFirstTable tables (HasUnknown tables) name ⊎ (NoTable tables (HasUnknown tables) × (name ≡ root) × (get tables root ≡ None))
+    IsFirstTable tables (HasUnknown tables) name
+    ⊎ (NoTable tables (HasUnknown tables) × (name ≡ root) × (get tables root ≡ None))
 
 -- all modules are known, and this is the first table in byte order that leads to itself
 abbrev pub TellsCycle : TableMap → Name → Name → Type 0
@@ -32,14 +33,17 @@ TellsCycle tables root name = AreKnown tables root × IsFirstTable tables (Reach
 -- the modules are in order, and this is the first faulty node of the walk from the root
 abbrev pub TellsNode : TableMap → Name → Name → Name → CompileWhy → Type 0
 TellsNode tables root name path why =
-    AreKnown tables root × NoTable tables (ReachesItself tables) × (name ≡ root) × (first_fault [] (root_walk tables root) ≡ Some (path, why))
+    AreKnown tables root
+    × NoTable tables (ReachesItself tables)
+    × (name ≡ root)
+    × (first_fault 0 (root_walk tables root) ≡ Some (path, why))
 
--- A refusal tells the first rule that is broken, want of memory aside: an unknown module, then a cycle of modules, and
--- then a rule that the first faulty node breaks.
+-- A refusal tells the first rule that is broken, want of memory aside: an unknown module, then a cycle of modules, both
+-- with an empty path, and then a rule that the first faulty node breaks.
 abbrev pub IsRefusal : TableMap → Name → CompileRefusal → Type 0
-IsRefusal tables root (At name path why) =
-    ((why ≡ UnknownModule) × (path ≡ []) × TellsUnknown tables root name)
-    ⊎ (((why ≡ ModuleCycle) × (path ≡ []) × TellsCycle tables root name) ⊎ TellsNode tables root name path why)
+IsRefusal tables root (At name path UnknownModule) = (path ≡ []) × TellsUnknown tables root name
+IsRefusal tables root (At name path ModuleCycle) = (path ≡ []) × TellsCycle tables root name
+IsRefusal tables root (At name path why) = TellsNode tables root name path why
 IsRefusal tables root NoMemory = Unit {0}
 
 -- a refusal tells this table, path and rule, want of memory aside

@@ -1,4 +1,4 @@
--- Ids that stand twice among siblings.
+-- Ids that stand twice among siblings. Profile.
 use Rattle.std.specs.Prelude.{◌≡◌, ◌⊎◌, List, [], ◌∷◌, ◌++◌}
 use Rattle.address_table.specs.declared.nodes.Node.{Node, out-Node}
 use Rattle.node_tree.specs.declared.refusal.CompileWhy.TheVariants.{Duplicate}
@@ -7,10 +7,13 @@ use Rattle.node_tree.specs.declared.refusal.CompileRefusal.TheVariants.{At, NoMe
 use Rattle.node_tree.specs.Maps.{Name, TableMap, nodes_of}
 use Rattle.node_tree.specs.Names.{children_of, node_name}
 
--- the nodes that a root leads to below a name: those of the root at the top, and the children of each node that it leads to
+-- the nodes that a root leads to below a name: those of the root at the top, and the children of each node that it
+-- leads to
 pub data AreSiblings (tables : TableMap) (root : Name) : Name → List Node → Type 0 where
   top : AreSiblings tables root [] (nodes_of tables root)
-  below : (above : Name) (before : List Node) (n : Node) (after : List Node) → AreSiblings tables root above (before ++ n ∷ after) → AreSiblings tables root (node_name above n) (children_of tables n)
+  below : (above : Name) (before : List Node) (n : Node) (after : List Node)
+      → AreSiblings tables root above (before ++ n ∷ after)
+      → AreSiblings tables root (node_name above n) (children_of tables n)
 
 -- some node of a list has the id
 abbrev pub HasId : Name → List Node → Type 0

@@ -1,60 +1,63 @@
--- The nodes of a table in the order of a walk, each before its children, and the first that breaks a rule.
-use Rattle.std.specs.Prelude.{ℕ, zero, suc, ◌+◌, ◌-◌, ◌^◌, Bool, not, nat_lt, nat_le, List, [], ◌∷◌, ◌++◌, length, Option, Some, None}
+-- The nodes of a table in the order of a walk, each before its children, and the first that breaks a rule. Profile.
+use Rattle.std.specs.Prelude.{◌≡◌, ◌⊎◌, ℕ, zero, suc, ◌+◌, ◌^◌, Bool, not, nat_lt, nat_le, List, [], ◌∷◌, ◌++◌, Option, Some, None}
 use Rattle.std.specs.List.{list_any}
 use Rattle.std.specs.Str.{bytes_eq}
 use Rattle.address_table.specs.Rules.{first_broken}
-use Rattle.address_table.specs.declared.kinds.Mode.{Mode}
-use Rattle.address_table.specs.declared.kinds.Mode.TheVariants.{Single, Block, Port, Hierarchical}
-use Rattle.address_table.specs.declared.nodes.Node.{Node}
+use Rattle.address_table.specs.declared.nodes.Node.{Node, out-Node}
+use Rattle.node_tree.specs.declared.limits.TheConstants.{MAX_NODES, MAX_IDS}
 use Rattle.node_tree.specs.declared.register.Register.{Register}
 use Rattle.node_tree.specs.declared.refusal.CompileWhy.{CompileWhy}
 use Rattle.node_tree.specs.declared.refusal.CompileWhy.TheVariants.{TooMany, TooDeep, Duplicate, AddressPastEnd}
+pub use Rattle.node_tree.specs.Addresses.{words_of, last_address}
 use Rattle.node_tree.specs.Maps.{Name, TableMap, nodes_of}
 use Rattle.node_tree.specs.Names.{children_of, node_name, node_address, register_of}
 
--- a node where the walk comes to it: its name, the number of ids in the name, and its register
+-- A node where the walk comes to it: its name, the number of ids in the name, whether an earlier sibling has its id, and
+-- its register.
 pub record Visit : Type 0 where
   pub name : Name
   pub level : ℕ
+  pub repeated : Bool
   pub register : Register
 
+-- one of the nodes has the id
+abbrev pub has_id : Name → List Node → Bool
+has_id id ns = list_any (λ n. bytes_eq (out-Node n).id id) ns
+
+-- a node of a level, below a name and an address, after its earlier siblings
+abbrev pub visit_of : ℕ → Name → ℕ → List Node → Node → Visit
+visit_of level above base earlier n = record {
+  name = node_name above n;
+  level = level;
+  repeated = has_id (out-Node n).id earlier;
+  register = register_of base n;
+}
+
 -- a node and what is below it, and then its later siblings, where `walk_below` goes through children
-unfoldable pub siblings : (Name → ℕ → List Node → List Visit) → TableMap → ℕ → Name → ℕ → List Node → List Visit
-siblings walk_below tables level above base [] = []
-siblings walk_below tables level above base (n ∷ ns) =
-    record { name = node_name above n; level = level; register = register_of base n }
-    ∷ (walk_below (node_name above n) (node_address base n) (children_of tables n) ++ siblings walk_below tables level above base ns)
+unfoldable pub siblings : (Name → ℕ → List Node → List Visit) → TableMap → ℕ → Name → ℕ → List Node → List Node
+    → List Visit
+siblings walk_below tables level above base earlier [] = []
+siblings walk_below tables level above base earlier (n ∷ ns) =
+    visit_of level above base earlier n
+    ∷ (walk_below (node_name above n) (node_address base n) (children_of tables n)
+    ++ siblings walk_below tables level above base (earlier ++ n ∷ []) ns)
 
 -- Some levels of nodes, of which the first has `level` ids in its names, below a name and an address. Each node comes
 -- before its children, and these before its later siblings.
 unfoldable pub walk : TableMap → ℕ → ℕ → Name → ℕ → List Node → List Visit
 walk tables zero level above base ns = []
-walk tables (suc levels) level above base ns = siblings (walk tables levels (level + 1)) tables level above base ns
+walk tables (suc levels) level above base ns = siblings (walk tables levels (level + 1)) tables level above base [] ns
 
 -- The walk from a root. A node at the 17th level breaks a rule, so what is below it is not looked at.
 abbrev pub root_walk : TableMap → Name → List Visit
-root_walk tables root = walk tables 17 1 [] 0 (nodes_of tables root)
+root_walk tables root = walk tables (MAX_IDS + 1) 1 [] 0 (nodes_of tables root)
 
--- the last address that a register takes; only a block takes more than one
-abbrev pub words_of : Mode → ℕ → ℕ
-words_of Block size = size
-words_of Single size = 1
-words_of Port size = 1
-words_of Hierarchical size = 1
-
-abbrev pub last_address : Register → ℕ
-last_address r = r.address + (words_of r.mode r.size - 1)
-
--- a node of these has the name
-abbrev pub is_named_by : Name → List Visit → Bool
-is_named_by name visits = list_any (λ v. bytes_eq name v.name) visits
-
--- the rules for a node after those that the walk came to before, the latest first, each with whether it is kept
-abbrev pub visit_rules : List Visit → Visit → List (CompileWhy × Bool)
-visit_rules before v =
-    (TooMany, nat_lt (length before) 65536)
-    ∷ (TooDeep, nat_le v.level 16)
-    ∷ (Duplicate, not (is_named_by v.name before))
+-- the rules for a node that so many nodes come before, each with whether it is kept
+abbrev pub visit_rules : ℕ → Visit → List (CompileWhy × Bool)
+visit_rules count v =
+    (TooMany, nat_lt count MAX_NODES)
+    ∷ (TooDeep, nat_le v.level MAX_IDS)
+    ∷ (Duplicate, not v.repeated)
     ∷ (AddressPastEnd, nat_lt (last_address v.register) (2 ^ 32))
     ∷ []
 
@@ -63,7 +66,17 @@ abbrev pub fault_or : Visit → Option CompileWhy → Option (Name × CompileWhy
 fault_or v None rest = rest
 fault_or v (Some why) rest = Some (v.name, why)
 
--- the first node that breaks a rule, with the rule
-abbrev pub first_fault : List Visit → List Visit → Option (Name × CompileWhy)
-first_fault before [] = None
-first_fault before (v ∷ vs) = fault_or v (first_broken (visit_rules before v)) (first_fault (v ∷ before) vs)
+-- the first node that breaks a rule, with the rule, among nodes that so many nodes come before
+abbrev pub first_fault : ℕ → List Visit → Option (Name × CompileWhy)
+first_fault count [] = None
+first_fault count (v ∷ vs) = fault_or v (first_broken (visit_rules count v)) (first_fault (count + 1) vs)
+
+-- one of the nodes of a walk has this name and register
+abbrev pub Lists : List Visit → Name → Register → Type 0
+Lists [] name r = ⊥
+Lists (v ∷ vs) name r = ((v.name ≡ name) × (v.register ≡ r)) ⊎ Lists vs name r
+
+-- one of the nodes of a walk is at this level
+abbrev pub HasLevel : List Visit → ℕ → Type 0
+HasLevel [] level = ⊥
+HasLevel (v ∷ vs) level = (v.level ≡ level) ⊎ HasLevel vs level

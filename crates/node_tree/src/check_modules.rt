@@ -1,14 +1,13 @@
 //! The modules of nodes, and the first table with an unknown one.
-ghost use Rattle.std.specs.Prelude.{◌≡◌, Some, false, MatchBool, MatchOption, IfOk};
+ghost use Rattle.std.specs.Prelude.{◌≡◌, Some, false, MatchBool, MatchOption};
 ghost use Rattle.std.specs.FinMap as finite;
 ghost use Rattle.address_table.specs.declared.nodes.Node.{out-Node};
 ghost use Rattle.node_tree.specs.Maps.{Name};
-ghost use Rattle.node_tree.specs.Modules.{Mentions, HasUnknown, NoTable, IsFirstTable, IsIn, HasAll, LacksOne, Adds};
+ghost use Rattle.node_tree.specs.Modules.{HasUnknown, NoTable, IsFirstTable, IsIn, HasAll, LacksOne};
 
+use crate::Tables;
 use crate::name_map::NameMap;
-use crate::{NoMemory, Tables};
 use address_table::Node;
-use std::alloc::Global;
 
 /// The first table in byte order that has a node with an unknown module.
 pub(crate) fn first_unknown(tables: &Tables) -> Option<&str>
@@ -45,30 +44,4 @@ fn has_module<V: Drop>(known: &NameMap<V>, node: &Node) -> bool
         Some(name) => known.contains(name.as_str()),
         None => true,
     }
-}
-
-/// Puts the modules of the nodes, at any depth, into a set.
-pub(crate) fn add_modules(
-    alloc: Global,
-    set: &mut NameMap<()>,
-    nodes: &[Node],
-) -> Result<(), NoMemory>
-    ensures { IfOk result (λ _. Adds set.old set.new (Mentions nodes.now)) }
-{
-    for node in nodes {
-        add_module(alloc, set, node)?;
-        add_modules(alloc, set, &node.nodes)?;
-    }
-    Ok(())
-}
-
-/// Puts the module of a node into a set, if the node has one.
-fn add_module(alloc: Global, set: &mut NameMap<()>, node: &Node) -> Result<(), NoMemory>
-    ensures { IfOk result (λ _. Adds set.old set.new (λ m. (out-Node node.now).«module» ≡ Some m)) }
-{
-    if let Some(name) = &node.module {
-        set.insert(alloc, name.as_str(), ())?;
-        return Ok(());
-    }
-    Ok(())
 }

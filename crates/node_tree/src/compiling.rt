@@ -1,6 +1,7 @@
 ghost use Rattle.std.specs.Prelude.{◌≡◌, ◌≤◌, ◌↔◌, [], Some, IfOk, IfErr, OnOk};
+ghost use Rattle.node_tree.specs.declared.limits.TheConstants.{MAX_NODES};
 ghost use Rattle.std.specs.FinMap as map;
-ghost use Rattle.node_tree.specs.Maps.{AreMasked};
+ghost use Rattle.node_tree.specs.Maps.{AreMasked, AreWithin, AreReadable};
 ghost use Rattle.node_tree.specs.Named.{Name};
 ghost use Rattle.node_tree.specs.Names.{RootNames};
 ghost use Rattle.node_tree.specs.Modules.{ReachesItself, NoTable};
@@ -18,16 +19,18 @@ use std::alloc::Global;
 use std::collections::BTreeMap;
 
 /// The index of the registers that a table names (uHAL). The tables are compiled exactly where they break no rule of
-/// `CompileWhy`, and then the index has the registers that the root names and no others, and no mask in it is 0.
-/// A refusal for a duplicate means that an earlier sibling of the node has its id.
+/// `CompileWhy`, and then the index has the registers that the root names and no others. No mask in it is 0, and each
+/// last address has 32 bits. A refusal tells the first rule that is broken, and where; one for a duplicate means that an
+/// earlier sibling of the node has its id.
 pub fn compile(alloc: Global, tables: &Tables, root: &str) -> Result<Index, CompileRefusal>
-    ensures names { IfOk result (λ index. (name : Name) (r : Reg) → (map.get index name ≡ Some r) ↔ RootNames tables.now root.now name r) }
-    ensures kept { OnOk result (KeepsRules tables.now root.now) }
+    ensures names { let named = RootNames tables.now root.now in
+        IfOk result (λ index. (name : Name) (r : Reg) → (map.get index name ≡ Some r) ↔ named name r) }
+    ensures only_if_kept { OnOk result (KeepsRules tables.now root.now) }
     ensures masked { IfOk result (λ index. AreMasked index) }
+    ensures within { IfOk result (λ index. AreWithin index) }
     ensures refused { IfErr result (λ refusal. IsRefusal tables.now root.now refusal) }
     ensures repeated { IfErr result (λ refusal. TellsRepeated tables.now root.now refusal) }
 {
-    tables.are_readable();
     check_known(alloc, tables, root)?;
     check_acyclic(alloc, tables, root)?;
     let mut found = Found {
@@ -36,7 +39,7 @@ pub fn compile(alloc: Global, tables: &Tables, root: &str) -> Result<Index, Comp
     };
     match walk(alloc, tables, nodes_of(tables, root), "", 0, 1, &mut found) {
         Ok(()) => Ok(index_of(alloc, found)?),
-        Err(Fault::At { name, why }) => Err(refused_node(alloc, root, name, why)),
+        Err(Fault::At { name, why }) => Err(refused_at(alloc, root, name, why)),
         Err(Fault::NoMemory) => Err(CompileRefusal::NoMemory),
     }
 }
@@ -44,12 +47,13 @@ pub fn compile(alloc: Global, tables: &Tables, root: &str) -> Result<Index, Comp
 /// Refuses unknown modules and an unknown root.
 fn check_known(alloc: Global, tables: &Tables, root: &str) -> Result<(), CompileRefusal>
     ensures known { OnOk result (AreKnown tables.now root.now) }
+    ensures readable { OnOk result (AreReadable tables.now) }
     ensures refused { IfErr result (λ refusal. IsRefusal tables.now root.now refusal) }
 {
     if let Some(name) = first_unknown(tables) {
         return Err(refused_table(alloc, name, CompileWhy::UnknownModule));
     }
-    if tables.get(root).is_none() {
+    if !tables.by_name().contains(root) {
         return Err(refused_table(alloc, root, CompileWhy::UnknownModule));
     }
     Ok(())
@@ -68,21 +72,19 @@ fn check_acyclic(alloc: Global, tables: &Tables, root: &str) -> Result<(), Compi
     }
 }
 
-/// A refusal of a table as a whole.
+/// A refusal of a table as a whole: its path is empty.
 fn refused_table(alloc: Global, table: &str, why: CompileWhy) -> CompileRefusal
     ensures { Refuses table.now [] why result }
 {
-    match (Text::copy_of(alloc, table), Text::copy_of(alloc, "")) {
-        (Ok(table), Ok(path)) => CompileRefusal::At { table, path, why },
-        _ => CompileRefusal::NoMemory,
-    }
+    let path = Text::from_string(String::new(alloc));
+    refused_at(alloc, table, path, why)
 }
 
-/// A refusal of a node by its name.
-fn refused_node(alloc: Global, root: &str, path: Text, why: CompileWhy) -> CompileRefusal
-    ensures { Refuses root.now path why result }
+/// A refusal of a place in a table.
+fn refused_at(alloc: Global, table: &str, path: Text, why: CompileWhy) -> CompileRefusal
+    ensures { Refuses table.now path why result }
 {
-    match Text::copy_of(alloc, root) {
+    match Text::copy_of(alloc, table) {
         Ok(table) => CompileRefusal::At { table, path, why },
         Err(NoMemory) => CompileRefusal::NoMemory,
     }
@@ -90,17 +92,18 @@ fn refused_node(alloc: Global, root: &str, path: Text, why: CompileWhy) -> Compi
 
 /// The index of the registers that the walk found.
 fn index_of(alloc: Global, found: Found) -> Result<Index, NoMemory>
-    requires few { map.len found.names ≤ 65536 }
+    requires few { map.len found.names ≤ MAX_NODES }
     requires masked { AreMasked found.names }
+    requires within { AreWithin found.names }
     ensures { IfOk result (λ index. index ≡ found.names) }
 {
     let Found { names, count: _ } = found;
-    let entries = listed(alloc, names.into_entries())?;
+    let entries = entries_of(alloc, names.into_entries())?;
     Ok(Index::from_sorted(entries))
 }
 
 /// The entries of a map, in order.
-fn listed(
+fn entries_of(
     alloc: Global,
     names: BTreeMap<String, Register>,
 ) -> Result<Vec<(String, Register)>, NoMemory>

@@ -1,10 +1,11 @@
-ghost use Rattle.std.specs.Prelude.{◌≡◌, ◌<◌, ◌≤◌, ◌==◌, [], IfOk, IfSome, length, slice_get, string_bytes};
-ghost use Rattle.std.specs.Prelude.{T};
+ghost use Rattle.std.specs.Prelude.{◌≡◌, ◌<◌, ◌≤◌, ◌^◌, ◌==◌, [], All, IfOk, IfSome, slice_get, string_bytes};
 ghost use Rattle.std.specs.Ordering.{nat_cmp};
 ghost use Rattle.std.specs.Cmp.Lexicographic.{slice_cmp};
 ghost use Rattle.std.specs.FinMap as map;
-ghost use Rattle.node_tree.specs.Maps.{AreMasked};
-ghost use Rattle.node_tree.specs.Named.{named};
+ghost use Rattle.node_tree.specs.declared.limits.TheConstants.{MAX_NODES};
+ghost use Rattle.node_tree.specs.Addresses.{last_address};
+ghost use Rattle.node_tree.specs.Maps.{AreEntries};
+ghost use Rattle.node_tree.specs.Named.{named, AreInOrder};
 ghost use Rattle.node_tree.specs.Overlaps.{overlapping};
 
 use crate::overlapping::overlapping_pairs;
@@ -21,12 +22,9 @@ pub struct Index {
 }
 
 impl Model for Index {
-    ghost use Rattle.std.specs.Prelude.{T, ◌≤◌, length};
-    ghost use Rattle.std.specs.Ordering.{nat_cmp};
-    ghost use Rattle.std.specs.Cmp.Lexicographic.{slice_cmp};
     ghost use Rattle.std.specs.Coded.{coded_ℕ, coded_list};
     ghost use Rattle.std.specs.FinMap as map;
-    ghost use Rattle.node_tree.specs.Maps.{RegisterMap, AreMasked, named};
+    ghost use Rattle.node_tree.specs.Maps.{RegisterMap, AreEntries, named};
     ghost use Rattle.node_tree.specs.contracts.register.Register as r;
 
     ghost Value = { RegisterMap };
@@ -35,59 +33,62 @@ impl Model for Index {
 
     ghost view = { λ index. map.from_sorted (named index.entries.items) };
 
-    ghost invariant = { λ index. T (map.is_sorted (slice_cmp nat_cmp) (named index.entries.items)) × (length index.entries.items ≤ 65536) × AreMasked (map.from_sorted (named index.entries.items)) };
+    ghost invariant = { λ index. AreEntries index.entries.items };
 }
 
 impl Index {
     /// The index of entries in byte order.
     pub(crate) fn from_sorted(entries: Vec<(String, Register)>) -> Index
-        requires sorted { T (map.is_sorted (slice_cmp nat_cmp) (named entries.items)) }
-        requires few { length entries.items ≤ 65536 }
-        requires masked { AreMasked (map.from_sorted (named entries.items)) }
+        requires { AreEntries entries.items }
         ensures { result ≡ map.from_sorted (named entries.items) }
     {
         Index { entries }
     }
 
-    /// The register of a name, if the index has the name. Its mask is not 0.
+    /// The register of a name, if the index has the name. Its mask is not 0, and its last address has 32 bits.
     pub fn find(&self, name: &str) -> Option<Register>
         ensures found { result ≡ map.get self.now name.now }
         ensures masked { IfSome result (λ register. 0 < register.mask) }
+        ensures within { IfSome result (λ register. last_address register < 2 ^ 32) }
     {
         found_in(&self.entries, name)
     }
 
-    /// How many registers there are.
+    /// How many registers there are, at most `MAX_NODES`.
     pub fn len(&self) -> usize
-        ensures { result ≡ map.len self.now }
+        ensures registers { result ≡ map.len self.now }
+        ensures few { result ≤ MAX_NODES }
     {
         let entries = self.entries.as_slice();
         entries.len()
     }
 
+    /// Whether there is no register.
     pub fn is_empty(&self) -> bool
         ensures { result ≡ (map.len self.now == 0) }
     {
         self.len() == 0
     }
 
-    /// A register by its place from 0, in byte order of the names. Its mask is not 0.
+    /// A register by its place from 0, in byte order of the names. Its mask is not 0, and its last address has 32 bits.
     pub fn at(&self, i: usize) -> (&str, Register)
         requires { i < map.len self.now }
         ensures entry { slice_get (map.entries self.now) i ≡ Some (result.0.now, result.1) }
         ensures masked { 0 < result.1.mask }
+        ensures within { last_address result.1 < 2 ^ 32 }
     {
         let entries = self.entries.as_slice();
         let entry = &entries[i];
         (entry.0.as_str(), entry.1)
     }
-}
 
-impl Index {
-    /// The registers that share bits of a word with one before them, in byte order of the names: for each the places of
-    /// the first such one and of itself.
+    /// The registers that overlap one before them, in byte order of the names: for each the places from 0 of the first
+    /// such one and of itself (profile). Two registers overlap where they share an address and a bit of their masks,
+    /// neither is hierarchical, and neither name is the other's up to a dot. A block has `size` addresses, a port one.
     pub fn overlaps(&self, alloc: Global) -> Result<Vec<(u32, u32)>, NoMemory>
-        ensures { IfOk result (λ pairs. pairs.items ≡ overlapping [] (map.entries self.now)) }
+        ensures pairs { IfOk result (λ pairs. pairs.items ≡ overlapping [] (map.entries self.now)) }
+        ensures places { let count = map.len self.now in
+            IfOk result (λ pairs. All (λ p. (p.0 < p.1) × (p.1 < count)) pairs.items) }
     {
         overlapping_pairs(alloc, self.entries.as_slice())
     }
@@ -95,7 +96,7 @@ impl Index {
 
 /// The register of a name among entries in byte order.
 fn found_in(entries: &[(String, Register)], name: &str) -> Option<Register>
-    requires { T (map.is_sorted (slice_cmp nat_cmp) (named entries.now)) }
+    requires { AreInOrder entries.now }
     ensures { result ≡ map.find (slice_cmp nat_cmp) name.now (named entries.now) }
 {
     match entries.binary_search_by(|entry| order(entry, name)) {

@@ -1,16 +1,76 @@
 //! Laws of the definitions, and worked examples of them. These functions do nothing when they run: their clauses are what is proved.
-ghost use Rattle.std.specs.Prelude.{◌≡◌, [], Some, codes, true, false};
+ghost use Rattle.std.specs.Prelude.{◌≡◌, ◌⊎◌, ◌+◌, List, [], ◌∷◌, ◌++◌, Some, codes, true, false};
+ghost use Rattle.address_table.specs.declared.nodes.Node.{Node, out-Node};
+ghost use Rattle.address_table.specs.declared.kinds.Mode.TheVariants.{Single, Block, Port, Hierarchical};
+ghost use Rattle.node_tree.specs.declared.limits.TheConstants.{MAX_NODES, MAX_IDS};
+ghost use Rattle.node_tree.specs.declared.refusal.CompileWhy.{CompileWhy as Why};
 ghost use Rattle.node_tree.specs.declared.refusal.CompileWhy.TheVariants.{Duplicate};
-ghost use Rattle.node_tree.specs.Maps.{Name, TableMap, AreReadable};
-ghost use Rattle.node_tree.specs.Names.{name_below};
-ghost use Rattle.node_tree.specs.Overlaps.{is_above};
-ghost use Rattle.node_tree.specs.Repeats.{IsRepeated};
-ghost use Rattle.node_tree.specs.Walk.{first_fault, root_walk};
+ghost use Rattle.node_tree.specs.declared.refusal.CompileRefusal.TheVariants.{At};
+ghost use Rattle.node_tree.specs.declared.register.Register.{Register as Reg};
+ghost use Rattle.node_tree.specs.Addresses.{last_address};
+ghost use Rattle.node_tree.specs.Examples.{full_register};
+ghost use Rattle.node_tree.specs.Maps.{Name, TableMap};
+ghost use Rattle.node_tree.specs.Names.{RootNames, name_below};
+ghost use Rattle.node_tree.specs.Overlaps.{is_dotted_prefix};
+ghost use Rattle.node_tree.specs.Refusals.{KeepsRules, IsRefusal};
+ghost use Rattle.node_tree.specs.Repeats.{AreSiblings, HasId, IsRepeated};
+ghost use Rattle.node_tree.specs.Walk.{first_fault, root_walk, Lists, HasLevel};
 
-/// Where the first faulty node has a name that is there already, an earlier sibling has its id: ids have no dot, so a
-/// name is cut into ids in one way alone.
+/// Tables that keep the rules are not refused.
+pub fn tables_that_keep_the_rules_are_not_refused()
+    ensures { (tables : TableMap) (root name path : Name) (why : Why)
+        → KeepsRules tables root
+        → IsRefusal tables root (At name path why)
+        → ⊥ }
+{}
+
+/// Tables that are refused are refused in one way.
+pub fn a_refusal_is_the_only_one()
+    ensures { (tables : TableMap) (root name other path place : Name) (why rule : Why)
+        → IsRefusal tables root (At name path why)
+        → IsRefusal tables root (At other place rule)
+        → (name ≡ other) × (path ≡ place) × (why ≡ rule) }
+{}
+
+/// The walk lists what the root names, as long as no name has more than `MAX_IDS` ids.
+pub fn a_walk_lists_what_the_root_names()
+    ensures only { (tables : TableMap) (root name : Name) (r : Reg)
+        → Lists (root_walk tables root) name r
+        → RootNames tables root name r }
+    ensures all { (tables : TableMap) (root name : Name) (r : Reg)
+        → RootNames tables root name r
+        → Lists (root_walk tables root) name r ⊎ HasLevel (root_walk tables root) (MAX_IDS + 1) }
+{}
+
+/// Where the first faulty node is told as a duplicate, an earlier sibling has its id.
 pub fn a_duplicate_has_an_earlier_sibling()
-    ensures { (tables : TableMap) (root path : Name) → AreReadable tables → first_fault [] (root_walk tables root) ≡ Some (path, Duplicate) → IsRepeated tables root path }
+    ensures { (tables : TableMap) (root path : Name)
+        → first_fault 0 (root_walk tables root) ≡ Some (path, Duplicate)
+        → IsRepeated tables root path }
+{}
+
+/// Where the rules are kept no two siblings have one id, however deep they stand.
+pub fn siblings_have_ids_of_their_own()
+    ensures { (tables : TableMap) (root above : Name) (before : List Node) (n : Node) (after : List Node)
+        → KeepsRules tables root
+        → AreSiblings tables root above (before ++ n ∷ after)
+        → HasId (out-Node n).id before
+        → ⊥ }
+{}
+
+/// The limits of an index.
+pub fn limits()
+    ensures nodes { MAX_NODES ≡ 65536 }
+    ensures ids { MAX_IDS ≡ 16 }
+{}
+
+/// A block takes one address for each of its words, and every other register one.
+pub fn last_addresses()
+    ensures single { last_address (full_register 7 Single 1) ≡ 7 }
+    ensures block { last_address (full_register 0x100 Block 600) ≡ 0x357 }
+    ensures block_at_the_end { last_address (full_register 0xfffffff0 Block 16) ≡ 0xffffffff }
+    ensures port { last_address (full_register 7 Port 600) ≡ 7 }
+    ensures hierarchical { last_address (full_register 7 Hierarchical 1) ≡ 7 }
 {}
 
 /// A name has a dot before each id but the first.
@@ -21,7 +81,7 @@ pub fn ids_are_joined_by_dots()
 
 /// A name is above those that begin with it and a dot, and not above those that only begin with it.
 pub fn a_name_is_above_its_children()
-    ensures child { is_above (codes "a") (codes "a.b") ≡ true }
-    ensures longer_id { is_above (codes "a") (codes "ab") ≡ false }
-    ensures itself { is_above (codes "a") (codes "a") ≡ false }
+    ensures child { is_dotted_prefix (codes "a") (codes "a.b") ≡ true }
+    ensures longer_id { is_dotted_prefix (codes "a") (codes "ab") ≡ false }
+    ensures itself { is_dotted_prefix (codes "a") (codes "a") ≡ false }
 {}

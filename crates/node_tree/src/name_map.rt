@@ -14,12 +14,11 @@ pub(crate) struct NameMap<V> {
 }
 
 impl<V> Model for NameMap<V> {
-    ghost use Rattle.std.specs.Prelude.{T};
     ghost use Rattle.std.specs.Ordering.{nat_cmp};
     ghost use Rattle.std.specs.Cmp.Lexicographic.{slice_cmp};
     ghost use Rattle.std.specs.FinMap as map;
     ghost use Rattle.std.specs.Coded.{coded_ℕ, coded_list};
-    ghost use Rattle.node_tree.specs.Named.{named};
+    ghost use Rattle.node_tree.specs.Named.{named, AreInOrder};
 
     ghost Value = { map.FinMap (slice_cmp nat_cmp) V };
 
@@ -27,7 +26,7 @@ impl<V> Model for NameMap<V> {
 
     ghost view = { λ m. map.from_sorted (named m.by_name.entries) };
 
-    ghost invariant = { λ m. T (map.is_sorted (slice_cmp nat_cmp) (named m.by_name.entries)) };
+    ghost invariant = { λ m. AreInOrder m.by_name.entries };
 }
 
 impl<V: Drop> NameMap<V> {

@@ -1,9 +1,12 @@
 //! Registers that share bits of a word.
-ghost use Rattle.std.specs.Prelude.{◌≡◌, ◌<◌, ◌≤◌, ◌++◌, [], IfOk, IfSome, length, string_bytes, option_to_list};
-ghost use Rattle.std.specs.List.{position_from};
+ghost use Rattle.std.specs.Prelude.{◌≡◌, ◌<◌, ◌≤◌, ◌++◌, [], IfOk, length, string_bytes, option_to_list};
 ghost use Rattle.node_tree.specs.Named.{named};
 ghost use Rattle.node_tree.specs.Overlaps as spec;
+ghost use Rattle.node_tree.specs.OverlapSearch.{pair_before};
 
+mod sweeping;
+
+use self::sweeping::first_overlaps;
 use crate::walking::words_of;
 use crate::{NoMemory, Register};
 use address_table::Mode;
@@ -20,10 +23,10 @@ pub(crate) fn overlapping_pairs(
     requires { length entries.now ≤ 65536 }
     ensures { IfOk result (λ pairs. pairs.items ≡ spec.overlapping [] (named entries.now)) }
 {
+    let firsts = first_overlaps(alloc, entries)?;
     let mut pairs = Vec::new(alloc);
     for i in 0..entries.len() {
-        let entry = &entries[i];
-        let pair = pair_with(&entries[..i], entry);
+        let pair = pair_with(firsts[i], i);
         push_some(&mut pairs, pair)?;
     }
     Ok(pairs)
@@ -38,48 +41,41 @@ fn push_some(pairs: &mut Vec<(u32, u32)>, pair: Option<(u32, u32)>) -> Result<()
     }
 }
 
-/// The first entry that another overlaps, with the place after these entries.
-fn pair_with(before: &[Entry], entry: &Entry) -> Option<(u32, u32)>
-    requires { length before.now ≤ 65536 }
-    ensures { option_to_list result ≡ spec.pair_with (length before.now) (position_from (λ a. spec.overlap (string_bytes a.0, a.1) (string_bytes entry.now.0, entry.now.1)) 0 before.now) }
+/// A place and a later one; none where the first is not before the second.
+fn pair_with(first: usize, i: usize) -> Option<(u32, u32)>
+    requires { i ≤ 65536 }
+    ensures { option_to_list result ≡ pair_before first i }
 {
-    match first_overlapping(before, entry) {
-        Some(first) => Some((first as u32, before.len() as u32)),
-        None => None,
-    }
-}
-
-fn first_overlapping(before: &[Entry], entry: &Entry) -> Option<usize>
-    ensures first { result ≡ position_from (λ a. spec.overlap (string_bytes a.0, a.1) (string_bytes entry.now.0, entry.now.1)) 0 before.now }
-    ensures within { IfSome result (λ i. i < length before.now) }
-{
-    for i in 0..before.len() {
-        let a = &before[i];
-        if overlap(a, entry) {
-            return Some(i);
-        }
+    if first < i {
+        return Some((first as u32, i as u32));
     }
     None
 }
 
-/// Whether two registers share bits of a word: neither name is above the other, neither is hierarchical, and they share
-/// an address and a bit of their masks.
+/// Whether two registers share bits of a word: neither is hierarchical, they share an address and a bit of their masks,
+/// and neither name is a dotted prefix of the other.
 fn overlap(a: &Entry, b: &Entry) -> bool
     ensures { result ≡ spec.overlap (string_bytes a.now.0, a.now.1) (string_bytes b.now.0, b.now.1) }
 {
-    !is_above(a.0.as_bytes(), b.0.as_bytes())
-        && !is_above(b.0.as_bytes(), a.0.as_bytes())
-        && takes_words(a.1.mode)
+    takes_words(a.1.mode)
         && takes_words(b.1.mode)
         && share_an_address(&a.1, &b.1)
         && a.1.mask & b.1.mask != 0
+        && !is_dotted_prefix(a.0.as_bytes(), b.0.as_bytes())
+        && !is_dotted_prefix(b.0.as_bytes(), a.0.as_bytes())
 }
 
 /// Whether another name begins with this one and a dot.
-fn is_above(name: &[u8], other: &[u8]) -> bool
-    ensures { result ≡ spec.is_above name.now other.now }
+fn is_dotted_prefix(name: &[u8], other: &[u8]) -> bool
+    ensures { result ≡ spec.is_dotted_prefix name.now other.now }
 {
-    name.len() < other.len() && &other[..name.len()] == name && other[name.len()] == b'.'
+    if other.len() <= name.len() {
+        return false;
+    }
+    if &other[..name.len()] != name {
+        return false;
+    }
+    other[name.len()] == b'.'
 }
 
 fn takes_words(mode: Mode) -> bool

@@ -1,7 +1,6 @@
 ghost use Rattle.std.specs.Prelude.{◌≡◌};
 
-use address_table::Text;
-use std::alloc::{AllocError, AllocFailed};
+use address_table::{NoMemory, Text};
 
 /// The rule that tables break when they are compiled (profile), in the order in which the rules are judged.
 #[derive(Clone, Copy, Debug, PartialEq, Eq)]
@@ -10,11 +9,11 @@ pub enum CompileWhy {
     UnknownModule,
     /// A table leads to itself through modules.
     ModuleCycle,
-    /// The 65,537th node of the walk from the root.
+    /// The node after the first `MAX_NODES` nodes of the walk from the root.
     TooMany,
-    /// A name of 17 ids.
+    /// A name of `MAX_IDS` ids and one more.
     TooDeep,
-    /// A node with the name of an earlier one: an earlier sibling has its id.
+    /// An earlier sibling has the node's id.
     Duplicate,
     /// The address, or the last address of a block, is past 0xffffffff.
     AddressPastEnd,
@@ -30,35 +29,16 @@ pub enum CompileRefusal {
         path: Text,
         why: CompileWhy,
     },
+    /// There was not enough memory.
     NoMemory,
 }
 
-impl From<AllocError> for CompileRefusal {
+impl From<NoMemory> for CompileRefusal {
     ghost use Rattle.node_tree.specs.declared.refusal.CompileRefusal.TheVariants.{NoMemory};
 
     ghost from_gives = { λ _ e. e ≡ NoMemory };
 
-    fn from(_error: AllocError) -> CompileRefusal {
-        CompileRefusal::NoMemory
-    }
-}
-
-impl<T: Drop> From<AllocFailed<T>> for CompileRefusal {
-    ghost use Rattle.node_tree.specs.declared.refusal.CompileRefusal.TheVariants.{NoMemory};
-
-    ghost from_gives = { λ _ e. e ≡ NoMemory };
-
-    fn from(_error: AllocFailed<T>) -> CompileRefusal {
-        CompileRefusal::NoMemory
-    }
-}
-
-impl From<address_table::NoMemory> for CompileRefusal {
-    ghost use Rattle.node_tree.specs.declared.refusal.CompileRefusal.TheVariants.{NoMemory};
-
-    ghost from_gives = { λ _ e. e ≡ NoMemory };
-
-    fn from(_error: address_table::NoMemory) -> CompileRefusal {
+    fn from(_error: NoMemory) -> CompileRefusal {
         CompileRefusal::NoMemory
     }
 }

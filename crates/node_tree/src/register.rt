@@ -7,7 +7,9 @@ pub struct Register {
     pub address: u32,
     /// The bits of the word that the register has; not 0.
     pub mask: u32,
+    /// Whether it may be read and written.
     pub permission: Permission,
+    /// How it is used.
     pub mode: Mode,
     /// The words of a block or a port; 1 for the other modes.
     pub size: u32,

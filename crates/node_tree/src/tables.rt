@@ -59,15 +59,10 @@ impl Tables {
         self.by_name.get(name)
     }
 
-    /// Each table was read from a value of a document, since no other may be put.
-    pub fn are_readable(&self)
-        ensures { AreReadable self.now }
-    {
-        let _ = &self.by_name;
-    }
-
+    /// The tables by name. Each was read from a value of a document, since no other may be put.
     pub(crate) fn by_name(&self) -> &NameMap<Table>
-        ensures { result.now ≡ self.now }
+        ensures same { result.now ≡ self.now }
+        ensures readable { AreReadable self.now }
     {
         &self.by_name
     }

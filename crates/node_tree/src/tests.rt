@@ -250,28 +250,60 @@ fn an_empty_table_has_no_names(rt: HostRuntime) -> Result<(), Fail> {
     Ok(())
 }
 
+/// The pairs of overlaps of the table `main` of a document.
+fn overlaps_in(alloc: Global, text: &str) -> Result<Vec<(u32, u32)>, Fail> {
+    let tables = tables_in(alloc, text)?;
+    let index = compile(alloc, &tables, "main")?;
+    Ok(index.overlaps(alloc)?)
+}
+
 /// Two masks that share a bit, and pairs that do not count: names of which one begins with the other and a dot, and a
-/// name that begins with the other without a dot.
+/// name that begins with the other without a dot. A port has one address, and a hierarchical node none of its own.
 #[test]
 fn registers_that_share_bits_are_paired(rt: HostRuntime) -> Result<(), Fail> {
-    let text =
-        "main = [{ id = \"x\", mask = 0xff }, { id = \"y\", mask = 1 }, { id = \"z\", mask = 0x100 }]";
-    let tables = tables_in(rt.alloc(), text)?;
-    let index = compile(rt.alloc(), &tables, "main")?;
-    let pairs = index.overlaps(rt.alloc())?;
-    assert_eq!(rt; pairs.len(), 1);
-    assert_eq!(rt; pairs[0].0, 0);
-    assert_eq!(rt; pairs[0].1, 1);
-    let text =
-        "main = [{ id = \"a\", nodes = [{ id = \"top\", mask = 1 }] }, { id = \"ab\" }, { id = \"m\", address = 1, mode = \"block\", size = 2 }, { id = \"n\", address = 2 }]";
-    let tables = tables_in(rt.alloc(), text)?;
-    let index = compile(rt.alloc(), &tables, "main")?;
-    let pairs = index.overlaps(rt.alloc())?;
-    assert_eq!(rt; pairs.len(), 2);
-    assert_eq!(rt; pairs[0].0, 0);
-    assert_eq!(rt; pairs[0].1, 2);
-    assert_eq!(rt; pairs[1].0, 3);
-    assert_eq!(rt; pairs[1].1, 4);
+    let cases = [
+        (
+            "main = [{ id = \"x\", mask = 0xff }, { id = \"y\", mask = 1 }, { id = \"z\", mask = 0x100 }]",
+            [(0, 1)].as_slice(),
+        ),
+        (
+            "main = [{ id = \"a\", nodes = [{ id = \"top\", mask = 1 }] }, { id = \"ab\" }, { id = \"m\", address = 1, mode = \"block\", size = 2 }, { id = \"n\", address = 2 }]",
+            [(0, 2), (3, 4)].as_slice(),
+        ),
+        (
+            "main = [{ id = \"f\", mode = \"port\", size = 9 }, { id = \"r\", address = 1 }]",
+            [].as_slice(),
+        ),
+        (
+            "main = [{ id = \"f\", mode = \"port\", size = 9 }, { id = \"r\" }]",
+            [(0, 1)].as_slice(),
+        ),
+        (
+            "main = [{ id = \"h\", mode = \"hierarchical\" }, { id = \"r\" }]",
+            [].as_slice(),
+        ),
+        ("main = []", [].as_slice()),
+    ];
+    for (text, pairs) in cases {
+        let found = overlaps_in(rt.alloc(), text)?;
+        assert_eq!(rt; found.as_slice(), pairs, "{text}");
+    }
+    assert!(rt; overlaps_in(rt.alloc(), SMALL)?.is_empty());
+    Ok(())
+}
+
+/// A table that is put under a name that is there takes the place of the one before.
+#[test]
+fn a_table_replaces_one_of_its_name(rt: HostRuntime) -> Result<(), Fail> {
+    let document = toml::table_from_str(rt.alloc(), "a = [{ id = \"x\" }]\nb = [{ id = \"y\" }]")?;
+    let first = read_table(rt.alloc(), document.get("a").ok_or("no table")?)?;
+    let second = read_table(rt.alloc(), document.get("b").ok_or("no table")?)?;
+    let mut tables = Tables::new(rt.alloc());
+    tables.put("m", first)?;
+    tables.put("m", second)?;
+    let index = compile(rt.alloc(), &tables, "m")?;
+    assert_eq!(rt; index.len(), 1);
+    assert_eq!(rt; index.at(0).0, "y");
     Ok(())
 }
 
@@ -338,24 +370,39 @@ fn the_first_broken_rule_is_told(rt: HostRuntime) -> Result<(), Fail> {
     Ok(())
 }
 
-/// Tables of 256 and of 257 nodes, the second with the first below each node: 66,049 nodes in all.
+/// A table of 255 nodes, and one of some nodes below each of which stands the first: 256 nodes for each.
+fn large_document(alloc: Global, nodes: u32) -> Result<String, Fail> {
+    let mut text = String::new(alloc);
+    for i in 0..255 {
+        let n: u32 = i;
+        let node = format!(in alloc; "[[leaf]]\nid = \"n{n}\"\n")?;
+        text.push_str(node.as_str())?;
+    }
+    for i in 0..nodes {
+        let n: u32 = i;
+        let node = format!(in alloc; "[[main]]\nid = \"m{n}\"\nmodule = \"leaf\"\n")?;
+        text.push_str(node.as_str())?;
+    }
+    Ok(text)
+}
+
 #[test]
 fn too_many_nodes_are_refused(rt: HostRuntime) -> Result<(), Fail> {
-    let mut text = String::new(rt.alloc());
-    for i in 0..256 {
-        let n: u32 = i;
-        let node = format!(in rt.alloc(); "[[leaf]]\nid = \"n{n}\"\n")?;
-        text.push_str(node.as_str())?;
-    }
-    for i in 0..257 {
-        let n: u32 = i;
-        let node = format!(in rt.alloc(); "[[main]]\nid = \"m{n}\"\nmodule = \"leaf\"\n")?;
-        text.push_str(node.as_str())?;
-    }
+    let text = large_document(rt.alloc(), 257)?;
     let (table, path, why) = refusal_of(rt.alloc(), text.as_str(), "main")?;
     assert_eq!(rt; table.as_str(), "main");
-    assert_eq!(rt; path.as_str(), "m255.n0");
+    assert_eq!(rt; path.as_str(), "m256");
     assert_eq!(rt; why, CompileWhy::TooMany);
+    Ok(())
+}
+
+#[test]
+fn as_many_nodes_as_may_be_are_accepted(rt: HostRuntime) -> Result<(), Fail> {
+    let text = large_document(rt.alloc(), 256)?;
+    let tables = tables_in(rt.alloc(), text.as_str())?;
+    let index = compile(rt.alloc(), &tables, "main")?;
+    assert_eq!(rt; index.len(), 65_536);
+    assert_eq!(rt; index.at(65_535).0, "m99.n99");
     Ok(())
 }
 
@@ -372,7 +419,7 @@ fn a_name_of_17_ids_is_refused(rt: HostRuntime) -> Result<(), Fail> {
     text.push_str("[[t16]]\nid = \"a\"\n")?;
     let (_table, path, why) = refusal_of(rt.alloc(), text.as_str(), "t0")?;
     assert_eq!(rt; why, CompileWhy::TooDeep);
-    assert_eq!(rt; path.len(), 33);
+    assert_eq!(rt; path.as_str(), "a.a.a.a.a.a.a.a.a.a.a.a.a.a.a.a.a");
     let tables = tables_in(rt.alloc(), text.as_str())?;
     let index = compile(rt.alloc(), &tables, "t1")?;
     assert_eq!(rt; index.len(), 16);

@@ -1,20 +1,15 @@
 //! The walk through the nodes of a table and of its modules.
-ghost use Rattle.std.specs.Prelude.{◌≡◌, ◌≤◌, ◌-◌, ◌+◌, Ok, Err, IfOk, IfErr, SomeIff, ◌<◌, ◌^◌, string_bytes};
+ghost use Rattle.std.specs.Prelude.{◌≡◌, ◌≤◌, ◌-◌, ◌+◌, [], Ok, Err, OnOk, IfOk, IfErr, SomeIff, ◌<◌, ◌^◌, string_bytes};
+ghost use Rattle.node_tree.specs.declared.limits.TheConstants.{MAX_IDS};
 ghost use Rattle.node_tree.specs.Maps.{nodes_of as table_nodes};
 ghost use Rattle.node_tree.specs.Names.{children_of, name_below, register_of};
 ghost use Rattle.node_tree.specs.Walk as spec;
 ghost use Rattle.node_tree.specs.Run.{visit_next, run, IsStop};
 
 use crate::name_map::NameMap;
-use crate::{CompileWhy, Register, Tables};
+use crate::{CompileWhy, MAX_IDS, MAX_NODES, Register, Tables};
 use address_table::{Mode, NoMemory, Node, Text};
 use std::alloc::{AllocError, Global};
-
-/// The most nodes that a walk may come to.
-const MOST_NODES: usize = 65_536;
-
-/// The most ids in a name.
-const MOST_IDS: u32 = 16;
 
 /// The registers that the walk has found, and how many nodes it came to.
 #[derive(Drop)]
@@ -61,18 +56,19 @@ pub(crate) fn walk(
     level: u32,
     found: &mut Found,
 ) -> Result<(), Fault>
-    requires { level ≤ 17 }
-    ensures walked { IfOk result (λ _. run (spec.siblings (spec.walk tables.now (17 - level) (level + 1)) tables.now level above.now base nodes.now) found.old ≡ Ok found.new) }
-    ensures stopped { IfErr result (λ fault. IsStop (run (spec.siblings (spec.walk tables.now (17 - level) (level + 1)) tables.now level above.now base nodes.now) found.old) fault) }
+    requires { level ≤ MAX_IDS + 1 }
+    ensures walked { let below = spec.walk tables.now (MAX_IDS + 1 - level) (level + 1) in
+        let visits = spec.siblings below tables.now level above.now base [] nodes.now in
+        IfOk result (λ _. run visits found.old ≡ Ok found.new) }
+    ensures stopped { let below = spec.walk tables.now (MAX_IDS + 1 - level) (level + 1) in
+        let visits = spec.siblings below tables.now level above.now base [] nodes.now in
+        IfErr result (λ fault. IsStop (run visits found.old) fault) }
 {
     for node in nodes {
-        let name = dotted(alloc, above, node.id.as_str())?;
-        let address = match visit(alloc, name.as_str(), base, level, node, found) {
-            Ok(address) => address,
-            Err(fault) => return Err(fault),
-        };
+        let name = dotted_name(alloc, above, node.id.as_str())?;
+        let address = visit(alloc, name.as_str(), base, level, node, found)?;
         let below = children(tables, node);
-        if let Err(fault) = walk(
+        walk(
             alloc,
             tables,
             below,
@@ -80,9 +76,7 @@ pub(crate) fn walk(
             address,
             level + 1,
             found,
-        ) {
-            return Err(fault);
-        }
+        )?;
     }
     Ok(())
 }
@@ -96,20 +90,24 @@ fn visit(
     node: &Node,
     found: &mut Found,
 ) -> Result<u32, Fault>
-    ensures visited { IfOk result (λ address. (level ≤ 16) × (address ≡ (register_of base node.now).address) × (visit_next found.old (record { name = name.now; level = level; register = register_of base node.now }) ≡ Ok found.new)) }
-    ensures stopped { IfErr result (λ fault. IsStop (visit_next found.old (record { name = name.now; level = level; register = register_of base node.now })) fault) }
+    ensures shallow { OnOk result (level ≤ MAX_IDS) }
+    ensures address { IfOk result (λ address. address ≡ (register_of base node.now).address) }
+    ensures visited { let next = visit_next found.old name.now level (register_of base node.now) in
+        OnOk result (next ≡ Ok found.new) }
+    ensures stopped { let next = visit_next found.old name.now level (register_of base node.now) in
+        IfErr result (λ fault. IsStop next fault) }
 {
-    if found.count >= MOST_NODES {
-        return Err(stopped(alloc, name, CompileWhy::TooMany));
+    if found.count >= MAX_NODES {
+        return Err(fault_at(alloc, name, CompileWhy::TooMany));
     }
-    if level > MOST_IDS {
-        return Err(stopped(alloc, name, CompileWhy::TooDeep));
+    if level > MAX_IDS {
+        return Err(fault_at(alloc, name, CompileWhy::TooDeep));
     }
     if found.names.contains(name) {
-        return Err(stopped(alloc, name, CompileWhy::Duplicate));
+        return Err(fault_at(alloc, name, CompileWhy::Duplicate));
     }
     let Some(register) = register(base, node) else {
-        return Err(stopped(alloc, name, CompileWhy::AddressPastEnd));
+        return Err(fault_at(alloc, name, CompileWhy::AddressPastEnd));
     };
     found.names.insert(alloc, name, register)?;
     found.count += 1;
@@ -144,7 +142,8 @@ pub(crate) fn words_of(mode: Mode, size: u32) -> u32
     }
 }
 
-fn stopped(alloc: Global, name: &str, why: CompileWhy) -> Fault
+/// The fault of a node, by its name.
+fn fault_at(alloc: Global, name: &str, why: CompileWhy) -> Fault
     ensures { IsStop (Err (name.now, why)) result }
 {
     match Text::copy_of(alloc, name) {
@@ -154,7 +153,7 @@ fn stopped(alloc: Global, name: &str, why: CompileWhy) -> Fault
 }
 
 /// An id below a name.
-fn dotted(alloc: Global, above: &str, id: &str) -> Result<String, AllocError>
+fn dotted_name(alloc: Global, above: &str, id: &str) -> Result<String, AllocError>
     ensures { IfOk result (λ name. string_bytes name ≡ name_below above.now id.now) }
 {
     let mut name = String::from_str(alloc, above)?;

@@ -18,7 +18,7 @@ loop-name-preserved c =
       done ++ (string_bytes c.in-Some.name.now, c.in-Some.table.now) ∷ [],
       past_place _ done (c.in-Some.name.now, c.in-Some.table.now) c.next.new.self next,
       all-push (λ e. HasUnknown c.args.tables.now e.0 → ⊥) done _ none
-          (λ (m, mention, absent). false≢true (sym absent ∙ subst (λ known. IsIn known m) c.by_name.ensures (c.if-not-has_modules.ensures m (subst (λ ns. Mentions ns m) nodes mention)))),
+          (λ (m, mention, absent). false≢true (sym absent ∙ subst (λ known. IsIn known m) c.by_name.ensures.same (c.if-not-has_modules.ensures m (subst (λ ns. Mentions ns m) nodes mention)))),
     )
 
 pub returns-then-not-has_modules : goal.returns-then-not-has_modules
@@ -28,7 +28,7 @@ returns-then-not-has_modules c =
     let nodes = nodes-entry c.args.tables.now _ c.in-Some.table.now done _ next ∙ sym c.deref.ensures.value in
     let (m, mention, absent) = c.if-not-has_modules.ensures in
     let unknown : HasUnknown c.args.tables.now (string_bytes c.in-Some.name.now) =
-    (m, subst (λ ns. Mentions ns m) (sym nodes) mention, subst (λ known. Rattle.std.specs.FinMap.contains_key known m ≡ false) c.by_name.ensures absent) in
+    (m, subst (λ ns. Mentions ns m) (sym nodes) mention, subst (λ known. Rattle.std.specs.FinMap.contains_key known m ≡ false) c.by_name.ensures.same absent) in
     let first : IsFirstTable c.args.tables.now (HasUnknown c.args.tables.now) (string_bytes c.in-Some.name.now) =
     record { before = done; «table» = c.in-Some.table.now; after = named c.next.new.self; place = next; holds = unknown; first = none } in
     subst (IsFirstTable c.args.tables.now (HasUnknown c.args.tables.now)) (sym c.as_str.ensures.value) first

@@ -1,27 +1,27 @@
-use Rattle.std.proofs.Common.{◌≡◌, ◌≤◌, length, T, ap, sym, ◌∙◌, subst}
-use Rattle.std.specs.FinMap.{entries, entries_sorted, from_sorted, entries-from_sorted, same_entries_map, is_sorted, len-entries}
-use Rattle.node_tree.specs.Maps.{AreMasked}
+use Rattle.std.proofs.Common.{◌≡◌, ◌≤◌, length, ap, sym, ◌∙◌, subst}
+use Rattle.std.specs.FinMap.{entries, entries_sorted, from_sorted, entries-from_sorted, same_entries_map, len-entries}
+use Rattle.node_tree.specs.declared.limits.TheConstants.{MAX_NODES}
+use Rattle.node_tree.specs.Maps.{AreMasked, AreWithin, RegisterMap}
 use Rattle.node_tree.specs.Named.{named}
-use Rattle.node_tree.proofs.NamedLemmas.{by_bytes, length-named}
+use Rattle.node_tree.proofs.NamedLemmas.{by_bytes, length-named, entries-in_order}
 use Rattle.node_tree.proofs.compiling.index_of.Goals as goal
 
-pub from_sorted-requires-clause-few : goal.from_sorted-requires-clause-few
-from_sorted-requires-clause-few c =
-    let same : named c.in_ok-entries.entries.items ≡ entries c.args.found.names = ap named c.in_ok-entries.ensures ∙ c.into_entries.ensures in
-    subst (λ n. n ≤ 65536) (len-entries c.args.found.names ∙ ap length (sym same) ∙ length-named c.in_ok-entries.entries.items) c.requires.few
+-- the map of the entries of a map is that map
+whole : (m : RegisterMap) → from_sorted (entries m) ≡ m
+whole m = same_entries_map _ _ (entries-from_sorted by_bytes (entries m) (entries_sorted m))
 
-pub from_sorted-requires-clause-sorted : goal.from_sorted-requires-clause-sorted
-from_sorted-requires-clause-sorted c =
+pub from_sorted-requires : goal.from_sorted-requires
+from_sorted-requires c =
     let same : named c.in_ok-entries.entries.items ≡ entries c.args.found.names = ap named c.in_ok-entries.ensures ∙ c.into_entries.ensures in
-    subst (λ es. T (is_sorted by_bytes es)) (sym same) (entries_sorted c.args.found.names)
+    let all : c.args.found.names ≡ from_sorted (named c.in_ok-entries.entries.items) = sym (ap from_sorted same ∙ whole c.args.found.names) in
+    record {
+      ordered = entries-in_order c.args.found.names c.in_ok-entries.entries.items same;
+      few = subst (λ n. n ≤ MAX_NODES) (len-entries c.args.found.names ∙ ap length (sym same) ∙ length-named c.in_ok-entries.entries.items) c.requires.few;
+      masked = subst AreMasked all c.requires.masked;
+      within = subst AreWithin all c.requires.within;
+    }
 
 pub returns : goal.returns
 returns c =
     let same : named c.in_ok-entries.entries.items ≡ entries c.args.found.names = ap named c.in_ok-entries.ensures ∙ c.into_entries.ensures in
-    c.from_sorted.ensures ∙ ap from_sorted same ∙ same_entries_map _ _ (entries-from_sorted by_bytes (entries c.args.found.names) (entries_sorted c.args.found.names))
-
-pub from_sorted-requires-clause-masked : goal.from_sorted-requires-clause-masked
-from_sorted-requires-clause-masked c =
-    let same : named c.in_ok-entries.entries.items ≡ entries c.args.found.names = ap named c.in_ok-entries.ensures ∙ c.into_entries.ensures in
-    let whole : from_sorted (named c.in_ok-entries.entries.items) ≡ c.args.found.names = ap from_sorted same ∙ same_entries_map _ _ (entries-from_sorted by_bytes (entries c.args.found.names) (entries_sorted c.args.found.names)) in
-    subst AreMasked (sym whole) c.requires.masked
+    c.from_sorted.ensures ∙ ap from_sorted same ∙ whole c.args.found.names

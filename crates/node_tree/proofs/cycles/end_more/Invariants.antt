@@ -1,9 +1,0 @@
-use Rattle.std.proofs.Common.{◌≡◌, List, ◌++◌}
-use Rattle.std.specs.FinMap.{entries}
-use Rattle.address_table.specs.declared.nodes.Table.{Table}
-use Rattle.node_tree.specs.Named.{Name, named}
-use Rattle.node_tree.specs.Modules.{Ends}
-use Rattle.node_tree.proofs.cycles.end_more.Given as goal
-
-abbrev pub invariant-loop-name : goal.invariant-loop-name
-invariant-loop-name l = (done : List (Name × Table)) × (entries l.tables ≡ done ++ named l.name-iterator) × Ends l.tables l.ended
