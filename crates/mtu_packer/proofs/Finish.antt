@@ -14,7 +14,7 @@ use Rattle.transaction_codec.proofs.Longest.{longest_unique, reply_room_longest}
 use Rattle.mtu_packer.specs.declared.packed.Span.{Span}
 use Rattle.mtu_packer.specs.Cutting.{cut, piece_count}
 use Rattle.mtu_packer.specs.Packing.{requests_from, body_words, longest_reply, Fits, AreFull, AreReadable}
-use Rattle.mtu_packer.specs.Packed.{piece_at, pieces_at, places_in, places_from, Contents, IsPacked, HasRoom}
+use Rattle.mtu_packer.specs.Packed.{piece_at, pieces_at, places_in, places_from, Contents, IsPacked, FitsPackets}
 use Rattle.mtu_packer.specs.Progress.{Progress, FitsAlone, start, close, all_bodies, run}
 use Rattle.mtu_packer.specs.Span.{span_places}
 use Rattle.ipb_base.proofs.AllLemmas.{AllByRecursion-append, front_of_all, back_of_all, all_of_each}
@@ -36,21 +36,21 @@ two_words_each tid [] = omega arith
 two_words_each tid (op ∷ part) =
     omega (arith, two_words_each (tid + 1) part, some_words op, length-append (request_words (record { tid = tid; op = op })) (requests_words (requests_from (tid + 1) part)))
 
-readable : (payload tid : ℕ) (part : List Op) → AreWords (requests_words (requests_from tid part)) → AllByRecursion (FitsAlone payload) part → tid + length part ≤ 2 ^ 12 → AreRequests (requests_from tid part)
-readable payload tid [] words fit few = tt
-readable payload tid (op ∷ part) words fit few =
+part_readable : (payload tid : ℕ) (part : List Op) → AreWords (requests_words (requests_from tid part)) → AllByRecursion (FitsAlone payload) part → tid + length part ≤ 2 ^ 12 → AreRequests (requests_from tid part)
+part_readable payload tid [] words fit few = tt
+part_readable payload tid (op ∷ part) words fit few =
     let request : Request = record { tid = tid; op = op } in
     let rest = requests_words (requests_from (tid + 1) part) in
     let own = front_of_all (λ (n : ℕ). n < 2 ^ 32) (request_words request) rest words in (
       record { tid = omega arith; count = omega (arith, fit.0.count); words = own.1 },
-      readable payload (tid + 1) part (back_of_all (λ (n : ℕ). n < 2 ^ 32) (request_words request) rest words) fit.1 (omega arith),
+      part_readable payload (tid + 1) part (back_of_all (λ (n : ℕ). n < 2 ^ 32) (request_words request) rest words) fit.1 (omega arith),
     )
 
 all_readable : (payload : ℕ) (parts : List (List Op)) → payload ≤ 2243 → AllByRecursion AreWords (map body_words parts) → AllByRecursion (AllByRecursion (FitsAlone payload)) parts
     → AllByRecursion (Fits payload) parts → AreReadable parts
 all_readable payload [] high words alone fits = tt
 all_readable payload (part ∷ parts) high words alone fits = (
-  readable payload 0 part words.0 alone.0 (omega (arith, two_words_each 0 part, fits.0.request)),
+  part_readable payload 0 part words.0 alone.0 (omega (arith, two_words_each 0 part, fits.0.request)),
   all_readable payload parts high words.1 alone.1 fits.1,
 )
 
@@ -165,20 +165,20 @@ packed_operations ops payload (Err why) is = tt
 
 -- ---- the room
 
-room_of : (payload : ℕ) (part : List Op) → AreRequests (requests_from 0 part) → Fits payload part → AreWords (body_words part) → HasRoom payload (body_words part)
+room_of : (payload : ℕ) (part : List Op) → AreRequests (requests_from 0 part) → Fits payload part → AreWords (body_words part) → FitsPackets payload (body_words part)
 room_of payload part ranges fits words =
     let same = longest_unique (body_words part) (reply_room (body_words part)) (longest_reply part) (reply_room_longest (body_words part) words) (longest_reply_is_longest 0 part ranges) in
     record { request = fits.request; reply = omega (arith, fits.reply, same) }
 
 rooms_of : (payload : ℕ) (parts : List (List Op)) → AreReadable parts → AllByRecursion (Fits payload) parts → AllByRecursion AreWords (map body_words parts)
-    → AllByRecursion (HasRoom payload) (map body_words parts)
+    → AllByRecursion (FitsPackets payload) (map body_words parts)
 rooms_of payload [] ranges fits words = tt
 rooms_of payload (part ∷ parts) ranges fits words = (room_of payload part ranges.0 fits.0 words.0, rooms_of payload parts ranges.1 fits.1 words.1)
 
 pub packed_room : (ops : List Op) (payload : ℕ) (result : Result Contents NoMemory) → IfOk result (IsPacked ops payload) → IfOk result (λ packed. AllByRecursion AreWords packed.bodies)
-    → IfOk result (λ packed. AllByRecursion (HasRoom payload) packed.bodies)
+    → IfOk result (λ packed. AllByRecursion (FitsPackets payload) packed.bodies)
 packed_room ops payload (Ok contents) is words =
-    subst (AllByRecursion (HasRoom payload)) (sym is.bodies) (rooms_of payload is.parts is.readable is.packing.fits (subst (AllByRecursion AreWords) is.bodies words))
+    subst (AllByRecursion (FitsPackets payload)) (sym is.bodies) (rooms_of payload is.parts is.readable is.packing.fits (subst (AllByRecursion AreWords) is.bodies words))
 packed_room ops payload (Err why) is words = tt
 
 -- the three clauses of the last step, as one

@@ -39,6 +39,6 @@ pub record IsPacked (ops : List Op) (payload : ℕ) (contents : Contents) : Type
   pub places : flat_map (λ places. places) contents.pieces ≡ places_from 0 parts
 
 -- a body and the longest answer that a board can give to it fit packets of `payload` words, each with its packet header
-pub record HasRoom (payload : ℕ) (body : List ℕ) : Type 0 where
+pub record FitsPackets (payload : ℕ) (body : List ℕ) : Type 0 where
   pub request : length body + 1 ≤ payload
   pub reply : reply_room body + 1 ≤ payload

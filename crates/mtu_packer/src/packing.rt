@@ -1,7 +1,7 @@
 ghost use Rattle.std.specs.Prelude.{◌≡◌, ◌≤◌, ◌^◌, All, IfOk, length};
 ghost use Rattle.std.specs.List.{AllByRecursion, flat_map};
 ghost use Rattle.mtu_packer.specs.Cutting.{CanBeCut, cut};
-ghost use Rattle.mtu_packer.specs.Packed.{HasRoom, IsPacked};
+ghost use Rattle.mtu_packer.specs.Packed.{FitsPackets, IsPacked};
 
 use crate::packed::{Packed, Span};
 use crate::packer::Packer;
@@ -30,7 +30,7 @@ pub fn pack(alloc: Global, ops: &[Op], payload: u32) -> Result<Packed, NoMemory>
     ensures packed { IfOk result (IsPacked ops.now payload) }
     ensures operations { IfOk result (λ packed. length packed.pieces ≡ length ops.now) }
     // Each body and the longest answer to it fit packets of that size.
-    ensures room { IfOk result (λ packed. AllByRecursion (HasRoom payload) packed.bodies) }
+    ensures room { IfOk result (λ packed. AllByRecursion (FitsPackets payload) packed.bodies) }
 {
     let mut packer = Packer::new(alloc, payload);
     let mut spans = Vec::with_capacity(alloc, ops.len())?;

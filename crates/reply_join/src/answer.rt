@@ -22,7 +22,11 @@ pub enum Answer {
 }
 
 /// What one reply, which fits this operation, answers to it.
-pub(crate) fn answer_of(alloc: Global, op: &OpRef<'_>, reply: &FirstReply<'_>) -> Result<Answer, NoMemory>
+pub(crate) fn answer_of(
+    alloc: Global,
+    op: &OpRef<'_>,
+    reply: &FirstReply<'_>,
+) -> Result<Answer, NoMemory>
     requires { reply.now.kind ≡ op_kind (op_of op.now) }
     ensures { IfOk result (λ answer. answer ≡ of_joining.answer_of (reply_of reply.now)) }
 {
@@ -34,8 +38,6 @@ pub(crate) fn answer_of(alloc: Global, op: &OpRef<'_>, reply: &FirstReply<'_>) -
     }
     match *op {
         OpRef::Write { .. } | OpRef::WritePort { .. } => Ok(Answer::Done),
-        _ => Ok(Answer::Values(Words::from_vec(
-            reply.values.to_vec(alloc)?,
-        ))),
+        _ => Ok(Answer::Values(Words::from_vec(reply.values.to_vec(alloc)?))),
     }
 }

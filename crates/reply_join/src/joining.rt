@@ -1,4 +1,4 @@
-ghost use Rattle.std.specs.Prelude.{◌≡◌, ◌≢◌, ◌⊎◌, ◌<◌, ◌≤◌, ◌++◌, List, [], ◌∷◌, length, IfOk, IfErr, MatchResult};
+ghost use Rattle.std.specs.Prelude.{◌≡◌, ◌≢◌, ◌⊎◌, ◌<◌, ◌≤◌, ◌++◌, List, [], length, IfOk, IfErr, MatchResult};
 ghost use Rattle.transaction_codec.specs.First.{request_of, reply_of};
 ghost use Rattle.transaction_codec.specs.Request.{IsRequest, request_words};
 ghost use Rattle.transaction_codec.specs.Reply.{reply_words};
@@ -41,11 +41,11 @@ pub fn join_reply(alloc: Global, body: &[u32], reply: &[u32]) -> Result<Vec<Answ
                 asked = skip_behind_fault(&first, request.rest, &mut answers)?;
                 rest = first.rest;
             }
-            Err(why) => return Err(garbled(reply, rest, why)),
+            Err(why) => return Err(refusal_at(reply, rest, why)),
         }
     }
     if !rest.is_empty() {
-        return Err(garbled(reply, rest, NoReply::Header));
+        return Err(refusal_at(reply, rest, NoReply::Header));
     }
     Ok(answers)
 }
@@ -135,7 +135,7 @@ fn skip(requests: &[u32], answers: &mut Vec<Answer>) -> Result<(), NoMemory>
 }
 
 /// The refusal of a reply where no reply stands at the front of what is left of it.
-fn garbled(reply: &[u32], rest: &[u32], why: NoReply) -> JoinRefusal
+fn refusal_at(reply: &[u32], rest: &[u32], why: NoReply) -> JoinRefusal
     requires { length rest.now ≤ length reply.now }
     ensures { result ≡ JoinRefusal.Garbled (fault_place why (length reply.now) (length rest.now)) }
 {

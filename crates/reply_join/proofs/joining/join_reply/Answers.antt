@@ -24,23 +24,23 @@ answer_of-requires c = kind_is (request_of c.next_request-request.result) (reply
 pub returns-in-Err-clause-refused : goal.returns-in-Err-clause-refused
 returns-in-Err-clause-refused c =
     let request = c.next_request-request in
-    rw c.garbled.ensures (none_at c.args.body.now c.args.reply.now c.loop-asked.asked.now c.loop-asked.rest.now request.result.rest.now c.in-Err.why c.loop-asked.answers.items
+    rw c.refusal_at.ensures (none_at c.args.body.now c.args.reply.now c.loop-asked.asked.now c.loop-asked.rest.now request.result.rest.now c.in-Err.why c.loop-asked.answers.items
     (request_of request.result) c.loop-asked.invariant request.ensures.is request.ensures.parts request.ensures.rest c.in-Err.ensures.none)
 
 pub returns-in-Err-clause-only : goal.returns-in-Err-clause-only
 returns-in-Err-clause-only c is =
-    let garbled = rw c.garbled.ensures at (returns-in-Err-clause-refused c) in
+    let garbled = rw c.refusal_at.ensures at (returns-in-Err-clause-refused c) in
     absurd (garbled.is_none is)
 
 pub returns-then-not-is_empty-clause-refused : goal.returns-then-not-is_empty-clause-refused
 returns-then-not-is_empty-clause-refused c =
     let none : length c.loop-asked.asked.now ≡ 0 = grind (arith, nat_tests) in
     let some : 0 < length c.loop-asked.rest.now = grind (arith, nat_tests) in
-    rw c.garbled-then-not-is_empty.ensures (words_left c.args.body.now c.args.reply.now c.loop-asked.asked.now c.loop-asked.rest.now c.loop-asked.answers.items c.loop-asked.invariant none some)
+    rw c.refusal_at-then-not-is_empty.ensures (words_left c.args.body.now c.args.reply.now c.loop-asked.asked.now c.loop-asked.rest.now c.loop-asked.answers.items c.loop-asked.invariant none some)
 
 pub returns-then-not-is_empty-clause-only : goal.returns-then-not-is_empty-clause-only
 returns-then-not-is_empty-clause-only c is =
-    let garbled = rw c.garbled-then-not-is_empty.ensures at (returns-then-not-is_empty-clause-refused c) in
+    let garbled = rw c.refusal_at-then-not-is_empty.ensures at (returns-then-not-is_empty-clause-refused c) in
     absurd (garbled.is_none is)
 
 pub returns-clause-joined : goal.returns-clause-joined
