@@ -163,7 +163,7 @@ nothing_given = record { requests = []; rest = []; replies = []; ranges = tt; pa
 pub longest_nothing : IsLongestAnswer [] 0
 longest_nothing = record { longest = λ answer can. no_more [] 0 nothing_bad refl answer can; answer = []; given = nothing_given; reached = refl }
 
-bad_is_reply : (word : ℕ) → IsReply (bad_header_reply word)
+pub bad_is_reply : (word : ℕ) → IsReply (bad_header_reply word)
 bad_is_reply word = record { tid = omega arith; count = lit< tt; form = inr (inr (refl, refl, refl, refl)); values = tt }
 
 longest_bad : (word : ℕ) (words : List ℕ) (why : Why) → request_at (word ∷ words) ≡ Err why → IsLongestAnswer (word ∷ words) 1
