@@ -44,6 +44,7 @@ pub fn join_reply(alloc: Global, body: &[u32], reply: &[u32]) -> Result<Vec<Answ
             Err(why) => return Err(refusal_at(reply, rest, why)),
         }
     }
+    // No request is left that this word could answer.
     if !rest.is_empty() {
         return Err(refusal_at(reply, rest, NoReply::Header));
     }
@@ -68,7 +69,7 @@ fn next_request(body: &[u32]) -> FirstRequest<'_>
 /// Why no reply to a request stands at the front of words.
 #[derive(Clone, Copy, Debug)]
 pub(crate) enum NoReply {
-    /// The first word is no header of a reply to it.
+    /// The first word is no header of a reply to it, or no request is left.
     Header,
     /// The words end before the reply does.
     TooShort,
