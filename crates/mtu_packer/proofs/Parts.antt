@@ -5,46 +5,41 @@ use Rattle.std.proofs.lemmas.Grind.{flat_map-append}
 use Rattle.std.proofs.lemmas.List.Sums.{sum_by-append}
 use Rattle.std.proofs.lemmas.List.FromFn.{map-range_with_len_more}
 use Rattle.std.proofs.lemmas.Bool.{cases_eq}
-use Rattle.std.proofs.lemmas.List.{length-map, map-append}
+use Rattle.std.proofs.lemmas.List.{length-map, map-append, nil_from_length}
 use Rattle.transaction_codec.specs.declared.request.Op.{Op}
 use Rattle.transaction_codec.specs.declared.request.Request.{Request}
 use Rattle.transaction_codec.specs.Request.{AreRequests, op_words, request_words, requests_words}
 use Rattle.transaction_codec.specs.Answer.{values_done, IsLongestAnswer}
 use Rattle.transaction_codec.proofs.Longest.{longest_step, longest_nothing}
-use Rattle.mtu_packer.specs.declared.packed.Piece.{Piece}
-use Rattle.mtu_packer.specs.Packing.{numbered, body_words, longest_reply, Fits, AreFull}
+use Rattle.mtu_packer.specs.Packing.{requests_from, body_words, longest_reply, Fits, AreFull}
 use Rattle.mtu_packer.specs.Packed.{places_in, places_from}
-use Rattle.mtu_packer.specs.Progress.{Progress, FitsAlone, start, has_room, added, closed, step, run}
-use Rattle.mtu_packer.proofs.Lists.{AllByRecursion-append}
+use Rattle.mtu_packer.specs.Progress.{Progress, FitsAlone, start, has_room, add, close, step, run}
+use Rattle.ipb_base.proofs.AllLemmas.{AllByRecursion-append}
+use Rattle.mtu_packer.proofs.Places.{place_at}
 use Rattle.mtu_packer.proofs.Steps.{Room, room, has_room_from, step-payload}
 
-numbered-push : (tid : ℕ) (part : List Op) (op : Op) → numbered tid (part ++ op ∷ []) ≡ numbered tid part ++ record { tid = tid + length part; op = op } ∷ []
-numbered-push tid [] op = ap (λ n. record { tid = n; op = op } ∷ []) (omega arith)
-numbered-push tid (first ∷ part) op = ap (λ rest. record { tid = tid; op = first } ∷ rest)
-    (numbered-push (tid + 1) part op ∙ ap (λ n. numbered (tid + 1) part ++ record { tid = n; op = op } ∷ []) (omega arith))
+requests_from-push : (tid : ℕ) (part : List Op) (op : Op) → requests_from tid (part ++ op ∷ []) ≡ requests_from tid part ++ record { tid = tid + length part; op = op } ∷ []
+requests_from-push tid [] op = ap (λ n. record { tid = n; op = op } ∷ []) (omega arith)
+requests_from-push tid (first ∷ part) op = ap (λ rest. record { tid = tid; op = first } ∷ rest)
+    (requests_from-push (tid + 1) part op ∙ ap (λ n. requests_from (tid + 1) part ++ record { tid = n; op = op } ∷ []) (omega arith))
 
 pub body_words-push : (part : List Op) (op : Op) → body_words (part ++ op ∷ []) ≡ body_words part ++ request_words (record { tid = length part; op = op })
 body_words-push part op =
-    ap requests_words (numbered-push 0 part op)
-    ∙ flat_map-append request_words (numbered 0 part) (record { tid = 0 + length part; op = op } ∷ [])
+    ap requests_words (requests_from-push 0 part op)
+    ∙ flat_map-append request_words (requests_from 0 part) (record { tid = 0 + length part; op = op } ∷ [])
     ∙ ap (λ words. body_words part ++ words) (append-nil (request_words (record { tid = 0 + length part; op = op })) ∙ ap (λ n. request_words (record { tid = n; op = op })) (omega arith))
 
 pub longest_reply-push : (part : List Op) (op : Op) → longest_reply (part ++ op ∷ []) ≡ longest_reply part + values_done op + 1
 longest_reply-push part op = omega (arith, sum_by-append (λ o. 1 + values_done o) part (op ∷ []))
 
 -- the longest reply to a body is the longest answer that a board can give to it
-pub nothing : (part : List Op) → length part ≡ 0 → part ≡ []
-nothing [] none = refl
-nothing (op ∷ part) none = absurd (omega arith)
-
--- the longest reply to a body is the longest answer that a board can give to it
-pub longest_reply_is_longest : (tid : ℕ) (part : List Op) → AreRequests (numbered tid part) → IsLongestAnswer (requests_words (numbered tid part)) (longest_reply part)
+pub longest_reply_is_longest : (tid : ℕ) (part : List Op) → AreRequests (requests_from tid part) → IsLongestAnswer (requests_words (requests_from tid part)) (longest_reply part)
 longest_reply_is_longest tid [] ranges = longest_nothing
 longest_reply_is_longest tid (op ∷ part) ranges =
     let request : Request = record { tid = tid; op = op } in
     let longer : 1 + values_done op + longest_reply part ≡ longest_reply (op ∷ part) = omega (arith, sum_by-append (λ o. 1 + values_done o) (op ∷ []) part) in
-    subst (IsLongestAnswer (requests_words (numbered tid (op ∷ part)))) longer
-    (longest_step request (requests_words (numbered tid (op ∷ part))) (requests_words (numbered (tid + 1) part)) (longest_reply part) ranges.0 refl (longest_reply_is_longest (tid + 1) part ranges.1))
+    subst (IsLongestAnswer (requests_words (requests_from tid (op ∷ part)))) longer
+    (longest_step request (requests_words (requests_from tid (op ∷ part))) (requests_words (requests_from (tid + 1) part)) (longest_reply part) ranges.0 refl (longest_reply_is_longest (tid + 1) part ranges.1))
 
 places_from-push : (body : ℕ) (parts : List (List Op)) (part : List Op) → places_from body (parts ++ part ∷ []) ≡ places_from body parts ++ places_in (body + length parts) (length part)
 places_from-push body [] part = append-nil (places_in body (length part)) ∙ ap (λ n. places_in n (length part)) (omega arith)
@@ -109,9 +104,6 @@ room_where_fits progress parts part op is fits =
       reply = omega (arith, longest_reply-push part op, is.reply, fits.reply);
     })
 
-abbrev place_at : ℕ → ℕ → Piece
-place_at body index = record { body = body; index = index }
-
 same_place : (progress : Progress) (parts : List (List Op)) (part : List Op) → Represents progress parts part
     → place_at (length progress.bodies) progress.requests ≡ place_at (length parts) (length part)
 same_place progress parts part is =
@@ -121,8 +113,8 @@ full_first : (payload : ℕ) (parts : List (List Op)) (part : List Op) → lengt
 full_first payload [] part none = tt
 full_first payload (first ∷ parts) part none = absurd (omega arith)
 
-added_represents : (progress : Progress) (parts : List (List Op)) (part : List Op) (op : Op) → Represents progress parts part → Represents (added progress op) parts (part ++ op ∷ [])
-added_represents progress parts part op is =
+add_represents : (progress : Progress) (parts : List (List Op)) (part : List Op) (op : Op) → Represents progress parts part → Represents (add progress op) parts (part ++ op ∷ [])
+add_represents progress parts part op is =
     let longer : length part + 1 ≡ length (part ++ op ∷ []) = omega (arith, length-append part (op ∷ [])) in
     record {
       bodies = is.bodies;
@@ -139,8 +131,8 @@ added_represents progress parts part op is =
           );
     }
 
-added_holds : (progress : Progress) (taken : List Op) (op : Op) → has_room progress op ≡ true → Holds progress taken → Holds (added progress op) (taken ++ op ∷ [])
-added_holds progress taken op test holds =
+add_holds : (progress : Progress) (taken : List Op) (op : Op) → has_room progress op ≡ true → Holds progress taken → Holds (add progress op) (taken ++ op ∷ [])
+add_holds progress taken op test holds =
     let parts = holds.parts in
     let part = holds.part in
     let is = holds.represents in
@@ -148,7 +140,7 @@ added_holds progress taken op test holds =
     record {
       parts = parts;
       part = part ++ op ∷ [];
-      represents = added_represents progress parts part op is;
+      represents = add_represents progress parts part op is;
       is_open = record {
         filled = opened.filled;
         fits = opened.fits;
@@ -162,8 +154,8 @@ added_holds progress taken op test holds =
       whole = sym (append_assoc (flat_map (λ xs. xs) parts) part (op ∷ [])) ∙ ap (λ xs. xs ++ op ∷ []) holds.whole;
     }
 
-pub closed_represents : (progress : Progress) (parts : List (List Op)) (part : List Op) → Represents progress parts part → Represents (closed progress) (parts ++ part ∷ []) []
-closed_represents progress parts part is = record {
+pub close_represents : (progress : Progress) (parts : List (List Op)) (part : List Op) → Represents progress parts part → Represents (close progress) (parts ++ part ∷ []) []
+close_represents progress parts part is = record {
   bodies = ap (λ words. progress.bodies ++ words ∷ []) is.open_body ∙ ap (λ bodies. bodies ++ body_words part ∷ []) is.bodies ∙ sym (map-append body_words parts (part ∷ []));
   open_body = refl;
   requests = refl;
@@ -171,8 +163,8 @@ closed_represents progress parts part is = record {
   places = is.places ∙ sym (places_from-push 0 parts part ∙ ap (λ n. places_from 0 parts ++ places_in n (length part)) (omega arith)) ∙ sym (append-nil (places_from 0 (parts ++ part ∷ [])));
 }
 
-pub closed_whole : (parts : List (List Op)) (part : List Op) → flat_map (λ xs. xs) (parts ++ part ∷ []) ≡ flat_map (λ xs. xs) parts ++ part
-closed_whole parts part = flat_map-append (λ xs. xs) parts (part ∷ []) ∙ ap (λ xs. flat_map (λ ys. ys) parts ++ xs) (append-nil part)
+pub close_whole : (parts : List (List Op)) (part : List Op) → flat_map (λ xs. xs) (parts ++ part ∷ []) ≡ flat_map (λ xs. xs) parts ++ part
+close_whole parts part = flat_map-append (λ xs. xs) parts (part ∷ []) ∙ ap (λ xs. flat_map (λ ys. ys) parts ++ xs) (append-nil part)
 
 fits_alone : (payload : ℕ) (op : Op) → FitsAlone payload op → Fits payload (op ∷ [])
 fits_alone payload op alone = record {
@@ -184,14 +176,14 @@ fits_alone payload op alone = record {
 open_begun : (progress : Progress) (parts : List (List Op)) (part : List Op) (op : Op) → Represents progress parts part → FitsAlone progress.payload op → has_room progress op ≡ false → 0 < length part
 open_begun progress parts part op is alone test = elim (cases_eq (length part) 0) [
   | inl none ↦ absurd (
-      let first : part ≡ [] = nothing part none in
+      let first : part ≡ [] = nil_from_length part none in
       let room : has_room progress op ≡ true = room_where_fits progress parts part op is (subst (λ xs. Fits progress.payload (xs ++ op ∷ [])) (sym first) (fits_alone progress.payload op alone)) in
       cc
       )
   | inr some ↦ omega arith
 ]
 
-turned_holds : (progress : Progress) (taken : List Op) (op : Op) → FitsAlone progress.payload op → has_room progress op ≡ false → Holds progress taken → Holds (added (closed progress) op) (taken ++ op ∷ [])
+turned_holds : (progress : Progress) (taken : List Op) (op : Op) → FitsAlone progress.payload op → has_room progress op ≡ false → Holds progress taken → Holds (add (close progress) op) (taken ++ op ∷ [])
 turned_holds progress taken op alone test holds =
     let parts = holds.parts in
     let part = holds.part in
@@ -201,7 +193,7 @@ turned_holds progress taken op alone test holds =
     record {
       parts = parts ++ part ∷ [];
       part = op ∷ [];
-      represents = added_represents (closed progress) (parts ++ part ∷ []) [] op (closed_represents progress parts part is);
+      represents = add_represents (close progress) (parts ++ part ∷ []) [] op (close_represents progress parts part is);
       is_open = record {
         filled = AllByRecursion-append (λ xs. 0 < length xs) parts (part ∷ []) opened.filled (open_begun progress parts part op is alone test, tt);
         fits = AllByRecursion-append (Fits progress.payload) parts (part ∷ []) opened.fits (opened.last, tt);
@@ -209,13 +201,13 @@ turned_holds progress taken op alone test holds =
         full = full_more progress.payload parts part (op ∷ []) opened.full over;
         begun = λ none. absurd (omega arith);
       };
-      whole = ap (λ xs. xs ++ op ∷ []) (closed_whole parts part ∙ holds.whole);
+      whole = ap (λ xs. xs ++ op ∷ []) (close_whole parts part ∙ holds.whole);
     }
 
 pub step_holds : (progress : Progress) (taken : List Op) (op : Op) → FitsAlone progress.payload op → Holds progress taken → Holds (step progress op) (taken ++ op ∷ [])
 step_holds progress taken op alone holds =
-    elim (has_room progress op) as (λ b. has_room progress op ≡ b → Holds (if b then added progress op else added (closed progress) op) (taken ++ op ∷ [])) [
-      | true ↦ λ test. added_holds progress taken op test holds
+    elim (has_room progress op) as (λ b. has_room progress op ≡ b → Holds (if b then add progress op else add (close progress) op) (taken ++ op ∷ [])) [
+      | true ↦ λ test. add_holds progress taken op test holds
       | false ↦ λ test. turned_holds progress taken op alone test holds
     ] refl
 

@@ -2,7 +2,7 @@
 use Rattle.std.proofs.Common.{◌≡◌, ℕ, ◌+◌, ◌++◌, List, [], ◌∷◌, length, map, Some, refl, sym, ap, ◌∙◌, arith, append_assoc, length-append, get_or, slice_get}
 use Rattle.std.specs.List.{flat_map, range_with_len}
 use Rattle.std.specs.Option.{option_and_then}
-use Rattle.std.proofs.lemmas.List.{map-append}
+use Rattle.std.proofs.lemmas.List.{length-map, map-append}
 use Rattle.std.proofs.lemmas.Option.{slice_get-get_or}
 use Rattle.transaction_codec.specs.declared.request.Op.{Op}
 use Rattle.mtu_packer.specs.declared.packed.Piece.{Piece}
@@ -18,7 +18,7 @@ get_at front x back n here =
     slice_get-get_or (front ++ x ∷ back) n x (omega (arith, length-append front (x ∷ back), here))
     ∙ ap (λ k. Some (get_or (front ++ x ∷ back) k x)) here ∙ ap (λ y. Some y) (at_seam front x back)
 
-abbrev place_at : ℕ → ℕ → Piece
+abbrev pub place_at : ℕ → ℕ → Piece
 place_at body index = record { body = body; index = index }
 
 part_pieces : (parts : List (List Op)) (body : ℕ) (front back part : List Op) (from : ℕ) → slice_get parts body ≡ Some part → part ≡ front ++ back → from ≡ length front
@@ -42,3 +42,8 @@ pieces_from parts front (part ∷ back) body split long =
 
 pub pieces_stand : (parts : List (List Op)) → map (piece_at parts) (places_from 0 parts) ≡ map (λ op. Some op) (flat_map (λ part. part) parts)
 pieces_stand parts = pieces_from parts [] parts 0 refl refl
+
+-- there are as many places as pieces
+pub length-places_from : (parts : List (List Op)) → length (places_from 0 parts) ≡ length (flat_map (λ part. part) parts)
+length-places_from parts =
+    sym (length-map (places_from 0 parts) (piece_at parts)) ∙ ap length (pieces_stand parts) ∙ length-map (flat_map (λ part. part) parts) (λ op. Some op)

@@ -6,13 +6,13 @@ use Rattle.std.specs.List.{range_with_len}
 use Rattle.std.proofs.lemmas.List.FromFn.{map-range_with_len_more}
 use Rattle.std.proofs.lemmas.List.Sums.{fold_push}
 use Rattle.ipb_base.specs.Word.{AreWords}
-use Rattle.mtu_packer.proofs.Lists.{AllByRecursion-append}
+use Rattle.ipb_base.proofs.AllLemmas.{AllByRecursion-append}
 use Rattle.transaction_codec.specs.declared.request.Op.{Op}
 use Rattle.transaction_codec.specs.declared.request.Op.TheVariants.{Read, ReadPort, Write, WritePort, RmwBits, RmwSum}
 use Rattle.transaction_codec.specs.Request.{op_words, request_words}
 use Rattle.transaction_codec.specs.Answer.{values_done}
 use Rattle.mtu_packer.specs.Cutting.{piece}
-use Rattle.mtu_packer.specs.Progress.{Progress, IsWithin, FitsAlone, has_room, added, closed, step, run}
+use Rattle.mtu_packer.specs.Progress.{Progress, IsWithin, FitsAlone, has_room, add, close, step, run}
 
 -- the test of the room, as bounds
 pub record Room (progress : Progress) (op : Op) : Type 0 where
@@ -47,11 +47,8 @@ begun_without_room progress op within alone test = elim (cases_eq progress.reque
   | inr some ↦ omega arith
 ]
 
-pub room_after_closing : (progress : Progress) (op : Op) → FitsAlone progress.payload op → has_room (closed progress) op ≡ true
-room_after_closing progress op alone = room_for_one (closed progress) op alone refl refl
-
-pub added_within : (progress : Progress) (op : Op) → IsWithin progress → length progress.places < 2 ^ 31 → has_room progress op ≡ true → IsWithin (added progress op)
-added_within progress op within few test =
+pub add_within : (progress : Progress) (op : Op) → IsWithin progress → length progress.places < 2 ^ 31 → has_room progress op ≡ true → IsWithin (add progress op)
+add_within progress op within few test =
     let bounds = room progress op test in
     let some : 1 ≤ length (op_words op) = some_words op in
     let words = length-append progress.open_body (request_words (record { tid = progress.requests; op = op })) in
@@ -68,8 +65,8 @@ added_within progress op within few test =
       words = within.words;
     }
 
-pub closed_within : (progress : Progress) → IsWithin progress → 1 ≤ progress.requests → AreWords progress.open_body → IsWithin (closed progress)
-closed_within progress within some words =
+pub close_within : (progress : Progress) → IsWithin progress → 1 ≤ progress.requests → AreWords progress.open_body → IsWithin (close progress)
+close_within progress within some words =
     let bodies = length-append progress.bodies (progress.open_body ∷ []) in
     record {
       payload_low = within.payload_low;
@@ -84,12 +81,12 @@ closed_within progress within some words =
     }
 
 pub step-payload : (progress : Progress) (op : Op) → (step progress op).payload ≡ progress.payload
-step-payload progress op = elim (has_room progress op) as (λ b. (if b then added progress op else added (closed progress) op).payload ≡ progress.payload) [ true ↦ refl | false ↦ refl ]
+step-payload progress op = elim (has_room progress op) as (λ b. (if b then add progress op else add (close progress) op).payload ≡ progress.payload) [ true ↦ refl | false ↦ refl ]
 
 pub step-places : (progress : Progress) (op : Op) → length (step progress op).places ≡ length progress.places + 1
-step-places progress op = elim (has_room progress op) as (λ b. length (if b then added progress op else added (closed progress) op).places ≡ length progress.places + 1) [
+step-places progress op = elim (has_room progress op) as (λ b. length (if b then add progress op else add (close progress) op).places ≡ length progress.places + 1) [
   | true ↦ length-append progress.places (record { body = length progress.bodies; index = progress.requests } ∷ [])
-  | false ↦ length-append progress.places (record { body = length (closed progress).bodies; index = 0 } ∷ [])
+  | false ↦ length-append progress.places (record { body = length (close progress).bodies; index = 0 } ∷ [])
 ]
 
 pub run-payload : (progress : Progress) (pieces : List Op) → (run progress pieces).payload ≡ progress.payload

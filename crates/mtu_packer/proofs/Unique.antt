@@ -8,20 +8,20 @@ use Rattle.transaction_codec.specs.declared.request.Op.{Op}
 use Rattle.transaction_codec.specs.Request.{request_words, requests_words}
 use Rattle.transaction_codec.specs.Answer.{values_done}
 use Rattle.mtu_packer.specs.declared.packed.Piece.{Piece}
-use Rattle.mtu_packer.specs.Cutting.{piece_count}
-use Rattle.mtu_packer.specs.Packing.{numbered, body_words, Fits, AreFull, IsPacking}
-use Rattle.mtu_packer.specs.Packed.{places_from, dealt, Contents, IsPacked}
+use Rattle.mtu_packer.specs.Packing.{requests_from, body_words, Fits, AreFull, IsPacking}
+use Rattle.mtu_packer.specs.Packed.{piece_at, pieces_at, places_from, Contents, IsPacked}
+use Rattle.mtu_packer.proofs.Dealing.{one_dealing}
 
 abbrev joined : List (List Op) → List Op
 joined parts = flat_map (λ part. part) parts
 
 -- ---- a body that fits fits when it is cut short
 
-words_grow : (tid : ℕ) (front back : List Op) → length (requests_words (numbered tid front)) ≤ length (requests_words (numbered tid (front ++ back)))
+words_grow : (tid : ℕ) (front back : List Op) → length (requests_words (requests_from tid front)) ≤ length (requests_words (requests_from tid (front ++ back)))
 words_grow tid [] back = omega arith
 words_grow tid (op ∷ front) back =
     let request = request_words (record { tid = tid; op = op }) in
-    omega (arith, words_grow (tid + 1) front back, length-append request (requests_words (numbered (tid + 1) front)), length-append request (requests_words (numbered (tid + 1) (front ++ back))))
+    omega (arith, words_grow (tid + 1) front back, length-append request (requests_words (requests_from (tid + 1) front)), length-append request (requests_words (requests_from (tid + 1) (front ++ back))))
 
 front_fits : (payload : ℕ) (front back : List Op) → Fits payload (front ++ back) → Fits payload front
 front_fits payload front back fits = record {
@@ -122,5 +122,6 @@ pub packed_unique : (ops : List Op) (payload : ℕ) (one other : Contents) → I
 packed_unique ops payload one other is has =
     let same = packing_unique ops payload is.parts has.parts is.packing has.packing in
     let bodies : one.bodies ≡ other.bodies = is.bodies ∙ ap (map body_words) same ∙ sym has.bodies in
-    let pieces : one.pieces ≡ other.pieces = is.pieces ∙ ap (λ parts. dealt (map (piece_count payload) ops) (places_from 0 parts)) same ∙ sym has.pieces in
-    same_contents one other bodies pieces
+    let seen : map (pieces_at is.parts) one.pieces ≡ map (pieces_at has.parts) other.pieces = is.pieces ∙ sym has.pieces in
+    let joined : flat_map (λ places. places) one.pieces ≡ flat_map (λ places. places) other.pieces = is.places ∙ ap (places_from 0) same ∙ sym has.places in
+    same_contents one other bodies (one_dealing (piece_at is.parts) (piece_at has.parts) one.pieces other.pieces seen joined)

@@ -1,18 +1,17 @@
 -- All operations packed, one after the other.
-use Rattle.std.proofs.Common.{◌≡◌, ℕ, ◌+◌, suc, ◌<◌, ◌≤◌, ◌++◌, List, [], ◌∷◌, length, map, take, drop, get_or, refl, sym, subst, ap, ◌∙◌, arith, length-append, append_assoc, append-nil, length-drop, drop-cons}
+use Rattle.std.proofs.Common.{◌≡◌, ℕ, ◌+◌, suc, ◌<◌, ◌≤◌, ◌++◌, List, [], ◌∷◌, length, map, take, drop, get_or, refl, sym, subst, ap, ◌∙◌, arith, length-append, append_assoc, append-nil, drop-cons}
 use Rattle.std.specs.List.{flat_map}
-use Rattle.std.proofs.lemmas.List.{drop-drop}
+use Rattle.std.proofs.lemmas.List.{drop-drop, drop_all}
 use Rattle.std.proofs.lemmas.List.Sums.{fold-append}
 use Rattle.transaction_codec.specs.declared.request.Op.{Op}
 use Rattle.mtu_packer.specs.declared.packed.Piece.{Piece}
 use Rattle.mtu_packer.specs.declared.packed.Span.{Span}
 use Rattle.mtu_packer.specs.Cutting.{cut, piece_count}
-use Rattle.mtu_packer.specs.Packed.{dealt}
 use Rattle.mtu_packer.specs.Progress.{Progress, IsWithin, start, step, run}
 use Rattle.mtu_packer.specs.Span.{span_places, AreWithin, spans_from}
 use Rattle.mtu_packer.proofs.Steps.{run-payload, run-places}
 use Rattle.mtu_packer.proofs.Pieces.{length-cut}
-use Rattle.mtu_packer.proofs.Parts.{nothing}
+use Rattle.mtu_packer.proofs.Dealing.{deal}
 
 -- ---- the spans of operations
 
@@ -23,11 +22,11 @@ spans_within payload (op ∷ ops) from total fits =
     let own = length-cut payload op in
     ((omega arith, omega (arith, parts, own)), spans_within payload ops (from + piece_count payload op) total (omega (arith, parts, own)))
 
-pub places-dealt : (places : List Piece) (from : ℕ) (counts : List ℕ) → map (span_places places) (spans_from from counts) ≡ dealt counts (drop from places)
-places-dealt places from [] = refl
-places-dealt places from (count ∷ counts) =
+pub spans_places : (places : List Piece) (from : ℕ) (counts : List ℕ) → map (span_places places) (spans_from from counts) ≡ deal counts (drop from places)
+spans_places places from [] = refl
+spans_places places from (count ∷ counts) =
     ap (λ n. take n (drop from places) ∷ map (span_places places) (spans_from (from + count) counts)) (omega arith)
-    ∙ ap (λ rest. take count (drop from places) ∷ rest) (places-dealt places (from + count) counts ∙ ap (dealt counts) (sym (drop-drop count from places)))
+    ∙ ap (λ rest. take count (drop from places) ∷ rest) (spans_places places (from + count) counts ∙ ap (deal counts) (sym (drop-drop count from places)))
 
 -- ---- the loop over the operations
 
@@ -75,12 +74,9 @@ pub record Over (ops : List Op) (payload : ℕ) (progress : Progress) (spans : L
   pub spanned : spans ≡ spans_from 0 (map (piece_count payload) ops)
   pub places : length progress.places ≡ length (flat_map (cut payload) ops)
 
-drop_past : (ops : List Op) (done : ℕ) → length ops ≤ done → drop done ops ≡ []
-drop_past ops done past = nothing (drop done ops) (omega (arith, length-drop done ops))
-
 pub underway_over : (ops : List Op) (payload done : ℕ) (progress : Progress) (spans : List Span) (next : ℕ) → Underway ops payload done progress spans next → length ops ≤ done → Over ops payload progress spans
 underway_over ops payload done progress spans next is past =
-    let none = drop_past ops done past in
+    let none = drop_all done ops past in
     record {
       taken = ap (λ xs. run progress (flat_map (cut payload) xs)) (sym none) ∙ is.taken;
       spanned = sym (append-nil spans) ∙ ap (λ xs. spans ++ spans_from next (map (piece_count payload) xs)) (sym none) ∙ is.spanned;

@@ -5,15 +5,17 @@ use Rattle.std.specs.Int.{div_ceil}
 use Rattle.std.specs.List.{range_with_len}
 use Rattle.transaction_codec.specs.declared.request.Op.{Op}
 use Rattle.transaction_codec.specs.declared.request.Op.TheVariants.{Read, ReadPort, Write, WritePort, RmwBits, RmwSum}
+use Rattle.transaction_codec.specs.declared.header_word.TheConstants.{MAX_COUNT}
 use Rattle.transaction_codec.specs.Request.{op_count}
+use Rattle.mtu_packer.specs.declared.cutting.TheConstants.{HEADERS, ADDRESS}
 
 -- The most words of one piece. The words field of a header ends at 255. The reply to a read has a packet header and a
 -- header before its words, and the request of a write has an address too.
 abbrev pub piece_limit : ℕ → Op → ℕ
-piece_limit payload (Read base count) = min 255 (payload - 2)
-piece_limit payload (ReadPort base count) = min 255 (payload - 2)
-piece_limit payload (Write base words) = min 255 (payload - 3)
-piece_limit payload (WritePort base words) = min 255 (payload - 3)
+piece_limit payload (Read base count) = min MAX_COUNT (payload - HEADERS)
+piece_limit payload (ReadPort base count) = min MAX_COUNT (payload - HEADERS)
+piece_limit payload (Write base words) = min MAX_COUNT (payload - HEADERS - ADDRESS)
+piece_limit payload (WritePort base words) = min MAX_COUNT (payload - HEADERS - ADDRESS)
 piece_limit payload (RmwBits base and_term or_term) = 1
 piece_limit payload (RmwSum base addend) = 1
 
@@ -25,21 +27,12 @@ piece_offset payload op k = k * piece_limit payload op
 abbrev pub piece_length : ℕ → Op → ℕ → ℕ
 piece_length payload op k = min (piece_limit payload op) (op_count op - piece_offset payload op k)
 
--- the address of a part that skips `offset` words: it goes on, but for a port
-abbrev pub part_address : Op → ℕ → ℕ
-part_address (Read base count) offset = base + offset
-part_address (ReadPort base count) offset = base
-part_address (Write base words) offset = base + offset
-part_address (WritePort base words) offset = base
-part_address (RmwBits base and_term or_term) offset = base
-part_address (RmwSum base addend) offset = base
-
--- the part of an operation that skips `offset` words and has `count` words
+-- the part of an operation that skips `offset` words and has `count` words: its address goes on, but for a port
 abbrev pub part_of : Op → ℕ → ℕ → Op
-part_of (Read base all) offset count = Read (part_address (Read base all) offset) count
-part_of (ReadPort base all) offset count = ReadPort (part_address (ReadPort base all) offset) count
-part_of (Write base words) offset count = Write (part_address (Write base words) offset) (take count (drop offset words))
-part_of (WritePort base words) offset count = WritePort (part_address (WritePort base words) offset) (take count (drop offset words))
+part_of (Read base all) offset count = Read (base + offset) count
+part_of (ReadPort base all) offset count = ReadPort base count
+part_of (Write base words) offset count = Write (base + offset) (take count (drop offset words))
+part_of (WritePort base words) offset count = WritePort base (take count (drop offset words))
 part_of (RmwBits base and_term or_term) offset count = RmwBits base and_term or_term
 part_of (RmwSum base addend) offset count = RmwSum base addend
 

@@ -1,10 +1,11 @@
--- What packing answers: the bodies as words, and for each operation where its pieces stand.
-use Rattle.std.specs.Prelude.{◌≡◌, ℕ, ◌+◌, List, [], ◌∷◌, ◌++◌, map, length, take, drop, Option, option_and_then, slice_get}
-use Rattle.std.specs.List.{range_with_len}
+-- What packing answers: the bodies as words, and for each operation where its pieces stand. Profile.
+use Rattle.std.specs.Prelude.{◌≡◌, ℕ, ◌+◌, ◌≤◌, List, [], ◌∷◌, ◌++◌, map, length, Option, Some, option_and_then, slice_get}
+use Rattle.std.specs.List.{flat_map, range_with_len}
 use Rattle.transaction_codec.specs.declared.request.Op.{Op}
+use Rattle.transaction_codec.specs.Answer.{reply_room}
 use Rattle.mtu_packer.specs.declared.packed.Piece.{Piece}
-use Rattle.mtu_packer.specs.Cutting.{piece_count}
-use Rattle.mtu_packer.specs.Packing.{IsPacking, AreSpelled, body_words}
+use Rattle.mtu_packer.specs.Cutting.{cut}
+use Rattle.mtu_packer.specs.Packing.{IsPacking, AreReadable, body_words}
 
 -- the places in one body of so many pieces
 abbrev pub places_in : ℕ → ℕ → List Piece
@@ -19,19 +20,25 @@ places_from body (part ∷ parts) = places_in body (length part) ++ places_from 
 abbrev pub piece_at : List (List Op) → Piece → Option Op
 piece_at parts place = option_and_then (λ part. slice_get part place.index) (slice_get parts place.body)
 
--- a list dealt out in turn into lists of these lengths
-abbrev pub dealt : List ℕ → List Piece → List (List Piece)
-dealt [] places = []
-dealt (count ∷ counts) places = take count places ∷ dealt counts (drop count places)
+-- the pieces that stand at these places
+abbrev pub pieces_at : List (List Op) → List Piece → List (Option Op)
+pieces_at parts places = map (piece_at parts) places
 
 pub record Contents : Type 0 where
   pub bodies : List (List ℕ)
   pub pieces : List (List Piece)
 
--- The bodies are the words of a packing of the operations, and each operation has the places of its own pieces.
+-- The bodies are the words of a packing of the operations. At the places of each operation stand its own pieces, in order, and
+-- the places are those of all pieces, in order.
 pub record IsPacked (ops : List Op) (payload : ℕ) (contents : Contents) : Type 0 where
   pub parts : List (List Op)
   pub packing : IsPacking ops payload parts
-  pub spelled : AreSpelled parts
+  pub readable : AreReadable parts
   pub bodies : contents.bodies ≡ map body_words parts
-  pub pieces : contents.pieces ≡ dealt (map (piece_count payload) ops) (places_from 0 parts)
+  pub pieces : map (pieces_at parts) contents.pieces ≡ map (λ op. map Some (cut payload op)) ops
+  pub places : flat_map (λ places. places) contents.pieces ≡ places_from 0 parts
+
+-- a body and the longest answer that a board can give to it fit packets of `payload` words, each with its packet header
+pub record FitsPackets (payload : ℕ) (body : List ℕ) : Type 0 where
+  pub request : length body + 1 ≤ payload
+  pub reply : reply_room body + 1 ≤ payload

@@ -9,13 +9,13 @@ use Rattle.transaction_codec.specs.Answer.{values_done}
 use Rattle.mtu_packer.specs.Cutting.{cut}
 
 -- the requests of operations, with transaction identifiers that count on from a number
-abbrev pub numbered : ℕ → List Op → List Request
-numbered tid [] = []
-numbered tid (op ∷ ops) = record { tid = tid; op = op } ∷ numbered (tid + 1) ops
+abbrev pub requests_from : ℕ → List Op → List Request
+requests_from tid [] = []
+requests_from tid (op ∷ ops) = record { tid = tid; op = op } ∷ requests_from (tid + 1) ops
 
 -- the requests of one body: their identifiers count from 0
 abbrev pub body_requests : List Op → List Request
-body_requests part = numbered 0 part
+body_requests part = requests_from 0 part
 
 abbrev pub body_words : List Op → List ℕ
 body_words part = requests_words (body_requests part)
@@ -42,6 +42,6 @@ pub record IsPacking (ops : List Op) (payload : ℕ) (parts : List (List Op)) : 
   pub fits : AllByRecursion (Fits payload) parts
   pub full : AreFull payload parts
 
--- every body is one that its words spell
-abbrev pub AreSpelled : List (List Op) → Type 0
-AreSpelled parts = AllByRecursion (λ part. AreRequests (body_requests part)) parts
+-- every body has requests that a reader accepts: identifiers of 12 bits, counts of 8 and words of 32
+abbrev pub AreReadable : List (List Op) → Type 0
+AreReadable parts = AllByRecursion (λ part. AreRequests (body_requests part)) parts

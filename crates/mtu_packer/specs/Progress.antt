@@ -5,7 +5,10 @@ use Rattle.ipb_base.specs.Word.{AreWords}
 use Rattle.transaction_codec.specs.declared.request.Op.{Op}
 use Rattle.transaction_codec.specs.Request.{request_words, op_count, op_words}
 use Rattle.transaction_codec.specs.Answer.{values_done}
+use Rattle.transaction_codec.specs.declared.header_word.TheConstants.{MAX_COUNT}
+use Rattle.mtu_packer.specs.declared.cutting.TheConstants.{HEADERS}
 use Rattle.mtu_packer.specs.declared.packed.Piece.{Piece}
+use Rattle.mtu_packer.specs.declared.packing.TheConstants.{MIN_PAYLOAD, MAX_PAYLOAD}
 
 -- the bodies that are closed, the open one with the number of its requests and the words of its longest reply, and the
 -- places of all pieces so far
@@ -23,14 +26,14 @@ start payload = record { payload = payload; bodies = []; open_body = []; request
 -- the request and the longest reply of the open body stay within the payload, with one piece more
 abbrev pub has_room : Progress → Op → Bool
 has_room progress op =
-    nat_le (length progress.open_body + length (op_words op) + 2) progress.payload
-    && nat_le (progress.reply + values_done op + 2) progress.payload
+    nat_le (length progress.open_body + length (op_words op) + HEADERS) progress.payload
+    && nat_le (progress.reply + values_done op + HEADERS) progress.payload
 
-abbrev pub closed : Progress → Progress
-closed progress = record progress { bodies = progress.bodies ++ progress.open_body ∷ []; open_body = []; requests = 0; reply = 0 }
+abbrev pub close : Progress → Progress
+close progress = record progress { bodies = progress.bodies ++ progress.open_body ∷ []; open_body = []; requests = 0; reply = 0 }
 
-abbrev pub added : Progress → Op → Progress
-added progress op = record progress {
+abbrev pub add : Progress → Op → Progress
+add progress op = record progress {
   open_body = progress.open_body ++ request_words (record { tid = progress.requests; op = op });
   requests = progress.requests + 1;
   reply = progress.reply + values_done op + 1;
@@ -38,26 +41,26 @@ added progress op = record progress {
 }
 
 abbrev pub step : Progress → Op → Progress
-step progress op = if has_room progress op then added progress op else added (closed progress) op
+step progress op = if has_room progress op then add progress op else add (close progress) op
 
 abbrev pub run : Progress → List Op → Progress
 run progress pieces = fold step progress pieces
 
 -- the bodies, with the open one where it has a piece
-abbrev pub finished : Progress → List (List ℕ)
-finished progress = if progress.requests == 0 then progress.bodies else (closed progress).bodies
+abbrev pub all_bodies : Progress → List (List ℕ)
+all_bodies progress = if progress.requests == 0 then progress.bodies else (close progress).bodies
 
 -- a piece fits an empty body
 pub record FitsAlone (payload : ℕ) (op : Op) : Type 0 where
-  pub count : op_count op ≤ 255
-  pub request : length (op_words op) + 2 ≤ payload
-  pub reply : values_done op + 2 ≤ payload
+  pub count : op_count op ≤ MAX_COUNT
+  pub request : length (op_words op) + HEADERS ≤ payload
+  pub reply : values_done op + HEADERS ≤ payload
 
 -- What holds of a packer at work: the open body and its reply are within the payload, a request has two words at least, and
 -- every body has a piece.
 pub record IsWithin (progress : Progress) : Type 0 where
-  pub payload_low : 16 ≤ progress.payload
-  pub payload_high : progress.payload ≤ 2243
+  pub payload_low : MIN_PAYLOAD ≤ progress.payload
+  pub payload_high : progress.payload ≤ MAX_PAYLOAD
   pub body : length progress.open_body + 1 ≤ progress.payload
   pub reply : progress.reply + 1 ≤ progress.payload
   pub requests : 2 * progress.requests ≤ length progress.open_body

@@ -1,11 +1,12 @@
 //! Laws of the definitions. These functions do nothing when they run: their clauses are what is proved.
 
 ghost use Rattle.std.specs.Prelude.{◌≡◌, ℕ, ◌≤◌, List, [], ◌∷◌, length, map, sum_by, Some};
-ghost use Rattle.std.specs.List.{flat_map};
+ghost use Rattle.std.specs.List.{flat_map, range_with_len};
 ghost use Rattle.transaction_codec.specs.declared.request.Op.{Op};
 ghost use Rattle.transaction_codec.specs.declared.request.Op.TheVariants.{Read, ReadPort, Write};
 ghost use Rattle.transaction_codec.specs.Request.{AreRequests, op_count};
 ghost use Rattle.transaction_codec.specs.Answer.{IsLongestAnswer};
+ghost use Rattle.mtu_packer.specs.declared.packing.TheConstants.{MIN_PAYLOAD};
 ghost use Rattle.mtu_packer.specs.Accesses.{accesses};
 ghost use Rattle.mtu_packer.specs.Cutting.{cut};
 ghost use Rattle.mtu_packer.specs.Packing.{IsPacking, body_requests, body_words, longest_reply};
@@ -33,7 +34,7 @@ pub fn the_longest_reply_is_the_longest_answer()
 
 /// There are no more pieces than words.
 pub fn pieces_are_no_more_than_words()
-    ensures { (ops : List Op) (payload : ℕ) → 16 ≤ payload →
+    ensures { (ops : List Op) (payload : ℕ) → MIN_PAYLOAD ≤ payload →
         length (flat_map (cut payload) ops) ≤ sum_by op_count ops }
 {}
 
@@ -45,21 +46,24 @@ pub fn reads_are_packed_by_their_replies()
 
 /// One write of 14 words at a payload of 16 words: 13 of them fill a packet.
 pub fn a_long_write_is_cut()
-    ensures packing { IsPacking (Write 0x100 (1 ∷ 2 ∷ 3 ∷ 4 ∷ 5 ∷ 6 ∷ 7 ∷ 8 ∷ 9 ∷ 10 ∷ 11 ∷ 12 ∷ 13 ∷ 14 ∷ []) ∷ []) 16
-        ((Write 0x100 (1 ∷ 2 ∷ 3 ∷ 4 ∷ 5 ∷ 6 ∷ 7 ∷ 8 ∷ 9 ∷ 10 ∷ 11 ∷ 12 ∷ 13 ∷ []) ∷ []) ∷ (Write 0x10d (14 ∷ []) ∷ []) ∷ []) }
-    ensures words { length (body_words (Write 0x100 (1 ∷ 2 ∷ 3 ∷ 4 ∷ 5 ∷ 6 ∷ 7 ∷ 8 ∷ 9 ∷ 10 ∷ 11 ∷ 12 ∷ 13 ∷ []) ∷ [])) ≡ 15 }
+    ensures packing { IsPacking (Write 0x100 (range_with_len 1 14) ∷ []) 16
+        ((Write 0x100 (range_with_len 1 13) ∷ []) ∷ (Write 0x10d (14 ∷ []) ∷ []) ∷ []) }
+    ensures words { length (body_words (Write 0x100 (range_with_len 1 13) ∷ [])) ≡ 15 }
 {}
 
 /// A block read of 600 words at a payload of 368 words, and the same of a port.
 pub fn a_block_read_is_cut_by_the_words_field()
     ensures cut { cut 368 (Read 0x1000 600) ≡ Read 0x1000 255 ∷ Read 0x10ff 255 ∷ Read 0x11fe 90 ∷ [] }
-    ensures port { cut 368 (ReadPort 0x1000 600) ≡ ReadPort 0x1000 255 ∷ ReadPort 0x1000 255 ∷ ReadPort 0x1000 90 ∷ [] }
-    ensures packing { IsPacking (Read 0x1000 600 ∷ []) 368 ((Read 0x1000 255 ∷ []) ∷ (Read 0x10ff 255 ∷ Read 0x11fe 90 ∷ []) ∷ []) }
+    ensures port { cut 368 (ReadPort 0x1000 600)
+        ≡ ReadPort 0x1000 255 ∷ ReadPort 0x1000 255 ∷ ReadPort 0x1000 90 ∷ [] }
+    ensures packing { IsPacking (Read 0x1000 600 ∷ []) 368
+        ((Read 0x1000 255 ∷ []) ∷ (Read 0x10ff 255 ∷ Read 0x11fe 90 ∷ []) ∷ []) }
     ensures places { places_from 0 ((Read 0x1000 255 ∷ []) ∷ (Read 0x10ff 255 ∷ Read 0x11fe 90 ∷ []) ∷ [])
         ≡ record { body = 0; index = 0 } ∷ record { body = 1; index = 0 } ∷ record { body = 1; index = 1 } ∷ [] }
 {}
 
-/// To do the pieces of an operation one after the other is to do the operation, access by access.
-pub fn the_pieces_do_what_the_operation_does()
-    ensures { (op : Op) (payload : ℕ) → 16 ≤ payload → flat_map accesses (cut payload op) ≡ accesses op }
+/// The pieces of an operation ask, one after the other, for the accesses of the operation.
+pub fn the_pieces_ask_for_the_accesses_of_the_operation()
+    ensures { (op : Op) (payload : ℕ) → MIN_PAYLOAD ≤ payload →
+        flat_map accesses (cut payload op) ≡ accesses op }
 {}

@@ -11,7 +11,7 @@ mod packer;
 mod packing;
 
 pub use packed::{Packed, Piece};
-pub use packing::pack;
+pub use packing::{MAX_PAYLOAD, MIN_PAYLOAD, pack};
 
 #[cfg(test)]
 mod tests;

@@ -4,12 +4,12 @@ ghost use Rattle.mtu_packer.specs.Span.{span_places, AreWithin};
 use std::marker::Model;
 use transaction_codec::Words;
 
-/// Where one piece of an operation stands.
+/// Where one piece of an operation stands. Profile.
 #[derive(Clone, Copy, Debug, PartialEq, Eq)]
 pub struct Piece {
     /// The body, from 0.
     pub body: u32,
-    /// The request in that body, from 0. It is its transaction identifier, too.
+    /// The request in that body, from 0. It is its transaction identifier, too (IPbus 2.0, transaction header).
     pub index: u16,
 }
 
@@ -20,7 +20,7 @@ pub(crate) struct Span {
     pub(crate) end: u32,
 }
 
-/// Operations that are packed into bodies.
+/// Operations that are packed into bodies. Profile.
 #[derive(Debug, Drop)]
 pub struct Packed {
     bodies: Vec<Words>,
@@ -29,7 +29,7 @@ pub struct Packed {
 }
 
 impl Model for Packed {
-    ghost use Rattle.std.specs.Prelude.{◌≤◌, All, length, map};
+    ghost use Rattle.std.specs.Prelude.{length, map};
     ghost use Rattle.mtu_packer.specs.Packed.{Contents};
     ghost use Rattle.mtu_packer.specs.Span.{span_places, AreWithin};
 

@@ -1,23 +1,21 @@
-ghost use Rattle.std.specs.Prelude.{◌≡◌, ◌+◌, ◌^◌, ◌<◌, ◌≤◌, ◌++◌, IfOk, OnOk, length, map, true};
+ghost use Rattle.std.specs.Prelude.{◌≡◌, ◌+◌, ◌^◌, ◌<◌, ◌≤◌, IfOk, OnOk, length, map, true};
 ghost use Rattle.std.specs.List.{AllByRecursion};
 ghost use Rattle.ipb_base.specs.Word.{AreWords};
+ghost use Rattle.transaction_codec.specs.declared.header_word.TheConstants.{MAX_COUNT};
 ghost use Rattle.transaction_codec.specs.First.{op_of};
-ghost use Rattle.transaction_codec.specs.Request.{op_count, op_words, request_words};
-ghost use Rattle.transaction_codec.specs.Answer as answer;
+ghost use Rattle.transaction_codec.specs.Request.{op_count, op_words};
 ghost use Rattle.mtu_packer.specs.Cutting as spec;
 ghost use Rattle.mtu_packer.specs.Cutting.{CanBeCut, cut};
 ghost use Rattle.mtu_packer.specs.Span.{span_places, AreWithin};
 ghost use Rattle.mtu_packer.specs.Progress as progress;
-ghost use Rattle.mtu_packer.specs.Progress.{IsWithin, FitsAlone, closed, added, step, run};
+ghost use Rattle.mtu_packer.specs.Progress.{IsWithin, FitsAlone, step, run};
 
-use crate::cutting::{piece, piece_count};
+use crate::cutting::{HEADERS, piece, piece_count};
 use crate::packed::{Packed, Piece, Span};
 use std::alloc::Global;
 use std::marker::Model;
 use std::mem;
-use transaction_codec::info_code::REQUEST;
-use transaction_codec::transaction_type::{READ, READ_PORT, RMW_BITS, RMW_SUM, WRITE, WRITE_PORT};
-use transaction_codec::{NoMemory, Op, OpRef, Words, header};
+use transaction_codec::{NoMemory, Op, OpRef, Words, put_request};
 
 /// A packer at work: the bodies that are closed, and the one that takes pieces.
 #[derive(Drop)]
@@ -66,20 +64,20 @@ impl Packer {
 
     fn has_room(&self, op: &OpRef<'_>) -> bool
         requires within { IsWithin self.now }
-        requires count { op_count (op_of op.now) ≤ 255 }
+        requires count { op_count (op_of op.now) ≤ MAX_COUNT }
         ensures { result ≡ progress.has_room self.now (op_of op.now) }
     {
-        let request = self.open_body.len() + words_after_header(op) + 2;
-        let reply = self.reply + values_done(op) + 2;
+        let request = self.open_body.len() + words_after_header(op) + HEADERS as usize;
+        let reply = self.reply + op.values_done() + HEADERS;
         request <= self.payload as usize && reply <= self.payload
     }
 
     /// Closes the open body and begins another.
-    #[tactic(auto, using(crate::proofs::Steps::closed_within))]
+    #[tactic(auto, using(crate::proofs::Steps::close_within))]
     fn close(&mut self) -> Result<(), NoMemory>
         requires within { IsWithin self.old }
         requires begun { 1 ≤ self.old.requests }
-        ensures closed { OnOk result (self.new ≡ closed self.old) }
+        ensures closed { OnOk result (self.new ≡ progress.close self.old) }
         ensures within { OnOk result (IsWithin self.new) }
     {
         let body = mem::replace(&mut self.open_body, Vec::new(self.alloc));
@@ -90,13 +88,13 @@ impl Packer {
     }
 
     /// Adds a piece to the open body.
-    #[tactic(auto, using(crate::proofs::Steps::added_within))]
+    #[tactic(auto, using(crate::proofs::Steps::add_within))]
     fn add(&mut self, op: &OpRef<'_>) -> Result<(), NoMemory>
         requires within { IsWithin self.old }
         requires few { length self.old.places < 2 ^ 31 }
-        requires count { op_count (op_of op.now) ≤ 255 }
+        requires count { op_count (op_of op.now) ≤ MAX_COUNT }
         requires room { progress.has_room self.old (op_of op.now) ≡ true }
-        ensures added { OnOk result (self.new ≡ added self.old (op_of op.now)) }
+        ensures added { OnOk result (self.new ≡ progress.add self.old (op_of op.now)) }
         ensures within { OnOk result (IsWithin self.new) }
     {
         put_request(&mut self.open_body, self.requests, op)?;
@@ -105,7 +103,7 @@ impl Packer {
             index: self.requests,
         })?;
         self.requests += 1;
-        self.reply += values_done(op) + 1;
+        self.reply += op.values_done() + 1;
         Ok(())
     }
 
@@ -125,26 +123,27 @@ impl Packer {
         self.add(op)
     }
 
-    /// Takes all pieces of an operation.
-    pub(crate) fn push_op(&mut self, op: &Op) -> Result<(), NoMemory>
+    /// Takes all pieces of an operation, and tells how many places there are then.
+    pub(crate) fn push_op(&mut self, op: &Op) -> Result<u32, NoMemory>
         requires within { IsWithin self.old }
         requires few { length self.old.places + spec.piece_count self.old.payload op.now ≤ 2 ^ 31 }
         requires sound { CanBeCut op.now }
         ensures taken { OnOk result (self.new ≡ run self.old (cut self.old.payload op.now)) }
         ensures within { OnOk result (IsWithin self.new) }
+        ensures places { IfOk result (λ count. count ≡ length self.new.places) }
     {
         let payload = self.payload;
         for k in 0..piece_count(op, payload) {
             self.push(&piece(op, payload, k))?;
         }
-        Ok(())
+        Ok(self.places.len() as u32)
     }
 
     /// Closes the last body. Each operation has the places of its span.
     pub(crate) fn finish(mut self, spans: Vec<Span>) -> Result<Packed, NoMemory>
         requires within { IsWithin self }
         requires spans { AreWithin (length self.places) spans.items }
-        ensures bodies { IfOk result (λ packed. packed.bodies ≡ progress.finished self) }
+        ensures bodies { IfOk result (λ packed. packed.bodies ≡ progress.all_bodies self) }
         ensures words { IfOk result (λ packed. AllByRecursion AreWords packed.bodies) }
         ensures pieces { IfOk result (λ packed. packed.pieces ≡ map (span_places self.places) spans.items) }
     {
@@ -166,65 +165,13 @@ impl Packer {
 
 /// How many words the request has after its header.
 fn words_after_header(op: &OpRef<'_>) -> usize
-    requires { op_count (op_of op.now) ≤ 255 }
+    requires { op_count (op_of op.now) ≤ MAX_COUNT }
     ensures { result ≡ length (op_words (op_of op.now)) }
 {
-    match op {
+    match *op {
         OpRef::Read { .. } | OpRef::ReadPort { .. } => 1,
         OpRef::Write { words, .. } | OpRef::WritePort { words, .. } => 1 + words.len(),
         OpRef::RmwBits { .. } => 3,
         OpRef::RmwSum { .. } => 2,
     }
-}
-
-/// How many values the reply has where all of the operation is done.
-fn values_done(op: &OpRef<'_>) -> u32
-    ensures { result ≡ answer.values_done (op_of op.now) }
-{
-    match op {
-        OpRef::Read { count, .. } | OpRef::ReadPort { count, .. } => *count,
-        OpRef::Write { .. } | OpRef::WritePort { .. } => 0,
-        OpRef::RmwBits { .. } | OpRef::RmwSum { .. } => 1,
-    }
-}
-
-/// Puts the words of a request behind others.
-fn put_request(out: &mut Vec<u32>, tid: u16, op: &OpRef<'_>) -> Result<(), NoMemory>
-    requires tid { tid < 2 ^ 12 }
-    requires count { op_count (op_of op.now) ≤ 255 }
-    ensures { OnOk result (out.new.items ≡ out.old.items ++ request_words (record { tid = tid; op = op_of op.now })) }
-{
-    match op {
-        OpRef::Read { base, count } => {
-            out.push(header(tid, *count as u8, READ, REQUEST))?;
-            out.push(*base)?;
-        }
-        OpRef::ReadPort { base, count } => {
-            out.push(header(tid, *count as u8, READ_PORT, REQUEST))?;
-            out.push(*base)?;
-        }
-        OpRef::Write { base, words } => {
-            out.push(header(tid, words.len() as u8, WRITE, REQUEST))?;
-            out.push(*base)?;
-            out.extend_from_slice(words)?;
-        }
-        OpRef::WritePort { base, words } => {
-            out.push(header(tid, words.len() as u8, WRITE_PORT, REQUEST))?;
-            out.push(*base)?;
-            out.extend_from_slice(words)?;
-        }
-        OpRef::RmwBits {
-            base,
-            and_term,
-            or_term,
-        } => {
-            out.push(header(tid, 1, RMW_BITS, REQUEST))?;
-            out.extend_from_slice(&[*base, *and_term, *or_term])?;
-        }
-        OpRef::RmwSum { base, addend } => {
-            out.push(header(tid, 1, RMW_SUM, REQUEST))?;
-            out.extend_from_slice(&[*base, *addend])?;
-        }
-    }
-    Ok(())
 }

@@ -1,35 +1,42 @@
 ghost use Rattle.std.specs.Prelude.{◌≡◌, ◌≤◌, ◌^◌, All, IfOk, length};
-ghost use Rattle.std.specs.List.{flat_map};
+ghost use Rattle.std.specs.List.{AllByRecursion, flat_map};
 ghost use Rattle.mtu_packer.specs.Cutting.{CanBeCut, cut};
-ghost use Rattle.mtu_packer.specs.Packed.{IsPacked};
+ghost use Rattle.mtu_packer.specs.Packed.{FitsPackets, IsPacked};
 
-use crate::cutting::piece_count;
 use crate::packed::{Packed, Span};
 use crate::packer::Packer;
 use std::alloc::Global;
 use transaction_codec::{NoMemory, Op};
 
-/// Packs operations into bodies for a board that takes packets of at most `payload` words, 16 to 2243, the packet
-/// header included. A block is cut into pieces of at most 255 words that fit such a packet, and each piece goes whole
-/// into the current body where that body and its longest reply stay within the payload, and else begins the next.
-/// Profile.
+/// The fewest words of a packet for which operations are packed, the packet header included. Profile.
+pub const MIN_PAYLOAD: u32 = 16;
+
+/// The most words of a packet for which operations are packed, the packet header included: a datagram in an Ethernet
+/// frame of 9000 bytes. Profile.
+pub const MAX_PAYLOAD: u32 = 2243;
+
+/// Packs operations into bodies for a board that takes packets of at most `payload` words, `MIN_PAYLOAD` to
+/// `MAX_PAYLOAD`, the packet header included. A block is cut into pieces of at most 255 words that fit such a packet,
+/// and each piece goes whole into the current body where that body and its longest reply stay within the payload, and
+/// else begins the next. Profile.
 ///
 /// Each block has at least one word, the addresses of one that is read or written at `base`, `base + 1`, and so on
 /// stay within 32 bits, and there are at most 2^31 pieces.
 pub fn pack(alloc: Global, ops: &[Op], payload: u32) -> Result<Packed, NoMemory>
-    requires payload_low { 16 ≤ payload }
-    requires payload_high { payload ≤ 2243 }
+    requires payload_low { MIN_PAYLOAD ≤ payload }
+    requires payload_high { payload ≤ MAX_PAYLOAD }
     requires sound { All CanBeCut ops.now }
     requires few { length (flat_map (cut payload) ops.now) ≤ 2 ^ 31 }
     ensures packed { IfOk result (IsPacked ops.now payload) }
     ensures operations { IfOk result (λ packed. length packed.pieces ≡ length ops.now) }
+    // Each body and the longest answer to it fit packets of that size.
+    ensures room { IfOk result (λ packed. AllByRecursion (FitsPackets payload) packed.bodies) }
 {
     let mut packer = Packer::new(alloc, payload);
     let mut spans = Vec::with_capacity(alloc, ops.len())?;
     let mut start = 0;
     for op in ops {
-        packer.push_op(op)?;
-        let end = start + piece_count(op, payload) as u32;
+        let end = packer.push_op(op)?;
         spans.push(Span { start, end })?;
         start = end;
     }

@@ -9,7 +9,7 @@ use Rattle.transaction_codec.specs.Header.{header}
 use Rattle.transaction_codec.specs.Request.{IsRequest, request_words}
 use Rattle.transaction_codec.specs.Reply.{IsReply, reply_words}
 use Rattle.transaction_codec.specs.Answer.{IsDone, IsFailed, IsReplyTo}
-use Rattle.reply_join.specs.Joining.{IsBody}
+use Rattle.reply_join.specs.Joining.{SpellsRequests}
 use Rattle.reply_join.specs.Garbled.{BeginsReply, IsGarbledAt}
 use Rattle.reply_join.specs.Progress.{HasNoHeader, IsShort}
 use Rattle.reply_join.proofs.Lists.{beyond, take_past, no_words}
@@ -39,12 +39,12 @@ no_front request asked words (word ∷ front) is bad prefix begins =
     let same : bad.word ≡ header reply.tid reply.count reply.kind reply.code = cc in
     absurd (bad.none reply.count reply.code (same ∙ head.0, head.1))
 
-begins_nothing : (body reply : List ℕ) → IsBody body → BeginsReply body (take 0 reply)
+begins_nothing : (body reply : List ℕ) → SpellsRequests body → BeginsReply body (take 0 reply)
 begins_nothing body reply is =
     let some = some_reply body is in
     (some.0, some.1, (some.0, refl))
 
-pub no_header : (request : Request) (asked words : List ℕ) → IsRequest request → IsBody (request_words request ++ asked) → HasNoHeader request words → IsGarbledAt (request_words request ++ asked) words 0
+pub no_header : (request : Request) (asked words : List ℕ) → IsRequest request → SpellsRequests (request_words request ++ asked) → HasNoHeader request words → IsGarbledAt (request_words request ++ asked) words 0
 no_header request asked words is body bad =
     let longest : (front : List ℕ) → IsPrefix front words → BeginsReply (request_words request ++ asked) front → length front ≤ 0 =
     λ front prefix begins. no_front request asked words front is bad prefix begins in
@@ -67,7 +67,7 @@ short_is_none request asked words is short parts =
     let same = same_reply short.reply parts.reply [] (parts.rest ++ short.more) short.is.is parts.is joined in
     omega (arith, short.some, ap length same.1, length-append parts.rest short.more)
 
-pub ends_early : (request : Request) (asked words : List ℕ) → IsRequest request → IsBody asked → IsShort request words → IsGarbledAt (request_words request ++ asked) words (length words)
+pub ends_early : (request : Request) (asked words : List ℕ) → IsRequest request → SpellsRequests asked → IsShort request words → IsGarbledAt (request_words request ++ asked) words (length words)
 ends_early request asked words is body short =
     let goes = answer_goes_on request short.reply asked is short.is body in
     let all : take (length words) words ≡ words = ap (take (length words)) (sym (append-nil words)) ∙ take_at words [] (length words) refl in
@@ -138,7 +138,7 @@ module _ (request : Request) (reply : Reply) (asked : List ℕ) (is : IsRequest 
       }
 
   -- behind one that failed nothing may follow
-  pub garbled_behind_fault : (rest : List ℕ) (place : ℕ) → IsFailed request reply → IsBody asked → IsGarbledAt [] rest place
+  pub garbled_behind_fault : (rest : List ℕ) (place : ℕ) → IsFailed request reply → SpellsRequests asked → IsGarbledAt [] rest place
       → IsGarbledAt (request_words request ++ asked) (reply_words reply ++ rest) (length (reply_words reply) + place)
   garbled_behind_fault rest place failed body garbled =
       let whole_is : garbled.begins.0 ≡ [] = reply_to_nothing garbled.begins.0 garbled.begins.1 in

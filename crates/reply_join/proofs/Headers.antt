@@ -1,5 +1,5 @@
 -- The headers of the replies to a request.
-use Rattle.std.proofs.Common.{◌≡◌, ◌⊎◌, inl, inr, ℕ, zero, suc, ◌-◌, ◌^◌, ◌<◌, ◌≤◌, List, [], ◌∷◌, ◌++◌, length, take, drop, get_or, replicate, refl, subst, sym, ap, ◌∙◌, arith, lit<}
+use Rattle.std.proofs.Common.{◌≡◌, ◌⊎◌, inl, inr, ℕ, ◌-◌, ◌^◌, ◌<◌, ◌≤◌, List, [], ◌∷◌, ◌++◌, length, take, drop, get_or, replicate, refl, subst, sym, ap, ◌∙◌, arith}
 use Rattle.std.proofs.lemmas.List.{length-append, length-replicate, length-take, length-drop, take-append-drop, take_all}
 use Rattle.ipb_base.specs.Word.{AreWords}
 use Rattle.transaction_codec.specs.declared.request.Op.{Op}
@@ -10,8 +10,8 @@ use Rattle.transaction_codec.specs.Header.{header}
 use Rattle.transaction_codec.specs.Request.{op_kind, op_count, IsRequest}
 use Rattle.transaction_codec.specs.Reply.{IsBusFault, Carries, values_after, reply_words}
 use Rattle.transaction_codec.specs.Answer.{values_done, Fails, IsDone, IsFailed}
-use Rattle.reply_join.specs.Progress.{IsOutcome, IsHeaderTo, IsReplyOf, IsShort, IsCut}
-use Rattle.transaction_codec.proofs.Steps.{AreWords-take}
+use Rattle.reply_join.specs.Progress.{IsOutcome, IsHeaderTo, IsReplyOf, IsShort}
+use Rattle.ipb_base.proofs.WordLemmas.{AreWords-append, AreWords-take, AreWords-zeros}
 
 -- ---- a request that was done
 
@@ -111,6 +111,10 @@ header_from request reply is =
     let at = answer_outcome request reply is.answers in
     (ap (λ n. header n reply.count reply.kind reply.code) at.0 ∙ ap (λ n. header request.tid reply.count n reply.code) at.1, at.2)
 
+-- a reply to the request has its type
+pub kind_is : (request : Request) (reply : Reply) → IsReplyOf request reply → reply.kind ≡ op_kind request.op
+kind_is request reply is = (answer_outcome request reply is.answers).1
+
 pub fault_is_no_success : (request : Request) (reply : Reply) → IsFailed request reply → reply.code ≡ 0 → ⊥
 fault_is_no_success request reply failed success =
     let fault = fault_code request.op reply.code reply.count (length reply.values) failed.fault in
@@ -120,14 +124,6 @@ pub done_not_failed : (request : Request) (reply : Reply) → IsDone request rep
 done_not_failed request reply done failed = fault_is_no_success request reply failed done.code
 
 -- ---- a header and the words behind it
-
-zeros-words : (n : ℕ) → AreWords (replicate n 0)
-zeros-words zero = tt
-zeros-words (suc n) = (lit< tt, zeros-words n)
-
-AreWords-append : (front back : List ℕ) → AreWords front → AreWords back → AreWords (front ++ back)
-AreWords-append [] back fits others = others
-AreWords-append (word ∷ front) back fits others = (fits.0, AreWords-append front back fits.1 others)
 
 -- fewer words than the header tells
 pub short_of : (request : Request) (word count code : ℕ) (after : List ℕ) → IsRequest request → IsHeaderTo request word count code → AreWords after
@@ -139,7 +135,7 @@ short_of request word count code after is head fits few =
     record {
       reply = reply_with request count code values;
       more = replicate missing 0;
-      is = answer_from request count code values is head.1 (AreWords-append after (replicate missing 0) fits (zeros-words missing)) len;
+      is = answer_from request count code values is head.1 (AreWords-append after (replicate missing 0) fits (AreWords-zeros missing)) len;
       some = omega (arith, few, length-replicate {A = ℕ} missing 0);
       spelled = ap (λ n. n ∷ values) (sym head.0);
     }
@@ -171,8 +167,8 @@ found_of request words after rest word count code kind n is fits parts head kind
     let words_fit : AreWords (word ∷ after) = subst AreWords parts fits in
     rw (kind_is, n_is, rest_is, parts) (rw n_is (whole_of request word count code after is head words_fit.1 (omega (arith, enough, n_is))))
 
-pub cut_of : (request : Request) (words after : List ℕ) (word count code n : ℕ) → IsRequest request → AreWords words → words ≡ word ∷ after → IsHeaderTo request word count code
-    → n ≡ values_after (op_kind request.op) count → length after < n → IsCut request words []
-cut_of request words after word count code n is fits parts head n_is few =
+pub short_of_slice : (request : Request) (words after : List ℕ) (word count code n : ℕ) → IsRequest request → AreWords words → words ≡ word ∷ after → IsHeaderTo request word count code
+    → n ≡ values_after (op_kind request.op) count → length after < n → IsShort request words
+short_of_slice request words after word count code n is fits parts head n_is few =
     let words_fit : AreWords (word ∷ after) = subst AreWords parts fits in
-    inr (refl, subst (IsShort request) (sym parts) (short_of request word count code after is head words_fit.1 (omega (arith, few, n_is))))
+    subst (IsShort request) (sym parts) (short_of request word count code after is head words_fit.1 (omega (arith, few, n_is)))

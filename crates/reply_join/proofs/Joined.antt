@@ -11,7 +11,7 @@ use Rattle.transaction_codec.proofs.Lists.{one_list}
 use Rattle.transaction_codec.proofs.Formats.{requests_format, replies_format}
 use Rattle.reply_join.specs.declared.answer.Answer.{Answer}
 use Rattle.reply_join.specs.declared.answer.Answer.TheVariants.{Skipped}
-use Rattle.reply_join.specs.Joining.{IsBody, IsJoined, answer_of, answers_to}
+use Rattle.reply_join.specs.Joining.{IsJoined, answer_of, answers_to}
 use Rattle.reply_join.specs.Progress.{AreSkipped}
 use Rattle.reply_join.proofs.Parts.{done_then, failed_last, nothing_replied}
 
@@ -36,9 +36,9 @@ pub joined_failed : (request : Request) (reply : Reply) (asked : List ℕ) (answ
     → IsJoined (request_words request ++ asked) (reply_words reply ++ []) (answer_of reply ∷ answers)
 unfolding failed_last
 joined_failed request reply asked answers is is_reply failed skipped =
-    let body : IsBody asked = record { requests = skipped.requests; ranges = skipped.ranges; spelled = skipped.spelled } in
-    let none : replicate (length skipped.requests) Skipped ≡ answers_to skipped.requests [] = let all : length skipped.requests ≡ length skipped.requests - 0 = omega arith in ap (λ n. replicate n Skipped) all in
-    (failed_last request reply asked is is_reply failed body, ap (λ (more : List Answer). answer_of reply ∷ more) (skipped.skipped ∙ none) ∙ sym (answers_more request reply skipped.requests []))
+    let requests = skipped.spells.0 in
+    let none : replicate (length requests) Skipped ≡ answers_to requests [] = let all : length requests ≡ length requests - 0 = omega arith in ap (λ n. replicate n Skipped) all in
+    (failed_last request reply asked is is_reply failed skipped.spells, ap (λ (more : List Answer). answer_of reply ∷ more) (skipped.skipped ∙ none) ∙ sym (answers_more request reply requests []))
 
 same_answers : (requests others : List Request) (replies another : List Reply) → requests ≡ others → replies ≡ another → answers_to requests replies ≡ answers_to others another
 same_answers requests others replies another e f = ap (λ (rs : List Request). answers_to rs replies) e ∙ ap (λ (rs : List Reply). answers_to others rs) f
@@ -69,13 +69,17 @@ answers_length body reply is =
 -- ---- steps of joining
 
 pub skipped_more : (request : Request) (body rest : List ℕ) (later : List Answer) → IsRequest request → body ≡ request_words request ++ rest → AreSkipped rest later → AreSkipped body (Skipped ∷ later)
-skipped_more request body rest later is parts skipped = record {
-  requests = request ∷ skipped.requests;
-  ranges = (is, skipped.ranges);
-  spelled = parts ∙ ap (λ (ws : List ℕ). request_words request ++ ws) skipped.spelled ∙ sym (flat_map-cons request_words request skipped.requests);
-  skipped = ap (λ (more : List Answer). Skipped ∷ more) skipped.skipped;
-}
+skipped_more request body rest later is parts skipped =
+    let spells = skipped.spells in
+    record {
+      spells = (
+        request ∷ spells.0,
+        (is, spells.1),
+        parts ∙ ap (λ (ws : List ℕ). request_words request ++ ws) spells.2 ∙ sym (flat_map-cons request_words request spells.0),
+      );
+      skipped = ap (λ (more : List Answer). Skipped ∷ more) skipped.skipped;
+    }
 
 pub none_skipped : (rest : List ℕ) → length rest ≤ 0 → AreSkipped rest []
-none_skipped [] none = record { requests = []; ranges = tt; spelled = refl; skipped = refl }
+none_skipped [] none = record { spells = ([], tt, refl); skipped = refl }
 none_skipped (word ∷ rest) none = absurd (omega arith)

@@ -12,8 +12,8 @@ use Rattle.transaction_codec.proofs.Lists.{same_first}
 use Rattle.transaction_codec.proofs.Formats.{requests_format, replies_format}
 use Rattle.transaction_codec.proofs.Requests.{request_again}
 use Rattle.transaction_codec.proofs.Longest.{longest_nothing, longest_step, answer_is_reply}
-use Rattle.reply_join.specs.Joining.{IsBody}
-use Rattle.reply_join.specs.Progress.{IsReplyOf, IsCut}
+use Rattle.reply_join.specs.Joining.{SpellsRequests}
+use Rattle.reply_join.specs.Progress.{IsReplyOf, IsShort}
 
 pub same_request : (left right : Request) (x y : List ℕ) → IsRequest left → IsRequest right → request_words left ++ x ≡ request_words right ++ y → (left ≡ right) × (x ≡ y)
 same_request = same_first request_words IsRequest BreaksRequest request_at requests_format
@@ -85,13 +85,13 @@ done_then request reply asked rest is is_reply done to = record {
   spelled = ap (λ (ws : List ℕ). reply_words reply ++ ws) to.spelled ∙ sym (flat_map-cons reply_words reply to.replies);
 }
 
-unfoldable pub failed_last : (request : Request) (reply : Reply) (asked : List ℕ) → IsRequest request → IsReply reply → IsFailed request reply → IsBody asked
+unfoldable pub failed_last : (request : Request) (reply : Reply) (asked : List ℕ) → IsRequest request → IsReply reply → IsFailed request reply → SpellsRequests asked
     → IsReplyTo (request_words request ++ asked) (reply_words reply ++ [])
 failed_last request reply asked is is_reply failed body = record {
-  requests = request ∷ body.requests;
+  requests = request ∷ body.0;
   replies = reply ∷ [];
-  ranges = (is, body.ranges);
-  asked = ap (λ (ws : List ℕ). request_words request ++ ws) body.spelled ∙ sym (flat_map-cons request_words request body.requests);
+  ranges = (is, body.1);
+  asked = ap (λ (ws : List ℕ). request_words request ++ ws) body.2 ∙ sym (flat_map-cons request_words request body.0);
   items = (is_reply, tt);
   answers = inr (failed, refl);
   spelled = sym (flat_map-cons reply_words reply []);
@@ -107,20 +107,20 @@ longest_of (request ∷ requests) ranges =
       longest_step request (requests_words (request ∷ requests)) (requests_words requests) later.0 ranges.0 (flat_map-cons request_words request requests) later.1,
     )
 
-pub some_reply : (body : List ℕ) → IsBody body → (whole : List ℕ) × IsReplyTo body whole
+pub some_reply : (body : List ℕ) → SpellsRequests body → (whole : List ℕ) × IsReplyTo body whole
 some_reply body is =
-    let longest = (longest_of is.requests is.ranges).1 in
-    (longest.answer, subst (λ (ws : List ℕ). IsReplyTo ws longest.answer) (sym is.spelled) (answer_is_reply is.requests (requests_words is.requests) longest.answer is.ranges refl longest.given))
+    let longest = (longest_of is.0 is.1).1 in
+    (longest.answer, subst (λ (ws : List ℕ). IsReplyTo ws longest.answer) (sym is.2) (answer_is_reply is.0 (requests_words is.0) longest.answer is.1 refl longest.given))
 
 -- a reply to the first request goes on to one to the body
-reply_from : (request : Request) (reply : Reply) (asked : List ℕ) → IsRequest request → IsReply reply → IsBody asked → IsDone request reply ⊎ IsFailed request reply
+reply_from : (request : Request) (reply : Reply) (asked : List ℕ) → IsRequest request → IsReply reply → SpellsRequests asked → IsDone request reply ⊎ IsFailed request reply
     → (rest : List ℕ) × IsReplyTo (request_words request ++ asked) (reply_words reply ++ rest)
 reply_from request reply asked is is_reply body (inl done) =
     let later = some_reply asked body in
     (later.0, done_then request reply asked later.0 is is_reply done later.1)
 reply_from request reply asked is is_reply body (inr failed) = ([], failed_last request reply asked is is_reply failed body)
 
-pub answer_goes_on : (request : Request) (reply : Reply) (asked : List ℕ) → IsRequest request → IsReplyOf request reply → IsBody asked
+pub answer_goes_on : (request : Request) (reply : Reply) (asked : List ℕ) → IsRequest request → IsReplyOf request reply → SpellsRequests asked
     → (rest : List ℕ) × IsReplyTo (request_words request ++ asked) (reply_words reply ++ rest)
 answer_goes_on request reply asked is answer body = reply_from request reply asked is answer.is body answer.answers
 
@@ -132,8 +132,8 @@ part_answers request asked rest reply (inr failed) = inr failed.0
 pub first_answer : (request : Request) (asked whole : List ℕ) (parts : Parts request asked whole) → IsReplyOf request parts.reply
 first_answer request asked whole parts = record { is = parts.is; answers = part_answers request asked parts.rest parts.reply parts.goes }
 
-body_of : (request : Request) → IsRequest request → IsBody (request_words request ++ [])
-body_of request is = record { requests = request ∷ []; ranges = (is, tt); spelled = sym (flat_map-cons request_words request []) }
+body_of : (request : Request) → IsRequest request → SpellsRequests (request_words request ++ [])
+body_of request is = (request ∷ [], (is, tt), sym (flat_map-cons request_words request []))
 
 -- every request has a reply
 pub some_answer : (request : Request) → IsRequest request → (reply : Reply) × IsReplyOf request reply
@@ -144,7 +144,7 @@ some_answer request is =
 
 -- ---- the first request of a body
 
-module _ (body : List ℕ) (is : IsBody body) where
+module _ (body : List ℕ) (is : SpellsRequests body) where
   reads_one : (requests : List Request) → AreRequests requests → body ≡ requests_words requests → 0 < length body → (x : Result (Request × List ℕ) Why) → request_at body ≡ x → IsOk x
   reads_one [] ranges spelled some x reads = absurd (omega (arith, some, ap length spelled))
   reads_one (request ∷ requests) ranges spelled some x reads =
@@ -152,21 +152,21 @@ module _ (body : List ℕ) (is : IsBody body) where
       subst IsOk (sym again) refl
 
   pub has_request : (why : Why) → 0 < length body → request_at body ≡ Err why → ⊥
-  has_request why some reads = let clash : false ≡ true = reads_one is.requests is.ranges is.spelled some (Err why) reads in absurd cc
+  has_request why some reads = let clash : false ≡ true = reads_one is.0 is.1 is.2 some (Err why) reads in absurd cc
 
-  rest_of : (requests : List Request) → AreRequests requests → body ≡ requests_words requests → (x : Request × List ℕ) → IsRequest x.0 → body ≡ request_words x.0 ++ x.1 → IsBody x.1
+  rest_of : (requests : List Request) → AreRequests requests → body ≡ requests_words requests → (x : Request × List ℕ) → IsRequest x.0 → body ≡ request_words x.0 ++ x.1 → SpellsRequests x.1
   rest_of [] ranges spelled x is_request parts =
       absurd (omega (arith, ap length (sym spelled ∙ parts), length-append (request_words x.0) x.1))
   rest_of (request ∷ requests) ranges spelled x is_request parts =
       let same = same_request request x.0 (requests_words requests) x.1 ranges.0 is_request (sym (flat_map-cons request_words request requests) ∙ sym spelled ∙ parts) in
-      record { requests = requests; ranges = ranges.1; spelled = sym same.1 }
+      (requests, ranges.1, sym same.1)
 
-  pub rest_is_body : (request : Request) (rest : List ℕ) → IsRequest request → body ≡ request_words request ++ rest → IsBody rest
-  rest_is_body request rest is_request parts = rest_of is.requests is.ranges is.spelled (request, rest) is_request parts
+  pub rest_is_body : (request : Request) (rest : List ℕ) → IsRequest request → body ≡ request_words request ++ rest → SpellsRequests rest
+  rest_is_body request rest is_request parts = rest_of is.0 is.1 is.2 (request, rest) is_request parts
 
 -- no words begin every reply
-pub no_words_cut : (request : Request) (words : List ℕ) → IsRequest request → length words < 1 → IsCut request words words
-no_words_cut request [] is none =
+pub no_words_short : (request : Request) (words : List ℕ) → IsRequest request → length words < 1 → IsShort request words
+no_words_short request [] is none =
     let some = some_answer request is in
-    inr (refl, record { reply = some.0; more = reply_words some.0; is = some.1; some = omega arith; spelled = refl })
-no_words_cut request (word ∷ words) is none = absurd (omega arith)
+    record { reply = some.0; more = reply_words some.0; is = some.1; some = omega arith; spelled = refl }
+no_words_short request (word ∷ words) is none = absurd (omega arith)

@@ -7,9 +7,11 @@ use Rattle.transaction_codec.specs.Request.{IsRequest, request_words}
 use Rattle.transaction_codec.specs.Reply.{reply_words}
 use Rattle.transaction_codec.specs.Answer.{IsDone, IsFailed, IsReplyTo}
 use Rattle.reply_join.specs.declared.answer.Answer.{Answer}
-use Rattle.reply_join.specs.Joining.{IsBody, IsJoined, answer_of, answers_to}
+use Rattle.reply_join.specs.Joining.{SpellsRequests, IsJoined, answer_of, answers_to}
 use Rattle.reply_join.specs.Garbled.{IsGarbledAt}
-use Rattle.reply_join.specs.Progress.{IsReplyOf, IsCut, AreSkipped}
+use Rattle.reply_join.specs.Progress.{IsReplyOf, HasNoReply, AreSkipped, fault_place}
+use Rattle.reply_join.specs.declared.joining.NoReply.{NoReply}
+use Rattle.reply_join.specs.declared.joining.NoReply.TheVariants.{Header, TooShort}
 use Rattle.reply_join.proofs.Headers.{fault_is_no_success}
 use Rattle.reply_join.proofs.Parts.{reply_to_nothing}
 use Rattle.reply_join.proofs.Garbled.{no_header, ends_early, garbled_later, garbled_behind_fault, garbled_end}
@@ -18,12 +20,12 @@ use Rattle.reply_join.proofs.Joined.{joined_nothing, joined_done, joined_failed,
 -- What the requests and the words that are left give, the whole body and reply give: the answers so far stand before theirs, and
 -- a fault among these words is one of the reply. Behind a request that failed none is left.
 pub record Underway (body reply asked rest : List ℕ) (answers : List Answer) : Type 0 where
-  pub requests : IsBody asked
+  pub requests : SpellsRequests asked
   pub within : length rest ≤ length reply
   pub joined : (later : List Answer) → IsJoined asked rest later → IsJoined body reply (answers ++ later)
   pub garbled : (place : ℕ) → IsGarbledAt asked rest place → IsGarbledAt body reply (length reply - length rest + place)
 
-pub underway_at_first : (body reply : List ℕ) (answers : List Answer) → IsBody body → answers ≡ [] → Underway body reply body reply answers
+pub underway_at_first : (body reply : List ℕ) (answers : List Answer) → SpellsRequests body → answers ≡ [] → Underway body reply body reply answers
 underway_at_first body reply answers is none = record {
   requests = is;
   within = omega arith;
@@ -69,7 +71,7 @@ module _ (body reply asked rest asked_left rest_left : List ℕ) (answers : List
       sym (append_assoc answers (answer_of first ∷ []) later) ∙ ap (λ (front : List Answer). front ++ later) (sym middle_is) in
       subst (IsJoined body reply) list (under.joined (answer_of first ∷ later) here)
 
-  after_done : (middle : List Answer) → middle ≡ answers ++ answer_of first ∷ [] → IsBody asked_left → IsDone request first → Underway body reply asked_left rest_left middle
+  after_done : (middle : List Answer) → middle ≡ answers ++ answer_of first ∷ [] → SpellsRequests asked_left → IsDone request first → Underway body reply asked_left rest_left middle
   after_done middle middle_is left done = record {
     requests = left;
     within = fewer;
@@ -85,16 +87,16 @@ module _ (body reply asked rest asked_left rest_left : List ℕ) (answers : List
       (joined_failed request first asked_left more is answer.is failed skipped) in
       subst (IsJoined body reply) (sym (append-nil (middle ++ more)) ∙ ap (λ (back : List Answer). (middle ++ more) ++ back) (sym none.1)) (pushed middle more middle_is whole)
 
-  after_failed : (middle more : List Answer) → middle ≡ answers ++ answer_of first ∷ [] → IsBody asked_left → AreSkipped asked_left more → IsFailed request first
+  after_failed : (middle more : List Answer) → middle ≡ answers ++ answer_of first ∷ [] → SpellsRequests asked_left → AreSkipped asked_left more → IsFailed request first
       → Underway body reply [] rest_left (middle ++ more)
   after_failed middle more middle_is left skipped failed = record {
-    requests = record { requests = []; ranges = tt; spelled = refl };
+    requests = ([], tt, refl);
     within = fewer;
     joined = λ later joined. joined_behind middle more later middle_is skipped failed joined;
     garbled = λ place garbled. moved place (garbled_behind_fault request first asked_left is answer.is rest_left place failed left garbled);
   }
 
-  pub step : (middle new : List Answer) (left : List ℕ) → middle ≡ answers ++ answer_of first ∷ [] → IsBody asked_left
+  pub step : (middle new : List Answer) (left : List ℕ) → middle ≡ answers ++ answer_of first ∷ [] → SpellsRequests asked_left
       → ((first.code ≡ 0) × (left ≡ asked_left) × (new ≡ middle)) ⊎ ((first.code ≢ 0) × (left ≡ []) × ((more : List Answer) × AreSkipped asked_left more × (new ≡ middle ++ more)))
       → Underway body reply left rest_left new
   step middle new left middle_is body_left (inl done) =
@@ -105,14 +107,15 @@ module _ (body reply asked rest asked_left rest_left : List ℕ) (answers : List
 
 -- ---- the ends
 
-pub cut_at : (body reply asked rest asked_left at_fault : List ℕ) (answers : List Answer) (request : Request) → Underway body reply asked rest answers → IsRequest request
-    → asked ≡ request_words request ++ asked_left → IsBody asked_left → IsCut request rest at_fault → IsGarbledAt body reply (length reply - length at_fault)
-cut_at body reply asked rest asked_left at_fault answers request under is parts later (inl bad) =
-    subst (IsGarbledAt body reply) (omega (arith, ap length bad.0))
-    (under.garbled 0 (rw parts (no_header request asked_left rest is (subst IsBody parts under.requests) bad.1)))
-cut_at body reply asked rest asked_left at_fault answers request under is parts later (inr short) =
-    subst (IsGarbledAt body reply) (omega (arith, under.within, ap length short.0))
-    (under.garbled (length rest) (rw parts (ends_early request asked_left rest is later short.1)))
+-- the place where no reply to the next request stands
+pub none_at : (body reply asked rest asked_left : List ℕ) (why : NoReply) (answers : List Answer) (request : Request) → Underway body reply asked rest answers → IsRequest request
+    → asked ≡ request_words request ++ asked_left → SpellsRequests asked_left → HasNoReply request rest why → IsGarbledAt body reply (fault_place why (length reply) (length rest))
+none_at body reply asked rest asked_left Header answers request under is parts later bad =
+    subst (IsGarbledAt body reply) (omega arith)
+    (under.garbled 0 (rw parts (no_header request asked_left rest is (subst SpellsRequests parts under.requests) bad)))
+none_at body reply asked rest asked_left TooShort answers request under is parts later short =
+    subst (IsGarbledAt body reply) (omega (arith, under.within))
+    (under.garbled (length rest) (rw parts (ends_early request asked_left rest is later short)))
 
 pub words_left : (body reply asked rest : List ℕ) (answers : List Answer) → Underway body reply asked rest answers → length asked ≡ 0 → 0 < length rest
     → IsGarbledAt body reply (length reply - length rest)

@@ -1,4 +1,4 @@
--- Words that are no reply to a body, and the word at which they stop being one.
+-- Words that are no reply to a body, and the word at which they stop being one. Profile.
 use Rattle.std.specs.Prelude.{ℕ, ◌≤◌, List, length, take}
 use Rattle.ipb_base.specs.Lists.{IsPrefix}
 use Rattle.transaction_codec.specs.Answer.{IsReplyTo}

@@ -1,4 +1,4 @@
--- What a reply answers to the requests of a body.
+-- What a reply answers to the requests of a body. IPbus 2.0, transactions; that the first fault ends a packet is the profile's.
 use Rattle.std.specs.Prelude.{◌≡◌, ℕ, ◌-◌, ◌==◌, not, if◌then◌else◌, List, ◌++◌, length, map, replicate}
 use Rattle.transaction_codec.specs.declared.request.Request.{Request}
 use Rattle.transaction_codec.specs.declared.reply.Reply.{Reply}
@@ -9,11 +9,9 @@ use Rattle.transaction_codec.specs.Answer.{IsReplyTo}
 use Rattle.reply_join.specs.declared.answer.Answer.{Answer}
 use Rattle.reply_join.specs.declared.answer.Answer.TheVariants.{Values, Done, Fault, Skipped}
 
--- the words are a body of requests alone, which a reader of requests accepts
-pub record IsBody (body : List ℕ) : Type 0 where
-  pub requests : List Request
-  pub ranges : AreRequests requests
-  pub spelled : body ≡ requests_words requests
+-- the words are those of requests alone, as a reader of requests accepts them
+abbrev pub SpellsRequests : List ℕ → Type 0
+SpellsRequests body = (requests : List Request) × AreRequests requests × (body ≡ requests_words requests)
 
 -- what one reply says of its request: the values of a read or of an RMW, that a write was done, or the fault
 abbrev pub answer_of : Reply → Answer

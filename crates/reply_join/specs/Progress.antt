@@ -1,15 +1,18 @@
 -- What the steps of joining say of one request and the words that are left of the reply. No public clause speaks of it.
-use Rattle.std.specs.Prelude.{◌≡◌, ℕ, ◌<◌, ◌⊎◌, List, [], ◌∷◌, ◌++◌, length, replicate}
+use Rattle.std.specs.Prelude.{◌≡◌, ℕ, ◌-◌, ◌<◌, ◌⊎◌, List, ◌∷◌, ◌++◌, length, replicate}
 use Rattle.transaction_codec.specs.declared.request.Op.{Op}
 use Rattle.transaction_codec.specs.declared.request.Request.{Request}
 use Rattle.transaction_codec.specs.declared.reply.Reply.{Reply}
 use Rattle.transaction_codec.specs.declared.info_code.TheConstants.{SUCCESS}
 use Rattle.transaction_codec.specs.Header.{header}
-use Rattle.transaction_codec.specs.Request.{op_kind, op_count, AreRequests, requests_words}
+use Rattle.transaction_codec.specs.Request.{op_kind, op_count}
 use Rattle.transaction_codec.specs.Reply.{IsReply, reply_words, values_after}
 use Rattle.transaction_codec.specs.Answer.{Fails, IsDone, IsFailed}
 use Rattle.reply_join.specs.declared.answer.Answer.{Answer}
 use Rattle.reply_join.specs.declared.answer.Answer.TheVariants.{Skipped}
+use Rattle.reply_join.specs.declared.joining.NoReply.{NoReply}
+use Rattle.reply_join.specs.declared.joining.NoReply.TheVariants.{Header, TooShort}
+use Rattle.reply_join.specs.Joining.{SpellsRequests}
 
 -- the operation can fail with this info code after so many words
 abbrev pub CanFail : Op → ℕ → ℕ → Type 0
@@ -43,15 +46,17 @@ pub record IsShort (request : Request) (words : List ℕ) : Type 0 where
   pub some : 0 < length more
   pub spelled : reply_words reply ≡ words ++ more
 
--- No reply to the request stands at the front of the words. What is left of them from the first word at fault on is all, for
--- the header is at fault, or nothing, for the words end too early.
-abbrev pub IsCut : Request → List ℕ → List ℕ → Type 0
-IsCut request words at_fault =
-    ((at_fault ≡ words) × HasNoHeader request words) ⊎ ((at_fault ≡ []) × IsShort request words)
+-- why no reply to the request stands at the front of the words
+abbrev pub HasNoReply : Request → List ℕ → NoReply → Type 0
+HasNoReply request words Header = HasNoHeader request words
+HasNoReply request words TooShort = IsShort request words
+
+-- the place of the fault in a reply of so many words, of which so many are left: a header at fault is the first of them
+abbrev pub fault_place : NoReply → ℕ → ℕ → ℕ
+fault_place Header all left = all - left
+fault_place TooShort all left = all
 
 -- each of these requests stands behind one that failed
 pub record AreSkipped (body : List ℕ) (answers : List Answer) : Type 0 where
-  pub requests : List Request
-  pub ranges : AreRequests requests
-  pub spelled : body ≡ requests_words requests
-  pub skipped : answers ≡ replicate (length requests) Skipped
+  pub spells : SpellsRequests body
+  pub skipped : answers ≡ replicate (length spells.0) Skipped

@@ -1,15 +1,14 @@
 ghost use Rattle.std.specs.Prelude.{◌≡◌, IfOk};
-ghost use Rattle.transaction_codec.specs.Header as of_header;
-ghost use Rattle.transaction_codec.specs.First.{reply_of};
+ghost use Rattle.transaction_codec.specs.First.{op_of, reply_of};
+ghost use Rattle.transaction_codec.specs.Request.{op_kind};
 ghost use Rattle.reply_join.specs.Joining as of_joining;
 
 use ipb_base::{NoMemory, Words};
 use std::alloc::Global;
-use transaction_codec::FirstReply;
 use transaction_codec::info_code::SUCCESS;
-use transaction_codec::transaction_type::{WRITE, WRITE_PORT};
+use transaction_codec::{FirstReply, OpRef};
 
-/// What a reply answers to one request.
+/// What a reply answers to one request. IPbus 2.0, transaction header; what a failed transaction did is the profile's.
 #[derive(Debug, Drop)]
 pub enum Answer {
     /// The request was done, and these words were read: those of a read, or the one word before an RMW.
@@ -22,14 +21,13 @@ pub enum Answer {
     Skipped,
 }
 
-fn is_write(kind: u8) -> bool
-    ensures { result ≡ of_header.is_write kind }
-{
-    kind == WRITE || kind == WRITE_PORT
-}
-
-/// What one reply answers to its request.
-pub(crate) fn answer_of(alloc: Global, reply: &FirstReply<'_>) -> Result<Answer, NoMemory>
+/// What one reply, which fits this operation, answers to it.
+pub(crate) fn answer_of(
+    alloc: Global,
+    op: &OpRef<'_>,
+    reply: &FirstReply<'_>,
+) -> Result<Answer, NoMemory>
+    requires { reply.now.kind ≡ op_kind (op_of op.now) }
     ensures { IfOk result (λ answer. answer ≡ of_joining.answer_of (reply_of reply.now)) }
 {
     if reply.code != SUCCESS {
@@ -38,8 +36,8 @@ pub(crate) fn answer_of(alloc: Global, reply: &FirstReply<'_>) -> Result<Answer,
             after: reply.count,
         });
     }
-    if is_write(reply.kind) {
-        return Ok(Answer::Done);
+    match *op {
+        OpRef::Write { .. } | OpRef::WritePort { .. } => Ok(Answer::Done),
+        _ => Ok(Answer::Values(Words::from_vec(reply.values.to_vec(alloc)?))),
     }
-    Ok(Answer::Values(Words::from_vec(reply.values.to_vec(alloc)?)))
 }

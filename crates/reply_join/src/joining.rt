@@ -1,15 +1,15 @@
-ghost use Rattle.std.specs.Prelude.{◌≡◌, ◌≢◌, ◌⊎◌, ◌-◌, ◌<◌, ◌≤◌, ◌++◌, List, [], ◌∷◌, length, IfOk, IfErr, MatchResult};
+ghost use Rattle.std.specs.Prelude.{◌≡◌, ◌≢◌, ◌⊎◌, ◌<◌, ◌≤◌, ◌++◌, List, [], length, IfOk, IfErr, MatchResult};
 ghost use Rattle.transaction_codec.specs.First.{request_of, reply_of};
 ghost use Rattle.transaction_codec.specs.Request.{IsRequest, request_words};
 ghost use Rattle.transaction_codec.specs.Reply.{reply_words};
 ghost use Rattle.transaction_codec.specs.Answer.{IsReplyTo};
 ghost use Rattle.reply_join.specs.declared.answer.Answer.{Answer};
-ghost use Rattle.reply_join.specs.Joining.{IsBody, IsJoined, answers_to};
+ghost use Rattle.reply_join.specs.Joining.{SpellsRequests, IsJoined, answers_to};
 ghost use Rattle.reply_join.specs.Garbled.{IsRefusal};
-ghost use Rattle.reply_join.specs.Progress.{IsReplyOf, IsCut, AreSkipped};
+ghost use Rattle.reply_join.specs.Progress.{AreSkipped, HasNoReply, IsReplyOf, fault_place};
 
 use crate::answer::{Answer, answer_of};
-use crate::outcome::{kind_of, outcome_of, values_after};
+use crate::outcome::{outcome_of, values_after};
 use crate::refusal::JoinRefusal;
 use ipb_base::NoMemory;
 use std::alloc::Global;
@@ -17,10 +17,12 @@ use transaction_codec::info_code::SUCCESS;
 use transaction_codec::{FirstReply, FirstRequest, first_request};
 
 /// The answers that a reply's words give to a body's requests, one for each in order. A request behind one that failed is
-/// `Skipped`. `Garbled` comes exactly where no device that answers each access by a word or a code gives this reply; it names
-/// the first word at fault, or the reply's length where the reply ends too early.
+/// `Skipped`. `Garbled` comes exactly where the words are no reply to the body by the rules of IPbus 2.0 transactions and
+/// the profile; it names the first word at fault, or the reply's length where the reply ends too early.
+///
+/// The body is the words of requests alone, as `read_requests` of `transaction_codec` accepts them.
 pub fn join_reply(alloc: Global, body: &[u32], reply: &[u32]) -> Result<Vec<Answer>, JoinRefusal>
-    requires { IsBody body.now }
+    requires { SpellsRequests body.now }
     ensures joined { IfOk result (λ answers. IsJoined body.now reply.now answers.items) }
     // Only want of memory refuses what is a reply to the body.
     ensures only { (is : IsReplyTo body.now reply.now) → MatchResult result
@@ -35,55 +37,64 @@ pub fn join_reply(alloc: Global, body: &[u32], reply: &[u32]) -> Result<Vec<Answ
         let request = next_request(asked);
         match reply_to(&request, rest) {
             Ok(first) => {
-                answers.push(answer_of(alloc, &first)?)?;
-                asked = left_after(&first, request.rest, &mut answers)?;
+                answers.push(answer_of(alloc, &request.op, &first)?)?;
+                asked = skip_behind_fault(&first, request.rest, &mut answers)?;
                 rest = first.rest;
             }
-            Err(at_fault) => return Err(garbled_at(reply, at_fault)),
+            Err(why) => return Err(refusal_at(reply, rest, why)),
         }
     }
+    // No request is left that this word could answer.
     if !rest.is_empty() {
-        return Err(garbled_at(reply, rest));
+        return Err(refusal_at(reply, rest, NoReply::Header));
     }
     Ok(answers)
 }
 
 /// The first request of a body that has one.
 fn next_request(body: &[u32]) -> FirstRequest<'_>
-    requires body { IsBody body.now }
+    requires body { SpellsRequests body.now }
     requires some { 0 < length body.now }
     ensures is { IsRequest (request_of result) }
     ensures parts { body.now ≡ request_words (request_of result) ++ result.rest.now }
-    ensures rest { IsBody result.rest.now }
+    ensures rest { SpellsRequests result.rest.now }
     ensures shorter { length result.rest.now < length body.now }
 {
-    match first_request(body) {
-        Ok(first) => first,
-        Err(_) => unreachable!(),
-    }
+    let Ok(first) = first_request(body) else {
+        unreachable!()
+    };
+    first
 }
 
-/// The reply to the request at the front of the words, or what is left of them from the first word at fault on: all of them
-/// where that is the header, and nothing where they end too early.
-fn reply_to<'a>(request: &FirstRequest<'_>, words: &'a [u32]) -> Result<FirstReply<'a>, &'a [u32]>
+/// Why no reply to a request stands at the front of words.
+#[derive(Clone, Copy, Debug)]
+pub(crate) enum NoReply {
+    /// The first word is no header of a reply to it, or no request is left.
+    Header,
+    /// The words end before the reply does.
+    TooShort,
+}
+
+/// The reply to the request at the front of the words.
+fn reply_to<'a>(request: &FirstRequest<'_>, words: &'a [u32]) -> Result<FirstReply<'a>, NoReply>
     requires { IsRequest (request_of request.now) }
     ensures found { IfOk result (λ first. IsReplyOf (request_of request.now) (reply_of first)
         × (words.now ≡ reply_words (reply_of first) ++ first.rest.now)) }
-    ensures cut { IfErr result (λ at_fault. IsCut (request_of request.now) words.now at_fault.now) }
+    ensures none { IfErr result (HasNoReply (request_of request.now) words.now) }
 {
     let [word, after @ ..] = words else {
-        return Err(words);
+        return Err(NoReply::TooShort);
     };
     let Some(outcome) = outcome_of(request, *word) else {
-        return Err(words);
+        return Err(NoReply::Header);
     };
     let carried = values_after(&request.op, outcome.count);
     if after.len() < carried {
-        return Err(&[]);
+        return Err(NoReply::TooShort);
     }
     Ok(FirstReply {
         tid: request.tid,
-        kind: kind_of(&request.op),
+        kind: request.op.kind(),
         count: outcome.count,
         code: outcome.code,
         values: &after[..carried],
@@ -92,12 +103,12 @@ fn reply_to<'a>(request: &FirstRequest<'_>, words: &'a [u32]) -> Result<FirstRep
 }
 
 /// The requests behind this reply's that have replies too. Where it failed there are none: each of them is skipped.
-fn left_after<'a>(
+fn skip_behind_fault<'a>(
     reply: &FirstReply<'_>,
     requests: &'a [u32],
     answers: &mut Vec<Answer>,
 ) -> Result<&'a [u32], NoMemory>
-    requires { IsBody requests.now }
+    requires { SpellsRequests requests.now }
     ensures { IfOk result (λ left.
         ((reply.now.code ≡ SUCCESS) × (left.now ≡ requests.now) × (answers.new.items ≡ answers.old.items))
         ⊎ ((reply.now.code ≢ SUCCESS) × (left.now ≡ []) × ((more : List Answer) × AreSkipped requests.now more
@@ -112,7 +123,7 @@ fn left_after<'a>(
 
 /// Answers each of the requests `Skipped`.
 fn skip(requests: &[u32], answers: &mut Vec<Answer>) -> Result<(), NoMemory>
-    requires { IsBody requests.now }
+    requires { SpellsRequests requests.now }
     ensures { IfOk result (λ _. (more : List Answer) × AreSkipped requests.now more
         × (answers.new.items ≡ answers.old.items ++ more)) }
 {
@@ -124,12 +135,15 @@ fn skip(requests: &[u32], answers: &mut Vec<Answer>) -> Result<(), NoMemory>
     Ok(())
 }
 
-/// The refusal of a reply that ends with these words, of which the first is at fault.
-fn garbled_at(reply: &[u32], at_fault: &[u32]) -> JoinRefusal
-    requires { length at_fault.now ≤ length reply.now }
-    ensures { result ≡ JoinRefusal.Garbled (length reply.now - length at_fault.now) }
+/// The refusal of a reply where no reply stands at the front of what is left of it.
+fn refusal_at(reply: &[u32], rest: &[u32], why: NoReply) -> JoinRefusal
+    requires { length rest.now ≤ length reply.now }
+    ensures { result ≡ JoinRefusal.Garbled (fault_place why (length reply.now) (length rest.now)) }
 {
-    let place = reply.len() - at_fault.len();
+    let place = match why {
+        NoReply::Header => reply.len() - rest.len(),
+        NoReply::TooShort => reply.len(),
+    };
     JoinRefusal::Garbled {
         place: place as u64,
     }

@@ -11,8 +11,8 @@ ghost use Rattle.reply_join.specs.declared.answer.Answer.TheVariants.{Values, Do
 ghost use Rattle.reply_join.specs.Joining.{IsJoined, answer_of, answers_to};
 ghost use Rattle.reply_join.specs.Garbled.{IsGarbledAt};
 
-/// The answer to a request that was done is its values or that its writing was done, and the answer to one that failed is the
-/// fault.
+/// The answer to a request that was done is its values or that its writing was done, and the answer to one that failed is
+/// the fault.
 pub fn each_answer_says_how_its_request_ended()
     ensures write { (request : Request) (reply : Reply) → IsDone request reply → is_write (op_kind request.op) ≡ true →
         answer_of reply ≡ Done }

@@ -1,5 +1,4 @@
-ghost use Rattle.std.specs.Prelude.{◌≡◌, ℕ, ◌≤◌, ◌<◌, ◌^◌, MatchBool, MatchOption};
-ghost use Rattle.transaction_codec.specs.Header.{count_of, code_of};
+ghost use Rattle.std.specs.Prelude.{◌≡◌, ℕ, MatchBool, MatchOption};
 ghost use Rattle.transaction_codec.specs.First.{op_of, request_of};
 ghost use Rattle.transaction_codec.specs.Request as of_request;
 ghost use Rattle.transaction_codec.specs.Request.{IsRequest};
@@ -7,29 +6,13 @@ ghost use Rattle.transaction_codec.specs.Reply as of_reply;
 ghost use Rattle.reply_join.specs.Progress.{CanFail, IsOutcome, IsHeaderTo};
 
 use transaction_codec::info_code::{READ_ERROR, READ_TIMEOUT, SUCCESS, WRITE_ERROR, WRITE_TIMEOUT};
-use transaction_codec::transaction_type::{READ, READ_PORT, RMW_BITS, RMW_SUM, WRITE, WRITE_PORT};
-use transaction_codec::{FirstRequest, OpRef, header};
+use transaction_codec::{FirstRequest, OpRef, code_of, count_of, header};
 
 /// What the header of a reply says of its request: the words that were done, and the info code.
 #[derive(Clone, Copy, Debug)]
 pub(crate) struct Outcome {
     pub(crate) count: u8,
     pub(crate) code: u8,
-}
-
-/// The type of an operation. IPbus 2.0, transaction header.
-pub(crate) fn kind_of(op: &OpRef<'_>) -> u8
-    ensures value { result ≡ of_request.op_kind (op_of op.now) }
-    ensures known { result ≤ 5 }
-{
-    match *op {
-        OpRef::Read { .. } => READ,
-        OpRef::ReadPort { .. } => READ_PORT,
-        OpRef::Write { .. } => WRITE,
-        OpRef::WritePort { .. } => WRITE_PORT,
-        OpRef::RmwBits { .. } => RMW_BITS,
-        OpRef::RmwSum { .. } => RMW_SUM,
-    }
 }
 
 /// The values after the header of a reply: a write has none.
@@ -42,22 +25,12 @@ pub(crate) fn values_after(op: &OpRef<'_>, count: u8) -> usize
     }
 }
 
-/// The words that an operation reads or writes.
-fn op_count(op: &OpRef<'_>) -> usize
-    ensures { result ≡ of_request.op_count (op_of op.now) }
-{
-    match *op {
-        OpRef::Read { count, .. } | OpRef::ReadPort { count, .. } => count as usize,
-        OpRef::Write { words, .. } | OpRef::WritePort { words, .. } => words.len(),
-        OpRef::RmwBits { .. } | OpRef::RmwSum { .. } => 1,
-    }
-}
-
-/// Whether an operation can fail with this info code after so many words: before its end, and an RMW before its word. Profile.
+/// Whether an operation can fail with this info code after so many words: before its end, and an RMW before its word.
+/// Profile.
 fn can_fail(op: &OpRef<'_>, count: u8, code: u8) -> bool
     ensures { MatchBool result (CanFail (op_of op.now) count code) (CanFail (op_of op.now) count code → ⊥) }
 {
-    let early = (count as usize) < op_count(op);
+    let early = (count as usize) < op.count();
     match *op {
         OpRef::Read { .. } | OpRef::ReadPort { .. } => {
             early && (code == READ_ERROR || code == READ_TIMEOUT)
@@ -76,7 +49,7 @@ fn is_outcome(op: &OpRef<'_>, count: u8, code: u8) -> bool
     ensures { MatchBool result (IsOutcome (op_of op.now) count code) (IsOutcome (op_of op.now) count code → ⊥) }
 {
     if code == SUCCESS {
-        return count as usize == op_count(op);
+        return count as usize == op.count();
     }
     can_fail(op, count, code)
 }
@@ -88,9 +61,9 @@ pub(crate) fn outcome_of(request: &FirstRequest<'_>, word: u32) -> Option<Outcom
         ((count code : ℕ) → IsHeaderTo (request_of request.now) word count code → ⊥)
         (λ outcome. IsHeaderTo (request_of request.now) word outcome.count outcome.code) }
 {
-    let count = ((word >> 8) & 0xff) as u8;
-    let code = (word & 0xf) as u8;
-    if word != header(request.tid, count, kind_of(&request.op), code) {
+    let count = count_of(word);
+    let code = code_of(word);
+    if word != header(request.tid, count, request.op.kind(), code) {
         return None;
     }
     if !is_outcome(&request.op, count, code) {

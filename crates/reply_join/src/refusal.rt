@@ -7,9 +7,10 @@ use std::alloc::{AllocError, AllocFailed};
 /// Why a reply was not joined to a body.
 #[derive(Clone, Copy, Debug, PartialEq, Eq)]
 pub enum JoinRefusal {
-    /// No device gives this reply to this body. `place`, in words from 0, is the first word at fault, or the reply's length
-    /// where it ends too early.
+    /// The words are no reply to this body (IPbus 2.0, transactions). `place`, in words from 0, is the first word at fault,
+    /// or the reply's length where it ends too early.
     Garbled { place: u64 },
+    /// Memory ran out.
     NoMemory,
 }
 

@@ -56,6 +56,52 @@ fn each_request_gets_what_it_asked_for(rt: HostRuntime) -> Result<(), Fail> {
 }
 
 #[test]
+fn one_word_is_read(rt: HostRuntime) -> Result<(), Fail> {
+    let body = [0x2000_010f, 4];
+    let answers = joined(rt.alloc(), &body, &[0x2000_0100, 0xabcd])??;
+    let [Answer::Values(values)] = answers.as_slice() else {
+        return Err("not one answer")?;
+    };
+    assert_eq!(rt; values.as_slice(), [0xabcd].as_slice());
+    let other = joined(rt.alloc(), &body, &[0x2001_0100, 0xabcd])?;
+    assert!(rt; matches!(other, Err(JoinRefusal::Garbled { place: 0 })));
+    let short = joined(rt.alloc(), &body, &[0x2000_0100])?;
+    assert!(rt; matches!(short, Err(JoinRefusal::Garbled { place: 1 })));
+    Ok(())
+}
+
+#[test]
+fn ports_answer_and_an_rmw_fails(rt: HostRuntime) -> Result<(), Fail> {
+    let body = [
+        0x2000_022f,
+        5,
+        0x2001_013f,
+        6,
+        7,
+        0x2002_014f,
+        8,
+        0xff,
+        1,
+        0x2003_015f,
+        8,
+        1,
+    ];
+    let reply = [0x2000_0220, 1, 2, 0x2001_0130, 0x2002_0046];
+    let answers = joined(rt.alloc(), &body, &reply)??;
+    let [
+        Answer::Values(read),
+        Answer::Done,
+        Answer::Fault { code: 6, after: 0 },
+        Answer::Skipped,
+    ] = answers.as_slice()
+    else {
+        return Err("not the four answers")?;
+    };
+    assert_eq!(rt; read.as_slice(), [1, 2].as_slice());
+    Ok(())
+}
+
+#[test]
 fn requests_behind_a_fault_are_skipped(rt: HostRuntime) -> Result<(), Fail> {
     let body = [0x2000_0a0f, 0x1000, 0x2001_010f, 0];
     let reply = [0x2000_0804, 0, 0, 0, 0, 0, 0, 0, 0];

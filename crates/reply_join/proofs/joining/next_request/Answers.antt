@@ -3,7 +3,7 @@ use Rattle.transaction_codec.specs.First.{request_of}
 use Rattle.reply_join.proofs.joining.next_request.Goals as goal
 
 pub unreachable-requires : goal.unreachable-requires
-unreachable-requires c = has_request c.args.body.now c.requires.body _ c.requires.some c.in-Err.ensures.exact
+unreachable-requires c = has_request c.args.body.now c.requires.body _ c.requires.some c.in_default.ensures.exact
 
 pub returns-clause-rest : goal.returns-clause-rest
 returns-clause-rest c =

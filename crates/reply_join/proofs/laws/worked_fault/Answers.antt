@@ -37,7 +37,7 @@ is_failed : IsFailed first reply
 is_failed = record { tid = refl; kind = refl; fault = (inl refl, lit< tt, refl) }
 
 skipped : AreSkipped (0x2001010f ∷ 0 ∷ []) (Skipped ∷ [])
-skipped = record { requests = second ∷ []; ranges = (is_second, tt); spelled = refl; skipped = refl }
+skipped = record { spells = (second ∷ [], (is_second, tt), refl); skipped = refl }
 
 pub returns : goal.returns
 returns c = joined_failed first reply (0x2001010f ∷ 0 ∷ []) (Skipped ∷ []) is_first is_reply is_failed skipped

@@ -5,7 +5,7 @@ use Rattle.transaction_codec.specs.declared.reply.Reply.{Reply}
 use Rattle.transaction_codec.specs.Request.{IsRequest}
 use Rattle.transaction_codec.specs.Reply.{IsReply}
 use Rattle.transaction_codec.specs.Answer.{IsDone}
-use Rattle.reply_join.specs.Joining.{IsBody}
+use Rattle.reply_join.specs.Joining.{SpellsRequests}
 use Rattle.reply_join.specs.Progress.{IsOutcome}
 use Rattle.reply_join.proofs.Garbled.{no_header, ends_early, garbled_later, garbled_end}
 use Rattle.reply_join.proofs.Joined.{joined_nothing, joined_done}
@@ -26,11 +26,11 @@ is_reply = record { tid = lit< tt; count = lit< tt; form = inl (refl, inl (inl r
 is_done : IsDone request reply
 is_done = record { tid = refl; kind = refl; code = refl; count = refl; values = refl }
 
-nothing : IsBody []
-nothing = record { requests = []; ranges = tt; spelled = refl }
+nothing : SpellsRequests []
+nothing = ([], tt, refl)
 
-body : IsBody (0x2000010f ∷ 4 ∷ [])
-body = record { requests = request ∷ []; ranges = (is_request, tt); spelled = refl }
+body : SpellsRequests (0x2000010f ∷ 4 ∷ [])
+body = (request ∷ [], (is_request, tt), refl)
 
 pub returns-clause-joined : goal.returns-clause-joined
 returns-clause-joined c = joined_done request reply [] [] [] is_request is_reply is_done joined_nothing

@@ -1,7 +1,7 @@
--- To do the pieces of an operation is to do the operation.
-use Rattle.std.proofs.Common.{◌≡◌, ℕ, zero, suc, ◌+◌, ◌-◌, ◌*◌, ◌≤◌, ◌++◌, List, [], ◌∷◌, length, map, min, take, drop, refl, sym, ap, ◌∙◌, inl, inr, arith, append-nil, length-take, length-drop}
+-- The pieces of an operation ask for the accesses of the operation.
+use Rattle.std.proofs.Common.{◌≡◌, ℕ, zero, suc, ◌+◌, ◌-◌, ◌*◌, ◌≤◌, ◌++◌, List, [], ◌∷◌, length, map, min, take, drop, replicate, refl, sym, ap, ◌∙◌, inl, inr, arith, append-nil, length-take, length-drop}
 use Rattle.std.specs.Int.{div_ceil}
-use Rattle.std.specs.List.{flat_map, range_with_len}
+use Rattle.std.specs.List.{flat_map, range_with_len, zip}
 use Rattle.std.proofs.lemmas.Bool.{cases_lt}
 use Rattle.std.proofs.lemmas.Grind.{flat_map-append, div_ceil_times}
 use Rattle.std.proofs.lemmas.List.{drop_all, take_all}
@@ -9,8 +9,59 @@ use Rattle.std.proofs.lemmas.List.FromFn.{map-range_with_len_more}
 use Rattle.std.proofs.Math.Seq.{take-add, take-length}
 use Rattle.transaction_codec.specs.declared.request.Op.{Op}
 use Rattle.transaction_codec.specs.declared.request.Op.TheVariants.{Read, ReadPort, Write, WritePort, RmwBits, RmwSum}
-use Rattle.mtu_packer.specs.Accesses.{reads, writes, reads_from, writes_from, accesses}
+use Rattle.mtu_packer.specs.Accesses.{Access, reads, writes, updates, masks, adds, accesses}
 use Rattle.mtu_packer.specs.Cutting.{cut, piece}
+
+-- so many reads, the first at this address, each next one `step` addresses on
+abbrev reads_from : ℕ → ℕ → ℕ → List Access
+reads_from step base zero = []
+reads_from step base (suc count) = reads base ∷ reads_from step (base + step) count
+
+-- likewise the writes of words
+abbrev writes_from : ℕ → ℕ → List ℕ → List Access
+writes_from step base [] = []
+writes_from step base (word ∷ words) = writes base word ∷ writes_from step (base + step) words
+
+-- the accesses of an operation, from address to address
+abbrev walk : Op → List Access
+walk (Read base count) = reads_from 1 base count
+walk (ReadPort base count) = reads_from 0 base count
+walk (Write base words) = writes_from 1 base words
+walk (WritePort base words) = writes_from 0 base words
+walk (RmwBits base and_term or_term) = updates base (masks and_term or_term) ∷ []
+walk (RmwSum base addend) = updates base (adds addend) ∷ []
+
+reads_of_block : (base count : ℕ) → map reads (range_with_len base count) ≡ reads_from 1 base count
+reads_of_block base zero = refl
+reads_of_block base (suc count) = ap (λ rest. reads base ∷ rest) (reads_of_block (base + 1) count)
+
+reads_of_port : (base count : ℕ) → map reads (replicate count base) ≡ reads_from 0 base count
+reads_of_port base zero = refl
+reads_of_port base (suc count) =
+    let same : base ≡ base + 0 = omega arith in
+    ap (λ rest. reads base ∷ rest) (reads_of_port base count ∙ ap (λ b. reads_from 0 b count) same)
+
+writes_of_block : (base : ℕ) (words : List ℕ) → map (λ at. writes at.0 at.1) (zip (range_with_len base (length words)) words) ≡ writes_from 1 base words
+writes_of_block base [] = refl
+writes_of_block base (word ∷ words) = ap (λ rest. writes base word ∷ rest) (writes_of_block (base + 1) words)
+
+writes_of_port : (base : ℕ) (words : List ℕ) → map (writes base) words ≡ writes_from 0 base words
+writes_of_port base [] = refl
+writes_of_port base (word ∷ words) =
+    let same : base ≡ base + 0 = omega arith in
+    ap (λ rest. writes base word ∷ rest) (writes_of_port base words ∙ ap (λ b. writes_from 0 b words) same)
+
+accesses_are : (op : Op) → accesses op ≡ walk op
+accesses_are (Read base count) = reads_of_block base count
+accesses_are (ReadPort base count) = reads_of_port base count
+accesses_are (Write base words) = writes_of_block base words
+accesses_are (WritePort base words) = writes_of_port base words
+accesses_are (RmwBits base and_term or_term) = refl
+accesses_are (RmwSum base addend) = refl
+
+all_accesses_are : (ops : List Op) → flat_map accesses ops ≡ flat_map walk ops
+all_accesses_are [] = refl
+all_accesses_are (op ∷ ops) = ap (λ front. front ++ flat_map accesses ops) (accesses_are op) ∙ ap (λ back. walk op ++ back) (all_accesses_are ops)
 
 reads_from-add : (step base m n : ℕ) → reads_from step base (m + n) ≡ reads_from step base m ++ reads_from step (base + m * step) n
 reads_from-add step base zero n = let none : 0 + n ≡ n = omega arith in let same : base ≡ base + 0 * step = omega arith in ap (reads_from step base) none ∙ ap (λ b. reads_from step b n) same
@@ -25,7 +76,7 @@ writes_from-append step base (word ∷ words) more =
     let same : base + step + length words * step ≡ base + length (word ∷ words) * step = omega arith in
     ap (λ rest. writes base word ∷ rest) (writes_from-append step (base + step) words more ∙ ap (λ b. writes_from step (base + step) words ++ writes_from step b more) same)
 
-pub reads_more : (step base limit count k : ℕ) → reads_from step base (min (k * limit) count) ++ reads_from step (base + k * limit * step) (min limit (count - k * limit)) ≡ reads_from step base (min ((k + 1) * limit) count)
+reads_more : (step base limit count k : ℕ) → reads_from step base (min (k * limit) count) ++ reads_from step (base + k * limit * step) (min limit (count - k * limit)) ≡ reads_from step base (min ((k + 1) * limit) count)
 reads_more step base limit count k = elim (cases_lt (k * limit) count) [
   | inl less ↦
       let n = min limit (count - k * limit) in
@@ -65,29 +116,29 @@ writes_more step base limit words k =
           ∙ sym (ap (λ ws. writes_from step base (front ++ ws)) none ∙ ap (writes_from step base) (append-nil front)) ∙ whole
     ]
 
-reads_front : (step base limit count : ℕ) (part : ℕ → Op) → ((k : ℕ) → accesses (part k) ≡ reads_from step (base + k * limit * step) (min limit (count - k * limit)))
-    → (k : ℕ) → flat_map accesses (map part (range_with_len 0 k)) ≡ reads_from step base (min (k * limit) count)
+reads_front : (step base limit count : ℕ) (part : ℕ → Op) → ((k : ℕ) → walk (part k) ≡ reads_from step (base + k * limit * step) (min limit (count - k * limit)))
+    → (k : ℕ) → flat_map walk (map part (range_with_len 0 k)) ≡ reads_from step base (min (k * limit) count)
 reads_front step base limit count part same zero = let none : 0 ≡ min (0 * limit) count = omega arith in ap (reads_from step base) none
 reads_front step base limit count part same (suc k) =
     let one : suc k ≡ k + 1 = omega arith in
-    ap (λ n. flat_map accesses (map part (range_with_len 0 n))) one
-    ∙ ap (flat_map accesses) (map-range_with_len_more part 0 k k (omega arith))
-    ∙ flat_map-append accesses (map part (range_with_len 0 k)) (part k ∷ [])
-    ∙ ap (λ done. done ++ (accesses (part k) ++ [])) (reads_front step base limit count part same k)
-    ∙ ap (λ more. reads_from step base (min (k * limit) count) ++ more) (append-nil (accesses (part k)) ∙ same k)
+    ap (λ n. flat_map walk (map part (range_with_len 0 n))) one
+    ∙ ap (flat_map walk) (map-range_with_len_more part 0 k k (omega arith))
+    ∙ flat_map-append walk (map part (range_with_len 0 k)) (part k ∷ [])
+    ∙ ap (λ done. done ++ (walk (part k) ++ [])) (reads_front step base limit count part same k)
+    ∙ ap (λ more. reads_from step base (min (k * limit) count) ++ more) (append-nil (walk (part k)) ∙ same k)
     ∙ reads_more step base limit count k
     ∙ ap (λ n. reads_from step base (min (n * limit) count)) (sym one)
 
-writes_front : (step base limit : ℕ) (words : List ℕ) (part : ℕ → Op) → ((k : ℕ) → accesses (part k) ≡ writes_from step (base + k * limit * step) (take (min limit (length words - k * limit)) (drop (k * limit) words)))
-    → (k : ℕ) → flat_map accesses (map part (range_with_len 0 k)) ≡ writes_from step base (take (k * limit) words)
+writes_front : (step base limit : ℕ) (words : List ℕ) (part : ℕ → Op) → ((k : ℕ) → walk (part k) ≡ writes_from step (base + k * limit * step) (take (min limit (length words - k * limit)) (drop (k * limit) words)))
+    → (k : ℕ) → flat_map walk (map part (range_with_len 0 k)) ≡ writes_from step base (take (k * limit) words)
 writes_front step base limit words part same zero = let none : 0 ≡ 0 * limit = omega arith in ap (λ n. writes_from step base (take n words)) none
 writes_front step base limit words part same (suc k) =
     let one : suc k ≡ k + 1 = omega arith in
-    ap (λ n. flat_map accesses (map part (range_with_len 0 n))) one
-    ∙ ap (flat_map accesses) (map-range_with_len_more part 0 k k (omega arith))
-    ∙ flat_map-append accesses (map part (range_with_len 0 k)) (part k ∷ [])
-    ∙ ap (λ done. done ++ (accesses (part k) ++ [])) (writes_front step base limit words part same k)
-    ∙ ap (λ more. writes_from step base (take (k * limit) words) ++ more) (append-nil (accesses (part k)) ∙ same k)
+    ap (λ n. flat_map walk (map part (range_with_len 0 n))) one
+    ∙ ap (flat_map walk) (map-range_with_len_more part 0 k k (omega arith))
+    ∙ flat_map-append walk (map part (range_with_len 0 k)) (part k ∷ [])
+    ∙ ap (λ done. done ++ (walk (part k) ++ [])) (writes_front step base limit words part same k)
+    ∙ ap (λ more. writes_from step base (take (k * limit) words) ++ more) (append-nil (walk (part k)) ∙ same k)
     ∙ writes_more step base limit words k
     ∙ ap (λ n. writes_from step base (take (n * limit) words)) (sym one)
 
@@ -95,13 +146,13 @@ writes_front step base limit words part same (suc k) =
 reaches_end : (count limit : ℕ) → 1 ≤ limit → min (div_ceil count limit * limit) count ≡ count
 reaches_end count limit some = let bounds = div_ceil_times count limit some in omega (arith, bounds.0)
 
-all_reads : (step base limit count : ℕ) (part : ℕ → Op) → 1 ≤ limit → ((k : ℕ) → accesses (part k) ≡ reads_from step (base + k * limit * step) (min limit (count - k * limit)))
-    → flat_map accesses (map part (range_with_len 0 (div_ceil count limit))) ≡ reads_from step base count
+all_reads : (step base limit count : ℕ) (part : ℕ → Op) → 1 ≤ limit → ((k : ℕ) → walk (part k) ≡ reads_from step (base + k * limit * step) (min limit (count - k * limit)))
+    → flat_map walk (map part (range_with_len 0 (div_ceil count limit))) ≡ reads_from step base count
 all_reads step base limit count part some same = reads_front step base limit count part same (div_ceil count limit) ∙ ap (reads_from step base) (reaches_end count limit some)
 
 all_writes : (step base limit : ℕ) (words : List ℕ) (part : ℕ → Op) → 1 ≤ limit
-    → ((k : ℕ) → accesses (part k) ≡ writes_from step (base + k * limit * step) (take (min limit (length words - k * limit)) (drop (k * limit) words)))
-    → flat_map accesses (map part (range_with_len 0 (div_ceil (length words) limit))) ≡ writes_from step base words
+    → ((k : ℕ) → walk (part k) ≡ writes_from step (base + k * limit * step) (take (min limit (length words - k * limit)) (drop (k * limit) words)))
+    → flat_map walk (map part (range_with_len 0 (div_ceil (length words) limit))) ≡ writes_from step base words
 all_writes step base limit words part some same =
     let past : length words ≤ div_ceil (length words) limit * limit = (div_ceil_times (length words) limit some).0 in
     writes_front step base limit words part same (div_ceil (length words) limit) ∙ ap (writes_from step base) (take_all (div_ceil (length words) limit * limit) words past)
@@ -112,18 +163,21 @@ goes_on base n = omega arith
 stays : (base n : ℕ) → base ≡ base + n * 0
 stays base n = omega arith
 
-pub pieces_do : (payload : ℕ) (op : Op) → 16 ≤ payload → flat_map accesses (cut payload op) ≡ accesses op
-pieces_do payload (Read base count) low =
+pieces_walk : (payload : ℕ) (op : Op) → 16 ≤ payload → flat_map walk (cut payload op) ≡ walk op
+pieces_walk payload (Read base count) low =
     all_reads 1 base (min 255 (payload - 2)) count (piece payload (Read base count)) (omega arith) (λ k. ap (λ b. reads_from 1 b (min (min 255 (payload - 2)) (count - k * min 255 (payload - 2)))) (goes_on base (k * min 255 (payload - 2))))
-pieces_do payload (ReadPort base count) low =
+pieces_walk payload (ReadPort base count) low =
     all_reads 0 base (min 255 (payload - 2)) count (piece payload (ReadPort base count)) (omega arith) (λ k. ap (λ b. reads_from 0 b (min (min 255 (payload - 2)) (count - k * min 255 (payload - 2)))) (stays base (k * min 255 (payload - 2))))
-pieces_do payload (Write base words) low =
-    let limit = min 255 (payload - 3) in
+pieces_walk payload (Write base words) low =
+    let limit = min 255 (payload - 2 - 1) in
     all_writes 1 base limit words (piece payload (Write base words)) (omega arith)
     (λ k. ap (λ b. writes_from 1 b (take (min limit (length words - k * limit)) (drop (k * limit) words))) (goes_on base (k * limit)))
-pieces_do payload (WritePort base words) low =
-    let limit = min 255 (payload - 3) in
+pieces_walk payload (WritePort base words) low =
+    let limit = min 255 (payload - 2 - 1) in
     all_writes 0 base limit words (piece payload (WritePort base words)) (omega arith)
     (λ k. ap (λ b. writes_from 0 b (take (min limit (length words - k * limit)) (drop (k * limit) words))) (stays base (k * limit)))
-pieces_do payload (RmwBits base and_term or_term) low = refl
-pieces_do payload (RmwSum base addend) low = refl
+pieces_walk payload (RmwBits base and_term or_term) low = refl
+pieces_walk payload (RmwSum base addend) low = refl
+
+pub pieces_ask : (payload : ℕ) (op : Op) → 16 ≤ payload → flat_map accesses (cut payload op) ≡ accesses op
+pieces_ask payload op low = all_accesses_are (cut payload op) ∙ pieces_walk payload op low ∙ sym (accesses_are op)
