@@ -1,4 +1,4 @@
--- How one list stands in another.
+-- How one list stands in another. Profile: the words in which what was read and written is told.
 use Rattle.std.specs.Prelude.{◌≡◌, ℕ, ◌<◌, List, ◌++◌, length, take}
 
 -- whole begins with front

@@ -1,4 +1,4 @@
--- The 32-bit words of which packets and transactions are made, and their bytes on the wire.
+-- The 32-bit words of which packets and transactions are made, and their bytes on the wire (IPbus 2.0, packets).
 use Rattle.std.specs.Prelude.{ℕ, ◌<◌, ◌^◌, List}
 use Rattle.std.specs.List.{AllByRecursion, flat_map}
 use Rattle.std.specs.Int.{w32, to_be_bytes}

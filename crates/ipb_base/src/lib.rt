@@ -1,14 +1,18 @@
-//! What every crate of the hub speaks of: want of memory and 32-bit words. The definitions that several
-//! crates cite, of words, of lists and of counted faults, are in `specs/`.
+//! What every crate of the hub speaks of: want of memory, 32-bit words, kept texts and the version of the protocol.
+//!
+//! The definitions that several crates cite, of words, of lists and of counted faults, are in `specs/`. Types over a vector
+//! or a string, here and above, are seen by contracts as a list, and are made and given back without taking memory.
 #![tactic(auto)]
 
 pub mod laws;
-mod line;
 mod no_memory;
+mod text;
+mod version;
 mod words;
 
-pub use line::Line;
 pub use no_memory::NoMemory;
+pub use text::Text;
+pub use version::VERSION;
 pub use words::Words;
 
 #[cfg(test)]

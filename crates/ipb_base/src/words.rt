@@ -1,7 +1,5 @@
-ghost use Rattle.std.specs.Prelude.{◌≡◌, ◌↔◌, IsTrue, IfOk, [], length};
+ghost use Rattle.std.specs.Prelude.{◌≡◌, ◌↔◌, IsTrue, [], length};
 
-use crate::NoMemory;
-use std::alloc::Global;
 use std::marker::Model;
 
 /// A list of 32-bit words. Contracts see it as that list.
@@ -34,6 +32,7 @@ impl Words {
         items
     }
 
+    /// The words.
     pub fn as_slice(&self) -> &[u32]
         ensures { result.now ≡ self.now }
     {
@@ -47,18 +46,10 @@ impl Words {
         self.items.len()
     }
 
+    /// Whether there are none.
     pub fn is_empty(&self) -> bool
         ensures { IsTrue result ↔ (self.now ≡ []) }
     {
         self.items.is_empty()
-    }
-
-    /// The same words in memory of their own.
-    pub fn copy(&self, alloc: Global) -> Result<Words, NoMemory>
-        ensures { IfOk result (λ copied. copied ≡ self.now) }
-    {
-        Ok(Words {
-            items: Vec::from_slice(alloc, self.items.as_slice())?,
-        })
     }
 }

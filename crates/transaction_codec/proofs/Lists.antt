@@ -1,13 +1,29 @@
 -- Lists of items one after the other, from the two laws of one item: what is read is spelled so, and what is spelled so is
 -- read, whatever follows.
-use Rattle.std.proofs.Common.{subst, inl, inr, ◌≡◌, ℕ, ◌+◌, ◌<◌, ◌≤◌, List, [], ◌∷◌, ◌++◌, length, drop, Result, Ok, Err, refl, sym, ap, ◌∙◌, append_assoc, arith}
+use Rattle.std.proofs.Common.{cond, eqb, subst, inl, inr, ◌≡◌, ℕ, ◌+◌, ◌<◌, ◌≤◌, List, [], ◌∷◌, ◌++◌, length, drop, Result, Ok, Err, refl, sym, ap, ◌∙◌, append_assoc, arith}
 use Rattle.std.proofs.lemmas.Bool.{cases_lt}
-use Rattle.std.proofs.lemmas.List.{drop_all, take_at, drop_at, length-append, append-nil, take-append-drop, length-drop}
+use Rattle.std.proofs.lemmas.List.{drop_all, take_at, drop_at, length-append, append-nil, take-append-drop, length-drop, length-take}
 use Rattle.std.proofs.lemmas.List.Concat.{flat_map-cons}
 use Rattle.std.specs.List.{AllByRecursion, flat_map}
 use Rattle.ipb_base.specs.Lists.{IsProperPrefix}
 use Rattle.transaction_codec.specs.declared.refusal.Why.{Why}
-use Rattle.transaction_codec.specs.Listing.{IsFirstRule, IsFirstFault}
+use Rattle.transaction_codec.specs.declared.refusal.Why.TheVariants.{Version, Kind, Code, Count, Short}
+use Rattle.transaction_codec.specs.Listing.{why_number, IsFirstRule, IsFirstFault}
+
+-- a rule by its number
+why_at : ℕ → Why
+why_at n = cond (eqb n 1) Version (cond (eqb n 2) Kind (cond (eqb n 3) Code (cond (eqb n 4) Count Short)))
+
+why_again : (why : Why) → why_at (why_number why) ≡ why
+unfolding why_at
+why_again Version = refl
+why_again Kind = refl
+why_again Code = refl
+why_again Count = refl
+why_again Short = refl
+
+rule_is : (why rule : Why) → why_number why ≡ why_number rule → why ≡ rule
+rule_is why rule same = sym (why_again why) ∙ ap why_at same ∙ why_again rule
 
 pub record IsFormat {Item : Type 0} (item_words : Item → List ℕ) (IsItem : Item → Type 0) (Breaks : Why → ℕ → List ℕ → Type 0)
     (item_at : List ℕ → Result (Item × List ℕ) Why) : Type 0 where
@@ -96,6 +112,31 @@ module _ {Item : Type 0} (item_words : Item → List ℕ) (IsItem : Item → Typ
         | inl lt ↦ lt
         | inr le ↦ absurd (subst (λ (rest : List ℕ). IsFirstRule Breaks rest why) (drop_all place words le) rule)
       ]
+
+  -- a header breaks one rule first
+  one_rule : (rest : List ℕ) (why rule : Why) → IsFirstRule Breaks rest why → IsFirstRule Breaks rest rule → why ≡ rule
+  one_rule [] why rule left right = absurd left
+  one_rule (word ∷ after) why rule left right =
+      elim (cases_lt (why_number why) (why_number rule)) [
+        | inl earlier ↦ absurd (right.1 why earlier left.0)
+        | inr not_earlier ↦ elim (cases_lt (why_number rule) (why_number why)) [
+          | inl later ↦ absurd (left.1 rule later right.0)
+          | inr not_later ↦ rule_is why rule (omega arith)
+        ]
+      ]
+
+  -- a fault is not behind another
+  not_behind : (words : List ℕ) (place other : ℕ) (why rule : Why) → IsFirstFault item_words IsItem Breaks words place why → IsFirstFault item_words IsItem Breaks words other rule → other ≤ place
+  not_behind words place other why rule left right =
+      let begins : words ≡ flat_map item_words right.before ++ drop other words = sym (take-append-drop other words) ∙ ap (λ (front : List ℕ). front ++ drop other words) right.front in
+      omega (arith, left.longest right.before right.ranges (drop other words, begins), ap length right.front, length-take other words, within words other rule right.rule)
+
+  -- words have one first fault
+  pub one_fault : (words : List ℕ) (place other : ℕ) (why rule : Why) → IsFirstFault item_words IsItem Breaks words place why → IsFirstFault item_words IsItem Breaks words other rule
+      → (place ≡ other) × (why ≡ rule)
+  one_fault words place other why rule left right =
+      let same : place ≡ other = omega (arith, not_behind words place other why rule left right, not_behind words other place rule why right left) in
+      (same, one_rule (drop other words) why rule (subst (λ (n : ℕ). IsFirstRule Breaks (drop n words) why) same left.rule) right.rule)
 
   -- words with a fault are no list
   pub fault_is_no_list : (words : List ℕ) (place : ℕ) (why : Why) → IsFirstFault item_words IsItem Breaks words place why → (items : List Item) → AllByRecursion IsItem items

@@ -1,6 +1,6 @@
 -- The longest answer to a body, request by request.
 use Rattle.std.proofs.Common.{subst, ◌≡◌, ℕ, zero, suc, ◌+◌, ◌^◌, ◌<◌, ◌≤◌, List, [], ◌∷◌, ◌++◌, length, Result, Ok, Err, IsErr, refl, sym, ap, ◌∙◌, append_assoc, arith, inl, inr, ◌⊎◌, replicate, length-append, lit<}
-use Rattle.std.proofs.lemmas.List.{append-nil, nil_from_length}
+use Rattle.std.proofs.lemmas.List.{append-nil}
 use Rattle.std.proofs.lemmas.List.Concat.{flat_map-cons}
 use Rattle.std.specs.Prelude.{is_err, true}
 use Rattle.ipb_base.specs.Word.{AreWords}
@@ -9,13 +9,13 @@ use Rattle.transaction_codec.specs.declared.request.Op.TheVariants.{Read, ReadPo
 use Rattle.transaction_codec.specs.declared.request.Request.{Request}
 use Rattle.transaction_codec.specs.declared.reply.Reply.{Reply}
 use Rattle.transaction_codec.specs.declared.refusal.Why.{Why}
-use Rattle.transaction_codec.specs.Request.{op_kind, op_count, IsRequest, AreRequests, request_words, requests_words, BreaksRequest, request_at}
+use Rattle.transaction_codec.specs.Request.{op_kind, op_count, IsRequest, AreRequests, request_words, requests_words, BreaksRequest, request_at, NoRequestAtFront}
 use Rattle.transaction_codec.specs.Reply.{Carries, IsReply, AreReplies, reply_words, replies_words}
 use Rattle.transaction_codec.specs.Answer.{values_done, Fails, IsDone, IsFailed, Answers, bad_header_reply, ending_of, IsReplyTo, CanAnswer, IsLongestAnswer, room_first, room_from, reply_room}
-use Rattle.transaction_codec.proofs.Lists.{same_first, longest}
+use Rattle.transaction_codec.proofs.Lists.{same_first}
 use Rattle.transaction_codec.proofs.Formats.{requests_format}
 use Rattle.transaction_codec.proofs.Requests.{request_again, request_found}
-use Rattle.transaction_codec.proofs.Steps.{AreWords-after}
+use Rattle.ipb_base.proofs.WordLemmas.{AreWords-after, AreWords-zeros}
 
 -- ---- a reply that was done
 
@@ -29,8 +29,7 @@ zeros-len (suc n) = ap suc (zeros-len n)
 
 zeros-words : (n : ℕ) → AreWords (zeros n)
 unfolding zeros
-zeros-words zero = tt
-zeros-words (suc n) = (lit< tt, zeros-words n)
+zeros-words n = AreWords-zeros n
 
 carries_done : (op : Op) → Carries 1 (op_kind op) (op_count op) (values_done op)
 carries_done (Read base count) = inl (inl refl, refl)
@@ -75,9 +74,9 @@ done_is_reply request is = record {
 
 -- ---- one request more at the front
 
--- a place where no request stands has no request
-pub no_request : (words : List ℕ) (request : Request) (rest : List ℕ) → IsErr (request_at words) → IsRequest request → words ≡ request_words request ++ rest → ⊥
-no_request words request rest bad is parts =
+-- where nothing is read no request stands
+pub no_request : (words : List ℕ) → IsErr (request_at words) → NoRequestAtFront words
+no_request words bad request rest is parts =
     let reads : request_at words ≡ Ok (request, rest) = ap request_at parts ∙ request_again request rest is in
     let found : Result (Request × List ℕ) Why = Ok (request, rest) in
     let clash : is_err found ≡ true = ap is_err (sym reads) ∙ bad in
@@ -85,7 +84,7 @@ no_request words request rest bad is parts =
 
 module _ (request : Request) (rest : List ℕ) (room : ℕ) (is : IsRequest request) (longest : (answer : List ℕ) → CanAnswer rest answer → length answer ≤ room) where
   -- a reply that was done is followed by an answer to the rest, and one that failed by nothing
-  step_replies : (q : Request) (qs : List Request) (tail : List ℕ) (r : Reply) (rs : List Reply) → request ≡ q → AreRequests qs → rest ≡ requests_words qs ++ tail → IsErr (request_at tail)
+  step_replies : (q : Request) (qs : List Request) (tail : List ℕ) (r : Reply) (rs : List Reply) → request ≡ q → AreRequests qs → rest ≡ requests_words qs ++ tail → NoRequestAtFront tail
       → AreReplies rs → (IsDone q r × Answers qs (ending_of tail) rs) ⊎ (IsFailed q r × (rs ≡ []))
       → length (replies_words (r ∷ rs)) ≤ 1 + values_done request.op + room
   step_replies q qs tail r rs same ranges parts bad items (inl done) =
@@ -100,8 +99,8 @@ module _ (request : Request) (rest : List ℕ) (room : ℕ) (is : IsRequest requ
       omega (arith, fewer, last, asked, ap length (flat_map-cons reply_words r rs), length-append (reply_words r) (replies_words rs))
 
   step_bound : (requests : List Request) (tail : List ℕ) (replies : List Reply) → AreRequests requests → request_words request ++ rest ≡ requests_words requests ++ tail
-      → IsErr (request_at tail) → AreReplies replies → Answers requests (ending_of tail) replies → length (replies_words replies) ≤ 1 + values_done request.op + room
-  step_bound [] tail replies ranges parts bad items answers = absurd (no_request tail request rest bad is (sym parts))
+      → NoRequestAtFront tail → AreReplies replies → Answers requests (ending_of tail) replies → length (replies_words replies) ≤ 1 + values_done request.op + room
+  step_bound [] tail replies ranges parts bad items answers = absurd (bad request rest is (sym parts))
   step_bound (q ∷ qs) tail [] ranges parts bad items answers = absurd answers
   step_bound (q ∷ qs) tail (r ∷ rs) ranges parts bad items answers =
       let spread = ap (λ (ws : List ℕ). ws ++ tail) (flat_map-cons request_words q qs) ∙ append_assoc (request_words q) (requests_words qs) tail in
@@ -142,35 +141,34 @@ longest_step request words rest room is parts after = record {
 -- ---- where no request stands
 
 -- where no request stands the ending is the answer
-ended : (words : List ℕ) (requests : List Request) (tail : List ℕ) (replies : List Reply) → IsErr (request_at words) → AreRequests requests → words ≡ requests_words requests ++ tail
+ended : (words : List ℕ) (requests : List Request) (tail : List ℕ) (replies : List Reply) → NoRequestAtFront words → AreRequests requests → words ≡ requests_words requests ++ tail
     → Answers requests (ending_of tail) replies → replies ≡ ending_of words
 ended words [] tail replies bad ranges parts answers = answers ∙ ap ending_of (sym parts)
 ended words (q ∷ qs) tail replies bad ranges parts answers =
-    absurd (no_request words q (requests_words qs ++ tail) bad ranges.0
+    absurd (bad q (requests_words qs ++ tail) ranges.0
     (parts ∙ ap (λ (ws : List ℕ). ws ++ tail) (flat_map-cons request_words q qs) ∙ append_assoc (request_words q) (requests_words qs) tail))
 
-no_more : (words : List ℕ) (room : ℕ) → IsErr (request_at words) → length (replies_words (ending_of words)) ≡ room → (answer : List ℕ) → CanAnswer words answer → length answer ≤ room
+no_more : (words : List ℕ) (room : ℕ) → NoRequestAtFront words → length (replies_words (ending_of words)) ≡ room → (answer : List ℕ) → CanAnswer words answer → length answer ≤ room
 no_more words room bad ending answer can =
     let last = ended words can.requests can.rest can.replies bad can.ranges can.parts can.answers in
     omega (arith, ending, ap (λ (rs : List Reply). length (replies_words rs)) last, ap length can.spelled)
 
-nothing_given : CanAnswer [] []
-unfolding request_at
-nothing_given = record { requests = []; rest = []; replies = []; ranges = tt; parts = refl; bad = refl; items = tt; answers = refl; spelled = refl }
+-- no words do not begin with one
+pub nothing_bad : NoRequestAtFront []
+nothing_bad request rest is parts = absurd (omega (arith, ap length parts, length-append (request_words request) rest))
 
-nothing_bad : IsErr (request_at [])
-unfolding request_at
-nothing_bad = refl
+nothing_given : CanAnswer [] []
+nothing_given = record { requests = []; rest = []; replies = []; ranges = tt; parts = refl; bad = nothing_bad; items = tt; answers = refl; spelled = refl }
 
 pub longest_nothing : IsLongestAnswer [] 0
 longest_nothing = record { longest = λ answer can. no_more [] 0 nothing_bad refl answer can; answer = []; given = nothing_given; reached = refl }
 
-bad_is_reply : (word : ℕ) → IsReply (bad_header_reply word)
+pub bad_is_reply : (word : ℕ) → IsReply (bad_header_reply word)
 bad_is_reply word = record { tid = omega arith; count = lit< tt; form = inr (inr (refl, refl, refl, refl)); values = tt }
 
 longest_bad : (word : ℕ) (words : List ℕ) (why : Why) → request_at (word ∷ words) ≡ Err why → IsLongestAnswer (word ∷ words) 1
 longest_bad word words why bad = record {
-  longest = no_more (word ∷ words) 1 (ap is_err bad) refl;
+  longest = no_more (word ∷ words) 1 (no_request (word ∷ words) (ap is_err bad)) refl;
   answer = reply_words (bad_header_reply word);
   given = record {
     requests = [];
@@ -178,7 +176,7 @@ longest_bad word words why bad = record {
     replies = bad_header_reply word ∷ [];
     ranges = tt;
     parts = refl;
-    bad = ap is_err bad;
+    bad = no_request (word ∷ words) (ap is_err bad);
     items = (bad_is_reply word, tt);
     answers = refl;
     spelled = refl;
@@ -231,16 +229,17 @@ reply_can_answer body reply is = record {
   spelled = is.spelled;
 }
 
-which_error : (read : Result (Request × List ℕ) Why) → IsErr read → (why : Why) × (read ≡ Err why)
-which_error (Ok x) bad = absurd cc
-which_error (Err why) bad = (why, refl)
-
 -- after requests that are all of the words nothing stands
-nothing_after : (requests all : List Request) (rest : List ℕ) → AreRequests requests → AreRequests all → IsErr (request_at rest) → requests_words requests ++ rest ≡ requests_words all → rest ≡ []
-nothing_after requests all rest ranges all_ranges bad e =
-    let why = which_error (request_at rest) bad in
-    let bound = longest request_words IsRequest BreaksRequest request_at requests_format requests all rest [] why.0 ranges all_ranges why.1 (e ∙ sym (append-nil (requests_words all))) in
-    nil_from_length rest (omega (arith, bound, ap length e, length-append (requests_words requests) rest))
+nothing_after : (requests all : List Request) (rest : List ℕ) → AreRequests requests → AreRequests all → NoRequestAtFront rest → requests_words requests ++ rest ≡ requests_words all → rest ≡ []
+nothing_after [] [] rest ranges all_ranges bad e = e
+nothing_after [] (q ∷ qs) rest ranges all_ranges bad e = absurd (bad q (requests_words qs) all_ranges.0 (e ∙ flat_map-cons request_words q qs))
+nothing_after (r ∷ rs) [] rest ranges all_ranges bad e =
+    absurd (omega (arith, ap length e, length-append (requests_words (r ∷ rs)) rest, ap length (flat_map-cons request_words r rs), length-append (request_words r) (requests_words rs)))
+nothing_after (r ∷ rs) (q ∷ qs) rest ranges all_ranges bad e =
+    let spread = ap (λ (ws : List ℕ). ws ++ rest) (flat_map-cons request_words r rs) ∙ append_assoc (request_words r) (requests_words rs) rest in
+    let same = same_first request_words IsRequest BreaksRequest request_at requests_format r q (requests_words rs ++ rest) (requests_words qs) ranges.0 all_ranges.0
+    (sym spread ∙ e ∙ flat_map-cons request_words q qs) in
+    nothing_after rs qs rest ranges.1 all_ranges.1 bad same.1
 
 pub answer_is_reply : (requests : List Request) (body answer : List ℕ) → AreRequests requests → body ≡ requests_words requests → CanAnswer body answer → IsReplyTo body answer
 answer_is_reply requests body answer ranges whole can =

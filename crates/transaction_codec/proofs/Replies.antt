@@ -1,6 +1,6 @@
 -- What is read as a reply is spelled so, and what is spelled so is read.
 use Rattle.std.proofs.Common.{◌≡◌, ℕ, zero, suc, ◌^◌, ◌<◌, ◌≤◌, Bool, true, false, cond, not, ◌&&◌, ◌||◌, List, [], ◌∷◌, ◌++◌, length, take, drop, Result, Ok, Err, refl, sym, ap, subst, ◌∙◌, arith, eqb, ltb, inl, inr, ◌⊎◌, eq-eqb}
-use Rattle.std.specs.Prelude.{MatchResult, IfOk}
+use Rattle.std.specs.Prelude.{IfOk, IfErr}
 use Rattle.std.proofs.lemmas.Bool.{eqb-true, ltb-false, ltb-true, le-ltb}
 use Rattle.std.proofs.lemmas.Bool.Decides.{nat_tests}
 use Rattle.std.proofs.lemmas.List.{take_at, drop_at, take-append-drop, length-append, length-take}
@@ -9,12 +9,13 @@ use Rattle.transaction_codec.specs.declared.reply.Reply.{Reply}
 use Rattle.transaction_codec.specs.declared.refusal.Why.{Why}
 use Rattle.transaction_codec.specs.declared.refusal.Why.TheVariants.{Version, Kind, Code, Count, Short}
 use Rattle.transaction_codec.specs.declared.first.FirstReply.{FirstReply}
-use Rattle.transaction_codec.specs.First.{reply_of}
+use Rattle.transaction_codec.specs.First.{reply_of, ReadsReply, IsFaultAtFront}
 use Rattle.transaction_codec.specs.Header.{header, version_of, tid_of, count_of, kind_of, code_of, is_rmw}
 use Rattle.transaction_codec.specs.Reply.{IsBusFault, Carries, HasForm, IsReply, is_reply_code, is_wrong_count, values_after, BreaksReply, reply_words, reply_at}
 use Rattle.transaction_codec.specs.Listing.{IsFirstRule}
 use Rattle.transaction_codec.proofs.Fields.{header-fields, HasFields, fields-header}
-use Rattle.transaction_codec.proofs.Steps.{test_of, Says, first_test, first_rule, no_test, passed, read, read_is, not-false, AreWords-take}
+use Rattle.ipb_base.proofs.WordLemmas.{AreWords-take}
+use Rattle.transaction_codec.proofs.Steps.{test_of, Says, first_test, first_rule, no_test, passed, read, read_is, not-false}
 
 -- the rules on a header's type, info code and words field, as tests
 abbrev is_wrong_kind : ℕ → ℕ → Bool
@@ -142,15 +143,26 @@ unfolding reply_at
 reply_keeps_rules word after x why e broken = (says_reply word after why).not_so (no_test _ _ _ _ _ _ x e why) broken
 
 pub is_found : (words : List ℕ) (r : Result FirstReply Why) → AreWords words
-    → MatchResult r (λ first. reply_at words ≡ Ok (reply_of first, first.rest.now)) (λ why. reply_at words ≡ Err why)
+    → ReadsReply r words
     → IfOk r (λ first. IsReply (reply_of first) × (words ≡ reply_words (reply_of first) ++ first.rest.now))
 is_found words (Ok first) fits exact = reply_found words (reply_of first, first.rest.now) fits exact
 is_found words (Err why) fits exact = tt
 
 pub is_shorter : (words : List ℕ) (r : Result FirstReply Why) → AreWords words
-    → MatchResult r (λ first. reply_at words ≡ Ok (reply_of first, first.rest.now)) (λ why. reply_at words ≡ Err why)
+    → ReadsReply r words
     → IfOk r (λ first. length first.rest.now < length words)
 is_shorter words (Ok first) fits exact =
     let found = reply_found words (reply_of first, first.rest.now) fits exact in
     omega (arith, ap length found.1, length-append (reply_words (reply_of first)) first.rest.now)
 is_shorter words (Err why) fits exact = tt
+
+fault_at_front : (words : List ℕ) (why : Why) → reply_at words ≡ Err why → IsFaultAtFront BreaksReply words why
+unfolding reply_at
+fault_at_front [] why e =
+    let same : Short ≡ why = cc in
+    inl (refl, sym same)
+fault_at_front (word ∷ after) why e = inr (reply_refuses (word ∷ after) why (omega arith) e)
+
+pub is_fault : (words : List ℕ) (r : Result FirstReply Why) → ReadsReply r words → IfErr r (IsFaultAtFront BreaksReply words)
+is_fault words (Ok first) exact = tt
+is_fault words (Err why) exact = fault_at_front words why exact

@@ -1,6 +1,6 @@
 -- What is read as a request is spelled so, and what is spelled so is read.
-use Rattle.std.proofs.Common.{◌≡◌, ℕ, zero, suc, ◌^◌, ◌<◌, ◌≤◌, false, not, ◌&&◌, List, [], ◌∷◌, ◌++◌, length, take, drop, Result, Ok, Err, refl, sym, ap, subst, ◌∙◌, arith, eqb, ltb, lit<, lit≤}
-use Rattle.std.specs.Prelude.{MatchResult, IfOk}
+use Rattle.std.proofs.Common.{◌≡◌, ℕ, zero, suc, ◌^◌, ◌<◌, ◌≤◌, false, not, ◌&&◌, List, [], ◌∷◌, ◌++◌, length, take, drop, Result, Ok, Err, inl, inr, refl, sym, ap, subst, ◌∙◌, arith, eqb, ltb, lit<, lit≤}
+use Rattle.std.specs.Prelude.{IfOk, IfErr}
 use Rattle.std.proofs.lemmas.Bool.Decides.{nat_tests}
 use Rattle.std.proofs.lemmas.Bool.{eqb-true, ltb-false, ltb-true, le-ltb}
 use Rattle.std.proofs.lemmas.List.{take_at, drop_at, take-append-drop, length-append, length-take}
@@ -11,12 +11,13 @@ use Rattle.transaction_codec.specs.declared.request.Request.{Request}
 use Rattle.transaction_codec.specs.declared.refusal.Why.{Why}
 use Rattle.transaction_codec.specs.declared.refusal.Why.TheVariants.{Version, Kind, Code, Count, Short}
 use Rattle.transaction_codec.specs.Header.{header, version_of, tid_of, count_of, kind_of, code_of, is_rmw}
-use Rattle.transaction_codec.specs.Request.{op_kind, op_count, op_words, request_words, IsRequest, words_after, BreaksRequest, asked, request_at}
+use Rattle.transaction_codec.specs.Request.{op_kind, op_count, op_words, request_words, IsRequest, words_after, BreaksRequest, op_at, request_at}
 use Rattle.transaction_codec.specs.declared.first.FirstRequest.{FirstRequest}
-use Rattle.transaction_codec.specs.First.{request_of}
+use Rattle.transaction_codec.specs.First.{request_of, ReadsRequest, IsFaultAtFront}
 use Rattle.transaction_codec.specs.Listing.{IsFirstRule}
 use Rattle.transaction_codec.proofs.Fields.{header-fields, HasFields, fields-header}
-use Rattle.transaction_codec.proofs.Steps.{test_of, Says, first_test, first_rule, no_test, passed, read, read_is, not-false, AreWords-take, take-front, drop-front}
+use Rattle.ipb_base.proofs.WordLemmas.{AreWords-take}
+use Rattle.transaction_codec.proofs.Steps.{test_of, Says, first_test, first_rule, no_test, passed, read, read_is, not-false, take-front, drop-front}
 
 -- what a header asks has its type and words field, and the words after it
 record IsAsked (op : Op) (kind count : ℕ) (words : List ℕ) : Type 0 where
@@ -25,7 +26,7 @@ record IsAsked (op : Op) (kind count : ℕ) (words : List ℕ) : Type 0 where
   pub words_are : op_words op ≡ words
 
 asked_is : (kind count : ℕ) (after : List ℕ) → kind ≤ 5 → is_rmw kind && not (eqb count 1) ≡ false → words_after kind count ≤ length after
-    → IsAsked (asked kind count after) kind count (take (words_after kind count) after)
+    → IsAsked (op_at kind count after) kind count (take (words_after kind count) after)
 asked_is zero count [] known one whole = absurd (omega arith)
 asked_is zero count (base ∷ after) known one whole = record { kind_is = refl; count_is = refl; words_are = refl }
 asked_is (suc zero) count [] known one whole = absurd (omega arith)
@@ -52,7 +53,7 @@ pub request_found : (words : List ℕ) (x : Request × List ℕ) → AreWords wo
 unfolding request_at
 request_found [] x fits e = absurd cc
 request_found (word ∷ after) x fits e =
-    let made : Request × List ℕ = (record { tid = tid_of word; op = asked (kind_of word) (count_of word) after }, drop (words_after (kind_of word) (count_of word)) after) in
+    let made : Request × List ℕ = (record { tid = tid_of word; op = op_at (kind_of word) (count_of word) after }, drop (words_after (kind_of word) (count_of word)) after) in
     let version = passed (not (eqb (version_of word) 2)) Version _ x e in
     let kind = passed (ltb 5 (kind_of word)) Kind _ x version.1 in
     let code = passed (not (eqb (code_of word) 15)) Code _ x kind.1 in
@@ -92,22 +93,33 @@ unfolding request_at
 request_keeps_rules word after x why e broken = (says_request word after why).not_so (no_test _ _ _ _ _ _ x e why) broken
 
 pub is_found : (words : List ℕ) (r : Result FirstRequest Why) → AreWords words
-    → MatchResult r (λ first. request_at words ≡ Ok (request_of first, first.rest.now)) (λ why. request_at words ≡ Err why)
+    → ReadsRequest r words
     → IfOk r (λ first. IsRequest (request_of first) × (words ≡ request_words (request_of first) ++ first.rest.now))
 is_found words (Ok first) fits exact = request_found words (request_of first, first.rest.now) fits exact
 is_found words (Err why) fits exact = tt
 
 pub is_shorter : (words : List ℕ) (r : Result FirstRequest Why) → AreWords words
-    → MatchResult r (λ first. request_at words ≡ Ok (request_of first, first.rest.now)) (λ why. request_at words ≡ Err why)
+    → ReadsRequest r words
     → IfOk r (λ first. length first.rest.now < length words)
 is_shorter words (Ok first) fits exact =
     let found = request_found words (request_of first, first.rest.now) fits exact in
     omega (arith, ap length found.1, length-append (request_words (request_of first)) first.rest.now)
 is_shorter words (Err why) fits exact = tt
 
+fault_at_front : (words : List ℕ) (why : Why) → request_at words ≡ Err why → IsFaultAtFront BreaksRequest words why
+unfolding request_at
+fault_at_front [] why e =
+    let same : Short ≡ why = cc in
+    inl (refl, sym same)
+fault_at_front (word ∷ after) why e = inr (request_refuses (word ∷ after) why (omega arith) e)
+
+pub is_fault : (words : List ℕ) (r : Result FirstRequest Why) → ReadsRequest r words → IfErr r (IsFaultAtFront BreaksRequest words)
+is_fault words (Ok first) exact = tt
+is_fault words (Err why) exact = fault_at_front words why exact
+
 -- what a header with these fields and enough words after it is read as
 read_by_fields : (word kind count : ℕ) (tid : ℕ) (after : List ℕ) → HasFields word tid count kind 15 → kind ≤ 5 → is_rmw kind && not (eqb count 1) ≡ false → words_after kind count ≤ length after
-    → request_at (word ∷ after) ≡ Ok (record { tid = tid; op = asked kind count after }, drop (words_after kind count) after)
+    → request_at (word ∷ after) ≡ Ok (record { tid = tid; op = op_at kind count after }, drop (words_after kind count) after)
 unfolding request_at
 read_by_fields word kind count tid after fields known one whole =
     let known_is : ltb 5 kind ≡ false = le-ltb 5 kind known in

@@ -1,6 +1,7 @@
 -- Readings by rules in their order: a rule that was passed, and what was read then.
-use Rattle.std.proofs.Common.{◌<◌, subst, ◌≡◌, ℕ, Bool, true, false, cond, not, List, [], ◌∷◌, ◌++◌, get_or, take, drop, Result, Ok, Err, refl, suc, zero, Fits, w32, arith, ◌+◌, add_comm, add-one}
+use Rattle.std.proofs.Common.{◌<◌, subst, ◌≡◌, ℕ, Bool, true, false, cond, not, List, ◌∷◌, get_or, take, drop, Result, Ok, Err, refl, Fits, w32, arith, ◌+◌, add_comm, add-one}
 use Rattle.ipb_base.specs.Word.{AreWords}
+use Rattle.ipb_base.proofs.WordLemmas.{AreWords-at}
 use Rattle.transaction_codec.specs.declared.refusal.Why.{Why}
 use Rattle.transaction_codec.specs.declared.refusal.Why.TheVariants.{Version, Kind, Code, Count, Short}
 use Rattle.transaction_codec.specs.Listing.{why_number, IsFirstRule}
@@ -110,20 +111,10 @@ not-false false e = absurd cc
 
 -- the words of a slice have 32 bits
 pub words_fit : (words : List ℕ) → ((i : ℕ) → Fits w32 (get_or words i 0)) → AreWords words
-words_fit [] fits = tt
-words_fit (word ∷ words) fits = (omega (arith, fits 0), words_fit words (λ i. fits (suc i)))
+words_fit words fits = AreWords-at words (λ i. omega (arith, fits i))
 
 pub take-front : (n : ℕ) (word : ℕ) (words : List ℕ) → take (1 + n) (word ∷ words) ≡ word ∷ take n words
 take-front n word words = rw (add_comm 1 n, add-one) refl
 
 pub drop-front : (n : ℕ) (word : ℕ) (words : List ℕ) → drop (1 + n) (word ∷ words) ≡ drop n words
 drop-front n word words = rw (add_comm 1 n, add-one) refl
-
-pub AreWords-take : (n : ℕ) (words : List ℕ) → AreWords words → AreWords (take n words)
-AreWords-take zero words fits = tt
-AreWords-take (suc n) [] fits = tt
-AreWords-take (suc n) (word ∷ words) fits = (fits.0, AreWords-take n words fits.1)
-
-pub AreWords-after : (front words : List ℕ) → AreWords (front ++ words) → AreWords words
-AreWords-after [] words fits = fits
-AreWords-after (word ∷ front) words fits = AreWords-after front words fits.1

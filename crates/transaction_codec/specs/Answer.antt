@@ -1,5 +1,6 @@
--- Which words answer a body: of any device that answers each access by a word or a code. It need not remember.
-use Rattle.std.specs.Prelude.{◌≡◌, ◌⊎◌, ℕ, zero, suc, ◌+◌, ◌≤◌, ◌<◌, List, [], ◌∷◌, ◌++◌, length, Result, Ok, Err, IsErr}
+-- Which words answer a body: of any device that answers each access by a word or a code. It need not remember. IPbus 2.0,
+-- transactions; what a failed transaction and a bad header answer is the profile's.
+use Rattle.std.specs.Prelude.{◌≡◌, ◌⊎◌, ℕ, zero, suc, ◌+◌, ◌≤◌, ◌<◌, List, [], ◌∷◌, ◌++◌, length, Result, Ok, Err}
 use Rattle.transaction_codec.specs.declared.request.Op.{Op}
 use Rattle.transaction_codec.specs.declared.request.Op.TheVariants.{Read, ReadPort, Write, WritePort, RmwBits, RmwSum}
 use Rattle.transaction_codec.specs.declared.request.Request.{Request}
@@ -8,7 +9,7 @@ use Rattle.transaction_codec.specs.declared.refusal.Why.{Why}
 use Rattle.transaction_codec.specs.declared.transaction_type.TheConstants.{READ}
 use Rattle.transaction_codec.specs.declared.info_code.TheConstants.{SUCCESS, BAD_HEADER, READ_ERROR, WRITE_ERROR, READ_TIMEOUT, WRITE_TIMEOUT}
 use Rattle.transaction_codec.specs.Header.{tid_of}
-use Rattle.transaction_codec.specs.Request.{op_kind, op_count, AreRequests, requests_words, request_at}
+use Rattle.transaction_codec.specs.Request.{op_kind, op_count, AreRequests, requests_words, request_at, NoRequestAtFront}
 use Rattle.transaction_codec.specs.Reply.{IsBusFault, AreReplies, replies_words}
 
 -- the words of a reply that did all of the operation: those read, nothing for a write, the word before for an RMW
@@ -79,7 +80,7 @@ pub record CanAnswer (body answer : List ℕ) : Type 0 where
   pub replies : List Reply
   pub ranges : AreRequests requests
   pub parts : body ≡ requests_words requests ++ rest
-  pub bad : IsErr (request_at rest)
+  pub bad : NoRequestAtFront rest
   pub items : AreReplies replies
   pub answers : Answers requests (ending_of rest) replies
   pub spelled : answer ≡ replies_words replies

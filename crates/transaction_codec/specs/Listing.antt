@@ -1,5 +1,5 @@
--- Lists of requests or replies, read one after the other.
-use Rattle.std.specs.Prelude.{◌≡◌, ℕ, ◌≤◌, ◌<◌, List, [], ◌∷◌, length, take, drop}
+-- Lists of requests or replies, one after the other, and their first fault. Profile.
+use Rattle.std.specs.Prelude.{◌≡◌, ◌⊎◌, ℕ, ◌≤◌, ◌<◌, List, [], ◌∷◌, length, take, drop, Result, MatchResult}
 use Rattle.std.specs.List.{AllByRecursion, flat_map}
 use Rattle.ipb_base.specs.Lists.{IsPrefix}
 use Rattle.transaction_codec.specs.declared.refusal.Why.{Why}
@@ -41,3 +41,7 @@ IsRequestFault words NoMemory = Unit {0}
 abbrev pub IsReplyFault : List ℕ → BadWords → Type 0
 IsReplyFault words (At place why) = IsFirstFault reply_words IsReply BreaksReply words place why
 IsReplyFault words NoMemory = Unit {0}
+
+-- this refusal was answered, or memory ran out
+abbrev pub IsFaultOr : {T : Type 0} → Result T BadWords → BadWords → Type 0
+IsFaultOr result fault = MatchResult result (λ items. ⊥) (λ bad. (bad ≡ fault) ⊎ (bad ≡ NoMemory))

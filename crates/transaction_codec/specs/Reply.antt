@@ -2,6 +2,7 @@
 use Rattle.std.specs.Prelude.{◌≡◌, ◌≢◌, ℕ, ◌^◌, ◌<◌, ◌≤◌, Bool, ◌==◌, ◌&&◌, ◌||◌, not, nat_lt, nat_le, ◌⊎◌, if◌then◌else◌, List, [], ◌∷◌, length, take, drop, Result, Ok, Err}
 use Rattle.std.specs.List.{AllByRecursion, flat_map}
 use Rattle.ipb_base.specs.Word.{AreWords}
+use Rattle.ipb_base.specs.declared.version.TheConstants.{VERSION}
 use Rattle.transaction_codec.specs.declared.reply.Reply.{Reply}
 use Rattle.transaction_codec.specs.declared.refusal.Why.{Why}
 use Rattle.transaction_codec.specs.declared.refusal.Why.TheVariants.{Version, Kind, Code, Count, Short}
@@ -61,7 +62,7 @@ values_after kind count = if is_write kind then 0 else count
 
 -- What breaks each rule on the header of a reply, with the words after it.
 abbrev pub BreaksReply : Why → ℕ → List ℕ → Type 0
-BreaksReply Version word after = version_of word ≢ 2
+BreaksReply Version word after = version_of word ≢ VERSION
 BreaksReply Kind word after = (RMW_SUM < kind_of word) ⊎ ((code_of word ≡ BAD_HEADER) × (kind_of word ≢ READ))
 BreaksReply Code word after = (code_of word ≢ SUCCESS) × (code_of word ≢ BAD_HEADER) × (IsBusFault (code_of word) → ⊥)
 BreaksReply Count word after =
@@ -74,7 +75,7 @@ BreaksReply Short word after = length after < values_after (kind_of word) (count
 unfoldable pub reply_at : List ℕ → Result (Reply × List ℕ) Why
 reply_at [] = Err Short
 reply_at (word ∷ after) =
-    if not (version_of word == 2) then Err Version
+    if not (version_of word == VERSION) then Err Version
     else if nat_lt RMW_SUM (kind_of word) || (code_of word == BAD_HEADER && not (kind_of word == READ)) then Err Kind
     else if not (is_reply_code (code_of word)) then Err Code
     else if is_wrong_count (kind_of word) (code_of word) (count_of word) then Err Count

@@ -1,7 +1,8 @@
--- Requests and their words. IPbus 2.0, transaction header, with the profile's rules on which headers are bad.
-use Rattle.std.specs.Prelude.{◌≡◌, ◌≢◌, ◌⊎◌, ℕ, ◌+◌, ◌^◌, ◌<◌, ◌==◌, ◌&&◌, not, nat_lt, if◌then◌else◌, List, [], ◌∷◌, length, take, drop, slice_index, Result, Ok, Err}
+-- Requests and their words. IPbus 2.0, transaction header; which headers are bad is the profile's.
+use Rattle.std.specs.Prelude.{◌≡◌, ◌≢◌, ◌⊎◌, ℕ, ◌+◌, ◌^◌, ◌<◌, ◌==◌, ◌&&◌, not, nat_lt, if◌then◌else◌, List, [], ◌∷◌, ◌++◌, length, take, drop, slice_index, Result, Ok, Err}
 use Rattle.std.specs.List.{AllByRecursion, flat_map}
 use Rattle.ipb_base.specs.Word.{AreWords}
+use Rattle.ipb_base.specs.declared.version.TheConstants.{VERSION}
 use Rattle.transaction_codec.specs.declared.request.Op.{Op}
 use Rattle.transaction_codec.specs.declared.request.Op.TheVariants.{Read, ReadPort, Write, WritePort, RmwBits, RmwSum}
 use Rattle.transaction_codec.specs.declared.request.Request.{Request}
@@ -54,6 +55,18 @@ pub record IsRequest (request : Request) : Type 0 where
 abbrev pub AreRequests : List Request → Type 0
 AreRequests requests = AllByRecursion IsRequest requests
 
+-- a header has room for the identifier, 12 bits, and for the number of words, 8 bits
+pub record FitsHeader (request : Request) : Type 0 where
+  pub tid : request.tid < 2 ^ 12
+  pub count : op_count request.op < 2 ^ 8
+
+abbrev pub FitHeaders : List Request → Type 0
+FitHeaders requests = AllByRecursion FitsHeader requests
+
+-- the words do not begin with a request
+abbrev pub NoRequestAtFront : List ℕ → Type 0
+NoRequestAtFront words = (request : Request) (rest : List ℕ) → IsRequest request → words ≢ request_words request ++ rest
+
 -- how many words a header of this type and count has after it
 abbrev pub words_after : ℕ → ℕ → ℕ
 words_after kind count =
@@ -64,15 +77,15 @@ words_after kind count =
 
 -- What breaks each rule on the header of a request, with the words after it.
 abbrev pub BreaksRequest : Why → ℕ → List ℕ → Type 0
-BreaksRequest Version word after = version_of word ≢ 2
+BreaksRequest Version word after = version_of word ≢ VERSION
 BreaksRequest Kind word after = RMW_SUM < kind_of word
 BreaksRequest Code word after = code_of word ≢ REQUEST
 BreaksRequest Count word after = ((kind_of word ≡ RMW_BITS) ⊎ (kind_of word ≡ RMW_SUM)) × (count_of word ≢ 1)
 BreaksRequest Short word after = length after < words_after (kind_of word) (count_of word)
 
 -- what a header of this type and count asks with the words after it
-abbrev pub asked : ℕ → ℕ → List ℕ → Op
-asked kind count after =
+abbrev pub op_at : ℕ → ℕ → List ℕ → Op
+op_at kind count after =
     if kind == READ then Read (slice_index after 0) count
     else if kind == READ_PORT then ReadPort (slice_index after 0) count
     else if kind == WRITE then Write (slice_index after 0) (take count (drop 1 after))
@@ -84,9 +97,9 @@ asked kind count after =
 unfoldable pub request_at : List ℕ → Result (Request × List ℕ) Why
 request_at [] = Err Short
 request_at (word ∷ after) =
-    if not (version_of word == 2) then Err Version
+    if not (version_of word == VERSION) then Err Version
     else if nat_lt RMW_SUM (kind_of word) then Err Kind
     else if not (code_of word == REQUEST) then Err Code
     else if is_rmw (kind_of word) && not (count_of word == 1) then Err Count
     else if nat_lt (length after) (words_after (kind_of word) (count_of word)) then Err Short
-    else Ok (record { tid = tid_of word; op = asked (kind_of word) (count_of word) after }, drop (words_after (kind_of word) (count_of word)) after)
+    else Ok (record { tid = tid_of word; op = op_at (kind_of word) (count_of word) after }, drop (words_after (kind_of word) (count_of word)) after)

@@ -1,97 +1,46 @@
-ghost use Rattle.std.specs.Prelude.{◌≡◌, ◌≤◌, ◌<◌, ◌++◌, length, Ok, Err, IfOk, MatchResult};
+ghost use Rattle.std.specs.Prelude.{◌≡◌, ◌≤◌, ◌<◌, ◌++◌, length, IfOk, IfErr};
 ghost use Rattle.transaction_codec.specs.Header as of_header;
 ghost use Rattle.transaction_codec.specs.Request as of_request;
 ghost use Rattle.transaction_codec.specs.Reply as of_reply;
-ghost use Rattle.transaction_codec.specs.Request.{request_at, asked, IsRequest, request_words};
-ghost use Rattle.transaction_codec.specs.Reply.{reply_at, IsReply, reply_words};
-ghost use Rattle.transaction_codec.specs.First.{op_of, request_of, reply_of};
+ghost use Rattle.transaction_codec.specs.Request.{BreaksRequest, IsRequest, request_words};
+ghost use Rattle.transaction_codec.specs.Reply.{BreaksReply, IsReply, reply_words};
+ghost use Rattle.transaction_codec.specs.First.{IsFaultAtFront, ReadsReply, ReadsRequest, op_of, request_of, reply_of};
 
-use crate::header_word::{VERSION, code_of, count_of, kind_of, tid_of, version_of};
+use crate::header_word::{code_of, count_of, kind_of, tid_of, version_of};
 use crate::info_code::{BAD_HEADER, READ_ERROR, REQUEST, SUCCESS, WRITE_TIMEOUT};
+use crate::op_ref::OpRef;
 use crate::refusal::Why;
 use crate::reply::Reply;
-use crate::request::{Op, Request};
+use crate::request::Request;
 use crate::transaction_type::{READ, READ_PORT, RMW_BITS, RMW_SUM, WRITE, WRITE_PORT};
-use ipb_base::{NoMemory, Words};
+use ipb_base::{NoMemory, VERSION, Words};
 use std::alloc::Global;
-
-/// What a request asks, with its words where they stand in the body.
-#[derive(Clone, Copy, Debug)]
-pub enum OpRef<'a> {
-    Read {
-        base: u32,
-        count: u32,
-    },
-    ReadPort {
-        base: u32,
-        count: u32,
-    },
-    Write {
-        base: u32,
-        words: &'a [u32],
-    },
-    WritePort {
-        base: u32,
-        words: &'a [u32],
-    },
-    RmwBits {
-        base: u32,
-        and_term: u32,
-        or_term: u32,
-    },
-    RmwSum {
-        base: u32,
-        addend: u32,
-    },
-}
 
 /// The request at the front of a body and the words after it.
 #[derive(Clone, Copy, Debug)]
 pub struct FirstRequest<'a> {
+    /// The transaction identifier, at most 4095.
     pub tid: u16,
     pub op: OpRef<'a>,
+    /// The words after the request.
     pub rest: &'a [u32],
 }
 
 /// The reply at the front of a body and the words after it.
 #[derive(Clone, Copy, Debug)]
 pub struct FirstReply<'a> {
+    /// The transaction identifier, at most 4095.
     pub tid: u16,
+    /// The type, of `transaction_type`.
     pub kind: u8,
+    /// The words that were done.
     pub count: u8,
+    /// The info code, of `info_code`.
     pub code: u8,
+    /// The words that were read.
     pub values: &'a [u32],
+    /// The words after the reply.
     pub rest: &'a [u32],
-}
-
-impl OpRef<'_> {
-    /// The same operation with its words in memory of its own.
-    pub fn to_op(&self, alloc: Global) -> Result<Op, NoMemory>
-        ensures { IfOk result (λ op. op ≡ op_of self.now) }
-    {
-        Ok(match *self {
-            OpRef::Read { base, count } => Op::Read { base, count },
-            OpRef::ReadPort { base, count } => Op::ReadPort { base, count },
-            OpRef::Write { base, words } => Op::Write {
-                base,
-                words: Words::from_vec(words.to_vec(alloc)?),
-            },
-            OpRef::WritePort { base, words } => Op::WritePort {
-                base,
-                words: Words::from_vec(words.to_vec(alloc)?),
-            },
-            OpRef::RmwBits {
-                base,
-                and_term,
-                or_term,
-            } => Op::RmwBits {
-                base,
-                and_term,
-                or_term,
-            },
-            OpRef::RmwSum { base, addend } => Op::RmwSum { base, addend },
-        })
-    }
 }
 
 impl FirstRequest<'_> {
@@ -121,7 +70,8 @@ impl FirstReply<'_> {
     }
 }
 
-fn is_write(kind: u8) -> bool
+/// Whether a type writes.
+pub(crate) fn is_write(kind: u8) -> bool
     ensures { result ≡ of_header.is_write kind }
 {
     kind == WRITE || kind == WRITE_PORT
@@ -148,7 +98,7 @@ fn words_after(kind: u8, count: u8) -> usize
 fn op_at(kind: u8, count: u8, after: &[u32]) -> OpRef<'_>
     requires known { kind ≤ RMW_SUM }
     requires whole { of_request.words_after kind count ≤ length after.now }
-    ensures { op_of result ≡ asked kind count after.now }
+    ensures { op_of result ≡ of_request.op_at kind count after.now }
 {
     let base = after[0];
     match kind {
@@ -180,14 +130,14 @@ fn op_at(kind: u8, count: u8, after: &[u32]) -> OpRef<'_>
     }
 }
 
-/// The request at the front of the words, or the first rule that is broken there. It takes no memory. No words are `Short`.
+/// The request at the front of the words, or the first rule that is broken there: an empty slice is `Short`. It takes no
+/// memory. IPbus 2.0, transaction header.
 pub fn first_request(words: &[u32]) -> Result<FirstRequest<'_>, Why>
-    ensures exact { MatchResult result
-        (λ first. request_at words.now ≡ Ok (request_of first, first.rest.now))
-        (λ why. request_at words.now ≡ Err why) }
+    ensures exact { ReadsRequest result words.now }
     ensures found { IfOk result (λ first.
         IsRequest (request_of first) × (words.now ≡ request_words (request_of first) ++ first.rest.now)) }
     ensures shorter { IfOk result (λ first. length first.rest.now < length words.now) }
+    ensures refused { IfErr result (IsFaultAtFront BreaksRequest words.now) }
 {
     request_by_rules(words)
 }
@@ -195,9 +145,7 @@ pub fn first_request(words: &[u32]) -> Result<FirstRequest<'_>, Why>
 /// The rules on a request's header, in their order.
 #[tactic(auto, unfolding(crate::specs::Request::request_at))]
 fn request_by_rules(words: &[u32]) -> Result<FirstRequest<'_>, Why>
-    ensures { MatchResult result
-        (λ first. request_at words.now ≡ Ok (request_of first, first.rest.now))
-        (λ why. request_at words.now ≡ Err why) }
+    ensures { ReadsRequest result words.now }
 {
     let [word, after @ ..] = words else {
         return Err(Why::Short);
@@ -239,7 +187,7 @@ fn is_wrong_count(kind: u8, code: u8, count: u8) -> bool
     if code == BAD_HEADER && count != 0 {
         return true;
     }
-    is_rmw(kind) && count != if code == SUCCESS { 1 } else { 0 }
+    is_rmw(kind) && count != u8::from(code == SUCCESS)
 }
 
 fn values_after(kind: u8, count: u8) -> usize
@@ -248,14 +196,14 @@ fn values_after(kind: u8, count: u8) -> usize
     if is_write(kind) { 0 } else { count as usize }
 }
 
-/// The reply at the front of the words, or the first rule that is broken there. It takes no memory. No words are `Short`.
+/// The reply at the front of the words, or the first rule that is broken there: an empty slice is `Short`. It takes no
+/// memory. IPbus 2.0, transaction header.
 pub fn first_reply(words: &[u32]) -> Result<FirstReply<'_>, Why>
-    ensures exact { MatchResult result
-        (λ first. reply_at words.now ≡ Ok (reply_of first, first.rest.now))
-        (λ why. reply_at words.now ≡ Err why) }
+    ensures exact { ReadsReply result words.now }
     ensures found { IfOk result (λ first.
         IsReply (reply_of first) × (words.now ≡ reply_words (reply_of first) ++ first.rest.now)) }
     ensures shorter { IfOk result (λ first. length first.rest.now < length words.now) }
+    ensures refused { IfErr result (IsFaultAtFront BreaksReply words.now) }
 {
     reply_by_rules(words)
 }
@@ -263,9 +211,7 @@ pub fn first_reply(words: &[u32]) -> Result<FirstReply<'_>, Why>
 /// The rules on a reply's header, in their order.
 #[tactic(auto, unfolding(crate::specs::Reply::reply_at))]
 fn reply_by_rules(words: &[u32]) -> Result<FirstReply<'_>, Why>
-    ensures { MatchResult result
-        (λ first. reply_at words.now ≡ Ok (reply_of first, first.rest.now))
-        (λ why. reply_at words.now ≡ Err why) }
+    ensures { ReadsReply result words.now }
 {
     let [header, after @ ..] = words else {
         return Err(Why::Short);

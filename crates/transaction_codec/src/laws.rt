@@ -75,6 +75,16 @@ pub fn longest_answer_of_a_body()
     ensures one { (body : List ℕ) (left right : ℕ) → IsLongestAnswer body left → IsLongestAnswer body right → left ≡ right }
 {}
 
+/// Words have one first fault: one place and one rule.
+pub fn one_first_fault()
+    ensures requests { (words : List ℕ) (place other : ℕ) (why rule : Why) →
+        IsRequestFault words (BadWords.At place why) → IsRequestFault words (BadWords.At other rule) →
+        (place ≡ other) × (why ≡ rule) }
+    ensures replies { (words : List ℕ) (place other : ℕ) (why rule : Why) →
+        IsReplyFault words (BadWords.At place why) → IsReplyFault words (BadWords.At other rule) →
+        (place ≡ other) × (why ≡ rule) }
+{}
+
 /// Words of requests and of replies, by hand.
 pub fn worked_spellings()
     ensures no_requests { requests_words [] ≡ [] }
@@ -83,8 +93,8 @@ pub fn worked_spellings()
         ≡ 0x20000100 ∷ 0xabcd ∷ [] }
     ensures rmw_bits { requests_words (record { tid = 0; op = Op.RmwBits 8 0x7fffffff 0x80000000 } ∷ [])
         ≡ 0x2000014f ∷ 8 ∷ 0x7fffffff ∷ 0x80000000 ∷ [] }
-    ensures two_writes { requests_words (record { tid = 1; op = Op.Write 16 (7 ∷ 9 ∷ []) } ∷ record { tid = 2; op = Op.WritePort 5 [] } ∷ [])
-        ≡ 0x2001021f ∷ 16 ∷ 7 ∷ 9 ∷ 0x2002003f ∷ 5 ∷ [] }
+    ensures write { requests_words (record { tid = 1; op = Op.Write 16 (7 ∷ 9 ∷ []) } ∷ []) ≡ 0x2001021f ∷ 16 ∷ 7 ∷ 9 ∷ [] }
+    ensures write_of_no_words { requests_words (record { tid = 2; op = Op.WritePort 5 [] } ∷ []) ≡ 0x2002003f ∷ 5 ∷ [] }
 {}
 
 /// Words that are no requests, by hand.
@@ -97,7 +107,21 @@ pub fn worked_refusals()
     ensures second { IsRequestFault (0x2000010f ∷ 4 ∷ 0x2001041f ∷ 8 ∷ 1 ∷ []) (BadWords.At 2 Why.Short) }
 {}
 
+/// Words that are no replies, by hand.
+pub fn worked_faults_of_replies()
+    ensures code { IsReplyFault (0x20000102 ∷ []) (BadWords.At 0 Why.Code) }
+    ensures kind { IsReplyFault (0x20000010 ∷ 0x20000141 ∷ []) (BadWords.At 1 Why.Kind) }
+    ensures count { IsReplyFault (0x20000144 ∷ 7 ∷ []) (BadWords.At 0 Why.Count) }
+    ensures short { IsReplyFault (0x20000100 ∷ []) (BadWords.At 0 Why.Short) }
+{}
+
+/// What a board can answer to a read and a bad header behind it, by hand.
+pub fn worked_answer()
+    ensures { CanAnswer (0x2000010f ∷ 4 ∷ 0x2001016f ∷ 0 ∷ []) (0x20000100 ∷ 0xabcd ∷ 0x20010001 ∷ []) }
+{}
+
 /// The longest answers of bodies, by hand: to a read of three words, an RMW, a write of two words and a bad header.
 pub fn worked_room()
-    ensures { reply_room (0x2000030f ∷ 0 ∷ 0x2001015f ∷ 4 ∷ 1 ∷ 0x2002021f ∷ 8 ∷ 7 ∷ 7 ∷ 0x3000010f ∷ 0x2000030f ∷ 0 ∷ []) ≡ 8 }
+    ensures { let body = 0x2000030f ∷ 0 ∷ 0x2001015f ∷ 4 ∷ 1 ∷ 0x2002021f ∷ 8 ∷ 7 ∷ 7 ∷ 0x3000010f ∷ 0x2000030f ∷ 0 ∷ [] in
+        reply_room body ≡ 8 }
 {}

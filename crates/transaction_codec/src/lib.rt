@@ -8,6 +8,7 @@ mod first;
 mod header_word;
 pub mod info_code;
 pub mod laws;
+mod op_ref;
 mod reading;
 mod refusal;
 mod reply;
@@ -16,15 +17,16 @@ mod room;
 pub mod transaction_type;
 mod writing;
 
-pub use first::{FirstReply, FirstRequest, OpRef, first_reply, first_request};
-pub use header_word::{bad_header_reply, header};
+pub use first::{FirstReply, FirstRequest, first_reply, first_request};
+pub use header_word::{MAX_COUNT, bad_header_reply, code_of, count_of, header};
 pub use ipb_base::{NoMemory, Words};
+pub use op_ref::OpRef;
 pub use reading::{read_replies, read_requests};
 pub use refusal::{BadWords, Why};
 pub use reply::Reply;
 pub use request::{Op, Request};
-pub use room::reply_room;
-pub use writing::{write_replies, write_requests};
+pub use room::{LONGEST_BODY, reply_room};
+pub use writing::{put_request, write_replies, write_requests};
 
 #[cfg(test)]
 mod tests;

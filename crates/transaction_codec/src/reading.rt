@@ -1,9 +1,10 @@
-ghost use Rattle.std.specs.Prelude.{◌≡◌, ◌≤◌, ◌-◌, length, List, IfOk, IfErr, MatchResult};
+ghost use Rattle.std.specs.Prelude.{◌≡◌, ℕ, ◌≤◌, ◌-◌, length, List, IfOk, IfErr, MatchResult};
+ghost use Rattle.transaction_codec.specs.declared.refusal.Why.{Why as Rule};
 ghost use Rattle.transaction_codec.specs.declared.request.Request.{Request};
 ghost use Rattle.transaction_codec.specs.declared.reply.Reply.{Reply};
 ghost use Rattle.transaction_codec.specs.Request.{AreRequests, requests_words};
 ghost use Rattle.transaction_codec.specs.Reply.{AreReplies, replies_words};
-ghost use Rattle.transaction_codec.specs.Listing.{IsRequestFault, IsReplyFault};
+ghost use Rattle.transaction_codec.specs.Listing.{IsFaultOr, IsRequestFault, IsReplyFault};
 
 use crate::first::{first_reply, first_request};
 use crate::refusal::{BadWords, Why};
@@ -19,6 +20,9 @@ pub fn read_requests(alloc: Global, words: &[u32]) -> Result<Vec<Request>, BadWo
     ensures only { (list : List Request) → AreRequests list → words.now ≡ requests_words list →
         MatchResult result (λ found. found.items ≡ list) (λ bad. bad ≡ BadWords.NoMemory) }
     ensures refused { IfErr result (IsRequestFault words.now) }
+    // So words with a fault are refused, by that fault.
+    ensures faulty { (place : ℕ) (why : Rule) → IsRequestFault words.now (BadWords.At place why) →
+        IsFaultOr result (BadWords.At place why) }
 {
     let mut requests = Vec::new(alloc);
     let mut rest = words;
@@ -42,6 +46,9 @@ pub fn read_replies(alloc: Global, words: &[u32]) -> Result<Vec<Reply>, BadWords
     ensures only { (list : List Reply) → AreReplies list → words.now ≡ replies_words list →
         MatchResult result (λ found. found.items ≡ list) (λ bad. bad ≡ BadWords.NoMemory) }
     ensures refused { IfErr result (IsReplyFault words.now) }
+    // So words with a fault are refused, by that fault.
+    ensures faulty { (place : ℕ) (why : Rule) → IsReplyFault words.now (BadWords.At place why) →
+        IsFaultOr result (BadWords.At place why) }
 {
     let mut replies = Vec::new(alloc);
     let mut rest = words;

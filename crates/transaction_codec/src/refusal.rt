@@ -8,16 +8,16 @@ use std::alloc::{AllocError, AllocFailed};
 #[derive(Clone, Copy, Debug, PartialEq, Eq)]
 pub enum Why {
     /// The version is not 2.
-    Version = 1,
+    Version,
     /// The type is above 5; or a reply has code 1 and a type other than 0.
-    Kind = 2,
+    Kind,
     /// The info code is not 15 in a request; not one of 0, 1, 4, 5, 6, 7 in a reply.
-    Code = 3,
+    Code,
     /// The words field is not 1 in the request of an RMW. In a reply it is not 0 with code 1; in that of an RMW it is not 1
     /// with code 0, or not 0 with another code.
-    Count = 4,
+    Count,
     /// The words end before the transaction does.
-    Short = 5,
+    Short,
 }
 
 /// Why words are not a list of requests, or of replies.
@@ -25,6 +25,7 @@ pub enum Why {
 pub enum BadWords {
     /// The first faulty header, by its place in words from 0.
     At { place: u64, why: Why },
+    /// Memory ran out.
     NoMemory,
 }
 

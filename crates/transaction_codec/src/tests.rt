@@ -42,35 +42,52 @@ fn requests_are_read_and_written(rt: HostRuntime) -> Result<(), Fail> {
     assert_eq!(rt; list.len(), 6);
     for (tid, request) in list.iter().enumerate() {
         assert_eq!(rt; request.tid as usize, tid);
-        let right = match &request.op {
-            Op::Read { base, count } => tid == 0 && *base == 4 && *count == 1,
-            Op::ReadPort { base, count } => tid == 1 && *base == 8 && *count == 2,
-            Op::Write { base, words } => tid == 2
-                && *base == 16
-                && words.as_slice() == [7, 9].as_slice(),
-            Op::WritePort { base, words } => tid == 3
-                && *base == 5
-                && words.as_slice() == [1].as_slice(),
-            Op::RmwBits {
-                base,
-                and_term,
-                or_term,
-            } => tid == 4 && *base == 8 && *and_term == 0x7fff_ffff && *or_term == 0x8000_0000,
-            Op::RmwSum { base, addend } => tid == 5 && *base == 12 && *addend == 1,
-        };
-        assert!(rt; right, "request {tid}");
+        assert!(rt; is_asked(tid, &request.op), "request {tid}");
     }
     let words = write_requests(rt.alloc(), list.as_slice())?;
     assert_eq!(rt; words.as_slice(), REQUESTS.as_slice());
+    assert!(rt; read_requests(rt.alloc(), &[])?.is_empty());
     Ok(())
+}
+
+/// Whether the request with this identifier asks this.
+fn is_asked(tid: usize, op: &Op) -> bool {
+    match op {
+        Op::Read { base, count } => tid == 0 && *base == 4 && *count == 1,
+        Op::ReadPort { base, count } => tid == 1 && *base == 8 && *count == 2,
+        Op::Write { base, words } => {
+            tid == 2 && *base == 16 && words.as_slice() == [7, 9].as_slice()
+        }
+        Op::WritePort { base, words } => {
+            tid == 3 && *base == 5 && words.as_slice() == [1].as_slice()
+        }
+        Op::RmwBits {
+            base,
+            and_term,
+            or_term,
+        } => tid == 4 && *base == 8 && *and_term == 0x7fff_ffff && *or_term == 0x8000_0000,
+        Op::RmwSum { base, addend } => tid == 5 && *base == 12 && *addend == 1,
+    }
 }
 
 #[test]
 fn replies_are_read_and_written(rt: HostRuntime) -> Result<(), Fail> {
     let list = read_replies(rt.alloc(), &REPLIES)?;
-    assert_eq!(rt; list.len(), 6);
-    for (tid, reply) in list.iter().enumerate() {
-        assert_eq!(rt; reply.tid as usize, tid);
+    let wanted: [(u16, u8, u8, u8, &[u32]); 6] = [
+        (0, 0, 1, 0, &[0xabcd]),
+        (1, 2, 1, 6, &[7]),
+        (2, 1, 2, 0, &[]),
+        (3, 3, 0, 5, &[]),
+        (4, 4, 1, 0, &[3]),
+        (5, 5, 0, 4, &[]),
+    ];
+    assert_eq!(rt; list.len(), wanted.len());
+    for (reply, (tid, kind, count, code, values)) in list.iter().zip(wanted) {
+        assert_eq!(rt;
+            (reply.tid, reply.kind, reply.count, reply.code),
+            (tid, kind, count, code)
+        );
+        assert_eq!(rt; reply.values.as_slice(), values);
     }
     let words = write_replies(rt.alloc(), list.as_slice())?;
     assert_eq!(rt; words.as_slice(), REPLIES.as_slice());
@@ -102,6 +119,8 @@ fn first_faults(rt: HostRuntime) {
         ([0x2000_0010, 0x2000_0141].as_slice(), 1, Why::Kind),
         ([0x2000_0144, 7].as_slice(), 0, Why::Count),
         ([0x2000_0101].as_slice(), 0, Why::Count),
+        ([0x1000_0100, 0].as_slice(), 0, Why::Version),
+        ([0x2000_0200, 0].as_slice(), 0, Why::Short),
     ];
     for (words, place, why) in replies {
         assert_eq!(rt;
@@ -126,23 +145,31 @@ fn room_for_a_reply(rt: HostRuntime) {
 #[test]
 fn one_at_the_front(rt: HostRuntime) -> Result<(), Fail> {
     let first = first_request(&REQUESTS[4..])?;
-    assert_eq!(rt; first.tid, 2);
     assert_eq!(rt; first.rest, &REQUESTS[8..]);
-    let Op::Write { base, words } = first.op.to_op(rt.alloc())? else {
-        return Err("a write".into());
-    };
-    assert_eq!(rt; base, 16);
-    assert_eq!(rt; words.as_slice(), [7, 9].as_slice());
+    assert_eq!(rt; (first.op.kind(), first.op.count()), (1, 2));
+    assert_eq!(rt; first.op.values_done(), 0);
+    let request = first.to_request(rt.alloc())?;
+    assert_eq!(rt; request.tid, 2);
+    assert!(rt; is_asked(2, &request.op));
+    assert!(rt; is_asked(2, &request.op.as_op_ref().to_op(rt.alloc())?));
+    let mut words = Vec::new(rt.alloc());
+    put_request(&mut words, 2, &first.op)?;
+    assert_eq!(rt; words.as_slice(), &REQUESTS[4..8]);
     let first = first_reply(&REPLIES[2..])?;
+    assert_eq!(rt; first.rest, &REPLIES[4..]);
+    let reply = first.to_reply(rt.alloc())?;
     assert_eq!(rt;
-        (first.tid, first.kind, first.count, first.code),
+        (reply.tid, reply.kind, reply.count, reply.code),
         (1, 2, 1, 6)
     );
-    assert_eq!(rt; first.values, [7].as_slice());
-    assert_eq!(rt;
-        header(5, 1, transaction_type::RMW_SUM, info_code::REQUEST),
-        0x2005_015f
-    );
-    assert_eq!(rt; bad_header_reply(0x3abc_1234), 0x2abc_0001);
+    assert_eq!(rt; reply.values.as_slice(), [7].as_slice());
     Ok(())
+}
+
+#[test]
+fn headers(rt: HostRuntime) {
+    let word = header(5, 1, transaction_type::RMW_SUM, info_code::REQUEST);
+    assert_eq!(rt; word, 0x2005_015f);
+    assert_eq!(rt; (count_of(word), code_of(word)), (1, 15));
+    assert_eq!(rt; bad_header_reply(0x3abc_1234), 0x2abc_0001);
 }

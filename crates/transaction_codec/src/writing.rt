@@ -1,89 +1,57 @@
-ghost use Rattle.std.specs.Prelude.{◌≡◌, ◌++◌, ◌∷◌, IfOk, OnOk};
-ghost use Rattle.transaction_codec.specs.Request.{IsRequest, AreRequests, request_words, requests_words, op_words};
+ghost use Rattle.std.specs.Prelude.{◌≡◌, ◌<◌, ◌^◌, ◌++◌, ◌∷◌, IfOk, OnOk};
+ghost use Rattle.transaction_codec.specs.First.{op_of};
+ghost use Rattle.transaction_codec.specs.Request.{FitHeaders, op_count, request_words, requests_words};
 ghost use Rattle.transaction_codec.specs.Reply.{IsReply, AreReplies, reply_words, replies_words};
 
 use crate::header_word::header;
 use crate::info_code::REQUEST;
+use crate::op_ref::OpRef;
 use crate::reply::Reply;
-use crate::request::{Op, Request};
-use crate::transaction_type::{READ, READ_PORT, RMW_BITS, RMW_SUM, WRITE, WRITE_PORT};
+use crate::request::Request;
 use ipb_base::NoMemory;
 use std::alloc::Global;
 
-/// The words of a list of requests, one after the other. Each has an identifier of at most 4095, and at most 255 words.
+/// The words of a list of requests, one after the other (IPbus 2.0, transaction header). Each has an identifier of at most
+/// 4095 and at most 255 words.
 pub fn write_requests(alloc: Global, list: &[Request]) -> Result<Vec<u32>, NoMemory>
-    requires { AreRequests list.now }
-    ensures { IfOk result (λ words. words.items ≡ requests_words list.now) }
+    requires { FitHeaders list.now }
+    ensures spelling { IfOk result (λ words. words.items ≡ requests_words list.now) }
 {
     let mut out = Vec::new(alloc);
     for request in list {
-        put_request(&mut out, request)?;
+        put_request(&mut out, request.tid, &request.op.as_op_ref())?;
     }
     Ok(out)
 }
 
-fn put_request(out: &mut Vec<u32>, request: &Request) -> Result<(), NoMemory>
-    requires { IsRequest request.now }
-    ensures { OnOk result (out.new.items ≡ out.old.items ++ request_words request.now) }
+/// Appends the words of one request with this transaction identifier.
+pub fn put_request(out: &mut Vec<u32>, tid: u16, op: &OpRef<'_>) -> Result<(), NoMemory>
+    requires tid { tid < 2 ^ 12 }
+    requires count { op_count (op_of op.now) < 2 ^ 8 }
+    ensures { OnOk result (out.new.items ≡ out.old.items ++ request_words (record { tid = tid; op = op_of op.now })) }
 {
-    let tid = request.tid;
-    match &request.op {
-        Op::Read { base, count } => put(out, header(tid, *count as u8, READ, REQUEST), *base, &[]),
-        Op::ReadPort { base, count } => put(
-            out,
-            header(tid, *count as u8, READ_PORT, REQUEST),
-            *base,
-            &[],
-        ),
-        Op::Write { base, words } => {
-            put(
-                out,
-                header(tid, words.len() as u8, WRITE, REQUEST),
-                *base,
-                words.as_slice(),
-            )
+    out.push(header(tid, op.count() as u8, op.kind(), REQUEST))?;
+    match *op {
+        OpRef::Read { base, .. } | OpRef::ReadPort { base, .. } => out.push(base)?,
+        OpRef::Write { base, words } | OpRef::WritePort { base, words } => {
+            out.push(base)?;
+            out.extend_from_slice(words)?;
         }
-        Op::WritePort { base, words } => {
-            put(
-                out,
-                header(tid, words.len() as u8, WRITE_PORT, REQUEST),
-                *base,
-                words.as_slice(),
-            )
-        }
-        Op::RmwBits {
+        OpRef::RmwBits {
             base,
             and_term,
             or_term,
-        } => put(
-            out,
-            header(tid, 1, RMW_BITS, REQUEST),
-            *base,
-            &[*and_term, *or_term],
-        ),
-        Op::RmwSum { base, addend } => put(
-            out,
-            header(tid, 1, RMW_SUM, REQUEST),
-            *base,
-            &[*addend],
-        ),
+        } => out.extend_from_slice(&[base, and_term, or_term])?,
+        OpRef::RmwSum { base, addend } => out.extend_from_slice(&[base, addend])?,
     }
-}
-
-/// Appends a request: its header, its base address and the words after that.
-fn put(out: &mut Vec<u32>, header: u32, base: u32, words: &[u32]) -> Result<(), NoMemory>
-    ensures { OnOk result (out.new.items ≡ out.old.items ++ header ∷ base ∷ words.now) }
-{
-    out.push(header)?;
-    out.push(base)?;
-    out.extend_from_slice(words)?;
     Ok(())
 }
 
-/// The words of a list of replies, one after the other.
+/// The words of a list of replies, one after the other (IPbus 2.0, transaction header). Each is one that `read_replies` can
+/// give.
 pub fn write_replies(alloc: Global, list: &[Reply]) -> Result<Vec<u32>, NoMemory>
     requires { AreReplies list.now }
-    ensures { IfOk result (λ words. words.items ≡ replies_words list.now) }
+    ensures spelling { IfOk result (λ words. words.items ≡ replies_words list.now) }
 {
     let mut out = Vec::new(alloc);
     for reply in list {

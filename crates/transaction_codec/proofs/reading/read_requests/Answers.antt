@@ -1,8 +1,8 @@
-use Rattle.std.proofs.Common.{◌≡◌, ◌++◌, ◌<◌, [], length, ap, sym, ◌∙◌, arith, length-append}
+use Rattle.std.proofs.Common.{inl, refl, ◌≡◌, ◌++◌, ◌<◌, [], length, ap, sym, ◌∙◌, arith, length-append}
 use Rattle.std.proofs.lemmas.List.{append-nil, nil_from_length}
 use Rattle.std.proofs.lemmas.Bool.Decides.{nat_tests}
 use Rattle.transaction_codec.specs.Request.{request_words, IsRequest, BreaksRequest, request_at, requests_words}
-use Rattle.transaction_codec.proofs.Lists.{first_fault, fault_is_no_list, one_list}
+use Rattle.transaction_codec.proofs.Lists.{first_fault, one_fault, fault_is_no_list, one_list}
 use Rattle.transaction_codec.proofs.Formats.{requests_format}
 use Rattle.transaction_codec.proofs.reading.read_requests.Goals as goal
 
@@ -25,3 +25,10 @@ returns-clause-only c list ranges e =
     let none : c.loop-rest.rest.now ≡ [] = nil_from_length _ (grind (arith, nat_tests)) in
     let whole = c.loop-rest.invariant.parts ∙ ap (λ rest. requests_words c.loop-rest.requests.items ++ rest) none ∙ append-nil (requests_words c.loop-rest.requests.items) in
     one_list request_words IsRequest BreaksRequest request_at requests_format c.loop-rest.requests.items list c.loop-rest.invariant.ranges ranges (sym whole ∙ e)
+
+-- the fault that was found is the only one
+pub returns-in-Err-clause-faulty : goal.returns-in-Err-clause-faulty
+returns-in-Err-clause-faulty c place why fault =
+    let found = rw c.fault_at.ensures at (returns-in-Err-clause-refused c) in
+    let same = one_fault request_words IsRequest BreaksRequest request_at requests_format c.args.words.now _ place c.in-Err.why why found fault in
+    inl (rw (c.fault_at.ensures, same.0, same.1) refl)
