@@ -1,5 +1,8 @@
 -- A reply is never longer than the room that its body has.
-use Rattle.std.proofs.Common.{ℕ, ◌+◌, ◌≤◌, suc, zero, true, false, cond, eqb, List, [], ◌∷◌, length, length-append, Result, Ok, Err, arith, lit≤}
+use Rattle.std.proofs.Common.{ℕ, ◌+◌, ◌≤◌, suc, zero, true, false, cond, eqb, List, [], ◌∷◌, length, length-append, replicate, Result, Ok, Err, arith, lit≤}
+use Rattle.std.specs.List.{range_with_len}
+use Rattle.std.proofs.lemmas.List.{length-replicate}
+use Rattle.std.proofs.lemmas.List.FromFn.{length-range_with_len}
 use Rattle.transaction_codec.specs.declared.request.Op.{Op}
 use Rattle.transaction_codec.specs.declared.request.Op.TheVariants.{Read, ReadPort, Write, WritePort, RmwBits, RmwSum}
 use Rattle.transaction_codec.specs.declared.info_code.TheConstants.{SUCCESS}
@@ -17,8 +20,8 @@ modified_values cells (Ok modified) = lit≤ tt
 modified_values cells (Err fault) = lit≤ tt
 
 pub values_bound : (cells : CellMap) (op : Op) → length (outcome cells op).values ≤ values_done op
-values_bound cells (Read base count) = words_read-length cells base 1 count
-values_bound cells (ReadPort base count) = words_read-length cells base 0 count
+values_bound cells (Read base count) = omega (arith, words_read-length cells (range_with_len base count), length-range_with_len base count)
+values_bound cells (ReadPort base count) = omega (arith, words_read-length cells (replicate count base), length-replicate count base)
 values_bound cells (Write base words) = lit≤ tt
 values_bound cells (WritePort base words) = lit≤ tt
 values_bound cells (RmwBits base and_term or_term) = modified_values cells (modify cells base (masked and_term or_term))

@@ -7,7 +7,7 @@ use Rattle.std.specs.Prelude.{◌==◌, ◌&&◌, not, nat_lt}
 use Rattle.transaction_codec.specs.declared.refusal.Why.TheVariants.{Version, Kind, Code, Count, Short}
 use Rattle.transaction_codec.specs.declared.info_code.TheConstants.{REQUEST}
 use Rattle.transaction_codec.specs.Header.{version_of, tid_of, kind_of, code_of, count_of, is_rmw}
-use Rattle.transaction_codec.specs.Request.{request_at, asked, words_after}
+use Rattle.transaction_codec.specs.Request.{request_at, op_at, words_after}
 use Rattle.transaction_codec.specs.Reply.{reply_words}
 use Rattle.transaction_codec.specs.Answer.{bad_header_reply}
 use Rattle.transaction_codec.proofs.Steps.{passed}
@@ -28,7 +28,7 @@ rest_shorter word after x is =
     let count = passed (is_rmw (kind_of word) && not (count_of word == 1)) Count _ x code.1 in
     let len = words_after (kind_of word) (count_of word) in
     let whole = passed (nat_lt (length after) len) Short _ x count.1 in
-    let made : Request × List ℕ = (record { tid = tid_of word; op = asked (kind_of word) (count_of word) after }, drop len after) in
+    let made : Request × List ℕ = (record { tid = tid_of word; op = op_at (kind_of word) (count_of word) after }, drop len after) in
     let rest : drop len after ≡ x.1 = ap (λ (y : Request × List ℕ). y.1) (same_ok made x whole.1) in
     omega (arith, ap length rest, length-drop len after)
 
@@ -89,7 +89,8 @@ run_body-success cells (word ∷ after) request rest some is success =
     run_body-request cells word after request rest is
     ∙ ap (λ b. cond b (after_reply (reply_words first.reply) (run_body first.cells rest)) (record { cells = first.cells; reply = reply_words first.reply })) test
 
--- How far the execution of a body has come: what was answered so far and what the rest does are what the whole body does.
+-- How far the execution of a body has come: what was answered so far and what the rest does are what the whole body
+-- does.
 pub record RunsOn (cells_before cells : CellMap) (before out : List ℕ) (room_before room_now : ℕ) (body left : List ℕ) : Type 0 where
   pub bus : (run_body cells left).cells ≡ (run_body cells_before body).cells
   pub reply : out ++ (run_body cells left).reply ≡ before ++ (run_body cells_before body).reply
