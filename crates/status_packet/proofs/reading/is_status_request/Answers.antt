@@ -1,6 +1,12 @@
-use Rattle.std.proofs.Common.{arith}
-use Rattle.status_packet.proofs.StatusLemmas.{asked}
+use Rattle.std.proofs.Common.{sym, ◌∙◌, eq-eqb}
+use Rattle.std.proofs.lemmas.Bool.{eqb-true}
+use Rattle.status_packet.proofs.StatusLemmas.{request, request_word}
 use Rattle.status_packet.proofs.reading.is_status_request.Goals as goal
 
-pub returns-clause-told : goal.returns-clause-told
-returns-clause-told c = rw c.has_status_header.ensures (asked c.args.bytes.now (λ i. omega (arith, c.type_inv.bytes i)))
+pub returns-then-bytes-eq-STATUS_BYTES : goal.returns-then-bytes-eq-STATUS_BYTES
+returns-then-bytes-eq-STATUS_BYTES c = record {
+  request = (
+    λ e. request c.args.bytes.now c.type_inv.bytes c.if-bytes-eq-STATUS_BYTES.true (sym c.word_at.ensures ∙ eqb-true _ _ e ∙ c.status_header.ensures),
+    λ is. eq-eqb _ _ (c.word_at.ensures ∙ request_word c.args.bytes.now is ∙ sym c.status_header.ensures),
+  );
+}
