@@ -9,16 +9,17 @@ use Rattle.board_bus.specs.Bodies.{Executed, run_body}
 use Rattle.ipbus_program.specs.declared.session.Register.{Register}
 use Rattle.ipbus_program.specs.declared.session.Session.{Session}
 use Rattle.ipbus_program.specs.Document.{CanRun}
-use Rattle.ipbus_program.specs.Plan.{opening_values, script_body, session_bus, word_replies, HaveWords, GiveWords, GivesValues}
-use Rattle.ipbus_program.specs.History.{Outcome, placed, IsHistory}
+use Rattle.ipbus_program.specs.Plan.{opening_values, script_body, session_bus}
+use Rattle.ipbus_program.specs.History.{BodyOutcome, bodies_with_outcomes, IsHistory}
 use Rattle.ipbus_program.specs.Transcript.{OpResult, Values, ShowsValues, results, op_lines, lines}
 use Rattle.ipbus_program.specs.Text.{client_text, board_text, transcript_text, one_body_text}
 use Rattle.ipbus_program.specs.Owed.{IsTranscriptOf}
 use Rattle.ipbus_program.proofs.Script.{script_reply, results_are_values, replies-length}
 use Rattle.ipbus_program.proofs.Opening.{gives_opening, opening_fits}
+use Rattle.ipbus_program.specs.Steps.{word_replies, HaveWords, GiveWords, GivesValues}
 
 -- one body, replied to at place 1
-abbrev pub one_outcome : List ℕ → List (List Outcome)
+abbrev pub one_outcome : List ℕ → List (List BodyOutcome)
 one_outcome reply = (record { place = 1; reply = reply } ∷ []) ∷ []
 
 pub history_of_one : (opening : CellMap) (body reply : List ℕ) → reply ≡ (run_body opening body).reply → IsHistory opening ((body ∷ []) ∷ []) (one_outcome reply)
@@ -26,9 +27,9 @@ history_of_one opening body reply same = record {
   each_has_one = refl;
   one_order = λ place low high.
       let one : place ≡ 1 = omega arith in
-      let P : ℕ → Type 0 = λ n. count_by (λ p. p.1.place == n) (placed ((body ∷ []) ∷ []) (one_outcome reply)) ≡ 1 in
+      let P : ℕ → Type 0 = λ n. count_by (λ p. p.1.place == n) (bodies_with_outcomes ((body ∷ []) ∷ []) (one_outcome reply)) ≡ 1 in
       subst P (sym one) refl;
-  script_order = (tt, tt);
+  script_order = ((λ k below. absurd (omega arith)), tt);
   single_thread = (ap Some (sym same), tt);
 }
 

@@ -1,14 +1,15 @@
 -- Which answer is owed to an input, and that an input of the first form is owed no refusal.
-use Rattle.std.proofs.Common.{◌≡◌, ℕ, inl, inr, Bool, List, [], ◌∷◌, length, map, get_or, Option, sym, ap, ◌∙◌, subst, arith, String, Global, string_bytes}
+use Rattle.std.proofs.Common.{◌≡◌, ℕ, ◌<◌, ◌≤◌, inl, inr, Bool, List, [], ◌∷◌, length, map, get_or, Option, sym, ap, ◌∙◌, subst, arith, String, Global, string_bytes}
 use Rattle.std.specs.Prelude.{IsTrue}
 use Rattle.std.specs.Str.{bytes_eq}
 use Rattle.std.specs.Bool.{Decides}
-use Rattle.ipbus_program.specs.declared.answer.Refusal.TheVariants.{NotToml, NotBuilt}
-use Rattle.ipbus_program.specs.declared.answer.TheConstants.{WRITE_FAULT}
 use Rattle.ipb_base.specs.Faults.{Rose}
 use Rattle.ipb_outside.specs.Told.{AppendsPart}
-use Rattle.ipbus_program.specs.Owed.{ReadToEnd, AnswersBytes, AnswersInput, Owes, OwesText, WroteOwedPart, Delivers}
+use Rattle.ipbus_program.specs.declared.answer.Refusal.TheVariants.{TooLong, NotToml, NotBuilt}
+use Rattle.ipbus_program.specs.declared.answer.TheConstants.{WRITE_FAULT, MAX_DOCUMENT}
+use Rattle.ipbus_program.specs.Owed.{ReadToEnd, AnswersInput, Owes, OwesText, WroteOwedPart}
 use Rattle.std.proofs.lemmas.Slice.Eq.{bytes_eq-Decides}
+use Rattle.ipbus_program.specs.Steps.{AnswersBytes, Delivers}
 
 first_of_one : {A : Type 0} {x y : A} → x ∷ [] ≡ y ∷ [] → x ≡ y
 first_of_one e = cc
@@ -24,14 +25,16 @@ one_word (x ∷ []) word text wanted b one is spelled same =
 one_word (x ∷ y ∷ words) word text wanted b one is spelled same = absurd (omega arith)
 
 -- an input that was read to its end is answered by what its bytes are answered by
-pub input_answered : (before now : Option (List ℕ)) (bytes : List ℕ) (status : ℕ) (text : List ℕ) → ReadToEnd before now bytes → AnswersBytes bytes status text
-    → AnswersInput before now status text
-input_answered before now bytes status text read (inl (done, (session, (stands, transcript)))) =
-    inl (done, record { bytes = bytes; read = read; session = session; stands = stands; transcript = transcript })
-input_answered before now bytes status text read (inr (refused, inl (not_toml, line))) =
-    inr (refused, record { refusal = NotToml; refused = (bytes, read, not_toml); line = line })
-input_answered before now bytes status text read (inr (refused, inr (not_built, line))) =
-    inr (refused, record { refusal = NotBuilt; refused = (bytes, read, not_built); line = line })
+pub input_answered : (before now : Option (List ℕ)) (bytes : List ℕ) (status : ℕ) (text : List ℕ) → length bytes ≤ MAX_DOCUMENT → ReadToEnd before now bytes
+    → AnswersBytes bytes status text → AnswersInput before now status text
+input_answered before now bytes status text within read (inl (done, (session, (accepted, transcript)))) =
+    inl (done, record { bytes = bytes; read = read; session = session; accepted = accepted; transcript = transcript })
+input_answered before now bytes status text within read (inr (refused, (TooLong, (long, line)))) =
+    let over : MAX_DOCUMENT < length bytes = long in absurd (omega arith)
+input_answered before now bytes status text within read (inr (refused, (NotToml, (deserves, line)))) =
+    inr (refused, record { refusal = NotToml; refused = record { bytes = bytes; taken = read.all; deserved = deserves; stopped = read.at_end }; line = line })
+input_answered before now bytes status text within read (inr (refused, (NotBuilt, (deserves, line)))) =
+    inr (refused, record { refusal = NotBuilt; refused = record { bytes = bytes; taken = read.all; deserved = deserves; stopped = read.at_end }; line = line })
 
 -- no status that goes with a text is that of an output's fault
 not_a_fault : (words : List (String Global)) (before now : Option (List ℕ)) (status : ℕ) (text : List ℕ) → Owes words before now status text → status ≡ WRITE_FAULT → ⊥

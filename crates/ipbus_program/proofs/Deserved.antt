@@ -1,5 +1,5 @@
 -- What bytes deserve, and that an input which tells its bytes is answered as they deserve.
-use Rattle.std.proofs.Common.{◌≡◌, ℕ, ◌+◌, ◌≤◌, ◌⊎◌, inl, inr, ⊎_elim, true, false, List, ◌++◌, length, Option, Some, None, refl, sym, ap, subst, ◌∙◌, arith, length-append, append-nil}
+use Rattle.std.proofs.Common.{◌≡◌, ℕ, ◌+◌, ◌<◌, ◌≤◌, ◌⊎◌, inl, inr, ⊎_elim, true, false, List, ◌++◌, length, Option, Some, None, refl, sym, ap, subst, ◌∙◌, arith, length-append, append-nil}
 use Rattle.std.specs.Io.KnownBytes.{prepend_known, append_known}
 use Rattle.std.specs.Str.{IsUtf8, is_utf8}
 use Rattle.std.proofs.lemmas.Option.{none-some, same_Some}
@@ -8,6 +8,7 @@ use Rattle.std.proofs.lemmas.Str.{IsUtf8-from_is_utf8, is_utf8-from_IsUtf8}
 use Rattle.toml.specs.Data.{Members}
 use Rattle.toml.specs.Parse.{parse_document}
 use Rattle.ipb_base.specs.Faults.{Rose}
+use Rattle.ipb_outside.specs.Told.{TakesCount}
 use Rattle.ipbus_program.specs.declared.session.Session.{Session}
 use Rattle.ipbus_program.specs.declared.answer.Refusal.{Refusal}
 use Rattle.ipbus_program.specs.declared.answer.Refusal.TheVariants.{TooLong, NotToml, NotBuilt}
@@ -16,8 +17,9 @@ use Rattle.ipbus_program.specs.Reading.{session_of}
 use Rattle.ipbus_program.specs.FirstForm.{IsFirstForm}
 use Rattle.ipbus_program.specs.Document.{IsToml, StandsFor}
 use Rattle.ipbus_program.specs.Text.{refusal_text}
-use Rattle.ipbus_program.specs.Owed.{IsAccepted, Deserves, ReadToEnd, OwesTranscript, IsRefused, AnswersInput, Wrote, Delivers}
+use Rattle.ipbus_program.specs.Owed.{IsAccepted, Deserves, ReadToEnd, OwesTranscript, IsRefused, AnswersInput, Wrote}
 use Rattle.ipbus_program.proofs.FormWhole.{session_of_found, session_of_again, no_session}
+use Rattle.ipbus_program.specs.Steps.{Delivers}
 
 -- ---- bytes
 
@@ -88,17 +90,22 @@ told_read before (Some rest) bytes read told to_end =
     sym (append-nil read) ∙ ap (λ more. read ++ more) (sym to_end.at_end) ∙ same_Some (read ++ rest) bytes (sym to_end.all ∙ told)
 
 -- an input is refused as its bytes deserve
-refused_deserves : (refusal : Refusal) (before now : Option (List ℕ)) (bytes : List ℕ) → before ≡ Some bytes → IsRefused refusal before now → Deserves refusal bytes
-refused_deserves TooLong before now bytes told (taken, long, took) = let fewer = told_taken before now bytes taken told took in omega arith
-refused_deserves NotToml before now bytes told (read, to_end, not_toml) =
-    subst (Deserves NotToml) (told_read before now bytes read told to_end) (to_end.within, not_toml)
-refused_deserves NotBuilt before now bytes told (read, to_end, not_built) =
-    subst (Deserves NotBuilt) (told_read before now bytes read told to_end) (to_end.within, not_built)
+pub refused_deserves : (refusal : Refusal) (before now : Option (List ℕ)) (bytes : List ℕ) → before ≡ Some bytes → IsRefused refusal before now → Deserves refusal bytes
+refused_deserves TooLong before now bytes told refused =
+    let fewer = told_taken before now bytes refused.bytes told refused.taken in
+    let long : MAX_DOCUMENT < length refused.bytes = refused.deserved in
+    omega arith
+refused_deserves NotToml before now bytes told refused =
+    let to_end : ReadToEnd before now refused.bytes = record { all = refused.taken; at_end = refused.stopped } in
+    subst (Deserves NotToml) (told_read before now bytes refused.bytes told to_end) refused.deserved
+refused_deserves NotBuilt before now bytes told refused =
+    let to_end : ReadToEnd before now refused.bytes = record { all = refused.taken; at_end = refused.stopped } in
+    subst (Deserves NotBuilt) (told_read before now bytes refused.bytes told to_end) refused.deserved
 
 -- and its transcript is that of the session that they stand for
-transcript_accepted : (before now : Option (List ℕ)) (bytes text : List ℕ) → before ≡ Some bytes → (owes : OwesTranscript before now text) → IsAccepted bytes owes.session
+pub transcript_accepted : (before now : Option (List ℕ)) (bytes text : List ℕ) → before ≡ Some bytes → (owes : OwesTranscript before now text) → IsAccepted bytes owes.session
 transcript_accepted before now bytes text told owes =
-    subst (λ read. IsAccepted read owes.session) (told_read before now bytes owes.bytes told owes.read) (owes.read.within, owes.stands)
+    subst (λ read. IsAccepted read owes.session) (told_read before now bytes owes.bytes told owes.read) owes.accepted
 
 -- ---- answers
 
@@ -120,3 +127,13 @@ module _ (before now : Option (List ℕ)) (bytes : List ℕ) (told : before ≡ 
   deserved_refused refusal deserves (inr (refused, owes)) (inl (is, wrote)) calm =
       let same = one_refusal bytes owes.refusal refusal (refused_deserves owes.refusal before now bytes told owes.refused) deserves in
       (is ∙ refused, wrote ∙ ap (append_known old) (same_text ∙ owes.line ∙ ap refusal_text same))
+
+-- of an input that is longer than a document may be one byte more than that was taken
+pub taken_of_long : (before now : Option (List ℕ)) (bytes : List ℕ) → before ≡ Some bytes → (status : ℕ) (text : List ℕ)
+    → MAX_DOCUMENT < length bytes → AnswersInput before now status text → TakesCount (MAX_DOCUMENT + 1) before now
+taken_of_long before now bytes told status text long (inl (done, owes)) =
+    absurd (accepted_not_refused bytes owes.session TooLong (transcript_accepted before now bytes text told owes) long)
+taken_of_long before now bytes told status text long (inr (refused, owes)) =
+    let same = one_refusal bytes owes.refusal TooLong (refused_deserves owes.refusal before now bytes told owes.refused) long in
+    let is : IsRefused TooLong before now = subst (λ refusal. IsRefused refusal before now) same owes.refused in
+    (is.bytes, is.stopped, is.taken)

@@ -4,13 +4,13 @@ use Rattle.std.proofs.lemmas.Bool.{and_parts, and_from}
 use Rattle.std.proofs.lemmas.Option.{same_Some}
 use Rattle.std.proofs.lemmas.Slice.Eq.{bytes_eq-Decides}
 use Rattle.std.specs.Str.{bytes_eq}
-use Rattle.std.specs.List.{IsDistinct}
+use Rattle.std.specs.List.{IsDistinct, AllZip}
 use Rattle.toml.specs.Data.{Data, no_items, item}
 use Rattle.ipbus_program.specs.declared.session.Register.{Register}
 use Rattle.ipbus_program.specs.declared.session.BoardSpec.{BoardSpec}
 use Rattle.ipbus_program.specs.Fields.{checked, values, only, each, word_of, fields_of, text_at, name_at, word_at, values_at}
 use Rattle.ipbus_program.specs.Reading.{is_listed, register_of, are_distinct, registers_of, range_of, board_of}
-use Rattle.ipbus_program.specs.FirstForm.{Each, IsListed, IsNumber, IsNode, IsRange, IsBoard}
+use Rattle.ipbus_program.specs.FirstForm.{IsListed, IsNumber, IsNode, IsRange, IsBoard}
 use Rattle.ipbus_program.proofs.FormParts.{step_found, step_again, checked_found, checked_again, fields_of_found, fields_of_again, word_of_found, word_of_again, text_at_found, text_at_again, name_at_found, name_at_again, word_at_found, word_at_again, values_at_found, values_at_again, one_at_found}
 use Rattle.ipbus_program.proofs.FormLists.{each_found, each_again, is_listed-Decides}
 use Rattle.ipbus_program.proofs.FormRegisters.{are_distinct-Decides}
@@ -45,7 +45,7 @@ register_of_again size value register node =
 
 -- 1 to 100 nodes with different ids
 pub record AreNodes (size : ℕ) (nodes : List Data) (registers : List Register) : Type 0 where
-  pub each_node : Each (IsNode size) nodes registers
+  pub each_node : AllZip (IsNode size) nodes registers
   pub nodes_listed : IsListed nodes
   pub ids_differ : IsDistinct bytes_eq (map (λ register. register.id) registers)
 
@@ -105,7 +105,7 @@ range_of_found value range found =
     let kept = checked_found _ numbers fitting fitting_here in
     let sizes = (range_numbers-Decides base size (length numbers)).0 kept.0 in
     let items = values_at_found (codes "init") fields numbers numbers_here in
-    let AreWordsOf : List Data → Type 0 = λ xs. Each IsNumber xs init in
+    let AreWordsOf : List Data → Type 0 = λ xs. AllZip IsNumber xs init in
     let Fits : List Data → Type 0 = λ xs. length xs ≤ size in
     subst (λ (r : ℕ × List ℕ). IsRange value r.0 r.1) (same_Some _ _ last) (record {
       fields = fields;

@@ -4,10 +4,11 @@ use Rattle.toml.specs.Data.{Data, string, as_str}
 use Rattle.ipbus_program.specs.declared.session.Register.{Register}
 use Rattle.ipbus_program.specs.Fields.{◌>>=◌, checked, values, each, fields_of, values_at}
 use Rattle.ipbus_program.specs.Reading.{after, register_with, is_listed, are_distinct, read_of, script_of}
-use Rattle.ipbus_program.specs.FirstForm.{Each, IsListed, IsRead, IsClient}
+use Rattle.ipbus_program.specs.FirstForm.{IsListed, IsRead, IsClient}
 use Rattle.ipbus_program.proofs.FormParts.{step_found, step_again, checked_found, checked_again, as_str_found, fields_of_found, fields_of_again, values_at_found, values_at_again}
 use Rattle.ipbus_program.proofs.FormLists.{each_found, each_again, after_found, after_again, is_listed-Decides}
 use Rattle.ipbus_program.proofs.FormRegisters.{register_with_found, register_with_again}
+use Rattle.std.specs.List.{AllZip}
 
 -- a line as its fronts, one after the other, and what follows them
 fronts : (a b c rest : List ℕ) → a ++ b ++ c ++ rest ≡ a ++ (b ++ (c ++ rest))
@@ -52,7 +53,7 @@ script_of_found board registers value script found =
     let is_table = fields_of_found 1 value fields here in
     let kept = checked_found (is_listed lines) lines listed listed_here in
     let items = values_at_found (codes "script") fields lines lines_here in
-    let AreReads : List Data → Type 0 = λ xs. Each (IsRead board registers) xs script in
+    let AreReads : List Data → Type 0 = λ xs. AllZip (IsRead board registers) xs script in
     record {
       fields = fields;
       is_table = is_table.is_table;

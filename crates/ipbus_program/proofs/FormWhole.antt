@@ -5,11 +5,12 @@ use Rattle.toml.specs.Data.{Data, Items, no_items, item, Members, no_members, me
 use Rattle.ipbus_program.specs.declared.session.Session.{Session}
 use Rattle.ipbus_program.specs.Fields.{◌>>=◌, checked, values, only, only_member, member_count, is_name, values_of, values_at}
 use Rattle.ipbus_program.specs.Reading.{registers_of, board_of, script_of, table_of, session_of}
-use Rattle.ipbus_program.specs.FirstForm.{Each, IsListed, IsName, IsNode, IsFirstForm}
+use Rattle.ipbus_program.specs.FirstForm.{IsListed, IsName, IsNode, IsFirstForm}
 use Rattle.ipbus_program.proofs.FormParts.{step_found, step_again, checked_found, checked_again, is_name-Decides, as_table_found, values_of_found, values_at_again, only_member_found, one_at_found}
 use Rattle.ipbus_program.proofs.FormRegisters.{are_distinct-Decides}
 use Rattle.ipbus_program.proofs.FormBoards.{AreNodes, registers_of_found, registers_of_again, board_of_found, board_of_again}
 use Rattle.ipbus_program.proofs.FormScripts.{script_of_found, script_of_again}
+use Rattle.std.specs.List.{AllZip}
 
 -- the document's one table: its name and its nodes
 pub record IsOnlyTable (document : Members) (name : List ℕ) (nodes : List Data) : Type 0 where
@@ -65,7 +66,7 @@ session_of_found document session found =
       nodes = tables.items;
       tables = tables.tables;
       registers = registers;
-      each_node = subst (λ vs. Each (IsNode board.size) vs registers) (sym tables.the_values) nodes.each_node;
+      each_node = subst (λ vs. AllZip (IsNode board.size) vs registers) (sym tables.the_values) nodes.each_node;
       nodes_listed = subst IsListed (sym tables.the_values) nodes.nodes_listed;
       ids_differ = nodes.ids_differ;
       board = one_board;

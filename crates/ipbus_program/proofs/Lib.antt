@@ -1,3 +1,4 @@
+pub mod Joined
 pub mod Members
 pub mod Hex
 pub mod Script
@@ -9,6 +10,7 @@ pub mod CanRun
 pub mod Standing
 pub mod Causes
 pub mod Deserved
+pub mod OneText
 pub mod FormParts
 pub mod FormLists
 pub mod FormRegisters

@@ -8,7 +8,7 @@ use Rattle.board_bus.specs.Bodies.{run_body, replay}
 use Rattle.ipbus_program.specs.declared.session.Session.{Session}
 use Rattle.ipbus_program.specs.Document.{CanRun}
 use Rattle.ipbus_program.specs.Plan.{opening_values, script_body, session_bus}
-use Rattle.ipbus_program.specs.History.{Outcome, by_place, IsHistory}
+use Rattle.ipbus_program.specs.History.{BodyOutcome, by_place, IsHistory}
 use Rattle.ipbus_program.specs.Transcript.{lines}
 use Rattle.ipbus_program.specs.Text.{transcript_text, one_body_text}
 use Rattle.ipbus_program.specs.Owed.{IsTranscriptOf}
@@ -29,7 +29,7 @@ the_outcome : (place : ℕ) (reply other : List ℕ) → place ≡ 1 → reply �
 the_outcome place reply other first same = ap (λ n. (record { place = n; reply = reply } ∷ []) ∷ []) first ∙ ap one_outcome same
 
 -- an outcome of one body is at place 1, and has the reply of the bus to it
-one_body : (opening : CellMap) (body : List ℕ) (outcomes : List (List Outcome)) → IsHistory opening ((body ∷ []) ∷ []) outcomes
+one_body : (opening : CellMap) (body : List ℕ) (outcomes : List (List BodyOutcome)) → IsHistory opening ((body ∷ []) ∷ []) outcomes
     → outcomes ≡ one_outcome (run_body opening body).reply
 one_body opening body [] history = let apart = history.each_has_one in cc
 one_body opening body ([] ∷ more) history = let apart = history.each_has_one in cc

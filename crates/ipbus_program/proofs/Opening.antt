@@ -3,7 +3,8 @@ use Rattle.std.proofs.Common.{◌≡◌, ℕ, zero, suc, ◌+◌, ◌-◌, ◌^�
 use Rattle.std.proofs.lemmas.List.{length-replicate}
 use Rattle.std.proofs.lemmas.Bool.{lt-ltb}
 use Rattle.std.specs.List.{AllByRecursion}
-use Rattle.ipb_base.specs.Word.{IsWord, AreWords}
+use Rattle.ipb_base.specs.Word.{AreWords}
+use Rattle.ipb_base.proofs.WordLemmas.{AreWords-append, AreWords-zeros, word_at}
 use Rattle.std.specs.Ordering.{nat_cmp}
 use Rattle.std.specs.FinMap.Entries.{find}
 use Rattle.board_bus.specs.declared.kind.RangeKind.TheVariants.{Rw}
@@ -12,7 +13,8 @@ use Rattle.board_bus.specs.Ranges.{opening_words, opening_bus}
 use Rattle.board_bus.proofs.Lookups.{find-cell_map, find-within}
 use Rattle.ipbus_program.specs.declared.session.Register.{Register}
 use Rattle.ipbus_program.specs.declared.session.BoardSpec.{BoardSpec}
-use Rattle.ipbus_program.specs.Plan.{board_range, opening_word, opening_values, GiveWords}
+use Rattle.ipbus_program.specs.Plan.{board_range, opening_word, opening_values}
+use Rattle.ipbus_program.specs.Steps.{GiveWords}
 
 as_many_words : (board : BoardSpec) → length board.init ≤ board.size → length (opening_words (board_range board)) ≡ board.size
 as_many_words board fits =
@@ -40,20 +42,9 @@ gives_opening board (register ∷ script) fits small inside =
     (reads_opening board register.address fits small inside.0, gives_opening board script fits small inside.1)
 
 -- and they are words
-word_at : (words : List ℕ) (i : ℕ) → AreWords words → IsWord (get_or words i 0)
-word_at [] i fits = lit< tt
-word_at (word ∷ words) zero fits = fits.0
-word_at (word ∷ words) (suc i) fits = word_at words i fits.1
-
-zeros_fit : (n : ℕ) → AreWords (replicate n 0)
-zeros_fit zero = tt
-zeros_fit (suc n) = (lit< tt, zeros_fit n)
-
-both_fit : (xs ys : List ℕ) → AreWords xs → AreWords ys → AreWords (xs ++ ys)
-both_fit [] ys f g = g
-both_fit (x ∷ xs) ys f g = (f.0, both_fit xs ys f.1 g)
-
 pub opening_fits : (board : BoardSpec) (script : List Register) → AreWords board.init → AreWords (opening_values board script)
 opening_fits board [] fits = tt
-opening_fits board (register ∷ script) fits =
-    (word_at (opening_words (board_range board)) register.address (both_fit board.init _ fits (zeros_fit (board.size - length board.init))), opening_fits board script fits)
+opening_fits board (register ∷ script) fits = (
+  word_at (opening_words (board_range board)) register.address (AreWords-append board.init _ fits (AreWords-zeros (board.size - length board.init))),
+  opening_fits board script fits,
+)

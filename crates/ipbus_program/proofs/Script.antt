@@ -9,7 +9,7 @@ use Rattle.transaction_codec.specs.declared.refusal.Why.{Why}
 use Rattle.transaction_codec.specs.declared.transaction_type.TheConstants.{READ}
 use Rattle.transaction_codec.specs.declared.info_code.TheConstants.{REQUEST}
 use Rattle.transaction_codec.specs.Header.{header}
-use Rattle.transaction_codec.specs.Request.{IsRequest, AreRequests, request_words, requests_words, request_at}
+use Rattle.transaction_codec.specs.Request.{IsRequest, FitHeaders, request_words, requests_words, request_at}
 use Rattle.transaction_codec.specs.Reply.{IsReply, AreReplies, reply_words, replies_words}
 use Rattle.transaction_codec.proofs.Requests.{request_again}
 use Rattle.transaction_codec.proofs.Replies.{reply_again}
@@ -17,15 +17,16 @@ use Rattle.board_bus.specs.Cells.{CellMap, read_word}
 use Rattle.board_bus.specs.Transactions.{Transacted, transact}
 use Rattle.board_bus.specs.Bodies.{after_reply, run_on, run_first, run_requests, run_body}
 use Rattle.ipbus_program.specs.declared.session.Register.{Register}
-use Rattle.ipbus_program.specs.Plan.{read_request, script_requests, script_body, word_reply, word_replies, HaveWords, GiveWords}
+use Rattle.ipbus_program.specs.Plan.{read_request, script_requests, script_body}
 use Rattle.ipbus_program.specs.Transcript.{OpResult, Values, results_from, results}
+use Rattle.ipbus_program.specs.Steps.{word_reply, word_replies, HaveWords, GiveWords}
 
 is_request : (tid : ℕ) (register : Register) → tid < 2 ^ 12 → IsWord register.address → IsRequest (read_request tid register)
 is_request tid register small word = record { tid = small; count = lit< tt; words = (word, tt) }
 
-pub are_requests : (tid : ℕ) (script : List Register) → tid + length script ≤ 2 ^ 12 → HaveWords script → AreRequests (script_requests tid script)
-are_requests tid [] small words = tt
-are_requests tid (register ∷ script) small words = (is_request tid register (omega arith) words.0, are_requests (tid + 1) script (omega arith) words.1)
+pub fit_headers : (tid : ℕ) (script : List Register) → tid + length script ≤ 2 ^ 12 → FitHeaders (script_requests tid script)
+fit_headers tid [] small = tt
+fit_headers tid (register ∷ script) small = (record { tid = omega arith; count = lit< tt }, fit_headers (tid + 1) script (omega arith))
 
 is_reply : (tid word : ℕ) → tid < 2 ^ 12 → IsWord word → IsReply (word_reply tid word)
 is_reply tid word small fits = record { tid = small; count = lit< tt; form = inl (refl, inl (inl refl, refl)); values = (fits, tt) }

@@ -1,4 +1,4 @@
--- The packets between a client and a board. IPbus 2.0, control packets.
+-- The packets between a client and a board. IPbus 2.0, packet header, control packets.
 use Rattle.std.specs.Prelude.{ℕ, List}
 use Rattle.packet_codec.specs.declared.packet.Order.TheVariants.{Big}
 use Rattle.packet_codec.specs.declared.packet.PacketKind.TheVariants.{Control}

@@ -1,6 +1,8 @@
--- Fields of a parsed table: what stands under a key, and of which kind it is.
-use Rattle.std.specs.Prelude.{ℕ, ◌+◌, ◌^◌, pos, List, [], ◌∷◌, ◌++◌, length, Bool, ◌&&◌, ◌||◌, ◌==◌, nat_lt, nat_le, if◌then◌else◌, Option, Some, None}
+-- Fields of a parsed table: what stands under a key, and of which kind it is. Profile. This is how the code reads, as in Reading;
+-- of it the form cites `values` and `member_count` alone.
+use Rattle.std.specs.Prelude.{ℕ, ◌+◌, ◌^◌, pos, List, [], ◌∷◌, length, Bool, ◌&&◌, ◌||◌, ◌==◌, nat_lt, nat_le, if◌then◌else◌, Option, Some, None}
 use Rattle.std.specs.List.{list_all}
+use Rattle.ipbus_program.specs.declared.answer.TheConstants.{MAX_NAME}
 use Rattle.toml.specs.Data.{Data, Items, no_items, item, Members, no_members, member, integer, get_member, as_str, as_array, as_table}
 
 infixl 10 ◌>>=◌
@@ -40,11 +42,6 @@ each f (x ∷ xs) = do
   ys ← each f xs
   Some (y ∷ ys)
 
--- what was read so far, and what reading the rest gives
-abbrev pub joined : {A : Type 0} → List A → Option (List A) → Option (List A)
-joined front None = None
-joined front (Some rest) = Some (front ++ rest)
-
 -- a byte of a name: a letter, a digit, `_` or `-`
 unfoldable pub is_name_byte : ℕ → Bool
 is_name_byte byte =
@@ -53,7 +50,7 @@ is_name_byte byte =
 
 -- a name: 1 to 64 of these bytes
 unfoldable pub is_name : List ℕ → Bool
-is_name text = nat_le 1 (length text) && nat_le (length text) 64 && list_all is_name_byte text
+is_name text = nat_le 1 (length text) && nat_le (length text) MAX_NAME && list_all is_name_byte text
 
 -- a number of the document: an integer from 0 to 2 ^ 32 - 1
 abbrev pub word_of : Data → Option ℕ

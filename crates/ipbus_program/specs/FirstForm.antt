@@ -1,10 +1,11 @@
 -- The first form of a session document: which parsed TOML stands for which session. A table in which some number of different
--- keys is found, and which has that number of keys, has exactly these.
+-- keys is found, and which has that number of keys, has exactly these. Profile; nodes, ids and addresses as uHAL has them.
 use Rattle.std.specs.Prelude.{◌≡◌, ℕ, ◌≤◌, ◌<◌, ◌⊎◌, pos, List, [], ◌∷◌, ◌++◌, length, map, codes, Contains, Some}
-use Rattle.std.specs.List.{AllByRecursion, IsDistinct}
+use Rattle.std.specs.List.{AllByRecursion, AllZip, IsDistinct}
 use Rattle.std.specs.Str.{bytes_eq}
 use Rattle.toml.specs.Data.{Data, Items, no_items, item, Members, no_members, member, string, integer, array, table, get_member}
 use Rattle.ipb_base.specs.Word.{IsWord}
+use Rattle.ipbus_program.specs.declared.answer.TheConstants.{MAX_NAME, MAX_LISTED, MAX_RANGE}
 use Rattle.ipbus_program.specs.declared.session.Register.{Register}
 use Rattle.ipbus_program.specs.declared.session.BoardSpec.{BoardSpec}
 use Rattle.ipbus_program.specs.declared.session.Session.{Session}
@@ -18,18 +19,12 @@ IsNameByte byte =
 -- a name, or the id of a register, is 1 to 64 of these bytes
 pub record IsName (text : List ℕ) : Type 0 where
   pub not_empty : 1 ≤ length text
-  pub not_long : length text ≤ 64
+  pub not_long : length text ≤ MAX_NAME
   pub bytes : AllByRecursion IsNameByte text
-
--- the two lists are as long as one another, and R relates their items in order
-abbrev pub Each : {A B : Type 0} → (A → B → Type 0) → List A → List B → Type 0
-Each R [] [] = Unit {0}
-Each R (x ∷ xs) (y ∷ ys) = R x y × Each R xs ys
-Each R _ _ = ⊥
 
 -- 1 to 100 items
 abbrev pub IsListed : {A : Type 0} → List A → Type 0
-IsListed xs = (1 ≤ length xs) × (length xs ≤ 100)
+IsListed xs = (1 ≤ length xs) × (length xs ≤ MAX_LISTED)
 
 -- a number is an integer from 0 to 2 ^ 32 - 1
 pub record IsNumber (value : Data) (number : ℕ) : Type 0 where
@@ -60,10 +55,10 @@ pub record IsRange (value : Data) (size : ℕ) (init : List ℕ) : Type 0 where
   pub base : HasNumber fields (codes "base") 0
   pub size_key : HasNumber fields (codes "size") size
   pub not_empty : 1 ≤ size
-  pub not_large : size ≤ 65536
+  pub not_large : size ≤ MAX_RANGE
   pub numbers : Items
   pub init_key : get_member (codes "init") fields ≡ Some (array numbers)
-  pub words : Each IsNumber (values numbers) init
+  pub words : AllZip IsNumber (values numbers) init
   pub fits : length (values numbers) ≤ size
 
 -- a board has exactly the keys `name`, by the rule of names, `table`, the name of the table, and `ranges`, an array of one range
@@ -90,7 +85,7 @@ pub record IsClient (board_name : List ℕ) (registers : List Register) (value :
   pub no_other_key : member_count fields ≡ 1
   pub lines : Items
   pub script_key : get_member (codes "script") fields ≡ Some (array lines)
-  pub reads : Each (IsRead board_name registers) (values lines) script
+  pub reads : AllZip (IsRead board_name registers) (values lines) script
   pub listed : IsListed (values lines)
 
 -- A document has exactly the keys `tables`, which has one table of 1 to 100 nodes with different ids, `board`, an array of one
@@ -102,7 +97,7 @@ pub record IsFirstForm (document : Members) (session : Session) : Type 0 where
   pub nodes : Items
   pub tables : get_member (codes "tables") document ≡ Some (table (member table_name (array nodes) no_members))
   pub registers : List Register
-  pub each_node : Each (IsNode session.board.size) (values nodes) registers
+  pub each_node : AllZip (IsNode session.board.size) (values nodes) registers
   pub nodes_listed : IsListed (values nodes)
   pub ids_differ : IsDistinct bytes_eq (map (λ register. register.id) registers)
   pub board : Data

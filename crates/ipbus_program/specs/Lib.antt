@@ -7,5 +7,6 @@ pub mod History
 pub mod Transcript
 pub mod Text
 pub mod Owed
+pub mod Steps
 pub mod Exchange
 pub mod Worked

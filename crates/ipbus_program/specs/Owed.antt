@@ -1,17 +1,16 @@
 -- What the program owes to its words and its input. `before` and `now` are the bytes that the input had left at first and in the
--- end, where it tells them.
+-- end, where it tells them. Profile.
 use Rattle.std.specs.Prelude.{◌≡◌, ℕ, ◌+◌, ◌≤◌, ◌<◌, List, [], ◌∷◌, length, map, codes, Option, string_bytes, String, ◌⊎◌}
 use Rattle.std.specs.declared.alloc.Global.{Global}
 use Rattle.std.specs.Io.KnownBytes.{prepend_known, append_known, IsAtEnd}
-use Rattle.ipb_base.specs.Faults.{Rose}
-use Rattle.ipb_outside.specs.Told.{TakesCount, AppendsPart}
+use Rattle.ipb_outside.specs.Told.{AppendsPart}
 use Rattle.ipbus_program.specs.declared.session.Session.{Session}
 use Rattle.ipbus_program.specs.declared.answer.Refusal.{Refusal}
 use Rattle.ipbus_program.specs.declared.answer.Refusal.TheVariants.{TooLong, NotToml, NotBuilt}
 use Rattle.ipbus_program.specs.declared.answer.TheConstants.{DONE, USAGE, REFUSED, READ_FAULT, WRITE_FAULT, NO_MEMORY, MAX_DOCUMENT}
 use Rattle.ipbus_program.specs.Document.{StandsFor, IsNotToml, IsNotBuilt}
 use Rattle.ipbus_program.specs.Plan.{session_bodies, session_bus}
-use Rattle.ipbus_program.specs.History.{Outcome, IsHistory}
+use Rattle.ipbus_program.specs.History.{BodyOutcome, IsHistory}
 use Rattle.ipbus_program.specs.Transcript.{lines, ShowsAllValues}
 use Rattle.ipbus_program.specs.Text.{transcript_text, refusal_text, usage_text}
 
@@ -33,21 +32,20 @@ Deserves NotBuilt bytes = (length bytes ≤ MAX_DOCUMENT) × IsNotBuilt bytes
 pub record ReadToEnd (before now : Option (List ℕ)) (bytes : List ℕ) : Type 0 where
   pub all : before ≡ prepend_known bytes now
   pub at_end : IsAtEnd now
-  pub within : length bytes ≤ MAX_DOCUMENT
 
 -- the text is the transcript of the session, whose every line is a value: what a single-thread bus answers at the printed places
 pub record IsTranscriptOf (session : Session) (text : List ℕ) : Type 0 where
-  pub outcomes : List (List Outcome)
+  pub outcomes : List (List BodyOutcome)
   pub history : IsHistory (session_bus session) (session_bodies session) outcomes
   pub values : ShowsAllValues (lines session outcomes)
   pub spelled : text ≡ transcript_text (lines session outcomes)
 
--- the input is a document that stands for a session, and the text is its transcript
+-- the input is a document of a session, and the text is its transcript
 pub record OwesTranscript (before now : Option (List ℕ)) (text : List ℕ) : Type 0 where
   pub bytes : List ℕ
   pub read : ReadToEnd before now bytes
   pub session : Session
-  pub stands : StandsFor bytes session
+  pub accepted : IsAccepted bytes session
   pub transcript : IsTranscriptOf session text
 
 -- nothing was read, and the text is the usage line
@@ -55,12 +53,18 @@ pub record OwesUsage (before now : Option (List ℕ)) (text : List ℕ) : Type 0
   pub unread : now ≡ before
   pub usage : text ≡ usage_text
 
--- Why an input is refused: it is longer than a document may be and was read to just past that, it is no TOML, or it is not of
--- the first form.
-abbrev pub IsRefused : Refusal → Option (List ℕ) → Option (List ℕ) → Type 0
-IsRefused TooLong before now = TakesCount (MAX_DOCUMENT + 1) before now
-IsRefused NotToml before now = (bytes : List ℕ) × ReadToEnd before now bytes × IsNotToml bytes
-IsRefused NotBuilt before now = (bytes : List ℕ) × ReadToEnd before now bytes × IsNotBuilt bytes
+-- how far an input that is refused was read: to the first byte that is too many, or to its end
+abbrev pub Stopped : Refusal → List ℕ → Option (List ℕ) → Type 0
+Stopped TooLong bytes now = length bytes ≡ MAX_DOCUMENT + 1
+Stopped NotToml bytes now = IsAtEnd now
+Stopped NotBuilt bytes now = IsAtEnd now
+
+-- the bytes that were read of an input deserve this refusal
+pub record IsRefused (refusal : Refusal) (before now : Option (List ℕ)) : Type 0 where
+  pub bytes : List ℕ
+  pub taken : before ≡ prepend_known bytes now
+  pub deserved : Deserves refusal bytes
+  pub stopped : Stopped refusal bytes now
 
 -- the input is refused, and the text is the line of the refusal
 pub record OwesRefusal (before now : Option (List ℕ)) (text : List ℕ) : Type 0 where
@@ -100,16 +104,6 @@ WroteOwed owed old new = (text : List ℕ) × owed text × Wrote old new text
 abbrev pub WroteOwedPart : (List ℕ → Type 0) → Option (List ℕ) → Option (List ℕ) → Type 0
 WroteOwedPart owed old new = (text : List ℕ) × owed text × AppendsPart old new text
 
--- ---- the steps of the call; no public clause cites these two
-
--- What bytes that were read to the end of an input are answered by.
-abbrev pub AnswersBytes : List ℕ → ℕ → List ℕ → Type 0
-AnswersBytes bytes status text =
-    ((status ≡ DONE) × ((session : Session) × (StandsFor bytes session × IsTranscriptOf session text)))
-    ⊎ ((status ≡ REFUSED) × ((IsNotToml bytes × (text ≡ refusal_text NotToml)) ⊎ (IsNotBuilt bytes × (text ≡ refusal_text NotBuilt))))
-
--- The text was written whole and its status answered, or the output met a fault, a part of the text was written, and the status
--- says so. `old` and `new` are what the output was given, `before` and `now` its counts of faults.
-abbrev pub Delivers : ℕ → List ℕ → Option (List ℕ) → Option (List ℕ) → ℕ → ℕ → ℕ → Type 0
-Delivers status text old new before now result =
-    ((result ≡ status) × Wrote old new text) ⊎ ((result ≡ WRITE_FAULT) × (Rose before now × AppendsPart old new text))
+-- the line of this refusal was written and its status answered, or memory ran out
+abbrev pub RefusesWith : Refusal → ℕ → Option (List ℕ) → Option (List ℕ) → Type 0
+RefusesWith refusal status old new = ((status ≡ REFUSED) × Wrote old new (refusal_text refusal)) ⊎ (status ≡ NO_MEMORY)

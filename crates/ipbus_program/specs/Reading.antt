@@ -1,8 +1,10 @@
--- Reading a parsed document from the top: the session that it stands for, if it is of the first form.
+-- How the code reads a parsed document from the top: one definition for each of its readers, in the same order. Profile. The form
+-- itself stands in FirstForm, and `laws::reading_is_the_form` says that the two are the same, both ways.
 use Rattle.std.specs.Prelude.{◌≡◌, ℕ, List, [], ◌∷◌, length, take, drop, Bool, true, not, ◌&&◌, ◌==◌, nat_lt, nat_le, if◌then◌else◌, codes, Option, Some, None, Result, Ok, Err}
 use Rattle.std.specs.Option.{is_some}
 use Rattle.std.specs.Str.{bytes_eq}
 use Rattle.toml.specs.Data.{Data, Members, get_member, as_str, as_table}
+use Rattle.ipbus_program.specs.declared.answer.TheConstants.{MAX_LISTED, MAX_RANGE}
 use Rattle.ipbus_program.specs.declared.session.Register.{Register}
 use Rattle.ipbus_program.specs.declared.session.BoardSpec.{BoardSpec}
 use Rattle.ipbus_program.specs.declared.session.Session.{Session}
@@ -10,15 +12,15 @@ use Rattle.ipbus_program.specs.declared.document.DocumentError.{DocumentError}
 use Rattle.ipbus_program.specs.declared.document.DocumentError.TheVariants as errors
 use Rattle.ipbus_program.specs.Fields.{◌>>=◌, checked, only, only_member, each, member_count, values_of, is_name, word_of, fields_of, text_at, name_at, word_at, values_at}
 
--- What a function returned, seen by view, is what reading gives, want of memory aside.
-abbrev pub Refuses : {Y : Type 0} → DocumentError → Option Y → Type 0
-Refuses errors.NotToml read = ⊥
-Refuses errors.NotBuilt read = read ≡ None
-Refuses errors.NoMemory read = Unit {0}
+-- A reader answers, seen by view, what its definition reads, want of memory aside.
+abbrev pub RefusesAs : {Y : Type 0} → DocumentError → Option Y → Type 0
+RefusesAs errors.NotToml read = ⊥
+RefusesAs errors.NotBuilt read = read ≡ None
+RefusesAs errors.NoMemory read = Unit {0}
 
-abbrev pub Gives : {X Y : Type 0} → (X → Y) → Result X DocumentError → Option Y → Type 0
-Gives view (Ok x) read = read ≡ Some (view x)
-Gives view (Err e) read = Refuses e read
+abbrev pub ReadsAs : {X Y : Type 0} → (X → Y) → Result X DocumentError → Option Y → Type 0
+ReadsAs view (Ok x) read = read ≡ Some (view x)
+ReadsAs view (Err e) read = RefusesAs e read
 
 -- what follows this front of a text
 abbrev pub after : List ℕ → List ℕ → Option (List ℕ)
@@ -44,7 +46,7 @@ are_distinct (register ∷ registers) = not (is_some (register_with register.id 
 
 -- from 1 to 100 items
 abbrev pub is_listed : {A : Type 0} → List A → Bool
-is_listed xs = nat_le 1 (length xs) && nat_le (length xs) 100
+is_listed xs = nat_le 1 (length xs) && nat_le (length xs) MAX_LISTED
 
 unfoldable pub registers_of : ℕ → List Data → Option (List Register)
 registers_of size nodes = do
@@ -59,7 +61,7 @@ range_of value = do
   base ← word_at (codes "base") fields
   size ← word_at (codes "size") fields
   numbers ← values_at (codes "init") fields
-  fitting ← checked (base == 0 && nat_le 1 size && nat_le size 65536 && nat_le (length numbers) size) numbers
+  fitting ← checked (base == 0 && nat_le 1 size && nat_le size MAX_RANGE && nat_le (length numbers) size) numbers
   init ← each word_of fitting
   Some (size, init)
 

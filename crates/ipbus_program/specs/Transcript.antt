@@ -7,7 +7,7 @@ use Rattle.transaction_codec.specs.declared.info_code.TheConstants.{SUCCESS}
 use Rattle.transaction_codec.specs.Reply.{reply_at}
 use Rattle.ipbus_program.specs.declared.session.Register.{Register}
 use Rattle.ipbus_program.specs.declared.session.Session.{Session}
-use Rattle.ipbus_program.specs.History.{Outcome}
+use Rattle.ipbus_program.specs.History.{BodyOutcome}
 
 -- The result of an operation: the words read, the info code and the words done before the fault, nothing done behind a fault, or
 -- nothing told, since the words are no reply. Profile.
@@ -61,15 +61,15 @@ op_lines board place number (register ∷ script) (result ∷ rest) =
 op_lines board place number _ _ = []
 
 -- the lines of a client, whose script is one body
-abbrev pub client_lines : Session → List Outcome → List OpLine
+abbrev pub client_lines : Session → List BodyOutcome → List OpLine
 client_lines session (outcome ∷ []) = op_lines session.board.name outcome.place 1 session.script (results (length session.script) outcome.reply)
 client_lines session _ = []
 
 -- each body was replied to
-abbrev pub board_line : List ℕ → List Outcome → BoardLine
+abbrev pub board_line : List ℕ → List BodyOutcome → BoardLine
 board_line name outcomes = record { name = name; places = length outcomes; replied = length outcomes; timed_out = 0; lost = 0 }
 
-abbrev pub lines : Session → List (List Outcome) → Transcript
+abbrev pub lines : Session → List (List BodyOutcome) → Transcript
 lines session outcomes = record {
   clients = map (client_lines session) outcomes;
   boards = board_line session.board.name (flat_map (λ client. client) outcomes) ∷ [];

@@ -1,7 +1,7 @@
--- A session worked by hand: one board, one register, one read.
+-- A session worked by hand: one board, one register, one read. Profile.
 use Rattle.std.specs.Prelude.{ℕ, List, [], ◌∷◌, codes}
 use Rattle.ipbus_program.specs.declared.session.Session.{Session}
-use Rattle.ipbus_program.specs.History.{Outcome}
+use Rattle.ipbus_program.specs.History.{BodyOutcome}
 
 abbrev pub first_text : List ℕ
 first_text =
@@ -14,7 +14,7 @@ first_session = record {
 }
 
 -- its one body was replied to at place 1
-abbrev pub first_outcomes : List (List Outcome)
+abbrev pub first_outcomes : List (List BodyOutcome)
 first_outcomes = (record { place = 1; reply = 0x20000100 ∷ 0xabcd ∷ [] } ∷ []) ∷ []
 
 abbrev pub first_transcript : List ℕ

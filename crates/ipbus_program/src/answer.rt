@@ -1,4 +1,4 @@
-//! What the program answers: its statuses, and the refusals of the input.
+//! What the program answers: its statuses, the refusals of the input, and the limits of a session document.
 
 ghost use Rattle.std.specs.Prelude.{◌≡◌};
 
@@ -17,6 +17,12 @@ pub const NO_MEMORY: u8 = 6;
 
 /// The most bytes of a session document.
 pub const MAX_DOCUMENT: usize = 16_777_216;
+/// The most bytes of a name in it, and of a register's id.
+pub const MAX_NAME: usize = 64;
+/// The most nodes of its table, and lines of a script.
+pub const MAX_LISTED: usize = 100;
+/// The most addresses of a board's range, in words.
+pub const MAX_RANGE: u32 = 65_536;
 
 /// Why the input is refused, in the order in which the rules are tried.
 #[derive(Clone, Copy, Debug, PartialEq, Eq)]

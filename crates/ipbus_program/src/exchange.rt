@@ -56,7 +56,8 @@ fn datagram(alloc: Global, id: u16, body: Words) -> Result<Vec<u8>, NoMemory>
 /// The packet that bytes spell.
 fn received(alloc: Global, datagram: &[u8]) -> Result<Packet, NoMemory>
     requires { IsSpelling datagram.now }
-    ensures { (packet : PacketValue) → IsPacket packet → datagram.now ≡ packet_bytes packet → IfOk result (λ read. read ≡ packet) }
+    ensures { (packet : PacketValue) → IsPacket packet → datagram.now ≡ packet_bytes packet
+        → IfOk result (λ read. read ≡ packet) }
 {
     match read_packet(alloc, datagram) {
         Ok(packet) => Ok(packet),

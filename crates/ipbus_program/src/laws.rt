@@ -1,6 +1,7 @@
 //! Laws of the definitions. These functions do nothing when they run: their clauses are what is proved.
 
-ghost use Rattle.std.specs.Prelude.{◌≡◌, ◌+◌, ◌*◌, ◌↔◌, ◌⊎◌, ℕ, List, [], ◌∷◌, ◌++◌, length, map, replicate, Some, None};
+ghost use Rattle.std.specs.Prelude.{◌≡◌, ◌≤◌, ◌+◌, ◌*◌, ◌↔◌, ◌⊎◌, ℕ, List, [], ◌∷◌, ◌++◌, length, map, replicate, Option, Some, None, String};
+ghost use Rattle.std.specs.declared.alloc.Global.{Global};
 ghost use Rattle.toml.specs.Data.{Members};
 ghost use Rattle.board_bus.specs.Bodies.{run_body};
 ghost use Rattle.ipbus_program.specs.declared.session.Register.{Register};
@@ -10,38 +11,48 @@ ghost use Rattle.ipbus_program.specs.Document.{CanRun};
 ghost use Rattle.ipbus_program.specs.Plan.{opening_word, opening_values, script_body, session_bus};
 ghost use Rattle.ipbus_program.specs.Transcript.{Values};
 ghost use Rattle.ipbus_program.specs.Text.{client_heading, board_text, value_lines, lines_text, one_body_text};
-ghost use Rattle.ipbus_program.specs.Owed.{IsTranscriptOf};
 ghost use Rattle.ipbus_program.specs.Reading.{session_of};
 ghost use Rattle.ipbus_program.specs.declared.answer.Refusal.{Refusal};
 ghost use Rattle.ipbus_program.specs.FirstForm.{IsFirstForm};
-ghost use Rattle.ipbus_program.specs.Owed.{IsAccepted, Deserves};
+ghost use Rattle.ipbus_program.specs.Owed.{IsAccepted, Deserves, IsTranscriptOf, Owes};
 
 /// What reading a parsed document gives is what the form says, both ways. So a document of the form has one session.
 pub fn reading_is_the_form()
-    ensures reads { (document : Members) (session : Session) → session_of document ≡ Some session → IsFirstForm document session }
-    ensures again { (document : Members) (session : Session) → IsFirstForm document session → session_of document ≡ Some session }
-    ensures one_session { (document : Members) (s t : Session) → IsFirstForm document s → IsFirstForm document t → s ≡ t }
+    ensures reads { (document : Members) (session : Session)
+        → session_of document ≡ Some session → IsFirstForm document session }
+    ensures again { (document : Members) (session : Session)
+        → IsFirstForm document session → session_of document ≡ Some session }
+    ensures one_session { (document : Members) (s t : Session)
+        → IsFirstForm document s → IsFirstForm document t → s ≡ t }
     // Reading gives nothing exactly where the document is of the form for no session.
-    ensures refused { (document : Members) → (session_of document ≡ None) ↔ ((session : Session) → ¬ IsFirstForm document session) }
+    ensures refused { (document : Members)
+        → (session_of document ≡ None) ↔ ((session : Session) → ¬ IsFirstForm document session) }
 {}
 
 /// Any bytes have just one answer: they are a document of one session, or they deserve one refusal.
 pub fn bytes_have_one_answer()
-    ensures some { (bytes : List ℕ) → ((session : Session) × IsAccepted bytes session) ⊎ ((refusal : Refusal) × Deserves refusal bytes) }
+    ensures some { (bytes : List ℕ)
+        → ((session : Session) × IsAccepted bytes session) ⊎ ((refusal : Refusal) × Deserves refusal bytes) }
     ensures one_session { (bytes : List ℕ) (s t : Session) → IsAccepted bytes s → IsAccepted bytes t → s ≡ t }
     ensures one_refusal { (bytes : List ℕ) (r s : Refusal) → Deserves r bytes → Deserves s bytes → r ≡ s }
-    ensures not_both { (bytes : List ℕ) (session : Session) (refusal : Refusal) → IsAccepted bytes session → ¬ Deserves refusal bytes }
+    ensures not_both { (bytes : List ℕ) (session : Session) (refusal : Refusal)
+        → IsAccepted bytes session → ¬ Deserves refusal bytes }
+{}
+
+/// To words and to an input that tells its bytes just one status and one text are owed, however far it was read.
+pub fn one_text_is_owed()
+    ensures { (words : List (String Global)) (bytes : List ℕ) (now later : Option (List ℕ)) (s t : ℕ) (text other : List ℕ)
+        → Owes words (Some bytes) now s text → Owes words (Some bytes) later t other → (s ≡ t) × (text ≡ other) }
 {}
 
 /// A session has one transcript: its lines show, in order, the words that its board opens with at the registers read.
 pub fn one_transcript()
-    ensures transcript { (session : Session) (text : List ℕ) → CanRun session → IsTranscriptOf session text
-        → text ≡ one_body_text session.board.name session.script (opening_values session.board session.script) }
     ensures by_lines { (session : Session) (text : List ℕ) → CanRun session → IsTranscriptOf session text
         → text ≡ client_heading 1 ++ lines_text session.board 1 1 session.script
         ++ board_text (record { name = session.board.name; places = 1; replied = 1; timed_out = 0; lost = 0 }) }
     ensures there { (session : Session) → CanRun session
-        → IsTranscriptOf session (one_body_text session.board.name session.script (opening_values session.board session.script)) }
+        → IsTranscriptOf session
+        (one_body_text session.board.name session.script (opening_values session.board session.script)) }
     ensures form { (document : Members) (session : Session) → IsFirstForm document session → CanRun session }
 {}
 
@@ -57,13 +68,17 @@ pub fn lines_follow_one_another()
 
 /// The script's body leaves its board as it was.
 pub fn reads_leave_the_board()
-    ensures { (session : Session) → CanRun session → (run_body (session_bus session) (script_body session.script)).cells ≡ session_bus session }
+    ensures { (session : Session) → CanRun session
+        → (run_body (session_bus session) (script_body session.script)).cells ≡ session_bus session }
 {}
 
-/// The body of a script and the reply to it have two words for each line, so that they fit a packet of 368 words, the most that
-/// an MTU of 1500 bytes leaves.
+/// The body of a script and the reply to it have two words for each line. With its header each fits a packet of 368 words, the
+/// most that an MTU of 1500 bytes leaves.
 pub fn bodies_fit_a_packet()
     ensures body { (script : List Register) → length (script_body script) ≡ 2 * length script }
     ensures reply { (session : Session) → CanRun session
         → length (run_body (session_bus session) (script_body session.script)).reply ≡ 2 * length session.script }
+    ensures fits { (session : Session) → CanRun session
+        → (length (script_body session.script) + 1 ≤ 368)
+        × (length (run_body (session_bus session) (script_body session.script)).reply + 1 ≤ 368) }
 {}

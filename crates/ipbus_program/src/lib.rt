@@ -13,7 +13,10 @@ mod session;
 mod text;
 pub mod worked;
 
-pub use answer::{DONE, MAX_DOCUMENT, NO_MEMORY, READ_FAULT, REFUSED, Refusal, USAGE, WRITE_FAULT};
+pub use answer::{
+    DONE, MAX_DOCUMENT, MAX_LISTED, MAX_NAME, MAX_RANGE, NO_MEMORY, READ_FAULT, REFUSED, Refusal,
+    USAGE, WRITE_FAULT,
+};
 pub use edges::{ReaderSource, WriterSink};
 pub use program::control;
 pub use session::{BoardSpec, Register, Registers, Session};

@@ -9,10 +9,12 @@ ghost use Rattle.board_bus.specs.Bodies.{run_body};
 ghost use Rattle.board_bus.specs.declared.kind.RangeKind.TheVariants.{Rw as Writable};
 ghost use Rattle.ipb_base.specs.Word.{AreWords};
 ghost use Rattle.ipbus_program.specs.declared.session.Register.{Register as RegisterValue};
+ghost use Rattle.ipbus_program.specs.declared.answer.TheConstants.{MAX_LISTED, MAX_RANGE};
 ghost use Rattle.ipbus_program.specs.Document.{CanRun};
 ghost use Rattle.ipbus_program.specs.Owed.{IsTranscriptOf};
 ghost use Rattle.ipbus_program.specs.Text.{one_body_text};
-ghost use Rattle.ipbus_program.specs.Plan.{script_requests, script_body, word_replies, HaveWords, GiveWords, GivesValues};
+ghost use Rattle.ipbus_program.specs.Plan.{script_requests, script_body};
+ghost use Rattle.ipbus_program.specs.Steps.{word_replies, HaveWords, GiveWords, GivesValues};
 
 use crate::exchange::exchange;
 use crate::session::{BoardSpec, Register, Session};
@@ -30,7 +32,7 @@ const FIRST_PLACE: u64 = 1;
 /// The bus of a board with one range, from address 0 on.
 fn open(alloc: Global, size: u32, init: Words) -> Result<Bus, NoMemory>
     requires not_empty { 1 ≤ size }
-    requires not_large { size ≤ 65536 }
+    requires not_large { size ≤ MAX_RANGE }
     requires fits { length init ≤ size }
     ensures { IfOk result (λ bus. bus ≡ opening_bus (record { base = 0; size = size; kind = Writable; init = init } ∷ [])) }
 {
@@ -49,7 +51,7 @@ fn open(alloc: Global, size: u32, init: Words) -> Result<Bus, NoMemory>
 
 /// One read of one word for each line of the script.
 fn requests(alloc: Global, script: &[Register]) -> Result<Vec<Request>, NoMemory>
-    requires { length script.now ≤ 100 }
+    requires { length script.now ≤ MAX_LISTED }
     ensures { IfOk result (λ requests. requests.items ≡ script_requests 0 script.now) }
 {
     let mut requests = Vec::new(alloc);
@@ -80,7 +82,7 @@ fn words_of(alloc: Global, replies: &[Reply]) -> Result<Vec<u32>, NoMemory>
 /// The values of a reply that has one for each line of the script.
 fn values(alloc: Global, reply: &[u32]) -> Result<Vec<u32>, NoMemory>
     requires { (script : List RegisterValue) × GivesValues script reply.now }
-    ensures { (words : List ℕ) → AreWords words → length words ≤ 100 → reply.now ≡ replies_words (word_replies 0 words)
+    ensures { (words : List ℕ) → AreWords words → length words ≤ MAX_LISTED → reply.now ≡ replies_words (word_replies 0 words)
         → IfOk result (λ values. values.items ≡ words) }
 {
     match read_replies(alloc, reply) {
@@ -111,9 +113,9 @@ fn transcript(
     script: &[Register],
     reply: &[u32],
 ) -> Result<String, NoMemory>
-    requires few { length script.now ≤ 100 }
+    requires few { length script.now ≤ MAX_LISTED }
     requires values { GivesValues script.now reply.now }
-    ensures { (words : List ℕ) → AreWords words → length words ≤ 100 → reply.now ≡ replies_words (word_replies 0 words)
+    ensures { (words : List ℕ) → AreWords words → length words ≤ MAX_LISTED → reply.now ≡ replies_words (word_replies 0 words)
         → IfOk result (λ text. string_bytes text ≡ one_body_text board.now script.now words) }
 {
     let words = values(alloc, reply)?;
@@ -125,7 +127,7 @@ fn transcript(
 
 /// The board executes the script as the body of its first packet, and answers.
 fn ask(alloc: Global, bus: &mut Bus, script: &[Register]) -> Result<Words, NoMemory>
-    requires few { length script.now ≤ 100 }
+    requires few { length script.now ≤ MAX_LISTED }
     requires words { HaveWords script.now }
     requires answered { (words : List ℕ) × (length words ≡ length script.now) × GiveWords bus.old script.now words }
     ensures { IfOk result (λ reply. reply ≡ (run_body bus.old (script_body script.now)).reply) }

@@ -2,14 +2,14 @@
 
 ghost use Rattle.std.specs.Prelude.{◌≡◌};
 
-use ipb_base::{Line, Words};
+use ipb_base::{Text, Words};
 use std::marker::Model;
 
 /// A register of the board's table.
 #[derive(Debug, Drop)]
 pub struct Register {
     /// Its id, 1 to 64 of `A-Z a-z 0-9 _ -`.
-    pub id: Line,
+    pub id: Text,
     /// Its address on the bus, in words.
     pub address: u32,
 }
@@ -30,12 +30,14 @@ impl Model for Registers {
 }
 
 impl Registers {
+    /// The registers of a vector, in its order. It takes no memory.
     pub fn from_vec(items: Vec<Register>) -> Registers
         ensures { result ≡ items.items }
     {
         Registers { items }
     }
 
+    /// The registers, in order.
     pub fn as_slice(&self) -> &[Register]
         ensures { result.now ≡ self.now }
     {
@@ -47,8 +49,8 @@ impl Registers {
 #[derive(Debug, Drop)]
 pub struct BoardSpec {
     /// Its name, 1 to 64 of `A-Z a-z 0-9 _ -`.
-    pub name: Line,
-    /// How many addresses it has, in words, from 1 to 65,536.
+    pub name: Text,
+    /// How many addresses it has, in words, from 1 to `MAX_RANGE`.
     pub size: u32,
     /// The words that the first addresses open with; the others open with 0.
     pub init: Words,
@@ -57,6 +59,8 @@ pub struct BoardSpec {
 /// A session: one board, and one client's script, which reads registers in order.
 #[derive(Debug, Drop)]
 pub struct Session {
+    /// The board that the script is run on.
     pub board: BoardSpec,
+    /// The registers that it reads, one in a line, from 1 to `MAX_LISTED`.
     pub script: Registers,
 }

@@ -1,6 +1,7 @@
 //! The text of a transcript.
 
 ghost use Rattle.std.specs.Prelude.{◌≡◌, ◌≤◌, ◌∷◌, [], IfOk, length, map, string_bytes};
+ghost use Rattle.ipbus_program.specs.declared.answer.TheConstants.{MAX_LISTED};
 ghost use Rattle.ipbus_program.specs.Transcript.{Values, op_lines};
 ghost use Rattle.ipbus_program.specs.Text.{hex_text, op_text, board_text, client_heading, client_text};
 
@@ -24,7 +25,14 @@ fn op_line(
     register: &str,
     word: u32,
 ) -> Result<String, NoMemory>
-    ensures { IfOk result (λ text. string_bytes text ≡ op_text (record { number = number; board = board.now; register = register.now; result = Values (word ∷ []); place = place; transaction = number })) }
+    ensures { IfOk result (λ text. string_bytes text ≡ op_text (record {
+      number = number;
+      board = board.now;
+      register = register.now;
+      result = Values (word ∷ []);
+      place = place;
+      transaction = number;
+    })) }
 {
     let word = hex(alloc, word)?;
     Ok(format!(in alloc; "{number} read {board}:{register} = 0x{word} @{place}.{number}\n")?)
@@ -39,7 +47,8 @@ fn heading(alloc: Global, client: u64) -> Result<String, NoMemory>
 
 /// The line of a board whose bodies were all replied to.
 pub fn board_line(alloc: Global, name: &str, places: u64) -> Result<String, NoMemory>
-    ensures { IfOk result (λ text. string_bytes text ≡ board_text (record { name = name.now; places = places; replied = places; timed_out = 0; lost = 0 })) }
+    ensures { IfOk result (λ text. string_bytes text
+        ≡ board_text (record { name = name.now; places = places; replied = places; timed_out = 0; lost = 0 })) }
 {
     let none = 0u64;
     Ok(format!(in alloc;
@@ -56,9 +65,10 @@ pub fn client_lines(
     script: &[Register],
     words: &[u32],
 ) -> Result<String, NoMemory>
-    requires few { length script.now ≤ 100 }
+    requires few { length script.now ≤ MAX_LISTED }
     requires as_many { length words.now ≡ length script.now }
-    ensures { IfOk result (λ text. string_bytes text ≡ client_text client (op_lines board.now place 1 script.now (map (λ word. Values (word ∷ [])) words.now))) }
+    ensures { let results = map (λ word. Values (word ∷ [])) words.now in
+        IfOk result (λ text. string_bytes text ≡ client_text client (op_lines board.now place 1 script.now results)) }
 {
     let mut text = heading(alloc, client)?;
     for (i, register) in script.iter().enumerate() {

@@ -21,9 +21,12 @@ pub fn first_document()
 
 /// The packets that go to the board and back, and the word that the board answers.
 pub fn first_packets()
-    ensures request { packet_bytes (control_packet 1 (script_body first_session.script)) ≡ big_endian (0x200001f0 ∷ 0x2000010f ∷ 0x00000004 ∷ []) }
-    ensures replayed { (replay (session_bus first_session) (script_body first_session.script ∷ [])).replies ≡ (0x20000100 ∷ 0xabcd ∷ []) ∷ [] }
-    ensures reply { packet_bytes (control_packet 1 (run_body (session_bus first_session) (script_body first_session.script)).reply) ≡ big_endian (0x200001f0 ∷ 0x20000100 ∷ 0x0000abcd ∷ []) }
+    ensures request { packet_bytes (control_packet 1 (script_body first_session.script))
+        ≡ big_endian (0x200001f0 ∷ 0x2000010f ∷ 0x00000004 ∷ []) }
+    ensures replayed { (replay (session_bus first_session) (script_body first_session.script ∷ [])).replies
+        ≡ (0x20000100 ∷ 0xabcd ∷ []) ∷ [] }
+    ensures reply { let done = run_body (session_bus first_session) (script_body first_session.script) in
+        packet_bytes (control_packet 1 done.reply) ≡ big_endian (0x200001f0 ∷ 0x20000100 ∷ 0x0000abcd ∷ []) }
 {}
 
 /// The three lines of its transcript, whose one value is what a single-thread bus answers.

@@ -22,8 +22,11 @@ fn one_read_in_both_byte_orders(rt: HostRuntime) -> Result<(), Fail> {
     bus.execute(packet.body.as_slice(), &mut reply)?;
     assert_eq!(rt; reply.as_slice(), [0x2000_0100, 0xabcd].as_slice());
 
+    // The same request in the other order: its own body is executed, and its own reply is written in that order.
     let little = [0xf0, 1, 0, 0x20, 0x0f, 1, 0, 0x20, 4, 0, 0, 0];
     let packet = read_packet(alloc, &little).ok().ok_or("a packet")?;
+    let mut reply = Vec::new(alloc);
+    bus.execute(packet.body.as_slice(), &mut reply)?;
     assert!(rt; reply.len() < 2243);
     let answer = Packet {
         order: packet.order,

@@ -1,7 +1,8 @@
 //! `control` on a source and a sink in memory.
 
-use ipb_outside::{CalmSource, MemSink, MemSource};
-use ipbus_program::{DONE, READ_FAULT, REFUSED, USAGE, WRITE_FAULT, control};
+use ipb_base::NoMemory;
+use ipb_outside::{CalmSource, MemSink, MemSource, read_all};
+use ipbus_program::{DONE, NO_MEMORY, READ_FAULT, REFUSED, USAGE, WRITE_FAULT, control};
 use std::alloc::{AllocError, Global};
 use std::test::Fail;
 
@@ -31,6 +32,29 @@ fn first_session(rt: HostRuntime) -> Result<(), Fail> {
     let status = control(alloc, &run_word(alloc)?, &mut input, &mut out);
     assert_eq!(rt; status, DONE);
     assert_eq!(rt; out.bytes(), TRANSCRIPT.as_bytes());
+    Ok(())
+}
+
+/// The status and the text of the first session, or want of memory where it is set up.
+fn first_answer(alloc: Global) -> Result<(u8, Vec<u8>), NoMemory> {
+    let mut input = calm(alloc, FIRST)?;
+    let mut out = MemSink::new(alloc, 1000, Vec::new(alloc))?;
+    let status = control(alloc, &run_word(alloc)?, &mut input, &mut out);
+    Ok((status, Vec::from_slice(alloc, out.bytes())?))
+}
+
+/// Whichever allocation fails, the answer is the transcript or status 6 and no text. `rt try --test --fail-alloc N` makes the
+/// Nth one fail.
+#[test]
+fn first_session_with_any_memory(rt: HostRuntime) -> Result<(), Fail> {
+    match first_answer(rt.alloc()) {
+        Ok((NO_MEMORY, text)) => assert_eq!(rt; text.as_slice(), b"".as_slice()),
+        Ok((status, text)) => {
+            assert_eq!(rt; status, DONE);
+            assert_eq!(rt; text.as_slice(), TRANSCRIPT.as_bytes());
+        }
+        Err(_) => (),
+    }
     Ok(())
 }
 
@@ -69,14 +93,48 @@ fn first_read_fails(rt: HostRuntime) -> Result<(), Fail> {
     Ok(())
 }
 
+/// Whichever read fails, where each gives one byte, nothing is written.
 #[test]
-fn an_input_one_byte_too_long(rt: HostRuntime) -> Result<(), Fail> {
+fn each_read_fails_in_turn(rt: HostRuntime) -> Result<(), Fail> {
     let alloc = rt.alloc();
-    let mut input = CalmSource::new(vec![in alloc; b'#'; LONGEST + 1]?);
+    for read in 1..=FIRST.len() + 1 {
+        let bytes = Vec::from_slice(alloc, FIRST.as_bytes())?;
+        let mut input = MemSource::new(bytes, 1, [read as u64].to_vec(alloc)?);
+        let mut out = MemSink::new(alloc, 1000, Vec::new(alloc))?;
+        let status = control(alloc, &run_word(alloc)?, &mut input, &mut out);
+        assert_eq!(rt; status, READ_FAULT, "read {read}");
+        assert_eq!(rt; out.bytes(), b"".as_slice(), "read {read}");
+    }
+    Ok(())
+}
+
+/// Whichever write fails, where each takes one byte, the bytes before it were written.
+#[test]
+fn each_write_fails_in_turn(rt: HostRuntime) -> Result<(), Fail> {
+    let alloc = rt.alloc();
+    let text = TRANSCRIPT.as_bytes();
+    for before in 0..text.len() {
+        let mut input = calm(alloc, FIRST)?;
+        let write = before as u64 + 1;
+        let mut out = MemSink::new(alloc, 1, [write].to_vec(alloc)?)?;
+        let status = control(alloc, &run_word(alloc)?, &mut input, &mut out);
+        assert_eq!(rt; status, WRITE_FAULT, "write {write}");
+        assert_eq!(rt; out.bytes(), &text[..before], "write {write}");
+    }
+    Ok(())
+}
+
+// Of an input two bytes too long one byte more than fits is taken, and one is left.
+#[test]
+fn an_input_too_long(rt: HostRuntime) -> Result<(), Fail> {
+    let alloc = rt.alloc();
+    let mut input = CalmSource::new(vec![in alloc; b'#'; LONGEST + 2]?);
     let mut out = MemSink::new(alloc, 1000, Vec::new(alloc))?;
     let status = control(alloc, &run_word(alloc)?, &mut input, &mut out);
     assert_eq!(rt; status, REFUSED);
     assert_eq!(rt; out.bytes(), b"refused: document - TooLong\n".as_slice());
+    let left = read_all(alloc, &mut input, 2)?;
+    assert_eq!(rt; left.as_slice(), b"#".as_slice());
     Ok(())
 }
 
@@ -104,5 +162,22 @@ fn no_words(rt: HostRuntime) -> Result<(), Fail> {
     let status = control(alloc, &[], &mut input, &mut out);
     assert_eq!(rt; status, USAGE);
     assert_eq!(rt; out.bytes(), b"usage: ipbus run\n".as_slice());
+    Ok(())
+}
+
+/// Where the first write fails, nothing is written, whatever the text is.
+#[test]
+fn the_first_write_fails(rt: HostRuntime) -> Result<(), Fail> {
+    let alloc = rt.alloc();
+    let mut input = calm(alloc, FIRST)?;
+    let mut out = MemSink::new(alloc, 1000, [1].to_vec(alloc)?)?;
+    let usage = control(alloc, &[], &mut input, &mut out);
+    assert_eq!(rt; usage, WRITE_FAULT);
+    assert_eq!(rt; out.bytes(), b"".as_slice());
+    let mut other = calm(alloc, "no TOML")?;
+    let mut out = MemSink::new(alloc, 1000, [1].to_vec(alloc)?)?;
+    let refusal = control(alloc, &run_word(alloc)?, &mut other, &mut out);
+    assert_eq!(rt; refusal, WRITE_FAULT);
+    assert_eq!(rt; out.bytes(), b"".as_slice());
     Ok(())
 }

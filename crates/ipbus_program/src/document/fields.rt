@@ -7,6 +7,7 @@ ghost use Rattle.toml.specs.Data.{get_member, as_table, as_array};
 ghost use Rattle.toml.specs.View.{view, table_view, items_view};
 ghost use Rattle.ipbus_program.specs.Fields.{member_count, is_name, is_name_byte, word_of, fields_of, text_at, name_at, word_at, values_of, values_at, only_member};
 
+use crate::answer::MAX_NAME;
 use toml::{Table, Value};
 
 /// A letter, a digit, `_` or `-`.
@@ -23,13 +24,13 @@ fn are_name_bytes(bytes: &[u8]) -> bool
     bytes.iter().all(|byte| is_name_byte(*byte))
 }
 
-/// 1 to 64 of those bytes.
+/// 1 to `MAX_NAME` of those bytes.
 #[tactic(auto, unfolding(crate::specs::Fields::is_name))]
 pub fn is_name(text: &str) -> bool
     ensures { result ≡ is_name text.now }
 {
     let bytes = text.as_bytes();
-    if bytes.is_empty() || bytes.len() > 64 {
+    if bytes.is_empty() || bytes.len() > MAX_NAME {
         return false;
     }
     are_name_bytes(bytes)

@@ -4,19 +4,20 @@ ghost use Rattle.std.specs.Prelude.{◌≡◌, map, option_map};
 ghost use Rattle.std.specs.Option.{option_copied};
 ghost use Rattle.toml.specs.View.{view};
 ghost use Rattle.ipbus_program.specs.Fields.{only, each, word_of};
-ghost use Rattle.ipbus_program.specs.Reading.{Gives, register_of, range_of, board_of, register_with, are_distinct, is_listed, registers_of};
+ghost use Rattle.ipbus_program.specs.Reading.{ReadsAs, register_of, range_of, board_of, register_with, are_distinct, is_listed, registers_of};
 
+use crate::answer::{MAX_LISTED, MAX_RANGE};
 use crate::document::DocumentError;
 use crate::document::fields::{array, fields, name, text, word, word_at};
 use crate::session::{BoardSpec, Register};
-use ipb_base::{Line, Words};
+use ipb_base::{Text, Words};
 use std::alloc::Global;
 use toml::Value;
 
 /// A node of the table, whose address is below the size of the board's range.
 #[tactic(auto, unfolding(crate::specs::Reading::register_of))]
 fn register(alloc: Global, node: &Value, size: u32) -> Result<Register, DocumentError>
-    ensures { Gives (λ register. register) result (register_of size (view node.now)) }
+    ensures { ReadsAs (λ register. register) result (register_of size (view node.now)) }
 {
     let node = fields(node, 2).ok_or(DocumentError::NotBuilt)?;
     let id = name(node, "id").ok_or(DocumentError::NotBuilt)?;
@@ -25,13 +26,13 @@ fn register(alloc: Global, node: &Value, size: u32) -> Result<Register, Document
         return Err(DocumentError::NotBuilt);
     }
     Ok(Register {
-        id: Line::copied(alloc, id)?,
+        id: Text::copy_of(alloc, id)?,
         address,
     })
 }
 
 fn each_register(alloc: Global, nodes: &[Value], size: u32) -> Result<Vec<Register>, DocumentError>
-    ensures { Gives (λ registers. registers.items) result (each (register_of size) (map view nodes.now)) }
+    ensures { ReadsAs (λ registers. registers.items) result (each (register_of size) (map view nodes.now)) }
 {
     let mut registers = Vec::new(alloc);
     for node in nodes {
@@ -42,7 +43,7 @@ fn each_register(alloc: Global, nodes: &[Value], size: u32) -> Result<Vec<Regist
 
 /// Numbers of the document.
 fn words(alloc: Global, numbers: &[Value]) -> Result<Vec<u32>, DocumentError>
-    ensures { Gives (λ words. words.items) result (each word_of (map view numbers.now)) }
+    ensures { ReadsAs (λ words. words.items) result (each word_of (map view numbers.now)) }
 {
     let mut words = Vec::new(alloc);
     for number in numbers {
@@ -54,13 +55,13 @@ fn words(alloc: Global, numbers: &[Value]) -> Result<Vec<u32>, DocumentError>
 /// A range: its size, and the words that it opens with.
 #[tactic(auto, unfolding(crate::specs::Reading::range_of))]
 fn range(alloc: Global, range: &Value) -> Result<(u32, Words), DocumentError>
-    ensures { Gives (λ range. range) result (range_of (view range.now)) }
+    ensures { ReadsAs (λ range. range) result (range_of (view range.now)) }
 {
     let range = fields(range, 3).ok_or(DocumentError::NotBuilt)?;
     let base = word_at(range, "base").ok_or(DocumentError::NotBuilt)?;
     let size = word_at(range, "size").ok_or(DocumentError::NotBuilt)?;
     let numbers = array(range, "init").ok_or(DocumentError::NotBuilt)?;
-    if base != 0 || size < 1 || size > 65_536 || numbers.len() > size as usize {
+    if base != 0 || size < 1 || size > MAX_RANGE || numbers.len() > size as usize {
         return Err(DocumentError::NotBuilt);
     }
     let init = words(alloc, numbers)?;
@@ -81,7 +82,7 @@ pub fn only(items: &[Value]) -> Option<&Value>
 /// A board, whose table has this name.
 #[tactic(auto, unfolding(crate::specs::Reading::board_of))]
 pub fn board(alloc: Global, table: &str, board: &Value) -> Result<BoardSpec, DocumentError>
-    ensures { Gives (λ board. board) result (board_of table.now (view board.now)) }
+    ensures { ReadsAs (λ board. board) result (board_of table.now (view board.now)) }
 {
     let board = fields(board, 3).ok_or(DocumentError::NotBuilt)?;
     let name = name(board, "name").ok_or(DocumentError::NotBuilt)?;
@@ -92,7 +93,7 @@ pub fn board(alloc: Global, table: &str, board: &Value) -> Result<BoardSpec, Doc
     if named != table {
         return Err(DocumentError::NotBuilt);
     }
-    let name = Line::copied(alloc, name)?;
+    let name = Text::copy_of(alloc, name)?;
     Ok(BoardSpec { name, size, init })
 }
 
@@ -121,17 +122,17 @@ fn are_distinct(registers: &[Register]) -> bool
     true
 }
 
-/// From 1 to 100 items.
+/// From 1 to `MAX_LISTED` items.
 pub fn is_listed(items: &[Value]) -> bool
     ensures { result ≡ is_listed (map view items.now) }
 {
-    !items.is_empty() && items.len() <= 100
+    !items.is_empty() && items.len() <= MAX_LISTED
 }
 
 /// The registers of a table.
 #[tactic(auto, unfolding(crate::specs::Reading::registers_of))]
 pub fn registers(alloc: Global, nodes: &[Value], size: u32) -> Result<Vec<Register>, DocumentError>
-    ensures { Gives (λ registers. registers.items) result (registers_of size (map view nodes.now)) }
+    ensures { ReadsAs (λ registers. registers.items) result (registers_of size (map view nodes.now)) }
 {
     if !is_listed(nodes) {
         return Err(DocumentError::NotBuilt);

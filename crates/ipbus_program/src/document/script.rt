@@ -4,13 +4,13 @@ ghost use Rattle.std.specs.Prelude.{◌≡◌, map, option_map};
 ghost use Rattle.std.specs.Option.{option_copied};
 ghost use Rattle.toml.specs.View.{view, table_view};
 ghost use Rattle.ipbus_program.specs.Fields.{each};
-ghost use Rattle.ipbus_program.specs.Reading.{Gives, after, read_of, script_of, table_of, session_of};
+ghost use Rattle.ipbus_program.specs.Reading.{ReadsAs, after, read_of, script_of, table_of, session_of};
 
 use crate::document::DocumentError;
 use crate::document::fields::{array, fields, get, has_keys, is_name, only_member, values};
 use crate::document::parts::{board, is_listed, only, register_with, registers};
 use crate::session::{Register, Registers, Session};
-use ipb_base::Line;
+use ipb_base::Text;
 use std::alloc::Global;
 use toml::{Table, Value};
 
@@ -29,7 +29,7 @@ fn read(
     registers: &[Register],
     line: &Value,
 ) -> Result<Register, DocumentError>
-    ensures { Gives (λ register. register) result (read_of board.now registers.now (view line.now)) }
+    ensures { ReadsAs (λ register. register) result (read_of board.now registers.now (view line.now)) }
 {
     let line = line.as_str().ok_or(DocumentError::NotBuilt)?;
     let named = after(b"read ", line.as_bytes()).ok_or(DocumentError::NotBuilt)?;
@@ -37,7 +37,7 @@ fn read(
     let id = after(b":", place).ok_or(DocumentError::NotBuilt)?;
     let register = register_with(id, registers).ok_or(DocumentError::NotBuilt)?;
     Ok(Register {
-        id: Line::copied(alloc, register.id.as_str())?,
+        id: Text::copy_of(alloc, register.id.as_str())?,
         address: register.address,
     })
 }
@@ -48,7 +48,7 @@ fn each_read(
     registers: &[Register],
     lines: &[Value],
 ) -> Result<Vec<Register>, DocumentError>
-    ensures { Gives (λ reads. reads.items) result (each (read_of board.now registers.now) (map view lines.now)) }
+    ensures { ReadsAs (λ reads. reads.items) result (each (read_of board.now registers.now) (map view lines.now)) }
 {
     let mut reads = Vec::new(alloc);
     for line in lines {
@@ -65,7 +65,7 @@ fn script(
     registers: &[Register],
     client: &Value,
 ) -> Result<Registers, DocumentError>
-    ensures { Gives (λ script. script) result (script_of board.now registers.now (view client.now)) }
+    ensures { ReadsAs (λ script. script) result (script_of board.now registers.now (view client.now)) }
 {
     let client = fields(client, 1).ok_or(DocumentError::NotBuilt)?;
     let lines = array(client, "script").ok_or(DocumentError::NotBuilt)?;
@@ -95,7 +95,7 @@ fn table(document: &Table) -> Option<(&str, &[Value])>
 /// The session that a document stands for.
 #[tactic(auto, unfolding(crate::specs::Reading::session_of))]
 pub fn session(alloc: Global, document: &Table) -> Result<Session, DocumentError>
-    ensures { Gives (λ session. session) result (session_of (table_view document.now)) }
+    ensures { ReadsAs (λ session. session) result (session_of (table_view document.now)) }
 {
     if !has_keys(document, 3) {
         return Err(DocumentError::NotBuilt);

@@ -1,3 +1,4 @@
+use Rattle.std.proofs.Common.{arith}
 use Rattle.ipbus_program.proofs.Script.{body-length}
 use Rattle.ipbus_program.proofs.Answered.{reply_is_short}
 use Rattle.ipbus_program.proofs.laws.bodies_fit_a_packet.Goals as goal
@@ -7,3 +8,8 @@ returns-clause-body c = body-length 0
 
 pub returns-clause-reply : goal.returns-clause-reply
 returns-clause-reply c = reply_is_short
+
+pub returns-clause-fits : goal.returns-clause-fits
+returns-clause-fits c session can =
+    let few = can.listed.1 in
+    (omega (arith, few, body-length 0 session.script), omega (arith, few, reply_is_short session can))

@@ -4,9 +4,6 @@ use Rattle.ipbus_program.proofs.Answered.{is_transcript}
 use Rattle.ipbus_program.proofs.OneTranscript.{same_text}
 use Rattle.ipbus_program.proofs.laws.one_transcript.Goals as goal
 
-pub returns-clause-transcript : goal.returns-clause-transcript
-returns-clause-transcript c = same_text
-
 pub returns-clause-by_lines : goal.returns-clause-by_lines
 returns-clause-by_lines c = same_text
 

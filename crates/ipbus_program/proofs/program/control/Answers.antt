@@ -1,9 +1,10 @@
 use Rattle.std.proofs.Common.{inl, inr, refl, string_bytes, rules}
+use Rattle.ipbus_program.specs.declared.answer.Refusal.TheVariants.{TooLong, NotToml, NotBuilt}
 use Rattle.ipbus_program.specs.declared.answer.TheConstants.{USAGE}
 use Rattle.ipbus_program.specs.Text.{usage_text}
 use Rattle.ipbus_program.specs.Owed.{AreRun}
 use Rattle.ipbus_program.proofs.Causes.{part_written}
-use Rattle.ipbus_program.proofs.Deserved.{accepted_done, deserved_refused}
+use Rattle.ipbus_program.proofs.Deserved.{accepted_done, deserved_refused, taken_of_long}
 use Rattle.ipbus_program.proofs.program.control.Goals as goal
 
 pub returns-then-not-are_run-clause-write_fault : goal.returns-then-not-are_run-clause-write_fault
@@ -30,3 +31,16 @@ returns-in-Ok-clause-deserved g c bytes refusal run told deserves unfaulted calm
     let answer = c.in-Ok.answer in
     inl (deserved_refused (g.S.Source.left c.args.input.now) (g.S.Source.left c.answer_input.new.input) bytes told answer.status (string_bytes answer.text) _ c.as_str.ensures.value
     _ _ _ _ c.deliver-in-Ok.result refusal deserves c.in-Ok.ensures.answer c.deliver-in-Ok.ensures.delivers calm)
+
+pub returns-in-Ok-clause-too_long : goal.returns-in-Ok-clause-too_long
+returns-in-Ok-clause-too_long g c bytes run told long unfaulted calm =
+    let answer = c.in-Ok.answer in (
+      returns-in-Ok-clause-deserved g c bytes TooLong run told long unfaulted calm,
+      λ _. taken_of_long (g.S.Source.left c.args.input.now) (g.S.Source.left c.answer_input.new.input) bytes told answer.status (string_bytes answer.text) long c.in-Ok.ensures.answer,
+    )
+
+pub returns-in-Ok-clause-not_toml : goal.returns-in-Ok-clause-not_toml
+returns-in-Ok-clause-not_toml g c bytes run told within not_toml = returns-in-Ok-clause-deserved g c bytes NotToml run told (within, not_toml)
+
+pub returns-in-Ok-clause-not_built : goal.returns-in-Ok-clause-not_built
+returns-in-Ok-clause-not_built g c bytes run told within not_built = returns-in-Ok-clause-deserved g c bytes NotBuilt run told (within, not_built)

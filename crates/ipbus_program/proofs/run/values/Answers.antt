@@ -1,6 +1,6 @@
 use Rattle.std.proofs.Common.{◌≡◌, arith}
-use Rattle.ipbus_program.specs.Plan.{word_replies}
 use Rattle.ipbus_program.proofs.Script.{are_replies, one_word_each, words_back}
+use Rattle.ipbus_program.specs.Steps.{word_replies}
 use Rattle.ipbus_program.proofs.run.values.Goals as goal
 
 pub words_of-requires : goal.words_of-requires

@@ -1,7 +1,8 @@
 use Rattle.std.proofs.Common.{◌≡◌, drop, map}
 use Rattle.toml.specs.View.{view}
-use Rattle.ipbus_program.specs.Fields.{each, joined}
+use Rattle.ipbus_program.specs.Fields.{each}
 use Rattle.ipbus_program.specs.Reading.{register_of}
+use Rattle.ipbus_program.proofs.Joined.{joined}
 use Rattle.ipbus_program.proofs.document.parts.each_register.Given as goal
 
 -- the registers so far, and those of the nodes that are left

@@ -1,6 +1,7 @@
 use Rattle.std.proofs.Common.{◌≡◌, drop, map}
 use Rattle.toml.specs.View.{view}
-use Rattle.ipbus_program.specs.Fields.{each, joined, word_of}
+use Rattle.ipbus_program.specs.Fields.{each, word_of}
+use Rattle.ipbus_program.proofs.Joined.{joined}
 use Rattle.ipbus_program.proofs.document.parts.words.Given as goal
 
 -- the words so far, and those of the numbers that are left

@@ -1,7 +1,8 @@
 use Rattle.std.proofs.Common.{◌≡◌, drop, map}
 use Rattle.toml.specs.View.{view}
-use Rattle.ipbus_program.specs.Fields.{each, joined}
+use Rattle.ipbus_program.specs.Fields.{each}
 use Rattle.ipbus_program.specs.Reading.{read_of}
+use Rattle.ipbus_program.proofs.Joined.{joined}
 use Rattle.ipbus_program.proofs.document.script.each_read.Given as goal
 
 -- the reads so far, and those of the lines that are left
