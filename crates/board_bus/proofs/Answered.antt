@@ -1,18 +1,20 @@
 -- The reply to a body is one that a device can give to it.
-use Rattle.std.proofs.Common.{◌≡◌, ℕ, ◌≤◌, inl, inr, true, cond, eqb, eq-eqb, List, [], ◌∷◌, ◌++◌, length, append_assoc, append-nil, Ok, Err, refl, sym, ap, ◌∙◌, subst, arith, lit<}
-use Rattle.std.specs.Prelude.{IsErr}
+use Rattle.std.proofs.Common.{◌≡◌, ℕ, ◌≤◌, inl, inr, Bool, eq-eqb, List, [], ◌∷◌, ◌++◌, length, append_assoc, append-nil, refl, sym, ap, ◌∙◌, subst, arith, lit<}
+use Rattle.ipb_base.specs.Word.{AreWords}
+use Rattle.ipb_base.proofs.WordLemmas.{AreWords-after}
 use Rattle.transaction_codec.specs.declared.request.Request.{Request}
 use Rattle.transaction_codec.specs.declared.reply.Reply.{Reply}
 use Rattle.transaction_codec.specs.declared.info_code.TheConstants.{SUCCESS}
-use Rattle.transaction_codec.specs.Request.{op_count, IsRequest, AreRequests, request_words, requests_words, request_at}
+use Rattle.transaction_codec.specs.Request.{op_count, IsRequest, AreRequests, NoRequestAtFront, request_words, requests_words}
 use Rattle.transaction_codec.specs.Reply.{IsReply, AreReplies, reply_words, replies_words}
 use Rattle.transaction_codec.specs.Answer.{IsDone, IsFailed, Answers, ending_of, bad_header_reply, CanAnswer, IsReplyTo}
 use Rattle.transaction_codec.proofs.Requests.{request_again}
-use Rattle.transaction_codec.proofs.Longest.{answer_is_reply}
+use Rattle.transaction_codec.proofs.Longest.{answer_is_reply, nothing_bad, reply_room_longest}
 use Rattle.board_bus.specs.Cells.{CellMap, HoldsWords}
 use Rattle.board_bus.specs.Transactions.{transact}
-use Rattle.board_bus.specs.Bodies.{Executed, after_reply, run_on, run_body}
-use Rattle.board_bus.proofs.Requests.{run_body-request, run_body-fault}
+use Rattle.board_bus.specs.Bodies.{Executed, run_on, run_body}
+use Rattle.board_bus.proofs.Bodies.{run_body-bad_header}
+use Rattle.board_bus.proofs.Requests.{followed, run_body-request}
 use Rattle.board_bus.proofs.Shapes.{shape_of, OpDone, OpFailed}
 use Rattle.board_bus.proofs.WordsKept.{outcome-words}
 
@@ -26,18 +28,14 @@ pub record HasReplies (cells : CellMap) (requests : List Request) (rest : List �
 bad_header_is_reply : (word : ℕ) → IsReply (bad_header_reply word)
 bad_header_is_reply word = record { tid = omega arith; count = lit< tt; form = inr (inr (refl, refl, refl, refl)); values = tt }
 
-at_end : (cells : CellMap) (rest : List ℕ) → IsErr (request_at rest) → HasReplies cells [] rest
-at_end cells [] bad = record { replies = []; items = tt; answers = refl; spelled = refl }
-at_end cells (word ∷ after) bad =
-    elim (request_at (word ∷ after)) as (λ r. request_at (word ∷ after) ≡ r → IsErr r → HasReplies cells [] (word ∷ after)) [
-      | Ok x ↦ λ _ h. absurd cc
-      | Err why ↦ λ is _. record {
-        replies = bad_header_reply word ∷ [];
-        items = (bad_header_is_reply word, tt);
-        answers = refl;
-        spelled = ap (λ (e : Executed). e.reply) (run_body-fault cells word after why is);
-      }
-    ] refl bad
+at_end : (cells : CellMap) (rest : List ℕ) → AreWords rest → NoRequestAtFront rest → HasReplies cells [] rest
+at_end cells [] fits bad = record { replies = []; items = tt; answers = refl; spelled = refl }
+at_end cells (word ∷ after) fits bad = record {
+  replies = bad_header_reply word ∷ [];
+  items = (bad_header_is_reply word, tt);
+  answers = refl;
+  spelled = ap (λ (e : Executed). e.reply) (run_body-bad_header cells word after fits bad);
+}
 
 module _ (cells : CellMap) (request : Request) (holds : HoldsWords cells) (is : IsRequest request) where
   reply_is_reply : IsReply (transact cells request).reply
@@ -59,46 +57,48 @@ first_request_is cells request requests rest is =
     ap (run_body cells) (append_assoc (request_words request) (requests_words requests) rest)
     ∙ run_body-request cells _ _ request (requests_words requests ++ rest) (request_again request (requests_words requests ++ rest) is)
 
-pub replies_of : (cells : CellMap) (requests : List Request) (rest : List ℕ) → HoldsWords cells → AreRequests requests → IsErr (request_at rest) → HasReplies cells requests rest
-replies_of cells [] rest holds are bad = at_end cells rest bad
-replies_of cells (request ∷ requests) rest holds are bad =
+pub replies_of : (cells : CellMap) (requests : List Request) (rest : List ℕ) → HoldsWords cells → AreRequests requests → AreWords rest → NoRequestAtFront rest
+    → HasReplies cells requests rest
+replies_of cells [] rest holds are fits bad = at_end cells rest fits bad
+replies_of cells (request ∷ requests) rest holds are fits bad =
     let first = transact cells request in
+    let after : List ℕ = requests_words requests ++ rest in
     let step = first_request_is cells request requests rest are.0 in
+    let reply : Bool → List ℕ = λ done. (followed first (run_body first.cells after) done).reply in
     elim ((shape_of cells request.op).outcome) [
       | inl done ↦
-          let later = replies_of first.cells requests rest (outcome-words cells request.op holds (are.0).words).bus are.1 bad in
-          let test : eqb first.reply.code SUCCESS ≡ true = eq-eqb first.reply.code SUCCESS done.success in
+          let later = replies_of first.cells requests rest (outcome-words cells request.op holds (are.0).words).bus are.1 fits bad in
           record {
             replies = first.reply ∷ later.replies;
             items = (reply_is_reply cells request holds are.0, later.items);
             answers = inl (done_is cells request holds are.0 done, later.answers);
-            spelled = ap (λ (e : Executed). e.reply) step
-                ∙ ap (λ b. (cond b (after_reply (reply_words first.reply) (run_body first.cells (requests_words requests ++ rest))) (record { cells = first.cells; reply = reply_words first.reply })).reply) test
+            spelled = ap (λ (e : Executed). e.reply) step ∙ ap reply (eq-eqb first.reply.code SUCCESS done.success)
                 ∙ ap (λ (ws : List ℕ). reply_words first.reply ++ ws) later.spelled;
           }
       | inr failed ↦ record {
         replies = first.reply ∷ [];
         items = (reply_is_reply cells request holds are.0, tt);
         answers = inr (failed_is cells request holds are.0 failed, refl);
-        spelled = ap (λ (e : Executed). e.reply) step
-            ∙ ap (λ b. (cond b (after_reply (reply_words first.reply) (run_body first.cells (requests_words requests ++ rest))) (record { cells = first.cells; reply = reply_words first.reply })).reply) failed.failed
-            ∙ sym (append-nil (reply_words first.reply));
+        spelled = ap (λ (e : Executed). e.reply) step ∙ ap reply failed.failed ∙ sym (append-nil (reply_words first.reply));
       }
     ]
 
 -- what a bus answers to requests, and a bad header after them, is what a device can answer
-pub can_answer : (cells : CellMap) (requests : List Request) (rest : List ℕ) → HoldsWords cells → AreRequests requests → IsErr (request_at rest)
+pub can_answer : (cells : CellMap) (requests : List Request) (rest : List ℕ) → HoldsWords cells → AreRequests requests → AreWords rest → NoRequestAtFront rest
     → CanAnswer (requests_words requests ++ rest) (run_body cells (requests_words requests ++ rest)).reply
-can_answer cells requests rest holds are bad =
-    let has = replies_of cells requests rest holds are bad in
+can_answer cells requests rest holds are fits bad =
+    let has = replies_of cells requests rest holds are fits bad in
     record { requests = requests; rest = rest; replies = has.replies; ranges = are; parts = refl; bad = bad; items = has.items; answers = has.answers; spelled = has.spelled }
-
-no_request : IsErr (request_at [])
-unfolding request_at
-no_request = refl
 
 pub is_reply_to : (cells : CellMap) (requests : List Request) → HoldsWords cells → AreRequests requests → IsReplyTo (requests_words requests) (run_body cells (requests_words requests)).reply
 is_reply_to cells requests holds are =
     let whole : requests_words requests ++ [] ≡ requests_words requests = append-nil (requests_words requests) in
     answer_is_reply requests (requests_words requests) (run_body cells (requests_words requests)).reply are refl
-    (subst (λ (ws : List ℕ). CanAnswer ws (run_body cells ws).reply) whole (can_answer cells requests [] holds are no_request))
+    (subst (λ (ws : List ℕ). CanAnswer ws (run_body cells ws).reply) whole (can_answer cells requests [] holds are tt nothing_bad))
+
+-- Any body of words is requests and then nothing, or a bad header.
+pub answers_any : (cells : CellMap) (body : List ℕ) → HoldsWords cells → AreWords body → CanAnswer body (run_body cells body).reply
+answers_any cells body holds fits =
+    let cut = (reply_room_longest body fits).given in
+    let rest : AreWords cut.rest = AreWords-after (requests_words cut.requests) cut.rest (subst AreWords cut.parts fits) in
+    subst (λ (ws : List ℕ). CanAnswer ws (run_body cells ws).reply) (sym cut.parts) (can_answer cells cut.requests cut.rest holds cut.ranges rest cut.bad)

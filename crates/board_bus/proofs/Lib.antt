@@ -10,3 +10,5 @@ pub mod Openings
 pub mod Bodies
 pub mod Untouched
 pub mod Writes
+pub mod ReadBack
+pub mod InOrder

@@ -5,6 +5,7 @@ use Rattle.std.specs.Ordering.{nat_cmp, eq_by_cmp}
 use Rattle.std.specs.Cmp.{nat_cmp_total}
 use Rattle.std.specs.FinMap.{nat_cmp-IsAntisymmetric}
 use Rattle.std.specs.FinMap.Entries.{find, put, is_sorted, find-put, is_sorted-put, same_entries}
+use Rattle.std.specs.Option.{option_or}
 use Rattle.std.specs.List.{flat_map, position, position_or_len}
 use Rattle.std.proofs.lemmas.Bool.Decides.{nat_tests}
 use Rattle.std.proofs.lemmas.Bool.{ltb-true, ltb-false, leb-true, leb-false, and_parts, and_cases, lt-ltb, cases_lt, cases_order}
@@ -144,7 +145,8 @@ position_none false n h = refl
 pub at_address : (a : ℕ) (cells : CellMap) (cell : Option Cell) → find nat_cmp a cells ≡ cell → a < 2 ^ 32 → cell_at cells a ≡ cell
 at_address a cells cell is below = let test : ltb a (2 ^ 32) ≡ true = lt-ltb a (2 ^ 32) below in ap (λ t. cond t (find nat_cmp a cells) None) test ∙ is
 
--- The cell at an address of blocks in a row: none where no block holds it, and else that of the first block that does.
+-- The cell at an address of blocks in a row: none where no block holds it, and else that of the first block that
+-- does.
 pub absent : (blocks : List Block) (cells : CellMap) (a : ℕ) → cells_of blocks ≡ cells → a < 2 ^ 32 → position (λ b. holds b a) blocks ≡ None → cell_at cells a ≡ None
 absent blocks cells a view below none =
     let nowhere : find nat_cmp a (flat_map block_cells blocks) ≡ None = none_holds blocks a (ltb-false _ _ (position_none _ _ none)) in
@@ -208,16 +210,11 @@ block-elsewhere b changed a q word held change apart =
     let range = held_range b a held in
     (λ i. find nat_cmp q (cells_from (change.base i) (change.kind i) (change.words i))) ∙ row-elsewhere a q b.base b.kind b.words.items word range.0 range.1 apart
 
--- the first of two that is there
-abbrev or_else : {X : Type 0} → Option X → Option X → Option X
-or_else None y = y
-or_else (Some x) y = Some x
-
 -- what is found in the front, or else in the rest
-find-append : (a : ℕ) (xs ys : List (ℕ × Cell)) → find nat_cmp a (xs ++ ys) ≡ or_else (find nat_cmp a xs) (find nat_cmp a ys)
+find-append : (a : ℕ) (xs ys : List (ℕ × Cell)) → find nat_cmp a (xs ++ ys) ≡ option_or (find nat_cmp a xs) (find nat_cmp a ys)
 find-append a [] ys = refl
 find-append a (x ∷ xs) ys =
-    elim (eq_by_cmp nat_cmp a x.0) as (λ b. cond b (Some x.1) (find nat_cmp a (xs ++ ys)) ≡ or_else (cond b (Some x.1) (find nat_cmp a xs)) (find nat_cmp a ys)) [
+    elim (eq_by_cmp nat_cmp a x.0) as (λ b. cond b (Some x.1) (find nat_cmp a (xs ++ ys)) ≡ option_or (cond b (Some x.1) (find nat_cmp a xs)) (find nat_cmp a ys)) [
       | true ↦ refl
       | false ↦ find-append a xs ys
     ]
@@ -234,10 +231,10 @@ blocks-elsewhere : (blocks : List Block) (changed : Block) (a q place word : ℕ
     → (q < a) ⊎ (a < q) → (d : Block) → find nat_cmp q (flat_map block_cells (set blocks place changed)) ≡ find nat_cmp q (flat_map block_cells blocks)
 blocks-elsewhere [] changed a q place word h change apart d = refl
 blocks-elsewhere (b ∷ bs) changed a q zero word h change apart d =
-    find-append q (block_cells changed) _ ∙ ap (λ (o : Option Cell). or_else o (find nat_cmp q (flat_map block_cells bs))) (block-elsewhere b changed a q word (h.holder d) (change d) apart)
+    find-append q (block_cells changed) _ ∙ ap (λ (o : Option Cell). option_or o (find nat_cmp q (flat_map block_cells bs))) (block-elsewhere b changed a q word (h.holder d) (change d) apart)
     ∙ sym (find-append q (block_cells b) _)
 blocks-elsewhere (b ∷ bs) changed a q (suc place) word h change apart d =
-    find-append q (block_cells b) _ ∙ ap (or_else (find nat_cmp q (block_cells b))) (blocks-elsewhere bs changed a q place word (tail_holder b bs a place h) change apart d)
+    find-append q (block_cells b) _ ∙ ap (option_or (find nat_cmp q (block_cells b))) (blocks-elsewhere bs changed a q place word (tail_holder b bs a place h) change apart d)
     ∙ sym (find-append q (block_cells b) _)
 
 -- To change a word where it stands is to put its cell.

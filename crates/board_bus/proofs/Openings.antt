@@ -1,19 +1,21 @@
 -- What a bus holds as it opens.
-use Rattle.std.proofs.Common.{◌≡◌, ℕ, ◌+◌, ◌-◌, ◌^◌, ◌<◌, ◌≤◌, ◌⊎◌, inl, inr, suc, zero, Bool, true, false, cond, ltb, List, [], ◌∷◌, ◌++◌, length, length-append, replicate, append_assoc, append-nil, lit<, get_or, Option, Some, None, refl, sym, ap, ◌∙◌, subst, arith}
+use Rattle.std.proofs.Common.{◌≡◌, ℕ, ◌+◌, ◌-◌, ◌^◌, ◌<◌, ◌≤◌, ◌⊎◌, inl, inr, Bool, true, false, cond, ltb, List, [], ◌∷◌, ◌++◌, length, length-append, replicate, append_assoc, append-nil, get_or, Option, Some, None, refl, sym, ap, ◌∙◌, subst, arith}
 use Rattle.std.specs.Prelude.{IfSome}
 use Rattle.std.specs.Ordering.{nat_cmp, eq_by_cmp}
 use Rattle.std.specs.FinMap.Entries.{find}
-use Rattle.std.specs.List.{AllByRecursion, flat_map, list_any, sum_by}
-use Rattle.std.proofs.lemmas.Bool.{or_parts, ltb-false, and_cases, cases_lt}
-use Rattle.std.proofs.lemmas.List.{length-replicate, get_or_append_left, get_or-append_right, get_or-replicate, get_or_past}
+use Rattle.std.proofs.lemmas.List.Elements.{All-cons}
+use Rattle.std.specs.List.{All, AllByRecursion, flat_map, list_any, sum_by}
+use Rattle.std.proofs.lemmas.Bool.{or_parts, ltb-false, and_cases}
+use Rattle.std.proofs.lemmas.List.{length-replicate}
 use Rattle.std.proofs.lemmas.List.Folds.{list_any-append}
 use Rattle.std.proofs.lemmas.Grind.{flat_map-append}
 use Rattle.ipb_base.specs.Word.{IsWord, AreWords}
+use Rattle.ipb_base.proofs.WordLemmas.{AreWords-append, AreWords-zeros}
 use Rattle.board_bus.specs.declared.kind.RangeKind.{RangeKind}
 use Rattle.board_bus.specs.declared.range.Range.{Range}
 use Rattle.board_bus.specs.declared.range.BusRefusal.{BusRefusal}
 use Rattle.board_bus.specs.declared.range.BusRefusal.TheVariants.{Empty, PastEnd, Overlap, TooLarge, InitLong}
-use Rattle.board_bus.specs.Cells.{Cell, HoldsWords, cell_at, cells_from}
+use Rattle.board_bus.specs.Cells.{Cell, HoldsWords, cell_at, cells_from, read_cell, read_fault, read_word, unless}
 use Rattle.board_bus.specs.Ranges.{end_of, is_empty_range, is_past_end, is_init_long, share_address, any_pair, refusal_of, opening_words, range_cells, opening_bus, IsOutside}
 use Rattle.board_bus.proofs.Lookups.{find-cell_map, find-front, find-rest, find-within, find-outside, at_address}
 
@@ -59,14 +61,6 @@ words-length : (range : Range) → length range.init ≤ range.size → length (
 words-length range fits =
     omega (arith, length-append range.init (replicate (range.size - length range.init) 0), length-replicate {A = ℕ} (range.size - length range.init) 0)
 
-word-at : (range : Range) (place : ℕ) → place < range.size → get_or (opening_words range) place 0 ≡ get_or range.init place 0
-word-at range place below = elim (cases_lt place (length range.init)) [
-  | inl named ↦ get_or_append_left range.init (replicate (range.size - length range.init) 0) 0 place named
-  | inr after ↦ get_or-append_right range.init (replicate (range.size - length range.init) 0) (length range.init) place 0 refl after
-      ∙ get_or-replicate (range.size - length range.init) (place - length range.init) 0 0 (omega arith)
-      ∙ sym (get_or_past range.init place 0 after)
-]
-
 find-outside_range : (range : Range) (address : ℕ) → length range.init ≤ range.size → IsOutside address range → find nat_cmp address (range_cells range) ≡ None
 find-outside_range range address fits outside =
     find-outside address range.base range.kind (opening_words range)
@@ -86,7 +80,7 @@ front-any test front more h = (or_parts (list_any test front) (list_any test mor
 
 -- each address of a range holds what the range says
 pub opening-within : (front back : List Range) (range : Range) (place : ℕ) → refusal_of (front ++ range ∷ back) ≡ None → place < range.size
-    → cell_at (opening_bus (front ++ range ∷ back)) (range.base + place) ≡ Some (record { kind = range.kind; word = get_or range.init place 0 })
+    → cell_at (opening_bus (front ++ range ∷ back)) (range.base + place) ≡ Some (record { kind = range.kind; word = get_or (opening_words range) place 0 })
 opening-within front back range place none below =
     let is = accepted (front ++ range ∷ back) none in
     let address = range.base + place in
@@ -96,14 +90,16 @@ opening-within front back range place none below =
     let there : find nat_cmp address (range_cells range) ≡ Some (record { kind = range.kind; word = get_or (opening_words range) (address - range.base) 0 }) =
     find-within address range.base range.kind (opening_words range) (omega arith) (omega (arith, words-length range fits)) in
     let offset : address - range.base ≡ place = omega arith in
-    let word : get_or (opening_words range) (address - range.base) 0 ≡ get_or range.init place 0 =
-    ap (λ (n : ℕ). get_or (opening_words range) n 0) offset ∙ word-at range place below in
     at_address address (opening_bus (front ++ range ∷ back)) _
     (find-cell_map address (flat_map range_cells (front ++ range ∷ back))
     ∙ ap (find nat_cmp address) (flat_map-append range_cells front (range ∷ back))
     ∙ find-outside_all front (flat_map range_cells (range ∷ back)) address (front-any is_init_long front (range ∷ back) is.init) before
     ∙ find-front address (range_cells range) (flat_map range_cells back) _ there
-    ∙ ap (λ (w : ℕ). Some (record { kind = range.kind; word = w })) word) (omega arith)
+    ∙ ap (λ (n : ℕ). Some (record { kind = range.kind; word = get_or (opening_words range) n 0 })) offset) (omega arith)
+
+pub opening-read : (front back : List Range) (range : Range) (place : ℕ) → refusal_of (front ++ range ∷ back) ≡ None → place < range.size
+    → read_word (opening_bus (front ++ range ∷ back)) (range.base + place) ≡ unless (read_fault range.kind) (get_or (opening_words range) place 0)
+opening-read front back range place none below = ap read_cell (opening-within front back range place none below)
 
 -- an address in no range is absent
 pub opening-outside : (ranges : List Range) (address : ℕ) → refusal_of ranges ≡ None → AllByRecursion (IsOutside address) ranges → cell_at (opening_bus ranges) address ≡ None
@@ -125,21 +121,20 @@ cells-words : (base : ℕ) (kind : RangeKind) (words : List ℕ) (back : List (�
 cells-words base kind [] back fits more = more
 cells-words base kind (w ∷ ws) back fits more = (fits.0, cells-words (base + 1) kind ws back fits.1 more)
 
-zeros-words : (n : ℕ) → AreWords (replicate n 0)
-zeros-words zero = tt
-zeros-words (suc n) = (lit< tt, zeros-words n)
-
-append-words : (xs ys : List ℕ) → AreWords xs → AreWords ys → AreWords (xs ++ ys)
-append-words [] ys p q = q
-append-words (x ∷ xs) ys p q = (p.0, append-words xs ys p.1 q)
-
 ranges-words : (ranges : List Range) → AllByRecursion (λ (r : Range). AreWords r.init) ranges → AllByRecursion (λ (e : ℕ × Cell). IsWord e.1.word) (flat_map range_cells ranges)
 ranges-words [] fits = tt
 ranges-words (r ∷ rs) fits =
-    cells-words r.base r.kind (opening_words r) (flat_map range_cells rs) (append-words r.init (replicate (r.size - length r.init) 0) fits.0 (zeros-words (r.size - length r.init))) (ranges-words rs fits.1)
+    cells-words r.base r.kind (opening_words r) (flat_map range_cells rs) (AreWords-append r.init (replicate (r.size - length r.init) 0) fits.0 (AreWords-zeros (r.size - length r.init))) (ranges-words rs fits.1)
 
 pub opening-words : (ranges : List Range) → AllByRecursion (λ (r : Range). AreWords r.init) ranges → HoldsWords (opening_bus ranges)
 opening-words ranges fits = λ a.
     let found : IfSome (find nat_cmp a (opening_bus ranges)) (λ cell. IsWord cell.word) =
     subst (λ (o : Option Cell). IfSome o (λ cell. IsWord cell.word)) (sym (find-cell_map a (flat_map range_cells ranges))) (entries-words (flat_map range_cells ranges) a (ranges-words ranges fits)) in
     elim (ltb a (2 ^ 32)) as (λ b. IfSome (cond b (find nat_cmp a (opening_bus ranges)) None) (λ cell. IsWord cell.word)) [ true ↦ found | false ↦ tt ]
+
+-- no range of a bus names more words than it has addresses
+pub init_fits : (ranges : List Range) → list_any is_init_long ranges ≡ false → All (λ (r : Range). length r.init ≤ r.size) ranges
+init_fits [] none = λ k d within. absurd (omega arith)
+init_fits (r ∷ rs) none =
+    let parts = or_parts (is_init_long r) (list_any is_init_long rs) none in
+    All-cons (λ (x : Range). length x.init ≤ x.size) r rs (ltb-false r.size (length r.init) parts.0) (init_fits rs parts.1)

@@ -1,5 +1,5 @@
--- Things that stand on addresses from a low one up to a high one: two of them share an address exactly where an address is in
--- two of them, and, in order, exactly where two neighbours do.
+-- Things that stand on addresses from a low one up to a high one: two of them share an address exactly where an
+-- address is in two of them, and, in order, exactly where two neighbours do.
 use Rattle.std.proofs.Common.{◌≡◌, ℕ, ◌+◌, ◌<◌, ◌≤◌, ◌↔◌, inl, inr, suc, zero, Bool, true, false, cond, ◌&&◌, ◌||◌, ltb, leb, List, [], ◌∷◌, length, get_or, map, refl, sym, ap, ◌∙◌, subst, arith, zero-add}
 use Rattle.std.specs.List.{All, list_any, count_by, AllAdjacentBelow}
 use Rattle.std.specs.List.Sorted.{IsPermutation, IsNonDecreasingBy}

@@ -1,97 +1,88 @@
--- One step of a read or a write, and its ends.
-use Rattle.std.proofs.Common.{◌≡◌, ℕ, ◌+◌, ◌-◌, ◌^◌, ◌<◌, ◌≤◌, lit<, lit≤, set, suc, zero, List, [], ◌∷◌, ◌++◌, length, length-append, append_assoc, append-nil, drop, map, Result, Ok, Err, refl, sym, ap, ◌∙◌, arith}
-use Rattle.std.specs.List.{filter_map}
-use Rattle.std.specs.Result.{ok_prefix, result_err}
-use Rattle.transaction_codec.specs.declared.info_code.TheConstants.{SUCCESS}
+-- How far a read or a write has come: one step of it, and its ends.
+use Rattle.std.proofs.Common.{◌≡◌, ℕ, ◌+◌, ◌-◌, ◌<◌, ◌≤◌, lit≤, set, suc, List, [], ◌∷◌, ◌++◌, length, length-append, append_assoc, append-nil, drop, map, replicate, Some, Result, Ok, Err, refl, sym, ap, ◌∙◌, arith}
+use Rattle.std.specs.List.{range_with_len}
+use Rattle.std.specs.Result.{ok_prefix}
+use Rattle.std.proofs.lemmas.List.{length-replicate}
+use Rattle.std.proofs.lemmas.List.FromFn.{length-range_with_len}
+use Rattle.board_bus.specs.declared.addressing.Addressing.{Addressing}
+use Rattle.board_bus.specs.declared.addressing.Addressing.TheVariants.{Block, Port}
 use Rattle.board_bus.specs.declared.fault.BusFault.{BusFault}
-use Rattle.board_bus.specs.declared.fault.BusFault.TheVariants.{ReadError, WriteError, ReadTimeout, WriteTimeout}
-use Rattle.board_bus.specs.Fault.{fault_code}
-use Rattle.board_bus.specs.Cells.{CellMap, read_word, write_word}
-use Rattle.board_bus.specs.Transactions.{addresses, words_read, code_of_reading, code_of_faults, write_on, write_words}
-use Rattle.board_bus.specs.Progress.{ReadsOn, WritesOn}
+use Rattle.board_bus.specs.Cells.{CellMap, read_word}
+use Rattle.board_bus.specs.Transactions.{Writing, first_fault, words_read, fault_of_reading, write_words}
+use Rattle.board_bus.specs.Answering.{step_of, addresses, placed}
 
-module _ (cells : CellMap) (address step left rest : ℕ) (more : left ≡ suc rest) where
-  -- the first address is read
-  words-read : (word : ℕ) → read_word cells address ≡ Ok word → words_read cells (addresses address step left) ≡ word ∷ words_read cells (addresses (address + step) step rest)
-  words-read word is = ap (λ n. words_read cells (addresses address step n)) more ∙ ap (λ (r : Result ℕ BusFault). ok_prefix (r ∷ map (read_word cells) (addresses (address + step) step rest))) is
+-- the first address, and those that are left
+addresses-more : (addressing : Addressing) (address step count : ℕ) → step ≡ step_of addressing
+    → addresses addressing address (suc count) ≡ address ∷ addresses addressing (address + step) count
+addresses-more Block address step count is = ap (λ n. address ∷ range_with_len (address + n) count) (sym is)
+addresses-more Port address step count is = let same : address ≡ address + step = omega (arith, is) in ap (λ n. address ∷ replicate count n) same
 
-  code-read : (word : ℕ) → read_word cells address ≡ Ok word → code_of_reading cells (addresses address step left) ≡ code_of_reading cells (addresses (address + step) step rest)
-  code-read word is = ap (λ n. code_of_reading cells (addresses address step n)) more
-      ∙ ap (λ (r : Result ℕ BusFault). code_of_faults (filter_map result_err (r ∷ map (read_word cells) (addresses (address + step) step rest)))) is
+-- What was appended so far and what reading the addresses that are left gives are what reading all gives.
+pub record ReadsOn (cells : CellMap) (before out : List ℕ) (addressing : Addressing) (base address count left : ℕ) : Type 0 where
+  pub words : out ++ words_read cells (addresses addressing address left) ≡ before ++ words_read cells (addresses addressing base count)
+  pub fault : fault_of_reading cells (addresses addressing address left) ≡ fault_of_reading cells (addresses addressing base count)
 
-  -- the first address is refused
-  words-refused : (fault : BusFault) → read_word cells address ≡ Err fault → words_read cells (addresses address step left) ≡ []
-  words-refused fault is = ap (λ n. words_read cells (addresses address step n)) more ∙ ap (λ (r : Result ℕ BusFault). ok_prefix (r ∷ map (read_word cells) (addresses (address + step) step rest))) is
+module _ (cells : CellMap) (before out : List ℕ) (addressing : Addressing) (base address count left : ℕ) (on : ReadsOn cells before out addressing base address count left) where
+  module _ (step rest : ℕ) (apart : step ≡ step_of addressing) (more : left ≡ suc rest) where
+    abbrev later : List (Result ℕ BusFault)
+    later = map (read_word cells) (addresses addressing (address + step) rest)
 
-  code-refused : (fault : BusFault) → read_word cells address ≡ Err fault → code_of_reading cells (addresses address step left) ≡ fault_code fault
-  code-refused fault is = ap (λ n. code_of_reading cells (addresses address step n)) more
-      ∙ ap (λ (r : Result ℕ BusFault). code_of_faults (filter_map result_err (r ∷ map (read_word cells) (addresses (address + step) step rest)))) is
+    -- what the reads that are left give, by what the first of them gives
+    now : (r : Result ℕ BusFault) → read_word cells address ≡ r → map (read_word cells) (addresses addressing address left) ≡ r ∷ later
+    now r is = ap (λ n. map (read_word cells) (addresses addressing address n)) more
+        ∙ ap (map (read_word cells)) (addresses-more addressing address step rest apart) ∙ ap (λ x. x ∷ later) is
 
-pub reads_begin : (cells : CellMap) (before : List ℕ) (base step count : ℕ) → ReadsOn cells before before base base step count count
-reads_begin cells before base step count = record { words = refl; code = refl }
+    pub reads_more : (word : ℕ) → read_word cells address ≡ Ok word → ReadsOn cells before (out ++ word ∷ []) addressing base (address + step) count rest
+    reads_more word is = record {
+      words = append_assoc out (word ∷ []) _ ∙ ap (λ rs. out ++ ok_prefix rs) (sym (now (Ok word) is)) ∙ on.words;
+      fault = ap first_fault (sym (now (Ok word) is)) ∙ on.fault;
+    }
 
-pub reads_more : (cells : CellMap) (before out : List ℕ) (base address step count left rest word : ℕ) → ReadsOn cells before out base address step count left
-    → left ≡ suc rest → read_word cells address ≡ Ok word → ReadsOn cells before (out ++ word ∷ []) base (address + step) step count rest
-reads_more cells before out base address step count left rest word on more is = record {
-  words = append_assoc out (word ∷ []) _ ∙ ap (λ (ws : List ℕ). out ++ ws) (sym (words-read cells address step left rest more word is)) ∙ on.words;
-  code = sym (code-read cells address step left rest more word is) ∙ on.code;
-}
+    -- the room that is left for a word that was read
+    pub reads_fit : (word : ℕ) → read_word cells address ≡ Ok word → length out < length before + length (words_read cells (addresses addressing base count))
+    reads_fit word is =
+        let all : out ++ (word ∷ ok_prefix later) ≡ before ++ words_read cells (addresses addressing base count) = ap (λ rs. out ++ ok_prefix rs) (sym (now (Ok word) is)) ∙ on.words in
+        omega (arith, ap length all, length-append out (word ∷ ok_prefix later), length-append before (words_read cells (addresses addressing base count)))
 
--- the room that is left for a word that was read
-pub reads_fit : (cells : CellMap) (before out : List ℕ) (base address step count left rest word : ℕ) → ReadsOn cells before out base address step count left
-    → left ≡ suc rest → read_word cells address ≡ Ok word → length out < length before + length (words_read cells (addresses base step count))
-reads_fit cells before out base address step count left rest word on more is =
-    let e : out ++ (word ∷ words_read cells (addresses (address + step) step rest)) ≡ before ++ words_read cells (addresses base step count) =
-    ap (λ (ws : List ℕ). out ++ ws) (sym (words-read cells address step left rest more word is)) ∙ on.words in
-    omega (arith, ap length e, length-append out (word ∷ words_read cells (addresses (address + step) step rest)), length-append before (words_read cells (addresses base step count)))
+    pub reads_stop : (fault : BusFault) → read_word cells address ≡ Err fault
+        → (out ≡ before ++ words_read cells (addresses addressing base count)) × (Some fault ≡ fault_of_reading cells (addresses addressing base count))
+    reads_stop fault is = (
+      sym (append-nil out) ∙ ap (λ rs. out ++ ok_prefix rs) (sym (now (Err fault) is)) ∙ on.words,
+      ap first_fault (sym (now (Err fault) is)) ∙ on.fault,
+    )
 
-pub reads_end : (cells : CellMap) (before out : List ℕ) (base address step count left : ℕ) → ReadsOn cells before out base address step count left → left ≡ 0
-    → (out ≡ before ++ words_read cells (addresses base step count)) × (SUCCESS ≡ code_of_reading cells (addresses base step count))
-reads_end cells before out base address step count left on none =
-    (sym (append-nil out) ∙ ap (λ n. out ++ words_read cells (addresses address step n)) (sym none) ∙ on.words, ap (λ n. code_of_reading cells (addresses address step n)) (sym none) ∙ on.code)
+-- a number of words written, and then what came later
+abbrev pub after_writing : ℕ → Writing → Writing
+after_writing done later = record later { done = done + later.done }
 
-pub reads_stop : (cells : CellMap) (before out : List ℕ) (base address step count left rest : ℕ) (fault : BusFault) → ReadsOn cells before out base address step count left
-    → left ≡ suc rest → read_word cells address ≡ Err fault
-    → (out ≡ before ++ words_read cells (addresses base step count)) × (fault_code fault ≡ code_of_reading cells (addresses base step count))
-reads_stop cells before out base address step count left rest fault on more is = (
-  sym (append-nil out) ∙ ap (λ (ws : List ℕ). out ++ ws) (sym (words-refused cells address step left rest more fault is)) ∙ on.words,
-  sym (code-refused cells address step left rest more fault is) ∙ on.code,
-)
+-- What was written so far and what writing the words that are left does are what writing all does.
+pub record WritesOn (before now : CellMap) (addressing : Addressing) (base address done : ℕ) (words left : List ℕ) : Type 0 where
+  pub all : after_writing done (write_words now (placed addressing address left)) ≡ write_words before (placed addressing base words)
 
 -- how far a loop that reads has come: the room did not shrink, and the address is as far as the words read
-pub record ReadingLoop (cells : CellMap) (before out : List ℕ) (room_before room_now base address step count done : ℕ) : Type 0 where
-  pub on : ReadsOn cells before out base address step count (count - done)
+pub record ReadingLoop (cells : CellMap) (before out : List ℕ) (room_before room_now : ℕ) (addressing : Addressing) (base address count done : ℕ) : Type 0 where
+  pub on : ReadsOn cells before out addressing base address count (count - done)
   pub room : room_before ≤ room_now
   pub near : address ≤ base + done
 
 -- how far a loop that writes has come
-pub record WritingLoop (before now : CellMap) (base address step done at : ℕ) (words : List ℕ) : Type 0 where
-  pub on : WritesOn before now base address step done words (drop at words)
+pub record WritingLoop (before now : CellMap) (addressing : Addressing) (base address done at : ℕ) (words : List ℕ) : Type 0 where
+  pub on : WritesOn before now addressing base address done words (drop at words)
   pub count : done ≡ at
   pub near : address ≤ base + at
 
-pub fault_code_small : (fault : BusFault) → fault_code fault < 2 ^ 4
-fault_code_small ReadError = lit< tt
-fault_code_small WriteError = lit< tt
-fault_code_small ReadTimeout = lit< tt
-fault_code_small WriteTimeout = lit< tt
-
 -- no more words are read than there are addresses
-pub words_read-length : (cells : CellMap) (base step count : ℕ) → length (words_read cells (addresses base step count)) ≤ count
-words_read-length cells base step zero = lit≤ tt
-words_read-length cells base step (suc count) =
-    elim (read_word cells base) as (λ (r : Result ℕ BusFault). length (ok_prefix (r ∷ map (read_word cells) (addresses (base + step) step count))) ≤ suc count) [
-      | Ok word ↦ let more = words_read-length cells (base + step) step count in omega arith
+pub words_read-length : (cells : CellMap) (addresses : List ℕ) → length (words_read cells addresses) ≤ length addresses
+words_read-length cells [] = lit≤ tt
+words_read-length cells (address ∷ later) =
+    elim (read_word cells address) as (λ (r : Result ℕ BusFault). length (ok_prefix (r ∷ map (read_word cells) later)) ≤ suc (length later)) [
+      | Ok word ↦ let more = words_read-length cells later in omega arith
       | Err fault ↦ omega arith
     ]
 
-pub write_code_small : (cells : CellMap) (entries : List (ℕ × ℕ)) → (write_words cells entries).code < 2 ^ 4
-write_code_small cells [] = lit< tt
-write_code_small cells (e ∷ es) =
-    elim (write_word cells e.0 e.1) as (λ (r : Result CellMap BusFault). (write_on cells r (λ after. write_words after es)).code < 2 ^ 4) [
-      | Ok after ↦ write_code_small after es
-      | Err fault ↦ fault_code_small fault
-    ]
+pub length-addresses : (addressing : Addressing) (base count : ℕ) → length (addresses addressing base count) ≡ count
+length-addresses Block base count = length-range_with_len base count
+length-addresses Port base count = length-replicate count base
 
 -- a header is put in the place that was kept for it
 pub header_filled_in : (front words : List ℕ) (header : ℕ) → set ((front ++ 0 ∷ []) ++ words) (length front) header ≡ front ++ header ∷ words

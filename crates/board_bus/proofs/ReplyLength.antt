@@ -1,24 +1,27 @@
 -- A reply is never longer than the room that its body has.
-use Rattle.std.proofs.Common.{ℕ, ◌+◌, ◌≤◌, suc, zero, true, false, cond, eqb, List, [], ◌∷◌, length, length-append, Result, Ok, Err, arith, lit≤}
+use Rattle.std.proofs.Common.{ℕ, ◌+◌, ◌≤◌, suc, zero, List, [], ◌∷◌, length, length-append, replicate, Result, Ok, Err, arith, lit≤}
+use Rattle.std.specs.List.{range_with_len}
+use Rattle.std.proofs.lemmas.List.{length-replicate}
+use Rattle.std.proofs.lemmas.List.FromFn.{length-range_with_len}
 use Rattle.transaction_codec.specs.declared.request.Op.{Op}
 use Rattle.transaction_codec.specs.declared.request.Op.TheVariants.{Read, ReadPort, Write, WritePort, RmwBits, RmwSum}
-use Rattle.transaction_codec.specs.declared.info_code.TheConstants.{SUCCESS}
 use Rattle.transaction_codec.specs.Request.{request_at}
 use Rattle.transaction_codec.specs.Reply.{reply_words}
 use Rattle.transaction_codec.specs.Answer.{values_done, room_first, room_from, reply_room}
 use Rattle.board_bus.specs.declared.fault.BusFault.{BusFault}
 use Rattle.board_bus.specs.Cells.{CellMap}
 use Rattle.board_bus.specs.Transactions.{Modified, of_modifying, modify, masked, added, outcome, Transacted, transact}
-use Rattle.board_bus.specs.Bodies.{Executed, after_reply, run_on, run_first, run_requests, run_body}
+use Rattle.board_bus.specs.Bodies.{Executed, run_on, run_first, run_requests, run_body}
 use Rattle.board_bus.proofs.Progress.{words_read-length}
+use Rattle.board_bus.proofs.Requests.{run_on-either}
 
 modified_values : (cells : CellMap) (r : Result Modified BusFault) → length (of_modifying cells r).values ≤ 1
 modified_values cells (Ok modified) = lit≤ tt
 modified_values cells (Err fault) = lit≤ tt
 
 pub values_bound : (cells : CellMap) (op : Op) → length (outcome cells op).values ≤ values_done op
-values_bound cells (Read base count) = words_read-length cells base 1 count
-values_bound cells (ReadPort base count) = words_read-length cells base 0 count
+values_bound cells (Read base count) = omega (arith, words_read-length cells (range_with_len base count), length-range_with_len base count)
+values_bound cells (ReadPort base count) = omega (arith, words_read-length cells (replicate count base), length-replicate count base)
 values_bound cells (Write base words) = lit≤ tt
 values_bound cells (WritePort base words) = lit≤ tt
 values_bound cells (RmwBits base and_term or_term) = modified_values cells (modify cells base (masked and_term or_term))
@@ -27,10 +30,7 @@ values_bound cells (RmwSum base addend) = modified_values cells (modify cells ba
 run_on-length : (first : Transacted) (later : CellMap → Executed) (room more : ℕ) → length first.reply.values ≤ room → length (later first.cells).reply ≤ more
     → length (run_on first later).reply ≤ 1 + room + more
 run_on-length first later room more fits rest =
-    elim (eqb first.reply.code SUCCESS) as (λ b. length (cond b (after_reply (reply_words first.reply) (later first.cells)) (record { cells = first.cells; reply = reply_words first.reply })).reply ≤ 1 + room + more) [
-      | true ↦ omega (arith, length-append (reply_words first.reply) (later first.cells).reply)
-      | false ↦ omega arith
-    ]
+    run_on-either (λ e. length e.reply ≤ 1 + room + more) first later (omega (arith, length-append (reply_words first.reply) (later first.cells).reply)) (omega arith)
 
 run_requests-length : (most : ℕ) (words : List ℕ) (cells : CellMap) → length (run_requests most words cells).reply ≤ room_from most words
 run_requests-length zero words cells = lit≤ tt

@@ -1,5 +1,5 @@
 -- One request of a body, and the rest of it.
-use Rattle.std.proofs.Common.{◌≡◌, ℕ, ◌+◌, ◌<◌, ◌≤◌, suc, zero, true, false, cond, eqb, List, [], ◌∷◌, ◌++◌, length, length-append, append_assoc, drop, length-drop, Result, Ok, Err, refl, eq-eqb, sym, ap, ◌∙◌, subst, arith}
+use Rattle.std.proofs.Common.{◌≡◌, ℕ, ◌+◌, ◌<◌, ◌≤◌, suc, zero, Bool, true, false, cond, eqb, List, [], ◌∷◌, ◌++◌, length, length-append, append_assoc, drop, length-drop, Result, Ok, Err, refl, eq-eqb, sym, ap, ◌∙◌, subst, arith}
 use Rattle.transaction_codec.specs.declared.request.Request.{Request}
 use Rattle.transaction_codec.specs.declared.refusal.Why.{Why}
 use Rattle.transaction_codec.specs.declared.info_code.TheConstants.{SUCCESS}
@@ -7,7 +7,7 @@ use Rattle.std.specs.Prelude.{◌==◌, ◌&&◌, not, nat_lt}
 use Rattle.transaction_codec.specs.declared.refusal.Why.TheVariants.{Version, Kind, Code, Count, Short}
 use Rattle.transaction_codec.specs.declared.info_code.TheConstants.{REQUEST}
 use Rattle.transaction_codec.specs.Header.{version_of, tid_of, kind_of, code_of, count_of, is_rmw}
-use Rattle.transaction_codec.specs.Request.{request_at, asked, words_after}
+use Rattle.transaction_codec.specs.Request.{request_at, op_at, words_after}
 use Rattle.transaction_codec.specs.Reply.{reply_words}
 use Rattle.transaction_codec.specs.Answer.{bad_header_reply}
 use Rattle.transaction_codec.proofs.Steps.{passed}
@@ -28,12 +28,21 @@ rest_shorter word after x is =
     let count = passed (is_rmw (kind_of word) && not (count_of word == 1)) Count _ x code.1 in
     let len = words_after (kind_of word) (count_of word) in
     let whole = passed (nat_lt (length after) len) Short _ x count.1 in
-    let made : Request × List ℕ = (record { tid = tid_of word; op = asked (kind_of word) (count_of word) after }, drop len after) in
+    let made : Request × List ℕ = (record { tid = tid_of word; op = op_at (kind_of word) (count_of word) after }, drop len after) in
     let rest : drop len after ≡ x.1 = ap (λ (y : Request × List ℕ). y.1) (same_ok made x whole.1) in
     omega (arith, ap length rest, length-drop len after)
 
+-- what follows a first transaction, by whether it succeeded
+abbrev pub followed : Transacted → Executed → Bool → Executed
+followed first later done = cond done (after_reply (reply_words first.reply) later) (record { cells = first.cells; reply = reply_words first.reply })
+
+-- what holds whether or not anything follows holds of both
+pub run_on-either : (P : Executed → Type 0) (first : Transacted) (later : CellMap → Executed) → P (followed first (later first.cells) true) → P (followed first (later first.cells) false)
+    → P (run_on first later)
+run_on-either P first later more last = elim (eqb first.reply.code SUCCESS) as (λ b. P (followed first (later first.cells) b)) [ true ↦ more | false ↦ last ]
+
 run_on_alike : (first : Transacted) (f g : CellMap → Executed) → f first.cells ≡ g first.cells → run_on first f ≡ run_on first g
-run_on_alike first f g h = ap (λ (e : Executed). cond (eqb first.reply.code SUCCESS) (after_reply (reply_words first.reply) e) (record { cells = first.cells; reply = reply_words first.reply })) h
+run_on_alike first f g h = ap (λ (e : Executed). followed first e (eqb first.reply.code SUCCESS)) h
 
 -- Enough is enough: a body may be given more steps than it has words.
 mutual
@@ -65,18 +74,16 @@ run_body-fault cells word after why is = ap (λ (r : Result (Request × List ℕ
 
 run_on-reply : (first : Transacted) (later : CellMap → Executed) → length (reply_words first.reply) ≤ length (run_on first later).reply
 run_on-reply first later =
-    elim (eqb first.reply.code SUCCESS) as (λ b. length (reply_words first.reply)
-    ≤ length (cond b (after_reply (reply_words first.reply) (later first.cells)) (record { cells = first.cells; reply = reply_words first.reply })).reply) [
-      | true ↦ omega (arith, length-append (reply_words first.reply) (later first.cells).reply)
-      | false ↦ omega arith
-    ]
+    run_on-either (λ e. length (reply_words first.reply) ≤ length e.reply) first later
+    (omega (arith, length-append (reply_words first.reply) (later first.cells).reply)) (omega arith)
 
 -- The reply to the first request is a part of the reply to the body.
 pub first_reply_fits : (cells : CellMap) (words : List ℕ) (request : Request) (rest : List ℕ) → 0 < length words → request_at words ≡ Ok (request, rest)
     → length (reply_words (transact cells request).reply) ≤ length (run_body cells words).reply
 first_reply_fits cells [] request rest some is = absurd (omega arith)
 first_reply_fits cells (word ∷ after) request rest some is =
-    subst (λ (e : Executed). length (reply_words (transact cells request).reply) ≤ length e.reply) (sym (run_body-request cells word after request rest is)) (run_on-reply (transact cells request) (λ left. run_body left rest))
+    subst (λ (e : Executed). length (reply_words (transact cells request).reply) ≤ length e.reply) (sym (run_body-request cells word after request rest is))
+    (run_on-reply (transact cells request) (λ left. run_body left rest))
 
 -- After a first request that succeeded the rest is a body of its own.
 pub run_body-success : (cells : CellMap) (words : List ℕ) (request : Request) (rest : List ℕ) → 0 < length words → request_at words ≡ Ok (request, rest)
@@ -87,9 +94,10 @@ run_body-success cells (word ∷ after) request rest some is success =
     let first = transact cells request in
     let test : eqb first.reply.code SUCCESS ≡ true = eq-eqb first.reply.code SUCCESS success in
     run_body-request cells word after request rest is
-    ∙ ap (λ b. cond b (after_reply (reply_words first.reply) (run_body first.cells rest)) (record { cells = first.cells; reply = reply_words first.reply })) test
+    ∙ ap (followed first (run_body first.cells rest)) test
 
--- How far the execution of a body has come: what was answered so far and what the rest does are what the whole body does.
+-- How far the execution of a body has come: what was answered so far and what the rest does are what the whole body
+-- does.
 pub record RunsOn (cells_before cells : CellMap) (before out : List ℕ) (room_before room_now : ℕ) (body left : List ℕ) : Type 0 where
   pub bus : (run_body cells left).cells ≡ (run_body cells_before body).cells
   pub reply : out ++ (run_body cells left).reply ≡ before ++ (run_body cells_before body).reply

@@ -1,9 +1,13 @@
 -- The form of each reply that a bus gives: done or failed, how many words it counts and carries.
-use Rattle.std.proofs.Common.{◌≡◌, ℕ, ◌+◌, ◌<◌, ◌≤◌, ◌⊎◌, inl, inr, suc, zero, false, eqb, List, [], ◌∷◌, length, map, Option, Some, None, Result, Ok, Err, refl, sym, ap, ◌∙◌, arith, lit≤}
-use Rattle.std.specs.List.{filter_map}
-use Rattle.std.specs.Result.{ok_prefix, result_err}
+use Rattle.std.proofs.Common.{◌≡◌, ℕ, ◌<◌, ◌≤◌, ◌⊎◌, inl, inr, suc, false, eqb, List, [], ◌∷◌, length, map, replicate, Option, Some, None, Result, Ok, Err, refl, sym, ap, ◌∙◌, arith, lit≤}
+use Rattle.std.specs.List.{enumerate_from, range_with_len}
+use Rattle.std.specs.Result.{ok_prefix}
+use Rattle.std.proofs.lemmas.Bool.Decides.{nat_tests}
+use Rattle.std.proofs.lemmas.List.{length-replicate, length-map}
+use Rattle.std.proofs.lemmas.List.FromFn.{length-range_with_len, length-enumerate_from}
 use Rattle.transaction_codec.specs.declared.request.Op.{Op}
 use Rattle.transaction_codec.specs.declared.request.Op.TheVariants.{Read, ReadPort, Write, WritePort, RmwBits, RmwSum}
+use Rattle.transaction_codec.specs.declared.transaction_type.TheConstants.{READ, WRITE, READ_PORT, WRITE_PORT, RMW_BITS, RMW_SUM}
 use Rattle.transaction_codec.specs.declared.info_code.TheConstants.{SUCCESS, READ_ERROR, WRITE_ERROR, READ_TIMEOUT, WRITE_TIMEOUT}
 use Rattle.transaction_codec.specs.Request.{op_kind, op_count}
 use Rattle.transaction_codec.specs.Reply.{IsBusFault, HasForm}
@@ -11,9 +15,9 @@ use Rattle.transaction_codec.specs.Answer.{values_done, Fails}
 use Rattle.board_bus.specs.declared.kind.RangeKind.TheVariants.{Rw, Ro, Wo, Slow}
 use Rattle.board_bus.specs.declared.fault.BusFault.{BusFault}
 use Rattle.board_bus.specs.declared.fault.BusFault.TheVariants.{ReadError, WriteError, ReadTimeout, WriteTimeout}
-use Rattle.board_bus.specs.Fault.{fault_code}
+use Rattle.board_bus.specs.Fault.{fault_code, info_code}
 use Rattle.board_bus.specs.Cells.{Cell, CellMap, cell_at, read_cell, read_word, write_cell, write_word}
-use Rattle.board_bus.specs.Transactions.{addresses, words_read, code_of_reading, code_of_faults, write_on, write_words, placed, Modified, modify, of_modifying, masked, added, outcome}
+use Rattle.board_bus.specs.Transactions.{Writing, first_fault, words_read, fault_of_reading, of_reading, write_on, write_words, Modified, modify, of_modifying, masked, added, outcome}
 
 -- a read is refused as a read, and a write as a write
 abbrev IsReadFault : ℕ → Type 0
@@ -45,33 +49,31 @@ write_cell-fault cells address word (Some cell) fault is =
       | Slow ↦ λ e. inr (ap fault_code (sym (fault_is WriteTimeout fault e)))
     ] is
 
-abbrev AllDone : ℕ → ℕ → ℕ → Type 0
-AllDone code done wanted = (code ≡ SUCCESS) × (done ≡ wanted)
+abbrev AllDone : Option BusFault → ℕ → ℕ → Type 0
+AllDone fault done wanted = (info_code fault ≡ SUCCESS) × (done ≡ wanted)
 
-read-shape : (cells : CellMap) (base step count : ℕ)
-    → AllDone (code_of_reading cells (addresses base step count)) (length (words_read cells (addresses base step count))) count
-    ⊎ (IsReadFault (code_of_reading cells (addresses base step count)) × (length (words_read cells (addresses base step count)) < count))
-read-shape cells base step zero = inl (refl, refl)
-read-shape cells base step (suc count) =
-    let rest = map (read_word cells) (addresses (base + step) step count) in
-    elim (read_word cells base) as (λ (r : Result ℕ BusFault). read_word cells base ≡ r
-    → AllDone (code_of_faults (filter_map result_err (r ∷ rest))) (length (ok_prefix (r ∷ rest))) (suc count)
-    ⊎ (IsReadFault (code_of_faults (filter_map result_err (r ∷ rest))) × (length (ok_prefix (r ∷ rest)) < suc count))) [
-      | Ok word ↦ λ _. elim (read-shape cells (base + step) step count) [
+read-shape : (cells : CellMap) (addresses : List ℕ) → AllDone (fault_of_reading cells addresses) (length (words_read cells addresses)) (length addresses)
+    ⊎ (IsReadFault (info_code (fault_of_reading cells addresses)) × (length (words_read cells addresses) < length addresses))
+read-shape cells [] = inl (refl, refl)
+read-shape cells (address ∷ later) =
+    let rest = map (read_word cells) later in
+    elim (read_word cells address) as (λ (r : Result ℕ BusFault). read_word cells address ≡ r
+    → AllDone (first_fault (r ∷ rest)) (length (ok_prefix (r ∷ rest))) (suc (length later))
+    ⊎ (IsReadFault (info_code (first_fault (r ∷ rest))) × (length (ok_prefix (r ∷ rest)) < suc (length later)))) [
+      | Ok word ↦ λ _. elim (read-shape cells later) [
         | inl all ↦ inl (all.0, ap suc all.1)
         | inr some ↦ inr (some.0, omega (arith, some.1))
       ]
-      | Err fault ↦ λ is. inr (read_cell-fault (cell_at cells base) fault is, omega arith)
+      | Err fault ↦ λ is. inr (read_cell-fault (cell_at cells address) fault is, omega arith)
     ] refl
 
-write-shape : (cells : CellMap) (entries : List (ℕ × ℕ))
-    → AllDone (write_words cells entries).code (write_words cells entries).done (length entries)
-    ⊎ (IsWriteFault (write_words cells entries).code × ((write_words cells entries).done < length entries))
+write-shape : (cells : CellMap) (entries : List (ℕ × ℕ)) → AllDone (write_words cells entries).fault (write_words cells entries).done (length entries)
+    ⊎ (IsWriteFault (info_code (write_words cells entries).fault) × ((write_words cells entries).done < length entries))
 write-shape cells [] = inl (refl, refl)
 write-shape cells (e ∷ es) =
+    let writing : Result CellMap BusFault → Writing = λ r. write_on cells r (λ after. write_words after es) in
     elim (write_word cells e.0 e.1) as (λ (r : Result CellMap BusFault). write_word cells e.0 e.1 ≡ r
-    → AllDone (write_on cells r (λ after. write_words after es)).code (write_on cells r (λ after. write_words after es)).done (suc (length es))
-    ⊎ (IsWriteFault (write_on cells r (λ after. write_words after es)).code × ((write_on cells r (λ after. write_words after es)).done < suc (length es)))) [
+    → AllDone (writing r).fault (writing r).done (suc (length es)) ⊎ (IsWriteFault (info_code (writing r).fault) × ((writing r).done < suc (length es)))) [
       | Ok after ↦ λ _. elim (write-shape after es) [
         | inl all ↦ inl (all.0, omega (arith, all.1))
         | inr some ↦ inr (some.0, omega (arith, some.1))
@@ -79,23 +81,14 @@ write-shape cells (e ∷ es) =
       | Err fault ↦ λ is. inr (write_cell-fault cells e.0 e.1 (cell_at cells e.0) fault is, omega arith)
     ] refl
 
-length-placed : (base step : ℕ) (words : List ℕ) → length (placed base step words) ≡ length words
-length-placed base step [] = refl
-length-placed base step (w ∷ ws) = ap suc (length-placed (base + step) step ws)
-
 fault_is_bus_fault : (fault : BusFault) → IsBusFault (fault_code fault)
 fault_is_bus_fault ReadError = (lit≤ tt, lit≤ tt)
 fault_is_bus_fault WriteError = (lit≤ tt, lit≤ tt)
 fault_is_bus_fault ReadTimeout = (lit≤ tt, lit≤ tt)
 fault_is_bus_fault WriteTimeout = (lit≤ tt, lit≤ tt)
 
-read_fault_not_zero : (code : ℕ) → IsReadFault code → (eqb code SUCCESS ≡ false) × IsBusFault code
-read_fault_not_zero code (inl h) = (ap (λ n. eqb n 0) h, (omega (arith, h), omega (arith, h)))
-read_fault_not_zero code (inr h) = (ap (λ n. eqb n 0) h, (omega (arith, h), omega (arith, h)))
-
-write_fault_not_zero : (code : ℕ) → IsWriteFault code → (eqb code SUCCESS ≡ false) × IsBusFault code
-write_fault_not_zero code (inl h) = (ap (λ n. eqb n 0) h, (omega (arith, h), omega (arith, h)))
-write_fault_not_zero code (inr h) = (ap (λ n. eqb n 0) h, (omega (arith, h), omega (arith, h)))
+bus_fault_fails : (code : ℕ) → IsBusFault code → eqb code SUCCESS ≡ false
+bus_fault_fails code is = let past : 4 ≤ code = is.0 in grind (arith, nat_tests)
 
 -- What an operation gives: all of it, or a fault after fewer words than asked. Either way it has the form of a reply.
 pub record OpDone (op : Op) (code count values : ℕ) : Type 0 where
@@ -112,55 +105,61 @@ pub record HasShape (op : Op) (code count values : ℕ) : Type 0 where
   pub outcome : OpDone op code count values ⊎ OpFailed op code count values
   pub form : HasForm (op_kind op) code count values
 
-fault_small : (fault : BusFault) → eqb (fault_code fault) SUCCESS ≡ false
-fault_small ReadError = refl
-fault_small WriteError = refl
-fault_small ReadTimeout = refl
-fault_small WriteTimeout = refl
+module _ (cells : CellMap) (op : Op) where
+  reading-shape : (addresses : List ℕ) → length addresses ≡ op_count op → values_done op ≡ op_count op → ((op_kind op ≡ READ) ⊎ (op_kind op ≡ READ_PORT))
+      → ((code count : ℕ) → IsReadFault code → count < op_count op → Fails op code count count)
+      → HasShape op (info_code (of_reading cells addresses).fault) (of_reading cells addresses).count (length (of_reading cells addresses).values)
+  reading-shape addresses many carried kind fails =
+      let code = info_code (fault_of_reading cells addresses) in
+      elim (read-shape cells addresses) [
+        | inl all ↦ record { outcome = inl (record { success = all.0; full = all.1 ∙ many; carried = all.1 ∙ many ∙ sym carried }); form = inl (all.0, inl (kind, refl)) }
+        | inr some ↦
+            let is : IsBusFault code = elim (some.0) [ inl h ↦ (omega (arith, h), omega (arith, h)) | inr h ↦ (omega (arith, h), omega (arith, h)) ] in
+            let fewer : length (words_read cells addresses) < op_count op = omega (arith, some.1, many) in
+            record {
+              outcome = inr (record { failed = bus_fault_fails code is; fault = fails code (length (words_read cells addresses)) some.0 fewer; small = omega (arith, fewer) });
+              form = inr (inl (is, inl (kind, refl)));
+            }
+      ]
 
-module _ (cells : CellMap) where
-  modified-shape : (op : Op) (r : Result Modified BusFault) → ((op_kind op ≡ 4) ⊎ (op_kind op ≡ 5)) → op_count op ≡ 1 → values_done op ≡ 1
+  writing-shape : (entries : List (ℕ × ℕ)) → length entries ≡ op_count op → values_done op ≡ 0 → ((op_kind op ≡ WRITE) ⊎ (op_kind op ≡ WRITE_PORT))
+      → ((code count : ℕ) → IsWriteFault code → count < op_count op → Fails op code count 0)
+      → HasShape op (info_code (write_words cells entries).fault) (write_words cells entries).done 0
+  writing-shape entries many carried kind fails =
+      let code = info_code (write_words cells entries).fault in
+      elim (write-shape cells entries) [
+        | inl all ↦ record { outcome = inl (record { success = all.0; full = all.1 ∙ many; carried = sym carried }); form = inl (all.0, inr (inl (kind, refl))) }
+        | inr some ↦
+            let is : IsBusFault code = elim (some.0) [ inl h ↦ (omega (arith, h), omega (arith, h)) | inr h ↦ (omega (arith, h), omega (arith, h)) ] in
+            let fewer : (write_words cells entries).done < op_count op = omega (arith, some.1, many) in
+            record {
+              outcome = inr (record { failed = bus_fault_fails code is; fault = fails code (write_words cells entries).done some.0 fewer; small = omega (arith, fewer) });
+              form = inr (inl (is, inr (inl (kind, refl))));
+            }
+      ]
+
+  modified-shape : (r : Result Modified BusFault) → op_count op ≡ 1 → values_done op ≡ 1 → ((op_kind op ≡ RMW_BITS) ⊎ (op_kind op ≡ RMW_SUM))
       → ((fault : BusFault) → Fails op (fault_code fault) 0 0)
-      → HasShape op (of_modifying cells r).code (of_modifying cells r).count (length (of_modifying cells r).values)
-  modified-shape op (Ok modified) kind count values fails = record {
+      → HasShape op (info_code (of_modifying cells r).fault) (of_modifying cells r).count (length (of_modifying cells r).values)
+  modified-shape (Ok modified) count values kind fails = record {
     outcome = inl (record { success = refl; full = sym count; carried = sym values });
     form = inl (refl, inr (inr (kind, refl, refl)));
   }
-  modified-shape op (Err fault) kind count values fails = record {
-    outcome = inr (record { failed = fault_small fault; fault = fails fault; small = omega arith });
+  modified-shape (Err fault) count values kind fails = record {
+    outcome = inr (record { failed = bus_fault_fails (fault_code fault) (fault_is_bus_fault fault); fault = fails fault; small = omega arith });
     form = inr (inl (fault_is_bus_fault fault, inr (inr (kind, refl, refl))));
   }
 
-  pub shape_of : (op : Op) → HasShape op (outcome cells op).code (outcome cells op).count (length (outcome cells op).values)
-  shape_of (Read base count) = elim (read-shape cells base 1 count) [
-    | inl all ↦ record { outcome = inl (record { success = all.0; full = all.1; carried = all.1 }); form = inl (all.0, inl (inl refl, refl)) }
-    | inr some ↦ let code = read_fault_not_zero (code_of_reading cells (addresses base 1 count)) some.0 in record {
-      outcome = inr (record { failed = code.0; fault = (some.0, some.1, refl); small = omega (arith, some.1) });
-      form = inr (inl (code.1, inl (inl refl, refl)));
-    }
-  ]
-  shape_of (ReadPort base count) = elim (read-shape cells base 0 count) [
-    | inl all ↦ record { outcome = inl (record { success = all.0; full = all.1; carried = all.1 }); form = inl (all.0, inl (inr refl, refl)) }
-    | inr some ↦ let code = read_fault_not_zero (code_of_reading cells (addresses base 0 count)) some.0 in record {
-      outcome = inr (record { failed = code.0; fault = (some.0, some.1, refl); small = omega (arith, some.1) });
-      form = inr (inl (code.1, inl (inr refl, refl)));
-    }
-  ]
-  shape_of (Write base words) = elim (write-shape cells (placed base 1 words)) [
-    | inl all ↦ record { outcome = inl (record { success = all.0; full = all.1 ∙ length-placed base 1 words; carried = refl }); form = inl (all.0, inr (inl (inl refl, refl))) }
-    | inr some ↦ let code = write_fault_not_zero (write_words cells (placed base 1 words)).code some.0 in record {
-      outcome = inr (record { failed = code.0; fault = (some.0, omega (arith, some.1, length-placed base 1 words), refl); small = omega (arith, some.1, length-placed base 1 words) });
-      form = inr (inl (code.1, inr (inl (inl refl, refl))));
-    }
-  ]
-  shape_of (WritePort base words) = elim (write-shape cells (placed base 0 words)) [
-    | inl all ↦ record { outcome = inl (record { success = all.0; full = all.1 ∙ length-placed base 0 words; carried = refl }); form = inl (all.0, inr (inl (inr refl, refl))) }
-    | inr some ↦ let code = write_fault_not_zero (write_words cells (placed base 0 words)).code some.0 in record {
-      outcome = inr (record { failed = code.0; fault = (some.0, omega (arith, some.1, length-placed base 0 words), refl); small = omega (arith, some.1, length-placed base 0 words) });
-      form = inr (inl (code.1, inr (inl (inr refl, refl))));
-    }
-  ]
-  shape_of (RmwBits base and_term or_term) =
-      modified-shape (RmwBits base and_term or_term) (modify cells base (masked and_term or_term)) (inl refl) refl refl (λ fault. (fault_is_bus_fault fault, refl, refl))
-  shape_of (RmwSum base addend) =
-      modified-shape (RmwSum base addend) (modify cells base (added addend)) (inr refl) refl refl (λ fault. (fault_is_bus_fault fault, refl, refl))
+pub shape_of : (cells : CellMap) (op : Op) → HasShape op (info_code (outcome cells op).fault) (outcome cells op).count (length (outcome cells op).values)
+shape_of cells (Read base count) =
+    reading-shape cells (Read base count) (range_with_len base count) (length-range_with_len base count) refl (inl refl) (λ code done fault fewer. (fault, fewer, refl))
+shape_of cells (ReadPort base count) =
+    reading-shape cells (ReadPort base count) (replicate count base) (length-replicate count base) refl (inr refl) (λ code done fault fewer. (fault, fewer, refl))
+shape_of cells (Write base words) =
+    writing-shape cells (Write base words) (enumerate_from base words) (length-enumerate_from base words) refl (inl refl) (λ code done fault fewer. (fault, fewer, refl))
+shape_of cells (WritePort base words) =
+    writing-shape cells (WritePort base words) (map (λ word. (base, word)) words) (length-map words (λ word. (base, word))) refl (inr refl) (λ code done fault fewer. (fault, fewer, refl))
+shape_of cells (RmwBits base and_term or_term) =
+    modified-shape cells (RmwBits base and_term or_term) (modify cells base (masked and_term or_term)) refl refl (inl refl) (λ fault. (fault_is_bus_fault fault, refl, refl))
+shape_of cells (RmwSum base addend) =
+    modified-shape cells (RmwSum base addend) (modify cells base (added addend)) refl refl (inr refl) (λ fault. (fault_is_bus_fault fault, refl, refl))

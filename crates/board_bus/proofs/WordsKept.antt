@@ -1,9 +1,10 @@
 -- A bus of 32-bit words stays one, and the words that it answers are 32-bit words.
-use Rattle.std.proofs.Common.{◌≡◌, ℕ, ◌+◌, ◌^◌, ◌<◌, ◌⊎◌, inl, inr, suc, zero, false, cond, List, [], ◌∷◌, map, bit_and, Option, Some, None, Result, Ok, Err, refl, sym, ap, ◌∙◌, subst, arith, lit<, ltb}
+use Rattle.std.proofs.Common.{◌≡◌, ℕ, ◌+◌, ◌^◌, ◌<◌, ◌⊎◌, inl, inr, false, cond, List, [], ◌∷◌, map, replicate, bit_and, Option, Some, None, Result, Ok, Err, refl, sym, ap, ◌∙◌, subst, arith, lit<, ltb}
 use Rattle.std.specs.Prelude.{IfSome}
 use Rattle.std.specs.Ordering.{nat_cmp}
 use Rattle.std.specs.Cmp.{nat_cmp_total}
 use Rattle.std.specs.FinMap.Entries.{find, put, find-put}
+use Rattle.std.specs.List.{AllByRecursion, enumerate_from, range_with_len}
 use Rattle.std.specs.Result.{ok_prefix}
 use Rattle.std.proofs.lemmas.Bool.{cases_order, lt-ltb, cases_lt, le-ltb}
 use Rattle.std.proofs.lemmas.Nat.{or_lt, and_le_l}
@@ -15,7 +16,7 @@ use Rattle.transaction_codec.specs.Request.{op_words}
 use Rattle.board_bus.specs.declared.kind.RangeKind.TheVariants.{Rw, Ro, Wo, Slow}
 use Rattle.board_bus.specs.declared.fault.BusFault.{BusFault}
 use Rattle.board_bus.specs.Cells.{Cell, CellMap, HoldsWords, cell_at, read_cell, read_word, write_cell, write_word, write_fault, unless}
-use Rattle.board_bus.specs.Transactions.{◌>>=◌, addresses, words_read, write_on, write_words, placed, Modified, modify, of_modifying, masked, added, outcome}
+use Rattle.board_bus.specs.Transactions.{◌>>=◌, words_read, write_on, write_words, Modified, modify, of_modifying, masked, added, outcome}
 use Rattle.board_bus.proofs.Lookups.{tie_same, tie_apart}
 
 -- what a put cell leaves elsewhere, and puts in its place
@@ -31,11 +32,6 @@ put-here cells address cell below =
     find-put nat_cmp nat_cmp_total address address cell cells ∙ ap (λ t. cond t (Some cell) (find nat_cmp address cells)) (tie_same address) in
     ap (λ (o : Option Cell). cond (ltb address (2 ^ 32)) o None) same ∙ ap (λ t. cond t (Some cell) None) (lt-ltb address (2 ^ 32) below)
 
--- what writing did
-pub record IsWritten (cells after : CellMap) (address word : ℕ) (cell : Cell) : Type 0 where
-  pub was : cell_at cells address ≡ Some cell
-  pub put_it : after ≡ put nat_cmp address (record cell { word = word }) cells
-
 ok_is : (x y : CellMap) → ◌≡◌ {A = Result CellMap BusFault} (Ok x) (Ok y) → x ≡ y
 ok_is x y h = cc
 
@@ -43,7 +39,8 @@ written_cell : (cells after : CellMap) (address word : ℕ) (cell : Option Cell)
     → (c : Cell) × (cell ≡ Some c) × (after ≡ put nat_cmp address (record c { word = word }) cells)
 written_cell cells after address word None is = absurd cc
 written_cell cells after address word (Some c) is =
-    elim (write_fault c.kind) as (λ f. unless f (put nat_cmp address (record c { word = word }) cells) ≡ Ok after → (d : Cell) × (Some c ≡ Some d) × (after ≡ put nat_cmp address (record d { word = word }) cells)) [
+    elim (write_fault c.kind) as (λ f. unless f (put nat_cmp address (record c { word = word }) cells) ≡ Ok after
+    → (d : Cell) × (Some c ≡ Some d) × (after ≡ put nat_cmp address (record d { word = word }) cells)) [
       | None ↦ λ e. (c, refl, sym (ok_is _ _ e))
       | Some fault ↦ λ e. absurd cc
     ] is
@@ -95,22 +92,30 @@ read_cell-word (Some c) word fits is =
 pub read-word : (cells : CellMap) (address word : ℕ) → HoldsWords cells → read_word cells address ≡ Ok word → IsWord word
 read-word cells address word holds is = read_cell-word (cell_at cells address) word (holds address) is
 
-words-read_all : (cells : CellMap) (base step count : ℕ) → HoldsWords cells → AreWords (words_read cells (addresses base step count))
-words-read_all cells base step zero holds = tt
-words-read_all cells base step (suc count) holds =
-    elim (read_word cells base) as (λ (r : Result ℕ BusFault). read_word cells base ≡ r → AreWords (ok_prefix (r ∷ map (read_word cells) (addresses (base + step) step count)))) [
-      | Ok word ↦ λ is. (read-word cells base word holds is, words-read_all cells (base + step) step count holds)
+words-read_all : (cells : CellMap) (addresses : List ℕ) → HoldsWords cells → AreWords (words_read cells addresses)
+words-read_all cells [] holds = tt
+words-read_all cells (address ∷ later) holds =
+    elim (read_word cells address) as (λ (r : Result ℕ BusFault). read_word cells address ≡ r → AreWords (ok_prefix (r ∷ map (read_word cells) later))) [
+      | Ok word ↦ λ is. (read-word cells address word holds is, words-read_all cells later holds)
       | Err fault ↦ λ _. tt
     ] refl
 
-words-written_all : (cells : CellMap) (base step : ℕ) (words : List ℕ) → HoldsWords cells → AreWords words → HoldsWords (write_words cells (placed base step words)).cells
-words-written_all cells base step [] holds fits = holds
-words-written_all cells base step (w ∷ ws) holds fits =
-    elim (write_word cells base w) as (λ (r : Result CellMap BusFault). write_word cells base w ≡ r
-    → HoldsWords (write_on cells r (λ after. write_words after (placed (base + step) step ws))).cells) [
-      | Ok after ↦ λ is. words-written_all after (base + step) step ws (words-written cells after base w holds fits.0 is) fits.1
+words-written_all : (cells : CellMap) (entries : List (ℕ × ℕ)) → HoldsWords cells → AllByRecursion (λ e. IsWord e.1) entries → HoldsWords (write_words cells entries).cells
+words-written_all cells [] holds fits = holds
+words-written_all cells (e ∷ es) holds fits =
+    elim (write_word cells e.0 e.1) as (λ (r : Result CellMap BusFault). write_word cells e.0 e.1 ≡ r → HoldsWords (write_on cells r (λ after. write_words after es)).cells) [
+      | Ok after ↦ λ is. words-written_all after es (words-written cells after e.0 e.1 holds fits.0 is) fits.1
       | Err fault ↦ λ _. holds
     ] refl
+
+-- the words of a block and of a port, beside their addresses
+block-words : (base : ℕ) (words : List ℕ) → AreWords words → AllByRecursion (λ (e : ℕ × ℕ). IsWord e.1) (enumerate_from base words)
+block-words base [] fits = tt
+block-words base (w ∷ ws) fits = (fits.0, block-words (base + 1) ws fits.1)
+
+port-words : (base : ℕ) (words : List ℕ) → AreWords words → AllByRecursion (λ (e : ℕ × ℕ). IsWord e.1) (map (λ word. (base, word)) words)
+port-words base [] fits = tt
+port-words base (w ∷ ws) fits = (fits.0, port-words base ws fits.1)
 
 -- the words that a transaction carries, and the bus after it
 pub record KeepsWords (cells : CellMap) (values : List ℕ) : Type 0 where
@@ -135,10 +140,10 @@ modify-words cells address change holds fits =
     ] refl
 
 pub outcome-words : (cells : CellMap) (op : Op) → HoldsWords cells → AreWords (op_words op) → KeepsWords (outcome cells op).cells (outcome cells op).values
-outcome-words cells (Read base count) holds fits = record { bus = holds; carried = words-read_all cells base 1 count holds }
-outcome-words cells (ReadPort base count) holds fits = record { bus = holds; carried = words-read_all cells base 0 count holds }
-outcome-words cells (Write base words) holds fits = record { bus = words-written_all cells base 1 words holds fits.1; carried = tt }
-outcome-words cells (WritePort base words) holds fits = record { bus = words-written_all cells base 0 words holds fits.1; carried = tt }
+outcome-words cells (Read base count) holds fits = record { bus = holds; carried = words-read_all cells (range_with_len base count) holds }
+outcome-words cells (ReadPort base count) holds fits = record { bus = holds; carried = words-read_all cells (replicate count base) holds }
+outcome-words cells (Write base words) holds fits = record { bus = words-written_all cells (enumerate_from base words) holds (block-words base words fits.1); carried = tt }
+outcome-words cells (WritePort base words) holds fits = record { bus = words-written_all cells (map (λ word. (base, word)) words) holds (port-words base words fits.1); carried = tt }
 outcome-words cells (RmwBits base and_term or_term) holds fits =
     modify-words cells base (masked and_term or_term) holds (λ word small. or_lt 32 (bit_and word and_term) or_term (omega (arith, small, and_le_l word and_term)) fits.1.1.0)
 outcome-words cells (RmwSum base addend) holds fits = modify-words cells base (added addend) holds (λ word small. mod-lt (word + addend) (lit< tt))

@@ -1,5 +1,5 @@
--- The bodies of control packets on a bus: one, and one after another. IPbus 2.0, control packet; that a failed transaction and a bad
--- header end the body is the profile's.
+-- The bodies of control packets on a bus: one, and one after another. IPbus 2.0, control packet; that a failed
+-- transaction and a bad header end the body is the profile's.
 use Rattle.std.specs.Prelude.{ℕ, zero, suc, ◌==◌, if◌then◌else◌, List, [], ◌∷◌, ◌++◌, length, Result, Ok, Err}
 use Rattle.transaction_codec.specs.declared.request.Request.{Request}
 use Rattle.transaction_codec.specs.declared.refusal.Why.{Why}
@@ -25,7 +25,8 @@ run_on first later =
     if first.reply.code == SUCCESS then after_reply (reply_words first.reply) (later first.cells)
     else record { cells = first.cells; reply = reply_words first.reply }
 
--- Where the words begin with no request, one header with info code 1 answers the word there and nothing follows. Profile.
+-- Where the words begin with no request, one header with info code 1 answers the word there and nothing follows.
+-- Profile.
 abbrev pub run_first : CellMap → ℕ → Result (Request × List ℕ) Why → (List ℕ → CellMap → Executed) → Executed
 run_first cells word (Ok (request, rest)) later = run_on (transact cells request) (later rest)
 run_first cells word (Err why) later = record { cells = cells; reply = reply_words (bad_header_reply word) }

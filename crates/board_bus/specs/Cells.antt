@@ -1,9 +1,9 @@
--- The bus as contracts see it: the cells that are there, each with a kind and a word. Addresses and words of 32 bits are those of
--- IPbus 2.0; the kinds are the profile's.
-use Rattle.std.specs.Prelude.{ℕ, ◌^◌, nat_lt, if◌then◌else◌, List, [], ◌∷◌, map, Option, Some, None, IfSome, Result, Ok, Err}
+-- The bus as contracts see it: the cells that are there, each with a kind and a word. Addresses and words of 32 bits
+-- are those of IPbus 2.0; the kinds are the profile's.
+use Rattle.std.specs.Prelude.{ℕ, ◌^◌, nat_lt, if◌then◌else◌, List, [], ◌∷◌, map, Option, Some, None, IfSome, IsTrue, Result, Ok, Err}
 use Rattle.std.specs.Ordering.{nat_cmp}
 use Rattle.std.specs.List.{enumerate_from}
-use Rattle.std.specs.FinMap.Entries.{find, put}
+use Rattle.std.specs.FinMap.Entries.{find, is_sorted, put}
 use Rattle.ipb_base.specs.Word.{IsWord}
 use Rattle.board_bus.specs.declared.kind.RangeKind.{RangeKind}
 use Rattle.board_bus.specs.declared.kind.RangeKind.TheVariants.{Rw, Ro, Wo, Slow}
@@ -15,10 +15,14 @@ pub record Cell : Type 0 where
   pub kind : RangeKind
   pub word : ℕ
 
--- A finite map from addresses to cells: its entries by rising address, as std's `find` and `put` keep them. An address that
--- is in no entry is absent.
+-- A finite map from addresses to cells: its entries by rising address, as std's `find` and `put` keep them. An
+-- address that is in no entry is absent.
 abbrev pub CellMap : Type 0
 CellMap = List (ℕ × Cell)
+
+-- the entries stand by rising address, each address once
+abbrev pub IsInOrder : CellMap → Type 0
+IsInOrder cells = IsTrue (is_sorted nat_cmp cells)
 
 -- The cell at an address. An address is a number of 32 bits (IPbus 2.0): what is past the end is absent (profile).
 abbrev pub cell_at : CellMap → ℕ → Option Cell
@@ -51,11 +55,12 @@ read_cell (Some cell) = unless (read_fault cell.kind) cell.word
 abbrev pub read_word : CellMap → ℕ → Result ℕ BusFault
 read_word cells address = read_cell (cell_at cells address)
 
--- Writing an address changes the word of its cell, and no kind and no other cell; nothing can be written where no cell is.
--- Profile.
+-- Writing an address changes the word of its cell, and no kind and no other cell; nothing can be written where no
+-- cell is. Profile.
 abbrev pub write_cell : CellMap → ℕ → ℕ → Option Cell → Result CellMap BusFault
 write_cell cells address word None = Err WriteError
-write_cell cells address word (Some cell) = unless (write_fault cell.kind) (put nat_cmp address (record cell { word = word }) cells)
+write_cell cells address word (Some cell) =
+    unless (write_fault cell.kind) (put nat_cmp address (record cell { word = word }) cells)
 
 abbrev pub write_word : CellMap → ℕ → ℕ → Result CellMap BusFault
 write_word cells address word = write_cell cells address word (cell_at cells address)

@@ -6,4 +6,3 @@ pub mod Spans
 pub mod Transactions
 pub mod Bodies
 pub mod Answering
-pub mod Progress

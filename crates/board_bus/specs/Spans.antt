@@ -11,7 +11,8 @@ span_of range = record { base = range.base; «end» = end_of range }
 
 -- some span ends past the beginning of the next one
 abbrev pub SomeMeetsNext : List Span → Type 0
-SomeMeetsNext spans = (k : ℕ) × (k + 1 < length spans) × ((d : Span) → (get_or spans (k + 1) d).base < (get_or spans k d).end)
+SomeMeetsNext spans =
+    (k : ℕ) × (k + 1 < length spans) × ((d : Span) → (get_or spans (k + 1) d).base < (get_or spans k d).end)
 
 -- each span ends at the beginning of the next one, or before it
 abbrev pub NoneMeetsNext : List Span → Type 0

@@ -1,4 +1,4 @@
-ghost use Rattle.std.specs.Prelude.{◌≡◌, ◌≢◌, IfOk, OnOk, OnErr, MatchResult, IfErr, None, Some, Option};
+ghost use Rattle.std.specs.Prelude.{◌≡◌, ◌≢◌, ◌≤◌, All, length, IfOk, OnOk, OnErr, MatchResult, IfErr, None, Some, Option};
 ghost use Rattle.std.specs.List.{flat_map, position};
 ghost use Rattle.board_bus.specs.declared.range.BusRefusal.TheVariants.{NoMemory as no_memory};
 ghost use Rattle.board_bus.specs.Cells.{read_fault, read_word, write_fault, write_word};
@@ -18,8 +18,8 @@ struct Block {
     words: Vec<u32>,
 }
 
-/// The words behind the addresses of a board. Contracts see it as a finite map from addresses to cells, each with a kind
-/// and a word; an address that is in no range is absent.
+/// The words behind the addresses of a board. Contracts see it as a finite map from addresses to cells, each with a
+/// kind and a word; an address that is in no range is absent.
 #[derive(Drop)]
 pub struct Bus {
     blocks: Vec<Block>,
@@ -71,8 +71,8 @@ impl Bus {
         Ok(block.words[(address - block.base) as usize])
     }
 
-    /// Writes the word at an address. Code 5 where it is absent or read-only, 7 where it is slow. A refused write changes
-    /// nothing.
+    /// Writes the word at an address. Code 5 where it is absent or read-only, 7 where it is slow. A refused write
+    /// changes nothing.
     pub fn write(&mut self, address: u32, word: u32) -> Result<(), BusFault>
         ensures written { OnOk result (write_word self.old address word ≡ Ok self.new) }
         ensures refused { IfErr result (λ fault. write_word self.old address word ≡ Err fault) }
@@ -98,16 +98,17 @@ fn find_block(blocks: &[Block], address: u32) -> Option<usize>
 }
 
 impl Block {
-    /// The words of a range as it opens.
+    /// The words of a range as it opens: those that it names, then zeros.
     fn open(alloc: Global, range: &Range) -> Result<Block, NoMemory>
+        requires fits { length range.now.init ≤ range.now.size }
         ensures base { IfOk result (λ block. block.base ≡ range.now.base) }
         ensures kind { IfOk result (λ block. block.kind ≡ range.now.kind) }
         ensures words { IfOk result (λ block. block.words.items ≡ opening_words range.now) }
     {
-        let init = range.init.as_slice();
-        let missing = (range.size as usize).saturating_sub(init.len());
-        let mut words = Vec::from_slice(alloc, init)?;
-        words.resize(init.len() + missing, 0)?;
+        let size = range.size as usize;
+        let mut words = Vec::with_capacity(alloc, size)?;
+        words.extend_from_slice(range.init.as_slice())?;
+        words.resize(size, 0)?;
         Ok(Block {
             base: range.base,
             kind: range.kind,
@@ -135,6 +136,7 @@ impl Block {
 }
 
 fn blocks_of(alloc: Global, ranges: &[Range]) -> Result<Vec<Block>, NoMemory>
+    requires fit { All (λ range. length range.init ≤ range.size) ranges.now }
     ensures { IfOk result (λ blocks. flat_map block_cells blocks.items ≡ flat_map range_cells ranges.now) }
 {
     let mut blocks = Vec::with_capacity(alloc, ranges.len())?;

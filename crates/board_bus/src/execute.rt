@@ -1,20 +1,22 @@
 ghost use Rattle.std.specs.Prelude.{◌≡◌, ◌+◌, ◌++◌, ◌≤◌, OnOk, OnErr, length};
 ghost use Rattle.std.specs.Vec.{vec_len, vec_capacity};
+ghost use Rattle.transaction_codec.specs.Answer.{reply_room};
 ghost use Rattle.board_bus.specs.Bodies.{run_body};
 
 use crate::Bus;
 use crate::room::push_within;
 use ipb_base::NoMemory;
-use transaction_codec::info_code::SUCCESS;
-use transaction_codec::{bad_header_reply, first_request, reply_room};
+use transaction_codec::{LONGEST_BODY, bad_header_reply, first_request, reply_room};
 
 impl Bus {
-    /// Executes the body of a control packet, at most 65,536 words, and appends the reply to it. Requests are executed in order
-    /// while each succeeds. It takes its room first: after want of memory the bus and `out` are as they were.
+    /// Executes the body of a control packet, at most `LONGEST_BODY` words, and appends the reply to it. Requests are
+    /// executed in order while each succeeds. It takes its room first: after want of memory the bus and `out` are as
+    /// they were.
     pub fn execute(&mut self, body: &[u32], out: &mut Vec<u32>) -> Result<(), NoMemory>
-        requires { length body.now ≤ 65536 }
+        requires { length body.now ≤ LONGEST_BODY }
         ensures bus { OnOk result (self.new ≡ (run_body self.old body.now).cells) }
         ensures reply { OnOk result (out.new.items ≡ out.old.items ++ (run_body self.old body.now).reply) }
+        ensures room { OnOk result (length out.new.items ≤ length out.old.items + reply_room body.now) }
         ensures bus_unchanged { OnErr result (self.new ≡ self.old) }
         ensures out_unchanged { OnErr result (out.new.items ≡ out.old.items) }
     {
@@ -35,7 +37,7 @@ impl Bus {
                 push_within(out, bad_header_reply(rest[0]));
                 return;
             };
-            if self.transact(&first, out) != SUCCESS {
+            if self.transact(&first, out).is_err() {
                 return;
             }
             rest = first.rest;

@@ -18,7 +18,7 @@ pub enum RangeKind {
 
 impl RangeKind {
     /// Why a read is refused, if it is.
-    pub fn read_fault(self) -> Option<BusFault>
+    pub(crate) fn read_fault(self) -> Option<BusFault>
         ensures { result ≡ read_fault self }
     {
         match self {
@@ -29,7 +29,7 @@ impl RangeKind {
     }
 
     /// Why a write is refused, if it is.
-    pub fn write_fault(self) -> Option<BusFault>
+    pub(crate) fn write_fault(self) -> Option<BusFault>
         ensures { result ≡ write_fault self }
     {
         match self {

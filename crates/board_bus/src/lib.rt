@@ -1,6 +1,8 @@
-//! The bus of a board: a map from addresses to words, in ranges of four kinds, on which IPbus 2.0 transactions are executed.
+//! The bus of a board: a map from addresses to words, in ranges of four kinds, on which IPbus 2.0 transactions are
+//! executed.
 #![tactic(auto)]
 
+mod addressing;
 mod bus;
 pub mod examples;
 mod execute;

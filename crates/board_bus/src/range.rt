@@ -1,12 +1,12 @@
 ghost use Rattle.std.specs.Prelude.{◌≡◌, ◌≢◌, OnOk, IfOk, IfErr, MatchBool, Some, None, sum_by, map, nat_lt, false};
 ghost use Rattle.std.specs.List.{list_any};
 ghost use Rattle.board_bus.specs.declared.range.BusRefusal.TheVariants.{NoMemory as no_memory};
-ghost use Rattle.board_bus.specs.Ranges.{any_pair, is_empty_range, is_init_long, is_past_end, refusal_of, share_address};
+ghost use Rattle.board_bus.specs.Ranges.{any_pair, end_of, is_empty_range, is_init_long, is_past_end, refusal_of, share_address};
 ghost use Rattle.board_bus.specs.Spans.{span_of, SomeMeetsNext, NoneMeetsNext};
 
 use crate::RangeKind;
 use ipb_base::{NoMemory, Words};
-use std::alloc::{AllocError, AllocFailed, Global};
+use std::alloc::Global;
 
 /// The most words that the ranges of a bus may have together. Profile.
 pub const MAX_WORDS: u64 = 4_194_304;
@@ -21,26 +21,27 @@ pub struct Range {
     pub base: u32,
     /// How many addresses there are, each of one word.
     pub size: u32,
+    /// What may be done at them.
     pub kind: RangeKind,
     /// The words of the first addresses; those after them start as 0.
     pub init: Words,
 }
 
-/// Why a list of ranges is no bus: the first of these rules that it breaks.
+/// Why a list of ranges is no bus: the first of these rules, in this order, that it breaks. Profile.
 #[derive(Clone, Copy, Debug, PartialEq, Eq)]
 pub enum BusRefusal {
     /// A range has no address.
-    Empty = 1,
+    Empty,
     /// A range ends past address 0xffffffff.
-    PastEnd = 2,
+    PastEnd,
     /// Two ranges share an address.
-    Overlap = 3,
+    Overlap,
     /// The ranges have more than `MAX_WORDS` words together.
-    TooLarge = 4,
+    TooLarge,
     /// A range starts with more words than it has addresses.
-    InitLong = 5,
+    InitLong,
     /// Memory ran out.
-    NoMemory = 6,
+    NoMemory,
 }
 
 impl From<NoMemory> for BusRefusal {
@@ -51,19 +52,12 @@ impl From<NoMemory> for BusRefusal {
     }
 }
 
-impl From<AllocError> for BusRefusal {
-    ghost from_gives = { λ _ refusal. refusal ≡ no_memory };
-
-    fn from(_error: AllocError) -> BusRefusal {
-        BusRefusal::NoMemory
-    }
-}
-
-impl<T: Drop> From<AllocFailed<T>> for BusRefusal {
-    ghost from_gives = { λ _ refusal. refusal ≡ no_memory };
-
-    fn from(_error: AllocFailed<T>) -> BusRefusal {
-        BusRefusal::NoMemory
+impl Range {
+    /// The address after its last one.
+    fn end(&self) -> u64
+        ensures { result ≡ end_of self.now }
+    {
+        u64::from(self.base) + u64::from(self.size)
     }
 }
 
@@ -102,7 +96,7 @@ fn any_empty(ranges: &[Range]) -> bool
 fn any_past_end(ranges: &[Range]) -> bool
     ensures { result ≡ list_any is_past_end ranges.now }
 {
-    ranges.iter().any(|range| u64::from(range.base) + u64::from(range.size) > ADDRESSES)
+    ranges.iter().any(|range| range.end() > ADDRESSES)
 }
 
 /// Whether a range starts with more words than it has addresses.
@@ -153,7 +147,7 @@ fn spans_of(alloc: Global, ranges: &[Range]) -> Result<Vec<Span>, NoMemory>
         .iter()
         .map(|range| Span {
             base: u64::from(range.base),
-            end: u64::from(range.base) + u64::from(range.size),
+            end: range.end(),
         })
         .collect(alloc)?;
     Ok(spans)

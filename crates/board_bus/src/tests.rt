@@ -4,6 +4,7 @@ use super::*;
 use std::alloc::Global;
 use std::process::Abort;
 use std::test::*;
+use transaction_codec::LONGEST_BODY;
 
 fn range(
     alloc: Global,
@@ -32,6 +33,7 @@ fn ranges(alloc: Global) -> Result<Vec<Range>, NoMemory> {
     Ok(list)
 }
 
+/// The reply is appended to the words that stand there.
 fn expect_reply(
     rt: &impl Abort,
     alloc: Global,
@@ -39,11 +41,12 @@ fn expect_reply(
     body: &[u32],
     reply: &[u32],
 ) -> Result<(), NoMemory>
-    requires { length body.now ≤ 65536 }
+    requires { length body.now ≤ LONGEST_BODY }
 {
-    let mut out = Vec::new(alloc);
+    let mut out = Vec::from_slice(alloc, &[0x200000f0])?;
     bus.execute(body, &mut out)?;
-    assert_eq!(rt; out.as_slice(), reply);
+    assert_eq!(rt; out[0], 0x200000f0);
+    assert_eq!(rt; &out[1..], reply);
     Ok(())
 }
 
@@ -51,18 +54,17 @@ fn expect_reply(
 fn bodies_are_answered(rt: HostRuntime) -> Result<(), Fail> {
     let alloc = rt.alloc();
     let mut bus = Bus::new(alloc, &ranges(alloc)?)?;
-    let cases: [(&[u32], &[u32]); 9] = [
+    let cases: [(&[u32], &[u32]); 5] = [
         (&[], &[]),
         (
             &[0x2000_010f, 4, 0x2001_016f, 0],
             &[0x2000_0100, 0xabcd, 0x2001_0001],
         ),
-        // The top bit of word 8, and then every bit of it and 1 more.
+        // The top bit of word 8, and then 1 more than every bit of it.
         (
             &[0x2000_014f, 8, 0x7fff_ffff, 0x8000_0000],
             &[0x2000_0140, 0],
         ),
-        (&[0x2000_010f, 8], &[0x2000_0100, 0x8000_0000]),
         (
             &[
                 0x2000_011f,
@@ -76,19 +78,32 @@ fn bodies_are_answered(rt: HostRuntime) -> Result<(), Fail> {
             ],
             &[0x2000_0110, 0x2001_0150, 0xffff_ffff, 0x2002_0100, 0],
         ),
+        // One address twice, written and read.
+        (
+            &[0x2000_023f, 0x21, 1, 2, 0x2001_022f, 4],
+            &[0x2000_0230, 0x2001_0220, 0xabcd, 0xabcd],
+        ),
+    ];
+    for (body, reply) in cases {
+        assert!(rt; body.len() <= 8);
+        expect_reply(&rt, alloc, &mut bus, body, reply)?;
+    }
+    Ok(())
+}
+
+#[test]
+fn failing_bodies_are_answered(rt: HostRuntime) -> Result<(), Fail> {
+    let alloc = rt.alloc();
+    let mut bus = Bus::new(alloc, &ranges(alloc)?)?;
+    let cases: [(&[u32], &[u32]); 3] = [
         // Ten words where there are eight, and nothing after it.
         (
             &[0x2000_0a0f, 0x100, 0x2001_010f, 4],
             &[0x2000_0804, 0, 0, 0, 0, 0, 0, 0, 0],
         ),
         (&[0x2000_020f, 0xffff_ffff], &[0x2000_0104, 7]),
-        // One address twice, written and read.
-        (
-            &[0x2000_023f, 0x21, 1, 2, 0x2001_022f, 4],
-            &[0x2000_0230, 0x2001_0220, 0xabcd, 0xabcd],
-        ),
-        // A slow address ends both.
-        (&[0x2000_011f, 0x22, 1], &[0x2000_0017]),
+        // A slow address ends the body.
+        (&[0x2000_011f, 0x22, 1, 0x2001_010f, 4], &[0x2000_0017]),
     ];
     for (body, reply) in cases {
         assert!(rt; body.len() <= 8);

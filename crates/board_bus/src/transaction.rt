@@ -1,51 +1,51 @@
 ghost use Rattle.std.specs.Prelude.{◌≡◌, ◌+◌, ◌++◌, ◌∷◌, [], ◌<◌, ◌≤◌, ◌^◌, OnOk, OnErr, IfErr, Ok, Err, length};
+ghost use Rattle.std.specs.Result.{result_err};
 ghost use Rattle.std.specs.Vec.{vec_len, vec_capacity};
 ghost use Rattle.transaction_codec.specs.First.{request_of};
 ghost use Rattle.transaction_codec.specs.Request.{IsRequest};
 ghost use Rattle.transaction_codec.specs.Reply.{reply_words};
+ghost use Rattle.board_bus.specs.Fault.{info_code};
 ghost use Rattle.board_bus.specs.Cells.{read_word, write_word};
-ghost use Rattle.board_bus.specs.Transactions.{added, addresses, code_of_reading, masked, modify, of_reading, of_writing, placed, transact, words_read, write_words};
-ghost use Rattle.board_bus.specs.Answering.{IsModified, modified_code, modified_words, outcome_words};
+ghost use Rattle.board_bus.specs.Transactions.{added, fault_of_reading, masked, modify, of_reading, of_writing, outcome, transact, words_read, write_words};
+ghost use Rattle.board_bus.specs.Answering.{IsModified, addresses, modified_words, outcome_words, placed, read_type, write_type};
 
+use crate::addressing::Addressing::{self, Block, Port};
 use crate::room::push_within;
 use crate::{Bus, BusFault};
 use transaction_codec::info_code::SUCCESS;
-use transaction_codec::transaction_type::{READ, READ_PORT, RMW_BITS, RMW_SUM, WRITE, WRITE_PORT};
+use transaction_codec::transaction_type::{RMW_BITS, RMW_SUM};
 use transaction_codec::{FirstRequest, OpRef, header};
 
-/// How far apart the addresses of a block are, and those of a port.
-const BLOCK: u64 = 1;
-
-const PORT: u64 = 0;
-
-/// How many words were written, and the info code.
+/// How many words were written, and the refusal that ended the write, if one did.
 #[derive(Clone, Copy)]
 struct Written {
     done: u8,
-    code: u8,
+    ended: Result<(), BusFault>,
 }
 
 impl Bus {
-    /// Executes one request and appends its reply, for which `out` has room. Answers the info code of the reply.
-    pub(crate) fn transact(&mut self, request: &FirstRequest<'_>, out: &mut Vec<u32>) -> u8
+    /// Executes one request and appends its reply, for which `out` has room. Answers the refusal that ended it, if
+    /// one did.
+    pub(crate) fn transact(
+        &mut self,
+        request: &FirstRequest<'_>,
+        out: &mut Vec<u32>,
+    ) -> Result<(), BusFault>
         requires request { IsRequest (request_of request.now) }
         requires room { vec_len out.old + length (reply_words (transact self.old (request_of request.now)).reply)
             ≤ vec_capacity out.old }
         ensures bus { self.new ≡ (transact self.old (request_of request.now)).cells }
-        ensures reply { out.new.items ≡ out.old.items ++ reply_words (transact self.old (request_of request.now)).reply }
-        ensures code { result ≡ (transact self.old (request_of request.now)).reply.code }
+        ensures reply { out.new.items
+            ≡ out.old.items ++ reply_words (transact self.old (request_of request.now)).reply }
+        ensures fault { result_err result ≡ (outcome self.old (request_of request.now).op).fault }
         ensures capacity { vec_capacity out.old ≤ vec_capacity out.new }
     {
         let tid = request.tid;
         match request.op {
-            OpRef::Read { base, count } => self.answer_read(tid, READ, base, BLOCK, count, out),
-            OpRef::ReadPort { base, count } => self.answer_read(
-                tid, READ_PORT, base, PORT, count, out,
-            ),
-            OpRef::Write { base, words } => self.answer_write(tid, WRITE, base, BLOCK, words, out),
-            OpRef::WritePort { base, words } => self.answer_write(
-                tid, WRITE_PORT, base, PORT, words, out,
-            ),
+            OpRef::Read { base, count } => self.answer_read(tid, Block, base, count, out),
+            OpRef::ReadPort { base, count } => self.answer_read(tid, Port, base, count, out),
+            OpRef::Write { base, words } => self.answer_write(tid, Block, base, words, out),
+            OpRef::WritePort { base, words } => self.answer_write(tid, Port, base, words, out),
             OpRef::RmwBits {
                 base,
                 and_term,
@@ -65,65 +65,70 @@ impl Bus {
     fn answer_read(
         &self,
         tid: u16,
-        kind: u8,
+        addressing: Addressing,
         base: u32,
-        step: u64,
         count: u32,
         out: &mut Vec<u32>,
-    ) -> u8
+    ) -> Result<(), BusFault>
         requires tid { tid < 2 ^ 12 }
-        requires kind { kind < 2 ^ 4 }
-        requires step { step ≤ 1 }
         requires count { count < 2 ^ 8 }
-        requires room { vec_len out.old + length (outcome_words tid kind (of_reading self.now (addresses base step count)))
+        requires room { vec_len out.old
+            + length (outcome_words tid (read_type addressing) (of_reading self.now (addresses addressing base count)))
             ≤ vec_capacity out.old }
-        ensures reply { out.new.items
-            ≡ out.old.items ++ outcome_words tid kind (of_reading self.now (addresses base step count)) }
-        ensures code { result ≡ (of_reading self.now (addresses base step count)).code }
+        ensures reply { out.new.items ≡ out.old.items
+            ++ outcome_words tid (read_type addressing) (of_reading self.now (addresses addressing base count)) }
+        ensures fault { result_err result ≡ fault_of_reading self.now (addresses addressing base count) }
         ensures capacity { vec_capacity out.old ≤ vec_capacity out.new }
     {
         let place = out.len();
+        // A place for the header, whose count is known only after the words.
         push_within(out, 0);
-        let code = self.read_words(base, step, count, out);
+        let ended = self.read_words(addressing, base, count, out);
         let done = (out.len() - place - 1) as u8;
-        out[place] = header(tid, done, kind, code);
-        code
+        out[place] = header(tid, done, addressing.read_type(), info_code(ended));
+        ended
     }
 
-    /// Appends the words at `base`, `base + step`, .. up to the first that is refused. Answers the info code.
-    fn read_words(&self, base: u32, step: u64, count: u32, out: &mut Vec<u32>) -> u8
-        requires step { step ≤ 1 }
-        requires room { vec_len out.old + length (words_read self.now (addresses base step count)) ≤ vec_capacity out.old }
-        ensures words { out.new.items ≡ out.old.items ++ words_read self.now (addresses base step count) }
-        ensures code { result ≡ code_of_reading self.now (addresses base step count) }
+    /// Appends the words of a block or of a port, up to the first that is refused.
+    fn read_words(
+        &self,
+        addressing: Addressing,
+        base: u32,
+        count: u32,
+        out: &mut Vec<u32>,
+    ) -> Result<(), BusFault>
+        requires count { count < 2 ^ 8 }
+        requires room { vec_len out.old + length (words_read self.now (addresses addressing base count))
+            ≤ vec_capacity out.old }
+        ensures words { out.new.items ≡ out.old.items ++ words_read self.now (addresses addressing base count) }
+        ensures fault { result_err result ≡ fault_of_reading self.now (addresses addressing base count) }
         ensures capacity { vec_capacity out.old ≤ vec_capacity out.new }
     {
+        let step = addressing.step();
         let mut address = u64::from(base);
         for done in 0..count {
-            match self.read_at(address) {
-                Ok(word) => push_within(out, word),
-                Err(fault) => return fault.code(),
-            }
+            let word = self.read_at(address)?;
+            push_within(out, word);
             address += step;
         }
-        SUCCESS
+        Ok(())
     }
 
-    /// Writes the words at `base`, `base + step`, .. up to the first that is refused.
-    fn write_words(&mut self, base: u32, step: u64, words: &[u32]) -> Written
-        requires step { step ≤ 1 }
+    /// Writes the words of a block or of a port, up to the first that is refused.
+    fn write_words(&mut self, addressing: Addressing, base: u32, words: &[u32]) -> Written
         requires count { length words.now < 2 ^ 8 }
-        ensures bus { self.new ≡ (write_words self.old (placed base step words.now)).cells }
-        ensures done { result.done ≡ (write_words self.old (placed base step words.now)).done }
-        ensures code { result.code ≡ (write_words self.old (placed base step words.now)).code }
+        ensures bus { self.new ≡ (write_words self.old (placed addressing base words.now)).cells }
+        ensures done { result.done ≡ (write_words self.old (placed addressing base words.now)).done }
+        ensures fault { result_err result.ended ≡ (write_words self.old (placed addressing base words.now)).fault }
     {
+        let step = addressing.step();
         let mut address = u64::from(base);
         let mut done = 0;
         for word in words {
             if let Err(fault) = self.write_at(address, *word) {
                 return Written {
                     done,
-                    code: fault.code(),
+                    ended: Err(fault),
                 };
             }
             address += step;
@@ -131,7 +136,7 @@ impl Bus {
         }
         Written {
             done,
-            code: SUCCESS,
+            ended: Ok(()),
         }
     }
 
@@ -139,26 +144,28 @@ impl Bus {
     fn answer_write(
         &mut self,
         tid: u16,
-        kind: u8,
+        addressing: Addressing,
         base: u32,
-        step: u64,
         words: &[u32],
         out: &mut Vec<u32>,
-    ) -> u8
+    ) -> Result<(), BusFault>
         requires tid { tid < 2 ^ 12 }
-        requires kind { kind < 2 ^ 4 }
-        requires step { step ≤ 1 }
         requires count { length words.now < 2 ^ 8 }
         requires room { vec_len out.old < vec_capacity out.old }
-        ensures bus { self.new ≡ (write_words self.old (placed base step words.now)).cells }
-        ensures reply { out.new.items
-            ≡ out.old.items ++ outcome_words tid kind (of_writing (write_words self.old (placed base step words.now))) }
-        ensures code { result ≡ (write_words self.old (placed base step words.now)).code }
+        ensures bus { self.new ≡ (write_words self.old (placed addressing base words.now)).cells }
+        ensures reply { out.new.items ≡ out.old.items
+            ++ outcome_words tid (write_type addressing)
+            (of_writing (write_words self.old (placed addressing base words.now))) }
+        ensures fault { result_err result ≡ (write_words self.old (placed addressing base words.now)).fault }
         ensures capacity { vec_capacity out.old ≤ vec_capacity out.new }
     {
-        let written = self.write_words(base, step, words);
-        push_within(out, header(tid, written.done, kind, written.code));
-        written.code
+        let written = self.write_words(addressing, base, words);
+        let code = info_code(written.ended);
+        push_within(
+            out,
+            header(tid, written.done, addressing.write_type(), code),
+        );
+        written.ended
     }
 
     /// Replaces the word X at an address by (X AND `and_term`) OR `or_term`, and answers X.
@@ -202,24 +209,40 @@ impl Bus {
     }
 }
 
+/// The info code of a transaction that ended so.
+fn info_code(ended: Result<(), BusFault>) -> u8
+    ensures value { result ≡ info_code (result_err ended) }
+    ensures fits { result < 2 ^ 4 }
+{
+    match ended {
+        Ok(()) => SUCCESS,
+        Err(fault) => fault.code(),
+    }
+}
+
 /// Appends the reply to a change of one word, which carries the word before.
-fn answer_modified(tid: u16, kind: u8, modified: Result<u32, BusFault>, out: &mut Vec<u32>) -> u8
+fn answer_modified(
+    tid: u16,
+    kind: u8,
+    modified: Result<u32, BusFault>,
+    out: &mut Vec<u32>,
+) -> Result<(), BusFault>
     requires tid { tid < 2 ^ 12 }
     requires kind { kind < 2 ^ 4 }
     requires room { vec_len out.old + length (modified_words tid kind modified) ≤ vec_capacity out.old }
     ensures reply { out.new.items ≡ out.old.items ++ modified_words tid kind modified }
-    ensures code { result ≡ modified_code modified }
+    ensures fault { result_err result ≡ result_err modified }
     ensures capacity { vec_capacity out.old ≤ vec_capacity out.new }
 {
     match modified {
         Ok(before) => {
             push_within(out, header(tid, 1, kind, SUCCESS));
             push_within(out, before);
-            SUCCESS
+            Ok(())
         }
         Err(fault) => {
             push_within(out, header(tid, 0, kind, fault.code()));
-            fault.code()
+            Err(fault)
         }
     }
 }

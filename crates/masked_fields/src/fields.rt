@@ -6,7 +6,7 @@ ghost use Rattle.masked_fields.specs.Field.{IsShift, shift, field, shifted, Fits
 #[derive(Clone, Copy, Debug, PartialEq, Eq)]
 pub struct BitsOutside;
 
-/// How far a field under this mask stands above bit 0: the greatest number `z` such that 2^z divides the mask,
+/// How far a field under this mask stands above bit 0 (uHAL): the greatest number `z` such that 2^z divides the mask,
 /// 0 to 31.
 pub fn shift_of(mask: u32) -> u32
     requires { 0 < mask }
@@ -17,7 +17,8 @@ pub fn shift_of(mask: u32) -> u32
     mask.trailing_zeros()
 }
 
-/// The field of a word under a mask.
+/// The field of a word under a mask (uHAL): the bits of the word under the mask, moved down so that the lowest bit of
+/// the mask is bit 0.
 pub fn extract(word: u32, mask: u32) -> u32
     requires { 0 < mask }
     ensures field { result ≡ field word mask }

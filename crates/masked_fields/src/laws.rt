@@ -11,18 +11,19 @@ pub fn a_mask_has_one_shift()
 
 /// A value that is put into a field is read from it again, and the bits outside the mask stay as they were.
 pub fn a_field_gives_back_what_was_put()
-    ensures inside { (word mask value : ℕ) → 0 < mask → mask < 2 ^ 32 → word < 2 ^ 32 → FitsMask mask value →
-        field (put_field word mask value) mask ≡ value }
-    ensures outside { (word mask value : ℕ) → 0 < mask → mask < 2 ^ 32 → word < 2 ^ 32 → FitsMask mask value →
-        bit_and (put_field word mask value) (bit_not w32 mask) ≡ bit_and word (bit_not w32 mask) }
-    ensures word { (word mask value : ℕ) → 0 < mask → mask < 2 ^ 32 → word < 2 ^ 32 → FitsMask mask value →
-        put_field word mask value < 2 ^ 32 }
+    ensures inside { (word mask value : ℕ) → 0 < mask → mask < 2 ^ 32 → word < 2 ^ 32
+        → FitsMask mask value → field (put_field word mask value) mask ≡ value }
+    ensures outside { (word mask value : ℕ) → 0 < mask → mask < 2 ^ 32 → word < 2 ^ 32
+        → FitsMask mask value → bit_and (put_field word mask value) (bit_not w32 mask) ≡ bit_and word (bit_not w32 mask) }
+    ensures word { (word mask value : ℕ) → 0 < mask → mask < 2 ^ 32 → word < 2 ^ 32
+        → FitsMask mask value → put_field word mask value < 2 ^ 32 }
 {}
 
 /// The field of a word fits its mask, and to put it back changes nothing.
 pub fn a_field_put_back_changes_nothing()
     ensures fits { (word mask : ℕ) → 0 < mask → mask < 2 ^ 32 → FitsMask mask (field word mask) }
-    ensures same { (word mask : ℕ) → 0 < mask → mask < 2 ^ 32 → word < 2 ^ 32 → put_field word mask (field word mask) ≡ word }
+    ensures same { (word mask : ℕ) → 0 < mask → mask < 2 ^ 32 → word < 2 ^ 32
+        → put_field word mask (field word mask) ≡ word }
 {}
 
 /// The values that fit a mask are the fields of words.
@@ -41,7 +42,8 @@ pub fn the_terms_share_no_bit()
 pub fn the_full_mask_is_the_word()
     ensures shift { shift 0xffff_ffff ≡ 0 }
     ensures field { (word : ℕ) → word < 2 ^ 32 → field word 0xffff_ffff ≡ word }
-    ensures put { (word value : ℕ) → word < 2 ^ 32 → value < 2 ^ 32 → put_field word 0xffff_ffff value ≡ value }
+    ensures put { (word value : ℕ) → word < 2 ^ 32 → value < 2 ^ 32
+        → put_field word 0xffff_ffff value ≡ value }
 {}
 
 /// Fields of 8 bits, of one bit, and under a mask with a gap.

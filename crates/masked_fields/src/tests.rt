@@ -21,6 +21,7 @@ fn terms_of_values(rt: HostRuntime) {
         (0x0000_ff00, 0xab, Ok((0xffff_00ff, 0x0000_ab00))),
         (0xffff_ffff, 0xffff_ffff, Ok((0, 0xffff_ffff))),
         (0x8000_0000, 1, Ok((0x7fff_ffff, 0x8000_0000))),
+        (0x8000_0000, 2, Err(BitsOutside)),
         (0x0000_ff00, 0x100, Err(BitsOutside)),
         (0xff00_0000, 0x100, Err(BitsOutside)),
         (0x00f0_0f00, 0x0010, Err(BitsOutside)),

@@ -4,8 +4,7 @@ use Rattle.std.proofs.Common.{◌≡◌, ℕ, ◌+◌, ◌*◌, ◌/◌, ◌%◌
 use Rattle.std.proofs.lemmas.Bool.{eqb-true}
 use Rattle.std.proofs.lemmas.Nat.{or_shifted}
 use Rattle.packet_codec.specs.declared.header.Header.{Header}
-use Rattle.packet_codec.specs.Header.{packet_header}
-use Rattle.packet_codec.specs.Reading.{header_of}
+use Rattle.packet_codec.specs.Header.{packet_header, header_of}
 
 -- the fields share no bit, so joining them is adding them
 pub fields_joined : (id kind : ℕ) → id < 2 ^ 16 → kind < 2 ^ 4

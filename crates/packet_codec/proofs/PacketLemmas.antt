@@ -1,9 +1,9 @@
 -- Packets, written and read.
 use Rattle.std.specs.Prelude.{is_ok, IfOk, IsOk, MatchResult, ◌↔◌}
-use Rattle.std.proofs.Common.{◌≡◌, ◌^◌, ◌≢◌, ℕ, ◌*◌, ◌%◌, ◌<◌, ◌≤◌, false, List, [], ◌∷◌, ◌++◌, length, get_or, take, drop, All, Result, Ok, Err, refl, sym, ap, subst, ◌∙◌, inl, inr, arith, lit<, take-append-drop}
+use Rattle.std.proofs.Common.{◌≡◌, ◌^◌, ◌≢◌, ℕ, ◌*◌, ◌%◌, ◌<◌, ◌≤◌, false, List, [], ◌∷◌, ◌++◌, length, get_or, take, drop, Result, Ok, Err, refl, sym, ap, subst, ◌∙◌, inl, inr, arith, take-append-drop, Fits, w8}
 use Rattle.std.proofs.lemmas.Bool.{cases_lt}
 use Rattle.std.proofs.lemmas.Bool.Decides.{nat_tests}
-use Rattle.std.proofs.lemmas.List.{take_at, drop_at, length-take, length-drop, get_or_past}
+use Rattle.std.proofs.lemmas.List.{take_at, drop_at, length-take, length-drop}
 use Rattle.packet_codec.specs.declared.packet.TheConstants.{MAX_PACKET_WORDS}
 use Rattle.packet_codec.specs.declared.packet.Order.{Order}
 use Rattle.packet_codec.specs.declared.packet.Order.TheVariants.{Big, Little}
@@ -14,9 +14,9 @@ use Rattle.packet_codec.specs.declared.packet.BadPacket.TheVariants as faults
 use Rattle.packet_codec.specs.declared.reading.Start.{Start}
 use Rattle.packet_codec.specs.Header.{kind_code, packet_header}
 use Rattle.packet_codec.specs.Packet.{in_order, word_in_order, packet_words, packet_bytes, IsPacket}
-use Rattle.packet_codec.specs.Faults.{AreWholeWords, IsTooLong, HasAllowedHeader, HasUnknownKind, IsSpelling}
+use Rattle.packet_codec.specs.Faults.{HasPacketLength, IsTooLong, HasAllowedHeader, HasUnknownKind, IsSpelling}
 use Rattle.packet_codec.specs.Reading.{words_of, start_of, length_rule, ◌>>=◌, packet_of, Gives}
-use Rattle.packet_codec.proofs.WordLemmas.{IsBytes, IsBytes-take, IsBytes-drop, length-word, in_order-cons, length-in_order, words_again, words_back, words_fit, length-words_of}
+use Rattle.packet_codec.proofs.WordLemmas.{IsBytes, IsBytes-take, IsBytes-drop, length-word, length-in_order, words_again, words_back, words_fit, length-words_of}
 use Rattle.packet_codec.proofs.StartLemmas.{IsStart, start_bytes, start_again, StartVerdict, start_verdict, kind_code-below, unknown_start}
 
 -- ---- the rules on the length
@@ -35,7 +35,7 @@ length_long n whole long = grind (arith, nat_tests)
 abbrev made : Start → List ℕ → Packet
 made start rest = record { order = start.order; id = start.id; kind = start.kind; body = words_of start.order rest }
 
-packet_by : (bytes : List ℕ) → AreWholeWords bytes → packet_of bytes ≡ (start_of (take 4 bytes) >>= λ start. Ok (made start (drop 4 bytes)))
+packet_by : (bytes : List ℕ) → HasPacketLength bytes → packet_of bytes ≡ (start_of (take 4 bytes) >>= λ start. Ok (made start (drop 4 bytes)))
 unfolding packet_of
 packet_by bytes is =
     ap (λ (rule : Result (Unit {0}) BadPacket). rule >>= λ _. start_of (take 4 bytes) >>= λ start. Ok (made start (drop 4 bytes))) (length_whole (length bytes) is.some is.whole is.short)
@@ -47,7 +47,7 @@ packet_by_length bytes fault e =
 
 -- ---- what is written is read
 
-pub written_whole : (packet : Packet) → IsPacket packet → AreWholeWords (packet_bytes packet)
+pub written_whole : (packet : Packet) → IsPacket packet → HasPacketLength (packet_bytes packet)
 written_whole packet is =
     let count = length-in_order packet.order (packet_words packet) in
     let short = is.length in
@@ -56,12 +56,11 @@ written_whole packet is =
 pub packet_again : (packet : Packet) → IsPacket packet → packet_of (packet_bytes packet) ≡ Ok packet
 packet_again packet is =
     let header = packet_header packet.id (kind_code packet.kind) in
-    let parts = in_order-cons packet.order header packet.body in
     let start : Start = record { order = packet.order; id = packet.id; kind = packet.kind } in
     let front : take 4 (packet_bytes packet) ≡ start_bytes start =
-    ap (λ (bytes : List ℕ). take 4 bytes) parts ∙ take_at (word_in_order packet.order header) (in_order packet.order packet.body) 4 (length-word packet.order header) in
+    take_at (word_in_order packet.order header) (in_order packet.order packet.body) 4 (length-word packet.order header) in
     let back : drop 4 (packet_bytes packet) ≡ in_order packet.order packet.body =
-    ap (λ (bytes : List ℕ). drop 4 bytes) parts ∙ drop_at (word_in_order packet.order header) (in_order packet.order packet.body) 4 (length-word packet.order header) in
+    drop_at (word_in_order packet.order header) (in_order packet.order packet.body) 4 (length-word packet.order header) in
     let read : start_of (take 4 (packet_bytes packet)) ≡ Ok start = ap start_of front ∙ start_again start (record { id = is.id; order = is.order }) in
     let body : words_of packet.order (drop 4 (packet_bytes packet)) ≡ packet.body = ap (words_of packet.order) back ∙ words_again packet.order packet.body is.body in
     packet_by (packet_bytes packet) (written_whole packet is)
@@ -87,6 +86,20 @@ first_byte_little packet is order-is =
     ∙ ap (λ (kind : PacketKind). get_or (in_order Little (packet_header packet.id (kind_code kind) ∷ packet.body)) 0 0) (is.order order-is)
     ∙ first_little packet.id packet.body
 
+-- a little-endian header of a status packet is allowed in no order
+first_of : (order : Order) (id kind : ℕ) (rest : List ℕ) → 0xf1 ∷ 1 ∷ 0 ∷ 0x20 ∷ [] ≡ word_in_order order (packet_header id kind) ++ rest
+    → get_or (word_in_order order (packet_header id kind)) 0 0 ≡ 0xf1
+first_of Big id kind rest e = sym (ap (λ (bytes : List ℕ). get_or bytes 0 0) e)
+first_of Little id kind rest e = sym (ap (λ (bytes : List ℕ). get_or bytes 0 0) e)
+
+pub no_little_status : ¬ HasAllowedHeader (0xf1 ∷ 1 ∷ 0 ∷ 0x20 ∷ [])
+no_little_status (inl (kind, kind_fits, header)) =
+    let first = first_of Big header.id kind header.begins.0 header.begins.1 in
+    let id_fits = header.id_fits in absurd (omega (arith, first, first_big header.id kind [] id_fits kind_fits))
+no_little_status (inr header) =
+    let first = first_of Little header.id 0 header.begins.0 header.begins.1 in
+    absurd (omega (arith, first, first_little header.id []))
+
 -- ---- what reading says of the bytes
 
 abbrev pub Verdict : Result Packet BadPacket → List ℕ → Type 0
@@ -94,20 +107,18 @@ Verdict (Ok packet) bytes = IsPacket packet × (bytes ≡ packet_bytes packet)
 Verdict (Err faults.Empty) bytes = bytes ≡ []
 Verdict (Err faults.Ragged) bytes = length bytes % 4 ≢ 0
 Verdict (Err faults.Long) bytes = IsTooLong bytes
-Verdict (Err faults.Header) bytes = AreWholeWords bytes × ¬ HasAllowedHeader bytes
-Verdict (Err faults.Kind) bytes = AreWholeWords bytes × HasUnknownKind bytes
+Verdict (Err faults.Header) bytes = HasPacketLength bytes × ¬ HasAllowedHeader bytes
+Verdict (Err faults.Kind) bytes = HasPacketLength bytes × HasUnknownKind bytes
 Verdict (Err faults.NoMemory) bytes = ⊥
 
 -- the first word of bytes that begin with it
-front_is : (order : Order) (word : ℕ) (bytes rest : List ℕ) → bytes ≡ in_order order (word ∷ []) ++ rest → take 4 bytes ≡ word_in_order order word
-front_is Big word bytes rest e = ap (λ (b : List ℕ). take 4 b) e
-front_is Little word bytes rest e = ap (λ (b : List ℕ). take 4 b) e
+front_is : (order : Order) (word : ℕ) (bytes rest : List ℕ) → bytes ≡ word_in_order order word ++ rest → take 4 bytes ≡ word_in_order order word
+front_is order word bytes rest e = ap (λ (b : List ℕ). take 4 b) e ∙ take_at (word_in_order order word) rest 4 (length-word order word)
 
-begins_with : (order : Order) (word : ℕ) (bytes : List ℕ) → take 4 bytes ≡ word_in_order order word → bytes ≡ in_order order (word ∷ []) ++ drop 4 bytes
-begins_with Big word bytes e = sym (take-append-drop 4 bytes) ∙ ap (λ (b : List ℕ). b ++ drop 4 bytes) e
-begins_with Little word bytes e = sym (take-append-drop 4 bytes) ∙ ap (λ (b : List ℕ). b ++ drop 4 bytes) e
+begins_with : (order : Order) (word : ℕ) (bytes : List ℕ) → take 4 bytes ≡ word_in_order order word → bytes ≡ word_in_order order word ++ drop 4 bytes
+begins_with order word bytes e = sym (take-append-drop 4 bytes) ∙ ap (λ (b : List ℕ). b ++ drop 4 bytes) e
 
-verdict_ok : (bytes : List ℕ) (start : Start) → AreWholeWords bytes → IsBytes bytes → IsStart start → take 4 bytes ≡ start_bytes start
+verdict_ok : (bytes : List ℕ) (start : Start) → HasPacketLength bytes → IsBytes bytes → IsStart start → take 4 bytes ≡ start_bytes start
     → IsPacket (made start (drop 4 bytes)) × (bytes ≡ packet_bytes (made start (drop 4 bytes)))
 verdict_ok bytes start whole fits is front =
     let rest_fits = IsBytes-drop 4 bytes fits in
@@ -116,11 +127,10 @@ verdict_ok bytes start whole fits is front =
     let some = whole.some in let quarter = whole.whole in let short = whole.short in (
       record { id = is.id; body = words_fit start.order (drop 4 bytes) rest_fits; length = omega arith; order = is.order },
       sym (take-append-drop 4 bytes) ∙ ap (λ (b : List ℕ). b ++ drop 4 bytes) front
-          ∙ ap (λ (b : List ℕ). start_bytes start ++ b) (sym (words_back start.order (drop 4 bytes) (omega arith) rest_fits))
-          ∙ sym (in_order-cons start.order (packet_header start.id (kind_code start.kind)) (words_of start.order (drop 4 bytes))),
+          ∙ ap (λ (b : List ℕ). start_bytes start ++ b) (sym (words_back start.order (drop 4 bytes) (omega arith) rest_fits)),
     )
 
-verdict_by : (bytes : List ℕ) (read : Result Start BadPacket) → AreWholeWords bytes → IsBytes bytes → StartVerdict read (take 4 bytes)
+verdict_by : (bytes : List ℕ) (read : Result Start BadPacket) → HasPacketLength bytes → IsBytes bytes → StartVerdict read (take 4 bytes)
     → Verdict (read >>= λ start. Ok (made start (drop 4 bytes))) bytes
 verdict_by bytes (Ok start) whole fits verdict = verdict_ok bytes start whole fits verdict.0 verdict.1
 verdict_by bytes (Err faults.Kind) whole fits verdict = (
@@ -145,7 +155,7 @@ verdict_by bytes (Err faults.Ragged) whole fits verdict = absurd verdict
 verdict_by bytes (Err faults.Long) whole fits verdict = absurd verdict
 verdict_by bytes (Err faults.NoMemory) whole fits verdict = absurd verdict
 
-verdict_whole : (bytes : List ℕ) → AreWholeWords bytes → IsBytes bytes → Verdict (packet_of bytes) bytes
+verdict_whole : (bytes : List ℕ) → HasPacketLength bytes → IsBytes bytes → Verdict (packet_of bytes) bytes
 verdict_whole bytes whole fits =
     let four : length (take 4 bytes) ≡ 4 = let some = whole.some in let quarter = whole.whole in omega (arith, length-take 4 bytes) in
     subst (λ (r : Result Packet BadPacket). Verdict r bytes) (sym (packet_by bytes whole))
@@ -175,13 +185,6 @@ verdict (byte ∷ bytes) fits = verdict_some (byte ∷ bytes) fits (omega arith)
 pub packet_back : (bytes : List ℕ) (packet : Packet) → IsBytes bytes → packet_of bytes ≡ Ok packet → IsPacket packet × (bytes ≡ packet_bytes packet)
 packet_back bytes packet fits e = subst (λ (r : Result Packet BadPacket). Verdict r bytes) e (verdict bytes fits)
 
-pub IsBytes-all : (bytes : List ℕ) → All (λ byte. byte < 256) bytes → IsBytes bytes
-IsBytes-all bytes fits i =
-    elim (cases_lt i (length bytes)) [
-      | inl below ↦ fits i 0 below
-      | inr past ↦ rw (get_or_past bytes i 0 past) (lit< tt)
-    ]
-
 abbrev answered : Packet → Result Packet BadPacket
 answered packet = Ok packet
 
@@ -203,10 +206,10 @@ ragged_refused bytes ragged = packet_by_length bytes faults.Ragged (length_ragge
 long_refused : (bytes : List ℕ) → IsTooLong bytes → packet_of bytes ≡ Err faults.Long
 long_refused bytes is = packet_by_length bytes faults.Long (length_long (length bytes) is.whole is.long)
 
-start_refused : (bytes : List ℕ) (fault : BadPacket) → AreWholeWords bytes → start_of (take 4 bytes) ≡ Err fault → packet_of bytes ≡ Err fault
+start_refused : (bytes : List ℕ) (fault : BadPacket) → HasPacketLength bytes → start_of (take 4 bytes) ≡ Err fault → packet_of bytes ≡ Err fault
 start_refused bytes fault whole e = packet_by bytes whole ∙ ap (λ (r : Result Start BadPacket). r >>= λ start. Ok (made start (drop 4 bytes))) e
 
-kind_refused : (bytes : List ℕ) → AreWholeWords bytes → HasUnknownKind bytes → packet_of bytes ≡ Err faults.Kind
+kind_refused : (bytes : List ℕ) → HasPacketLength bytes → HasUnknownKind bytes → packet_of bytes ≡ Err faults.Kind
 kind_refused bytes whole unknown =
     let kind = unknown.0 in
     let header = unknown.3 in
@@ -214,16 +217,12 @@ kind_refused bytes whole unknown =
     start_refused bytes faults.Kind whole (unknown_start (take 4 bytes) header.id kind header.id_fits unknown.2 unknown.1 front)
 
 -- the spelling of a packet begins with a header that its type allows
-spelled_header : (order : Order) (header : ℕ) (bytes body : List ℕ) → bytes ≡ in_order order (header ∷ body) → bytes ≡ in_order order (header ∷ []) ++ in_order order body
-spelled_header Big header bytes body e = e
-spelled_header Little header bytes body e = e
-
 allowed_by : (order : Order) (packet : Packet) (bytes : List ℕ) → IsPacket packet → packet.order ≡ order → bytes ≡ in_order order (packet_words packet) → HasAllowedHeader bytes
 allowed_by Big packet bytes is order-is e =
     inl (
       kind_code packet.kind,
       kind_code-below packet.kind,
-      record { id = packet.id; id_fits = is.id; begins = (in_order Big packet.body, spelled_header Big (packet_header packet.id (kind_code packet.kind)) bytes packet.body e) },
+      record { id = packet.id; id_fits = is.id; begins = (in_order Big packet.body, e) },
     )
 allowed_by Little packet bytes is order-is e =
     let control : packet_header packet.id (kind_code packet.kind) ≡ packet_header packet.id 0 = ap (λ (k : PacketKind). packet_header packet.id (kind_code k)) (is.order order-is) in
@@ -232,7 +231,7 @@ allowed_by Little packet bytes is order-is e =
       id_fits = is.id;
       begins = (
         in_order Little packet.body,
-        spelled_header Little (packet_header packet.id 0) bytes packet.body (e ∙ ap (λ (header : ℕ). in_order Little (header ∷ packet.body)) control),
+        e ∙ ap (λ (header : ℕ). in_order Little (header ∷ packet.body)) control,
       );
     })
 
@@ -240,7 +239,7 @@ begins_allowed : (bytes : List ℕ) (packet : Packet) → IsPacket packet → by
 begins_allowed bytes packet is e = allowed_by packet.order packet bytes is refl e
 
 -- bytes that are whole words and begin with no header are refused by that rule, since every other answer says otherwise
-header_by : (bytes : List ℕ) (read : Result Packet BadPacket) → AreWholeWords bytes → ¬ HasAllowedHeader bytes → Verdict read bytes → read ≡ Err faults.Header
+header_by : (bytes : List ℕ) (read : Result Packet BadPacket) → HasPacketLength bytes → ¬ HasAllowedHeader bytes → Verdict read bytes → read ≡ Err faults.Header
 header_by bytes (Ok packet) whole none verdict = absurd (none (begins_allowed bytes packet verdict.0 verdict.1))
 header_by bytes (Err faults.Empty) whole none verdict = let some = whole.some in let nil : bytes ≡ [] = verdict in let zero-len = ap length nil in absurd (omega arith)
 header_by bytes (Err faults.Ragged) whole none verdict = absurd (verdict whole.whole)
@@ -249,7 +248,7 @@ header_by bytes (Err faults.Header) whole none verdict = refl
 header_by bytes (Err faults.Kind) whole none verdict = absurd (none (inl (verdict.1.0, verdict.1.2, verdict.1.3)))
 header_by bytes (Err faults.NoMemory) whole none verdict = absurd verdict
 
-header_refused : (bytes : List ℕ) → IsBytes bytes → AreWholeWords bytes → ¬ HasAllowedHeader bytes → packet_of bytes ≡ Err faults.Header
+header_refused : (bytes : List ℕ) → IsBytes bytes → HasPacketLength bytes → ¬ HasAllowedHeader bytes → packet_of bytes ≡ Err faults.Header
 header_refused bytes fits whole none = header_by bytes (packet_of bytes) whole none (verdict bytes fits)
 
 -- ---- a reader that gives what reading gives
@@ -286,7 +285,10 @@ no_memory_by bytes (Err error) read (inl same) verdict e =
 no_memory_by bytes (Err error) read (inr (nothing, ok)) verdict e = spelled_by bytes read ok verdict
 
 -- The clauses of a reader of these bytes that gives what reading gives.
-module _ (bytes : List ℕ) (fits : IsBytes bytes) (result : Result Packet BadPacket) (gives : Gives result (packet_of bytes)) where
+module _ (bytes : List ℕ) (each_fits : (i : ℕ) → Fits w8 (get_or bytes i 0)) (result : Result Packet BadPacket) (gives : Gives result (packet_of bytes)) where
+  fits : IsBytes bytes
+  fits i = omega (arith, each_fits i)
+
   pub found : IfOk result (λ packet. IsPacket packet × (bytes ≡ packet_bytes packet))
   found = found_by bytes result fits gives
 
@@ -307,10 +309,10 @@ module _ (bytes : List ℕ) (fits : IsBytes bytes) (result : Result Packet BadPa
   pub long : (result ≡ Err faults.Long) ↔ IsTooLong bytes
   long = refusal faults.Long (λ e. cc) (long_refused bytes)
 
-  pub header : (result ≡ Err faults.Header) ↔ (AreWholeWords bytes × ¬ HasAllowedHeader bytes)
+  pub header : (result ≡ Err faults.Header) ↔ (HasPacketLength bytes × ¬ HasAllowedHeader bytes)
   header = refusal faults.Header (λ e. cc) (λ is. header_refused bytes fits is.0 is.1)
 
-  pub kind : (result ≡ Err faults.Kind) ↔ (AreWholeWords bytes × HasUnknownKind bytes)
+  pub kind : (result ≡ Err faults.Kind) ↔ (HasPacketLength bytes × HasUnknownKind bytes)
   kind = refusal faults.Kind (λ e. cc) (λ is. kind_refused bytes is.0 is.1)
 
   pub no_memory : result ≡ Err faults.NoMemory → IsSpelling bytes

@@ -10,9 +10,9 @@ use Rattle.packet_codec.specs.declared.packet.PacketKind.TheVariants.{Control, S
 use Rattle.packet_codec.specs.declared.packet.BadPacket.{BadPacket}
 use Rattle.packet_codec.specs.declared.packet.BadPacket.TheVariants as faults
 use Rattle.packet_codec.specs.declared.reading.Start.{Start}
-use Rattle.packet_codec.specs.Header.{kind_code, packet_header}
+use Rattle.packet_codec.specs.Header.{kind_code, packet_header, header_of}
 use Rattle.packet_codec.specs.Packet.{word_in_order}
-use Rattle.packet_codec.specs.Reading.{word_from, header_of, kind_of, big_start, little_start, start_by, start_of}
+use Rattle.packet_codec.specs.Reading.{word_from, known_kind, big_start, little_start, start_by, start_of}
 use Rattle.packet_codec.proofs.HeaderLemmas.{header_again, header_back}
 use Rattle.packet_codec.proofs.WordLemmas.{IsBytes, word_again, word_back}
 
@@ -23,18 +23,18 @@ kind_code-below Control = lit< tt
 kind_code-below Status = lit< tt
 kind_code-below Resend = lit< tt
 
-pub kind_again : (kind : PacketKind) → kind_of (kind_code kind) ≡ Some kind
+pub kind_again : (kind : PacketKind) → known_kind (kind_code kind) ≡ Some kind
 kind_again Control = refl
 kind_again Status = refl
 kind_again Resend = refl
 
-pub kind_back : (code : ℕ) (kind : PacketKind) → kind_of code ≡ Some kind → code ≡ kind_code kind
+pub kind_back : (code : ℕ) (kind : PacketKind) → known_kind code ≡ Some kind → code ≡ kind_code kind
 kind_back zero kind e = let same : Control ≡ kind = cc in ap kind_code same
 kind_back (suc zero) kind e = let same : Status ≡ kind = cc in ap kind_code same
 kind_back (suc (suc zero)) kind e = let same : Resend ≡ kind = cc in ap kind_code same
 kind_back (suc (suc (suc code))) kind e = absurd cc
 
-pub kind_unknown : (code : ℕ) → 2 < code → kind_of code ≡ None
+pub kind_unknown : (code : ℕ) → 2 < code → known_kind code ≡ None
 kind_unknown zero above = absurd (omega arith)
 kind_unknown (suc zero) above = absurd (omega arith)
 kind_unknown (suc (suc zero)) above = absurd (omega arith)
@@ -124,7 +124,7 @@ StartVerdict (Err faults.Ragged) first = ⊥
 StartVerdict (Err faults.Long) first = ⊥
 StartVerdict (Err faults.NoMemory) first = ⊥
 
-kind_above : (code : ℕ) → kind_of code ≡ None → 2 < code
+kind_above : (code : ℕ) → known_kind code ≡ None → 2 < code
 kind_above zero e = absurd cc
 kind_above (suc zero) e = absurd cc
 kind_above (suc (suc zero)) e = absurd cc
@@ -136,7 +136,7 @@ header_bytes order first header four fits e =
     sym (word_back order first four fits) ∙ ap (λ (word : ℕ). word_in_order order word) (header_back (word_from order first) header e).spelled
 
 verdict_big : (first : List ℕ) (header : Header) (known : Option PacketKind) → length first ≡ 4 → IsBytes first → header_of (word_from Big first) ≡ Some header
-    → kind_of header.kind ≡ known → StartVerdict (big_start header.id known) first
+    → known_kind header.kind ≡ known → StartVerdict (big_start header.id known) first
 verdict_big first header None four fits e known =
     let is = header_back (word_from Big first) header e in
     record { id = header.id; kind = header.kind; id_fits = is.id; kind_fits = is.kind; above = kind_above header.kind known; spelled = header_bytes Big first header four fits e }
@@ -179,7 +179,7 @@ verdict_little first (Some header) four fits none e = verdict_zero first header 
 
 verdict_by : (first : List ℕ) (big little : Option Header) → length first ≡ 4 → IsBytes first → header_of (word_from Big first) ≡ big
     → header_of (word_from Little first) ≡ little → StartVerdict (start_by big little) first
-verdict_by first (Some header) little four fits e f = verdict_big first header (kind_of header.kind) four fits e refl
+verdict_by first (Some header) little four fits e f = verdict_big first header (known_kind header.kind) four fits e refl
 verdict_by first None little four fits e f = verdict_little first little four fits e f
 
 pub start_verdict : (first : List ℕ) → length first ≡ 4 → IsBytes first → StartVerdict (start_of first) first

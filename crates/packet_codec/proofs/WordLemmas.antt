@@ -1,6 +1,5 @@
 -- Words and their bytes in both orders.
-use Rattle.std.proofs.Common.{◌≡◌, ℕ, zero, suc, ◌+◌, ◌*◌, ◌/◌, ◌%◌, ◌<◌, ◌^◌, List, [], ◌∷◌, ◌++◌, length, get_or, take, drop, map, refl, ap, ◌∙◌, inl, inr, arith, take-append-drop}
-use Rattle.std.specs.List.{flat_map}
+use Rattle.std.proofs.Common.{◌≡◌, ℕ, zero, suc, ◌+◌, ◌*◌, ◌/◌, ◌%◌, ◌<◌, ◌^◌, List, [], ◌∷◌, length, get_or, take, drop, map, refl, ap, ◌∙◌, inl, inr, arith, take-append-drop}
 use Rattle.std.specs.Simd.{first_chunks}
 use Rattle.std.proofs.lemmas.Bool.{cases_lt}
 use Rattle.std.proofs.lemmas.List.{take_at, drop_at, length-append, length-take, length-drop, get_or-drop, get_or-take, get_or_past}
@@ -25,11 +24,6 @@ IsBytes-take n bytes fits i =
       | inr past ↦ rw (get_or_past (take n bytes) i 0 (omega (arith, length-take n bytes))) (omega arith)
     ]
 
--- a list whose items are all below 2 ^ 32 is one of words
-pub AreWords-at : (words : List ℕ) → ((i : ℕ) → get_or words i 0 < 2 ^ 32) → AreWords words
-AreWords-at [] fits = tt
-AreWords-at (word ∷ words) fits = (fits 0, AreWords-at words (λ i. fits (suc i)))
-
 -- ---- one word
 
 pub length-word : (order : Order) (word : ℕ) → length (word_in_order order word) ≡ 4
@@ -50,23 +44,10 @@ word_below Little bytes fits = omega (arith, fits 0, fits 1, fits 2, fits 3)
 
 -- ---- lists of words
 
--- the bytes in an order are those of one word after the other
-pub in_order-each : (order : Order) (words : List ℕ) → in_order order words ≡ flat_map (word_in_order order) words
-in_order-each Big words = refl
-in_order-each Little words = refl
-
-pub in_order-cons : (order : Order) (word : ℕ) (words : List ℕ) → in_order order (word ∷ words) ≡ word_in_order order word ++ in_order order words
-in_order-cons Big word words = refl
-in_order-cons Little word words = refl
-
-in_order-nil : (order : Order) → in_order order [] ≡ []
-in_order-nil Big = refl
-in_order-nil Little = refl
-
 pub length-in_order : (order : Order) (words : List ℕ) → length (in_order order words) ≡ 4 * length words
-length-in_order order [] = rw (in_order-nil order) refl
+length-in_order order [] = refl
 length-in_order order (word ∷ words) =
-    ap length (in_order-cons order word words) ∙ length-append (word_in_order order word) (in_order order words)
+    length-append (word_in_order order word) (in_order order words)
     ∙ omega (arith, length-word order word, length-in_order order words)
 
 chunks_again : (order : Order) (words : List ℕ) → AreWords words → map (word_from order) (first_chunks 4 (length words) (in_order order words)) ≡ words
@@ -74,8 +55,7 @@ chunks_again order [] fit = refl
 chunks_again order (word ∷ words) fit =
     let front = take_at (word_in_order order word) (in_order order words) 4 (length-word order word) in
     let back = drop_at (word_in_order order word) (in_order order words) 4 (length-word order word) in
-    ap (λ (bytes : List ℕ). map (word_from order) (first_chunks 4 (suc (length words)) bytes)) (in_order-cons order word words)
-    ∙ rw (front, back, word_again order word fit.0, chunks_again order words fit.1) refl
+    rw (front, back, word_again order word fit.0, chunks_again order words fit.1) refl
 
 -- what was written is read
 pub words_again : (order : Order) (words : List ℕ) → AreWords words → words_of order (in_order order words) ≡ words
@@ -84,13 +64,12 @@ words_again order words fit =
     ap (λ (n : ℕ). map (word_from order) (first_chunks 4 n (in_order order words))) count ∙ chunks_again order words fit
 
 chunks_back : (order : Order) (n : ℕ) (bytes : List ℕ) → length bytes ≡ 4 * n → IsBytes bytes → in_order order (map (word_from order) (first_chunks 4 n bytes)) ≡ bytes
-chunks_back order zero [] len fits = in_order-nil order
+chunks_back order zero [] len fits = refl
 chunks_back order zero (byte ∷ bytes) len fits = absurd (omega arith)
 chunks_back order (suc n) bytes len fits =
     let four : length (take 4 bytes) ≡ 4 = omega (arith, length-take 4 bytes) in
     let rest : length (drop 4 bytes) ≡ 4 * n = omega (arith, length-drop 4 bytes) in
-    in_order-cons order (word_from order (take 4 bytes)) (map (word_from order) (first_chunks 4 n (drop 4 bytes)))
-    ∙ rw (word_back order (take 4 bytes) four (IsBytes-take 4 bytes fits), chunks_back order n (drop 4 bytes) rest (IsBytes-drop 4 bytes fits)) (take-append-drop 4 bytes)
+    rw (word_back order (take 4 bytes) four (IsBytes-take 4 bytes fits), chunks_back order n (drop 4 bytes) rest (IsBytes-drop 4 bytes fits)) (take-append-drop 4 bytes)
 
 -- what is read is what was written
 pub words_back : (order : Order) (bytes : List ℕ) → length bytes % 4 ≡ 0 → IsBytes bytes → in_order order (words_of order bytes) ≡ bytes

@@ -1,8 +1,9 @@
--- What has a spelling as a packet, and its spelling.
+-- What has a spelling as a packet, and its spelling (IPbus 2.0, packet header; profile: the length, and which packets may
+-- be little-endian).
 use Rattle.std.specs.Prelude.{◌≡◌, ℕ, ◌<◌, ◌≤◌, ◌^◌, List, ◌∷◌, length}
 use Rattle.std.specs.List.{flat_map}
 use Rattle.std.specs.Int.{w32, to_le_bytes}
-use Rattle.ipb_base.specs.Word.{AreWords, word_bytes, big_endian}
+use Rattle.ipb_base.specs.Word.{AreWords, word_bytes}
 use Rattle.packet_codec.specs.declared.packet.TheConstants.{MAX_BODY_WORDS}
 use Rattle.packet_codec.specs.declared.packet.Order.{Order}
 use Rattle.packet_codec.specs.declared.packet.Order.TheVariants.{Big, Little}
@@ -10,19 +11,14 @@ use Rattle.packet_codec.specs.declared.packet.PacketKind.TheVariants.{Control}
 use Rattle.packet_codec.specs.declared.packet.Packet.{Packet}
 use Rattle.packet_codec.specs.Header.{kind_code, packet_header}
 
--- the bytes of a list of words, the least significant byte of each first
-abbrev pub little_endian : List ℕ → List ℕ
-little_endian words = flat_map (to_le_bytes w32) words
-
--- the bytes of a list of words in a byte order
-abbrev pub in_order : Order → List ℕ → List ℕ
-in_order Big words = big_endian words
-in_order Little words = little_endian words
-
--- the four bytes of one word
+-- the four bytes of a word in a byte order
 abbrev pub word_in_order : Order → ℕ → List ℕ
 word_in_order Big word = word_bytes word
 word_in_order Little word = to_le_bytes w32 word
+
+-- the bytes of a list of words
+abbrev pub in_order : Order → List ℕ → List ℕ
+in_order order words = flat_map (word_in_order order) words
 
 -- the header and the words after it
 abbrev pub packet_words : Packet → List ℕ

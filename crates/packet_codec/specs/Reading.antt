@@ -1,5 +1,6 @@
--- Reading as a function on lists: the packet, or the first rule that the bytes break.
-use Rattle.std.specs.Prelude.{ℕ, zero, suc, ◌*◌, ◌/◌, ◌%◌, ◌^◌, List, length, map, take, drop, ◌&&◌, ◌==◌, nat_lt, if◌then◌else◌, Option, Some, None, Result, Ok, Err, ◌≡◌, ◌⊎◌, IsOk, MatchResult}
+-- How the code reads a packet: a function on lists, step by step. The private functions speak of it and no public clause
+-- does; what a packet is, and what is wrong with bytes that are none, is in Packet.antt and Faults.antt.
+use Rattle.std.specs.Prelude.{ℕ, zero, suc, ◌*◌, ◌/◌, ◌%◌, List, length, map, take, drop, ◌==◌, nat_lt, if◌then◌else◌, Option, Some, None, Result, Ok, Err, ◌≡◌, ◌⊎◌, IsOk, MatchResult}
 use Rattle.std.specs.Int.{w32, from_be_bytes, from_le_bytes}
 use Rattle.std.specs.Simd.{first_chunks}
 use Rattle.packet_codec.specs.declared.packet.TheConstants.{MAX_PACKET_WORDS}
@@ -12,25 +13,19 @@ use Rattle.packet_codec.specs.declared.packet.Packet.{Packet}
 use Rattle.packet_codec.specs.declared.reading.Start.{Start}
 use Rattle.packet_codec.specs.declared.packet.BadPacket.{BadPacket}
 use Rattle.packet_codec.specs.declared.packet.BadPacket.TheVariants as faults
+use Rattle.packet_codec.specs.Header.{kind_code, header_of}
 
 -- the word that four bytes are
 abbrev pub word_from : Order → List ℕ → ℕ
 word_from Big bytes = from_be_bytes w32 bytes
 word_from Little bytes = from_le_bytes w32 bytes
 
--- the fields of a word that is a packet header
-abbrev pub header_of : ℕ → Option Header
-header_of word =
-    if (word / 2 ^ 24 == 0x20) && (word / 2 ^ 4 % 2 ^ 4 == 0xf)
-    then Some (record { id = word / 2 ^ 8 % 2 ^ 16; kind = word % 2 ^ 4 })
-    else None
-
 -- the type that a type field stands for
-abbrev pub kind_of : ℕ → Option PacketKind
-kind_of zero = Some Control
-kind_of (suc zero) = Some Status
-kind_of (suc (suc zero)) = Some Resend
-kind_of (suc (suc (suc code))) = None
+abbrev pub known_kind : ℕ → Option PacketKind
+known_kind zero = Some Control
+known_kind (suc zero) = Some Status
+known_kind (suc (suc zero)) = Some Resend
+known_kind (suc (suc (suc code))) = None
 
 -- the start of a packet with a big-endian header: its type is looked up
 abbrev pub big_start : ℕ → Option PacketKind → Result Start BadPacket
@@ -41,11 +36,13 @@ big_start id (Some kind) = Ok (record { order = Big; id = id; kind = kind })
 abbrev pub little_start : Option Header → Result Start BadPacket
 little_start None = Err faults.Header
 little_start (Some header) =
-    if header.kind == 0 then Ok (record { order = Little; id = header.id; kind = Control }) else Err faults.Header
+    if header.kind == kind_code Control
+    then Ok (record { order = Little; id = header.id; kind = Control })
+    else Err faults.Header
 
 -- the start by the first word read in either order: no word is a header in both
 abbrev pub start_by : Option Header → Option Header → Result Start BadPacket
-start_by (Some big) little = big_start big.id (kind_of big.kind)
+start_by (Some big) little = big_start big.id (known_kind big.kind)
 start_by None little = little_start little
 
 -- the first word, in the order in which it is a header
@@ -77,4 +74,5 @@ packet_of bytes = do
 
 -- What was answered is what reading gives, but want of memory may stand for a packet.
 abbrev pub Gives : Result Packet BadPacket → Result Packet BadPacket → Type 0
-Gives result read = MatchResult result (λ packet. read ≡ Ok packet) (λ error. (read ≡ Err error) ⊎ ((error ≡ faults.NoMemory) × IsOk read))
+Gives result read =
+    MatchResult result (λ packet. read ≡ Ok packet) (λ error. (read ≡ Err error) ⊎ ((error ≡ faults.NoMemory) × IsOk read))

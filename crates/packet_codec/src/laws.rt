@@ -1,8 +1,9 @@
 //! Laws of the definitions. These functions do nothing when they run: their clauses are what is proved.
 
-ghost use Rattle.std.specs.Prelude.{◌≡◌, ℕ, ◌<◌, List, [], ◌∷◌, All, Ok, slice_index};
-ghost use Rattle.packet_codec.specs.Packet.{IsPacket, packet_bytes};
-ghost use Rattle.packet_codec.specs.Reading.{packet_of};
+ghost use Rattle.std.specs.Prelude.{◌≡◌, ℕ, List, [], ◌∷◌, slice_index};
+ghost use Rattle.ipb_base.specs.Word.{big_endian};
+ghost use Rattle.packet_codec.specs.Packet.{IsPacket, in_order, packet_bytes};
+ghost use Rattle.packet_codec.specs.Faults.{HasAllowedHeader, HasUnknownKind};
 ghost use Rattle.packet_codec.specs.declared.packet.Packet.{Packet};
 ghost use Rattle.packet_codec.specs.declared.packet.Order.TheVariants.{Big, Little};
 ghost use Rattle.packet_codec.specs.declared.packet.PacketKind.TheVariants.{Control};
@@ -15,24 +16,27 @@ pub fn a_control_packet_in_both_orders()
         ≡ 0xf0 ∷ 1 ∷ 0 ∷ 0x20 ∷ 0x0f ∷ 1 ∷ 0 ∷ 0x20 ∷ 4 ∷ 0 ∷ 0 ∷ 0 ∷ [] }
 {}
 
+/// The big-endian order is that of `big_endian`.
+pub fn big_endian_words()
+    ensures { (words : List ℕ) → in_order Big words ≡ big_endian words }
+{}
+
 /// The first byte of a packet tells its order.
 pub fn the_first_byte_tells_the_order()
-    ensures big { (packet : Packet) → IsPacket packet → packet.order ≡ Big → slice_index (packet_bytes packet) 0 ≡ 0x20 }
-    ensures little { (packet : Packet) → IsPacket packet → packet.order ≡ Little → slice_index (packet_bytes packet) 0 ≡ 0xf0 }
+    ensures big { (packet : Packet) → IsPacket packet → packet.order ≡ Big
+        → slice_index (packet_bytes packet) 0 ≡ 0x20 }
+    ensures little { (packet : Packet) → IsPacket packet → packet.order ≡ Little
+        → slice_index (packet_bytes packet) 0 ≡ 0xf0 }
 {}
 
-/// What is spelled as a packet is read as that packet.
-pub fn a_written_packet_is_read_again()
-    ensures { (packet : Packet) → IsPacket packet → packet_of (packet_bytes packet) ≡ Ok packet }
-{}
-
-/// What is read as a packet is its spelling.
-pub fn a_packet_that_is_read_is_spelled_so()
-    ensures { (bytes : List ℕ) (packet : Packet) → All (λ byte. byte < 256) bytes → packet_of bytes ≡ Ok packet
-        → IsPacket packet × (bytes ≡ packet_bytes packet) }
+/// Bytes that begin with no allowed header, or with one of an unknown type.
+pub fn headers_that_are_refused()
+    ensures unknown { HasUnknownKind (0x20 ∷ 0 ∷ 1 ∷ 0xf3 ∷ []) }
+    ensures little_endian_status { ¬ HasAllowedHeader (0xf1 ∷ 1 ∷ 0 ∷ 0x20 ∷ []) }
 {}
 
 /// No two packets have one spelling.
 pub fn a_spelling_is_of_one_packet()
-    ensures { (one other : Packet) → IsPacket one → IsPacket other → packet_bytes one ≡ packet_bytes other → one ≡ other }
+    ensures { (one other : Packet) → IsPacket one → IsPacket other
+        → packet_bytes one ≡ packet_bytes other → one ≡ other }
 {}

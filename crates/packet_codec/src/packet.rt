@@ -9,16 +9,41 @@ use ipb_base::{NoMemory, Words};
 /// IP and UDP).
 pub const MAX_PACKET_WORDS: usize = 2243;
 
-/// The most words of a packet's body.
-pub const MAX_BODY_WORDS: usize = 2242;
+/// The most words of a packet's body (profile).
+pub const MAX_BODY_WORDS: usize = MAX_PACKET_WORDS - 1;
 
-/// The order of the bytes of each word of a packet.
+/// The order of the bytes of each word of a packet (IPbus 2.0, packet header: the byte-order qualifier).
 #[derive(Clone, Copy, Debug, PartialEq, Eq)]
 pub enum Order {
     /// The most significant byte first, as a hub writes.
     Big,
     /// The least significant byte first.
     Little,
+}
+
+impl Order {
+    ghost use Rattle.packet_codec.specs.Packet.{word_in_order};
+    ghost use Rattle.packet_codec.specs.Reading.{word_from};
+
+    /// The word that four bytes are.
+    pub(crate) fn word(self, bytes: [u8; 4]) -> u32
+        ensures { result ≡ word_from self bytes }
+    {
+        match self {
+            Order::Big => u32::from_be_bytes(bytes),
+            Order::Little => u32::from_le_bytes(bytes),
+        }
+    }
+
+    /// The four bytes of a word.
+    pub(crate) fn bytes(self, word: u32) -> [u8; 4]
+        ensures { result ≡ word_in_order self word }
+    {
+        match self {
+            Order::Big => word.to_be_bytes(),
+            Order::Little => word.to_le_bytes(),
+        }
+    }
 }
 
 /// The type of a packet (IPbus 2.0, packet header, bits 3 to 0).
@@ -34,28 +59,45 @@ pub enum PacketKind {
 
 impl PacketKind {
     ghost use Rattle.packet_codec.specs.Header.{kind_code};
+    ghost use Rattle.packet_codec.specs.Reading.{known_kind};
 
-    /// The type field of this type.
+    /// The type field of this type (IPbus 2.0, packet header, bits 3 to 0).
     pub fn code(self) -> u8
         ensures { result ≡ kind_code self }
     {
         self as u8
     }
+
+    /// The type with this type field, where it is known.
+    pub(crate) fn from_code(code: u8) -> Option<PacketKind>
+        ensures { result ≡ known_kind code }
+    {
+        if code == PacketKind::Control.code() {
+            Some(PacketKind::Control)
+        } else if code == PacketKind::Status.code() {
+            Some(PacketKind::Status)
+        } else if code == PacketKind::Resend.code() {
+            Some(PacketKind::Resend)
+        } else {
+            None
+        }
+    }
 }
 
-/// A packet: its header and the words after it.
+/// A packet: its header and the words after it (IPbus 2.0, packet header).
 #[derive(Debug, Drop)]
 pub struct Packet {
-    /// The byte order of every word. Only control packets may be little-endian.
+    /// The byte order of every word. Only control packets may be little-endian (profile).
     pub order: Order,
-    /// The packet identifier.
+    /// The packet identifier, 0 to 0xffff.
     pub id: u16,
+    /// The type: what the words after the header are.
     pub kind: PacketKind,
     /// The words after the header, at most `MAX_BODY_WORDS`.
     pub body: Words,
 }
 
-/// Why bytes are no packet: the first rule, in this order, that they break.
+/// Why no packet was read (profile): the first of these rules, in this order, that the bytes break, or want of memory.
 #[derive(Clone, Copy, Debug, PartialEq, Eq)]
 pub enum BadPacket {
     /// There are no bytes.
@@ -67,9 +109,9 @@ pub enum BadPacket {
     /// The first word is neither a big-endian packet header, of whatever type, nor the little-endian header of a
     /// control packet.
     Header,
-    /// The first word is a big-endian packet header, and its type is above 2.
+    /// The first word is a big-endian packet header, and its type is none that is known.
     Kind,
-    /// The bytes are a packet, but memory ran out.
+    /// The bytes break no rule, but memory for the body ran out.
     NoMemory,
 }
 

@@ -2,11 +2,11 @@
 
 ghost use Rattle.std.specs.Prelude.{◌≡◌, ◌≢◌, ◌↔◌, ◌%◌, [], length, Ok, Err, IfOk, MatchResult};
 ghost use Rattle.packet_codec.specs.Packet.{IsPacket, packet_bytes};
-ghost use Rattle.packet_codec.specs.Faults.{AreWholeWords, IsTooLong, HasAllowedHeader, HasUnknownKind, IsSpelling};
+ghost use Rattle.packet_codec.specs.Faults.{HasPacketLength, IsTooLong, HasAllowedHeader, HasUnknownKind, IsSpelling};
 ghost use Rattle.packet_codec.specs.Reading.{length_rule, start_of, words_of, packet_of, Gives};
 ghost use Rattle.packet_codec.specs.declared.packet.Packet.{Packet as PacketValue};
 
-use crate::header::{Header, known_kind, read_header};
+use crate::header::read_header;
 use crate::packet::{BadPacket, MAX_PACKET_WORDS, Order, Packet, PacketKind};
 use ipb_base::{NoMemory, Words};
 use std::alloc::Global;
@@ -31,11 +31,10 @@ pub fn read_packet(alloc: Global, bytes: &[u8]) -> Result<Packet, BadPacket>
     ensures empty { (result ≡ Err BadPacket.Empty) ↔ (bytes.now ≡ []) }
     ensures ragged { (result ≡ Err BadPacket.Ragged) ↔ (length bytes.now % 4 ≢ 0) }
     ensures long { (result ≡ Err BadPacket.Long) ↔ IsTooLong bytes.now }
-    ensures header { (result ≡ Err BadPacket.Header) ↔ (AreWholeWords bytes.now × ¬ HasAllowedHeader bytes.now) }
-    ensures kind { (result ≡ Err BadPacket.Kind) ↔ (AreWholeWords bytes.now × HasUnknownKind bytes.now) }
+    ensures header { (result ≡ Err BadPacket.Header)
+        ↔ (HasPacketLength bytes.now × ¬ HasAllowedHeader bytes.now) }
+    ensures kind { (result ≡ Err BadPacket.Kind) ↔ (HasPacketLength bytes.now × HasUnknownKind bytes.now) }
     ensures no_memory { result ≡ Err BadPacket.NoMemory → IsSpelling bytes.now }
-    // The same as a function of the bytes.
-    ensures exact { Gives result (packet_of bytes.now) }
 {
     read_by_offsets(alloc, bytes)
 }
@@ -76,8 +75,8 @@ fn check_length(length: usize) -> Result<(), BadPacket>
 fn read_start(first: [u8; 4]) -> Result<Start, BadPacket>
     ensures { result ≡ start_of first }
 {
-    if let Some(header) = read_header(u32::from_be_bytes(first)) {
-        return match known_kind(header.kind) {
+    if let Some(header) = read_header(Order::Big.word(first)) {
+        return match PacketKind::from_code(header.kind) {
             Some(kind) => Ok(Start {
                 order: Order::Big,
                 id: header.id,
@@ -86,10 +85,10 @@ fn read_start(first: [u8; 4]) -> Result<Start, BadPacket>
             None => Err(BadPacket::Kind),
         };
     }
-    match read_header(u32::from_le_bytes(first)) {
-        Some(Header { id, kind: 0 }) => Ok(Start {
+    match read_header(Order::Little.word(first)) {
+        Some(header) if header.kind == PacketKind::Control.code() => Ok(Start {
             order: Order::Little,
-            id,
+            id: header.id,
             kind: PacketKind::Control,
         }),
         _ => Err(BadPacket::Header),
@@ -101,15 +100,6 @@ fn read_words(alloc: Global, order: Order, bytes: &[u8]) -> Result<Words, NoMemo
     ensures { IfOk result (λ words. words ≡ words_of order bytes.now) }
 {
     let (words, _) = bytes.as_chunks::<4>();
-    let words = match order {
-        Order::Big => words
-            .iter()
-            .map(|word| u32::from_be_bytes(*word))
-            .collect(alloc)?,
-        Order::Little => words
-            .iter()
-            .map(|word| u32::from_le_bytes(*word))
-            .collect(alloc)?,
-    };
+    let words = words.iter().map(|word| order.word(*word)).collect(alloc)?;
     Ok(Words::from_vec(words))
 }

@@ -8,7 +8,8 @@ use crate::packet::{MAX_BODY_WORDS, Order, Packet, PacketKind};
 use ipb_base::NoMemory;
 use std::alloc::Global;
 
-/// The bytes of a packet.
+/// The bytes of a packet (IPbus 2.0, packet header), each word in the packet's byte order. Only a control packet may be
+/// little-endian, and a body has at most `MAX_BODY_WORDS` words (profile). `NoMemory` where memory for the bytes ran out.
 pub fn write_packet(alloc: Global, packet: &Packet) -> Result<Vec<u8>, NoMemory>
     requires length { length packet.now.body ≤ MAX_BODY_WORDS }
     requires order { packet.now.order ≡ Order.Little → packet.now.kind ≡ PacketKind.Control }
@@ -38,10 +39,6 @@ fn write_words(alloc: Global, order: Order, header: u32, body: &[u32]) -> Result
 fn push_word(bytes: &mut Vec<u8>, order: Order, word: u32) -> Result<(), NoMemory>
     ensures { OnOk result (bytes.new.items ≡ bytes.old.items ++ word_in_order order word) }
 {
-    let four = match order {
-        Order::Big => word.to_be_bytes(),
-        Order::Little => word.to_le_bytes(),
-    };
-    bytes.extend_from_slice(&four)?;
+    bytes.extend_from_slice(&order.bytes(word))?;
     Ok(())
 }

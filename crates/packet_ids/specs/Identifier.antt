@@ -1,19 +1,21 @@
--- Packet identifiers of IPbus 2.0. The control packets on a link have the identifiers 1 to 0xffff in turn, and 1 follows
--- 0xffff. Identifier 0 is no number in this order: it marks a packet that is executed whenever it arrives.
+-- Packet identifiers (IPbus 2.0, packet identifiers). The control packets on a link have the identifiers 1 to 0xffff in
+-- turn, and 1 follows 0xffff. Identifier 0 is no number in this order: it marks a packet that is executed whenever it
+-- arrives.
 use Rattle.std.specs.Prelude.{◌≡◌, ℕ, ◌+◌, ◌-◌, ◌%◌, ◌<◌, ◌≤◌, ◌==◌, if◌then◌else◌}
+use Rattle.packet_ids.specs.declared.places.TheConstants.{IDENTIFIERS}
 
 -- a number that a packet in the order can have
 pub record IsIdentifier (n : ℕ) : Type 0 where
   pub from_one : 1 ≤ n
-  pub up_to_end : n ≤ 65535
+  pub up_to_end : n ≤ IDENTIFIERS
 
--- The identifier of the packet at a place. Places count from 1, and the packet at place 1 has the identifier `first`.
+-- the identifier of the packet at a place, counted from 1, where the packet at place 1 has the identifier `first`
 abbrev pub identifier_at : ℕ → ℕ → ℕ
-identifier_at first place = (first + place - 2) % 65535 + 1
+identifier_at first place = (first + place - 2) % IDENTIFIERS + 1
 
 -- the identifier that follows another
 abbrev pub following : ℕ → ℕ
-following n = if n == 65535 then 1 else n + 1
+following n = if n == IDENTIFIERS then 1 else n + 1
 
 -- place is one of the `len` places from `low` on, and the packet there has this identifier
 pub record IsPlaceOf (first low len id place : ℕ) : Type 0 where
@@ -21,7 +23,7 @@ pub record IsPlaceOf (first low len id place : ℕ) : Type 0 where
   pub within : place < low + len
   pub identifier : identifier_at first place ≡ id
 
--- two places with at most 65,534 steps from one to the other, in either direction
+-- two places with fewer steps from one to the other, in either direction, than there are identifiers
 pub record AreNear (place other : ℕ) : Type 0 where
-  pub ahead : other ≤ place + 65534
-  pub behind : place ≤ other + 65534
+  pub ahead : other < place + IDENTIFIERS
+  pub behind : place < other + IDENTIFIERS

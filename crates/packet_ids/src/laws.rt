@@ -2,6 +2,7 @@
 
 ghost use Rattle.std.specs.Prelude.{◌≡◌, ℕ, ◌+◌, ◌^◌, ◌≤◌};
 ghost use Rattle.packet_ids.specs.Identifier.{identifier_at, following, IsIdentifier, IsPlaceOf, AreNear};
+ghost use Rattle.packet_ids.specs.declared.places.TheConstants.{IDENTIFIERS};
 
 /// The packet at place 1 has the first identifier, each next packet the following one, and 0 never comes.
 pub fn identifiers_follow_each_other()
@@ -11,7 +12,7 @@ pub fn identifiers_follow_each_other()
     ensures never_zero { (first place : ℕ) → IsIdentifier (identifier_at first place) }
 {}
 
-/// Among places with at most 65,534 steps between them an identifier names one place.
+/// Among places with fewer steps between them than there are identifiers, an identifier names one place.
 pub fn an_identifier_names_one_place_nearby()
     ensures { (first place other : ℕ) → IsIdentifier first → 1 ≤ place → 1 ≤ other → AreNear place other →
         identifier_at first place ≡ identifier_at first other → place ≡ other }
@@ -20,7 +21,7 @@ pub fn an_identifier_names_one_place_nearby()
 /// After as many places as there are identifiers they begin again.
 pub fn identifiers_come_again()
     ensures { (first place : ℕ) → IsIdentifier first → 1 ≤ place →
-        identifier_at first (place + 65535) ≡ identifier_at first place }
+        identifier_at first (place + IDENTIFIERS) ≡ identifier_at first place }
 {}
 
 /// From the first identifier 65534 the places 1 to 5 have the identifiers 65534, 65535, 1, 2 and 3.

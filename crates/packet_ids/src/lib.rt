@@ -9,7 +9,7 @@ pub mod laws;
 mod places;
 
 pub use id::Id;
-pub use places::{id_at, place_of};
+pub use places::{IDENTIFIERS, id_at, place_of};
 
 #[cfg(test)]
 mod tests;

@@ -3,8 +3,8 @@ ghost use Rattle.packet_ids.specs.Identifier.{identifier_at, IsPlaceOf};
 
 use crate::Id;
 
-/// How many identifiers there are, 1 to 0xffff.
-const IDENTIFIERS: u64 = 0xffff;
+/// How many packet identifiers there are, 1 to 0xffff (IPbus 2.0, packet identifiers).
+pub const IDENTIFIERS: u64 = 0xffff;
 
 /// The identifier of the packet at a place, where the packet at place 1 has the identifier `first`
 /// (IPbus 2.0, packet identifiers: each goes up by one, and 1 follows 0xffff).
@@ -18,7 +18,8 @@ pub fn id_at(first: Id, place: u64) -> Id
 }
 
 /// The place with the identifier `id` among the `len` places from `low` on, or `None` where no place among them has
-/// it. `len` is at most 256; up to 65,535 places in a row no identifier stands twice.
+/// it (IPbus 2.0, packet identifiers). `len` is at most 256 (profile): in up to `IDENTIFIERS` places in a row no
+/// identifier stands twice.
 pub fn place_of(first: Id, low: u64, len: u64, id: Id) -> Option<u64>
     requires few { len ≤ 256 }
     requires from_one { 1 ≤ low }
@@ -31,10 +32,10 @@ pub fn place_of(first: Id, low: u64, len: u64, id: Id) -> Option<u64>
     if ahead < len { Some(low + ahead) } else { None }
 }
 
-/// How many steps lead from one identifier up to another, past 0xffff where need be: 0 to 65,534.
+/// How many steps lead from one identifier up to another, past 0xffff where need be: and fewer than `IDENTIFIERS`.
 fn steps(from: Id, to: Id) -> u64
-    ensures few { result < 65535 }
-    ensures reached { (from + result - 1) % 65535 + 1 ≡ to }
+    ensures few { result < IDENTIFIERS }
+    ensures reached { (from + result - 1) % IDENTIFIERS + 1 ≡ to }
 {
     let from = u64::from(from.get());
     let to = u64::from(to.get());

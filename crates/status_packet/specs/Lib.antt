@@ -1,4 +1,4 @@
 pub mod Range
 pub mod Packets
-pub mod Told
+pub mod StatusBytes
 pub mod Reading

@@ -1,4 +1,4 @@
--- What a board may tell of itself.
+-- What a board may tell of itself. Profile.
 use Rattle.std.specs.Prelude.{ℕ, ◌≤◌}
 use Rattle.status_packet.specs.declared.status.TheConstants.{MIN_MTU, MAX_MTU, MAX_BUFFERS}
 

@@ -9,7 +9,7 @@ mod writing;
 
 pub use packet_ids::Id;
 pub use reading::{is_status_request, read_resend, read_status_reply};
-pub use status::{BadStatus, MAX_BUFFERS, MAX_MTU, MIN_MTU, STATUS_BYTES, Status};
+pub use status::{BadStatus, MAX_BUFFERS, MAX_MTU, MIN_MTU, RESEND_BYTES, STATUS_BYTES, Status};
 pub use writing::{write_resend, write_status_reply, write_status_request};
 
 #[cfg(test)]

@@ -1,5 +1,8 @@
-use Rattle.board_bus.proofs.Bodies.{run_body-first}
+use Rattle.board_bus.proofs.Bodies.{run_body-done, run_body-failed}
 use Rattle.board_bus.proofs.laws.a_body_is_executed_in_order.Goals as goal
 
-pub returns : goal.returns
-returns c = run_body-first
+pub returns-clause-success : goal.returns-clause-success
+returns-clause-success c = run_body-done
+
+pub returns-clause-failed : goal.returns-clause-failed
+returns-clause-failed c = run_body-failed

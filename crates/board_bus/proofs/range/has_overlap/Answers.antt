@@ -27,4 +27,5 @@ pub returns : goal.returns
 returns c =
     let up : IsNonDecreasingBy from c.sort_unstable_by_key.new.self.items =
     IsNonDecreasingBy-from_sort_by_key from _ c.sort_unstable_by_key.ensures.sorted (λ a r q k. search rules) in
-    found_is c.args.ranges.now c.in_ok-spans.spans.items c.sort_unstable_by_key.new.self.items c.any_meets_next.result c.requires c.in_ok-spans.ensures c.sort_unstable_by_key.ensures.permutation up (rw (← c.deref.ensures.value) c.any_meets_next.ensures)
+    found_is c.args.ranges.now c.in_ok-spans.spans.items c.sort_unstable_by_key.new.self.items c.any_meets_next.result c.requires c.in_ok-spans.ensures
+    c.sort_unstable_by_key.ensures.permutation up (rw (← c.deref.ensures.value) c.any_meets_next.ensures)

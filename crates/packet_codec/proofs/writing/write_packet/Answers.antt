@@ -1,5 +1,5 @@
 use Rattle.std.proofs.Common.{rules, arith}
-use Rattle.packet_codec.proofs.WordLemmas.{AreWords-at}
+use Rattle.ipb_base.proofs.WordLemmas.{AreWords-at}
 use Rattle.packet_codec.proofs.writing.write_packet.Goals as goal
 
 pub returns-clause-packet : goal.returns-clause-packet

@@ -19,7 +19,9 @@ returns-in-Some-write_fault-clause-refused c =
     let there : position (λ b. holds b c.args.address) c.self.inside.blocks.items ≡ Some c.in-Some.place = cc in
     let below : c.args.address < 2 ^ 32 = omega arith in
     let fault : write_fault c.index_mut-block.result.now.kind ≡ Some c.in-Some-write_fault.fault = cc in
-    ap (write_cell c.args.self.now c.args.address c.args.word) (present _ _ _ _ _ c.self.view_is below there c.index_mut-block.ensures.value) ∙ ap (λ refused. unless refused (put nat_cmp c.args.address (record { kind = c.index_mut-block.result.now.kind; word = c.args.word }) c.args.self.now)) fault
+    let b = c.index_mut-block.result.now in
+    ap (write_cell c.args.self.now c.args.address c.args.word) (present _ _ _ _ _ c.self.view_is below there c.index_mut-block.ensures.value)
+    ∙ ap (λ refused. unless refused (put nat_cmp c.args.address (record { kind = b.kind; word = c.args.word }) c.args.self.now)) fault
 
 pub overflow_sub-address : goal.overflow_sub-address
 overflow_sub-address c =
@@ -42,4 +44,5 @@ returns-clause-written c =
     let b = c.index_mut-block.result.now in
     ap (write_cell c.args.self.now c.args.address c.args.word) (present _ _ _ _ _ c.self.view_is below there c.index_mut-block.ensures.value)
     ∙ ap (λ refused. unless refused (put nat_cmp c.args.address (record { kind = b.kind; word = c.args.word }) c.args.self.now)) fine
-    ∙ ap (λ (m : CellMap). Ok m) (sym (written _ c.args.self.now c.args.address c.in-Some.place c.args.word b _ c.self.view_is there c.index_mut-block.ensures.value record { base = refl; kind = refl; words = refl }))
+    ∙ ap (λ (m : CellMap). Ok m)
+    (sym (written _ c.args.self.now c.args.address c.in-Some.place c.args.word b _ c.self.view_is there c.index_mut-block.ensures.value record { base = refl; kind = refl; words = refl }))

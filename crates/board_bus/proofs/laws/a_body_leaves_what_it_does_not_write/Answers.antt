@@ -1,5 +1,5 @@
 use Rattle.board_bus.proofs.Untouched.{untouched}
-use Rattle.board_bus.proofs.laws.a_body_changes_what_it_writes.Goals as goal
+use Rattle.board_bus.proofs.laws.a_body_leaves_what_it_does_not_write.Goals as goal
 
 pub returns : goal.returns
 returns c = untouched
