@@ -6,8 +6,8 @@ use Rattle.std.specs.Bool.{Decides}
 use Rattle.ipb_base.specs.Faults.{Rose}
 use Rattle.ipb_outside.specs.Told.{AppendsPart}
 use Rattle.ipbus_program.specs.declared.answer.Refusal.TheVariants.{TooLong, NotToml, NotBuilt}
-use Rattle.ipbus_program.specs.declared.answer.TheConstants.{WRITE_FAULT, MAX_DOCUMENT}
-use Rattle.ipbus_program.specs.Owed.{ReadToEnd, AnswersInput, Owes, OwesText, WroteOwedPart}
+use Rattle.ipbus_program.specs.declared.answer.TheConstants.{DONE, WRITE_FAULT, MAX_DOCUMENT}
+use Rattle.ipbus_program.specs.Owed.{ReadToEnd, OwesTranscript, AnswersInput, Owes, OwesText, Wrote, WroteOwed, WroteOwedPart}
 use Rattle.std.proofs.lemmas.Slice.Eq.{bytes_eq-Decides}
 use Rattle.ipbus_program.specs.Steps.{AnswersBytes, Delivers}
 
@@ -50,3 +50,10 @@ pub part_written : (words : List (String Global)) (before now : Option (List ℕ
 part_written words before now status text given same old new met meets result owes (inl (is, wrote)) fault = absurd (not_a_fault words before now status text owes (sym is ∙ fault))
 part_written words before now status text given same old new met meets result owes (inr (is, (rose, part))) fault =
     (rose, (text, (status, owes), subst (AppendsPart old new) same part))
+
+-- where the status is 0, the transcript that is owed was written whole
+pub done_whole : (before now : Option (List ℕ)) (status : ℕ) (text given : List ℕ) → given ≡ text → (old new : Option (List ℕ)) (met meets result : ℕ)
+    → AnswersInput before now status text → Delivers status given old new met meets result → result ≡ DONE → WroteOwed (OwesTranscript before now) old new
+done_whole before now status text given same old new met meets result (inl (is, owes)) (inl (delivered, wrote)) done = (text, owes, subst (Wrote old new) same wrote)
+done_whole before now status text given same old new met meets result (inr (is, owes)) (inl (delivered, wrote)) done = absurd (omega arith)
+done_whole before now status text given same old new met meets result answer (inr (fault, part)) done = absurd (omega arith)

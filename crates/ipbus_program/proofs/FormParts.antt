@@ -1,11 +1,10 @@
 -- Reading a step, a value and a field: what was found is what the form says, and what the form says is found again.
-use Rattle.std.proofs.Common.{◌≡◌, ℕ, ◌^◌, pos, List, [], ◌∷◌, Bool, true, Option, Some, None, ◌<◌, ◌≤◌, ◌&&◌, length, refl, sym, ap, subst, ◌∙◌, nat_lt, nat_le, ◌==◌, eqb-true, eq-eqb, ltb-true, lt-ltb, leb-true, le-leb, Decides}
-use Rattle.std.specs.List.{AllByRecursion, list_all}
-use Rattle.std.proofs.lemmas.Bool.Decides.{Decides-and, Decides-or, Decides-eqb}
+use Rattle.std.proofs.Common.{◌≡◌, ℕ, ◌^◌, pos, List, [], ◌∷◌, Bool, true, IsTrue, Option, Some, None, ◌<◌, refl, sym, ap, subst, ◌∙◌, nat_lt, ◌==◌, eqb-true, eq-eqb, ltb-true, lt-ltb}
 use Rattle.std.proofs.lemmas.Option.{cond_some, none-some, same_Some}
 use Rattle.toml.specs.Data.{Data, Items, no_items, item, Members, no_members, member, string, integer, array, table, get_member, as_str, as_table}
-use Rattle.ipbus_program.specs.Fields.{◌>>=◌, checked, values, only, only_member, member_count, is_name, is_name_byte, word_of, values_of, fields_of, text_at, name_at, word_at, values_at}
-use Rattle.ipbus_program.specs.FirstForm.{IsNumber, HasNumber, IsName, IsNameByte}
+use Rattle.address_table.specs.Rules.{is_id}
+use Rattle.ipbus_program.specs.Fields.{◌>>=◌, checked, values, only, only_member, member_count, word_of, values_of, fields_of, text_at, name_at, word_at, values_at}
+use Rattle.ipbus_program.specs.FirstForm.{IsNumber, HasNumber}
 
 -- a step found something, and those after it went on from there
 pub step_found : {A B P : Type 0} (first : Option A) (rest : A → Option B) {y : B} → (first >>= rest) ≡ Some y
@@ -70,33 +69,6 @@ pub fields_of_again : (count : ℕ) (value : Data) (fields : Members) → value 
 fields_of_again count value fields is_table counted =
     ap (fields_of count) is_table ∙ checked_again (member_count fields == count) fields (eq-eqb _ _ counted)
 
--- ---- names
-
-between-Decides : (low high n : ℕ) → Decides (nat_le low n && nat_le n high) ((low ≤ n) × (n ≤ high))
-between-Decides low high n = Decides-and (nat_le low n) (nat_le n high) (leb-true _ _, le-leb _ _) (leb-true _ _, le-leb _ _)
-
-is_name_byte-Decides : (byte : ℕ) → Decides (is_name_byte byte) (IsNameByte byte)
-unfolding is_name_byte
-is_name_byte-Decides byte =
-    Decides-or _ _ (between-Decides 65 90 byte)
-    (Decides-or _ _ (between-Decides 97 122 byte)
-    (Decides-or _ _ (between-Decides 48 57 byte)
-    (Decides-or _ _ (Decides-eqb byte 95) (Decides-eqb byte 45))))
-
-name_bytes-Decides : (text : List ℕ) → Decides (list_all is_name_byte text) (AllByRecursion IsNameByte text)
-name_bytes-Decides [] = (λ _. tt, λ _. refl)
-name_bytes-Decides (byte ∷ text) =
-    Decides-and (is_name_byte byte) (list_all is_name_byte text) (is_name_byte-Decides byte) (name_bytes-Decides text)
-
-pub is_name-Decides : (text : List ℕ) → Decides (is_name text) (IsName text)
-unfolding is_name
-is_name-Decides text =
-    let lengths = between-Decides 1 64 (length text) in
-    let both = Decides-and (nat_le 1 (length text) && nat_le (length text) 64) (list_all is_name_byte text) lengths (name_bytes-Decides text) in (
-      λ passed. let parts = both.0 passed in record { not_empty = parts.0.0; not_long = parts.0.1; bytes = parts.1 },
-      λ named. both.1 ((named.not_empty, named.not_long), named.bytes),
-    )
-
 -- ---- fields
 
 module _ (key : List ℕ) (fields : Members) where
@@ -108,15 +80,15 @@ module _ (key : List ℕ) (fields : Members) where
   text_at_again text here = step_again as_str here
 
   -- a name
-  pub name_at_found : (id : List ℕ) → name_at key fields ≡ Some id → (get_member key fields ≡ Some (string id)) × IsName id
+  pub name_at_found : (id : List ℕ) → name_at key fields ≡ Some id → (get_member key fields ≡ Some (string id)) × IsTrue (is_id id)
   name_at_found id found =
       step_found (text_at key fields) _ found λ text here more.
-      let both = checked_found (is_name text) text id more in
-      (text_at_found id (here ∙ ap Some both.1), (is_name-Decides id).0 (ap is_name (sym both.1) ∙ both.0))
+      let both = checked_found (is_id text) text id more in
+      (text_at_found id (here ∙ ap Some both.1), ap is_id (sym both.1) ∙ both.0)
 
-  pub name_at_again : (id : List ℕ) → get_member key fields ≡ Some (string id) → IsName id → name_at key fields ≡ Some id
+  pub name_at_again : (id : List ℕ) → get_member key fields ≡ Some (string id) → IsTrue (is_id id) → name_at key fields ≡ Some id
   name_at_again id here rule =
-      step_again (λ text. checked (is_name text) text) (text_at_again id here) ∙ checked_again (is_name id) id ((is_name-Decides id).1 rule)
+      step_again (λ text. checked (is_id text) text) (text_at_again id here) ∙ checked_again (is_id id) id rule
 
   -- a number
   pub word_at_found : (n : ℕ) → word_at key fields ≡ Some n → HasNumber fields key n

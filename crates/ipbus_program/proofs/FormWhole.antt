@@ -1,12 +1,13 @@
 -- Reading a whole document: what was found is what the form says, and what the form says is found again.
-use Rattle.std.proofs.Common.{◌≡◌, ℕ, List, codes, ◌==◌, Option, Some, None, refl, sym, ap, subst, ◌∙◌, eqb-true, eq-eqb}
+use Rattle.std.proofs.Common.{◌≡◌, ℕ, List, codes, ◌==◌, IsTrue, Option, Some, None, refl, sym, ap, subst, ◌∙◌, eqb-true, eq-eqb}
 use Rattle.std.proofs.lemmas.Option.{none-some, same_Some}
 use Rattle.toml.specs.Data.{Data, Items, no_items, item, Members, no_members, member, array, table, get_member, as_table}
 use Rattle.ipbus_program.specs.declared.session.Session.{Session}
-use Rattle.ipbus_program.specs.Fields.{◌>>=◌, checked, values, only, only_member, member_count, is_name, values_of, values_at}
+use Rattle.address_table.specs.Rules.{is_id}
+use Rattle.ipbus_program.specs.Fields.{◌>>=◌, checked, values, only, only_member, member_count, values_of, values_at}
 use Rattle.ipbus_program.specs.Reading.{registers_of, board_of, script_of, table_of, session_of}
-use Rattle.ipbus_program.specs.FirstForm.{IsListed, IsName, IsNode, IsFirstForm}
-use Rattle.ipbus_program.proofs.FormParts.{step_found, step_again, checked_found, checked_again, is_name-Decides, as_table_found, values_of_found, values_at_again, only_member_found, one_at_found}
+use Rattle.ipbus_program.specs.FirstForm.{IsListed, IsNode, IsFirstForm}
+use Rattle.ipbus_program.proofs.FormParts.{step_found, step_again, checked_found, checked_again, as_table_found, values_of_found, values_at_again, only_member_found, one_at_found}
 use Rattle.ipbus_program.proofs.FormRegisters.{are_distinct-Decides}
 use Rattle.ipbus_program.proofs.FormBoards.{AreNodes, registers_of_found, registers_of_again, board_of_found, board_of_again}
 use Rattle.ipbus_program.proofs.FormScripts.{script_of_found, script_of_again}
@@ -14,7 +15,7 @@ use Rattle.std.specs.List.{AllZip}
 
 -- the document's one table: its name and its nodes
 pub record IsOnlyTable (document : Members) (name : List ℕ) (nodes : List Data) : Type 0 where
-  pub rule : IsName name
+  pub rule : IsTrue (is_id name)
   pub items : Items
   pub tables : get_member (codes "tables") document ≡ Some (table (member name (array items) no_members))
   pub the_values : values items ≡ nodes
@@ -26,22 +27,22 @@ table_of_found document one found =
     step_found (get_member (codes "tables") document) as_table here λ value value_here is_table.
     step_found (only_member tables) _ more λ named named_here more.
     step_found (values_of named.1) _ more λ nodes nodes_here more.
-    let both = checked_found (is_name named.0) (named.0, nodes) one more in
+    let both = checked_found (is_id named.0) (named.0, nodes) one more in
     let all = values_of_found named.1 nodes nodes_here in
     let whole = as_table_found value tables is_table ∙ ap table (only_member_found tables named named_here ∙ ap (λ v. member named.0 v no_members) all.is_array) in
     subst (λ (t : List ℕ × List Data). IsOnlyTable document t.0 t.1) both.1 (record {
-      rule = (is_name-Decides named.0).0 both.0;
+      rule = both.0;
       items = all.items;
       tables = value_here ∙ ap Some whole;
       the_values = all.the_values;
     })
 
 pub table_of_again : (document : Members) (name : List ℕ) (items : Items) → get_member (codes "tables") document ≡ Some (table (member name (array items) no_members))
-    → IsName name → table_of document ≡ Some (name, values items)
+    → IsTrue (is_id name) → table_of document ≡ Some (name, values items)
 unfolding table_of
 table_of_again document name items tables rule =
     step_again _ (step_again as_table tables)
-    ∙ checked_again (is_name name) (name, values items) ((is_name-Decides name).1 rule)
+    ∙ checked_again (is_id name) (name, values items) rule
 
 -- the document
 pub session_of_found : (document : Members) (session : Session) → session_of document ≡ Some session → IsFirstForm document session

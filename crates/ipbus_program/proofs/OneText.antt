@@ -3,7 +3,7 @@ use Rattle.std.proofs.Common.{◌≡◌, ℕ, List, Option, Some, String, Global
 use Rattle.ipbus_program.specs.declared.session.Session.{Session}
 use Rattle.ipbus_program.specs.Document.{CanRun}
 use Rattle.ipbus_program.specs.Text.{refusal_text}
-use Rattle.ipbus_program.specs.Owed.{IsAccepted, IsTranscriptOf, OwesTranscript, AnswersInput, Owes}
+use Rattle.ipbus_program.specs.Owed.{IsAccepted, IsTranscriptOf, AnswersInput, Owes}
 use Rattle.ipbus_program.proofs.CanRun.{can_run}
 use Rattle.ipbus_program.proofs.OneTranscript.{same_text}
 use Rattle.ipbus_program.proofs.Deserved.{one_session_of_bytes, accepted_not_refused, one_refusal, refused_deserves, transcript_accepted}

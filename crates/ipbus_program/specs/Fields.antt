@@ -1,8 +1,7 @@
 -- Fields of a parsed table: what stands under a key, and of which kind it is. Profile. This is how the code reads, as in Reading;
 -- of it the form cites `values` and `member_count` alone.
-use Rattle.std.specs.Prelude.{ℕ, ◌+◌, ◌^◌, pos, List, [], ◌∷◌, length, Bool, ◌&&◌, ◌||◌, ◌==◌, nat_lt, nat_le, if◌then◌else◌, Option, Some, None}
-use Rattle.std.specs.List.{list_all}
-use Rattle.ipbus_program.specs.declared.answer.TheConstants.{MAX_NAME}
+use Rattle.std.specs.Prelude.{ℕ, ◌+◌, ◌^◌, pos, List, [], ◌∷◌, Bool, ◌==◌, nat_lt, if◌then◌else◌, Option, Some, None}
+use Rattle.address_table.specs.Rules.{is_id}
 use Rattle.toml.specs.Data.{Data, Items, no_items, item, Members, no_members, member, integer, get_member, as_str, as_array, as_table}
 
 infixl 10 ◌>>=◌
@@ -42,16 +41,6 @@ each f (x ∷ xs) = do
   ys ← each f xs
   Some (y ∷ ys)
 
--- a byte of a name: a letter, a digit, `_` or `-`
-unfoldable pub is_name_byte : ℕ → Bool
-is_name_byte byte =
-    (nat_le 65 byte && nat_le byte 90)
-    || ((nat_le 97 byte && nat_le byte 122) || ((nat_le 48 byte && nat_le byte 57) || ((byte == 95) || (byte == 45))))
-
--- a name: 1 to 64 of these bytes
-unfoldable pub is_name : List ℕ → Bool
-is_name text = nat_le 1 (length text) && nat_le (length text) MAX_NAME && list_all is_name_byte text
-
 -- a number of the document: an integer from 0 to 2 ^ 32 - 1
 abbrev pub word_of : Data → Option ℕ
 word_of (integer (pos n)) = if nat_lt n (2 ^ 32) then Some n else None
@@ -76,7 +65,7 @@ text_at key fields = get_member key fields >>= as_str
 abbrev pub name_at : List ℕ → Members → Option (List ℕ)
 name_at key fields = do
   text ← text_at key fields
-  checked (is_name text) text
+  checked (is_id text) text
 
 abbrev pub word_at : List ℕ → Members → Option ℕ
 word_at key fields = get_member key fields >>= word_of

@@ -1,26 +1,16 @@
 -- The first form of a session document: which parsed TOML stands for which session. A table in which some number of different
 -- keys is found, and which has that number of keys, has exactly these. Profile; nodes, ids and addresses as uHAL has them.
-use Rattle.std.specs.Prelude.{◌≡◌, ℕ, ◌≤◌, ◌<◌, ◌⊎◌, pos, List, [], ◌∷◌, ◌++◌, length, map, codes, Contains, Some}
-use Rattle.std.specs.List.{AllByRecursion, AllZip, IsDistinct}
+use Rattle.std.specs.Prelude.{◌≡◌, ℕ, ◌≤◌, ◌<◌, pos, List, ◌++◌, length, map, codes, Contains, Some, IsTrue}
+use Rattle.std.specs.List.{AllZip, IsDistinct}
 use Rattle.std.specs.Str.{bytes_eq}
 use Rattle.toml.specs.Data.{Data, Items, no_items, item, Members, no_members, member, string, integer, array, table, get_member}
 use Rattle.ipb_base.specs.Word.{IsWord}
-use Rattle.ipbus_program.specs.declared.answer.TheConstants.{MAX_NAME, MAX_LISTED, MAX_RANGE}
+use Rattle.address_table.specs.Rules.{is_id}
+use Rattle.ipbus_program.specs.declared.answer.TheConstants.{MAX_LISTED, MAX_RANGE}
 use Rattle.ipbus_program.specs.declared.session.Register.{Register}
 use Rattle.ipbus_program.specs.declared.session.BoardSpec.{BoardSpec}
 use Rattle.ipbus_program.specs.declared.session.Session.{Session}
 use Rattle.ipbus_program.specs.Fields.{values, member_count}
-
--- in ASCII a letter from `A` to `Z` or from `a` to `z`, a digit from `0` to `9`, `_` or `-`
-abbrev pub IsNameByte : ℕ → Type 0
-IsNameByte byte =
-    (65 ≤ byte × byte ≤ 90) ⊎ (97 ≤ byte × byte ≤ 122) ⊎ (48 ≤ byte × byte ≤ 57) ⊎ (byte ≡ 95) ⊎ (byte ≡ 45)
-
--- a name, or the id of a register, is 1 to 64 of these bytes
-pub record IsName (text : List ℕ) : Type 0 where
-  pub not_empty : 1 ≤ length text
-  pub not_long : length text ≤ MAX_NAME
-  pub bytes : AllByRecursion IsNameByte text
 
 -- 1 to 100 items
 abbrev pub IsListed : {A : Type 0} → List A → Type 0
@@ -37,13 +27,13 @@ pub record HasNumber (fields : Members) (key : List ℕ) (number : ℕ) : Type 0
   pub under_key : get_member key fields ≡ Some value
   pub is_number : IsNumber value number
 
--- a node of the table has exactly the keys `id`, by the rule of names, and `address`, a number below the size of the board's range
+-- a node of the table has exactly the keys `id`, by the rule of ids, and `address`, a number below the size of the board's range
 pub record IsNode (size : ℕ) (value : Data) (register : Register) : Type 0 where
   pub fields : Members
   pub is_table : value ≡ table fields
   pub no_other_key : member_count fields ≡ 2
   pub id : get_member (codes "id") fields ≡ Some (string register.id)
-  pub id_rule : IsName register.id
+  pub id_rule : IsTrue (is_id register.id)
   pub address : HasNumber fields (codes "address") register.address
   pub below_size : register.address < size
 
@@ -61,13 +51,13 @@ pub record IsRange (value : Data) (size : ℕ) (init : List ℕ) : Type 0 where
   pub words : AllZip IsNumber (values numbers) init
   pub fits : length (values numbers) ≤ size
 
--- a board has exactly the keys `name`, by the rule of names, `table`, the name of the table, and `ranges`, an array of one range
+-- a board has exactly the keys `name`, by the rule of ids, `table`, the name of the table, and `ranges`, an array of one range
 pub record IsBoard (table_name : List ℕ) (value : Data) (board : BoardSpec) : Type 0 where
   pub fields : Members
   pub is_table : value ≡ table fields
   pub no_other_key : member_count fields ≡ 3
   pub name : get_member (codes "name") fields ≡ Some (string board.name)
-  pub name_rule : IsName board.name
+  pub name_rule : IsTrue (is_id board.name)
   pub table_key : get_member (codes "table") fields ≡ Some (string table_name)
   pub range : Data
   pub ranges : get_member (codes "ranges") fields ≡ Some (array (item range no_items))
@@ -93,7 +83,7 @@ pub record IsClient (board_name : List ℕ) (registers : List Register) (value :
 pub record IsFirstForm (document : Members) (session : Session) : Type 0 where
   pub no_other_key : member_count document ≡ 3
   pub table_name : List ℕ
-  pub table_rule : IsName table_name
+  pub table_rule : IsTrue (is_id table_name)
   pub nodes : Items
   pub tables : get_member (codes "tables") document ≡ Some (table (member table_name (array nodes) no_members))
   pub registers : List Register

@@ -10,7 +10,8 @@ use Rattle.ipbus_program.specs.declared.session.BoardSpec.{BoardSpec}
 use Rattle.ipbus_program.specs.declared.session.Session.{Session}
 use Rattle.ipbus_program.specs.declared.document.DocumentError.{DocumentError}
 use Rattle.ipbus_program.specs.declared.document.DocumentError.TheVariants as errors
-use Rattle.ipbus_program.specs.Fields.{◌>>=◌, checked, only, only_member, each, member_count, values_of, is_name, word_of, fields_of, text_at, name_at, word_at, values_at}
+use Rattle.address_table.specs.Rules.{is_id}
+use Rattle.ipbus_program.specs.Fields.{◌>>=◌, checked, only, only_member, each, member_count, values_of, word_of, fields_of, text_at, name_at, word_at, values_at}
 
 -- A reader answers, seen by view, what its definition reads, want of memory aside.
 abbrev pub RefusesAs : {Y : Type 0} → DocumentError → Option Y → Type 0
@@ -99,7 +100,7 @@ table_of document = do
   tables ← get_member (codes "tables") document >>= as_table
   one ← only_member tables
   nodes ← values_of one.1
-  checked (is_name one.0) (one.0, nodes)
+  checked (is_id one.0) (one.0, nodes)
 
 unfoldable pub session_of : Members → Option Session
 session_of document = do

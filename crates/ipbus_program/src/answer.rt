@@ -17,8 +17,6 @@ pub const NO_MEMORY: u8 = 6;
 
 /// The most bytes of a session document.
 pub const MAX_DOCUMENT: usize = 16_777_216;
-/// The most bytes of a name in it, and of a register's id.
-pub const MAX_NAME: usize = 64;
 /// The most nodes of its table, and lines of a script.
 pub const MAX_LISTED: usize = 100;
 /// The most addresses of a board's range, in words.

@@ -14,8 +14,8 @@ mod text;
 pub mod worked;
 
 pub use answer::{
-    DONE, MAX_DOCUMENT, MAX_LISTED, MAX_NAME, MAX_RANGE, NO_MEMORY, READ_FAULT, REFUSED, Refusal,
-    USAGE, WRITE_FAULT,
+    DONE, MAX_DOCUMENT, MAX_LISTED, MAX_RANGE, NO_MEMORY, READ_FAULT, REFUSED, Refusal, USAGE,
+    WRITE_FAULT,
 };
 pub use edges::{ReaderSource, WriterSink};
 pub use program::control;

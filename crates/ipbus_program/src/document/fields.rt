@@ -1,40 +1,13 @@
 //! Fields of a parsed table.
 
 ghost use Rattle.std.specs.Prelude.{◌≡◌, ◌==◌, option_map, map};
-ghost use Rattle.std.specs.List.{list_all};
 ghost use Rattle.std.specs.Option.{option_copied};
 ghost use Rattle.toml.specs.Data.{get_member, as_table, as_array};
 ghost use Rattle.toml.specs.View.{view, table_view, items_view};
-ghost use Rattle.ipbus_program.specs.Fields.{member_count, is_name, is_name_byte, word_of, fields_of, text_at, name_at, word_at, values_of, values_at, only_member};
+ghost use Rattle.ipbus_program.specs.Fields.{member_count, word_of, fields_of, text_at, name_at, word_at, values_of, values_at, only_member};
 
-use crate::answer::MAX_NAME;
+use address_table::is_id;
 use toml::{Table, Value};
-
-/// A letter, a digit, `_` or `-`.
-#[tactic(auto, unfolding(crate::specs::Fields::is_name_byte))]
-fn is_name_byte(byte: u8) -> bool
-    ensures { result ≡ is_name_byte byte }
-{
-    matches!(byte, b'A'..=b'Z' | b'a'..=b'z' | b'0'..=b'9' | b'_' | b'-')
-}
-
-fn are_name_bytes(bytes: &[u8]) -> bool
-    ensures { result ≡ list_all is_name_byte bytes.now }
-{
-    bytes.iter().all(|byte| is_name_byte(*byte))
-}
-
-/// 1 to `MAX_NAME` of those bytes.
-#[tactic(auto, unfolding(crate::specs::Fields::is_name))]
-pub fn is_name(text: &str) -> bool
-    ensures { result ≡ is_name text.now }
-{
-    let bytes = text.as_bytes();
-    if bytes.is_empty() || bytes.len() > MAX_NAME {
-        return false;
-    }
-    are_name_bytes(bytes)
-}
 
 /// A number of the document.
 pub fn word(value: &Value) -> Option<u32>
@@ -95,7 +68,11 @@ pub fn name<'a>(fields: &'a Table, key: &str) -> Option<&'a str>
     ensures { option_copied result ≡ name_at key.now (table_view fields.now) }
 {
     let text = text(fields, key)?;
-    if is_name(text) { Some(text) } else { None }
+    if is_id(text.as_bytes()) {
+        Some(text)
+    } else {
+        None
+    }
 }
 
 /// The number under a key.

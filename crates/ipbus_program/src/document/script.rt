@@ -7,9 +7,10 @@ ghost use Rattle.ipbus_program.specs.Fields.{each};
 ghost use Rattle.ipbus_program.specs.Reading.{ReadsAs, after, read_of, script_of, table_of, session_of};
 
 use crate::document::DocumentError;
-use crate::document::fields::{array, fields, get, has_keys, is_name, only_member, values};
+use crate::document::fields::{array, fields, get, has_keys, only_member, values};
 use crate::document::parts::{board, is_listed, only, register_with, registers};
 use crate::session::{Register, Registers, Session};
+use address_table::is_id;
 use ipb_base::Text;
 use std::alloc::Global;
 use toml::{Table, Value};
@@ -85,7 +86,7 @@ fn table(document: &Table) -> Option<(&str, &[Value])>
     let tables = tables.as_table()?;
     let (name, value) = only_member(tables)?;
     let nodes = values(value)?;
-    if is_name(name) {
+    if is_id(name.as_bytes()) {
         Some((name, nodes))
     } else {
         None

@@ -3,7 +3,7 @@ use Rattle.ipbus_program.specs.declared.answer.Refusal.TheVariants.{TooLong, Not
 use Rattle.ipbus_program.specs.declared.answer.TheConstants.{USAGE}
 use Rattle.ipbus_program.specs.Text.{usage_text}
 use Rattle.ipbus_program.specs.Owed.{AreRun}
-use Rattle.ipbus_program.proofs.Causes.{part_written}
+use Rattle.ipbus_program.proofs.Causes.{done_whole, part_written}
 use Rattle.ipbus_program.proofs.Deserved.{accepted_done, deserved_refused, taken_of_long}
 use Rattle.ipbus_program.proofs.program.control.Goals as goal
 
@@ -12,6 +12,15 @@ returns-then-not-are_run-clause-write_fault g c =
     let left = g.S.Source.left c.args.input.now in
     let not_run : ¬ AreRun c.args.words.now = search rules in
     part_written c.args.words.now left left USAGE usage_text usage_text refl _ _ _ _ c.deliver.result (inr (not_run, (refl, record { unread = refl; usage = refl }))) c.deliver.ensures.delivers
+
+pub returns-in-Ok-clause-done : goal.returns-in-Ok-clause-done
+returns-in-Ok-clause-done g c done =
+    let run : AreRun c.args.words.now = search rules in
+    let answer = c.in-Ok.answer in (
+      run,
+      done_whole (g.S.Source.left c.args.input.now) (g.S.Source.left c.answer_input.new.input) answer.status (string_bytes answer.text) _ c.as_str.ensures.value
+          _ _ _ _ c.deliver-in-Ok.result c.in-Ok.ensures.answer c.deliver-in-Ok.ensures.delivers done,
+    )
 
 pub returns-in-Ok-clause-write_fault : goal.returns-in-Ok-clause-write_fault
 returns-in-Ok-clause-write_fault g c =
