@@ -1,5 +1,6 @@
 -- The reply to a body is one that a device can give to it.
 use Rattle.std.proofs.Common.{◌≡◌, ℕ, ◌≤◌, inl, inr, Bool, eq-eqb, List, [], ◌∷◌, ◌++◌, length, append_assoc, append-nil, refl, sym, ap, ◌∙◌, subst, arith, lit<}
+use Rattle.std.specs.List.{AllByRecursion, AllZip}
 use Rattle.ipb_base.specs.Word.{AreWords}
 use Rattle.ipb_base.proofs.WordLemmas.{AreWords-after}
 use Rattle.transaction_codec.specs.declared.request.Request.{Request}
@@ -12,8 +13,8 @@ use Rattle.transaction_codec.proofs.Requests.{request_again}
 use Rattle.transaction_codec.proofs.Longest.{answer_is_reply, nothing_bad, reply_room_longest}
 use Rattle.board_bus.specs.Cells.{CellMap, HoldsWords}
 use Rattle.board_bus.specs.Transactions.{transact}
-use Rattle.board_bus.specs.Bodies.{Executed, run_on, run_body}
-use Rattle.board_bus.proofs.Bodies.{run_body-bad_header}
+use Rattle.board_bus.specs.Bodies.{Executed, run_on, run_body, replay}
+use Rattle.board_bus.proofs.Bodies.{run_body-bad_header, run_body-words}
 use Rattle.board_bus.proofs.Requests.{followed, run_body-request}
 use Rattle.board_bus.proofs.Shapes.{shape_of, OpDone, OpFailed}
 use Rattle.board_bus.proofs.WordsKept.{outcome-words}
@@ -102,3 +103,10 @@ answers_any cells body holds fits =
     let cut = (reply_room_longest body fits).given in
     let rest : AreWords cut.rest = AreWords-after (requests_words cut.requests) cut.rest (subst AreWords cut.parts fits) in
     subst (λ (ws : List ℕ). CanAnswer ws (run_body cells ws).reply) (sym cut.parts) (can_answer cells cut.requests cut.rest holds cut.ranges rest cut.bad)
+
+-- Bodies of words one after another: each reply can be given to its body.
+pub replay-answers : (cells : CellMap) (bodies : List (List ℕ)) → HoldsWords cells → AllByRecursion AreWords bodies
+    → AllZip CanAnswer bodies (replay cells bodies).replies
+replay-answers cells [] holds fits = tt
+replay-answers cells (body ∷ bodies) holds fits =
+    (answers_any cells body holds fits.0, replay-answers (run_body cells body).cells bodies (run_body-words cells body holds fits.0) fits.1)

@@ -1,5 +1,6 @@
 -- Bodies one after another, and the words that a bus holds after them.
-use Rattle.std.proofs.Common.{◌≡◌, ◌≢◌, ℕ, suc, zero, List, [], ◌∷◌, ◌++◌, length, Ok, Err, inl, inr, refl, ap, ◌∙◌, subst, arith}
+use Rattle.std.proofs.Common.{◌≡◌, ◌≢◌, ℕ, suc, zero, List, [], ◌∷◌, ◌++◌, length, take, Some, Ok, Err, inl, inr, refl, ap, ◌∙◌, subst, arith}
+use Rattle.std.specs.List.{AllByRecursion, slice_get}
 use Rattle.std.proofs.lemmas.Bool.Decides.{eqb_tells}
 use Rattle.ipb_base.specs.Word.{AreWords}
 use Rattle.ipb_base.proofs.WordLemmas.{AreWords-after}
@@ -30,6 +31,15 @@ pub replay-length : (cells : CellMap) (bodies : List (List ℕ)) → length (rep
 replay-length cells [] = refl
 replay-length cells (body ∷ bodies) = ap suc (replay-length (run_body cells body).cells bodies)
 
+-- the reply at a place is that of the body there, on the bus that those before it left
+pub replay-place : (cells : CellMap) (bodies : List (List ℕ)) (place : ℕ) (body : List ℕ)
+    → slice_get bodies place ≡ Some body
+    → slice_get (replay cells bodies).replies place ≡ Some (run_body (replay cells (take place bodies)).cells body).reply
+replay-place cells [] place body is = absurd cc
+replay-place cells (first ∷ bodies) zero body is =
+    let same : first ≡ body = cc in ap (λ (b : List ℕ). Some (run_body cells b).reply) same
+replay-place cells (first ∷ bodies) (suc place) body is = replay-place (run_body cells first).cells bodies place body is
+
 run_on-words : (first : Transacted) (later : CellMap → Executed) → HoldsWords first.cells → HoldsWords (later first.cells).cells → HoldsWords (run_on first later).cells
 run_on-words first later here after =
     run_on-either (λ e. HoldsWords e.cells) first later after here
@@ -50,6 +60,12 @@ run_requests-words (suc most) (word ∷ after) cells fits holds =
 -- words stay words
 pub run_body-words : (cells : CellMap) (body : List ℕ) → HoldsWords cells → AreWords body → HoldsWords (run_body cells body).cells
 run_body-words cells body holds fits = run_requests-words (length body) body cells fits holds
+
+pub replay-words : (cells : CellMap) (bodies : List (List ℕ)) → HoldsWords cells → AllByRecursion AreWords bodies
+    → HoldsWords (replay cells bodies).cells
+replay-words cells [] holds fits = holds
+replay-words cells (body ∷ bodies) holds fits =
+    replay-words (run_body cells body).cells bodies (run_body-words cells body holds fits.0) fits.1
 
 pub run_body-done : (cells : CellMap) (request : Request) (rest : List ℕ) → IsRequest request → (transact cells request).reply.code ≡ SUCCESS
     → run_body cells (request_words request ++ rest) ≡ after_reply (reply_words (transact cells request).reply) (run_body (transact cells request).cells rest)

@@ -1,6 +1,6 @@
 -- Looking addresses up in cells, in the words of one block and in blocks in a row.
 use Rattle.std.proofs.Common.{◌≡◌, ℕ, ◌+◌, ◌-◌, ◌^◌, ◌<◌, ◌≤◌, ◌⊎◌, inl, inr, Bool, true, false, cond, List, [], ◌∷◌, ◌++◌, length, get_or, set, get_or-set_other, get_or-set_same, length-set, Option, Some, None, refl, sym, ap, ◌∙◌, subst, arith, suc, zero, not, ltb}
-use Rattle.std.proofs.Common.{T}
+use Rattle.std.proofs.Common.{Ok, T}
 use Rattle.std.specs.Ordering.{nat_cmp, eq_by_cmp}
 use Rattle.std.specs.Cmp.{nat_cmp_total}
 use Rattle.std.specs.FinMap.{nat_cmp-IsAntisymmetric}
@@ -13,7 +13,7 @@ use Rattle.std.proofs.lemmas.List.{get_or_default}
 use Rattle.std.proofs.lemmas.List.Quantifiers.{position-Some}
 use Rattle.board_bus.specs.declared.kind.RangeKind.{RangeKind}
 use Rattle.board_bus.specs.declared.bus.Block.{Block}
-use Rattle.board_bus.specs.Cells.{Cell, CellMap, cell_at, cell_map, cells_from}
+use Rattle.board_bus.specs.Cells.{Cell, CellMap, cell_at, cell_map, cells_from, unless, write_cell, write_fault, write_word}
 use Rattle.board_bus.specs.Blocks.{holds, block_cells, cells_of, cell_in}
 
 pub tie_same : (a : ℕ) → eq_by_cmp nat_cmp a a ≡ true
@@ -255,3 +255,13 @@ written blocks cells a place word b changed view some is change =
       | inl same ↦ subst (λ (x : ℕ). find nat_cmp x (flat_map block_cells (set blocks place changed)) ≡ find nat_cmp x (put nat_cmp a cell cells)) (sym same) at_change
       | inr apart ↦ blocks-elsewhere blocks changed a q place word first there apart b ∙ sym (old q) ∙ sym (find-put nat_cmp nat_cmp_total q a cell cells ∙ ap (λ t. cond t (Some cell) (find nat_cmp q cells)) (tie_apart q a apart))
     ])
+
+-- a write of a word that a block holds, where its kind allows it
+pub write_held : (blocks : List Block) (cells : CellMap) (a place word : ℕ) (b changed : Block)
+    → cells_of blocks ≡ cells → a < 2 ^ 32 → position (λ b. holds b a) blocks ≡ Some place
+    → b ≡ get_or blocks place b → write_fault b.kind ≡ None → ChangesOneWord b changed a word
+    → write_word cells a word ≡ Ok (cells_of (set blocks place changed))
+write_held blocks cells a place word b changed view below some is fine change =
+    ap (write_cell cells a word) (present blocks cells a place b view below some is)
+    ∙ ap (λ refused. unless refused (put nat_cmp a (record { kind = b.kind; word = word }) cells)) fine
+    ∙ ap (λ (m : CellMap). Ok m) (sym (written blocks cells a place word b changed view some is change))

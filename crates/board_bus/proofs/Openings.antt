@@ -16,7 +16,7 @@ use Rattle.board_bus.specs.declared.range.Range.{Range}
 use Rattle.board_bus.specs.declared.range.BusRefusal.{BusRefusal}
 use Rattle.board_bus.specs.declared.range.BusRefusal.TheVariants.{Empty, PastEnd, Overlap, TooLarge, InitLong}
 use Rattle.board_bus.specs.Cells.{Cell, HoldsWords, cell_at, cells_from, read_cell, read_fault, read_word, unless}
-use Rattle.board_bus.specs.Ranges.{end_of, is_empty_range, is_past_end, is_init_long, share_address, any_pair, refusal_of, opening_words, range_cells, opening_bus, IsOutside}
+use Rattle.board_bus.specs.Ranges.{end_of, is_empty_range, is_past_end, is_init_long, share_address, any_pair, most_words, refusal_of, opening_words, range_cells, opening_bus, IsOutside}
 use Rattle.board_bus.proofs.Lookups.{find-cell_map, find-front, find-rest, find-within, find-outside, at_address}
 
 none_chosen : (b : Bool) (x : BusRefusal) (rest : Option BusRefusal) → cond b (Some x) rest ≡ None → (b ≡ false) × (rest ≡ None)
@@ -35,7 +35,7 @@ accepted ranges none =
     let empty = none_chosen (list_any is_empty_range ranges) Empty _ none in
     let past = none_chosen (list_any is_past_end ranges) PastEnd _ empty.1 in
     let overlap = none_chosen (any_pair share_address ranges) Overlap _ past.1 in
-    let large = none_chosen (ltb 4194304 (sum_by (λ (r : Range). r.size) ranges)) TooLarge _ overlap.1 in
+    let large = none_chosen (ltb most_words (sum_by (λ (r : Range). r.size) ranges)) TooLarge _ overlap.1 in
     let long = none_chosen (list_any is_init_long ranges) InitLong _ large.1 in
     record { there = empty.0; within = past.0; apart = overlap.0; init = long.0 }
 

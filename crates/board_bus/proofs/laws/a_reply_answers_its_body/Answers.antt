@@ -1,4 +1,4 @@
-use Rattle.board_bus.proofs.Answered.{answers_any, can_answer, is_reply_to}
+use Rattle.board_bus.proofs.Answered.{answers_any, can_answer, is_reply_to, replay-answers}
 use Rattle.board_bus.proofs.laws.a_reply_answers_its_body.Goals as goal
 
 pub returns-clause-requests : goal.returns-clause-requests
@@ -9,3 +9,6 @@ returns-clause-bad_header c = can_answer
 
 pub returns-clause-any : goal.returns-clause-any
 returns-clause-any c = answers_any
+
+pub returns-clause-each : goal.returns-clause-each
+returns-clause-each c = replay-answers

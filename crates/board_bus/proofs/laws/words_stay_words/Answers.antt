@@ -1,5 +1,5 @@
 use Rattle.board_bus.proofs.Openings.{opening-words}
-use Rattle.board_bus.proofs.Bodies.{run_body-words}
+use Rattle.board_bus.proofs.Bodies.{run_body-words, replay-words}
 use Rattle.board_bus.proofs.laws.words_stay_words.Goals as goal
 
 pub returns-clause-opening : goal.returns-clause-opening
@@ -7,3 +7,6 @@ returns-clause-opening c = opening-words
 
 pub returns-clause-after : goal.returns-clause-after
 returns-clause-after c = run_body-words
+
+pub returns-clause-after_all : goal.returns-clause-after_all
+returns-clause-after_all c = replay-words

@@ -1,5 +1,6 @@
 use Rattle.std.proofs.Common.{arith, ap, length, length-append}
 use Rattle.board_bus.specs.Bodies.{run_body}
+use Rattle.transaction_codec.proofs.Steps.{words_fit}
 use Rattle.board_bus.proofs.ReplyLength.{run_body-length}
 use Rattle.board_bus.proofs.bus.Bus.execute.Goals as goal
 
@@ -11,3 +12,6 @@ returns-clause-room c =
     let reply = (run_body c.args.self.now c.args.body.now).reply in
     let most = run_body-length c.args.self.now c.args.body.now in
     omega (arith, ap length c.run.ensures.reply, ap length c.in_ok-reserve.ensures.items, length-append c.reserve.new.self.items reply, most)
+
+pub returns-clause-answer : goal.returns-clause-answer
+returns-clause-answer c = c.answers_bodies.ensures.reply c.args.body.now (words_fit c.args.body.now c.type_inv.body)
