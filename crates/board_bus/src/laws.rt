@@ -17,12 +17,17 @@ ghost use Rattle.board_bus.specs.declared.range.Range.{Range as BusRange};
 ghost use Rattle.board_bus.specs.Cells.{Cell, CellMap, HoldsWords, IsInOrder, cell_at};
 ghost use Rattle.board_bus.specs.Cells.{read_fault, read_word, unless, write_word};
 ghost use Rattle.board_bus.specs.Ranges.{IsOutside, any_pair, holds_address, is_empty_range, share_address};
-ghost use Rattle.board_bus.specs.Ranges.{opening_bus, opening_words, refusal_of};
+ghost use Rattle.board_bus.specs.Ranges.{most_words, opening_bus, opening_words, refusal_of};
 ghost use Rattle.board_bus.specs.Transactions.{EndsAtRefusal, outcome, transact, written_by};
 ghost use Rattle.board_bus.specs.Bodies.{replay, run_body};
 
-use crate::Range;
 use crate::range::start_with_words;
+use crate::{MAX_WORDS, Range};
+
+/// The ranges of a bus have at most this many words together (profile).
+pub fn the_most_words_of_a_bus()
+    ensures { MAX_WORDS ≡ most_words }
+{}
 
 /// Of ranges that are not empty two share an address exactly where some address is in two of them.
 pub fn an_overlap_is_an_address_in_two_ranges()

@@ -78,6 +78,18 @@ impl Range {
         u64::from(self.base) + u64::from(self.size)
     }
 
+    /// The same range in memory of its own.
+    pub fn copy(&self, alloc: Global) -> Result<Range, NoMemory>
+        ensures { IfOk result (λ copied. copied ≡ self.now) }
+    {
+        Ok(Range {
+            base: self.base,
+            size: self.size,
+            kind: self.kind,
+            init: Words::from_vec(self.init.as_slice().to_vec(alloc)?),
+        })
+    }
+
     /// The words that a range starts with have 32 bits. It does nothing when it runs.
     fn starts_with_words(&self)
         ensures { AreWords self.now.init }
