@@ -1,4 +1,5 @@
-ghost use Rattle.std.specs.Prelude.{◌≡◌, ◌≢◌, ◌≤◌, ℕ, All, List, length, IfOk, OnOk, OnErr, MatchResult, IfErr, None, Some};
+ghost use Rattle.std.specs.Prelude.{◌≡◌, ◌≢◌, ◌≤◌, ℕ, All, List, length, IfOk, OnOk, OnErr, MatchResult, IfErr, None};
+ghost use Rattle.std.specs.Prelude.{Some};
 ghost use Rattle.std.specs.List.{AllByRecursion, AllZip, flat_map, position};
 ghost use Rattle.ipb_base.specs.Word.{AreWords};
 ghost use Rattle.transaction_codec.specs.Answer.{CanAnswer};
@@ -98,8 +99,8 @@ impl Bus {
 }
 
 impl Bus {
-    /// Every word of a bus has 32 bits. So the reply to a body is one that a board can give to it, and so is that to each
-    /// of the bodies that are executed one after another. It does nothing when it runs.
+    /// Every word of a bus has 32 bits. So the reply to a body is one that a board can give to it, and so is that to
+    /// each of the bodies that are executed one after another. It does nothing when it runs.
     pub fn answers_bodies(&self)
         ensures words { HoldsWords self.now }
         ensures reply { (body : List ℕ) → AreWords body → CanAnswer body (run_body self.now body).reply }

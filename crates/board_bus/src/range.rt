@@ -2,7 +2,8 @@ ghost use Rattle.std.specs.Prelude.{◌≡◌, ◌≢◌, OnOk, IfOk, IfErr, Mat
 ghost use Rattle.std.specs.List.{AllByRecursion, list_any};
 ghost use Rattle.ipb_base.specs.Word.{AreWords};
 ghost use Rattle.board_bus.specs.declared.range.BusRefusal.TheVariants.{NoMemory as no_memory};
-ghost use Rattle.board_bus.specs.Ranges.{any_pair, end_of, is_empty_range, is_init_long, is_past_end, most_words, refusal_of, share_address};
+ghost use Rattle.board_bus.specs.Ranges.{any_pair, end_of, is_empty_range, is_init_long, is_past_end, most_words};
+ghost use Rattle.board_bus.specs.Ranges.{refusal_of, share_address};
 ghost use Rattle.board_bus.specs.Spans.{span_of, SomeMeetsNext, NoneMeetsNext};
 
 use crate::RangeKind;

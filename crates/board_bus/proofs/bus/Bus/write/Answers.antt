@@ -21,8 +21,10 @@ returns-in-Some-write_fault-clause-refused c =
     let below : c.args.address < 2 ^ 32 = omega arith in
     let fault : write_fault c.index_mut-block.result.now.kind ≡ Some c.in-Some-write_fault.fault = cc in
     let b = c.index_mut-block.result.now in
-    ap (write_cell c.args.self.now c.args.address c.args.word) (present _ _ _ _ _ c.self.view_is below there c.index_mut-block.ensures.value)
-    ∙ ap (λ refused. unless refused (put nat_cmp c.args.address (record { kind = b.kind; word = c.args.word }) c.args.self.now)) fault
+    ap (write_cell c.args.self.now c.args.address c.args.word)
+    (present _ _ _ _ _ c.self.view_is below there c.index_mut-block.ensures.value)
+    ∙ ap (λ refused. unless refused (put nat_cmp c.args.address (record { kind = b.kind; word = c.args.word })
+    c.args.self.now)) fault
 
 pub overflow_sub-address : goal.overflow_sub-address
 overflow_sub-address c =
