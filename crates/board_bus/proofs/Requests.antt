@@ -2,20 +2,27 @@
 use Rattle.std.proofs.Common.{◌≡◌, ℕ, ◌+◌, ◌<◌, ◌≤◌, suc, zero, Bool, true, false, cond, eqb, List, [], ◌∷◌, ◌++◌}
 use Rattle.std.proofs.Common.{length, length-append, append_assoc, drop, length-drop, Result, Ok, Err, refl, eq-eqb}
 use Rattle.std.proofs.Common.{sym, ap, ◌∙◌, subst, arith}
+use Rattle.ipb_base.specs.declared.version.TheConstants.{VERSION}
 use Rattle.transaction_codec.specs.declared.request.Request.{Request}
 use Rattle.transaction_codec.specs.declared.refusal.Why.{Why}
 use Rattle.transaction_codec.specs.declared.info_code.TheConstants.{SUCCESS}
 use Rattle.std.specs.Prelude.{◌==◌, ◌&&◌, not, nat_lt}
 use Rattle.transaction_codec.specs.declared.refusal.Why.TheVariants.{Version, Kind, Code, Count, Short}
 use Rattle.transaction_codec.specs.declared.info_code.TheConstants.{REQUEST}
+use Rattle.transaction_codec.specs.declared.transaction_type.TheConstants.{RMW_SUM}
 use Rattle.transaction_codec.specs.Header.{version_of, tid_of, kind_of, code_of, count_of, is_rmw}
 use Rattle.transaction_codec.specs.Request.{request_at, op_at, words_after}
 use Rattle.transaction_codec.specs.Reply.{reply_words}
 use Rattle.transaction_codec.specs.Answer.{bad_header_reply}
-use Rattle.transaction_codec.proofs.Steps.{passed}
 use Rattle.board_bus.specs.Cells.{CellMap}
 use Rattle.board_bus.specs.Transactions.{Transacted, transact}
 use Rattle.board_bus.specs.Bodies.{Executed, after_reply, run_on, run_first, run_requests, run_body}
+
+-- a rule that is not broken
+passed : {A : Type 0} (broken : Bool) (why : Why) (then : Result A Why) (x : A) → cond broken (Err why) then ≡ Ok x
+    → (broken ≡ false) × (then ≡ Ok x)
+passed true why then x e = absurd cc
+passed false why then x e = (refl, e)
 
 same_ok : {A : Type 0} (x y : A) → ◌≡◌ {A = Result A Why} (Ok x) (Ok y) → x ≡ y
 same_ok x y is = cc
@@ -25,8 +32,8 @@ pub rest_shorter : (word : ℕ) (after : List ℕ) (x : Request × List ℕ) →
     → length x.1 ≤ length after
 unfolding request_at
 rest_shorter word after x is =
-    let version = passed (not (version_of word == 2)) Version _ x is in
-    let kind = passed (nat_lt 5 (kind_of word)) Kind _ x version.1 in
+    let version = passed (not (version_of word == VERSION)) Version _ x is in
+    let kind = passed (nat_lt RMW_SUM (kind_of word)) Kind _ x version.1 in
     let code = passed (not (code_of word == REQUEST)) Code _ x kind.1 in
     let count = passed (is_rmw (kind_of word) && not (count_of word == 1)) Count _ x code.1 in
     let len = words_after (kind_of word) (count_of word) in

@@ -12,6 +12,7 @@ use Rattle.board_bus.specs.declared.fault.BusFault.{BusFault}
 use Rattle.board_bus.specs.Cells.{CellMap, cell_at, read_word, write_word}
 use Rattle.board_bus.specs.Transactions.{◌>>=◌, write_on, write_words, Modified, modify, of_modifying, masked, added}
 use Rattle.board_bus.specs.Transactions.{outcome, written_by, Transacted, transact}
+use Rattle.board_bus.specs.Reading.{ReadsRequests}
 use Rattle.board_bus.specs.Bodies.{Executed, run_on, run_body}
 use Rattle.board_bus.proofs.WordsKept.{write-elsewhere}
 use Rattle.board_bus.proofs.Answered.{first_request_is}
@@ -78,20 +79,21 @@ run_on-untouched : (first : Transacted) (later : CellMap → Executed) (q : ℕ)
 run_on-untouched first later q same =
     run_on-either (λ e. cell_at e.cells q ≡ cell_at first.cells q) first later same refl
 
--- what begins with no request leaves all
-bad-untouched : (cells : CellMap) (rest : List ℕ) (q : ℕ) → AreWords rest → NoRequestAtFront rest
-    → cell_at (run_body cells rest).cells q ≡ cell_at cells q
-bad-untouched cells [] q fits bad = refl
-bad-untouched cells (word ∷ after) q fits bad =
-    ap (λ (e : Executed). cell_at e.cells q) (run_body-bad_header cells word after fits bad)
+module _ (reads : ReadsRequests) where
+  -- what begins with no request leaves all
+  bad-untouched : (cells : CellMap) (rest : List ℕ) (q : ℕ) → AreWords rest → NoRequestAtFront rest
+      → cell_at (run_body cells rest).cells q ≡ cell_at cells q
+  bad-untouched cells [] q fits bad = refl
+  bad-untouched cells (word ∷ after) q fits bad =
+      ap (λ (e : Executed). cell_at e.cells q) (run_body-bad_header reads cells word after fits bad)
 
-pub untouched : (cells : CellMap) (requests : List Request) (rest : List ℕ) (q : ℕ) → AreRequests requests
-    → AreWords rest
-    → NoRequestAtFront rest → AllByRecursion (λ (r : Request). AllByRecursion (λ a. a ≢ q) (written_by r.op)) requests
-    → cell_at (run_body cells (requests_words requests ++ rest)).cells q ≡ cell_at cells q
-untouched cells [] rest q are fits bad differ = bad-untouched cells rest q fits bad
-untouched cells (request ∷ requests) rest q are fits bad differ =
-    ap (λ (e : Executed). cell_at e.cells q) (first_request_is cells request requests rest are.0)
-    ∙ run_on-untouched (transact cells request) (λ left. run_body left (requests_words requests ++ rest)) q
-    (untouched (transact cells request).cells requests rest q are.1 fits bad differ.1)
-    ∙ outcome-untouched cells request.op q differ.0
+  pub untouched : (cells : CellMap) (requests : List Request) (rest : List ℕ) (q : ℕ) → AreRequests requests
+      → AreWords rest
+      → NoRequestAtFront rest → AllByRecursion (λ (r : Request). AllByRecursion (λ a. a ≢ q) (written_by r.op)) requests
+      → cell_at (run_body cells (requests_words requests ++ rest)).cells q ≡ cell_at cells q
+  untouched cells [] rest q are fits bad differ = bad-untouched cells rest q fits bad
+  untouched cells (request ∷ requests) rest q are fits bad differ =
+      ap (λ (e : Executed). cell_at e.cells q) (first_request_is reads cells request requests rest are.0)
+      ∙ run_on-untouched (transact cells request) (λ left. run_body left (requests_words requests ++ rest)) q
+      (untouched (transact cells request).cells requests rest q are.1 fits bad differ.1)
+      ∙ outcome-untouched cells request.op q differ.0

@@ -10,6 +10,7 @@ ghost use Rattle.board_bus.specs.Ranges.{opening_bus, opening_words, range_cells
 ghost use Rattle.board_bus.specs.Blocks.{block_cells, holds};
 
 use crate::range::start_with_words;
+use crate::reading::requests_are_read;
 use crate::{BusFault, BusRefusal, Range, RangeKind, check_ranges};
 use ipb_base::NoMemory;
 use std::alloc::Global;
@@ -107,6 +108,7 @@ impl Bus {
         ensures replies { (bodies : List (List ℕ)) → AllByRecursion AreWords bodies →
             AllZip CanAnswer bodies (replay self.now bodies).replies }
     {
+        requests_are_read();
         let _blocks = &self.blocks;
     }
 }

@@ -23,6 +23,7 @@ ghost use Rattle.board_bus.specs.Transactions.{EndsAtRefusal, outcome, transact,
 ghost use Rattle.board_bus.specs.Bodies.{replay, run_body};
 
 use crate::range::start_with_words;
+use crate::reading::requests_are_read;
 use crate::{MAX_WORDS, Range};
 
 /// The ranges of a bus have at most this many words together (profile).
@@ -147,7 +148,9 @@ pub fn a_body_is_executed_in_order()
         first.reply.code ≢ SUCCESS →
         run_body cells (request_words request ++ rest)
         ≡ record { cells = first.cells; reply = reply_words first.reply } }
-{}
+{
+    requests_are_read();
+}
 
 /// A body that begins with no request leaves the bus as it is and is answered by one header: version 2, the
 /// identifier in bits 27-16 of its first word, words 0, type 0, code 1. Nothing after that word counts. The empty
@@ -157,7 +160,9 @@ pub fn a_bad_header_ends_a_body()
         NoRequestAtFront (word ∷ after) →
         run_body cells (word ∷ after) ≡ record { cells = cells; reply = reply_words (bad_header_reply word) } }
     ensures empty { (cells : CellMap) → run_body cells [] ≡ record { cells = cells; reply = [] } }
-{}
+{
+    requests_are_read();
+}
 
 /// A body leaves each address that none of its requests writes as it was, also where a bad header stands behind them.
 pub fn a_body_leaves_what_it_does_not_write()
@@ -165,7 +170,9 @@ pub fn a_body_leaves_what_it_does_not_write()
         AreWords rest → NoRequestAtFront rest →
         AllByRecursion (λ request. AllByRecursion (λ written. written ≢ address) (written_by request.op)) requests →
         cell_at (run_body cells (requests_words requests ++ rest)).cells address ≡ cell_at cells address }
-{}
+{
+    requests_are_read();
+}
 
 /// The reply to requests is a reply to them in the sense of the transaction grammar. With a bad header after them it
 /// is still one that a device can give, and so is the reply to any body.
@@ -179,7 +186,9 @@ pub fn a_reply_answers_its_body()
         CanAnswer body (run_body cells body).reply }
     ensures each { (cells : CellMap) (bodies : List (List ℕ)) → HoldsWords cells → AllByRecursion AreWords bodies →
         AllZip CanAnswer bodies (replay cells bodies).replies }
-{}
+{
+    requests_are_read();
+}
 
 /// The bus that ranges open holds 32-bit words, whatever the ranges. So the reply to each of the bodies, executed one
 /// after another, is one that a board can give to it.
@@ -188,6 +197,7 @@ pub fn an_opening_bus_answers_bodies(ranges: &[Range])
     ensures replies { (bodies : List (List ℕ)) → AllByRecursion AreWords bodies →
         AllZip CanAnswer bodies (replay (opening_bus ranges.now) bodies).replies }
 {
+    requests_are_read();
     start_with_words(ranges);
 }
 
@@ -204,7 +214,9 @@ pub fn words_stay_words()
         HoldsWords (run_body cells body).cells }
     ensures after_all { (cells : CellMap) (bodies : List (List ℕ)) → HoldsWords cells → AllByRecursion AreWords bodies →
         HoldsWords (replay cells bodies).cells }
-{}
+{
+    requests_are_read();
+}
 
 /// A bus is a finite map: its entries stand by rising address as it opens and after any body, and two that stand so
 /// and find the same cell at each address are equal.

@@ -8,5 +8,6 @@ returns-clause-words c = opening-words c.args.ranges.now c.start_with_words.ensu
 
 pub returns-clause-replies : goal.returns-clause-replies
 returns-clause-replies c = λ bodies fits.
-    replay-answers (opening_bus c.args.ranges.now) bodies (opening-words c.args.ranges.now c.start_with_words.ensures)
+    replay-answers c.requests_are_read.ensures (opening_bus c.args.ranges.now) bodies
+    (opening-words c.args.ranges.now c.start_with_words.ensures)
     fits

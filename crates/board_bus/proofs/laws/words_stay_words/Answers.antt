@@ -6,7 +6,7 @@ pub returns-clause-opening : goal.returns-clause-opening
 returns-clause-opening c = opening-words
 
 pub returns-clause-after : goal.returns-clause-after
-returns-clause-after c = run_body-words
+returns-clause-after c = run_body-words c.requests_are_read.ensures
 
 pub returns-clause-after_all : goal.returns-clause-after_all
-returns-clause-after_all c = replay-words
+returns-clause-after_all c = replay-words c.requests_are_read.ensures

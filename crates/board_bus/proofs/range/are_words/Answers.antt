@@ -1,5 +1,6 @@
-use Rattle.transaction_codec.proofs.Steps.{words_fit}
+use Rattle.std.proofs.Common.{arith}
+use Rattle.ipb_base.proofs.WordLemmas.{AreWords-at}
 use Rattle.board_bus.proofs.range.are_words.Goals as goal
 
 pub returns : goal.returns
-returns c = words_fit c.args.words.now c.type_inv.words
+returns c = AreWords-at c.args.words.now (λ i. omega (arith, c.type_inv.words i))

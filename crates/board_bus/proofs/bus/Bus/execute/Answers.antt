@@ -1,6 +1,6 @@
 use Rattle.std.proofs.Common.{arith, ap, length, length-append}
 use Rattle.board_bus.specs.Bodies.{run_body}
-use Rattle.transaction_codec.proofs.Steps.{words_fit}
+use Rattle.ipb_base.proofs.WordLemmas.{AreWords-at}
 use Rattle.board_bus.proofs.ReplyLength.{run_body-length}
 use Rattle.board_bus.proofs.bus.Bus.execute.Goals as goal
 
@@ -28,4 +28,5 @@ returns-clause-room c =
     )
 
 pub returns-clause-answer : goal.returns-clause-answer
-returns-clause-answer c = c.answers_bodies.ensures.reply c.args.body.now (words_fit c.args.body.now c.type_inv.body)
+returns-clause-answer c =
+    c.answers_bodies.ensures.reply c.args.body.now (AreWords-at c.args.body.now (λ i. omega (arith, c.type_inv.body i)))
