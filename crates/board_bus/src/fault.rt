@@ -28,12 +28,12 @@ impl BusFault {
 
 impl fmt::Display for BusFault {
     fn fmt<W: fmt::Write>(&self, f: &mut fmt::Formatter<W>) -> fmt::Result {
-        match self {
-            BusFault::ReadError => write!(f, "bus error on read"),
-            BusFault::WriteError => write!(f, "bus error on write"),
-            BusFault::ReadTimeout => write!(f, "bus timeout on read"),
-            BusFault::WriteTimeout => write!(f, "bus timeout on write"),
-        }
+        f.write_str(match self {
+            BusFault::ReadError => "bus error on read",
+            BusFault::WriteError => "bus error on write",
+            BusFault::ReadTimeout => "bus timeout on read",
+            BusFault::WriteTimeout => "bus timeout on write",
+        })
     }
 }
 

@@ -19,7 +19,7 @@ pub const MAX_WORDS: u64 = 4_194_304;
 const ADDRESSES: u64 = 1 << 32;
 
 /// Consecutive addresses of one kind. Profile.
-#[derive(Debug, Drop)]
+#[derive(Debug, Drop, PartialEq, Eq)]
 pub struct Range {
     /// The first address.
     pub base: u32,
@@ -58,14 +58,14 @@ impl From<NoMemory> for BusRefusal {
 
 impl fmt::Display for BusRefusal {
     fn fmt<W: fmt::Write>(&self, f: &mut fmt::Formatter<W>) -> fmt::Result {
-        match self {
-            BusRefusal::Empty => write!(f, "a range has no address"),
-            BusRefusal::PastEnd => write!(f, "a range ends past the last address"),
-            BusRefusal::Overlap => write!(f, "two ranges share an address"),
-            BusRefusal::TooLarge => write!(f, "the ranges have too many words"),
-            BusRefusal::InitLong => write!(f, "a range starts with more words than it has"),
-            BusRefusal::NoMemory => write!(f, "out of memory"),
-        }
+        f.write_str(match self {
+            BusRefusal::Empty => "a range has no address",
+            BusRefusal::PastEnd => "a range ends past the last address",
+            BusRefusal::Overlap => "two ranges share an address",
+            BusRefusal::TooLarge => "the ranges have too many words",
+            BusRefusal::InitLong => "a range starts with more words than it has",
+            BusRefusal::NoMemory => "out of memory",
+        })
     }
 }
 

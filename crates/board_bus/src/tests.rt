@@ -148,7 +148,7 @@ fn ranges_are_refused(rt: HostRuntime) -> Result<(), Fail> {
         list.push(range(alloc, other, words, RangeKind::Ro, &[])?)?;
         assert_eq!(rt; check_ranges(alloc, &list).err(), refusal);
         let copied = list[0].copy(alloc)?;
-        assert_eq!(rt; copied.init.as_slice(), list[0].init.as_slice());
+        assert_eq!(rt; copied, list[0]);
         assert_eq!(rt; Bus::new(alloc, &list).err(), refusal);
     }
     Ok(())
