@@ -6,7 +6,7 @@ use Rattle.std.specs.Bool.{Decides}
 use Rattle.ipb_base.specs.Faults.{Rose}
 use Rattle.ipb_outside.specs.Told.{AppendsPart}
 use Rattle.ipbus_program.specs.declared.answer.Refusal.TheVariants.{TooLong, NotToml, NotBuilt}
-use Rattle.ipbus_program.specs.declared.answer.TheConstants.{DONE, WRITE_FAULT, MAX_DOCUMENT}
+use Rattle.ipbus_program.specs.Numbers.{done_status, write_fault_status, document_bytes}
 use Rattle.ipbus_program.specs.Owed.{ReadToEnd, OwesTranscript, AnswersInput, Owes, OwesText, Wrote, WroteOwed, WroteOwedPart}
 use Rattle.std.proofs.lemmas.Slice.Eq.{bytes_eq-Decides}
 use Rattle.ipbus_program.specs.Steps.{AnswersBytes, Delivers}
@@ -25,19 +25,19 @@ one_word (x ∷ []) word text wanted b one is spelled same =
 one_word (x ∷ y ∷ words) word text wanted b one is spelled same = absurd (omega arith)
 
 -- an input that was read to its end is answered by what its bytes are answered by
-pub input_answered : (before now : Option (List ℕ)) (bytes : List ℕ) (status : ℕ) (text : List ℕ) → length bytes ≤ MAX_DOCUMENT → ReadToEnd before now bytes
+pub input_answered : (before now : Option (List ℕ)) (bytes : List ℕ) (status : ℕ) (text : List ℕ) → length bytes ≤ document_bytes → ReadToEnd before now bytes
     → AnswersBytes bytes status text → AnswersInput before now status text
 input_answered before now bytes status text within read (inl (done, (session, (accepted, transcript)))) =
     inl (done, record { bytes = bytes; read = read; session = session; accepted = accepted; transcript = transcript })
 input_answered before now bytes status text within read (inr (refused, (TooLong, (long, line)))) =
-    let over : MAX_DOCUMENT < length bytes = long in absurd (omega arith)
+    let over : document_bytes < length bytes = long in absurd (omega arith)
 input_answered before now bytes status text within read (inr (refused, (NotToml, (deserves, line)))) =
     inr (refused, record { refusal = NotToml; refused = record { bytes = bytes; taken = read.all; deserved = deserves; stopped = read.at_end }; line = line })
 input_answered before now bytes status text within read (inr (refused, (NotBuilt, (deserves, line)))) =
     inr (refused, record { refusal = NotBuilt; refused = record { bytes = bytes; taken = read.all; deserved = deserves; stopped = read.at_end }; line = line })
 
 -- no status that goes with a text is that of an output's fault
-not_a_fault : (words : List (String Global)) (before now : Option (List ℕ)) (status : ℕ) (text : List ℕ) → Owes words before now status text → status ≡ WRITE_FAULT → ⊥
+not_a_fault : (words : List (String Global)) (before now : Option (List ℕ)) (status : ℕ) (text : List ℕ) → Owes words before now status text → status ≡ write_fault_status → ⊥
 not_a_fault words before now status text (inl (run, inl (is, owes))) fault = omega arith
 not_a_fault words before now status text (inl (run, inr (is, owes))) fault = omega arith
 not_a_fault words before now status text (inr (not_run, (is, owes))) fault = omega arith
@@ -45,7 +45,7 @@ not_a_fault words before now status text (inr (not_run, (is, owes))) fault = ome
 -- where the status is that of an output's fault, a part of the text that is owed was written; `given` is that text as it was
 -- handed to the output
 pub part_written : (words : List (String Global)) (before now : Option (List ℕ)) (status : ℕ) (text given : List ℕ) → given ≡ text → (old new : Option (List ℕ)) (met meets result : ℕ)
-    → Owes words before now status text → Delivers status given old new met meets result → result ≡ WRITE_FAULT
+    → Owes words before now status text → Delivers status given old new met meets result → result ≡ write_fault_status
     → Rose met meets × WroteOwedPart (OwesText words before now) old new
 part_written words before now status text given same old new met meets result owes (inl (is, wrote)) fault = absurd (not_a_fault words before now status text owes (sym is ∙ fault))
 part_written words before now status text given same old new met meets result owes (inr (is, (rose, part))) fault =
@@ -53,7 +53,7 @@ part_written words before now status text given same old new met meets result ow
 
 -- where the status is 0, the transcript that is owed was written whole
 pub done_whole : (before now : Option (List ℕ)) (status : ℕ) (text given : List ℕ) → given ≡ text → (old new : Option (List ℕ)) (met meets result : ℕ)
-    → AnswersInput before now status text → Delivers status given old new met meets result → result ≡ DONE → WroteOwed (OwesTranscript before now) old new
+    → AnswersInput before now status text → Delivers status given old new met meets result → result ≡ done_status → WroteOwed (OwesTranscript before now) old new
 done_whole before now status text given same old new met meets result (inl (is, owes)) (inl (delivered, wrote)) done = (text, owes, subst (Wrote old new) same wrote)
 done_whole before now status text given same old new met meets result (inr (is, owes)) (inl (delivered, wrote)) done = absurd (omega arith)
 done_whole before now status text given same old new met meets result answer (inr (fault, part)) done = absurd (omega arith)

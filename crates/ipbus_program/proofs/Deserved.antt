@@ -12,7 +12,7 @@ use Rattle.ipb_outside.specs.Told.{TakesCount}
 use Rattle.ipbus_program.specs.declared.session.Session.{Session}
 use Rattle.ipbus_program.specs.declared.answer.Refusal.{Refusal}
 use Rattle.ipbus_program.specs.declared.answer.Refusal.TheVariants.{TooLong, NotToml, NotBuilt}
-use Rattle.ipbus_program.specs.declared.answer.TheConstants.{DONE, REFUSED, MAX_DOCUMENT}
+use Rattle.ipbus_program.specs.Numbers.{done_status, refused_status, document_bytes}
 use Rattle.ipbus_program.specs.Reading.{session_of}
 use Rattle.ipbus_program.specs.FirstForm.{IsFirstForm}
 use Rattle.ipbus_program.specs.Document.{IsToml, StandsFor}
@@ -56,7 +56,7 @@ one_refusal bytes NotBuilt NotBuilt first second = refl
 abbrev IsAnswered : List ℕ → Type 0
 IsAnswered bytes = ((session : Session) × IsAccepted bytes session) ⊎ ((refusal : Refusal) × Deserves refusal bytes)
 
-module _ (bytes : List ℕ) (within : length bytes ≤ MAX_DOCUMENT) where
+module _ (bytes : List ℕ) (within : length bytes ≤ document_bytes) where
   by_session : (document : Members) → IsToml bytes document → (found : Option Session) → session_of document ≡ found → IsAnswered bytes
   by_session document toml (Some session) found = inl (session, (within, (document, toml, session_of_found document session found)))
   by_session document toml None found = inr (NotBuilt, (within, (document, toml, no_session document found)))
@@ -71,7 +71,7 @@ module _ (bytes : List ℕ) (within : length bytes ≤ MAX_DOCUMENT) where
 
 pub some_answer : (bytes : List ℕ) → IsAnswered bytes
 some_answer bytes =
-    ⊎_elim (λ long. inr (TooLong, long)) (λ within. by_text bytes within (cases_Bool (is_utf8 bytes))) (cases_lt MAX_DOCUMENT (length bytes))
+    ⊎_elim (λ long. inr (TooLong, long)) (λ within. by_text bytes within (cases_Bool (is_utf8 bytes))) (cases_lt document_bytes (length bytes))
 
 -- ---- inputs
 
@@ -93,7 +93,7 @@ told_read before (Some rest) bytes read told to_end =
 pub refused_deserves : (refusal : Refusal) (before now : Option (List ℕ)) (bytes : List ℕ) → before ≡ Some bytes → IsRefused refusal before now → Deserves refusal bytes
 refused_deserves TooLong before now bytes told refused =
     let fewer = told_taken before now bytes refused.bytes told refused.taken in
-    let long : MAX_DOCUMENT < length refused.bytes = refused.deserved in
+    let long : document_bytes < length refused.bytes = refused.deserved in
     omega arith
 refused_deserves NotToml before now bytes told refused =
     let to_end : ReadToEnd before now refused.bytes = record { all = refused.taken; at_end = refused.stopped } in
@@ -113,14 +113,14 @@ transcript_accepted before now bytes text told owes =
 module _ (before now : Option (List ℕ)) (bytes : List ℕ) (told : before ≡ Some bytes) (status : ℕ) (text given : List ℕ) (same_text : given ≡ text) (old new : Option (List ℕ))
     (met meets result : ℕ) where
   pub accepted_done : (session : Session) → IsAccepted bytes session → AnswersInput before now status text → Delivers status given old new met meets result
-      → ¬ Rose met meets → result ≡ DONE
+      → ¬ Rose met meets → result ≡ done_status
   accepted_done session accepted answers (inr (is, (rose, part))) calm = absurd (calm rose)
   accepted_done session accepted (inl (done, owes)) (inl (is, wrote)) calm = is ∙ done
   accepted_done session accepted (inr (refused, owes)) (inl (is, wrote)) calm =
       absurd (accepted_not_refused bytes session owes.refusal accepted (refused_deserves owes.refusal before now bytes told owes.refused))
 
   pub deserved_refused : (refusal : Refusal) → Deserves refusal bytes → AnswersInput before now status text → Delivers status given old new met meets result
-      → ¬ Rose met meets → (result ≡ REFUSED) × Wrote old new (refusal_text refusal)
+      → ¬ Rose met meets → (result ≡ refused_status) × Wrote old new (refusal_text refusal)
   deserved_refused refusal deserves answers (inr (is, (rose, part))) calm = absurd (calm rose)
   deserved_refused refusal deserves (inl (done, owes)) (inl (is, wrote)) calm =
       absurd (accepted_not_refused bytes owes.session refusal (transcript_accepted before now bytes text told owes) deserves)
@@ -130,7 +130,7 @@ module _ (before now : Option (List ℕ)) (bytes : List ℕ) (told : before ≡ 
 
 -- of an input that is longer than a document may be one byte more than that was taken
 pub taken_of_long : (before now : Option (List ℕ)) (bytes : List ℕ) → before ≡ Some bytes → (status : ℕ) (text : List ℕ)
-    → MAX_DOCUMENT < length bytes → AnswersInput before now status text → TakesCount (MAX_DOCUMENT + 1) before now
+    → document_bytes < length bytes → AnswersInput before now status text → TakesCount (document_bytes + 1) before now
 taken_of_long before now bytes told status text long (inl (done, owes)) =
     absurd (accepted_not_refused bytes owes.session TooLong (transcript_accepted before now bytes text told owes) long)
 taken_of_long before now bytes told status text long (inr (refused, owes)) =

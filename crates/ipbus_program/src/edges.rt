@@ -1,7 +1,7 @@
 //! The program's outside: a reader as a source, a writer as a sink. Neither tells its bytes to `control`, since a reader may
 //! tell nothing and then something; what the reader and the writer tell is handed on by their own clauses.
 
-ghost use Rattle.std.specs.Prelude.{◌≡◌, ◌<◌, ◌≤◌, false, true, Ok, None, IfOk, length};
+ghost use Rattle.std.specs.Prelude.{◌≡◌, ◌<◌, ◌≤◌, false, true, Ok, None, IfOk, OnOk, length};
 ghost use Rattle.std.specs.Io.KnownBytes.{IsAtEnd, ReadConsumes, WriteAppends};
 ghost use Rattle.ipb_base.specs.Faults.{HasCause};
 ghost use Rattle.ipb_outside.specs.Told.{Reads, Writes};
@@ -46,6 +46,7 @@ impl<R: Read + Drop> Source for ReaderSource<R> {
         ensures taken { Reads None None result buf.new }
         ensures at_end { result ≡ Ok 0 → 0 < length buf.new → IsAtEnd None }
         ensures cause { HasCause self.old.1 self.new.1 result }
+        ensures unfaulted { OnOk result (self.new.1 ≡ self.old.1) }
         ensures handed_on { ReadConsumes self.old.0 self.new.0 result buf.new }
     {
         match self.reader.read(buf) {
@@ -102,6 +103,7 @@ impl<W: Write + Drop> Sink for WriterSink<W> {
         ensures goes_on { IfOk result (λ count. 0 < length bytes.now → 0 < count) }
         ensures appended { Writes None None result bytes.now }
         ensures cause { HasCause self.old.1 self.new.1 result }
+        ensures unfaulted { OnOk result (self.new.1 ≡ self.old.1) }
         ensures ended_kept { self.new.2 ≡ self.old.2 }
         ensures handed_on { WriteAppends self.old.0 self.new.0 result bytes.now }
     {

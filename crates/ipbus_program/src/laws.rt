@@ -7,6 +7,11 @@ ghost use Rattle.board_bus.specs.Bodies.{run_body};
 ghost use Rattle.ipbus_program.specs.declared.session.Register.{Register};
 ghost use Rattle.ipbus_program.specs.declared.session.BoardSpec.{BoardSpec};
 ghost use Rattle.ipbus_program.specs.declared.session.Session.{Session};
+ghost use Rattle.ipbus_program.specs.declared.answer.TheConstants.{DONE, USAGE, REFUSED, READ_FAULT, WRITE_FAULT};
+ghost use Rattle.ipbus_program.specs.declared.answer.TheConstants.{NO_MEMORY, MAX_DOCUMENT, MAX_LISTED, MAX_RANGE};
+ghost use Rattle.ipbus_program.specs.Numbers.{done_status, usage_status, refused_status, read_fault_status};
+ghost use Rattle.ipbus_program.specs.Numbers.{write_fault_status, no_memory_status};
+ghost use Rattle.ipbus_program.specs.Numbers.{document_bytes, listed_items, range_addresses};
 ghost use Rattle.ipbus_program.specs.Document.{CanRun};
 ghost use Rattle.ipbus_program.specs.Plan.{opening_word, opening_values, script_body, session_bus};
 ghost use Rattle.ipbus_program.specs.Transcript.{Values};
@@ -15,6 +20,19 @@ ghost use Rattle.ipbus_program.specs.Reading.{session_of};
 ghost use Rattle.ipbus_program.specs.declared.answer.Refusal.{Refusal};
 ghost use Rattle.ipbus_program.specs.FirstForm.{IsFirstForm};
 ghost use Rattle.ipbus_program.specs.Owed.{IsAccepted, Deserves, IsTranscriptOf, Owes};
+
+/// The numbers that a user sees are those of the definitions.
+pub fn numbers_are_as_defined()
+    ensures done { DONE ≡ done_status }
+    ensures usage { USAGE ≡ usage_status }
+    ensures refused { REFUSED ≡ refused_status }
+    ensures read_fault { READ_FAULT ≡ read_fault_status }
+    ensures write_fault { WRITE_FAULT ≡ write_fault_status }
+    ensures no_memory { NO_MEMORY ≡ no_memory_status }
+    ensures document { MAX_DOCUMENT ≡ document_bytes }
+    ensures listed { MAX_LISTED ≡ listed_items }
+    ensures range { MAX_RANGE ≡ range_addresses }
+{}
 
 /// What reading a parsed document gives is what the form says, both ways. So a document of the form has one session.
 pub fn reading_is_the_form()

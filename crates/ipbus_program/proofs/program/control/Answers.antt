@@ -1,6 +1,6 @@
 use Rattle.std.proofs.Common.{inl, inr, refl, string_bytes, rules}
 use Rattle.ipbus_program.specs.declared.answer.Refusal.TheVariants.{TooLong, NotToml, NotBuilt}
-use Rattle.ipbus_program.specs.declared.answer.TheConstants.{USAGE}
+use Rattle.ipbus_program.specs.Numbers.{usage_status}
 use Rattle.ipbus_program.specs.Text.{usage_text}
 use Rattle.ipbus_program.specs.Owed.{AreRun}
 use Rattle.ipbus_program.proofs.Causes.{done_whole, part_written}
@@ -11,7 +11,7 @@ pub returns-then-not-are_run-clause-write_fault : goal.returns-then-not-are_run-
 returns-then-not-are_run-clause-write_fault g c =
     let left = g.S.Source.left c.args.input.now in
     let not_run : ¬ AreRun c.args.words.now = search rules in
-    part_written c.args.words.now left left USAGE usage_text usage_text refl _ _ _ _ c.deliver.result (inr (not_run, (refl, record { unread = refl; usage = refl }))) c.deliver.ensures.delivers
+    part_written c.args.words.now left left usage_status usage_text usage_text refl _ _ _ _ c.deliver.result (inr (not_run, (refl, record { unread = refl; usage = refl }))) c.deliver.ensures.delivers
 
 pub returns-in-Ok-clause-done : goal.returns-in-Ok-clause-done
 returns-in-Ok-clause-done g c done =
