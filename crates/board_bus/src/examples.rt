@@ -40,8 +40,8 @@ pub fn a_request_cut_short_is_a_bad_header()
 pub fn a_block_stops_at_the_last_address()
     ensures block { (run_body (opening_bus (record { base = 0xffffffff; size = 1; kind = Rw; init = 7 ∷ [] } ∷ []))
         (0x2000020f ∷ 0xffffffff ∷ [])).reply ≡ 0x20000104 ∷ 7 ∷ [] }
-    ensures absent { write_word (opening_bus (record { base = 0xffffffff; size = 1; kind = Rw; init = 7 ∷ [] } ∷ [])) 0 1
-        ≡ Err WriteError }
+    ensures absent { write_word (opening_bus
+        (record { base = 0xffffffff; size = 1; kind = Rw; init = 7 ∷ [] } ∷ [])) 0 1 ≡ Err WriteError }
 {}
 
 /// A masked write sets the top bit of a word, and the body's next request adds 1 modulo 2^32. Both answer the word
