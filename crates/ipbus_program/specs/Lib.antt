@@ -9,5 +9,6 @@ pub mod Transcript
 pub mod Text
 pub mod Owed
 pub mod Steps
+pub mod Below
 pub mod Exchange
-pub mod Worked
+pub mod Examples

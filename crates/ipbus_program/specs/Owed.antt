@@ -1,13 +1,15 @@
--- What the program owes to its words and its input. `before` and `now` are the bytes that the input had left at first and in the
--- end, where it tells them. Profile.
-use Rattle.std.specs.Prelude.{◌≡◌, ℕ, ◌+◌, ◌≤◌, ◌<◌, List, [], ◌∷◌, length, map, codes, Option, string_bytes, String, ◌⊎◌}
+-- What the program owes to its words and its input. `before` and `now` are the bytes that the input had left at first
+-- and in the end, where it tells them. Profile.
+use Rattle.std.specs.Prelude.{◌≡◌, ℕ, ◌+◌, ◌≤◌, ◌<◌, List, [], ◌∷◌, length, map, codes, Option, string_bytes, String}
+use Rattle.std.specs.Prelude.{◌⊎◌}
 use Rattle.std.specs.declared.alloc.Global.{Global}
 use Rattle.std.specs.Io.KnownBytes.{prepend_known, append_known, IsAtEnd}
 use Rattle.ipb_outside.specs.Told.{AppendsPart}
 use Rattle.ipbus_program.specs.declared.session.Session.{Session}
 use Rattle.ipbus_program.specs.declared.answer.Refusal.{Refusal}
 use Rattle.ipbus_program.specs.declared.answer.Refusal.TheVariants.{TooLong, NotToml, NotBuilt}
-use Rattle.ipbus_program.specs.Numbers.{done_status, usage_status, refused_status, read_fault_status, write_fault_status, no_memory_status, document_bytes}
+use Rattle.ipbus_program.specs.Numbers.{done_status, usage_status, refused_status, read_fault_status}
+use Rattle.ipbus_program.specs.Numbers.{write_fault_status, no_memory_status, document_bytes}
 use Rattle.ipbus_program.specs.Document.{StandsFor, IsNotToml, IsNotBuilt}
 use Rattle.ipbus_program.specs.Plan.{session_bodies, session_bus}
 use Rattle.ipbus_program.specs.History.{BodyOutcome, IsHistory}
@@ -33,7 +35,8 @@ pub record ReadToEnd (before now : Option (List ℕ)) (bytes : List ℕ) : Type 
   pub all : before ≡ prepend_known bytes now
   pub at_end : IsAtEnd now
 
--- the text is the transcript of the session, whose every line is a value: what a single-thread bus answers at the printed places
+-- the text is the transcript of the session, whose every line is a value: what a single-thread bus answers at the
+-- printed places
 pub record IsTranscriptOf (session : Session) (text : List ℕ) : Type 0 where
   pub outcomes : List (List BodyOutcome)
   pub history : IsHistory (session_bus session) (session_bodies session) outcomes
@@ -75,7 +78,8 @@ pub record OwesRefusal (before now : Option (List ℕ)) (text : List ℕ) : Type
 -- What an input is answered by.
 abbrev pub AnswersInput : Option (List ℕ) → Option (List ℕ) → ℕ → List ℕ → Type 0
 AnswersInput before now status text =
-    ((status ≡ done_status) × OwesTranscript before now text) ⊎ ((status ≡ refused_status) × OwesRefusal before now text)
+    ((status ≡ done_status) × OwesTranscript before now text)
+    ⊎ ((status ≡ refused_status) × OwesRefusal before now text)
 
 -- A status and the text that go together for these words and this input.
 abbrev pub Owes : List (String Global) → Option (List ℕ) → Option (List ℕ) → ℕ → List ℕ → Type 0
@@ -90,7 +94,8 @@ OwesText words before now text = (status : ℕ) × Owes words before now status 
 -- the statuses that there are
 abbrev pub IsStatus : ℕ → Type 0
 IsStatus status =
-    (status ≡ done_status) ⊎ (status ≡ usage_status) ⊎ (status ≡ refused_status) ⊎ (status ≡ read_fault_status) ⊎ (status ≡ write_fault_status) ⊎ (status ≡ no_memory_status)
+    (status ≡ done_status) ⊎ (status ≡ usage_status) ⊎ (status ≡ refused_status)
+    ⊎ (status ≡ read_fault_status) ⊎ (status ≡ write_fault_status) ⊎ (status ≡ no_memory_status)
 
 -- all of this text went behind what was written
 abbrev pub Wrote : Option (List ℕ) → Option (List ℕ) → List ℕ → Type 0
@@ -106,4 +111,5 @@ WroteOwedPart owed old new = (text : List ℕ) × owed text × AppendsPart old n
 
 -- the line of this refusal was written and its status answered, or memory ran out
 abbrev pub RefusesWith : Refusal → ℕ → Option (List ℕ) → Option (List ℕ) → Type 0
-RefusesWith refusal status old new = ((status ≡ refused_status) × Wrote old new (refusal_text refusal)) ⊎ (status ≡ no_memory_status)
+RefusesWith refusal status old new =
+    ((status ≡ refused_status) × Wrote old new (refusal_text refusal)) ⊎ (status ≡ no_memory_status)

@@ -1,4 +1,5 @@
--- How the steps of the call work together: what its private functions promise one another. No public clause speaks of these.
+-- How the steps of the call work together: what its private functions promise one another. No public clause speaks of
+-- these.
 use Rattle.std.specs.Prelude.{◌≡◌, ℕ, ◌+◌, ◌≤◌, ◌⊎◌, List, [], ◌∷◌, length, Option, Ok}
 use Rattle.std.specs.List.{AllByRecursion, AllZip}
 use Rattle.ipb_base.specs.Faults.{Rose}
@@ -47,8 +48,9 @@ AnswersBytes bytes status text =
     ((status ≡ done_status) × ((session : Session) × (IsAccepted bytes session × IsTranscriptOf session text)))
     ⊎ ((status ≡ refused_status) × ((refusal : Refusal) × (Deserves refusal bytes × (text ≡ refusal_text refusal))))
 
--- The text was written whole and its status answered, or the output met a fault, a part of the text was written, and the status
--- says so. `old` and `new` are what the output was given, `before` and `now` its counts of faults.
+-- The text was written whole and its status answered, or the output met a fault, a part of the text was written, and
+-- the status says so. `old` and `new` are what the output was given, `before` and `now` its counts of faults.
 abbrev pub Delivers : ℕ → List ℕ → Option (List ℕ) → Option (List ℕ) → ℕ → ℕ → ℕ → Type 0
 Delivers status text old new before now result =
-    ((result ≡ status) × Wrote old new text) ⊎ ((result ≡ write_fault_status) × (Rose before now × AppendsPart old new text))
+    ((result ≡ status) × Wrote old new text)
+    ⊎ ((result ≡ write_fault_status) × (Rose before now × AppendsPart old new text))

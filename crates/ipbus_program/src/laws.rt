@@ -1,6 +1,7 @@
 //! Laws of the definitions. These functions do nothing when they run: their clauses are what is proved.
 
-ghost use Rattle.std.specs.Prelude.{◌≡◌, ◌≤◌, ◌+◌, ◌*◌, ◌↔◌, ◌⊎◌, ℕ, List, [], ◌∷◌, ◌++◌, length, map, replicate, Option, Some, None, String};
+ghost use Rattle.std.specs.Prelude.{◌≡◌, ◌≤◌, ◌+◌, ◌*◌, ◌↔◌, ◌⊎◌, ℕ, List, [], ◌∷◌, ◌++◌, length, map, replicate};
+ghost use Rattle.std.specs.Prelude.{Option, Some, None, String};
 ghost use Rattle.std.specs.declared.alloc.Global.{Global};
 ghost use Rattle.toml.specs.Data.{Members};
 ghost use Rattle.board_bus.specs.Bodies.{run_body};
@@ -20,6 +21,8 @@ ghost use Rattle.ipbus_program.specs.Reading.{session_of};
 ghost use Rattle.ipbus_program.specs.declared.answer.Refusal.{Refusal};
 ghost use Rattle.ipbus_program.specs.FirstForm.{IsFirstForm};
 ghost use Rattle.ipbus_program.specs.Owed.{IsAccepted, Deserves, IsTranscriptOf, Owes};
+
+use crate::below::laws_below;
 
 /// The numbers that a user sees are those of the definitions.
 pub fn numbers_are_as_defined()
@@ -59,9 +62,12 @@ pub fn bytes_have_one_answer()
 
 /// To words and to an input that tells its bytes just one status and one text are owed, however far it was read.
 pub fn one_text_is_owed()
-    ensures { (words : List (String Global)) (bytes : List ℕ) (now later : Option (List ℕ)) (s t : ℕ) (text other : List ℕ)
+    ensures { (words : List (String Global)) (bytes : List ℕ) (now later : Option (List ℕ)) (s t : ℕ)
+        (text other : List ℕ)
         → Owes words (Some bytes) now s text → Owes words (Some bytes) later t other → (s ≡ t) × (text ≡ other) }
-{}
+{
+    laws_below();
+}
 
 /// A session has one transcript: its lines show, in order, the words that its board opens with at the registers read.
 pub fn one_transcript()
@@ -72,14 +78,17 @@ pub fn one_transcript()
         → IsTranscriptOf session
         (one_body_text session.board.name session.script (opening_values session.board session.script)) }
     ensures form { (document : Members) (session : Session) → IsFirstForm document session → CanRun session }
-{}
+{
+    laws_below();
+}
 
 /// The lines of a script are those of its parts, one after the other, and two reads of one address show the same word.
 pub fn lines_follow_one_another()
     ensures parts { (board : BoardSpec) (place number : ℕ) (script more : List Register)
         → lines_text board place number (script ++ more)
         ≡ lines_text board place number script ++ lines_text board place (number + length script) more }
-    ensures same_word { (board : BoardSpec) (place number : ℕ) (first second : Register) → first.address ≡ second.address
+    ensures same_word { (board : BoardSpec) (place number : ℕ) (first second : Register)
+        → first.address ≡ second.address
         → map (λ line. line.result) (value_lines board place number (first ∷ second ∷ []))
         ≡ replicate 2 (Values (opening_word board first.address ∷ [])) }
 {}
@@ -88,10 +97,12 @@ pub fn lines_follow_one_another()
 pub fn reads_leave_the_board()
     ensures { (session : Session) → CanRun session
         → (run_body (session_bus session) (script_body session.script)).cells ≡ session_bus session }
-{}
+{
+    laws_below();
+}
 
-/// The body of a script and the reply to it have two words for each line. With its header each fits a packet of 368 words, the
-/// most that an MTU of 1500 bytes leaves.
+/// The body of a script and the reply to it have two words for each line. With its header each fits a packet of 368
+/// words, the most that an MTU of 1500 bytes leaves.
 pub fn bodies_fit_a_packet()
     ensures body { (script : List Register) → length (script_body script) ≡ 2 * length script }
     ensures reply { (session : Session) → CanRun session
@@ -99,4 +110,6 @@ pub fn bodies_fit_a_packet()
     ensures fits { (session : Session) → CanRun session
         → (length (script_body session.script) + 1 ≤ 368)
         × (length (run_body (session_bus session) (script_body session.script)).reply + 1 ≤ 368) }
-{}
+{
+    laws_below();
+}

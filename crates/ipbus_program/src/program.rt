@@ -1,6 +1,7 @@
 //! The program's one call: words and an input in, a text and a status out.
 
-ghost use Rattle.std.specs.Prelude.{◌≡◌, ◌≢◌, ◌↔◌, ◌⊎◌, ◌<◌, ◌≤◌, ℕ, List, length, Some, Ok, Err, IsTrue, IfOk, OnErr, string_bytes, ◌+◌};
+ghost use Rattle.std.specs.Prelude.{◌≡◌, ◌≢◌, ◌↔◌, ◌⊎◌, ◌<◌, ◌≤◌, ℕ, List, length, Some, Ok, Err, IsTrue, IfOk, OnErr};
+ghost use Rattle.std.specs.Prelude.{string_bytes, ◌+◌};
 ghost use Rattle.ipb_base.specs.Faults.{Rose};
 ghost use Rattle.ipb_outside.specs.Told.{TakesAtMost, TakesCount};
 ghost use Rattle.ipbus_program.specs.declared.program.NoAnswer.TheVariants.{NoMemory as out_of_memory};
@@ -9,7 +10,8 @@ ghost use Rattle.ipbus_program.specs.Numbers.{document_bytes, done_status, usage
 ghost use Rattle.ipbus_program.specs.Numbers.{read_fault_status, write_fault_status, no_memory_status};
 ghost use Rattle.ipbus_program.specs.Document.{IsNotToml, IsNotBuilt};
 ghost use Rattle.ipbus_program.specs.Text.{refusal_text};
-ghost use Rattle.ipbus_program.specs.Owed.{AreRun, IsAccepted, Deserves, OwesTranscript, OwesUsage, OwesRefusal, OwesText};
+ghost use Rattle.ipbus_program.specs.Owed.{AreRun, IsAccepted, Deserves, OwesTranscript, OwesUsage, OwesRefusal};
+ghost use Rattle.ipbus_program.specs.Owed.{OwesText};
 ghost use Rattle.ipbus_program.specs.Owed.{AnswersInput, IsStatus, RefusesWith, WroteOwed, WroteOwedPart};
 ghost use Rattle.ipbus_program.specs.Steps.{AnswersBytes, Delivers};
 
@@ -63,11 +65,7 @@ fn are_run(words: &[String]) -> bool
 fn refusal(alloc: Global, refusal: Refusal) -> Result<String, NoMemory>
     ensures { IfOk result (λ text. string_bytes text ≡ refusal_text refusal) }
 {
-    let name = match refusal {
-        Refusal::TooLong => "TooLong",
-        Refusal::NotToml => "NotToml",
-        Refusal::NotBuilt => "NotBuilt",
-    };
+    let name = refusal.name();
     Ok(format!(in alloc; "refused: document - {name}\n")?)
 }
 
@@ -131,8 +129,8 @@ fn deliver<O: Sink>(out: &mut O, text: &str, status: u8) -> u8
 }
 
 /// Does what the words ask. `run` reads a session document to its end, runs its script on its board and writes the
-/// transcript; other words are answered by the usage line. The text of an answer is handed to the output once. The result
-/// is the status: `DONE`, `USAGE`, `REFUSED`, `READ_FAULT`, `WRITE_FAULT` or `NO_MEMORY`.
+/// transcript; other words are answered by the usage line. The text of an answer is handed to the output once. The
+/// result is the status: `DONE`, `USAGE`, `REFUSED`, `READ_FAULT`, `WRITE_FAULT` or `NO_MEMORY`.
 pub fn control<S: Source, O: Sink>(
     alloc: Global,
     words: &[String],
@@ -155,7 +153,8 @@ pub fn control<S: Source, O: Sink>(
         × (O.written out.new ≡ O.written out.old) }
     // The output met a fault, and a part of the text that was owed was written.
     ensures write_fault { result ≡ write_fault_status → Rose (O.faults out.old) (O.faults out.new)
-        × WroteOwedPart (OwesText words.now (S.left input.old) (S.left input.new)) (O.written out.old) (O.written out.new) }
+        × WroteOwedPart (OwesText words.now (S.left input.old) (S.left input.new)) (O.written out.old)
+        (O.written out.new) }
     // Memory ran out, and nothing was written.
     ensures no_memory { result ≡ no_memory_status → AreRun words.now
         × TakesAtMost (document_bytes + 1) (S.left input.old) (S.left input.new)
@@ -164,8 +163,8 @@ pub fn control<S: Source, O: Sink>(
 
     // Other words get the usage line, or the output met a fault.
     ensures other_words { ¬ AreRun words.now → (result ≡ usage_status) ⊎ (result ≡ write_fault_status) }
-    // Of an input that tells its bytes, where neither count of faults rose: a document of the first form is done, and any
-    // other is refused as it deserves, want of memory aside.
+    // Of an input that tells its bytes, where neither count of faults rose: a document of the first form is done, and
+    // any other is refused as it deserves, want of memory aside.
     ensures accepted { (bytes : List ℕ) (session : Session)
         → AreRun words.now → S.left input.old ≡ Some bytes → IsAccepted bytes session
         → ¬ Rose (S.faults input.old) (S.faults input.new) → ¬ Rose (O.faults out.old) (O.faults out.new)
