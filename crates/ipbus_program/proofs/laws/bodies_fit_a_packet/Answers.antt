@@ -7,9 +7,12 @@ pub returns-clause-body : goal.returns-clause-body
 returns-clause-body c = body-length 0
 
 pub returns-clause-reply : goal.returns-clause-reply
-returns-clause-reply c = reply_is_short
+returns-clause-reply c = reply_is_short c.laws_below.ensures
 
 pub returns-clause-fits : goal.returns-clause-fits
 returns-clause-fits c session can =
-    let few = can.listed.1 in
-    (omega (arith, few, body-length 0 session.script), omega (arith, few, reply_is_short session can))
+    let few = can.listed.1 in (
+      omega (arith, few, body-length 0 session.script),
+      omega
+          (arith, few, reply_is_short c.laws_below.ensures session can),
+    )

@@ -1,5 +1,5 @@
-//! A session worked by hand. These functions do nothing when they run: their clauses are what is proved, by computing the
-//! definitions.
+//! A session worked by hand. These functions do nothing when they run: their clauses are what is proved, by computing
+//! the definitions.
 
 ghost use Rattle.std.specs.Prelude.{◌≡◌, ◌∷◌, [], Some, option_and_then};
 ghost use Rattle.toml.specs.Parse.{parse_document};
@@ -12,7 +12,7 @@ ghost use Rattle.ipbus_program.specs.History.{IsHistory};
 ghost use Rattle.ipbus_program.specs.Reading.{session_of};
 ghost use Rattle.ipbus_program.specs.Transcript.{lines};
 ghost use Rattle.ipbus_program.specs.Text.{transcript_text};
-ghost use Rattle.ipbus_program.specs.Worked.{first_text, first_session, first_outcomes, first_transcript};
+ghost use Rattle.ipbus_program.specs.Examples.{first_text, first_session, first_outcomes, first_transcript};
 
 /// The document stands for its session.
 pub fn first_document()

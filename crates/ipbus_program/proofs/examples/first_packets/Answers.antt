@@ -1,6 +1,6 @@
 use Rattle.std.proofs.Common.{refl}
 use Rattle.transaction_codec.specs.Request.{request_at}
-use Rattle.ipbus_program.proofs.worked.first_packets.Goals as goal
+use Rattle.ipbus_program.proofs.examples.first_packets.Goals as goal
 
 pub returns-clause-request : goal.returns-clause-request
 returns-clause-request c = refl

@@ -1,11 +1,14 @@
 -- A session worked by hand: one board, one register, one read. Profile.
-use Rattle.std.specs.Prelude.{ℕ, List, [], ◌∷◌, codes}
+use Rattle.std.specs.Prelude.{ℕ, List, [], ◌∷◌, ◌++◌, codes}
 use Rattle.ipbus_program.specs.declared.session.Session.{Session}
 use Rattle.ipbus_program.specs.History.{BodyOutcome}
 
 abbrev pub first_text : List ℕ
 first_text =
-    codes "[[tables.main]]\nid = \"id\"\naddress = 4\n[[board]]\nname = \"b0\"\ntable = \"main\"\n[[board.ranges]]\nbase = 0\nsize = 16\ninit = [0, 0, 0, 0, 0xabcd]\n[[client]]\nscript = [\"read b0:id\"]\n"
+    codes "[[tables.main]]\nid = \"id\"\naddress = 4\n"
+    ++ (codes "[[board]]\nname = \"b0\"\ntable = \"main\"\n"
+    ++ (codes "[[board.ranges]]\nbase = 0\nsize = 16\ninit = [0, 0, 0, 0, 0xabcd]\n"
+    ++ codes "[[client]]\nscript = [\"read b0:id\"]\n"))
 
 abbrev pub first_session : Session
 first_session = record {
