@@ -9,7 +9,7 @@ use Rattle.address_table.specs.Rules.{first_broken}
 use Rattle.node_tree.specs.declared.register.Register.{Register}
 use Rattle.node_tree.specs.declared.refusal.CompileWhy.TheVariants.{UnknownModule, ModuleCycle, TooMany, TooDeep, Duplicate, AddressPastEnd}
 use Rattle.node_tree.specs.declared.walking.Found.{Found}
-use Rattle.node_tree.specs.Maps.{Name, RegisterMap, TableMap, nodes_of, AreReadable, AreWithin}
+use Rattle.node_tree.specs.Maps.{Name, RegisterMap, TableMap, nodes_of, AreValidTables, AreRegisters}
 use Rattle.node_tree.specs.Names.{RootNames}
 use Rattle.node_tree.specs.Walk.{Visit, Lists, HasLevel, siblings, walk, root_walk, visit_rules, fault_or, first_fault, last_address}
 use Rattle.node_tree.specs.Run.{Outcome, run, run_on, visit_next, step, found_more}
@@ -25,6 +25,7 @@ use Rattle.node_tree.specs.Refusals.{AreKnown, TellsNode, IsRefusal, Refuses}
 use Rattle.node_tree.proofs.Faults.{Agree, fault_of, run-first_named}
 use Rattle.node_tree.proofs.NamesLemmas.{listed-named, named-listed}
 use Rattle.node_tree.proofs.RepeatLemmas.{same-root}
+use Rattle.node_tree.proofs.RegisterLemmas.{root-register}
 
 ok_rules : (found next : Found) (name : Name) (r : Register) (a b c d : Bool)
     → step found name r (first_broken ((TooMany, a) ∷ (TooDeep, b) ∷ (Duplicate, c) ∷ (AddressPastEnd, d) ∷ [])) ≡ Ok next
@@ -191,16 +192,16 @@ refuses_node tables root path why (At n p w) told tells =
     refusal-node tables root n p w (fault-rule 0 (root_walk tables root) p w fault) (tells.0, tells.1, told.0, fault)
 
 -- where the code stops, or does not
-run-fault : (tables : TableMap) (root : Name) → AreReadable tables → fault_of (run (root_walk tables root) start) ≡ first_fault 0 (root_walk tables root)
-run-fault tables root readable = run-first_named (root_walk tables root) [] start Agree-start ∙ same-root tables root readable
+run-fault : (tables : TableMap) (root : Name) → AreValidTables tables → fault_of (run (root_walk tables root) start) ≡ first_fault 0 (root_walk tables root)
+run-fault tables root valid = run-first_named (root_walk tables root) [] start Agree-start ∙ same-root tables root valid
 
-pub refused : (tables : TableMap) (root path : Name) (why : CompileWhy) (refusal : CompileRefusal) → AreReadable tables → Refuses root path why refusal → AreKnown tables root → NoTable tables (ReachesItself tables)
+pub refused : (tables : TableMap) (root path : Name) (why : CompileWhy) (refusal : CompileRefusal) → AreValidTables tables → Refuses root path why refusal → AreKnown tables root → NoTable tables (ReachesItself tables)
     → run (root_walk tables root) start ≡ Err (path, why) → IsRefusal tables root refusal
-refused tables root path why refusal readable told known acyclic stop =
-    refuses_node tables root path why refusal told (known, acyclic, refl, sym (run-fault tables root readable) ∙ ap fault_of stop)
+refused tables root path why refusal valid told known acyclic stop =
+    refuses_node tables root path why refusal told (known, acyclic, refl, sym (run-fault tables root valid) ∙ ap fault_of stop)
 
-pub no_fault : (tables : TableMap) (root : Name) (more : Found) → AreReadable tables → run (root_walk tables root) start ≡ Ok more → first_fault 0 (root_walk tables root) ≡ None
-no_fault tables root more readable walked = sym (run-fault tables root readable) ∙ ap fault_of walked
+pub no_fault : (tables : TableMap) (root : Name) (more : Found) → AreValidTables tables → run (root_walk tables root) start ≡ Ok more → first_fault 0 (root_walk tables root) ≡ None
+no_fault tables root more valid walked = sym (run-fault tables root valid) ∙ ap fault_of walked
 
 at_most_one : (b : Bool) (n : ℕ) → cond b n (n + 1) ≤ n + 1
 at_most_one true n = omega arith
@@ -224,6 +225,10 @@ few_names tables root more h =
     let none : len (empty {X = Register} {R = by_bytes}) ≡ 0 = len-empty by_bytes Register in
     run-size (root_walk tables root) start more h (omega arith) (omega arith)
 
+-- each register ends at an address of 32 bits
+abbrev AreWithin : RegisterMap → Type 0
+AreWithin registers = (name : Name) (r : Register) → get registers name ≡ Some r → last_address r < 2 ^ 32
+
 within-more : (m : RegisterMap) (k : Name) (v : Register) → AreWithin m → last_address v < 2 ^ 32 → AreWithin (insert m k v)
 within-more m k v within here name r there =
     elim (get-cases m k name v r there) [ inl same ↦ subst (λ x. last_address x < 2 ^ 32) same.1 here | inr old ↦ within name r old ]
@@ -240,5 +245,9 @@ run-within (v ∷ vs) found more h within =
 within-none : AreWithin empty
 within-none name r h = let bad : ⊥ = cc (get-empty {X = Register} by_bytes name) in absurd bad
 
-pub all_within : (tables : TableMap) (root : Name) (more : Found) → run (root_walk tables root) start ≡ Ok more → AreWithin more.names
-all_within tables root more h = run-within (root_walk tables root) start more h within-none
+-- and fits its mode
+pub all_registers : (tables : TableMap) (root : Name) (more : Found) → AreValidTables tables → run (root_walk tables root) start ≡ Ok more
+    → AreRegisters more.names
+all_registers tables root more valid h name r there =
+    root-register tables root name r valid ((names-iff tables root more h name r).0 there)
+    (run-within (root_walk tables root) start more h within-none name r there)
