@@ -20,4 +20,5 @@ pub mod RepeatLemmas
 pub mod SiblingLemmas
 pub mod Places
 pub mod Uniqueness
+pub mod SameLemmas
 pub mod FaultlessLemmas

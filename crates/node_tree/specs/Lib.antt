@@ -6,6 +6,7 @@ pub mod Modules
 pub mod CycleSearch
 pub mod Walk
 pub mod Refusals
+pub mod Same
 pub mod Run
 pub mod Overlaps
 pub mod OverlapExamples

@@ -1,13 +1,11 @@
-ghost use Rattle.std.specs.Prelude.{◌≡◌, ◌≤◌, ◌↔◌, [], Some, IfOk, IfErr, OnOk};
+ghost use Rattle.std.specs.Prelude.{◌≡◌, ◌≤◌, [], IfOk, IfErr, OnOk};
 ghost use Rattle.node_tree.specs.declared.limits.TheConstants.{MAX_NODES};
 ghost use Rattle.std.specs.FinMap as map;
 ghost use Rattle.node_tree.specs.Maps.{AreRegisters, AreValidTables};
-ghost use Rattle.node_tree.specs.Named.{Name};
-ghost use Rattle.node_tree.specs.Names.{RootNames};
+ghost use Rattle.node_tree.specs.Names.{IsIndexOf};
 ghost use Rattle.node_tree.specs.Modules.{ReachesItself, NoTable};
 ghost use Rattle.node_tree.specs.Refusals.{AreKnown, KeepsRules, IsRefusal, Refuses};
 ghost use Rattle.node_tree.specs.Repeats.{TellsRepeated};
-ghost use Rattle.node_tree.specs.declared.register.Register.{Register as Reg};
 
 use crate::check_modules::first_unknown;
 use crate::cycles::first_cycle;
@@ -23,8 +21,7 @@ use std::collections::BTreeMap;
 /// its mode, and each register ends at an address of 32 bits. A refusal tells the first rule that is broken, and where;
 /// one for a duplicate means that an earlier sibling of the node has its id.
 pub fn compile(alloc: Global, tables: &Tables, root: &str) -> Result<Index, CompileRefusal>
-    ensures names { let named = RootNames tables.now root.now in
-        IfOk result (λ index. (name : Name) (r : Reg) → (map.get index name ≡ Some r) ↔ named name r) }
+    ensures names { IfOk result (λ index. IsIndexOf tables.now root.now index) }
     ensures only_if_kept { OnOk result (KeepsRules tables.now root.now) }
     ensures registers { IfOk result (λ index. AreRegisters index) }
     ensures refused { IfErr result (λ refusal. IsRefusal tables.now root.now refusal) }
