@@ -11,7 +11,7 @@ use Rattle.address_table.specs.Limits.{longest_id}
 use Rattle.address_table.specs.Valid.{IsValidNode, AreValid}
 use Rattle.address_table.specs.declared.nodes.Node.{Node, out-Node}
 use Rattle.node_tree.specs.declared.refusal.CompileWhy.{CompileWhy}
-use Rattle.node_tree.specs.declared.limits.TheConstants.{MAX_NODES, MAX_IDS}
+use Rattle.node_tree.specs.Limits.{most_nodes, most_ids}
 use Rattle.node_tree.specs.declared.refusal.CompileWhy.TheVariants.{TooMany, TooDeep, Duplicate, AddressPastEnd}
 use Rattle.node_tree.specs.Maps.{Name, TableMap, nodes_of, AreValidTables}
 use Rattle.node_tree.specs.Names.{dot, children_of, name_below, node_name, node_address}
@@ -210,7 +210,7 @@ same-node : (before : List Visit) (v : Visit) (vs : List Visit) → is_named_by 
 same-node before v vs here after =
     let one : length (v ∷ before) ≡ length before + 1 = omega arith in
     fault_or-same v (first_broken (named_rules before v)) (first_named (v ∷ before) vs) (first_fault (length before + 1) vs) (λ kept. after kept ∙ ap (λ k. first_fault k vs) one)
-    ∙ ap (λ b. fault_or v (first_broken ((TooMany, nat_lt (length before) MAX_NODES) ∷ (TooDeep, nat_le v.level MAX_IDS) ∷ (Duplicate, not b) ∷ (AddressPastEnd, nat_lt (last_address v.register) (2 ^ 32)) ∷ [])) (first_fault (length before + 1) vs)) here
+    ∙ ap (λ b. fault_or v (first_broken ((TooMany, nat_lt (length before) most_nodes) ∷ (TooDeep, nat_le v.level most_ids) ∷ (Duplicate, not b) ∷ (AddressPastEnd, nat_lt (last_address v.register) (2 ^ 32)) ∷ [])) (first_fault (length before + 1) vs)) here
 
 fault_or-or : (v : Visit) (o : Option CompileWhy) (a b : Option (Name × CompileWhy)) → fault_or v o (option_or a b) ≡ option_or (fault_or v o a) b
 fault_or-or v None a b = refl
@@ -334,4 +334,4 @@ module _ (tables : TableMap) where
 -- the first fault by names is the first fault
 pub same-root : (tables : TableMap) (root : Name) → AreValidTables tables → first_named [] (root_walk tables root) ≡ first_fault 0 (root_walk tables root)
 same-root tables root valid =
-    same-walk tables valid (MAX_IDS + 1) 1 [] 0 (nodes_of tables root) [] (named_nodes tables valid root) tt
+    same-walk tables valid (most_ids + 1) 1 [] 0 (nodes_of tables root) [] (named_nodes tables valid root) tt

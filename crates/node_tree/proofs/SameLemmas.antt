@@ -13,7 +13,7 @@ use Rattle.node_tree.specs.declared.register.Register.{Register}
 use Rattle.node_tree.specs.declared.refusal.CompileWhy.TheVariants.{UnknownModule, ModuleCycle, TooMany, TooDeep, Duplicate, AddressPastEnd}
 use Rattle.node_tree.specs.declared.refusal.CompileRefusal.{CompileRefusal}
 use Rattle.node_tree.specs.declared.refusal.CompileRefusal.TheVariants.{At, NoMemory}
-use Rattle.node_tree.specs.declared.limits.TheConstants.{MAX_IDS}
+use Rattle.node_tree.specs.Limits.{most_ids}
 use Rattle.node_tree.specs.Maps.{Name, TableMap, RegisterMap, nodes_of}
 use Rattle.node_tree.specs.Names.{Names, itself, child, later, children_of, node_name, node_address, register_of, name_below, IsIndexOf}
 use Rattle.node_tree.specs.Modules as modules
@@ -202,7 +202,7 @@ module _ (tables others : TableMap) (same : SameTables tables others) where
       siblings-same (walk tables levels (level + 1)) (walk others levels (level + 1)) (λ called address ks ls. walk-same levels (level + 1) called address ks ls) level above base [] [] ns ms neither alike
 
   root_walk-same : (root : Name) → root_walk tables root ≡ root_walk others root
-  root_walk-same root = walk-same (MAX_IDS + 1) 1 [] 0 (nodes_of tables root) (nodes_of others root) (nodes-same root)
+  root_walk-same root = walk-same (most_ids + 1) 1 [] 0 (nodes_of tables root) (nodes_of others root) (nodes-same root)
 
 -- the names of entries, and a map of them
 abbrev keys : List (Name × Table) → List (Name × Unit {0})

@@ -1,4 +1,5 @@
 pub mod Named
+pub mod Limits
 pub mod Addresses
 pub mod Maps
 pub mod Names

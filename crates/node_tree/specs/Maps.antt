@@ -9,7 +9,7 @@ pub use Rattle.node_tree.specs.Named.{Name, named, AreInOrder}
 use Rattle.address_table.specs.Valid.{FitsMode, IsValid}
 use Rattle.address_table.specs.declared.nodes.Table.{Table}
 use Rattle.address_table.specs.declared.nodes.Node.{Node}
-use Rattle.node_tree.specs.declared.limits.TheConstants.{MAX_NODES}
+use Rattle.node_tree.specs.Limits.{most_nodes}
 use Rattle.node_tree.specs.declared.register.Register.{Register}
 use Rattle.node_tree.specs.Addresses.{words_of, last_address}
 
@@ -40,5 +40,5 @@ AreRegisters registers = (name : Name) (r : Register) → get registers name ≡
 -- what the entries of an index keep
 pub record AreEntries (es : List (String Global × Register)) : Type 0 where
   pub ordered : AreInOrder es
-  pub few : length es ≤ MAX_NODES
+  pub few : length es ≤ most_nodes
   pub registers : AreRegisters (from_sorted (named es))

@@ -1,5 +1,5 @@
 ghost use Rattle.std.specs.Prelude.{◌≡◌, ◌≤◌, [], IfOk, IfErr, OnOk};
-ghost use Rattle.node_tree.specs.declared.limits.TheConstants.{MAX_NODES};
+ghost use Rattle.node_tree.specs.Limits.{most_nodes};
 ghost use Rattle.std.specs.FinMap as map;
 ghost use Rattle.node_tree.specs.Maps.{AreRegisters, AreValidTables};
 ghost use Rattle.node_tree.specs.Names.{IsIndexOf};
@@ -88,7 +88,7 @@ fn refused_at(alloc: Global, table: &str, path: Text, why: CompileWhy) -> Compil
 
 /// The index of the registers that the walk found.
 fn index_of(alloc: Global, found: Found) -> Result<Index, NoMemory>
-    requires few { map.len found.names ≤ MAX_NODES }
+    requires few { map.len found.names ≤ most_nodes }
     requires registers { AreRegisters found.names }
     ensures { IfOk result (λ index. index ≡ found.names) }
 {

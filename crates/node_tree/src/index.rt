@@ -2,7 +2,7 @@ ghost use Rattle.std.specs.Prelude.{◌≡◌, ◌<◌, ◌≤◌, ◌^◌, ◌=
 ghost use Rattle.std.specs.Ordering.{nat_cmp};
 ghost use Rattle.std.specs.Cmp.Lexicographic.{slice_cmp};
 ghost use Rattle.std.specs.FinMap as map;
-ghost use Rattle.node_tree.specs.declared.limits.TheConstants.{MAX_NODES};
+ghost use Rattle.node_tree.specs.Limits.{most_nodes};
 ghost use Rattle.node_tree.specs.Maps.{AreEntries, IsRegister};
 ghost use Rattle.node_tree.specs.Named.{named, AreInOrder};
 ghost use Rattle.node_tree.specs.Overlaps.{overlapping};
@@ -56,7 +56,7 @@ impl Index {
     /// How many registers there are, at most `MAX_NODES`.
     pub fn len(&self) -> usize
         ensures registers { result ≡ map.len self.now }
-        ensures few { result ≤ MAX_NODES }
+        ensures few { result ≤ most_nodes }
     {
         let entries = self.entries.as_slice();
         entries.len()

@@ -10,6 +10,7 @@ ghost use Rattle.node_tree.specs.declared.refusal.CompileRefusal.TheVariants.{At
 ghost use Rattle.node_tree.specs.declared.register.Register.{Register as Reg};
 ghost use Rattle.node_tree.specs.Addresses.{last_address};
 ghost use Rattle.node_tree.specs.Examples.{full_register};
+ghost use Rattle.node_tree.specs.Limits.{most_nodes, most_ids};
 ghost use Rattle.node_tree.specs.Maps.{Name, TableMap, RegisterMap};
 ghost use Rattle.node_tree.specs.Names.{RootNames, IsIndexOf, name_below};
 ghost use Rattle.node_tree.specs.Overlaps.{is_dotted_prefix};
@@ -62,7 +63,7 @@ pub fn a_walk_lists_what_the_root_names()
         → RootNames tables root name r }
     ensures all { (tables : TableMap) (root name : Name) (r : Reg)
         → RootNames tables root name r
-        → Lists (root_walk tables root) name r ⊎ HasLevel (root_walk tables root) (MAX_IDS + 1) }
+        → Lists (root_walk tables root) name r ⊎ HasLevel (root_walk tables root) (most_ids + 1) }
 {}
 
 /// Where the first faulty node is told as a duplicate, an earlier sibling has its id.
@@ -83,8 +84,8 @@ pub fn siblings_have_ids_of_their_own()
 
 /// The limits of an index.
 pub fn limits()
-    ensures nodes { MAX_NODES ≡ 65536 }
-    ensures ids { MAX_IDS ≡ 16 }
+    ensures nodes { MAX_NODES ≡ most_nodes }
+    ensures ids { MAX_IDS ≡ most_ids }
 {}
 
 /// A block takes one address for each of its words, and every other register one.
