@@ -5,7 +5,7 @@ use Rattle.std.specs.Option.{option_map_or}
 use Rattle.toml.specs.Data.{Data, table, Members, get_member}
 use Rattle.address_table.specs.Numbers.{is_between}
 use Rattle.address_table.specs.Keys.{has_node_keys, text_at, address_at, mask_at, size_at, permission_at, mode_at, nodes_at}
-use Rattle.address_table.specs.declared.limits.TheConstants.{MAX_ID_BYTES, MAX_WORDS}
+use Rattle.address_table.specs.Limits.{longest_id, most_words}
 use Rattle.address_table.specs.declared.kinds.Mode.{Mode}
 use Rattle.address_table.specs.declared.kinds.Mode.TheVariants.{Single, Block, Port, Hierarchical}
 use Rattle.address_table.specs.declared.refusal.TableWhy.{TableWhy}
@@ -16,9 +16,9 @@ abbrev pub is_id_byte : ℕ → Bool
 is_id_byte byte =
     (is_between 65 90 byte || is_between 97 122 byte) || (is_between 48 57 byte || (byte == 95 || byte == 45))
 
--- 1 to 64 of these: the name of a node, a table or a board
+-- 1 to `longest_id` of these: the name of a node, a table or a board
 abbrev pub is_id : List ℕ → Bool
-is_id text = is_between 1 MAX_ID_BYTES (length text) && list_all is_id_byte text
+is_id text = is_between 1 longest_id (length text) && list_all is_id_byte text
 
 -- there is a value, and it passes the test
 abbrev pub holds_of : {T : Type 0} → (T → Bool) → Option T → Bool
@@ -49,8 +49,8 @@ takes_mask Hierarchical mask = true
 
 -- the words of a register of this mode
 abbrev pub takes_size : Mode → ℕ → Bool
-takes_size Block size = is_between 1 MAX_WORDS size
-takes_size Port size = is_between 1 MAX_WORDS size
+takes_size Block size = is_between 1 most_words size
+takes_size Port size = is_between 1 most_words size
 takes_size Single size = size == 1
 takes_size Hierarchical size = size == 1
 

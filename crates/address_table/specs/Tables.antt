@@ -46,10 +46,6 @@ abbrev pub IsTable : Data → Table → Type 0
 IsTable (array ds) t = AreNodes ds t.nodes.items
 IsTable _ t = ⊥
 
--- a table that some value is
-abbrev pub IsReadable : Table → Type 0
-IsReadable t = (d : Data) × IsTable d t
-
 -- a place in the item at a position
 abbrev pub place_in : ℕ → List ℕ × Data → List ℕ × Data
 place_in i place = (i ∷ place.0, place.1)

@@ -7,6 +7,7 @@ ghost use Rattle.address_table.specs.declared.kinds.Permission.TheVariants.{R, W
 ghost use Rattle.address_table.specs.declared.limits.TheConstants.{MAX_ID_BYTES, MAX_WORDS};
 ghost use Rattle.address_table.specs.Examples.{node_with, array_of, key_with, says};
 ghost use Rattle.address_table.specs.Kinds.{permission_named, mode_named};
+ghost use Rattle.address_table.specs.Limits.{longest_id, most_words};
 ghost use Rattle.address_table.specs.Numbers.{number_in_text};
 ghost use Rattle.address_table.specs.declared.refusal.TableWhy.TheVariants.{Shape, UnknownKey, MissingId, BadMode};
 ghost use Rattle.address_table.specs.Rules.{is_id, node_fault};
@@ -41,8 +42,8 @@ pub fn numbers_in_texts()
 
 /// The limits of an id, and of a block or a port.
 pub fn limits()
-    ensures id { MAX_ID_BYTES ≡ 64 }
-    ensures words { MAX_WORDS ≡ 4194304 }
+    ensures id { MAX_ID_BYTES ≡ longest_id }
+    ensures words { MAX_WORDS ≡ most_words }
 {}
 
 /// The words for permissions, and no others.

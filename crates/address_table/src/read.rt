@@ -3,6 +3,7 @@ ghost use Rattle.toml.specs.Data.{table};
 ghost use Rattle.toml.specs.View.{view, array_view, table_view};
 ghost use Rattle.address_table.specs.Rules.{broken_rule};
 ghost use Rattle.address_table.specs.Fields.{SaysFields};
+ghost use Rattle.address_table.specs.Valid.{IsValid};
 ghost use Rattle.address_table.specs.Tables.{IsTable, IsNode, AreNodes, IsFault, table_fault, first_fault, preorder, preorder_items, children};
 
 use crate::copies::{copy_at, copy_module, refused_below, refused_here};
@@ -16,6 +17,7 @@ use toml::value::Array;
 /// first faulty node is told, each node before its children, with the first rule that it breaks.
 pub fn read_table(alloc: Global, value: &Value) -> Result<Table, TableRefusal>
     ensures read { IfOk result (λ table. IsTable (view value.now) table) }
+    ensures valid { IfOk result (λ table. IsValid table) }
     ensures accepted { OnOk result (table_fault (view value.now) ≡ None) }
     ensures refused { IfErr result (λ refusal. IsFault (table_fault (view value.now)) refusal) }
 {

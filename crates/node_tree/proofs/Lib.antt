@@ -2,7 +2,7 @@ pub mod NamedLemmas
 pub mod Visits
 pub mod Runs
 pub mod Faults
-pub mod MaskLemmas
+pub mod RegisterLemmas
 pub mod MentionLemmas
 pub mod SetLemmas
 pub mod EntryLemmas
@@ -20,4 +20,5 @@ pub mod RepeatLemmas
 pub mod SiblingLemmas
 pub mod Places
 pub mod Uniqueness
+pub mod SameLemmas
 pub mod FaultlessLemmas

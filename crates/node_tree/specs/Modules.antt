@@ -1,4 +1,4 @@
--- Modules: tables whose nodes are the children of nodes of other tables.
+-- Modules (uHAL): tables whose nodes are the children of nodes of other tables.
 use Rattle.std.specs.Prelude.{◌≡◌, true, false, List, ◌∷◌, ◌++◌, Some}
 use Rattle.std.specs.List.{AllByRecursion}
 use Rattle.std.specs.Ordering.{nat_cmp}
