@@ -1,4 +1,4 @@
-ghost use Rattle.std.specs.Prelude.{◌≡◌, ◌≢◌, ◌≤◌, ℕ, All, List, length, IfOk, OnOk, OnErr, MatchResult, IfErr, None};
+ghost use Rattle.std.specs.Prelude.{◌≡◌, ◌≢◌, ◌≤◌, ℕ, All, List, length, IfOk, OnOk, OnErr, IfErr, None};
 ghost use Rattle.std.specs.Prelude.{Some};
 ghost use Rattle.std.specs.List.{AllByRecursion, AllZip, flat_map, position};
 ghost use Rattle.ipb_base.specs.Word.{AreWords};

@@ -1,7 +1,6 @@
 //! Worked examples of the definitions. These functions do nothing when they run: their clauses are what is proved.
 
-ghost use Rattle.std.specs.Prelude.{◌≡◌, ℕ, [], ◌∷◌, List, Some, Err};
-ghost use Rattle.board_bus.specs.declared.range.Range.{Range};
+ghost use Rattle.std.specs.Prelude.{◌≡◌, [], ◌∷◌, Some, Err};
 ghost use Rattle.board_bus.specs.declared.range.BusRefusal.TheVariants.{Overlap, PastEnd};
 ghost use Rattle.board_bus.specs.declared.kind.RangeKind.TheVariants.{Rw, Ro, Wo, Slow};
 ghost use Rattle.board_bus.specs.declared.fault.BusFault.TheVariants.{WriteError};
