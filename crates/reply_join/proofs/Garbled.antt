@@ -1,5 +1,6 @@
 -- Where a reply stops being one to a body, request by request.
-use Rattle.std.proofs.Common.{◌≡◌, ◌⊎◌, inl, inr, ℕ, ◌+◌, ◌<◌, ◌≤◌, List, [], ◌∷◌, ◌++◌, length, take, drop, refl, sym, ap, subst, ◌∙◌, append_assoc, arith}
+use Rattle.std.proofs.Common.{◌≡◌, ◌⊎◌, inl, inr, ℕ, ◌+◌, ◌<◌, ◌≤◌, List, [], ◌∷◌, ◌++◌, length, take, drop, refl, sym}
+use Rattle.std.proofs.Common.{ap, subst, ◌∙◌, append_assoc, arith}
 use Rattle.std.proofs.lemmas.Bool.{cases_lt}
 use Rattle.std.proofs.lemmas.List.{length-append, append-nil, take_at, take-append-drop, length-take}
 use Rattle.ipb_base.specs.Lists.{IsPrefix}
@@ -14,7 +15,8 @@ use Rattle.reply_join.specs.Garbled.{BeginsReply, IsGarbledAt}
 use Rattle.reply_join.specs.Progress.{HasNoHeader, IsShort}
 use Rattle.reply_join.proofs.Lists.{beyond, take_past, no_words}
 use Rattle.reply_join.proofs.Headers.{header_from, done_not_failed}
-use Rattle.reply_join.proofs.Parts.{Parts, same_reply, reply_parts, reply_to_nothing, nothing_replied, some_reply, answer_goes_on, first_answer, done_then, failed_last}
+use Rattle.reply_join.proofs.Parts.{Parts, same_reply, reply_parts, reply_to_nothing, nothing_replied, some_reply}
+use Rattle.reply_join.proofs.Parts.{answer_goes_on, first_answer, done_then, failed_last}
 
 whole_begins : (body reply : List ℕ) → IsReplyTo body reply → BeginsReply body reply
 whole_begins body reply to = (reply, to, ([], sym (append-nil reply)))

@@ -1,11 +1,13 @@
 -- A reply to a body is a reply to its first request and, where that was done, one to the rest.
-use Rattle.std.proofs.Common.{◌≡◌, ◌⊎◌, inl, inr, ℕ, ◌+◌, ◌<◌, List, [], ◌∷◌, ◌++◌, length, true, false, Result, Err, IsOk, refl, sym, ap, subst, ◌∙◌, arith}
+use Rattle.std.proofs.Common.{◌≡◌, ◌⊎◌, inl, inr, ℕ, ◌+◌, ◌<◌, List, [], ◌∷◌, ◌++◌, length, true, false, Result, Err}
+use Rattle.std.proofs.Common.{IsOk, refl, sym, ap, subst, ◌∙◌, arith}
 use Rattle.std.proofs.lemmas.List.{length-append}
 use Rattle.std.proofs.lemmas.List.Concat.{flat_map-cons}
 use Rattle.transaction_codec.specs.declared.request.Request.{Request}
 use Rattle.transaction_codec.specs.declared.reply.Reply.{Reply}
 use Rattle.transaction_codec.specs.declared.refusal.Why.{Why}
-use Rattle.transaction_codec.specs.Request.{IsRequest, AreRequests, request_words, requests_words, BreaksRequest, request_at}
+use Rattle.transaction_codec.specs.Request.{IsRequest, AreRequests, request_words, requests_words, BreaksRequest}
+use Rattle.transaction_codec.specs.Request.{request_at}
 use Rattle.transaction_codec.specs.Reply.{IsReply, AreReplies, reply_words, replies_words, BreaksReply, reply_at}
 use Rattle.transaction_codec.specs.Answer.{values_done, IsDone, IsFailed, Answers, IsReplyTo, IsLongestAnswer}
 use Rattle.transaction_codec.proofs.Lists.{same_first}
