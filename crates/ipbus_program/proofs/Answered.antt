@@ -9,6 +9,7 @@ use Rattle.board_bus.specs.Cells.{CellMap}
 use Rattle.board_bus.specs.Bodies.{Executed, run_body}
 use Rattle.ipbus_program.specs.declared.session.Register.{Register}
 use Rattle.ipbus_program.specs.declared.session.Session.{Session}
+use Rattle.ipbus_program.specs.Numbers.{listed_items}
 use Rattle.ipbus_program.specs.Document.{CanRun}
 use Rattle.ipbus_program.specs.Plan.{opening_values, script_body, session_bus}
 use Rattle.ipbus_program.specs.History.{BodyOutcome, bodies_with_outcomes, IsHistory}
@@ -55,7 +56,7 @@ as_many_values session = length-map {A = Register} {B = ℕ} session.script _
 pub values_fit : (session : Session) → CanRun session → AreWords (session_values session)
 values_fit session can = opening_fits session.board session.script can.words
 
-pub few_values : (session : Session) → CanRun session → length (session_values session) ≤ 100
+pub few_values : (session : Session) → CanRun session → length (session_values session) ≤ listed_items
 few_values session can = omega (arith, as_many_values session, can.listed.1)
 
 pub gives_values : (session : Session) (reply : List ℕ) → CanRun session

@@ -9,17 +9,18 @@ use Rattle.board_bus.specs.Ranges.{opening_words, opening_bus, refusal_of}
 use Rattle.ipbus_program.specs.declared.session.Register.{Register}
 use Rattle.ipbus_program.specs.declared.session.BoardSpec.{BoardSpec}
 use Rattle.ipbus_program.specs.Below.{LawsBelow}
+use Rattle.ipbus_program.specs.Numbers.{range_addresses}
 use Rattle.ipbus_program.specs.Plan.{board_range, opening_word, opening_values}
 use Rattle.ipbus_program.specs.Steps.{GiveWords}
 
 -- the board's range breaks no rule
-is_allowed : (board : BoardSpec) → 1 ≤ board.size → board.size ≤ 65536 → length board.init ≤ board.size
+is_allowed : (board : BoardSpec) → 1 ≤ board.size → board.size ≤ range_addresses → length board.init ≤ board.size
     → refusal_of (board_range board ∷ []) ≡ None
 is_allowed board some small fits = grind (arith, nat_tests)
 
 module _ (laws : LawsBelow) where
   -- an address below the size of the range is read
-  pub reads_opening : (board : BoardSpec) (address : ℕ) → length board.init ≤ board.size → board.size ≤ 65536
+  pub reads_opening : (board : BoardSpec) (address : ℕ) → length board.init ≤ board.size → board.size ≤ range_addresses
       → address < board.size
       → read_word (opening_bus (board_range board ∷ [])) address ≡ Ok (opening_word board address)
   reads_opening board address fits small inside =
@@ -28,7 +29,7 @@ module _ (laws : LawsBelow) where
       subst (λ n. read_word (opening_bus (board_range board ∷ [])) n ≡ Ok (opening_word board address)) same given
 
   pub gives_opening : (board : BoardSpec) (script : List Register) → length board.init ≤ board.size
-      → board.size ≤ 65536 → AllByRecursion (λ register. register.address < board.size) script
+      → board.size ≤ range_addresses → AllByRecursion (λ register. register.address < board.size) script
       → GiveWords (opening_bus (board_range board ∷ [])) script (opening_values board script)
   gives_opening board [] fits small inside = tt
   gives_opening board (register ∷ script) fits small inside =

@@ -20,6 +20,7 @@ use Rattle.ipbus_program.specs.declared.session.Register.{Register}
 use Rattle.ipbus_program.specs.Plan.{read_request, script_requests, script_body}
 use Rattle.ipbus_program.specs.Transcript.{OpResult, Values, results_from, results}
 use Rattle.ipbus_program.specs.Below.{LawsBelow}
+use Rattle.ipbus_program.specs.Numbers.{listed_items}
 use Rattle.ipbus_program.specs.Steps.{word_reply, word_replies, HaveWords, GiveWords}
 
 is_request : (tid : ℕ) (register : Register) → tid < 2 ^ 12 → IsWord register.address
@@ -109,7 +110,7 @@ module _ (laws : LawsBelow) where
       (results_are_values (tid + 1) words (omega arith) fits.1)
 
   -- the whole body of a script on a bus that gives these words
-  pub script_reply : (cells : CellMap) (script : List Register) (words : List ℕ) → length script ≤ 100
+  pub script_reply : (cells : CellMap) (script : List Register) (words : List ℕ) → length script ≤ listed_items
       → HaveWords script
       → GiveWords cells script words
       → run_body cells (script_body script) ≡ record { cells = cells; reply = replies_words (word_replies 0 words) }

@@ -4,6 +4,7 @@ ghost use Rattle.std.specs.Prelude.{◌≡◌, ◌≤◌, ◌+◌, ◌*◌, ◌�
 ghost use Rattle.std.specs.Prelude.{Option, Some, None, String};
 ghost use Rattle.std.specs.declared.alloc.Global.{Global};
 ghost use Rattle.toml.specs.Data.{Members};
+ghost use Rattle.ipb_base.specs.Numbers.{payload_of};
 ghost use Rattle.board_bus.specs.Bodies.{run_body};
 ghost use Rattle.ipbus_program.specs.declared.session.Register.{Register};
 ghost use Rattle.ipbus_program.specs.declared.session.BoardSpec.{BoardSpec};
@@ -25,7 +26,7 @@ ghost use Rattle.ipbus_program.specs.Owed.{IsAccepted, Deserves, IsTranscriptOf,
 use crate::below::laws_below;
 
 /// The numbers that a user sees are those of the definitions.
-pub fn numbers_are_as_defined()
+pub fn the_numbers_of_the_program()
     ensures done { DONE ≡ done_status }
     ensures usage { USAGE ≡ usage_status }
     ensures refused { REFUSED ≡ refused_status }
@@ -101,15 +102,15 @@ pub fn reads_leave_the_board()
     laws_below();
 }
 
-/// The body of a script and the reply to it have two words for each line. With its header each fits a packet of 368
-/// words, the most that an MTU of 1500 bytes leaves.
+/// The body of a script and the reply to it have two words for each line. With its header each fits a packet where the
+/// MTU is 1500 bytes.
 pub fn bodies_fit_a_packet()
     ensures body { (script : List Register) → length (script_body script) ≡ 2 * length script }
     ensures reply { (session : Session) → CanRun session
         → length (run_body (session_bus session) (script_body session.script)).reply ≡ 2 * length session.script }
     ensures fits { (session : Session) → CanRun session
-        → (length (script_body session.script) + 1 ≤ 368)
-        × (length (run_body (session_bus session) (script_body session.script)).reply + 1 ≤ 368) }
+        → (length (script_body session.script) + 1 ≤ payload_of 1500)
+        × (length (run_body (session_bus session) (script_body session.script)).reply + 1 ≤ payload_of 1500) }
 {
     laws_below();
 }

@@ -8,11 +8,11 @@ use Rattle.ipbus_program.proofs.run.run.Goals as goal
 
 pub ask-requires-clause-answered : goal.ask-requires-clause-answered
 ask-requires-clause-answered c =
-    let s = c.args.session in (
+    let s = c.args.session in
+    let given = values_given c.laws_below.ensures s c.requires in (
       session_values s,
       rw c.as_slice-script.ensures (as_many_values s),
-      rw
-          (c.in_ok-bus.ensures, c.as_slice-script.ensures) (values_given c.laws_below.ensures s c.requires),
+      rw (c.in_ok-bus.ensures, c.as_slice-script.ensures) given,
     )
 
 pub transcript-requires-clause-values : goal.transcript-requires-clause-values

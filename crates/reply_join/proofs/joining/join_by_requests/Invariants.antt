@@ -1,6 +1,6 @@
 use Rattle.std.proofs.Common.{length}
 use Rattle.reply_join.proofs.Steps.{Underway}
-use Rattle.reply_join.proofs.joining.join_reply.Given as goal
+use Rattle.reply_join.proofs.joining.join_by_requests.Given as goal
 
 -- what is left gives what the whole gives
 abbrev pub invariant-loop-asked : goal.invariant-loop-asked
