@@ -1,0 +1,12 @@
+pub mod Places
+pub mod Messages
+pub mod Board
+pub mod Hub
+pub mod Sends
+pub mod Air
+pub mod World
+pub mod Links
+pub mod Lanes
+pub mod Facts
+pub mod History
+pub mod Examples
