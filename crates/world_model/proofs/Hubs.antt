@@ -222,7 +222,7 @@ control_said first sent birth place id o can at named sent_by recent =
       (subst (IsSaidToBoard first (bodies_of sent) birth) (sym (control_read Big id o.body fits can)) said)
 
 -- what can be sent at a place
-sendable_at : (sent : List Offered) (place : ℕ) (o : Offered) → AreSendable sent → at_place sent place ≡ Some o → IsSendable o.body
+pub sendable_at : (sent : List Offered) (place : ℕ) (o : Offered) → AreSendable sent → at_place sent place ≡ Some o → IsSendable o.body
 sendable_at sent zero o all at = absurd (cc)
 sendable_at sent (suc k) o all at = all_get (λ (x : Offered). IsSendable x.body) sent k o all at
 

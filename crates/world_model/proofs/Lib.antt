@@ -6,3 +6,4 @@ mod Boards
 mod Hubs
 mod Worlds
 mod Histories
+mod Links
