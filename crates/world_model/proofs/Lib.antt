@@ -7,3 +7,4 @@ mod Hubs
 mod Worlds
 mod Histories
 mod Links
+mod Kept

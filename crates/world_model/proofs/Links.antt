@@ -193,12 +193,12 @@ recovered_sent : (h : Hub) (r : Option ℕ) → (recovered h r).sent ≡ h.sent
 recovered_sent h None = refl
 recovered_sent h (Some e) = refl
 
-message_sent : (h : Hub) (m : Option ToHub) → (take_message h m).sent ≡ h.sent
+pub message_sent : (h : Hub) (m : Option ToHub) → (take_message h m).sent ≡ h.sent
 message_sent h None = refl
 message_sent h (Some (StatusReply mtu buffers next)) = either (λ (x : Hub). x.sent ≡ h.sent) (nat_lt 0 h.requests) _ _ (λ _. recovered_sent h (told_place h next)) (λ _. refl)
 message_sent h (Some (Reply id words)) = settle_sent h words (open_with h.first id h.opens)
 
-quiet_sent : (h : Hub) → (hear_quiet h).sent ≡ h.sent
+pub quiet_sent : (h : Hub) → (hear_quiet h).sent ≡ h.sent
 quiet_sent h = either (λ (x : Hub). x.sent ≡ h.sent) (nat_lt h.requests h.rounds) (want_status h) (give_up h) (λ _. refl) (λ _. refl)
 
 pub handed_joined : (hub : Hub) (t : Told) (bytes : List ℕ) → IsJoined hub t → IsHanded t bytes → IsJoined (take_message hub (to_hub bytes)) t
