@@ -1,5 +1,5 @@
--- What has a spelling as a packet, and its spelling (IPbus 2.0, packet header; profile: the length, and which packets may
--- be little-endian).
+-- What has a spelling as a packet, and its spelling (IPbus 2.0, packet header; profile: the length, and which packets
+-- may be little-endian).
 use Rattle.std.specs.Prelude.{◌≡◌, ℕ, ◌<◌, ◌≤◌, ◌^◌, List, ◌∷◌, length}
 use Rattle.std.specs.List.{flat_map}
 use Rattle.std.specs.Int.{w32, to_le_bytes}

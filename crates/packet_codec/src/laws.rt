@@ -1,12 +1,23 @@
 //! Laws of the definitions. These functions do nothing when they run: their clauses are what is proved.
 
-ghost use Rattle.std.specs.Prelude.{◌≡◌, ℕ, List, [], ◌∷◌, slice_index};
+ghost use Rattle.std.specs.Prelude.{◌≡◌, ℕ, ◌+◌, List, [], ◌∷◌, slice_index};
+ghost use Rattle.ipb_base.specs.Numbers.{greatest_payload};
 ghost use Rattle.ipb_base.specs.Word.{big_endian};
 ghost use Rattle.packet_codec.specs.Packet.{IsPacket, in_order, packet_bytes};
 ghost use Rattle.packet_codec.specs.Faults.{HasAllowedHeader, HasUnknownKind};
 ghost use Rattle.packet_codec.specs.declared.packet.Packet.{Packet};
 ghost use Rattle.packet_codec.specs.declared.packet.Order.TheVariants.{Big, Little};
 ghost use Rattle.packet_codec.specs.declared.packet.PacketKind.TheVariants.{Control};
+
+use crate::header::BYTE_ORDER_QUALIFIER;
+use crate::packet::{MAX_BODY_WORDS, MAX_PACKET_WORDS};
+
+/// The most words of a packet and of its body, and the byte-order qualifier.
+pub fn the_numbers_of_a_packet()
+    ensures words { MAX_PACKET_WORDS ≡ greatest_payload }
+    ensures body { MAX_BODY_WORDS + 1 ≡ MAX_PACKET_WORDS }
+    ensures qualifier { BYTE_ORDER_QUALIFIER ≡ 0xf }
+{}
 
 /// A control packet with identifier 1 that reads the word at address 4, in both byte orders.
 pub fn a_control_packet_in_both_orders()
