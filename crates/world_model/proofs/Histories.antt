@@ -18,65 +18,66 @@ use Rattle.world_model.specs.Facts.{IsSound, IsTagged, IsRightFate, bodies_of, o
 use Rattle.world_model.specs.History.{Leads, IsRun, IsHandedOut, IsTrueHistory, IsExecutedThere, IsExecutedAtMostOnce}
 use Rattle.world_model.proofs.Lists.{at_front, at_from_one, at_within, at_exists, at_map, front_length, all_get}
 use Rattle.world_model.proofs.Boards.{replies_length}
-use Rattle.world_model.proofs.Hubs.{lowest_is}
 use Rattle.world_model.proofs.Worlds.{run_holds, start_holds}
+use Rattle.world_model.specs.Below.{Below}
 
-pub facts : (window rounds : ℕ) (board : Board) (air : List Datagram) (moves : List WorldMove) (w : World) → IsRun window rounds board air moves w → IsSound w
-facts window rounds board air moves w is =
-    subst (λ (r : Result World _). IfOk r IsSound) is.leads.ran
-      (run_holds is.leads.at (start window rounds board air) moves is.leads.sendable (start_holds window rounds board air is.begins))
+module _ (below : Below) where
+  pub facts : (window rounds : ℕ) (board : Board) (air : List Datagram) (moves : List WorldMove) (w : World) → IsRun window rounds board air moves w → IsSound w
+  facts window rounds board air moves w is =
+      subst (λ (r : Result World _). IfOk r IsSound) is.leads.ran
+        (run_holds below is.leads.at (start window rounds board air) moves is.leads.sendable (start_holds below window rounds board air is.begins))
 
-right_fate : (w : World) (tag : ℕ) (fate : Fate) → IsSound w → IsHandedOut w tag fate → IsRightFate w.hub.sent (replies w.board) (tag, fate)
-right_fate w tag fate is told = all_get (IsRightFate w.hub.sent (replies w.board)) w.fates told.number (tag, fate) is.told_fates told.there
+  right_fate : (w : World) (tag : ℕ) (fate : Fate) → IsSound w → IsHandedOut w tag fate → IsRightFate w.hub.sent (replies w.board) (tag, fate)
+  right_fate w tag fate is told = all_get (IsRightFate w.hub.sent (replies w.board)) w.fates told.number (tag, fate) is.told_fates told.there
 
-pub history : (w : World) → IsSound w → IsTrueHistory w
-history w is = record {
-    in_order = is.log.front;
-    replied = λ tag place words told. (right_fate w tag (Replied place words) is told).1;
-  }
-
-pub in_order : (w : World) (place : ℕ) (body : List ℕ) → IsSound w → at_place (executed w.board) place ≡ Some body → at_place (bodies_of w.hub.sent) place ≡ Some body
-in_order w place body is at = subst (λ (all : List (List ℕ)). at_place all place ≡ Some body) (sym is.log.front.1) (at_front (executed w.board) is.log.front.0 place body at)
-
-pub no_more : (w : World) → IsSound w → length (executed w.board) ≤ length w.hub.sent
-no_more w is = omega (arith, front_length (executed w.board) (bodies_of w.hub.sent) is.log.front, length-map w.hub.sent offered_body)
-
--- what was executed at a place is the body of the offer that was sent there
-executed_body : (w : World) (place : ℕ) (o : Offered) → IsSound w → at_place w.hub.sent place ≡ Some o → 1 ≤ place → place ≤ length (executed w.board) → at_place (executed w.board) place ≡ Some o.body
-executed_body w place o is at one within =
-    let x = at_exists (executed w.board) place one within in
-    let mine = in_order w place x.0 is x.1 in
-    let other = at_map offered_body w.hub.sent place o at in
-    let same : Some x.0 ≡ Some o.body = sym mine ∙ other in
-    x.1 ∙ same
-
-pub replied_there : (w : World) (tag place : ℕ) (words : List ℕ) → IsSound w → IsHandedOut w tag (Replied place words) → IsExecutedThere w tag place
-replied_there w tag place words is told =
-    let r = right_fate w tag (Replied place words) is told in
-    let within = at_within (replies w.board) place words r.1 in
-    record {
-      body = r.0.offered;
-      sent = r.0.at;
-      tag_is = r.0.tag_is;
-      there = executed_body w place r.0.offered is r.0.at (at_from_one w.hub.sent place r.0.offered r.0.at) (omega (arith, replies_length w.board));
+  pub history : (w : World) → IsSound w → IsTrueHistory w
+  history w is = record {
+      in_order = is.log.front;
+      replied = λ tag place words told. (right_fate w tag (Replied place words) is told).1;
     }
 
-there_or_nowhere : (w : World) (place : ℕ) (o : Offered) → IsSound w → at_place w.hub.sent place ≡ Some o → (length (executed w.board) < place) ⊎ (at_place (executed w.board) place ≡ Some o.body)
-there_or_nowhere w place o is at = elim (cases_lt (length (executed w.board)) place) [
-    | inl later ↦ inl later
-    | inr within ↦ inr (executed_body w place o is at (at_from_one w.hub.sent place o at) (omega arith))
-  ]
+  pub in_order : (w : World) (place : ℕ) (body : List ℕ) → IsSound w → at_place (executed w.board) place ≡ Some body → at_place (bodies_of w.hub.sent) place ≡ Some body
+  in_order w place body is at = subst (λ (all : List (List ℕ)). at_place all place ≡ Some body) (sym is.log.front.1) (at_front (executed w.board) is.log.front.0 place body at)
 
-pub at_most_once : (w : World) (tag place rounds : ℕ) → IsSound w → IsHandedOut w tag (TimedOut place rounds) → IsExecutedAtMostOnce w tag place
-at_most_once w tag place rounds is told =
-    let r : IsTagged w.hub.sent tag place = right_fate w tag (TimedOut place rounds) is told in
-    record { body = r.offered; sent = r.at; tag_is = r.tag_is; there = there_or_nowhere w place r.offered is r.at }
+  pub no_more : (w : World) → IsSound w → length (executed w.board) ≤ length w.hub.sent
+  no_more w is = omega (arith, front_length (executed w.board) (bodies_of w.hub.sent) is.log.front, length-map w.hub.sent offered_body)
 
-pub one_reply : (w : World) (tag other place : ℕ) (words again : List ℕ) → IsSound w → IsHandedOut w tag (Replied place words) → IsHandedOut w other (Replied place again) → words ≡ again
-one_reply w tag other place words again is told told_again =
-    let mine = (right_fate w tag (Replied place words) is told).1 in
-    let yours = (right_fate w other (Replied place again) is told_again).1 in
-    let same : Some words ≡ Some again = sym mine ∙ yours in cc
+  -- what was executed at a place is the body of the offer that was sent there
+  executed_body : (w : World) (place : ℕ) (o : Offered) → IsSound w → at_place w.hub.sent place ≡ Some o → 1 ≤ place → place ≤ length (executed w.board) → at_place (executed w.board) place ≡ Some o.body
+  executed_body w place o is at one within =
+      let x = at_exists (executed w.board) place one within in
+      let mine = in_order w place x.0 is x.1 in
+      let other = at_map offered_body w.hub.sent place o at in
+      let same : Some x.0 ≡ Some o.body = sym mine ∙ other in
+      x.1 ∙ same
 
-pub in_window : (w : World) → IsSound w → length w.hub.sent < low w.hub + w.hub.window
-in_window w is = omega (arith, is.hub.within, lowest_is w.hub.opens (length w.hub.sent + 1))
+  pub replied_there : (w : World) (tag place : ℕ) (words : List ℕ) → IsSound w → IsHandedOut w tag (Replied place words) → IsExecutedThere w tag place
+  replied_there w tag place words is told =
+      let r = right_fate w tag (Replied place words) is told in
+      let within = at_within (replies w.board) place words r.1 in
+      record {
+        body = r.0.offered;
+        sent = r.0.at;
+        tag_is = r.0.tag_is;
+        there = executed_body w place r.0.offered is r.0.at (at_from_one w.hub.sent place r.0.offered r.0.at) (omega (arith, replies_length below w.board));
+      }
+
+  there_or_nowhere : (w : World) (place : ℕ) (o : Offered) → IsSound w → at_place w.hub.sent place ≡ Some o → (length (executed w.board) < place) ⊎ (at_place (executed w.board) place ≡ Some o.body)
+  there_or_nowhere w place o is at = elim (cases_lt (length (executed w.board)) place) [
+      | inl later ↦ inl later
+      | inr within ↦ inr (executed_body w place o is at (at_from_one w.hub.sent place o at) (omega arith))
+    ]
+
+  pub at_most_once : (w : World) (tag place rounds : ℕ) → IsSound w → IsHandedOut w tag (TimedOut place rounds) → IsExecutedAtMostOnce w tag place
+  at_most_once w tag place rounds is told =
+      let r : IsTagged w.hub.sent tag place = right_fate w tag (TimedOut place rounds) is told in
+      record { body = r.offered; sent = r.at; tag_is = r.tag_is; there = there_or_nowhere w place r.offered is r.at }
+
+  pub one_reply : (w : World) (tag other place : ℕ) (words again : List ℕ) → IsSound w → IsHandedOut w tag (Replied place words) → IsHandedOut w other (Replied place again) → words ≡ again
+  one_reply w tag other place words again is told told_again =
+      let mine = (right_fate w tag (Replied place words) is told).1 in
+      let yours = (right_fate w other (Replied place again) is told_again).1 in
+      let same : Some words ≡ Some again = sym mine ∙ yours in cc
+
+  pub in_window : (w : World) → IsSound w → length w.hub.sent < low w.hub + w.hub.window
+  in_window w is = omega (arith, is.hub.within)

@@ -12,13 +12,33 @@ use Rattle.world_model.specs.declared.offered.Fate.{Fate}
 use Rattle.world_model.specs.declared.moves.WorldMove.{WorldMove}
 use Rattle.world_model.specs.declared.moves.WorldMove.TheVariants.{Offer, Quiet, HubHears, BoardHears}
 use Rattle.world_model.specs.declared.moves.WorldEnd.{WorldEnd}
-use Rattle.world_model.specs.Messages.{ToBoard, StatusRequest, ResendRequest, ControlPacket, to_board, to_hub}
+use Rattle.world_model.specs.Messages.{ToBoard, StatusRequest, ResendRequest, ControlPacket, ToHub, StatusReply, Reply, to_board, to_hub}
 use Rattle.world_model.specs.Board.{Board, Hearing, expected, held, with_id, is_too_long, send_again, hear_message, hear}
-use Rattle.world_model.specs.Hub.{Hub, low, offer, take_message, hear_quiet, is_waiting}
+use Rattle.world_model.specs.declared.offered.OpenPlace.{OpenPlace}
+use Rattle.world_model.specs.Hub.{Hub, low, offer, open_with, settle, recovered, told_place, hear_status, take_message, want_status, give_up, hear_quiet, is_waiting}
 use Rattle.world_model.specs.Sends.{Next, Wanted, wanted, first_send, wanted_or_first, next_send, pending}
 use Rattle.world_model.specs.World.{World, sent_into, flush_on, flush, handed_out, with_hub, go_on, taken, hub_hears, board_hears, when_taken, step, moves_on, run_moves}
 use Rattle.world_model.proofs.Lists.{either}
-use Rattle.world_model.proofs.Links.{message_sent, quiet_sent}
+
+-- ---- what the hub hears leaves what was sent
+
+settle_sent : (h : Hub) (words : List ℕ) (r : Option OpenPlace) → (settle h words r).sent ≡ h.sent
+settle_sent h words None = refl
+settle_sent h words (Some o) = refl
+
+recovered_sent : (h : Hub) (r : Option ℕ) → (recovered h r).sent ≡ h.sent
+recovered_sent h None = refl
+recovered_sent h (Some e) = refl
+
+pub message_sent : (h : Hub) (m : Option ToHub) → (take_message h m).sent ≡ h.sent
+message_sent h None = refl
+message_sent h (Some (StatusReply mtu buffers next)) = either (λ (x : Hub). x.sent ≡ h.sent) (nat_lt 0 h.status_requests) _ _ (λ _. recovered_sent h (told_place h next)) (λ _. refl)
+message_sent h (Some (Reply id words)) = settle_sent h words (open_with h.first id h.open_places)
+
+pub quiet_sent : (h : Hub) → (hear_quiet h).sent ≡ h.sent
+quiet_sent h = either (λ (x : Hub). x.sent ≡ h.sent) (nat_lt h.status_requests h.rounds) (want_status h) (give_up h) (λ _. refl) (λ _. refl)
+
+-- ---- prefixes
 
 pub prefix_same : {A : Type 0} (xs ys : List A) → ys ≡ xs → IsPrefix xs ys
 prefix_same xs ys e = ([], e ∙ sym (append-nil xs))
@@ -55,7 +75,7 @@ wanted_more h None = first_more h h.queue
 wanted_more h (Some w) = prefix_same h.sent h.sent refl
 
 send_more : (h : Hub) → SendsMore h (next_send h)
-send_more h = either (SendsMore h) h.status_wanted _ _ (λ _. prefix_same h.sent h.sent refl) (λ _. wanted_more h (wanted h.first h.opens))
+send_more h = either (SendsMore h) h.status_wanted _ _ (λ _. prefix_same h.sent h.sent refl) (λ _. wanted_more h (wanted h.first h.open_places))
 
 flush_by : (later : Next → World) (w : World) (r : Option Next) → SendsMore w.hub r → ((n : Next) → Grew (sent_into w n) (later n)) → Grew w (flush_on r later w)
 flush_by later w None more f = grew_same w

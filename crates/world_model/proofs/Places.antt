@@ -5,7 +5,8 @@ use Rattle.std.proofs.lemmas.Bool.{eqb-true, eq-eqb, cases_lt}
 use Rattle.std.specs.List.{AllByRecursion, slice_get}
 use Rattle.ipb_base.specs.Lists.{IsPrefix}
 use Rattle.packet_ids.specs.Identifier.{identifier_at, IsIdentifier}
-use Rattle.world_model.specs.Facts.{AreRising, least, has, IsWindow, IsExecuted, MOST_OPEN}
+use Rattle.world_model.specs.Hub.{least}
+use Rattle.world_model.specs.Facts.{AreRising, has, IsWindow, IsExecuted, MOST_OPEN}
 use Rattle.world_model.proofs.Lists.{front_length, front_grows, front_more}
 
 -- a list of places without one

@@ -1,6 +1,7 @@
 -- A board and what it does with a datagram. IPbus 2.0: reliability mechanism, status packet, re-send request packet. Profile:
 -- identifier 0 is executed at each arrival, what is too long is dropped, and an answer has the byte order of its request.
-use Rattle.std.specs.Prelude.{ℕ, ◌+◌, ◌-◌, ◌/◌, ◌==◌, ◌||◌, nat_lt, Bool, true, false, if◌then◌else◌, List, [], ◌∷◌, ◌++◌, length, map, drop, Option, Some, None}
+use Rattle.std.specs.Prelude.{ℕ, ◌+◌, ◌-◌, ◌==◌, ◌||◌, nat_lt, Bool, true, false, if◌then◌else◌, List, [], ◌∷◌, ◌++◌, length, map, drop, Option, Some, None}
+use Rattle.ipb_base.specs.Numbers.{payload_of}
 use Rattle.packet_ids.specs.Identifier.{identifier_at}
 use Rattle.packet_codec.specs.declared.packet.Order.{Order}
 use Rattle.packet_codec.specs.declared.packet.Packet.{Packet}
@@ -69,14 +70,10 @@ abbrev pub with_id : ℕ → List Packet → Option Packet
 with_id id [] = None
 with_id id (packet ∷ packets) = if packet.id == id then Some packet else with_id id packets
 
--- The longest packet in words, its header included, that an MTU allows: 28 of its bytes are the headers of IP and UDP.
-abbrev pub payload : ℕ → ℕ
-payload mtu = (mtu - 28) / 4
-
--- a body that with its header, or whose longest reply with its header, is longer
+-- a body that with its header, or whose longest reply with its header, is longer than a packet of the board's MTU
 abbrev pub is_too_long : Board → List ℕ → Bool
 is_too_long board body =
-    nat_lt (payload board.mtu) (length body + 1) || nat_lt (payload board.mtu) (reply_room body + 1)
+    nat_lt (payload_of board.mtu) (length body + 1) || nat_lt (payload_of board.mtu) (reply_room body + 1)
 
 -- what a board did with a datagram, the bytes that it answers, none where it does not answer, and the board after it
 pub record Hearing : Type 0 where

@@ -5,7 +5,7 @@ use Rattle.board_bus.specs.declared.kind.RangeKind.TheVariants.{Rw}
 use Rattle.board_bus.specs.Ranges.{opening_bus}
 use Rattle.world_model.specs.Board.{Board}
 
--- a board of 16 words that opens with 0xabcd at address 4, as it expects its first packet
+-- a board of 16 words that open_places with 0xabcd at address 4, as it expects its first packet
 abbrev pub board_with : ℕ → ℕ → ℕ → Board
 board_with mtu buffers first = record {
   opening = opening_bus (record { base = 0; size = 16; kind = Rw; init = 0 ∷ 0 ∷ 0 ∷ 0 ∷ 0xabcd ∷ [] } ∷ []);

@@ -5,21 +5,22 @@
 -- the board executed N of them. The board executes the expected identifier alone, so the executed bodies are the first N of
 -- those sent, and what is not executed is open at the hub: no more than the window, at most 16 places, so s <= N + 16. A
 -- control packet is sent of an open place alone, at most 16 places behind the first sends at its birth; a reply is that of one
--- of the last 64 executed places, so at most 16 + 64 behind; a status reply tells a place at most 16 behind. A datagram is
--- heard only while at most 32,768 further first sends followed its birth. So whatever is heard speaks of a place less than
+-- of the last 64 executed places, so at most 16 + 64 behind; a status reply tells a place at most 16 behind. Whatever is heard
+-- was sent no more than 32,768 first sends ago. So it speaks of a place less than
 -- 65,535 away from the next one, and within that distance an identifier names one place: a control packet with the expected
 -- identifier is that of place N + 1, and a reply with an open place's identifier is the reply at that place.
 use Rattle.std.specs.Prelude.{◌≡◌, ℕ, ◌+◌, ◌==◌, ◌||◌, ◌<◌, ◌≤◌, Bool, true, false, List, [], ◌∷◌, length, map, Option, Some, None}
 use Rattle.std.specs.List.{AllByRecursion}
 use Rattle.ipb_base.specs.Word.{AreWords}
 use Rattle.ipb_base.specs.Lists.{IsPrefix}
+use Rattle.ipb_base.specs.Numbers.{payload_of}
 use Rattle.packet_ids.specs.Identifier.{identifier_at, IsIdentifier}
 use Rattle.packet_codec.specs.declared.packet.TheConstants.{MAX_BODY_WORDS}
 use Rattle.packet_codec.specs.Packet.{packet_bytes}
 use Rattle.status_packet.specs.Range.{IsMtu, IsBufferCount}
 use Rattle.status_packet.specs.Packets.{status_reply}
 use Rattle.transaction_codec.specs.Answer.{reply_room}
-use Rattle.board_bus.specs.Cells.{CellMap, HoldsWords}
+use Rattle.board_bus.specs.Cells.{HoldsWords}
 use Rattle.world_model.specs.declared.datagram.Datagram.{Datagram}
 use Rattle.world_model.specs.declared.datagram.Direction.{Direction}
 use Rattle.world_model.specs.declared.datagram.Direction.TheVariants.{ToBoard, ToHub}
@@ -30,8 +31,8 @@ use Rattle.world_model.specs.declared.offered.Fate.{Fate}
 use Rattle.world_model.specs.declared.offered.Fate.TheVariants.{Replied, TimedOut, Unsent}
 use Rattle.world_model.specs.Places.{at_place}
 use Rattle.world_model.specs.Messages.{ToBoard as MessageToBoard, ToHub as MessageToHub, StatusRequest, ResendRequest, ControlPacket, StatusReply, Reply, to_board, to_hub}
-use Rattle.world_model.specs.Board.{Board, executed, replies, payload}
-use Rattle.world_model.specs.Hub.{Hub}
+use Rattle.world_model.specs.Board.{Board, executed, replies}
+use Rattle.world_model.specs.Hub.{least, places}
 use Rattle.world_model.specs.World.{World}
 
 -- the greatest window, and the most buffers of a board
@@ -54,18 +55,6 @@ bodies_of sent = map offered_body sent
 
 abbrev pub AreSendable : List Offered → Type 0
 AreSendable offers = AllByRecursion (λ (offered : Offered). IsSendable offered.body) offers
-
--- the places of open bodies
-abbrev pub place_of : OpenPlace → ℕ
-place_of o = o.place
-
-abbrev pub places : List OpenPlace → List ℕ
-places os = map place_of os
-
--- the lowest of them, or the one after all places
-abbrev pub least : List ℕ → ℕ → ℕ
-least [] next = next
-least (p ∷ ps) next = p
 
 -- they rise, from `from` on and below `past`
 abbrev pub AreRising : ℕ → ℕ → List ℕ → Type 0
@@ -93,7 +82,7 @@ pub record IsExecuted (all done : List (List ℕ)) (ps : List ℕ) : Type 0 wher
 pub record IsLogged (mtu : ℕ) (entry : LogEntry) : Type 0 where
   pub numbered : entry.numbered ≡ true
   pub words : AreWords entry.body
-  pub room : reply_room entry.body + 1 ≤ payload mtu
+  pub room : reply_room entry.body + 1 ≤ payload_of mtu
 
 -- the hub and the board number alike, the board is one that can be, and it executes numbered packets alone
 pub record IsBoard (first : ℕ) (board : Board) : Type 0 where
@@ -163,18 +152,18 @@ abbrev pub AreRight : List Offered → List (List ℕ) → List (ℕ × Fate) �
 AreRight sent answers fates = AllByRecursion (IsRightFate sent answers) fates
 
 -- all of it, of the parts of a world
-pub record Holds (first window : ℕ) (sent queue : List Offered) (ps : List ℕ) (waiting : List (ℕ × Fate)) (board : Board) (air : List Datagram) (told : List (ℕ × Fate)) : Type 0 where
+pub record Holds (first window : ℕ) (sent queue : List Offered) (ps : List ℕ) (to_hand_out : List (ℕ × Fate)) (board : Board) (air : List Datagram) (told : List (ℕ × Fate)) : Type 0 where
   pub hub : IsWindow window (length sent) ps
   pub sent_bodies : AreSendable sent
   pub queued_bodies : AreSendable queue
   pub log : IsExecuted (bodies_of sent) (executed board) ps
   pub node : IsBoard first board
   pub said : AllByRecursion (IsDatagram first (bodies_of sent) (replies board)) air
-  pub waiting_fates : AreRight sent (replies board) waiting
+  pub waiting_fates : AreRight sent (replies board) to_hand_out
   pub told_fates : AreRight sent (replies board) told
 
 abbrev pub IsSound : World → Type 0
-IsSound w = Holds w.hub.first w.hub.window w.hub.sent w.hub.queue (places w.hub.opens) w.hub.fates w.board w.air w.fates
+IsSound w = Holds w.hub.first w.hub.window w.hub.sent w.hub.queue (places w.hub.open_places) w.hub.fates w.board w.air w.fates
 
 -- a datagram of a greeting: a status request, or the reply to one of a board that has executed nothing
 abbrev pub IsGreetingOf : Board → Direction → List ℕ → Type 0

@@ -98,10 +98,10 @@ placed_tags ((tag, Unsent) ∷ fates) = placed_tags fates
 -- was sent stands once among the fates with a place and the bodies that are waited for.
 pub record IsAccounted (moves : List WorldMove) (w : World) (tag : ℕ) : Type 0 where
   pub offered : times tag (offers moves) ≡
-      times tag (map tag_of_fate w.fates) + times tag (waited_tags w.hub.sent w.hub.opens)
+      times tag (map tag_of_fate w.fates) + times tag (waited_tags w.hub.sent w.hub.open_places)
       + times tag (map tag_of_offered w.hub.queue)
   pub sent : times tag (map tag_of_offered w.hub.sent) ≡
-      times tag (placed_tags w.fates) + times tag (waited_tags w.hub.sent w.hub.opens)
+      times tag (placed_tags w.fates) + times tag (waited_tags w.hub.sent w.hub.open_places)
 
 -- ---- patience
 

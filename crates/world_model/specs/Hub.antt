@@ -10,7 +10,7 @@ use Rattle.world_model.specs.Places.{at_place}
 use Rattle.world_model.specs.Messages.{ToHub, StatusReply, Reply}
 
 -- The first identifier that the board expects, the window and the rounds; the bodies that were sent, by place, and those that
--- were not, in the order of offers; the open places, by place: sent, and no reply taken; how many status requests were wanted
+-- were not, in the order of offers; the open places, by place: sent, and no reply taken; how many status status_requests were wanted
 -- since the last settled place, and whether one is to be sent; whether the hub gave up and nothing was offered since; and the
 -- fates that are not handed out yet, each under the tag of its body.
 pub record Hub : Type 0 where
@@ -19,19 +19,26 @@ pub record Hub : Type 0 where
   pub rounds : ℕ
   pub sent : List Offered
   pub queue : List Offered
-  pub opens : List OpenPlace
-  pub requests : ℕ
+  pub open_places : List OpenPlace
+  pub status_requests : ℕ
   pub status_wanted : Bool
   pub gave_up : Bool
   pub fates : List (ℕ × Fate)
 
--- the lowest open place, or the one after all places
-abbrev pub lowest : List OpenPlace → ℕ → ℕ
-lowest [] next = next
-lowest (o ∷ os) next = o.place
+-- the places of open bodies
+abbrev pub place_of : OpenPlace → ℕ
+place_of o = o.place
+
+abbrev pub places : List OpenPlace → List ℕ
+places os = map place_of os
+
+-- the lowest of them, or the one after all places
+abbrev pub least : List ℕ → ℕ → ℕ
+least [] next = next
+least (place ∷ later) next = place
 
 abbrev pub low : Hub → ℕ
-low hub = lowest hub.opens (length hub.sent + 1)
+low hub = least (places hub.open_places) (length hub.sent + 1)
 
 -- A body is offered. The first offer since a give-up has the control packet of each open place sent again.
 abbrev pub want_control : OpenPlace → OpenPlace
@@ -40,7 +47,7 @@ want_control o = record o { control = true }
 abbrev pub offer : Hub → Offered → Hub
 offer hub offered = record hub {
   queue = hub.queue ++ offered ∷ [];
-  opens = if hub.gave_up then map want_control hub.opens else hub.opens;
+  open_places = if hub.gave_up then map want_control hub.open_places else hub.open_places;
   gave_up = false;
 }
 
@@ -77,19 +84,19 @@ without place (o ∷ os) = if o.place == place then os else o ∷ without place 
 abbrev pub settle : Hub → List ℕ → Option OpenPlace → Hub
 settle hub words None = hub
 settle hub words (Some o) = record hub {
-  opens = without o.place hub.opens;
-  requests = 0;
+  open_places = without o.place hub.open_places;
+  status_requests = 0;
   fates = if o.waited
       then insert_fate o.place (tag_of (at_place hub.sent o.place), Replied o.place words) hub.fates
       else hub.fates;
 }
 
 abbrev pub hear_reply : Hub → ℕ → List ℕ → Hub
-hear_reply hub id words = settle hub words (open_with hub.first id hub.opens)
+hear_reply hub id words = settle hub words (open_with hub.first id hub.open_places)
 
 -- A status reply is taken while a round is under way, where it tells the identifier of a place from the lowest open one to the
--- next one. Each open place below that place was executed: its reply is asked for again. Each other open place was not: its
--- control packet is sent again.
+-- next one. Each open place below that place was executed: its reply is asked for again. Each other open place was not yet when
+-- the board told it: its control packet is sent again.
 abbrev pub place_with : ℕ → ℕ → ℕ → ℕ → Option ℕ
 place_with first place zero id = None
 place_with first place (suc count) id =
@@ -100,13 +107,13 @@ recover told o = if nat_lt o.place told then record o { resend = true } else rec
 
 abbrev pub recovered : Hub → Option ℕ → Hub
 recovered hub None = hub
-recovered hub (Some told) = record hub { opens = map (recover told) hub.opens }
+recovered hub (Some told) = record hub { open_places = map (recover told) hub.open_places }
 
 abbrev pub told_place : Hub → ℕ → Option ℕ
 told_place hub next = place_with hub.first (low hub) (length hub.sent + 2 - low hub) next
 
 abbrev pub hear_status : Hub → ℕ → Hub
-hear_status hub next = if nat_lt 0 hub.requests then recovered hub (told_place hub next) else hub
+hear_status hub next = if nat_lt 0 hub.status_requests then recovered hub (told_place hub next) else hub
 
 -- What a hub hears. Only a status reply and a reply change it.
 abbrev pub take_message : Hub → Option ToHub → Hub
@@ -133,18 +140,18 @@ unsent offered = (offered.tag, Unsent)
 abbrev pub give_up : Hub → Hub
 give_up hub = record hub {
   queue = [];
-  opens = map abandoned hub.opens;
-  requests = 0;
+  open_places = map abandoned hub.open_places;
+  status_requests = 0;
   status_wanted = false;
   gave_up = true;
-  fates = time_out hub.rounds hub.sent hub.opens hub.fates ++ map unsent hub.queue;
+  fates = time_out hub.rounds hub.sent hub.open_places hub.fates ++ map unsent hub.queue;
 }
 
 abbrev pub want_status : Hub → Hub
-want_status hub = record hub { requests = hub.requests + 1; status_wanted = true }
+want_status hub = record hub { status_requests = hub.status_requests + 1; status_wanted = true }
 
 abbrev pub hear_quiet : Hub → Hub
-hear_quiet hub = if nat_lt hub.requests hub.rounds then want_status hub else give_up hub
+hear_quiet hub = if nat_lt hub.status_requests hub.rounds then want_status hub else give_up hub
 
 -- whether a body that was offered has no fate yet
 abbrev pub some_queued : List Offered → Bool
@@ -156,7 +163,7 @@ some_waited [] = false
 some_waited (o ∷ os) = o.waited || some_waited os
 
 abbrev pub is_waiting : Hub → Bool
-is_waiting hub = some_queued hub.queue || some_waited hub.opens
+is_waiting hub = some_queued hub.queue || some_waited hub.open_places
 
 -- a hub that knows a board and has sent nothing
 abbrev pub new_hub : ℕ → ℕ → ℕ → Hub
@@ -166,8 +173,8 @@ new_hub first window rounds = record {
   rounds = rounds;
   sent = [];
   queue = [];
-  opens = [];
-  requests = 0;
+  open_places = [];
+  status_requests = 0;
   status_wanted = false;
   gave_up = false;
   fates = [];

@@ -1,3 +1,4 @@
+pub mod Below
 pub mod Places
 pub mod Messages
 pub mod Board
@@ -6,7 +7,7 @@ pub mod Sends
 pub mod Air
 pub mod World
 pub mod Links
-pub mod Lanes
 pub mod Facts
 pub mod History
+pub mod Lanes
 pub mod Examples

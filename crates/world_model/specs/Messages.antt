@@ -9,9 +9,9 @@ use Rattle.packet_codec.specs.declared.packet.PacketKind.{PacketKind}
 use Rattle.packet_codec.specs.declared.packet.PacketKind.TheVariants.{Control, Status, Resend}
 use Rattle.packet_codec.specs.declared.packet.Packet.{Packet}
 use Rattle.packet_codec.specs.declared.packet.BadPacket.{BadPacket}
-use Rattle.packet_codec.specs.Header.{kind_code, header_of}
+use Rattle.packet_codec.specs.Header.{kind_code}
 use Rattle.packet_codec.specs.Packet.{packet_bytes}
-use Rattle.packet_codec.specs.Reading.{packet_of}
+use Rattle.packet_codec.specs.Reading.{header_of, packet_of}
 use Rattle.status_packet.specs.declared.status.TheConstants.{MIN_MTU, MAX_MTU, MAX_BUFFERS}
 use Rattle.packet_ids.specs.declared.places.TheConstants.{IDENTIFIERS}
 

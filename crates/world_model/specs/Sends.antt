@@ -21,20 +21,20 @@ pub record Next : Type 0 where
 -- a wanted send, and the open places after it
 pub record Wanted : Type 0 where
   pub send : Sending
-  pub opens : List OpenPlace
+  pub open_places : List OpenPlace
 
 abbrev pub after_open : OpenPlace → Option Wanted → Option Wanted
 after_open o None = None
-after_open o (Some w) = Some (record w { opens = o ∷ w.opens })
+after_open o (Some w) = Some (record w { open_places = o ∷ w.open_places })
 
 -- Wanted sends go by place; at one place the re-send request goes before the control packet.
 abbrev pub wanted : ℕ → List OpenPlace → Option Wanted
 wanted first [] = None
 wanted first (o ∷ os) =
     if o.resend
-    then Some (record { send = sends.Resend (identifier_at first o.place); opens = record o { resend = false } ∷ os })
+    then Some (record { send = sends.Resend (identifier_at first o.place); open_places = record o { resend = false } ∷ os })
     else if o.control
-    then Some (record { send = sends.Control o.place (identifier_at first o.place); opens = record o { control = false } ∷ os })
+    then Some (record { send = sends.Control o.place (identifier_at first o.place); open_places = record o { control = false } ∷ os })
     else after_open o (wanted first os)
 
 -- The body at the front of the queue gets the next place, where the window has room: from the lowest open place to that one,
@@ -52,13 +52,13 @@ first_send hub (offered ∷ later) =
       hub = record hub {
         sent = hub.sent ++ offered ∷ [];
         queue = later;
-        opens = hub.opens ++ opened place ∷ [];
+        open_places = hub.open_places ++ opened place ∷ [];
       };
     })
     else None
 
 abbrev pub wanted_or_first : Hub → Option Wanted → Option Next
-wanted_or_first hub (Some w) = Some (record { send = w.send; hub = record hub { opens = w.opens } })
+wanted_or_first hub (Some w) = Some (record { send = w.send; hub = record hub { open_places = w.open_places } })
 wanted_or_first hub None = first_send hub hub.queue
 
 -- A wanted status request goes first, then wanted sends, then first sends.
@@ -66,7 +66,7 @@ abbrev pub next_send : Hub → Option Next
 next_send hub =
     if hub.status_wanted
     then Some (record { send = sends.Status; hub = record hub { status_wanted = false } })
-    else wanted_or_first hub (wanted hub.first hub.opens)
+    else wanted_or_first hub (wanted hub.first hub.open_places)
 
 -- how many sends can come without another event
 abbrev pub wishes : List OpenPlace → ℕ
@@ -74,7 +74,7 @@ wishes [] = 0
 wishes (o ∷ os) = (if o.resend then 1 else 0) + (if o.control then 1 else 0) + wishes os
 
 abbrev pub pending : Hub → ℕ
-pending hub = (if hub.status_wanted then 1 else 0) + wishes hub.opens + length hub.queue
+pending hub = (if hub.status_wanted then 1 else 0) + wishes hub.open_places + length hub.queue
 
 -- The packet of a send. A hub writes big-endian (profile).
 abbrev pub packet_to_send : Hub → Sending → Packet

@@ -8,6 +8,7 @@
 //! the crates above, which are proved equal to these functions.
 #![tactic(auto)]
 
+mod below;
 mod bytes;
 mod datagram;
 pub mod examples;

@@ -14,13 +14,17 @@ ghost use Rattle.world_model.specs.World.{World};
 ghost use Rattle.world_model.specs.Facts.{IsSound, bodies_of};
 ghost use Rattle.world_model.specs.History.{Leads, IsRun, IsHandedOut, IsTrueHistory, IsExecutedThere, IsExecutedAtMostOnce};
 
+use crate::below::laws_below;
+
 /// The theorem, for every list of moves from a fresh board.
 pub fn each_body_is_executed_once()
     ensures history { (window rounds : ℕ) (board : Board) (air : List Datagram) (moves : List WorldMove) (w : World)
         → IsRun window rounds board air moves w → IsTrueHistory w }
     ensures facts { (window rounds : ℕ) (board : Board) (air : List Datagram) (moves : List WorldMove) (w : World)
         → IsRun window rounds board air moves w → IsSound w }
-{}
+{
+    laws_below();
+}
 
 /// What is executed at a place is the body that was sent there, and no more is executed than was sent.
 pub fn nothing_is_executed_twice_or_out_of_order()
@@ -29,7 +33,9 @@ pub fn nothing_is_executed_twice_or_out_of_order()
         → at_place (executed w.board) place ≡ Some body → at_place (bodies_of w.hub.sent) place ≡ Some body }
     ensures no_more { (window rounds : ℕ) (board : Board) (air : List Datagram) (moves : List WorldMove) (w : World)
         → IsRun window rounds board air moves w → length (executed w.board) ≤ length w.hub.sent }
-{}
+{
+    laws_below();
+}
 
 /// A fate with a place is that of the body that was sent there under its tag: executed where it was replied, and at most
 /// once where it timed out.
@@ -40,14 +46,18 @@ pub fn a_fate_is_that_of_its_place()
     ensures timed_out { (window rounds : ℕ) (board : Board) (air : List Datagram) (moves : List WorldMove) (w : World)
         (tag place after : ℕ) → IsRun window rounds board air moves w
         → IsHandedOut w tag (TimedOut place after) → IsExecutedAtMostOnce w tag place }
-{}
+{
+    laws_below();
+}
 
 /// A place has one reply.
 pub fn replies_of_one_place_are_equal()
     ensures { (window rounds : ℕ) (board : Board) (air : List Datagram) (moves : List WorldMove) (w : World)
         (tag other place : ℕ) (words again : List ℕ) → IsRun window rounds board air moves w
         → IsHandedOut w tag (Replied place words) → IsHandedOut w other (Replied place again) → words ≡ again }
-{}
+{
+    laws_below();
+}
 
 /// Whatever moves follow, a place keeps its body, what was executed stays executed, and a fate never changes.
 pub fn what_was_is_kept()
@@ -57,10 +67,14 @@ pub fn what_was_is_kept()
         → IsPrefix {T = LogEntry} old.board.log new.board.log }
     ensures fates { (moves : List WorldMove) (old new : World) → Leads moves old new
         → IsPrefix old.fates new.fates }
-{}
+{
+    laws_below();
+}
 
 /// From the lowest open place to the last first send there are never more places than the window.
 pub fn the_window_is_never_passed()
     ensures { (window rounds : ℕ) (board : Board) (air : List Datagram) (moves : List WorldMove) (w : World)
         → IsRun window rounds board air moves w → length w.hub.sent < low w.hub + w.hub.window }
-{}
+{
+    laws_below();
+}

@@ -9,6 +9,8 @@ ghost use Rattle.status_packet.specs.Range.{IsMtu, IsBufferCount};
 ghost use Rattle.status_packet.specs.StatusBytes.{IsStatusRequest, IsStatusReply};
 ghost use Rattle.world_model.specs.Messages.{StatusRequest, ResendRequest, ControlPacket, StatusReply, Reply, control_packet, to_board, to_hub};
 
+use crate::below::laws_below;
+
 /// A board reads status requests, re-send requests, and control packets in both byte orders, and nothing else.
 pub fn what_a_board_reads()
     ensures status { (bytes : List ℕ) → (to_board bytes ≡ Some StatusRequest) ↔ IsStatusRequest bytes }
@@ -17,7 +19,9 @@ pub fn what_a_board_reads()
     ensures control { (bytes : List ℕ) (order : Order) (id : ℕ) (body : List ℕ)
         → (to_board bytes ≡ Some (ControlPacket order id body))
         ↔ (IsPacket (control_packet order id body) × (bytes ≡ packet_bytes (control_packet order id body))) }
-{}
+{
+    laws_below();
+}
 
 /// A hub reads status replies, and control packets in both byte orders, and nothing else.
 pub fn what_a_hub_reads()
@@ -26,4 +30,6 @@ pub fn what_a_hub_reads()
     ensures reply { (bytes : List ℕ) (id : ℕ) (words : List ℕ) → (to_hub bytes ≡ Some (Reply id words))
         ↔ ((order : Order) × IsPacket (control_packet order id words)
         × (bytes ≡ packet_bytes (control_packet order id words))) }
-{}
+{
+    laws_below();
+}

@@ -2,19 +2,19 @@ use Rattle.world_model.proofs.Links.{offer_joined, send_joined, heard_in_one, ha
 use Rattle.world_model.proofs.laws.links.each_event_keeps_them_joined.Goals as goal
 
 pub returns-clause-offered : goal.returns-clause-offered
-returns-clause-offered c = offer_joined
+returns-clause-offered c = offer_joined c.laws_below.ensures
 
 pub returns-clause-sent : goal.returns-clause-sent
-returns-clause-sent c = send_joined
+returns-clause-sent c = send_joined c.laws_below.ensures
 
 pub returns-clause-heard : goal.returns-clause-heard
-returns-clause-heard c = heard_in_one
+returns-clause-heard c = heard_in_one c.laws_below.ensures
 
 pub returns-clause-handed : goal.returns-clause-handed
-returns-clause-handed c = handed_joined
+returns-clause-handed c = handed_joined c.laws_below.ensures
 
 pub returns-clause-quiet : goal.returns-clause-quiet
-returns-clause-quiet c = quiet_joined
+returns-clause-quiet c = quiet_joined c.laws_below.ensures
 
 pub returns-clause-settled : goal.returns-clause-settled
-returns-clause-settled c = fate_joined
+returns-clause-settled c = fate_joined c.laws_below.ensures
