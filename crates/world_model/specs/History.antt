@@ -4,6 +4,7 @@ use Rattle.std.specs.List.{AllByRecursion, slice_get}
 use Rattle.ipb_base.specs.Lists.{IsPrefix}
 use Rattle.board_bus.specs.Bodies.{replay}
 use Rattle.world_model.specs.declared.datagram.Datagram.{Datagram}
+use Rattle.world_model.specs.declared.datagram.Direction.TheVariants.{ToHub}
 use Rattle.world_model.specs.declared.offered.Offered.{Offered}
 use Rattle.world_model.specs.declared.offered.OpenPlace.{OpenPlace}
 use Rattle.world_model.specs.declared.offered.Fate.{Fate}
@@ -13,6 +14,7 @@ use Rattle.world_model.specs.declared.moves.WorldMove.TheVariants.{Offer, Quiet,
 use Rattle.world_model.specs.Places.{at_place}
 use Rattle.world_model.specs.Board.{Board, executed}
 use Rattle.world_model.specs.Hub.{Hub, tag_of}
+use Rattle.world_model.specs.Air.{LIFETIME}
 use Rattle.world_model.specs.World.{World, run_moves, start}
 use Rattle.world_model.specs.Facts.{IsSendable, IsStart, bodies_of}
 
@@ -38,6 +40,13 @@ pub record IsRun (window rounds : ℕ) (board : Board) (air : List Datagram) (mo
 pub record IsHandedOut (w : World) (tag : ℕ) (fate : Fate) : Type 0 where
   pub number : ℕ
   pub there : slice_get w.fates number ≡ Some (tag, fate)
+
+-- bytes that the hub may still hear
+pub record IsAliveInAir (w : World) (bytes : List ℕ) : Type 0 where
+  pub number : ℕ
+  pub birth : ℕ
+  pub there : slice_get w.air number ≡ Some (record { direction = ToHub; bytes = bytes; birth = birth })
+  pub alive : length w.hub.sent ≤ birth + LIFETIME
 
 -- The theorem. The executed bodies are the front of the bodies that were sent first, in order; and each place whose fate is
 -- Replied has the reply that a bus with a single thread gives there, when the executed bodies are replayed by place over the
@@ -69,6 +78,11 @@ offers (Offer tag body ∷ moves) = tag ∷ offers moves
 offers (Quiet ∷ moves) = offers moves
 offers (HubHears i ∷ moves) = offers moves
 offers (BoardHears i ∷ moves) = offers moves
+
+-- a body that one of the moves offered, under its tag
+pub record IsOffered (moves : List WorldMove) (offered : Offered) : Type 0 where
+  pub number : ℕ
+  pub move : slice_get moves number ≡ Some (Offer offered.tag offered.body)
 
 -- how often a number stands in a list
 abbrev pub times : ℕ → List ℕ → ℕ

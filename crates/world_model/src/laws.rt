@@ -2,5 +2,6 @@
 
 pub mod fates;
 pub mod history;
+pub mod lanes;
 pub mod links;
 pub mod reading;
