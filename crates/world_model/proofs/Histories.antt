@@ -10,12 +10,15 @@ use Rattle.world_model.specs.declared.moves.WorldMove.{WorldMove}
 use Rattle.world_model.specs.declared.offered.Offered.{Offered}
 use Rattle.world_model.specs.declared.offered.Fate.{Fate}
 use Rattle.world_model.specs.declared.offered.Fate.TheVariants.{Replied, TimedOut, Unsent}
+use Rattle.world_model.specs.declared.datagram.Direction.TheVariants as goes
 use Rattle.world_model.specs.Places.{at_place}
+use Rattle.world_model.specs.Messages.{Reply, to_hub}
+use Rattle.world_model.proofs.Places.{one_place}
 use Rattle.world_model.specs.Board.{Board, executed, replies}
 use Rattle.world_model.specs.Hub.{low}
 use Rattle.world_model.specs.World.{World, run_moves, start}
-use Rattle.world_model.specs.Facts.{IsSound, IsTagged, IsRightFate, bodies_of, offered_body}
-use Rattle.world_model.specs.History.{Leads, IsRun, IsHandedOut, IsTrueHistory, IsExecutedThere, IsExecutedAtMostOnce}
+use Rattle.world_model.specs.Facts.{IsSound, IsTagged, IsRightFate, IsReplyOf, IsSaidToHub, bodies_of, offered_body}
+use Rattle.world_model.specs.History.{Leads, IsRun, IsHandedOut, IsAliveInAir, IsTrueHistory, IsExecutedThere, IsExecutedAtMostOnce}
 use Rattle.world_model.proofs.Lists.{at_front, at_from_one, at_within, at_exists, at_map, front_length, all_get}
 use Rattle.world_model.proofs.Boards.{replies_length}
 use Rattle.world_model.proofs.Worlds.{run_holds, start_holds}
@@ -79,5 +82,28 @@ module _ (below : Below) where
       let yours = (right_fate w other (Replied place again) is told_again).1 in
       let same : Some words ≡ Some again = sym mine ∙ yours in cc
 
+  -- ---- what may still be heard
+
+  reply_in_air : (w : World) (one words : List ℕ) (id : ℕ) → IsSound w → (alive : IsAliveInAir w one) → to_hub one ≡ Some (Reply id words)
+      → IsReplyOf w.hub.first (replies w.board) alive.birth id words
+  reply_in_air w one words id is alive reads =
+      let fact = all_get _ w.air alive.number (record { direction = goes.ToHub; bytes = one; birth = alive.birth }) is.said alive.there in
+      subst (IsSaidToHub w.hub.first (replies w.board) alive.birth) reads fact.said
+
+  pub one_reply_in_air : (w : World) (id : ℕ) (one other words again : List ℕ) → IsSound w → IsAliveInAir w one → IsAliveInAir w other
+      → to_hub one ≡ Some (Reply id words) → to_hub other ≡ Some (Reply id again) → words ≡ again
+  one_reply_in_air w id one other words again is mine yours reads reads_again =
+      let a = reply_in_air w one words id is mine reads in
+      let b = reply_in_air w other again id is yours reads_again in
+      let few = no_more w is in
+      let same_log = replies_length below w.board in
+      let a_in = at_within (replies w.board) a.place words a.at in
+      let b_in = at_within (replies w.board) b.place again b.at in
+      let same : a.place ≡ b.place =
+          one_place w.hub.first a.place b.place is.node.identifier (at_from_one (replies w.board) a.place words a.at) (at_from_one (replies w.board) b.place again b.at)
+              (omega (arith, b.recent, yours.alive)) (omega (arith, a.recent, mine.alive)) (sym a.identifier ∙ b.identifier) in
+      let both : Some words ≡ Some again = sym a.at ∙ (ap (at_place (replies w.board)) same ∙ b.at) in cc
+
   pub in_window : (w : World) → IsSound w → length w.hub.sent < low w.hub + w.hub.window
   in_window w is = omega (arith, is.hub.within)
+

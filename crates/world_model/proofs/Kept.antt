@@ -5,6 +5,7 @@ use Rattle.std.proofs.lemmas.List.{append-nil}
 use Rattle.std.specs.List.{slice_get}
 use Rattle.ipb_base.specs.Lists.{IsPrefix}
 use Rattle.packet_codec.specs.declared.packet.Order.{Order}
+use Rattle.world_model.specs.declared.datagram.Datagram.{Datagram}
 use Rattle.world_model.specs.declared.datagram.Direction.TheVariants as goes
 use Rattle.world_model.specs.declared.heard.LogEntry.{LogEntry}
 use Rattle.world_model.specs.declared.offered.Offered.{Offered}
@@ -17,7 +18,7 @@ use Rattle.world_model.specs.Board.{Board, Hearing, expected, held, with_id, is_
 use Rattle.world_model.specs.declared.offered.OpenPlace.{OpenPlace}
 use Rattle.world_model.specs.Hub.{Hub, low, offer, open_with, settle, recovered, told_place, hear_status, take_message, want_status, give_up, hear_quiet, is_waiting}
 use Rattle.world_model.specs.Sends.{Next, Wanted, wanted, first_send, wanted_or_first, next_send, pending}
-use Rattle.world_model.specs.World.{World, sent_into, flush_on, flush, handed_out, with_hub, go_on, taken, hub_hears, board_hears, when_taken, step, moves_on, run_moves}
+use Rattle.world_model.specs.World.{World, sent_into, flush_on, flush, handed_out, with_hub, go_on, taken, hub_hears, answered, board_hears, when_taken, step, moves_on, run_moves}
 use Rattle.world_model.proofs.Lists.{either}
 
 -- ---- what the hub hears leaves what was sent
@@ -50,15 +51,17 @@ prefix_then {A = A} xs ys zs one two = (one.0 ++ two.0, two.1 ∙ (ap (λ (front
 pub record Grew (old new : World) : Type 0 where
   pub sent : IsPrefix {T = Offered} old.hub.sent new.hub.sent
   pub log : IsPrefix {T = LogEntry} old.board.log new.board.log
+  pub air : IsPrefix {T = Datagram} old.air new.air
   pub fates : IsPrefix {T = ℕ × Fate} old.fates new.fates
 
 pub grew_same : (w : World) → Grew w w
-grew_same w = record { sent = prefix_same w.hub.sent w.hub.sent refl; log = prefix_same w.board.log w.board.log refl; fates = prefix_same w.fates w.fates refl }
+grew_same w = record { sent = prefix_same w.hub.sent w.hub.sent refl; log = prefix_same w.board.log w.board.log refl; air = prefix_same w.air w.air refl; fates = prefix_same w.fates w.fates refl }
 
 pub grew_then : (a b c : World) → Grew a b → Grew b c → Grew a c
 grew_then a b c one two = record {
     sent = prefix_then a.hub.sent b.hub.sent c.hub.sent one.sent two.sent;
     log = prefix_then a.board.log b.board.log c.board.log one.log two.log;
+    air = prefix_then a.air b.air c.air one.air two.air;
     fates = prefix_then a.fates b.fates c.fates one.fates two.fates;
   }
 
@@ -81,14 +84,14 @@ flush_by : (later : Next → World) (w : World) (r : Option Next) → SendsMore 
 flush_by later w None more f = grew_same w
 flush_by later w (Some n) more f =
     grew_then w (sent_into w n) (later n)
-      (record { sent = more; log = prefix_same w.board.log w.board.log refl; fates = prefix_same w.fates w.fates refl }) (f n)
+      (record { sent = more; log = prefix_same w.board.log w.board.log refl; air = (_, refl); fates = prefix_same w.fates w.fates refl }) (f n)
 
 pub flush_grew : (most : ℕ) (w : World) → Grew w (flush most w)
 flush_grew zero w = grew_same w
 flush_grew (suc most) w = flush_by (λ next. flush most (sent_into w next)) w (next_send w.hub) (send_more w.hub) (λ n. flush_grew most (sent_into w n))
 
 handed_grew : (w : World) → Grew w (handed_out w)
-handed_grew w = record { sent = prefix_same w.hub.sent w.hub.sent refl; log = prefix_same w.board.log w.board.log refl; fates = (w.hub.fates, refl) }
+handed_grew w = record { sent = prefix_same w.hub.sent w.hub.sent refl; log = prefix_same w.board.log w.board.log refl; air = prefix_same w.air w.air refl; fates = (w.hub.fates, refl) }
 
 -- an event of the hub that sends nothing
 go_on_grew : (w : World) (h : Hub) → h.sent ≡ w.hub.sent → Grew w (go_on w h)
@@ -96,7 +99,7 @@ go_on_grew w h same =
     let sent = flush (pending h) (with_hub w h) in
     grew_then w sent (go_on w h)
       (grew_then w (with_hub w h) sent
-        (record { sent = prefix_same w.hub.sent h.sent same; log = prefix_same w.board.log w.board.log refl; fates = prefix_same w.fates w.fates refl })
+        (record { sent = prefix_same w.hub.sent h.sent same; log = prefix_same w.board.log w.board.log refl; air = prefix_same w.air w.air refl; fates = prefix_same w.fates w.fates refl })
         (flush_grew (pending h) (with_hub w h)))
       (handed_grew sent)
 
@@ -115,7 +118,7 @@ message_logs b (Some (ControlPacket order id body)) =
         (λ _. either (LogsMore b) (id == expected b) _ _ (λ _. (record { numbered = true; order = order; body = body } ∷ [], refl)) (λ _. prefix_same b.log b.log refl)))
 
 board_grew : (w : World) (bytes : List ℕ) → Grew w (board_hears w bytes)
-board_grew w bytes = record { sent = prefix_same w.hub.sent w.hub.sent refl; log = message_logs w.board (to_board bytes); fates = prefix_same w.fates w.fates refl }
+board_grew w bytes = record { sent = prefix_same w.hub.sent w.hub.sent refl; log = message_logs w.board (to_board bytes); air = (answered (length w.hub.sent) (hear w.board bytes).answer, refl); fates = prefix_same w.fates w.fates refl }
 
 -- ---- moves
 
@@ -143,3 +146,66 @@ run_grew at w (m ∷ ms) = run_grew_by w (λ after. run_moves (at + 1) after ms)
 
 pub run_was : (at : ℕ) (moves : List WorldMove) (old new : World) → run_moves at old moves ≡ Ok new → Grew old new
 run_was at moves old new ran = subst (λ (r : Result World WorldEnd). IfOk r (Grew old)) ran (run_grew at old moves)
+
+-- ---- the window of the hub never changes
+
+abbrev pub KeepsWindow : ℕ → Option Next → Type 0
+KeepsWindow window None = Unit {0}
+KeepsWindow window (Some n) = n.hub.window ≡ window
+
+first_window : (h : Hub) (queue : List Offered) → KeepsWindow h.window (first_send h queue)
+first_window h [] = tt
+first_window h (o ∷ later) = either (KeepsWindow h.window) (nat_le (length h.sent + 1 + 1) (h.window + low h)) _ _ (λ _. refl) (λ _. tt)
+
+wanted_window : (h : Hub) (r : Option Wanted) → KeepsWindow h.window (wanted_or_first h r)
+wanted_window h None = first_window h h.queue
+wanted_window h (Some w) = refl
+
+send_window : (h : Hub) → KeepsWindow h.window (next_send h)
+send_window h = either (KeepsWindow h.window) h.status_wanted _ _ (λ _. refl) (λ _. wanted_window h (wanted h.first h.open_places))
+
+flush_window_by : (window : ℕ) (later : Next → World) (w : World) (r : Option Next) → w.hub.window ≡ window → KeepsWindow window r → ((n : Next) → n.hub.window ≡ window → (later n).hub.window ≡ window) → (flush_on r later w).hub.window ≡ window
+flush_window_by window later w None e k f = e
+flush_window_by window later w (Some n) e k f = f n k
+
+flush_window : (most : ℕ) (window : ℕ) (w : World) → w.hub.window ≡ window → (flush most w).hub.window ≡ window
+flush_window zero window w e = e
+flush_window (suc most) window w e =
+    flush_window_by window (λ next. flush most (sent_into w next)) w (next_send w.hub) e (subst (λ (n : ℕ). KeepsWindow n (next_send w.hub)) e (send_window w.hub)) (λ n k. flush_window most window (sent_into w n) k)
+
+abbrev pub HasWindow : ℕ → World → Type 0
+HasWindow window w = w.hub.window ≡ window
+
+settle_window : (h : Hub) (words : List ℕ) (r : Option OpenPlace) → (settle h words r).window ≡ h.window
+settle_window h words None = refl
+settle_window h words (Some o) = refl
+
+recovered_window : (h : Hub) (r : Option ℕ) → (recovered h r).window ≡ h.window
+recovered_window h None = refl
+recovered_window h (Some e) = refl
+
+message_window : (h : Hub) (m : Option ToHub) → (take_message h m).window ≡ h.window
+message_window h None = refl
+message_window h (Some (StatusReply mtu buffers next)) = either (λ (x : Hub). x.window ≡ h.window) (nat_lt 0 h.status_requests) _ _ (λ _. recovered_window h (told_place h next)) (λ _. refl)
+message_window h (Some (Reply id words)) = settle_window h words (open_with h.first id h.open_places)
+
+quiet_window : (h : Hub) → (hear_quiet h).window ≡ h.window
+quiet_window h = either (λ (x : Hub). x.window ≡ h.window) (nat_lt h.status_requests h.rounds) (want_status h) (give_up h) (λ _. refl) (λ _. refl)
+
+when_window : (window : ℕ) (r : Result (List ℕ) WorldEnd) (hears : List ℕ → World) → ((bytes : List ℕ) → HasWindow window (hears bytes)) → IfOk (when_taken r hears) (HasWindow window)
+when_window window (Ok bytes) hears f = f bytes
+when_window window (Err e) hears f = tt
+
+pub step_window : (at window : ℕ) (w : World) (m : WorldMove) → HasWindow window w → IfOk (step at w m) (HasWindow window)
+step_window at window w (Offer tag body) e = flush_window (pending (offer w.hub (record { tag = tag; body = body }))) window (with_hub w (offer w.hub (record { tag = tag; body = body }))) e
+step_window at window w Quiet e = either (λ (r : Result World WorldEnd). IfOk r (HasWindow window)) (is_waiting w.hub) _ _ (λ _. flush_window (pending (hear_quiet w.hub)) window (with_hub w (hear_quiet w.hub)) (quiet_window w.hub ∙ e)) (λ _. tt)
+step_window at window w (HubHears i) e = when_window window (taken at (length w.hub.sent) goes.ToHub (slice_get w.air i)) (hub_hears w) (λ bytes. flush_window (pending (take_message w.hub (to_hub bytes))) window (with_hub w (take_message w.hub (to_hub bytes))) (message_window w.hub (to_hub bytes) ∙ e))
+step_window at window w (BoardHears i) e = when_window window (taken at (length w.hub.sent) goes.ToBoard (slice_get w.air i)) (board_hears w) (λ bytes. e)
+
+run_window_by : (window : ℕ) (later : World → Result World WorldEnd) (r : Result World WorldEnd) → IfOk r (HasWindow window) → ((v : World) → HasWindow window v → IfOk (later v) (HasWindow window)) → IfOk (moves_on r later) (HasWindow window)
+run_window_by window later (Ok v) e f = f v e
+run_window_by window later (Err end) e f = tt
+
+pub run_window : (at window : ℕ) (w : World) (ms : List WorldMove) → HasWindow window w → IfOk (run_moves at w ms) (HasWindow window)
+run_window at window w [] e = e
+run_window at window w (m ∷ ms) e = run_window_by window (λ after. run_moves (at + 1) after ms) (step at w m) (step_window at window w m e) (λ v k. run_window (at + 1) window v ms k)

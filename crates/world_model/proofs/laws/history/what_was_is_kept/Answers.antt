@@ -7,5 +7,8 @@ returns-clause-places c = λ moves old new is. (run_was is.at moves old new is.r
 pub returns-clause-executed : goal.returns-clause-executed
 returns-clause-executed c = λ moves old new is. (run_was is.at moves old new is.ran).log
 
+pub returns-clause-air : goal.returns-clause-air
+returns-clause-air c = λ moves old new is. (run_was is.at moves old new is.ran).air
+
 pub returns-clause-fates : goal.returns-clause-fates
 returns-clause-fates c = λ moves old new is. (run_was is.at moves old new is.ran).fates
