@@ -8,3 +8,4 @@ mod Worlds
 mod Histories
 mod Links
 mod Kept
+mod Grammar

@@ -45,7 +45,7 @@ module _ (below : Below) where
   header_fits : (next : ℕ) → next < 2 ^ 16 → packet_header next 0 < 2 ^ 32
   header_fits next h = omega arith
 
-  status_is : (mtu buffers next : ℕ) → IsMtu mtu → IsBufferCount buffers → IsIdentifier next → status_with mtu buffers (header_of (packet_header next 0)) ≡ Some (StatusReply mtu buffers next)
+  pub status_is : (mtu buffers next : ℕ) → IsMtu mtu → IsBufferCount buffers → IsIdentifier next → status_with mtu buffers (header_of (packet_header next 0)) ≡ Some (StatusReply mtu buffers next)
   status_is mtu buffers next mtu_is buffers_is next_is =
       rw (below.packets.header next 0 (omega (arith, next_is.up_to_end)) (omega arith), le-leb _ _ mtu_is.0, le-leb _ _ mtu_is.1, le-leb _ _ buffers_is.0, le-leb _ _ buffers_is.1, le-leb _ _ next_is.from_one, le-leb _ _ next_is.up_to_end) refl
 

@@ -1,11 +1,12 @@
 -- What the laws of the crates below say of packets and of buses, for the proofs here: no public clause speaks of it.
-use Rattle.std.specs.Prelude.{◌≡◌, ℕ, ◌<◌, ◌≤◌, ◌^◌, List, ◌++◌, length, Some, Ok}
+use Rattle.std.specs.Prelude.{◌≡◌, ℕ, ◌/◌, ◌%◌, ◌<◌, ◌≤◌, ◌^◌, List, ◌++◌, length, Some, Ok}
 use Rattle.ipb_base.specs.Word.{AreBytes, AreWords}
 use Rattle.packet_codec.specs.declared.header.Header.{Header}
+use Rattle.packet_codec.specs.declared.packet.Order.{Order}
 use Rattle.packet_codec.specs.declared.packet.Packet.{Packet}
 use Rattle.packet_codec.specs.Header.{packet_header}
-use Rattle.packet_codec.specs.Packet.{packet_bytes, IsPacket}
-use Rattle.packet_codec.specs.Reading.{header_of, packet_of}
+use Rattle.packet_codec.specs.Packet.{in_order, packet_bytes, IsPacket}
+use Rattle.packet_codec.specs.Reading.{header_of, packet_of, words_of}
 use Rattle.transaction_codec.specs.Answer.{CanAnswer, reply_room}
 use Rattle.board_bus.specs.Cells.{CellMap, HoldsWords}
 use Rattle.board_bus.specs.Bodies.{replay, run_body}
@@ -19,6 +20,10 @@ pub record ReadsPackets : Type 0 where
       → header_of (packet_header id kind) ≡ Some (record { id = id; kind = kind })
   pub header_found : (word : ℕ) (header : Header) → header_of word ≡ Some header
       → word ≡ packet_header header.id header.kind
+  pub written_back : (order : Order) (bytes : List ℕ) → AreBytes bytes → length bytes % 4 ≡ 0
+      → in_order order (words_of order bytes) ≡ bytes
+  pub words : (order : Order) (bytes : List ℕ) → AreBytes bytes → AreWords (words_of order bytes)
+  pub count : (order : Order) (bytes : List ℕ) → length (words_of order bytes) ≡ length bytes / 4
 
 -- a bus of words answers a body of words by a reply to it, no longer than its room, and is a bus of words after it; each body
 -- of a replay has one reply

@@ -1,14 +1,7 @@
-use Rattle.std.proofs.Common.{ℕ, zero, suc, ◌<◌, ◌^◌, List, [], ◌∷◌, get_or, lit<, arith}
-use Rattle.ipb_base.specs.Word.{AreBytes}
-use Rattle.packet_codec.proofs.WordLemmas.{IsBytes}
+use Rattle.packet_codec.proofs.WordLemmas.{are_bytes}
 use Rattle.packet_codec.proofs.PacketLemmas.{packet_again, packet_back}
 use Rattle.packet_codec.proofs.HeaderLemmas.{header_again, header_back}
 use Rattle.packet_codec.proofs.laws.reading_is_the_grammar.Goals as goal
-
-are_bytes : (bytes : List ℕ) → AreBytes bytes → IsBytes bytes
-are_bytes [] fits i = lit< tt
-are_bytes (byte ∷ bytes) fits zero = omega (arith, fits.0)
-are_bytes (byte ∷ bytes) fits (suc i) = are_bytes bytes fits.1 i
 
 pub returns-clause-again : goal.returns-clause-again
 returns-clause-again c = packet_again
