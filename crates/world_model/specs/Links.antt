@@ -17,7 +17,8 @@ pub record Told : Type 0 where
   pub board : Board
   pub air : List Datagram
 
--- A first send is a control packet for the board whose identifier is that of the place after the last first send.
+-- The link knows a first send by its number: a control packet for the board that carries the identifier which no earlier one
+-- had in turn.
 abbrev pub is_first_message : ℕ → ℕ → Option MessageToBoard → Bool
 is_first_message first count None = false
 is_first_message first count (Some StatusRequest) = false

@@ -27,7 +27,7 @@ abbrev pub after_open : OpenPlace → Option Wanted → Option Wanted
 after_open o None = None
 after_open o (Some w) = Some (record w { open_places = o ∷ w.open_places })
 
--- Wanted sends go by place; at one place the re-send request goes before the control packet.
+-- Low places are served first; a reply is asked for before its packet is repeated.
 abbrev pub wanted : ℕ → List OpenPlace → Option Wanted
 wanted first [] = None
 wanted first (o ∷ os) =
@@ -68,7 +68,7 @@ next_send hub =
     then Some (record { send = sends.Status; hub = record hub { status_wanted = false } })
     else wanted_or_first hub (wanted hub.first hub.open_places)
 
--- how many sends can come without another event
+-- at most how many sends come before another event
 abbrev pub wishes : List OpenPlace → ℕ
 wishes [] = 0
 wishes (o ∷ os) = (if o.resend then 1 else 0) + (if o.control then 1 else 0) + wishes os

@@ -1,5 +1,5 @@
 -- The world of one hub, one board and the air between them, and its moves. Which datagram is heard next, by whom, how often and
--- whether at all is free: so a list of moves is a list of losses, repeats, reorderings and delays. Profile.
+-- whether at all is free: so the moves choose what the path does to each datagram. Profile.
 use Rattle.std.specs.Prelude.{ℕ, zero, suc, ◌+◌, Bool, min, if◌then◌else◌, List, [], ◌∷◌, ◌++◌, length, Option, Some, None, Result, Ok, Err}
 use Rattle.std.specs.List.{slice_get}
 use Rattle.world_model.specs.declared.datagram.Datagram.{Datagram}
@@ -34,7 +34,7 @@ sent_into w next = record w {
   } ∷ [];
 }
 
--- All next sends join the air. There are no more of them than are pending.
+-- The hub sends until it has nothing to send: no more often than sends are pending.
 abbrev pub flush_on : Option Next → (Next → World) → World → World
 flush_on None later w = w
 flush_on (Some next) later w = later next
@@ -50,7 +50,7 @@ handed_out w = record w { hub = record w.hub { fates = [] }; fates = w.fates ++ 
 abbrev pub with_hub : World → Hub → World
 with_hub w hub = record w { hub = hub }
 
--- after an event of the hub: all next sends join the air, and its fates are handed out
+-- after an event of the hub it sends what there is to send, and its fates are handed out
 abbrev pub go_on : World → Hub → World
 go_on w hub = handed_out (flush (pending hub) (with_hub w hub))
 

@@ -9,7 +9,7 @@ pub enum Direction {
     ToHub,
 }
 
-/// A datagram that was sent. It is never taken out of the air: it may be heard never, once or often.
+/// A datagram that was sent. It stays in the air for good: to lose it is not to hear it.
 #[derive(Debug, Drop)]
 pub struct Datagram {
     /// Who hears it.

@@ -19,9 +19,9 @@ pub enum WorldMove {
 /// Why a list of moves has no end: the first move, from 0, that is not allowed, or want of memory.
 #[derive(Clone, Copy, Debug, PartialEq, Eq)]
 pub enum WorldEnd {
-    /// There is no such datagram for this hearer, or a receive is quiet and nobody waits.
+    /// The move names a datagram that this side cannot hear, or a silence that nobody notices.
     NotThere { at: usize },
-    /// The datagram is older than a datagram may be when it is heard.
+    /// It was sent too many first sends ago to be heard.
     TooOld { at: usize },
     /// Memory ran out.
     NoMemory,

@@ -1,6 +1,6 @@
 use ipb_base::Words;
 
-/// A body that was offered to a hub, under the tag of who offered it.
+/// A body that was offered to a hub, under the tag of whoever offered it.
 #[derive(Debug, Drop)]
 pub struct Offered {
     /// The tag under which its fate is handed out.
@@ -14,7 +14,7 @@ pub struct Offered {
 pub struct OpenPlace {
     /// The place, from 1, in the order of first sends.
     pub place: u64,
-    /// Whether its fate is still owed to who offered it. After a give-up it is not.
+    /// Whether its fate is still owed to whoever offered it. After a give-up it is not.
     pub waited: bool,
     /// Whether a re-send request for it is to be sent.
     pub resend: bool,
@@ -25,7 +25,7 @@ pub struct OpenPlace {
 /// What became of a body that was offered. It never changes.
 #[derive(Debug, Drop)]
 pub enum Fate {
-    /// The reply at its place was taken while it was waited for.
+    /// A reply came while somebody wanted it.
     Replied { place: u64, words: Words },
     /// The hub gave up after this many rounds without a reply. Whether the body was executed is not known; it was at
     /// most once.

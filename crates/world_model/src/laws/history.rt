@@ -1,4 +1,4 @@
-//! The theorem over every list of moves, through any number of wraps of the identifier, and what follows from it.
+//! The theorem: any moves, however often the identifiers begin anew. And what follows from it.
 
 ghost use Rattle.std.specs.Prelude.{◌≡◌, ◌≤◌, ◌<◌, ◌+◌, ℕ, List, length, min, Some, None};
 ghost use Rattle.ipb_base.specs.Lists.{IsPrefix};

@@ -16,5 +16,5 @@ returns-clause-handed c = handed_joined c.laws_below.ensures
 pub returns-clause-quiet : goal.returns-clause-quiet
 returns-clause-quiet c = quiet_joined c.laws_below.ensures
 
-pub returns-clause-settled : goal.returns-clause-settled
-returns-clause-settled c = fate_joined c.laws_below.ensures
+pub returns-clause-handed_out : goal.returns-clause-handed_out
+returns-clause-handed_out c = fate_joined c.laws_below.ensures
