@@ -165,7 +165,7 @@ module _ (below : Below) where
   -- ---- status packets
 
   -- the bytes of words are four for each
-  in_order_length : (words : List ℕ) → length (in_order Big words) ≡ 4 * length words
+  pub in_order_length : (words : List ℕ) → length (in_order Big words) ≡ 4 * length words
   in_order_length [] = refl
   in_order_length (w ∷ ws) = let h = in_order_length ws in omega (arith, length-append (word_bytes w) (in_order Big ws), h)
 

@@ -108,7 +108,7 @@ go_on_grew w h same =
 abbrev pub LogsMore : Board → Hearing → Type 0
 LogsMore b h = IsPrefix {T = LogEntry} b.log h.board.log
 
-message_logs : (b : Board) (m : Option ToBoard) → LogsMore b (hear_message b m)
+pub message_logs : (b : Board) (m : Option ToBoard) → LogsMore b (hear_message b m)
 message_logs b None = prefix_same b.log b.log refl
 message_logs b (Some StatusRequest) = prefix_same b.log b.log refl
 message_logs b (Some (ResendRequest id)) = elim (with_id id (held b)) as (λ r. LogsMore b (send_again b r)) [ None ↦ prefix_same b.log b.log refl | Some packet ↦ prefix_same b.log b.log refl ]

@@ -9,3 +9,4 @@ mod Histories
 mod Links
 mod Kept
 mod Grammar
+mod Greetings

@@ -220,7 +220,7 @@ module _ (below : Below) where
   greeting_no_send board count goes.ToBoard bytes e = ap (is_first_message board.first count) e
   greeting_no_send board count goes.ToHub bytes e = refl
 
-  greetings_count : (board : Board) (count : ℕ) (air : List Datagram) → AllByRecursion (IsGreeting board) air → first_sends_from board.first count air ≡ count
+  pub greetings_count : (board : Board) (count : ℕ) (air : List Datagram) → AllByRecursion (IsGreeting board) air → first_sends_from board.first count air ≡ count
   greetings_count board count [] all = refl
   greetings_count board count (d ∷ air) all = rw (greeting_no_send board count d.direction d.bytes all.0.bytes) (greetings_count board count air all.1)
 
