@@ -8,3 +8,6 @@ mod Worlds
 mod Histories
 mod Links
 mod Kept
+mod Flushing
+mod Waiting
+mod Accounts
