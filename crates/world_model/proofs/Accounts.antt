@@ -208,9 +208,237 @@ unsent_unplaced : (queue : List Offered) → placed_tags (map unsent queue) ≡ 
 unsent_unplaced [] = refl
 unsent_unplaced (o ∷ os) = unsent_unplaced os
 
+places_same : (f : OpenPlace → OpenPlace) (os : List OpenPlace) → ((o : OpenPlace) → (f o).place ≡ o.place) → places (map f os) ≡ places os
+places_same f [] same = refl
+places_same f (o ∷ os) same = ap (λ (p : ℕ). p ∷ places (map f os)) (same o) ∙ ap (λ (ps : List ℕ). o.place ∷ ps) (places_same f os same)
+
 -- ---- the account of a hub and of the fates that were handed out
 
 pub record IsBalanced (tag offered : ℕ) (told : List (ℕ × Fate)) (h : Hub) : Type 0 where
   pub up_to : AreUpTo (length h.sent) (places h.open_places)
   pub all : offered ≡ tagged_fates tag told + tagged_fates tag h.fates + waits tag h.sent h.open_places + times tag (map tag_of_offered h.queue)
   pub placed : times tag (map tag_of_offered h.sent) ≡ placed_fates tag told + placed_fates tag h.fates + waits tag h.sent h.open_places
+
+-- events that change only what is wanted of open places
+balanced_alike : (tag offered : ℕ) (told : List (ℕ × Fate)) (h : Hub) (os : List OpenPlace) → AreAlike h.open_places os → IsBalanced tag offered told h → IsBalanced tag offered told (record h { open_places = os })
+balanced_alike tag offered told h os same is = record {
+    up_to = subst (AreUpTo (length h.sent)) (sym same.places) is.up_to;
+    all = omega (arith, is.all, ap (times tag) (same.waited h.sent));
+    placed = omega (arith, is.placed, ap (times tag) (same.waited h.sent));
+  }
+
+offer_balanced : (tag offered : ℕ) (told : List (ℕ × Fate)) (h : Hub) (o : Offered) → IsBalanced tag offered told h → IsBalanced tag (offered + times tag (o.tag ∷ [])) told (offer h o)
+offer_balanced tag offered told h o is =
+    let more = map-append tag_of_offered h.queue (o ∷ []) in
+    let all = ap (times tag) more ∙ times-append tag (map tag_of_offered h.queue) (o.tag ∷ []) in
+    let queued : IsBalanced tag (offered + times tag (o.tag ∷ [])) told (record h { queue = h.queue ++ o ∷ []; gave_up = false }) = record {
+      up_to = is.up_to;
+      all = omega (arith, is.all, all);
+      placed = is.placed;
+    } in
+    either (λ (os : List OpenPlace). IsBalanced tag (offered + times tag (o.tag ∷ [])) told (record h { queue = h.queue ++ o ∷ []; open_places = os; gave_up = false })) h.gave_up _ _
+      (λ _. balanced_alike tag _ told (record h { queue = h.queue ++ o ∷ []; gave_up = false }) (map want_control h.open_places) (alike_map want_control h.open_places (λ _. (refl, refl))) queued)
+      (λ _. queued)
+
+settle_balanced : (tag offered : ℕ) (told : List (ℕ × Fate)) (h : Hub) (id : ℕ) (words : List ℕ) (o : OpenPlace) → open_with h.first id h.open_places ≡ Some o → IsBalanced tag offered told h → IsBalanced tag offered told (settle h words (Some o))
+settle_balanced tag offered told h id words o e is =
+    let t = tag_of (at_place h.sent o.place) in
+    let new : ℕ × Fate = (t, Replied o.place words) in
+    let gone = without o.place h.open_places in
+    let left = closed_is tag h.first id h.sent h.open_places o e in
+    let by : (b : Bool) → waits tag h.sent h.open_places ≡ cond b (times tag (t ∷ [])) 0 + waits tag h.sent gone
+        → IsBalanced tag offered told (record h { open_places = gone; status_requests = 0; fates = cond b (insert_fate o.place new h.fates) h.fates }) =
+      λ b. elim b as (λ (x : Bool). waits tag h.sent h.open_places ≡ cond x (times tag (t ∷ [])) 0 + waits tag h.sent gone
+        → IsBalanced tag offered told (record h { open_places = gone; status_requests = 0; fates = cond x (insert_fate o.place new h.fates) h.fates })) [
+        | true ↦ λ k. record {
+            up_to = all_without (λ (p : ℕ). p ≤ length h.sent) o.place h.open_places is.up_to;
+            all = omega (arith, is.all, k, count_inserted (tagged_fates tag) (tagged_count tag) o.place new h.fates);
+            placed = omega (arith, is.placed, k, count_inserted (placed_fates tag) (placed_count tag) o.place new h.fates);
+          }
+        | false ↦ λ k. record {
+            up_to = all_without (λ (p : ℕ). p ≤ length h.sent) o.place h.open_places is.up_to;
+            all = omega (arith, is.all, k);
+            placed = omega (arith, is.placed, k);
+          }
+      ] in
+    by o.waited left
+
+message_balanced : (tag offered : ℕ) (told : List (ℕ × Fate)) (h : Hub) (bytes : List ℕ) → IsBalanced tag offered told h → IsBalanced tag offered told (take_message h (to_hub bytes))
+message_balanced tag offered told h bytes is = message_cases (IsBalanced tag offered told) h (to_hub bytes) is
+    (λ at. balanced_alike tag offered told h (map (recover at) h.open_places) (alike_map (recover at) h.open_places (recover_alike at)) is)
+    (λ id words o e. settle_balanced tag offered told h id words o e is)
+
+give_up_balanced : (tag offered : ℕ) (told : List (ℕ × Fate)) (h : Hub) → IsBalanced tag offered told h → IsBalanced tag offered told (give_up h)
+give_up_balanced tag offered told h is =
+    let late = time_out h.rounds h.sent h.open_places h.fates in
+    let none = ap (times tag) (none_waited h.sent h.open_places) in
+    let same = places_same abandoned h.open_places (λ _. refl) in
+    record {
+      up_to = subst (AreUpTo (length h.sent)) (sym same) is.up_to;
+      all = omega (arith, is.all, none, count_append (tagged_fates tag) (tagged_count tag) late (map unsent h.queue), ap (times tag) (unsent_tags h.queue),
+        time_out_count (tagged_fates tag) tag h.rounds (tagged_count tag) (λ _ _. refl) h.sent h.open_places h.fates);
+      placed = omega (arith, is.placed, none, count_append (placed_fates tag) (placed_count tag) late (map unsent h.queue), ap (times tag) (unsent_unplaced h.queue),
+        time_out_count (placed_fates tag) tag h.rounds (placed_count tag) (λ _ _. refl) h.sent h.open_places h.fates);
+    }
+
+quiet_balanced : (tag offered : ℕ) (told : List (ℕ × Fate)) (h : Hub) → IsBalanced tag offered told h → IsBalanced tag offered told (hear_quiet h)
+quiet_balanced tag offered told h is = quiet_cases (IsBalanced tag offered told) h
+    (λ _. record { up_to = is.up_to; all = is.all; placed = is.placed })
+    (λ _. give_up_balanced tag offered told h is)
+
+-- ---- sends
+
+up_to_push : (last next : ℕ) (os : List OpenPlace) (o : OpenPlace) → last ≤ next → o.place ≤ next → AreUpTo last (places os) → AreUpTo next (places (os ++ o ∷ []))
+up_to_push last next [] o more within all = (within, tt)
+up_to_push last next (x ∷ os) o more within all = (omega (arith, all.0), up_to_push last next os o more within all.1)
+
+first_balanced : (tag offered : ℕ) (told : List (ℕ × Fate)) (h : Hub) (o : Offered) (later : List Offered) → h.queue ≡ o ∷ later → IsBalanced tag offered told h
+    → IsBalanced tag offered told (record h { sent = h.sent ++ o ∷ []; queue = later; open_places = h.open_places ++ opened (length h.sent + 1) ∷ [] })
+first_balanced tag offered told h o later e is =
+    let len = length-append h.sent (o ∷ []) in
+    let front = ap (λ (queue : List Offered). times tag (map tag_of_offered queue)) e in
+    let sent = ap (times tag) (map-append tag_of_offered h.sent (o ∷ [])) ∙ times-append tag (map tag_of_offered h.sent) (o.tag ∷ []) in
+    let waited = waits_push tag h.sent o h.open_places is.up_to in
+    record {
+      up_to = up_to_push (length h.sent) (length (h.sent ++ o ∷ [])) h.open_places (opened (length h.sent + 1)) (omega arith) (omega arith) is.up_to;
+      all = omega (arith, is.all, front, waited);
+      placed = omega (arith, is.placed, sent, waited);
+    }
+
+abbrev pub IsBalancedWorld : ℕ → ℕ → World → Type 0
+IsBalancedWorld tag offered w = IsBalanced tag offered w.fates w.hub
+
+sends_balanced : (tag offered : ℕ) (w : World) → IsBalancedWorld tag offered w → IfSome (next_send w.hub) (λ (n : Next). IsBalancedWorld tag offered (sent_into w n))
+sends_balanced tag offered w is = send_cases (λ (n : Next). IsBalanced tag offered w.fates n.hub) w.hub
+    (record { up_to = is.up_to; all = is.all; placed = is.placed })
+    (λ x e. balanced_alike tag offered w.fates w.hub x.open_places (wanted_is_alike w.hub.first w.hub.open_places x e) is)
+    (λ o later e _. first_balanced tag offered w.fates w.hub o later e is)
+
+handed_balanced : (tag offered : ℕ) (w : World) → IsBalancedWorld tag offered w → IsBalancedWorld tag offered (handed_out w)
+handed_balanced tag offered w is = record {
+    up_to = is.up_to;
+    all = omega (arith, is.all, count_append (tagged_fates tag) (tagged_count tag) w.fates w.hub.fates);
+    placed = omega (arith, is.placed, count_append (placed_fates tag) (placed_count tag) w.fates w.hub.fates);
+  }
+
+go_on_balanced : (tag offered : ℕ) (w : World) (h : Hub) → IsBalanced tag offered w.fates h → IsBalancedWorld tag offered (go_on w h)
+go_on_balanced tag offered w h is = handed_balanced tag offered (flush (pending h) (with_hub w h))
+    (flush_keeps (IsBalancedWorld tag offered) (sends_balanced tag offered) (pending h) (with_hub w h) is)
+
+-- ---- moves
+
+abbrev pub Balances : ℕ → List WorldMove → World → World → Type 0
+Balances tag ms w new = (offered : ℕ) → IsBalancedWorld tag offered w → IsBalancedWorld tag (offered + times tag (offers ms)) new
+
+none_offered : (tag offered : ℕ) (w : World) → IsBalancedWorld tag offered w → IsBalancedWorld tag (offered + 0) w
+none_offered tag offered w is = record { up_to = is.up_to; all = omega (arith, is.all); placed = is.placed }
+
+step_balances : (tag at : ℕ) (w : World) (m : WorldMove) → IfOk (step at w m) (Balances tag (m ∷ []) w)
+step_balances tag at w m = step_cases (Balances tag (m ∷ []) w) at w m
+    (λ t body e. rw e (λ offered is. go_on_balanced tag _ w (offer w.hub (record { tag = t; body = body })) (offer_balanced tag offered w.fates w.hub (record { tag = t; body = body }) is)))
+    (λ e. rw e (λ offered is. none_offered tag offered (go_on w (hear_quiet w.hub)) (go_on_balanced tag offered w (hear_quiet w.hub) (quiet_balanced tag offered w.fates w.hub is))))
+    (λ i bytes e. rw e (λ offered is. none_offered tag offered (go_on w (take_message w.hub (to_hub bytes))) (go_on_balanced tag offered w (take_message w.hub (to_hub bytes)) (message_balanced tag offered w.fates w.hub bytes is))))
+    (λ i bytes e. rw e (λ offered is. record { up_to = is.up_to; all = omega (arith, is.all); placed = is.placed }))
+
+offers_cons : (tag : ℕ) (m : WorldMove) (ms : List WorldMove) → times tag (offers (m ∷ ms)) ≡ times tag (offers (m ∷ [])) + times tag (offers ms)
+offers_cons tag (Offer t body) ms = omega arith
+offers_cons tag Quiet ms = omega arith
+offers_cons tag (HubHears i) ms = omega arith
+offers_cons tag (BoardHears i) ms = omega arith
+
+balances_then : (tag : ℕ) (m : WorldMove) (ms : List WorldMove) (a b c : World) → Balances tag (m ∷ []) a b → Balances tag ms b c → Balances tag (m ∷ ms) a c
+balances_then tag m ms a b c one two offered is =
+    subst (λ (n : ℕ). IsBalancedWorld tag n c) (omega (arith, offers_cons tag m ms)) (two (offered + times tag (offers (m ∷ []))) (one offered is))
+
+run_balances : (tag at : ℕ) (w : World) (ms : List WorldMove) → AllByRecursion IsMove ms → IfOk (run_moves at w ms) (λ (v : World). Unit {0} × Balances tag ms w v)
+run_balances tag at w ms can = run_by (λ _. Unit {0}) (Balances tag) (λ v offered is. none_offered tag offered v is) (balances_then tag)
+    (λ n v m _ _. ok_map (step n v m) (Balances tag (m ∷ []) v) (λ (x : World). Unit {0} × Balances tag (m ∷ []) v x) (λ x b. (tt, b)) (step_balances tag n v m)) at w ms can tt
+
+pub accounted : (window rounds : ℕ) (board : Board) (air : List Datagram) (moves : List WorldMove) (w : World) (tag : ℕ) → IsRun window rounds board air moves w → IsAccounted moves w tag
+accounted window rounds board air moves w tag is =
+    let ran = subst (λ (r : Result World WorldEnd). IfOk r (λ (v : World). Unit {0} × Balances tag moves (start window rounds board air) v)) is.leads.ran
+      (run_balances tag is.leads.at (start window rounds board air) moves is.leads.sendable) in
+    let all = ran.1 0 (record { up_to = tt; all = refl; placed = refl }) in
+    let out = (run_out window rounds board air moves w is).1 in
+    let tagged = ap (tagged_fates tag) out in
+    let placed = ap (placed_fates tag) out in
+    record {
+      offered = omega (arith, all.all, tagged);
+      sent = omega (arith, all.placed, placed);
+    }
+
+-- ---- what follows
+
+placed_fewer : (tag : ℕ) (fates : List (ℕ × Fate)) → placed_fates tag fates ≤ tagged_fates tag fates
+placed_fewer tag [] = omega arith
+placed_fewer tag ((t, Replied place words) ∷ fates) = let h = placed_fewer tag fates in omega arith
+placed_fewer tag ((t, TimedOut place rounds) ∷ fates) = let h = placed_fewer tag fates in omega arith
+placed_fewer tag ((t, Unsent) ∷ fates) = let h = placed_fewer tag fates in omega arith
+
+-- a body that is unsent has a fate and no place
+unsent_fewer : (tag number : ℕ) (fates : List (ℕ × Fate)) → slice_get fates number ≡ Some (tag, Unsent) → placed_fates tag fates + 1 ≤ tagged_fates tag fates
+unsent_fewer tag number [] e = absurd (cc)
+unsent_fewer tag zero (f ∷ fates) e =
+    let same : f ≡ (tag, Unsent) = cc in
+    rw same (rw (eq-eqb tag tag refl) (let h = placed_fewer tag fates in omega arith))
+unsent_fewer tag (suc number) (f ∷ fates) e =
+    omega (arith, unsent_fewer tag number fates e, placed_more tag f fates, (tagged_count tag).more f fates, placed_fewer tag (f ∷ []))
+
+pub few_fates : (moves : List WorldMove) (w : World) (tag : ℕ) → IsAccounted moves w tag → tagged_fates tag w.fates ≤ times tag (offers moves)
+few_fates moves w tag is = omega (arith, is.offered)
+
+pub few_places : (moves : List WorldMove) (w : World) (tag : ℕ) → IsAccounted moves w tag → times tag (map tag_of_offered w.hub.sent) ≤ times tag (offers moves)
+few_places moves w tag is = omega (arith, is.offered, is.sent, placed_fewer tag w.fates)
+
+pub never_sent : (moves : List WorldMove) (w : World) (tag : ℕ) → IsAccounted moves w tag → times tag (offers moves) ≡ 1 → IsHandedOut w tag Unsent → times tag (map tag_of_offered w.hub.sent) ≡ 0
+never_sent moves w tag is once told = omega (arith, is.offered, is.sent, once, unsent_fewer tag told.number w.fates told.there)
+
+-- ---- a place has an offered body
+
+abbrev pub AllOffered : (Offered → Type 0) → World → Type 0
+AllOffered P w = AllByRecursion P w.hub.sent × AllByRecursion P w.hub.queue
+
+go_on_offered : (P : Offered → Type 0) (w : World) (h : Hub) → AllByRecursion P h.sent → AllByRecursion P h.queue → AllOffered P (go_on w h)
+go_on_offered P w h sent queue = flush_keeps (AllOffered P)
+    (λ v is. send_cases (λ (n : Next). AllByRecursion P n.hub.sent × AllByRecursion P n.hub.queue) v.hub is (λ _ _. is)
+      (λ o later e _. let all = subst (AllByRecursion P) e is.1 in (AllByRecursion-append P v.hub.sent (o ∷ []) is.0 (all.0, tt), all.1)))
+    (pending h) (with_hub w h) (sent, queue)
+
+abbrev pub Both : (Offered → Type 0) → Hub → Type 0
+Both P h = AllByRecursion P h.sent × AllByRecursion P h.queue
+
+abbrev pub IsOfferIn : (Offered → Type 0) → List WorldMove → Type 0
+IsOfferIn P ms = (number tag : ℕ) (body : List ℕ) → slice_get ms number ≡ Some (Offer tag body) → P (record { tag = tag; body = body })
+
+abbrev pub KeepsOffered : (Offered → Type 0) → List WorldMove → World → World → Type 0
+KeepsOffered P ms w new = IsOfferIn P ms → AllOffered P w → AllOffered P new
+
+step_offered : (P : Offered → Type 0) (at : ℕ) (w : World) (m : WorldMove) → IfOk (step at w m) (KeepsOffered P (m ∷ []) w)
+step_offered P at w m = step_cases (KeepsOffered P (m ∷ []) w) at w m
+    (λ t body e all is. go_on_offered P w (offer w.hub (record { tag = t; body = body })) is.0 (AllByRecursion-append P w.hub.queue (record { tag = t; body = body } ∷ []) is.1 (all 0 t body (ap (λ (x : WorldMove). Some x) e), tt)))
+    (λ e all is. let b = quiet_cases (Both P) w.hub (λ _. is) (λ _. (is.0, tt)) in go_on_offered P w (hear_quiet w.hub) b.0 b.1)
+    (λ i bytes e all is. let b = message_cases (Both P) w.hub (to_hub bytes) is (λ _. is) (λ _ _ _ _. is) in go_on_offered P w (take_message w.hub (to_hub bytes)) b.0 b.1)
+    (λ i bytes e all is. is)
+
+first_of_moves : (P : Offered → Type 0) (m : WorldMove) (ms : List WorldMove) → IsOfferIn P (m ∷ ms) → IsOfferIn P (m ∷ [])
+first_of_moves P m ms all zero tag body e = all 0 tag body e
+first_of_moves P m ms all (suc number) tag body e = absurd (cc)
+
+offered_then : (P : Offered → Type 0) (m : WorldMove) (ms : List WorldMove) (a b c : World) → KeepsOffered P (m ∷ []) a b → KeepsOffered P ms b c → KeepsOffered P (m ∷ ms) a c
+offered_then P m ms a b c one two all is = two (λ number tag body e. all (suc number) tag body e) (one (first_of_moves P m ms all) is)
+
+run_offered : (P : Offered → Type 0) (at : ℕ) (w : World) (ms : List WorldMove) → AllByRecursion IsMove ms → IfOk (run_moves at w ms) (λ (v : World). Unit {0} × KeepsOffered P ms w v)
+run_offered P at w ms can = run_by (λ _. Unit {0}) (KeepsOffered P) (λ v all is. is) (offered_then P)
+    (λ n v m _ _. ok_map (step n v m) (KeepsOffered P (m ∷ []) v) (λ (x : World). Unit {0} × KeepsOffered P (m ∷ []) v x) (λ x b. (tt, b)) (step_offered P n v m)) at w ms can tt
+
+at_all : (P : Offered → Type 0) (sent : List Offered) (place : ℕ) (o : Offered) → AllByRecursion P sent → at_place sent place ≡ Some o → P o
+at_all P sent zero o all e = absurd (cc)
+at_all P sent (suc k) o all e = all_get P sent k o all e
+
+pub offered_there : (window rounds : ℕ) (board : Board) (air : List Datagram) (moves : List WorldMove) (w : World) (place : ℕ) (o : Offered) → IsRun window rounds board air moves w → at_place w.hub.sent place ≡ Some o → IsOffered moves o
+offered_there window rounds board air moves w place o is e =
+    let P : Offered → Type 0 = IsOffered moves in
+    let ran = subst (λ (r : Result World WorldEnd). IfOk r (λ (v : World). Unit {0} × KeepsOffered P moves (start window rounds board air) v)) is.leads.ran
+      (run_offered P is.leads.at (start window rounds board air) moves is.leads.sendable) in
+    let all = ran.1 (λ number tag body there. record { number = number; move = there }) (tt, tt) in
+    at_all P w.hub.sent place o all.0 e
