@@ -10,3 +10,6 @@ mod Links
 mod Kept
 mod Grammar
 mod Greetings
+mod Flushing
+mod Waiting
+mod Accounts
