@@ -1,5 +1,7 @@
 -- The places of a window: which are open, and which were executed.
-use Rattle.std.proofs.Common.{◌≡◌, ℕ, zero, suc, ◌+◌, ◌-◌, ◌%◌, ◌<◌, ◌≤◌, ◌^◌, Bool, true, false, cond, ◌==◌, ◌||◌, List, [], ◌∷◌, ◌++◌, length, map, Option, Some, None, refl, sym, ap, ◌∙◌, subst, arith, length-append, add-one, append_assoc, inl, inr, if◌then◌else◌}
+use Rattle.std.proofs.Common.{◌≡◌, ℕ, zero, suc, ◌+◌, ◌-◌, ◌%◌, ◌<◌, ◌≤◌, ◌^◌, Bool, true, false, cond, ◌==◌, ◌||◌}
+use Rattle.std.proofs.Common.{List, [], ◌∷◌, ◌++◌, length, map, Option, Some, None, refl, sym, ap, ◌∙◌, subst, arith}
+use Rattle.std.proofs.Common.{length-append, add-one, append_assoc, inl, inr, if◌then◌else◌}
 use Rattle.std.proofs.lemmas.Bool.Decides.{eqb_tells, nat_tests}
 use Rattle.std.proofs.lemmas.Bool.{eqb-true, eq-eqb, cases_lt}
 use Rattle.std.specs.List.{AllByRecursion, slice_get}
@@ -52,50 +54,55 @@ least_push past next (p ∷ ps) = refl
 
 pub has_push : (place past : ℕ) (ps : List ℕ) → has place ps ≡ true → has place (ps ++ past ∷ []) ≡ true
 has_push place past [] h = absurd (cc)
-has_push place past (p ∷ ps) h = elim (p == place) as (λ b. (b || has place ps) ≡ true → (b || has place (ps ++ past ∷ [])) ≡ true) [
-    | true ↦ λ _. refl
-    | false ↦ λ k. has_push place past ps k
-  ] h
+has_push place past (p ∷ ps) h = elim (p == place) as (λ b. (b || has place ps) ≡ true
+    → (b || has place (ps ++ past ∷ [])) ≡ true) [
+      | true ↦ λ _. refl
+      | false ↦ λ k. has_push place past ps k
+    ] h
 
 pub has_last : (past : ℕ) (ps : List ℕ) → has past (ps ++ past ∷ []) ≡ true
 has_last past [] = rw (eq-eqb past past refl) refl
 has_last past (p ∷ ps) = elim (p == past) as (λ b. (b || has past (ps ++ past ∷ [])) ≡ true) [
-    | true ↦ refl
-    | false ↦ has_last past ps
-  ]
+  | true ↦ refl
+  | false ↦ has_last past ps
+]
 
 -- an open place lies between the lowest and the end
 pub has_from : (place from past : ℕ) (ps : List ℕ) → AreRising from past ps → has place ps ≡ true → from ≤ place
 has_from place from past [] r h = absurd (cc)
-has_from place from past (p ∷ ps) r h = elim (p == place) as (λ b. (p == place) ≡ b → (b || has place ps) ≡ true → from ≤ place) [
-    | true ↦ λ e _. let same = eqb-true p place e in omega arith
-    | false ↦ λ _ k. let later = has_from place (p + 1) past ps r.1 k in omega arith
-  ] refl h
+has_from place from past (p ∷ ps) r h = elim (p == place)
+    as (λ b. (p == place) ≡ b → (b || has place ps) ≡ true → from ≤ place) [
+      | true ↦ λ e _. let same = eqb-true p place e in omega arith
+      | false ↦ λ _ k. let later = has_from place (p + 1) past ps r.1 k in omega arith
+    ] refl h
 
 pub has_below : (place from past : ℕ) (ps : List ℕ) → AreRising from past ps → has place ps ≡ true → place < past
 has_below place from past [] r h = absurd (cc)
-has_below place from past (p ∷ ps) r h = elim (p == place) as (λ b. (p == place) ≡ b → (b || has place ps) ≡ true → place < past) [
-    | true ↦ λ e _. let same = eqb-true p place e in let end = rising_end (p + 1) past ps r.1 in omega arith
-    | false ↦ λ _ k. has_below place (p + 1) past ps r.1 k
-  ] refl h
+has_below place from past (p ∷ ps) r h = elim (p == place)
+    as (λ b. (p == place) ≡ b → (b || has place ps) ≡ true → place < past) [
+      | true ↦ λ e _. let same = eqb-true p place e in let end = rising_end (p + 1) past ps r.1 in omega arith
+      | false ↦ λ _ k. has_below place (p + 1) past ps r.1 k
+    ] refl h
 
 -- another place stays
 pub has_less : (place gone : ℕ) (ps : List ℕ) → gone < place → has place ps ≡ true → has place (less gone ps) ≡ true
 has_less place gone [] apart h = h
 has_less place gone (p ∷ ps) apart h = elim (eqb_tells p gone) [
-    | inl same ↦ rw same.0 (elim (eqb_tells p place) [
-        | inl twice ↦ absurd (omega arith)
-        | inr other ↦ rw other.0 at h
-      ])
-    | inr other ↦ rw other.0 (elim (p == place) as (λ b. (b || has place ps) ≡ true → (b || has place (less gone ps)) ≡ true) [
+  | inl same ↦ rw same.0 (elim (eqb_tells p place) [
+    | inl twice ↦ absurd (omega arith)
+    | inr other ↦ rw other.0 at h
+  ])
+  | inr other ↦ rw other.0 (elim (p == place) as (λ b. (b || has place ps) ≡ true
+      → (b || has place (less gone ps)) ≡ true) [
         | true ↦ λ _. refl
         | false ↦ λ k. has_less place gone ps apart k
       ] h)
-  ]
+]
 
 -- ---- the window
 
-pub window_push : (window sent : ℕ) (ps : List ℕ) → IsWindow window sent ps → sent + 2 ≤ window + least ps (sent + 1) → IsWindow window (sent + 1) (ps ++ (sent + 1) ∷ [])
+pub window_push : (window sent : ℕ) (ps : List ℕ) → IsWindow window sent ps → sent + 2 ≤ window + least ps (sent + 1)
+    → IsWindow window (sent + 1) (ps ++ (sent + 1) ∷ [])
 window_push window sent ps is room =
     let same = least_push (sent + 1) (sent + 1 + 1) ps in
     record {
@@ -119,7 +126,8 @@ window_less window sent place ps is =
 -- ---- what is executed
 
 -- there are fewer first sends than executed bodies and a window
-pub sent_near : (window : ℕ) (all done : List (List ℕ)) (ps : List ℕ) → IsWindow window (length all) ps → IsExecuted all done ps → length all ≤ length done + MOST_OPEN
+pub sent_near : (window : ℕ) (all done : List (List ℕ)) (ps : List ℕ) → IsWindow window (length all) ps
+    → IsExecuted all done ps → length all ≤ length done + MOST_OPEN
 sent_near window all done ps w e =
     elim (cases_lt (length done) (length all)) [
       | inl fewer ↦
@@ -129,33 +137,37 @@ sent_near window all done ps w e =
       | inr all_done ↦ omega arith
     ]
 
-pub executed_next : (all done : List (List ℕ)) (ps : List ℕ) (x : List ℕ) → IsExecuted all done ps → IsPrefix (done ++ x ∷ []) all → IsExecuted all (done ++ x ∷ []) ps
+pub executed_next : (all done : List (List ℕ)) (ps : List ℕ) (x : List ℕ) → IsExecuted all done ps
+    → IsPrefix (done ++ x ∷ []) all → IsExecuted all (done ++ x ∷ []) ps
 executed_next all done ps x e front = record {
-    front = front;
-    unheard = λ place after within. e.unheard place (omega (arith, length-append done (x ∷ []))) within;
-  }
+  front = front;
+  unheard = λ place after within. e.unheard place (omega (arith, length-append done (x ∷ []))) within;
+}
 
-pub executed_push : (all done : List (List ℕ)) (ps : List ℕ) (x : List ℕ) → IsExecuted all done ps → IsExecuted (all ++ x ∷ []) done (ps ++ (length all + 1) ∷ [])
+pub executed_push : (all done : List (List ℕ)) (ps : List ℕ) (x : List ℕ) → IsExecuted all done ps
+    → IsExecuted (all ++ x ∷ []) done (ps ++ (length all + 1) ∷ [])
 executed_push all done ps x e = record {
-    front = front_more done all (x ∷ []) e.front;
-    unheard = λ place after within. elim (cases_lt place (length all + 1)) [
-      | inl old ↦ has_push place (length all + 1) ps (e.unheard place after (omega arith))
-      | inr new ↦
-          let last : place ≡ length all + 1 = omega (arith, length-append all (x ∷ [])) in
-          rw last (has_last (length all + 1) ps)
-    ];
-  }
+  front = front_more done all (x ∷ []) e.front;
+  unheard = λ place after within. elim (cases_lt place (length all + 1)) [
+    | inl old ↦ has_push place (length all + 1) ps (e.unheard place after (omega arith))
+    | inr new ↦
+        let last : place ≡ length all + 1 = omega (arith, length-append all (x ∷ [])) in
+        rw last (has_last (length all + 1) ps)
+  ];
+}
 
-pub executed_less : (all done : List (List ℕ)) (ps : List ℕ) (place : ℕ) → IsExecuted all done ps → place ≤ length done → IsExecuted all done (less place ps)
+pub executed_less : (all done : List (List ℕ)) (ps : List ℕ) (place : ℕ) → IsExecuted all done ps → place ≤ length done
+    → IsExecuted all done (less place ps)
 executed_less all done ps place e settled = record {
-    front = e.front;
-    unheard = λ p after within. has_less p place ps (omega arith) (e.unheard p after within);
-  }
+  front = e.front;
+  unheard = λ p after within. has_less p place ps (omega arith) (e.unheard p after within);
+}
 
 -- ---- identifiers
 
 -- near places with one identifier are one
-pub one_place : (first a b : ℕ) → IsIdentifier first → 1 ≤ a → 1 ≤ b → a < b + 65535 → b < a + 65535 → identifier_at first a ≡ identifier_at first b → a ≡ b
+pub one_place : (first a b : ℕ) → IsIdentifier first → 1 ≤ a → 1 ≤ b → a < b + 65535 → b < a + 65535
+    → identifier_at first a ≡ identifier_at first b → a ≡ b
 one_place first a b is pa pb ab ba e = omega arith
 
 pub not_zero : (first a : ℕ) → 1 ≤ identifier_at first a

@@ -35,7 +35,8 @@ add_one = 0x2000015f ∷ 8 ∷ 1 ∷ []
 abbrev pub one_added : List ℕ
 one_added = 0x20000150 ∷ 0 ∷ []
 
--- how a world stands: the bodies that its board executed, the fates that were handed out, the places that are open, and the
+-- how a world stands: the bodies that its board executed, the fates that were handed out, the places that are open, and
+-- the
 -- bytes in the air
 pub record Standing : Type 0 where
   pub executed_bodies : List (List ℕ)
@@ -48,8 +49,11 @@ bytes_of datagram = datagram.bytes
 
 abbrev pub standing : Result World WorldEnd → Result Standing WorldEnd
 standing (Ok w) = Ok (record {
-    executed_bodies = executed w.board; fates = w.fates; open_places = w.hub.open_places; air = map bytes_of w.air;
-  })
+  executed_bodies = executed w.board;
+  fates = w.fates;
+  open_places = w.hub.open_places;
+  air = map bytes_of w.air;
+})
 standing (Err end) = Err end
 
 -- where a world of this window and these rounds stands after some moves, over the empty air

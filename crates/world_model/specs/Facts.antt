@@ -1,15 +1,23 @@
 -- The facts that hold in every state of every run, and carry the theorem.
 --
--- An identifier is a number of 16 bits, and the places that it can stand for lie 65,535 apart. So whoever reads an identifier
--- must know which of these places is meant, whatever was lost, repeated or delayed. Say that the hub sent s bodies first and
--- the board executed N of them. The board executes the expected identifier alone, so the executed bodies are the first N of
--- those sent, and what is not executed is open at the hub: no more than the window, at most 16 places, so s <= N + 16. A
--- control packet is sent of an open place alone, at most 16 places behind the first sends at its birth; a reply is that of one
--- of the last 64 executed places, so at most 16 + 64 behind; a status reply tells a place at most 16 behind. Whatever is heard
+-- An identifier is a number of 16 bits, and the places that it can stand for lie 65,535 apart. So whoever reads an
+-- identifier
+-- must know which of these places is meant, whatever was lost, repeated or delayed. Say that the hub sent s bodies
+-- first and
+-- the board executed N of them. The board executes the expected identifier alone, so the executed bodies are the first
+-- N of
+-- those sent, and what is not executed is open at the hub: no more than the window, at most 16 places, so s <= N + 16.
+-- A
+-- control packet is sent of an open place alone, at most 16 places behind the first sends at its birth; a reply is that
+-- of one
+-- of the last 64 executed places, so at most 16 + 64 behind; a status reply tells a place at most 16 behind. Whatever
+-- is heard
 -- was sent no more than 32,768 first sends ago. So it speaks of a place less than
--- 65,535 away from the next one, and within that distance an identifier names one place: a control packet with the expected
+-- 65,535 away from the next one, and within that distance an identifier names one place: a control packet with the
+-- expected
 -- identifier is that of place N + 1, and a reply with an open place's identifier is the reply at that place.
-use Rattle.std.specs.Prelude.{◌≡◌, ℕ, ◌+◌, ◌==◌, ◌||◌, ◌<◌, ◌≤◌, Bool, true, false, List, [], ◌∷◌, length, map, Option, Some, None}
+use Rattle.std.specs.Prelude.{◌≡◌, ℕ, ◌+◌, ◌==◌, ◌||◌, ◌<◌, ◌≤◌, Bool, true, false, List, [], ◌∷◌, length, map, Option}
+use Rattle.std.specs.Prelude.{Some, None}
 use Rattle.std.specs.List.{AllByRecursion}
 use Rattle.ipb_base.specs.Word.{AreWords}
 use Rattle.ipb_base.specs.Lists.{IsPrefix}
@@ -30,7 +38,8 @@ use Rattle.world_model.specs.declared.offered.OpenPlace.{OpenPlace}
 use Rattle.world_model.specs.declared.offered.Fate.{Fate}
 use Rattle.world_model.specs.declared.offered.Fate.TheVariants.{Replied, TimedOut, Unsent}
 use Rattle.world_model.specs.Places.{at_place}
-use Rattle.world_model.specs.Messages.{ToBoard as MessageToBoard, ToHub as MessageToHub, StatusRequest, ResendRequest, ControlPacket, StatusReply, Reply, to_board, to_hub}
+use Rattle.world_model.specs.Messages.{ToBoard as MessageToBoard, ToHub as MessageToHub, StatusRequest, ResendRequest}
+use Rattle.world_model.specs.Messages.{ControlPacket, StatusReply, Reply, to_board, to_hub}
 use Rattle.world_model.specs.Board.{Board, executed, replies}
 use Rattle.world_model.specs.Hub.{least, places}
 use Rattle.world_model.specs.World.{World}
@@ -65,7 +74,8 @@ abbrev pub has : ℕ → List ℕ → Bool
 has place [] = false
 has place (p ∷ ps) = (p == place) || has place ps
 
--- the hub's window over `sent` first sends: the open places rise, and from the lowest one to the last first send there are no
+-- the hub's window over `sent` first sends: the open places rise, and from the lowest one to the last first send there
+-- are no
 -- more places than the window
 pub record IsWindow (window sent : ℕ) (ps : List ℕ) : Type 0 where
   pub few : window ≤ MOST_OPEN
@@ -152,7 +162,8 @@ abbrev pub AreRight : List Offered → List (List ℕ) → List (ℕ × Fate) �
 AreRight sent answers fates = AllByRecursion (IsRightFate sent answers) fates
 
 -- all of it, of the parts of a world
-pub record Holds (first window : ℕ) (sent queue : List Offered) (ps : List ℕ) (to_hand_out : List (ℕ × Fate)) (board : Board) (air : List Datagram) (told : List (ℕ × Fate)) : Type 0 where
+pub record Holds (first window : ℕ) (sent queue : List Offered) (ps : List ℕ) (to_hand_out : List (ℕ × Fate))
+    (board : Board) (air : List Datagram) (told : List (ℕ × Fate)) : Type 0 where
   pub hub : IsWindow window (length sent) ps
   pub sent_bodies : AreSendable sent
   pub queued_bodies : AreSendable queue
@@ -163,7 +174,8 @@ pub record Holds (first window : ℕ) (sent queue : List Offered) (ps : List ℕ
   pub told_fates : AreRight sent (replies board) told
 
 abbrev pub IsSound : World → Type 0
-IsSound w = Holds w.hub.first w.hub.window w.hub.sent w.hub.queue (places w.hub.open_places) w.hub.fates w.board w.air w.fates
+IsSound w = Holds w.hub.first w.hub.window w.hub.sent w.hub.queue
+    (places w.hub.open_places) w.hub.fates w.board w.air w.fates
 
 -- a datagram of a greeting: a status request, or the reply to one of a board that has executed nothing
 abbrev pub IsGreetingOf : Board → Direction → List ℕ → Type 0

@@ -1,5 +1,6 @@
 -- What holds of every run, however the moves lose, repeat, reorder and delay: the theorem and what follows from it.
-use Rattle.std.specs.Prelude.{◌≡◌, ℕ, zero, suc, ◌+◌, ◌*◌, ◌⊎◌, ◌<◌, ◌≤◌, ◌==◌, Bool, true, false, if◌then◌else◌, List, [], ◌∷◌, ◌++◌, length, map, Option, Some, None, Result, Ok, Err}
+use Rattle.std.specs.Prelude.{◌≡◌, ℕ, zero, suc, ◌+◌, ◌*◌, ◌⊎◌, ◌<◌, ◌≤◌, ◌==◌, Bool, true, false, if◌then◌else◌, List}
+use Rattle.std.specs.Prelude.{[], ◌∷◌, ◌++◌, length, map, Option, Some, None, Result, Ok, Err}
 use Rattle.std.specs.List.{AllByRecursion, slice_get}
 use Rattle.ipb_base.specs.Lists.{IsPrefix}
 use Rattle.board_bus.specs.Bodies.{replay}
@@ -32,7 +33,8 @@ pub record Leads (moves : List WorldMove) (old new : World) : Type 0 where
   pub ran : run_moves at old moves ≡ Ok new
 
 -- these moves lead there from where a run begins
-pub record IsRun (window rounds : ℕ) (board : Board) (air : List Datagram) (moves : List WorldMove) (w : World) : Type 0 where
+pub record IsRun (window rounds : ℕ) (board : Board) (air : List Datagram) (moves : List WorldMove)
+    (w : World) : Type 0 where
   pub begins : IsStart window board air
   pub leads : Leads moves (start window rounds board air) w
 
@@ -48,8 +50,10 @@ pub record IsAliveInAir (w : World) (bytes : List ℕ) : Type 0 where
   pub there : slice_get w.air number ≡ Some (record { direction = ToHub; bytes = bytes; birth = birth })
   pub alive : length w.hub.sent ≤ birth + LIFETIME
 
--- The theorem. The executed bodies are the front of the bodies that were sent first, in order; and each place whose fate is
--- Replied has the reply that a bus with a single thread gives there, when the executed bodies are replayed by place over the
+-- The theorem. The executed bodies are the front of the bodies that were sent first, in order; and each place whose
+-- fate is
+-- Replied has the reply that a bus with a single thread gives there, when the executed bodies are replayed by place
+-- over the
 -- bus that the board opened with.
 pub record IsTrueHistory (w : World) : Type 0 where
   pub in_order : IsPrefix (executed w.board) (bodies_of w.hub.sent)
@@ -108,7 +112,8 @@ placed_tags ((tag, Replied place words) ∷ fates) = tag ∷ placed_tags fates
 placed_tags ((tag, TimedOut place rounds) ∷ fates) = tag ∷ placed_tags fates
 placed_tags ((tag, Unsent) ∷ fates) = placed_tags fates
 
--- Every offered body stands once among the fates, the bodies that are waited for and those that are queued; and every body that
+-- Every offered body stands once among the fates, the bodies that are waited for and those that are queued; and every
+-- body that
 -- was sent stands once among the fates with a place and the bodies that are waited for.
 pub record IsAccounted (moves : List WorldMove) (w : World) (tag : ℕ) : Type 0 where
   pub offered : times tag (offers moves) ≡

@@ -1,6 +1,8 @@
--- A link that tells its datagrams, seen by its board and its air alone: what its calls may do, and how it stands to the hub that
+-- A link that tells its datagrams, seen by its board and its air alone: what its calls may do, and how it stands to the
+-- hub that
 -- uses it. It counts first sends by itself, from the control packets that it carries. Profile.
-use Rattle.std.specs.Prelude.{◌≡◌, ℕ, ◌+◌, ◌==◌, Bool, true, false, if◌then◌else◌, List, [], ◌∷◌, ◌++◌, length, Option, Some, None}
+use Rattle.std.specs.Prelude.{◌≡◌, ℕ, ◌+◌, ◌==◌, Bool, true, false, if◌then◌else◌, List, [], ◌∷◌, ◌++◌, length, Option}
+use Rattle.std.specs.Prelude.{Some, None}
 use Rattle.std.specs.List.{slice_get}
 use Rattle.packet_ids.specs.Identifier.{identifier_at}
 use Rattle.world_model.specs.declared.datagram.Datagram.{Datagram}
@@ -17,7 +19,8 @@ pub record Told : Type 0 where
   pub board : Board
   pub air : List Datagram
 
--- The link knows a first send by its number: a control packet for the board that carries the identifier which no earlier one
+-- The link knows a first send by its number: a control packet for the board that carries the identifier which no
+-- earlier one
 -- had in turn.
 abbrev pub is_first_message : ℕ → ℕ → Option MessageToBoard → Bool
 is_first_message first count None = false
@@ -33,7 +36,8 @@ is_first_send first count ToHub bytes = false
 abbrev pub first_sends_from : ℕ → ℕ → List Datagram → ℕ
 first_sends_from first count [] = count
 first_sends_from first count (datagram ∷ air) =
-    first_sends_from first (if is_first_send first count datagram.direction datagram.bytes then count + 1 else count) air
+    first_sends_from first (if is_first_send first count datagram.direction datagram.bytes then count + 1 else count)
+    air
 
 abbrev pub first_sends : Told → ℕ
 first_sends told = first_sends_from told.board.first 0 told.air

@@ -1,5 +1,6 @@
 -- What a hub sends next. IPbus 2.0, reliability mechanism; the order of sends and the window are the profile's.
-use Rattle.std.specs.Prelude.{ℕ, ◌+◌, nat_le, Bool, true, false, if◌then◌else◌, List, [], ◌∷◌, ◌++◌, length, Option, Some, None}
+use Rattle.std.specs.Prelude.{ℕ, ◌+◌, nat_le, Bool, true, false, if◌then◌else◌, List, [], ◌∷◌, ◌++◌, length, Option}
+use Rattle.std.specs.Prelude.{Some, None}
 use Rattle.packet_ids.specs.Identifier.{identifier_at}
 use Rattle.packet_codec.specs.declared.packet.Order.TheVariants.{Big}
 use Rattle.packet_codec.specs.declared.packet.Packet.{Packet}
@@ -32,12 +33,19 @@ abbrev pub wanted : ℕ → List OpenPlace → Option Wanted
 wanted first [] = None
 wanted first (o ∷ os) =
     if o.resend
-    then Some (record { send = sends.Resend (identifier_at first o.place); open_places = record o { resend = false } ∷ os })
+    then Some (record {
+      send = sends.Resend (identifier_at first o.place);
+      open_places = record o { resend = false } ∷ os;
+    })
     else if o.control
-    then Some (record { send = sends.Control o.place (identifier_at first o.place); open_places = record o { control = false } ∷ os })
+    then Some (record {
+      send = sends.Control o.place (identifier_at first o.place);
+      open_places = record o { control = false } ∷ os;
+    })
     else after_open o (wanted first os)
 
--- The body at the front of the queue gets the next place, where the window has room: from the lowest open place to that one,
+-- The body at the front of the queue gets the next place, where the window has room: from the lowest open place to that
+-- one,
 -- both counted, there are no more places than the window.
 abbrev pub opened : ℕ → OpenPlace
 opened place = record { place = place; waited = true; resend = false; control = false }

@@ -9,7 +9,8 @@ ghost use Rattle.world_model.specs.declared.offered.Offered.{Offered};
 ghost use Rattle.world_model.specs.Places.{at_place};
 ghost use Rattle.world_model.specs.Board.{Board};
 ghost use Rattle.world_model.specs.World.{World, step};
-ghost use Rattle.world_model.specs.History.{Leads, IsRun, IsHandedOut, IsAccounted, IsOffered, offers, times, tag_of_fate, tag_of_offered, quiets, timeouts};
+ghost use Rattle.world_model.specs.History.{Leads, IsRun, IsHandedOut, IsAccounted, IsOffered, offers, times};
+ghost use Rattle.world_model.specs.History.{tag_of_fate, tag_of_offered, quiets, timeouts};
 
 use crate::below::laws_below;
 

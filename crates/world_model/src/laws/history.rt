@@ -14,7 +14,8 @@ ghost use Rattle.world_model.specs.Hub.{low};
 ghost use Rattle.world_model.specs.Sends.{next_send};
 ghost use Rattle.world_model.specs.World.{World};
 ghost use Rattle.world_model.specs.Facts.{IsSound, bodies_of};
-ghost use Rattle.world_model.specs.History.{Leads, IsRun, IsHandedOut, IsAliveInAir, IsTrueHistory, IsExecutedThere, IsExecutedAtMostOnce};
+ghost use Rattle.world_model.specs.History.{Leads, IsRun, IsHandedOut, IsAliveInAir, IsTrueHistory};
+ghost use Rattle.world_model.specs.History.{IsExecutedThere, IsExecutedAtMostOnce};
 
 use crate::below::laws_below;
 
@@ -39,7 +40,8 @@ pub fn nothing_is_executed_twice_or_out_of_order()
     laws_below();
 }
 
-/// A fate with a place is that of the body that was sent there under its tag: executed where it was replied, and at most
+/// A fate with a place is that of the body that was sent there under its tag: executed where it was replied, and at
+/// most
 /// once where it timed out.
 pub fn a_fate_is_that_of_its_place()
     ensures replied { (window rounds : ℕ) (board : Board) (air : List Datagram) (moves : List WorldMove) (w : World)

@@ -26,7 +26,8 @@ pub fn a_greeting_joins()
     laws_below();
 }
 
-/// Each event of the hub and each call of the link keeps the joint fact: an offer, a send that the link carried, what the
+/// Each event of the hub and each call of the link keeps the joint fact: an offer, a send that the link carried, what
+/// the
 /// board heard in one receive, a datagram that was handed out, a quiet receive, and a fate that was handed out.
 pub fn each_event_keeps_them_joined()
     ensures offered { (hub : Hub) (told : Told) (offered : Offered) → IsJoined hub told → IsSendable offered.body
@@ -53,7 +54,8 @@ pub fn joined_ones_tell_the_truth()
     laws_below();
 }
 
-/// A greeting goes on: a status request that is sent and whatever the board hears of it leave a board and an air where a
+/// A greeting goes on: a status request that is sent and whatever the board hears of it leave a board and an air
+/// where a
 /// run can begin, and what is handed out is the status of that board.
 pub fn a_greeting_goes_on()
     ensures sent { (window : ℕ) (told : Told) → IsStart window told.board told.air
@@ -72,7 +74,8 @@ pub fn a_greeting_goes_on()
 pub fn a_link_forgets_nothing()
     ensures log { (old new : Told) → IsHeard old new → IsPrefix {T = LogEntry} old.board.log new.board.log }
     ensures air { (old new : Told) → IsHeard old new → IsPrefix {T = Datagram} old.air new.air }
-    ensures replies { (old new : Told) → IsHeard old new → IsPrefix {T = List ℕ} (replies old.board) (replies new.board) }
+    ensures replies { (old new : Told) → IsHeard old new
+        → IsPrefix {T = List ℕ} (replies old.board) (replies new.board) }
     ensures board { (old new : Told) → IsHeard old new
         → record new.board { log = old.board.log } ≡ old.board }
 {
@@ -87,7 +90,8 @@ pub fn right_fates_stay_right()
     laws_below();
 }
 
-/// A send that the link refused is counted by the hub and never joins the air: the world is still sound. A send is never
+/// A send that the link refused is counted by the hub and never joins the air: the world is still sound. A send is
+/// never
 /// longer than a packet can be.
 pub fn a_send_may_be_refused()
     ensures refused { (hub : Hub) (told : Told) (next : Next) → IsJoined hub told → next_send hub ≡ Some next

@@ -8,7 +8,8 @@ ghost use Rattle.packet_ids.specs.Identifier.{IsIdentifier};
 ghost use Rattle.status_packet.specs.Packets.{resend_request};
 ghost use Rattle.status_packet.specs.Range.{IsMtu, IsBufferCount};
 ghost use Rattle.status_packet.specs.StatusBytes.{IsStatusRequest, IsStatusReply};
-ghost use Rattle.world_model.specs.Messages.{StatusRequest, ResendRequest, ControlPacket, StatusReply, Reply, control_packet, to_board, to_hub};
+ghost use Rattle.world_model.specs.Messages.{StatusRequest, ResendRequest, ControlPacket, StatusReply, Reply};
+ghost use Rattle.world_model.specs.Messages.{control_packet, to_board, to_hub};
 
 use crate::below::laws_below;
 
@@ -26,7 +27,8 @@ pub fn what_a_board_reads()
 
 /// A hub reads status replies, and control packets in both byte orders, and nothing else.
 pub fn what_a_hub_reads()
-    ensures status { (bytes : List ℕ) (mtu buffers next : ℕ) → AreBytes bytes → (to_hub bytes ≡ Some (StatusReply mtu buffers next))
+    ensures status { (bytes : List ℕ) (mtu buffers next : ℕ) → AreBytes bytes
+        → (to_hub bytes ≡ Some (StatusReply mtu buffers next))
         ↔ (IsMtu mtu × IsBufferCount buffers × IsIdentifier next × IsStatusReply bytes mtu buffers next) }
     ensures reply { (bytes : List ℕ) (id : ℕ) (words : List ℕ) → AreBytes bytes → (to_hub bytes ≡ Some (Reply id words))
         ↔ ((order : Order) × IsPacket (control_packet order id words)

@@ -10,5 +10,6 @@ pub returns : goal.returns
 returns c = λ window rounds board air moves w is.
     let most = min window board.buffers in
     let same : w.hub.window ≡ most = subst (λ (r : Result World _). IfOk r (HasWindow most)) is.leads.ran
-        (run_window is.leads.at most (start window rounds board air) moves refl) in
-    subst (λ (n : ℕ). length w.hub.sent < low w.hub + n) same (in_window c.laws_below.ensures w (facts c.laws_below.ensures window rounds board air moves w is))
+    (run_window is.leads.at most (start window rounds board air) moves refl) in
+    subst (λ (n : ℕ). length w.hub.sent < low w.hub + n) same
+    (in_window c.laws_below.ensures w (facts c.laws_below.ensures window rounds board air moves w is))
