@@ -10,13 +10,6 @@ IsWord n = n < 2 ^ 32
 abbrev pub AreWords : List ℕ → Type 0
 AreWords words = AllByRecursion IsWord words
 
--- a number of 8 bits
-abbrev pub IsByte : ℕ → Type 0
-IsByte n = n < 2 ^ 8
-
-abbrev pub AreBytes : List ℕ → Type 0
-AreBytes bytes = AllByRecursion IsByte bytes
-
 -- the four bytes of a word, the most significant one first
 abbrev pub word_bytes : ℕ → List ℕ
 word_bytes word = to_be_bytes w32 word

@@ -6,10 +6,10 @@ use Rattle.std.proofs.lemmas.Bool.{cases_lt}
 use Rattle.std.proofs.lemmas.List.{take_at, drop_at, length-append, length-take, length-drop, get_or-drop, get_or-take}
 use Rattle.std.proofs.lemmas.List.{get_or_past}
 use Rattle.std.proofs.lemmas.Nat.{be_bytes_4, le_bytes_4, from_be_bytes-to_be_bytes_4, from_le_bytes-to_le_bytes_4}
-use Rattle.ipb_base.specs.Word.{AreBytes, AreWords}
+use Rattle.ipb_base.specs.Word.{AreWords}
 use Rattle.packet_codec.specs.declared.packet.Order.{Order}
 use Rattle.packet_codec.specs.declared.packet.Order.TheVariants.{Big, Little}
-use Rattle.packet_codec.specs.Packet.{in_order, word_in_order}
+use Rattle.packet_codec.specs.Packet.{AreBytes, in_order, word_in_order}
 use Rattle.packet_codec.specs.Reading.{word_from, words_of}
 
 -- each item is a byte

@@ -2,8 +2,8 @@
 
 ghost use Rattle.std.specs.Prelude.{◌≡◌, ℕ, ◌+◌, ◌/◌, ◌%◌, ◌<◌, ◌^◌, List, [], ◌∷◌, length, slice_index, Some, Ok};
 ghost use Rattle.ipb_base.specs.Numbers.{greatest_payload};
-ghost use Rattle.ipb_base.specs.Word.{AreBytes, AreWords, big_endian};
-ghost use Rattle.packet_codec.specs.Packet.{IsPacket, in_order, packet_bytes};
+ghost use Rattle.ipb_base.specs.Word.{AreWords, big_endian};
+ghost use Rattle.packet_codec.specs.Packet.{AreBytes, IsPacket, in_order, packet_bytes};
 ghost use Rattle.packet_codec.specs.Faults.{HasAllowedHeader, HasUnknownKind};
 ghost use Rattle.packet_codec.specs.Header.{packet_header};
 ghost use Rattle.packet_codec.specs.Reading.{header_of, packet_of, words_of};

@@ -5,7 +5,7 @@ use Rattle.std.proofs.Common.{arith, length-append, append_assoc}
 use Rattle.std.specs.Prelude.{nat_le, ◌&&◌, ◌==◌, if◌then◌else◌}
 use Rattle.std.proofs.lemmas.Bool.{eqb-true, eq-eqb, leb-true}
 use Rattle.std.specs.List.{AllByRecursion}
-use Rattle.ipb_base.specs.Word.{AreBytes, AreWords, IsByte, big_endian, word_bytes}
+use Rattle.ipb_base.specs.Word.{AreWords, big_endian, word_bytes}
 use Rattle.ipb_base.specs.Lists.{IsPrefix}
 use Rattle.ipb_base.proofs.AllLemmas.{back_of_all}
 use Rattle.packet_codec.specs.declared.header.Header.{Header}
@@ -16,7 +16,7 @@ use Rattle.packet_codec.specs.declared.packet.PacketKind.{PacketKind}
 use Rattle.packet_codec.specs.declared.packet.PacketKind.TheVariants as kinds
 use Rattle.packet_codec.specs.declared.packet.Packet.{Packet}
 use Rattle.packet_codec.specs.Header.{packet_header}
-use Rattle.packet_codec.specs.Packet.{in_order, packet_bytes, IsPacket}
+use Rattle.packet_codec.specs.Packet.{AreBytes, IsByte, in_order, packet_bytes, IsPacket}
 use Rattle.packet_codec.specs.Reading.{header_of, packet_of, words_of}
 use Rattle.packet_ids.specs.Identifier.{IsIdentifier}
 use Rattle.status_packet.specs.Range.{IsMtu, IsBufferCount}

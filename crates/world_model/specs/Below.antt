@@ -1,11 +1,11 @@
 -- What the laws of the crates below say of packets and of buses, for the proofs here: no public clause speaks of it.
 use Rattle.std.specs.Prelude.{◌≡◌, ℕ, ◌/◌, ◌%◌, ◌<◌, ◌≤◌, ◌^◌, List, ◌++◌, length, Some, Ok}
-use Rattle.ipb_base.specs.Word.{AreBytes, AreWords}
+use Rattle.ipb_base.specs.Word.{AreWords}
 use Rattle.packet_codec.specs.declared.header.Header.{Header}
 use Rattle.packet_codec.specs.declared.packet.Order.{Order}
 use Rattle.packet_codec.specs.declared.packet.Packet.{Packet}
 use Rattle.packet_codec.specs.Header.{packet_header}
-use Rattle.packet_codec.specs.Packet.{in_order, packet_bytes, IsPacket}
+use Rattle.packet_codec.specs.Packet.{AreBytes, in_order, packet_bytes, IsPacket}
 use Rattle.packet_codec.specs.Reading.{header_of, packet_of, words_of}
 use Rattle.transaction_codec.specs.Answer.{CanAnswer, reply_room}
 use Rattle.board_bus.specs.Cells.{CellMap, HoldsWords}

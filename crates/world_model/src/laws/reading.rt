@@ -1,8 +1,7 @@
 //! What both sides read, by the grammar of packets.
 
 ghost use Rattle.std.specs.Prelude.{◌≡◌, ◌↔◌, ℕ, ◌<◌, ◌^◌, List, Some};
-ghost use Rattle.ipb_base.specs.Word.{AreBytes};
-ghost use Rattle.packet_codec.specs.Packet.{packet_bytes, IsPacket};
+ghost use Rattle.packet_codec.specs.Packet.{AreBytes, packet_bytes, IsPacket};
 ghost use Rattle.packet_codec.specs.declared.packet.Order.{Order};
 ghost use Rattle.packet_ids.specs.Identifier.{IsIdentifier};
 ghost use Rattle.status_packet.specs.Packets.{resend_request};
