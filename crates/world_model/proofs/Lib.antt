@@ -11,3 +11,4 @@ mod Kept
 mod Flushing
 mod Waiting
 mod Accounts
+mod Patience
