@@ -1,10 +1,10 @@
 -- A give-up has its price in quiet receives.
-use Rattle.std.proofs.Common.{◌≡◌, ℕ, zero, suc, ◌+◌, ◌*◌, ◌-◌, ◌<◌, ◌≤◌, Bool, true, false, cond, List, [], ◌∷◌, ◌++◌, length, map, Option, Some, None, Result, Ok, Err, refl, sym, ap, ◌∙◌, subst, arith, length-append, inl, inr, if◌then◌else◌}
-use Rattle.std.specs.Prelude.{min, IfSome, IfOk, ◌⊎◌, ◌≢◌}
-use Rattle.std.proofs.Math.Nat.{mul-add, mul-le-mul_left, mul-le-mul_right, mul_comm}
+use Rattle.std.proofs.Common.{◌≡◌, ℕ, ◌+◌, ◌*◌, ◌≤◌, List, [], ◌∷◌, ◌++◌, length, map, Some, Result, Ok, Err, refl, sym, ap, ◌∙◌, subst, arith, inl, inr}
+use Rattle.std.specs.Prelude.{min, IfOk, ◌⊎◌, ◌≢◌}
+use Rattle.std.proofs.Math.Nat.{mul-add, mul-le-mul_left, mul_comm}
 use Rattle.std.proofs.lemmas.List.{append-nil, length-map}
-use Rattle.std.specs.List.{AllByRecursion, slice_get}
-use Rattle.ipb_base.proofs.AllLemmas.{AllByRecursion-append, all-map}
+use Rattle.std.specs.List.{AllByRecursion}
+use Rattle.ipb_base.proofs.AllLemmas.{AllByRecursion-append}
 use Rattle.world_model.specs.declared.datagram.Datagram.{Datagram}
 use Rattle.world_model.specs.declared.offered.Offered.{Offered}
 use Rattle.world_model.specs.declared.offered.OpenPlace.{OpenPlace}
@@ -17,14 +17,14 @@ use Rattle.world_model.specs.Places.{at_place}
 use Rattle.world_model.specs.Messages.{to_hub}
 use Rattle.world_model.specs.Board.{Board}
 use Rattle.world_model.specs.Hub.{Hub, offer, goes_before, insert_fate, tag_of, settle, recovered, take_message, time_out, unsent, want_status, give_up, hear_quiet, places, place_of, least}
-use Rattle.world_model.specs.Sends.{Next, next_send, pending}
-use Rattle.world_model.specs.World.{World, sent_into, flush, handed_out, with_hub, go_on, board_hears, step, run_moves, start}
-use Rattle.world_model.specs.Facts.{AreRising, IsWindow, IsSound}
+use Rattle.world_model.specs.Sends.{Next, pending}
+use Rattle.world_model.specs.World.{World, sent_into, flush, with_hub, go_on, step, run_moves, start}
+use Rattle.world_model.specs.Facts.{AreRising, IsSound}
 use Rattle.world_model.specs.History.{IsMove, Leads, IsRun, IsHandedOut, quiets, timeouts}
 use Rattle.world_model.specs.Below.{Below}
 use Rattle.world_model.proofs.Lists.{either, all_get}
 use Rattle.world_model.proofs.Worlds.{step_holds, start_holds}
-use Rattle.world_model.proofs.Flushing.{send_cases, flush_keeps, message_cases, quiet_cases, step_cases, run_by, ok_map, run_out}
+use Rattle.world_model.proofs.Flushing.{send_cases, flush_keeps, message_cases, quiet_cases, step_cases, run_by, ok_map, ok_is, run_out}
 use Rattle.world_model.proofs.Accounts.{IsCount, count_inserted, count_append}
 
 -- ---- what sends leave alone
@@ -39,9 +39,9 @@ pub record IsAfterSends (w : World) (h : Hub) (new : World) : Type 0 where
 after_sends : (w : World) (h : Hub) → IsAfterSends w h (flush (pending h) (with_hub w h))
 after_sends w h = flush_keeps (IsAfterSends w h)
     (λ v is. send_cases (λ (n : Next). IsAfterSends w h (sent_into v n)) v.hub
-      (record { fates = is.fates; waiting = is.waiting; requests = is.requests; window = is.window; rounds = is.rounds })
-      (λ _ _. record { fates = is.fates; waiting = is.waiting; requests = is.requests; window = is.window; rounds = is.rounds })
-      (λ _ _ _ _. record { fates = is.fates; waiting = is.waiting; requests = is.requests; window = is.window; rounds = is.rounds }))
+    (record { fates = is.fates; waiting = is.waiting; requests = is.requests; window = is.window; rounds = is.rounds })
+    (λ _ _. record { fates = is.fates; waiting = is.waiting; requests = is.requests; window = is.window; rounds = is.rounds })
+    (λ _ _ _ _. record { fates = is.fates; waiting = is.waiting; requests = is.requests; window = is.window; rounds = is.rounds }))
     (pending h) (with_hub w h) (record { fates = refl; waiting = refl; requests = refl; window = refl; rounds = refl })
 
 pub record IsAfterEvent (w : World) (h : Hub) (new : World) : Type 0 where
@@ -82,18 +82,15 @@ step_asks at w m = step_cases (AsksFew (m ∷ []) w) at w m
     (λ tag body _. event_asks (m ∷ []) w (offer w.hub (record { tag = tag; body = body })) (omega arith))
     (λ e. event_asks (m ∷ []) w (hear_quiet w.hub) (rw e (quiet_cases (λ (h : Hub). h.status_requests ≤ w.hub.status_requests + 1) w.hub (λ _. omega arith) (λ _. omega arith))))
     (λ i bytes _. event_asks (m ∷ []) w (take_message w.hub (to_hub bytes))
-      (message_cases (λ (h : Hub). h.status_requests ≤ w.hub.status_requests + quiets (m ∷ [])) w.hub (to_hub bytes) (omega arith) (λ _. omega arith) (λ _ _ _ _. omega arith)))
+    (message_cases (λ (h : Hub). h.status_requests ≤ w.hub.status_requests + quiets (m ∷ [])) w.hub (to_hub bytes) (omega arith) (λ _. omega arith) (λ _ _ _ _. omega arith)))
     (λ i bytes _. omega arith)
 
 pub few_requests : (moves : List WorldMove) (old new : World) → Leads moves old new → new.hub.status_requests ≤ old.hub.status_requests + quiets moves
 few_requests moves old new is =
     (subst (λ (r : Result World WorldEnd). IfOk r (λ (v : World). Unit {0} × AsksFew moves old v)) is.ran
-      (run_by (λ _. Unit {0}) AsksFew (λ _. omega arith) (λ m ms a b c one two. omega (arith, one, two, quiets_cons m ms))
-        (λ at v m _ _. ok_map (step at v m) (AsksFew (m ∷ []) v) (λ (x : World). Unit {0} × AsksFew (m ∷ []) v x) (λ x few. (tt, few)) (step_asks at v m))
-        is.at old moves is.sendable tt)).1
-
-ok_is : (Q : World → Type 0) (r : Result World WorldEnd) (w : World) → r ≡ Ok w → IfOk r Q → Q w
-ok_is Q r w e is = subst (λ (x : Result World WorldEnd). IfOk x Q) e is
+    (run_by (λ _. Unit {0}) AsksFew (λ _. omega arith) (λ m ms a b c one two. omega (arith, one, two, quiets_cons m ms))
+    (λ at v m _ _. ok_map (step at v m) (AsksFew (m ∷ []) v) (λ (x : World). Unit {0} × AsksFew (m ∷ []) v x) (λ x few. (tt, few)) (step_asks at v m))
+    is.at old moves is.sendable tt)).1
 
 -- ---- a fate ends the round, or comes after all rounds
 
@@ -107,14 +104,14 @@ heard_settles : (w : World) (m : WorldMove) (at number : ℕ) → m ≡ HubHears
 heard_settles w m at number is none = step_cases (IsSettledOr w) at w m
     (λ tag body e. absurd (cc)) (λ e. absurd (cc))
     (λ i bytes _. message_cases (λ (h : Hub). IsSettledOr w (go_on w h)) w.hub (to_hub bytes)
-      (inl (no_fate w w.hub none)) (λ told. inl (no_fate w (recovered w.hub (Some told)) none)) (λ id words o _. inr ((after_event w (settle w.hub words (Some o))).requests)))
+    (inl (no_fate w w.hub none)) (λ told. inl (no_fate w (recovered w.hub (Some told)) none)) (λ id words o _. inr ((after_event w (settle w.hub words (Some o))).requests)))
     (λ i bytes e. absurd (cc))
 
 pub settled_ends : (old new : World) (at number : ℕ) → old.hub.fates ≡ [] → step at old (HubHears number) ≡ Ok new → new.fates ≢ old.fates → new.hub.status_requests ≡ 0
 settled_ends old new at number none e other = elim (ok_is (IsSettledOr old) (step at old (HubHears number)) new e (heard_settles old (HubHears number) at number refl none)) [
-    | inl same ↦ absurd (other same)
-    | inr ended ↦ ended
-  ]
+  | inl same ↦ absurd (other same)
+  | inr ended ↦ ended
+]
 
 abbrev pub IsPatientOr : World → World → Type 0
 IsPatientOr w new = (new.fates ≡ w.fates) ⊎ (w.hub.rounds ≤ w.hub.status_requests)
@@ -128,9 +125,9 @@ quiet_is_patient w m at is none = step_cases (IsPatientOr w) at w m
 pub patient_first : (moves : List WorldMove) (old last new : World) (at : ℕ) → Leads moves old last → old.hub.status_requests ≡ 0 → last.hub.fates ≡ []
     → step at last Quiet ≡ Ok new → new.fates ≢ last.fates → last.hub.rounds ≤ quiets moves
 patient_first moves old last new at is begun none e other = elim (ok_is (IsPatientOr last) (step at last Quiet) new e (quiet_is_patient last Quiet at refl none)) [
-    | inl same ↦ absurd (other same)
-    | inr late ↦ omega (arith, few_requests moves old last is)
-  ]
+  | inl same ↦ absurd (other same)
+  | inr late ↦ omega (arith, few_requests moves old last is)
+]
 
 -- ---- a body is timed out after the rounds of the hub
 
@@ -173,34 +170,34 @@ event_after rounds w h told is =
 
 give_up_after : (rounds : ℕ) (h : Hub) → AreAfter rounds h → AreAfter rounds (give_up h)
 give_up_after rounds h is = record {
-    same = is.same;
-    waiting = AllByRecursion-append (IsAfter rounds) (time_out h.rounds h.sent h.open_places h.fates) (map unsent h.queue)
+  same = is.same;
+  waiting = AllByRecursion-append (IsAfter rounds) (time_out h.rounds h.sent h.open_places h.fates) (map unsent h.queue)
       (rw (is.same) (timed_out_after rounds h.sent h.open_places h.fates is.waiting)) (unsent_after rounds h.queue);
-  }
+}
 
 settle_after : (rounds : ℕ) (h : Hub) (words : List ℕ) (o : OpenPlace) → AreAfter rounds h → AreAfter rounds (settle h words (Some o))
 settle_after rounds h words o is = record {
-    same = is.same;
-    waiting = either (AllByRecursion (IsAfter rounds)) o.waited _ _
+  same = is.same;
+  waiting = either (AllByRecursion (IsAfter rounds)) o.waited _ _
       (λ _. inserted_after rounds o.place (tag_of (at_place h.sent o.place), Replied o.place words) h.fates tt is.waiting)
       (λ _. is.waiting);
-  }
+}
 
 step_after : (rounds at : ℕ) (w : World) (m : WorldMove) → AreAllAfter rounds w → IfOk (step at w m) (AreAllAfter rounds)
 step_after rounds at w m is = step_cases (AreAllAfter rounds) at w m
     (λ tag body _. event_after rounds w (offer w.hub (record { tag = tag; body = body })) is.told (record { same = is.hub.same; waiting = is.hub.waiting }))
     (λ _. event_after rounds w (hear_quiet w.hub) is.told (quiet_cases (AreAfter rounds) w.hub (λ _. record { same = is.hub.same; waiting = is.hub.waiting }) (λ _. give_up_after rounds w.hub is.hub)))
     (λ i bytes _. event_after rounds w (take_message w.hub (to_hub bytes)) is.told
-      (message_cases (AreAfter rounds) w.hub (to_hub bytes) is.hub (λ _. record { same = is.hub.same; waiting = is.hub.waiting }) (λ id words o _. settle_after rounds w.hub words o is.hub)))
+    (message_cases (AreAfter rounds) w.hub (to_hub bytes) is.hub (λ _. record { same = is.hub.same; waiting = is.hub.waiting }) (λ id words o _. settle_after rounds w.hub words o is.hub)))
     (λ i bytes _. record { hub = is.hub; told = is.told })
 
 pub after_rounds : (window rounds : ℕ) (board : Board) (air : List Datagram) (moves : List WorldMove) (w : World) (tag place after : ℕ) → IsRun window rounds board air moves w
     → IsHandedOut w tag (TimedOut place after) → after ≡ rounds
 after_rounds window rounds board air moves w tag place after is told =
     let all = (ok_is (λ (v : World). AreAllAfter rounds v × Unit {0}) (run_moves is.leads.at (start window rounds board air) moves) w is.leads.ran
-      (run_by (AreAllAfter rounds) (λ _ _ _. Unit {0}) (λ _. tt) (λ _ _ _ _ _ _ _. tt)
-        (λ at v m _ all. ok_map (step at v m) (AreAllAfter rounds) (λ (x : World). AreAllAfter rounds x × Unit {0}) (λ x o. (o, tt)) (step_after rounds at v m all))
-        is.leads.at (start window rounds board air) moves is.leads.sendable (record { hub = record { same = refl; waiting = tt }; told = tt }))).0 in
+    (run_by (AreAllAfter rounds) (λ _ _ _. Unit {0}) (λ _. tt) (λ _ _ _ _ _ _ _. tt)
+    (λ at v m _ all. ok_map (step at v m) (AreAllAfter rounds) (λ (x : World). AreAllAfter rounds x × Unit {0}) (λ x o. (o, tt)) (step_after rounds at v m all))
+    is.leads.at (start window rounds board air) moves is.leads.sendable (record { hub = record { same = refl; waiting = tt }; told = tt }))).0 in
     all_get (IsAfter rounds) w.fates told.number (tag, TimedOut place after) all.told told.there
 
 -- ---- the price of timeouts
@@ -218,8 +215,8 @@ timed_out_few rounds sent [] fates = omega arith
 timed_out_few rounds sent (o ∷ os) fates =
     let new : ℕ × Fate = (tag_of (at_place sent o.place), TimedOut o.place rounds) in
     either (λ (fs : List (ℕ × Fate)). timeouts (time_out rounds sent os fs) ≤ timeouts fates + length (o ∷ os)) o.waited _ _
-      (λ _. omega (arith, timed_out_few rounds sent os (insert_fate o.place new fates), count_inserted timeouts timeouts_count o.place new fates))
-      (λ _. omega (arith, timed_out_few rounds sent os fates))
+    (λ _. omega (arith, timed_out_few rounds sent os (insert_fate o.place new fates), count_inserted timeouts timeouts_count o.place new fates))
+    (λ _. omega (arith, timed_out_few rounds sent os fates))
 
 unsent_none : (queue : List Offered) → timeouts (map unsent queue) ≡ 0
 unsent_none [] = refl
@@ -231,8 +228,12 @@ rising_few from past (p ∷ ps) r = omega (arith, r.0, rising_few (p + 1) past p
 
 -- there are no more open places than the window
 open_few : (w : World) → IsSound w → length w.hub.open_places ≤ w.hub.window
-open_few w is = omega (arith, is.hub.within, length-map w.hub.open_places place_of,
-    rising_few (least (places w.hub.open_places) (length w.hub.sent + 1)) (length w.hub.sent + 1) (places w.hub.open_places) is.hub.rising)
+open_few w is = omega (
+  arith,
+  is.hub.within,
+  length-map w.hub.open_places place_of,
+  rising_few (least (places w.hub.open_places) (length w.hub.sent + 1)) (length w.hub.sent + 1) (places w.hub.open_places) is.hub.rising,
+)
 
 -- what the timeouts of a world and its round have cost
 abbrev pub cost : ℕ → ℕ → ℕ → ℕ → ℕ
@@ -267,15 +268,15 @@ settle_costs : (window rounds : ℕ) (w : World) (words : List ℕ) (o : OpenPla
 settle_costs window rounds w words o =
     let new : ℕ × Fate = (tag_of (at_place w.hub.sent o.place), Replied o.place words) in
     let same : timeouts (settle w.hub words (Some o)).fates ≡ timeouts w.hub.fates =
-      either (λ (fates : List (ℕ × Fate)). timeouts fates ≡ timeouts w.hub.fates) o.waited (insert_fate o.place new w.hub.fates) w.hub.fates
-        (λ _. omega (arith, count_inserted timeouts timeouts_count o.place new w.hub.fates)) (λ _. refl) in
+    either (λ (fates : List (ℕ × Fate)). timeouts fates ≡ timeouts w.hub.fates) o.waited (insert_fate o.place new w.hub.fates) w.hub.fates
+    (λ _. omega (arith, count_inserted timeouts timeouts_count o.place new w.hub.fates)) (λ _. refl) in
     event_costs window rounds [] w (settle w.hub words (Some o)) (rw same (fewer_requests window rounds (late_of w) w.hub.status_requests))
 
 give_up_costs : (window rounds : ℕ) (w : World) → length w.hub.open_places ≤ window → rounds ≤ w.hub.status_requests → CostsFew window rounds (Quiet ∷ []) w (go_on w (give_up w.hub))
 give_up_costs window rounds w few all =
     let late = time_out w.hub.rounds w.hub.sent w.hub.open_places w.hub.fates in
     let more : timeouts w.fates + timeouts (give_up w.hub).fates ≤ late_of w + window =
-      omega (arith, few, count_append timeouts timeouts_count late (map unsent w.hub.queue), unsent_none w.hub.queue, timed_out_few w.hub.rounds w.hub.sent w.hub.open_places w.hub.fates) in
+    omega (arith, few, count_append timeouts timeouts_count late (map unsent w.hub.queue), unsent_none w.hub.queue, timed_out_few w.hub.rounds w.hub.sent w.hub.open_places w.hub.fates) in
     event_costs window rounds (Quiet ∷ []) w (give_up w.hub) (given_up window rounds (late_of w) _ w.hub.status_requests more all)
 
 same_costs : (window rounds : ℕ) (w : World) (h : Hub) → h.fates ≡ w.hub.fates → h.status_requests ≡ w.hub.status_requests → CostsFew window rounds [] w (go_on w h)
@@ -296,17 +297,17 @@ step_steady : (window rounds at : ℕ) (w : World) (m : WorldMove) → IsSteady 
 step_steady window rounds at w m is =
     let same : IsSteadyHub window rounds w.hub = (is.window_is, is.rounds_is) in
     step_cases (IsSteady window rounds) at w m
-      (λ tag body _. event_steady window rounds w (offer w.hub (record { tag = tag; body = body })) same)
-      (λ _. event_steady window rounds w (hear_quiet w.hub) (quiet_cases (IsSteadyHub window rounds) w.hub (λ _. same) (λ _. same)))
-      (λ i bytes _. event_steady window rounds w (take_message w.hub (to_hub bytes)) (message_cases (IsSteadyHub window rounds) w.hub (to_hub bytes) same (λ _. same) (λ _ _ _ _. same)))
-      (λ i bytes _. record { window_is = is.window_is; rounds_is = is.rounds_is })
+    (λ tag body _. event_steady window rounds w (offer w.hub (record { tag = tag; body = body })) same)
+    (λ _. event_steady window rounds w (hear_quiet w.hub) (quiet_cases (IsSteadyHub window rounds) w.hub (λ _. same) (λ _. same)))
+    (λ i bytes _. event_steady window rounds w (take_message w.hub (to_hub bytes)) (message_cases (IsSteadyHub window rounds) w.hub (to_hub bytes) same (λ _. same) (λ _ _ _ _. same)))
+    (λ i bytes _. record { window_is = is.window_is; rounds_is = is.rounds_is })
 
 pub run_steady : (window rounds : ℕ) (board : Board) (air : List Datagram) (moves : List WorldMove) (w : World) → IsRun window rounds board air moves w → IsSteady (min window board.buffers) rounds w
 run_steady window rounds board air moves w is =
     (ok_is (λ (v : World). IsSteady (min window board.buffers) rounds v × Unit {0}) (run_moves is.leads.at (start window rounds board air) moves) w is.leads.ran
-      (run_by (IsSteady (min window board.buffers) rounds) (λ _ _ _. Unit {0}) (λ _. tt) (λ _ _ _ _ _ _ _. tt)
-        (λ at v m _ same. ok_map (step at v m) (IsSteady (min window board.buffers) rounds) (λ (x : World). IsSteady (min window board.buffers) rounds x × Unit {0}) (λ x o. (o, tt)) (step_steady (min window board.buffers) rounds at v m same))
-        is.leads.at (start window rounds board air) moves is.leads.sendable (record { window_is = refl; rounds_is = refl }))).0
+    (run_by (IsSteady (min window board.buffers) rounds) (λ _ _ _. Unit {0}) (λ _. tt) (λ _ _ _ _ _ _ _. tt)
+    (λ at v m _ same. ok_map (step at v m) (IsSteady (min window board.buffers) rounds) (λ (x : World). IsSteady (min window board.buffers) rounds x × Unit {0}) (λ x o. (o, tt)) (step_steady (min window board.buffers) rounds at v m same))
+    is.leads.at (start window rounds board air) moves is.leads.sendable (record { window_is = refl; rounds_is = refl }))).0
 
 quiet_costs : (window rounds : ℕ) (w : World) → IsSteady window rounds w → length w.hub.open_places ≤ w.hub.window → CostsFew window rounds (Quiet ∷ []) w (go_on w (hear_quiet w.hub))
 quiet_costs window rounds w is few = quiet_cases (λ (h : Hub). CostsFew window rounds (Quiet ∷ []) w (go_on w h)) w.hub
@@ -318,7 +319,7 @@ step_costs window rounds at w m is few = step_cases (CostsFew window rounds (m �
     (λ tag body e. rw e (same_costs window rounds w (offer w.hub (record { tag = tag; body = body })) refl refl))
     (λ e. rw e (quiet_costs window rounds w is few))
     (λ i bytes e. rw e (message_cases (λ (h : Hub). CostsFew window rounds [] w (go_on w h)) w.hub (to_hub bytes)
-      (same_costs window rounds w w.hub refl refl) (λ told. same_costs window rounds w (recovered w.hub (Some told)) refl refl) (λ id words o _. settle_costs window rounds w words o)))
+    (same_costs window rounds w w.hub refl refl) (λ told. same_costs window rounds w (recovered w.hub (Some told)) refl refl) (λ id words o _. settle_costs window rounds w words o)))
     (λ i bytes e. omega arith)
 
 costs_then : (window rounds : ℕ) (m : WorldMove) (ms : List WorldMove) (a b c : World) → CostsFew window rounds (m ∷ []) a b → CostsFew window rounds ms b c → CostsFew window rounds (m ∷ ms) a c
@@ -335,14 +336,14 @@ module _ (below : Below) where
       → IfOk (run_moves at w ms) (λ (v : World). (IsSound v × IsSteady window rounds v) × CostsFew window rounds ms w v)
   run_costs window rounds at w ms can is = run_by (λ (v : World). IsSound v × IsSteady window rounds v) (CostsFew window rounds) (λ v. omega arith) (costs_then window rounds)
       (λ n v m move s. both_ok (step n v m) IsSound (IsSteady window rounds) (CostsFew window rounds (m ∷ []) v)
-        (step_holds below n v m move s.0) (step_steady window rounds n v m s.1) (step_costs window rounds n v m s.1 (open_few v s.0))) at w ms can is
+      (step_holds below n v m move s.0) (step_steady window rounds n v m s.1) (step_costs window rounds n v m s.1 (open_few v s.0))) at w ms can is
 
   pub few_timeouts : (window rounds : ℕ) (board : Board) (air : List Datagram) (moves : List WorldMove) (w : World) → IsRun window rounds board air moves w
       → (rounds + 1) * timeouts w.fates ≤ min window board.buffers * quiets moves
   few_timeouts window rounds board air moves w is =
       let n = min window board.buffers in
       let ran = (ok_is (λ (v : World). (IsSound v × IsSteady n rounds v) × CostsFew n rounds moves (start window rounds board air) v) (run_moves is.leads.at (start window rounds board air) moves) w is.leads.ran
-        (run_costs n rounds is.leads.at (start window rounds board air) moves is.leads.sendable (start_holds below window rounds board air is.begins, record { window_is = refl; rounds_is = refl }))).1 in
+      (run_costs n rounds is.leads.at (start window rounds board air) moves is.leads.sendable (start_holds below window rounds board air is.begins, record { window_is = refl; rounds_is = refl }))).1 in
       let out = ap timeouts (run_out window rounds board air moves w is).1 in
       let late : late_of w ≡ timeouts w.fates = omega (arith, out) in
       let all = ap (λ (count : ℕ). (rounds + 1) * count) late in
