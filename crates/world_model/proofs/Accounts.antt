@@ -1,12 +1,11 @@
 -- Every offered body stands once among the fates, the places that are waited for and the queue.
-use Rattle.std.proofs.Common.{◌≡◌, ℕ, zero, suc, ◌+◌, ◌-◌, ◌<◌, ◌≤◌, ◌==◌, Bool, true, false, cond, List, [], ◌∷◌, ◌++◌}
-use Rattle.std.proofs.Common.{length, map, Option, Some, None, Result, Ok, Err, refl, sym, ap, ◌∙◌, subst, arith}
-use Rattle.std.proofs.Common.{length-append, append_assoc, inl, inr, if◌then◌else◌}
-use Rattle.std.specs.Prelude.{nat_le, nat_lt, IfSome, IfOk}
-use Rattle.std.proofs.lemmas.List.{append-nil, map-append}
+use Rattle.std.proofs.Common.{◌≡◌, ℕ, zero, suc, ◌+◌, ◌≤◌, ◌==◌, Bool, true, false, cond, List, [], ◌∷◌, ◌++◌, length}
+use Rattle.std.proofs.Common.{map, Option, Some, None, Result, refl, sym, ap, ◌∙◌, subst, arith, length-append}
+use Rattle.std.specs.Prelude.{nat_lt, IfSome, IfOk}
+use Rattle.std.proofs.lemmas.List.{map-append}
 use Rattle.std.proofs.lemmas.Bool.{eqb-true, eq-eqb}
 use Rattle.std.specs.List.{AllByRecursion, slice_get}
-use Rattle.ipb_base.proofs.AllLemmas.{AllByRecursion-append, all-map}
+use Rattle.ipb_base.proofs.AllLemmas.{AllByRecursion-append}
 use Rattle.packet_ids.specs.Identifier.{identifier_at}
 use Rattle.world_model.specs.declared.datagram.Datagram.{Datagram}
 use Rattle.world_model.specs.declared.offered.Offered.{Offered}
@@ -19,17 +18,17 @@ use Rattle.world_model.specs.declared.moves.WorldEnd.{WorldEnd}
 use Rattle.world_model.specs.Places.{at_place}
 use Rattle.world_model.specs.Messages.{to_hub}
 use Rattle.world_model.specs.Board.{Board}
-use Rattle.world_model.specs.Hub.{Hub, low, want_control, offer, goes_before, insert_fate, tag_of, open_with, without}
-use Rattle.world_model.specs.Hub.{settle, recover, recovered, take_message, abandoned, time_out, unsent, want_status}
-use Rattle.world_model.specs.Hub.{give_up, hear_quiet, places, place_of}
+use Rattle.world_model.specs.Hub.{Hub, want_control, offer, goes_before, insert_fate, tag_of, open_with, without}
+use Rattle.world_model.specs.Hub.{settle, recover, take_message, abandoned, time_out, unsent, give_up, hear_quiet}
+use Rattle.world_model.specs.Hub.{places}
 use Rattle.world_model.specs.Sends.{Next, Wanted, after_open, wanted, opened, next_send, pending}
-use Rattle.world_model.specs.World.{World, sent_into, flush, handed_out, with_hub, go_on, board_hears, step, run_moves}
-use Rattle.world_model.specs.World.{start}
+use Rattle.world_model.specs.World.{World, sent_into, flush, handed_out, with_hub, go_on, step, run_moves, start}
 use Rattle.world_model.specs.History.{IsMove, IsRun, IsHandedOut, IsAccounted, IsOffered, offers, times, tag_of_offered}
 use Rattle.world_model.specs.History.{tag_of_fate, waited_tags, placed_tags}
+use Rattle.world_model.proofs.Hubs.{places_map}
 use Rattle.world_model.proofs.Lists.{either, at_front, at_exists, at_seam, all_get}
 use Rattle.world_model.proofs.Flushing.{send_cases, flush_keeps, message_cases, quiet_cases, step_cases, run_by, ok_map}
-use Rattle.world_model.proofs.Flushing.{IsOut, run_out}
+use Rattle.world_model.proofs.Flushing.{run_out}
 
 -- ---- how often a number stands in a list
 
@@ -258,12 +257,6 @@ unsent_unplaced : (queue : List Offered) → placed_tags (map unsent queue) ≡ 
 unsent_unplaced [] = refl
 unsent_unplaced (o ∷ os) = unsent_unplaced os
 
-places_same : (f : OpenPlace → OpenPlace) (os : List OpenPlace) → ((o : OpenPlace) → (f o).place ≡ o.place)
-    → places (map f os) ≡ places os
-places_same f [] same = refl
-places_same f (o ∷ os) same = ap (λ (p : ℕ). p ∷ places (map f os)) (same o)
-    ∙ ap (λ (ps : List ℕ). o.place ∷ ps) (places_same f os same)
-
 -- ---- the account of a hub and of the fates that were handed out
 
 pub record IsBalanced (tag offered : ℕ) (told : List (ℕ × Fate)) (h : Hub) : Type 0 where
@@ -313,8 +306,7 @@ settle_balanced tag offered told h id words o e is =
       status_requests = 0;
       fates = cond b (insert_fate o.place new h.fates) h.fates;
     }) =
-    λ b. elim b as (λ (x : Bool). waits tag h.sent h.open_places ≡ cond x
-    (times tag (t ∷ [])) 0 + waits tag h.sent gone
+    λ b. elim b as (λ (x : Bool). waits tag h.sent h.open_places ≡ cond x (times tag (t ∷ [])) 0 + waits tag h.sent gone
     → IsBalanced tag offered told (record h {
       open_places = gone;
       status_requests = 0;
@@ -323,13 +315,7 @@ settle_balanced tag offered told h id words o e is =
       | true ↦ λ k. record {
         up_to = all_without (λ (p : ℕ). p ≤ length h.sent) o.place h.open_places is.up_to;
         all = omega (arith, is.all, k, count_inserted (tagged_fates tag) (tagged_count tag) o.place new h.fates);
-        placed = omega (
-          arith,
-          is.placed,
-          k,
-          count_inserted (placed_fates tag)
-              (placed_count tag) o.place new h.fates,
-        );
+        placed = omega (arith, is.placed, k, count_inserted (placed_fates tag) (placed_count tag) o.place new h.fates);
       }
       | false ↦ λ k. record {
         up_to = all_without (λ (p : ℕ). p ≤ length h.sent) o.place h.open_places is.up_to;
@@ -351,7 +337,7 @@ give_up_balanced : (tag offered : ℕ) (told : List (ℕ × Fate)) (h : Hub) →
 give_up_balanced tag offered told h is =
     let late = time_out h.rounds h.sent h.open_places h.fates in
     let none = ap (times tag) (none_waited h.sent h.open_places) in
-    let same = places_same abandoned h.open_places (λ _. refl) in
+    let same = places_map abandoned h.open_places (λ _. refl) in
     record {
       up_to = subst (AreUpTo (length h.sent)) (sym same) is.up_to;
       all = omega (
@@ -366,8 +352,7 @@ give_up_balanced tag offered told h is =
         arith,
         is.placed,
         none,
-        count_append (placed_fates tag) (placed_count tag) late
-            (map unsent h.queue),
+        count_append (placed_fates tag) (placed_count tag) late (map unsent h.queue),
         ap (times tag) (unsent_unplaced h.queue),
         time_out_count (placed_fates tag) tag h.rounds (placed_count tag) (λ _ _. refl) h.sent h.open_places h.fates,
       );

@@ -1,7 +1,6 @@
 -- Each send leaves fewer sends pending, and at the end of them there is none to send.
-use Rattle.std.proofs.Common.{◌≡◌, ℕ, zero, suc, ◌+◌, ◌-◌, ◌<◌, ◌≤◌, Bool, true, false, cond, List, [], ◌∷◌, ◌++◌}
-use Rattle.std.proofs.Common.{length, Option, Some, None, refl, sym, ap, ◌∙◌, subst, arith, length-append, append_assoc}
-use Rattle.std.proofs.Common.{if◌then◌else◌}
+use Rattle.std.proofs.Common.{◌≡◌, ℕ, zero, suc, ◌+◌, ◌<◌, ◌≤◌, true, false, cond, List, [], ◌∷◌, ◌++◌, length, Option}
+use Rattle.std.proofs.Common.{Some, None, refl, sym, ap, ◌∙◌, subst, arith}
 use Rattle.std.specs.Prelude.{nat_le, nat_lt, IfSome, IfOk, Result, Ok, Err}
 use Rattle.std.proofs.lemmas.Bool.{leb-true, ltb-true, ltb-false}
 use Rattle.std.specs.List.{AllByRecursion, slice_get}
@@ -21,8 +20,8 @@ use Rattle.world_model.specs.Hub.{Hub, low, offer, open_with, settle, recovered,
 use Rattle.world_model.specs.Hub.{give_up, hear_quiet, is_waiting}
 use Rattle.world_model.specs.Sends.{Next, Wanted, after_open, wanted, opened, first_send, wanted_or_first, next_send}
 use Rattle.world_model.specs.Sends.{pending, wishes}
-use Rattle.world_model.specs.World.{World, sent_into, flush_on, flush, handed_out, with_hub, go_on, taken, hub_hears}
-use Rattle.world_model.specs.World.{board_hears, when_taken, step, moves_on, run_moves, start}
+use Rattle.world_model.specs.World.{World, sent_into, flush_on, flush, with_hub, go_on, taken, hub_hears, board_hears}
+use Rattle.world_model.specs.World.{when_taken, step, moves_on, run_moves, start}
 use Rattle.world_model.specs.History.{IsMove, IsRun}
 use Rattle.world_model.proofs.Lists.{either}
 
@@ -131,10 +130,6 @@ flush_sends_all (suc most) w few = last_of_flush most w (next_send w.hub) refl (
 
 -- ---- what a send can be
 
-pub ok_map : (r : Result World WorldEnd) (P Q : World → Type 0) → ((w : World) → P w → Q w) → IfOk r P → IfOk r Q
-ok_map (Ok w) P Q f is = f w is
-ok_map (Err e) P Q f is = tt
-
 pub send_cases : (Q : Next → Type 0) (h : Hub) → Q (record
     { send = sends.Status; hub = record h { status_wanted = false } })
     → ((w : Wanted) → wanted h.first h.open_places ≡ Some w
@@ -208,6 +203,13 @@ quiet_cases Q h more last = either Q (nat_lt h.status_requests h.rounds) (want_s
     (λ e. more (ltb-true _ _ e)) (λ e. last (ltb-false _ _ e))
 
 -- ---- moves
+
+pub ok_map : (r : Result World WorldEnd) (P Q : World → Type 0) → ((w : World) → P w → Q w) → IfOk r P → IfOk r Q
+ok_map (Ok w) P Q f is = f w is
+ok_map (Err e) P Q f is = tt
+
+pub ok_is : (Q : World → Type 0) (r : Result World WorldEnd) (w : World) → r ≡ Ok w → IfOk r Q → Q w
+ok_is Q r w e is = subst (λ (x : Result World WorldEnd). IfOk x Q) e is
 
 pub taken_by : (Q : World → Type 0) (r : Result (List ℕ) WorldEnd) (hears : List ℕ → World)
     → ((bytes : List ℕ) → Q (hears bytes)) → IfOk (when_taken r hears) Q

@@ -41,14 +41,15 @@ use Rattle.world_model.proofs.Readings.{control_read, request_read, resend_read}
 use Rattle.world_model.proofs.Boards.{air_grows, fates_grow, replies_length}
 use Rattle.world_model.specs.Below.{Below}
 
+-- a change of open places that leaves their places
+pub places_map : (f : OpenPlace → OpenPlace) (os : List OpenPlace) → ((o : OpenPlace) → (f o).place ≡ o.place)
+    → places (map f os) ≡ places os
+places_map f [] same = refl
+places_map f (o ∷ os) same = ap (λ (p : ℕ). p ∷ places (map f os)) (same o)
+    ∙ ap (λ (ps : List ℕ). o.place ∷ ps) (places_map f os same)
+
 module _ (below : Below) where
   -- ---- places under the hub's events
-
-  pub places_map : (f : OpenPlace → OpenPlace) (os : List OpenPlace) → ((o : OpenPlace) → (f o).place ≡ o.place)
-      → places (map f os) ≡ places os
-  places_map f [] same = refl
-  places_map f (o ∷ os) same = ap (λ (p : ℕ). p ∷ places (map f os)) (same o)
-      ∙ ap (λ (ps : List ℕ). o.place ∷ ps) (places_map f os same)
 
   pub places_without : (place : ℕ) (os : List OpenPlace) → places (without place os) ≡ less place (places os)
   places_without place [] = refl

@@ -1,11 +1,10 @@
 -- A hub whose sends wait: an offer, a send and the handing out of fates keep what the state will be, and a move makes
 -- the next.
-use Rattle.std.proofs.Common.{◌≡◌, ℕ, zero, suc, ◌+◌, ◌<◌, ◌≤◌, Bool, true, false, cond, List, [], ◌∷◌, ◌++◌, length}
-use Rattle.std.proofs.Common.{map, Option, Some, None, Result, Ok, Err, refl, sym, ap, ◌∙◌, subst, arith, length-append}
-use Rattle.std.proofs.Common.{append_assoc, if◌then◌else◌}
-use Rattle.std.specs.Prelude.{nat_le, nat_lt, IfSome, IfOk}
+use Rattle.std.proofs.Common.{◌≡◌, ℕ, zero, suc, ◌+◌, ◌≤◌, Bool, true, false, cond, List, [], ◌∷◌, ◌++◌, length, map}
+use Rattle.std.proofs.Common.{Option, Some, None, Result, Ok, Err, refl, sym, ap, ◌∙◌, subst, arith}
+use Rattle.std.specs.Prelude.{nat_le, IfSome, IfOk}
 use Rattle.std.proofs.lemmas.List.{append-nil}
-use Rattle.std.specs.List.{AllByRecursion, slice_get}
+use Rattle.std.specs.List.{slice_get}
 use Rattle.ipb_base.proofs.AllLemmas.{AllByRecursion-append}
 use Rattle.packet_ids.specs.Identifier.{identifier_at}
 use Rattle.world_model.specs.declared.datagram.Datagram.{Datagram}
@@ -21,8 +20,7 @@ use Rattle.world_model.specs.declared.moves.WorldMove.TheVariants.{Offer, Quiet,
 use Rattle.world_model.specs.declared.moves.WorldEnd.{WorldEnd}
 use Rattle.world_model.specs.declared.moves.WorldEnd.TheVariants.{NotThere, TooOld}
 use Rattle.world_model.specs.Messages.{to_hub}
-use Rattle.world_model.specs.Hub.{Hub, low, want_control, offer, abandoned, settle, recovered, take_message}
-use Rattle.world_model.specs.Hub.{want_status, give_up, hear_quiet, is_waiting}
+use Rattle.world_model.specs.Hub.{Hub, low, want_control, offer, take_message, hear_quiet, is_waiting}
 use Rattle.world_model.specs.Sends.{Next, Wanted, after_open, wanted, opened, first_send, wanted_or_first, next_send}
 use Rattle.world_model.specs.Sends.{pending, wishes, bytes_to_send}
 use Rattle.world_model.specs.Air.{is_alive, goes_to}
@@ -32,9 +30,9 @@ use Rattle.world_model.specs.Facts.{IsSendable}
 use Rattle.world_model.specs.History.{IsMove}
 use Rattle.world_model.specs.Lanes.{IsState, caught_up, IsLaneState}
 use Rattle.world_model.proofs.Lists.{either}
-use Rattle.world_model.proofs.Flushing.{Falls, send_falls, some_falls, same_flush, flush_step, flush_end, send_cases}
-use Rattle.world_model.proofs.Flushing.{flush_keeps, message_cases, quiet_cases, step_cases, ok_map, with_fates}
-use Rattle.world_model.proofs.Flushing.{ToldAlike, send_told, IsOut, step_out}
+use Rattle.world_model.proofs.Flushing.{Falls, send_falls, some_falls, flush_step, flush_end, send_cases, flush_keeps}
+use Rattle.world_model.proofs.Flushing.{message_cases, quiet_cases, step_cases, ok_is, with_fates, ToldAlike, send_told}
+use Rattle.world_model.proofs.Flushing.{IsOut, step_out}
 
 -- ---- an offer, and the sends before it
 
@@ -105,8 +103,7 @@ sent_alike : (w : World) (o : Offered) (n : Next) → sent_into (with_queued o w
     (record { send = n.send; hub = queued n.hub o }) ≡ with_queued o (sent_into w n)
 sent_alike w o n = ap (λ (bytes : List ℕ). record w {
   hub = queued n.hub o;
-  air = w.air ++ record { direction = goes.ToBoard; bytes = bytes; birth = length n.hub.sent } ∷
-      [];
+  air = w.air ++ record { direction = goes.ToBoard; bytes = bytes; birth = length n.hub.sent } ∷ [];
 }) (bytes_alike n.hub o n.send)
 
 later_case : (most : ℕ) (w : World) (o : Offered) (r : Option Next) → next_send w.hub ≡ r → Falls w.hub r
@@ -140,11 +137,7 @@ sent_told : (kept told : List (ℕ × Fate)) (w : World) (n : Next)
     (sent_into w n)
 sent_told kept told w n = ap (λ (bytes : List ℕ). record w {
   hub = with_fates kept n.hub;
-  air = w.air ++ record {
-    direction = goes.ToBoard;
-    bytes = bytes;
-    birth = length n.hub.sent;
-  } ∷ [];
+  air = w.air ++ record { direction = goes.ToBoard; bytes = bytes; birth = length n.hub.sent } ∷ [];
   fates = told;
 }) (bytes_told kept n.hub n.send)
 
@@ -352,9 +345,6 @@ step_empty at w m is = step_cases (λ (v : World). EmptyOnceGivenUp v.hub) at w 
     (λ i bytes _. go_on_empty w (take_message w.hub (to_hub bytes))
     (message_cases EmptyOnceGivenUp w.hub (to_hub bytes) is (λ _. is) (λ _ _ _ _. is)))
     (λ i bytes _. is)
-
-ok_is : (Q : World → Type 0) (r : Result World WorldEnd) (w : World) → r ≡ Ok w → IfOk r Q → Q w
-ok_is Q r w e is = subst (λ (x : Result World WorldEnd). IfOk x Q) e is
 
 pub moved_waits : (begin w new : World) (at : ℕ) (m : WorldMove) → IsMove m → IsLaneState begin w
     → next_send w.hub ≡ None → w.hub.fates ≡ [] → step at w m ≡ Ok new → IsLaneState begin new
