@@ -1,5 +1,5 @@
 -- Words and their bytes in both orders.
-use Rattle.std.proofs.Common.{◌≡◌, ℕ, zero, suc, ◌+◌, ◌*◌, ◌/◌, ◌%◌, ◌<◌, ◌^◌, List, [], ◌∷◌, length, get_or, take}
+use Rattle.std.proofs.Common.{◌≡◌, ℕ, zero, suc, ◌+◌, ◌*◌, ◌/◌, ◌%◌, ◌<◌, ◌^◌, List, [], ◌∷◌, length, get_or, take, lit<}
 use Rattle.std.proofs.Common.{drop, map, refl, ap, ◌∙◌, inl, inr, arith, take-append-drop}
 use Rattle.std.specs.Simd.{first_chunks}
 use Rattle.std.proofs.lemmas.Bool.{cases_lt}
@@ -9,12 +9,17 @@ use Rattle.std.proofs.lemmas.Nat.{be_bytes_4, le_bytes_4, from_be_bytes-to_be_by
 use Rattle.ipb_base.specs.Word.{AreWords}
 use Rattle.packet_codec.specs.declared.packet.Order.{Order}
 use Rattle.packet_codec.specs.declared.packet.Order.TheVariants.{Big, Little}
-use Rattle.packet_codec.specs.Packet.{in_order, word_in_order}
+use Rattle.packet_codec.specs.Packet.{AreBytes, in_order, word_in_order}
 use Rattle.packet_codec.specs.Reading.{word_from, words_of}
 
 -- each item is a byte
 abbrev pub IsBytes : List ℕ → Type 0
 IsBytes bytes = (i : ℕ) → get_or bytes i 0 < 256
+
+pub are_bytes : (bytes : List ℕ) → AreBytes bytes → IsBytes bytes
+are_bytes [] fits i = lit< tt
+are_bytes (byte ∷ bytes) fits zero = omega (arith, fits.0)
+are_bytes (byte ∷ bytes) fits (suc i) = are_bytes bytes fits.1 i
 
 pub IsBytes-drop : (n : ℕ) (bytes : List ℕ) → IsBytes bytes → IsBytes (drop n bytes)
 IsBytes-drop n bytes fits i = rw get_or-drop (fits (n + i))

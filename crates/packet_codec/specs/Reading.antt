@@ -1,5 +1,5 @@
--- How the code reads a packet: a function on lists, step by step. The private functions speak of it and no public
--- clause does; what a packet is, and what is wrong with bytes that are none, is in Packet.antt and Faults.antt.
+-- Reading a packet: a function on lists, step by step, for definitions that go on from what bytes spell. That it is the
+-- grammar of Packet.antt, both ways, is the law `reading_is_the_grammar`.
 use Rattle.std.specs.Prelude.{ℕ, zero, suc, ◌*◌, ◌/◌, ◌%◌, ◌^◌, ◌&&◌, ◌==◌, nat_lt, if◌then◌else◌}
 use Rattle.std.specs.Prelude.{List, length, map, take, drop}
 use Rattle.std.specs.Prelude.{Option, Some, None, Result, Ok, Err, ◌≡◌, ◌⊎◌, IsOk, MatchResult}
