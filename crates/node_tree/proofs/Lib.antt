@@ -15,7 +15,10 @@ pub mod Compiled
 pub mod DottedLemmas
 pub mod OverlapLemmas
 pub mod PairLemmas
-pub mod SweepLemmas
+pub mod NotingLemmas
+pub mod EventLemmas
+pub mod SettlingLemmas
+pub mod TimelineLemmas
 pub mod RepeatLemmas
 pub mod SiblingLemmas
 pub mod Places

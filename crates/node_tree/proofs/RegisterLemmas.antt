@@ -28,7 +28,7 @@ names-fit tables valid ms above base name r are (later n ns above' base' name' r
     let (here, below, others) = parts (n ∷ ns) are in
     names-fit tables valid ns above' base' name' r' others named
 
-some_words : (mode : Mode) (size : ℕ) → 1 ≤ size → 1 ≤ words_of mode size
+pub some_words : (mode : Mode) (size : ℕ) → 1 ≤ size → 1 ≤ words_of mode size
 some_words Single size h = omega arith
 some_words Block size h = h
 some_words Port size h = omega arith
