@@ -49,8 +49,7 @@ takes payload part op =
     nat_lt (length (body_words (part ++ op ∷ []))) payload && nat_lt (longest_reply (part ++ op ∷ [])) payload
 
 -- pieces dealt out to bodies, of which the first has these already: it takes each next piece, and where it does not,
--- the
--- next body begins with that piece
+-- the next body begins with that piece
 abbrev pub parts_from : ℕ → List Op → List Op → List (List Op)
 parts_from payload part [] = part ∷ []
 parts_from payload part (op ∷ ops) =

@@ -59,7 +59,8 @@ fault_of : (request : Request) (reply : Reply) → IsFailed request reply → an
 fault_of request reply failed =
     let other = fault_is_no_success request reply failed in
     let test : reply.code == 0 ≡ false = not_zero reply.code other in
-    ap (λ b. if not b then Fault reply.code reply.count else if is_write reply.kind then Done else Values reply.values) test
+    ap (λ b. if not b then Fault reply.code reply.count else if is_write reply.kind then Done else Values
+    reply.values) test
 
 failed_is : (request : Request) (reply : Reply) → IsFailed request reply → IsAnswerTo request (answer_of reply)
 failed_is request reply failed =
@@ -67,13 +68,15 @@ failed_is request reply failed =
 
 -- ---- an answer that is done is no fault and not skipped
 
-no_fault : (request : Request) (reply : Reply) (code after : ℕ) → IsDone request reply → answer_of reply ≡ Fault code after → ⊥
+no_fault : (request : Request) (reply : Reply) (code after : ℕ) → IsDone request reply → answer_of reply
+    ≡ Fault code after → ⊥
 no_fault request reply code after done same =
     by_test (is_write reply.kind) reply.values code after
     (sym (ap (λ c. answer_with c reply.kind reply.count reply.values) done.code) ∙ same)
 
 not_skipped : (reply : Reply) → answer_of reply ≡ Skipped → ⊥
-not_skipped reply same = never_skipped (not (reply.code == 0)) (is_write reply.kind) reply.code reply.count reply.values same
+not_skipped reply same = never_skipped (not (reply.code == 0)) (is_write reply.kind) reply.code reply.count
+    reply.values same
 
 -- ---- lists of answers
 
@@ -152,7 +155,8 @@ behind_first answers answer code after place is = record {
 skipped_is : (requests : List Request) (replies : List Reply) (i : ℕ) → Answers requests [] replies
     → slice_get (answers_to requests replies) i ≡ Some Skipped → IsBehindFault (answers_to requests replies) i
 skipped_is [] replies i goes here =
-    absurd (let none : slice_get (answers_to [] replies) i ≡ None = ap (λ rs. slice_get (answers_to [] rs) i) goes in cc)
+    absurd (let none : slice_get (answers_to [] replies) i ≡ None = ap (λ rs. slice_get (answers_to [] rs) i) goes in
+    cc)
 skipped_is (first ∷ requests) [] i goes here = absurd goes
 skipped_is (first ∷ requests) (reply ∷ replies) zero goes here =
     let same = some_is (answer_of reply) Skipped
@@ -161,7 +165,8 @@ skipped_is (first ∷ requests) (reply ∷ replies) zero goes here =
 skipped_is (first ∷ requests) (reply ∷ replies) (suc i) (inl done) here =
     let more = answers_more first reply requests replies in
     let later = skipped_is requests replies i done.1 (sym (ap (λ xs. slice_get xs (suc i)) more) ∙ here) in
-    subst (λ xs. IsBehindFault xs (suc i)) (sym more) (behind_more (answers_to requests replies) (answer_of reply) i later)
+    subst (λ xs. IsBehindFault xs (suc i)) (sym more) (behind_more (answers_to requests replies) (answer_of reply) i
+    later)
 skipped_is (first ∷ requests) (reply ∷ replies) (suc i) (inr failed) here =
     let more = answers_more first reply requests replies in
     subst (λ xs. IsBehindFault xs (suc i)) (sym more)
@@ -173,7 +178,8 @@ behind_is : (requests : List Request) (replies : List Reply) (i j code after : �
     → Answers requests [] replies → j < i → slice_get (answers_to requests replies) j ≡ Some (Fault code after)
     → slice_get (answers_to requests replies) i ≡ Some answer → answer ≡ Skipped
 behind_is [] replies i j code after answer goes less fault here =
-    absurd (let none : slice_get (answers_to [] replies) i ≡ None = ap (λ rs. slice_get (answers_to [] rs) i) goes in cc)
+    absurd (let none : slice_get (answers_to [] replies) i ≡ None = ap (λ rs. slice_get (answers_to [] rs) i) goes in
+    cc)
 behind_is (first ∷ requests) [] i j code after answer goes less fault here = absurd goes
 behind_is (first ∷ requests) (reply ∷ replies) zero j code after answer goes less fault here = absurd (omega arith)
 behind_is (first ∷ requests) (reply ∷ replies) (suc i) zero code after answer (inl done) less fault here =
@@ -188,7 +194,8 @@ behind_is (first ∷ requests) (reply ∷ replies) (suc i) j code after answer (
     skipped_at (length requests) i answer
     (sym (ap (λ xs. slice_get xs (suc i)) (failed_more first reply requests replies failed.1)) ∙ here)
 
-pub skipped_behind : (body reply : List ℕ) (answers : List Answer) (i : ℕ) (answer : Answer) → IsJoined body reply answers
+pub skipped_behind : (body reply : List ℕ) (answers : List Answer) (i : ℕ) (answer : Answer) → IsJoined body reply
+    answers
     → slice_get answers i ≡ Some answer → answer ≡ Skipped → IsBehindFault answers i
 skipped_behind body reply answers i answer joined here skipped =
     let is = joined.0 in
@@ -196,7 +203,8 @@ skipped_behind body reply answers i answer joined here skipped =
     sym (ap (λ xs. slice_get xs i) joined.1) ∙ here ∙ ap (λ x. Some x) skipped in
     subst (λ xs. IsBehindFault xs i) (sym joined.1) (skipped_is is.requests is.replies i is.answers there)
 
-pub behind_skipped : (body reply : List ℕ) (answers : List Answer) (i : ℕ) (answer : Answer) → IsJoined body reply answers
+pub behind_skipped : (body reply : List ℕ) (answers : List Answer) (i : ℕ) (answer : Answer) → IsJoined body reply
+    answers
     → slice_get answers i ≡ Some answer → IsBehindFault answers i → answer ≡ Skipped
 behind_skipped body reply answers i answer joined here behind =
     let is = joined.0 in

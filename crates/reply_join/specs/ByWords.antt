@@ -1,5 +1,5 @@
--- The answers of a reply as a function of the body's words and the reply's: both are read, and the answers are given where
--- the replies answer the requests. Profile.
+-- The answers of a reply as a function of the body's words and the reply's: both are read, and the answers are given
+-- where the replies answer the requests. Profile.
 use Rattle.std.specs.Prelude.{ℕ, zero, suc, Bool, true, false, ◌==◌, ◌&&◌, ◌||◌, nat_lt, nat_le, if◌then◌else◌}
 use Rattle.std.specs.Prelude.{List, [], ◌∷◌, length, Option, Some, None, option_map, option_and_then, Result, Ok, Err}
 use Rattle.transaction_codec.specs.declared.request.Op.{Op}

@@ -1,7 +1,7 @@
 -- What a reply answers to the requests of a body. IPbus 2.0, transactions; that the first fault ends a packet is the
 -- profile's.
-use Rattle.std.specs.Prelude.{◌≡◌, ℕ, ◌-◌, ◌<◌, ◌==◌, true, false, not, if◌then◌else◌, List, ◌++◌, length, map, replicate}
-use Rattle.std.specs.Prelude.{Some, slice_get}
+use Rattle.std.specs.Prelude.{◌≡◌, ℕ, ◌-◌, ◌<◌, ◌==◌, true, false, not, if◌then◌else◌}
+use Rattle.std.specs.Prelude.{List, ◌++◌, length, map, replicate, Some, slice_get}
 use Rattle.transaction_codec.specs.declared.request.Request.{Request}
 use Rattle.transaction_codec.specs.declared.reply.Reply.{Reply}
 use Rattle.transaction_codec.specs.declared.info_code.TheConstants.{SUCCESS}
@@ -26,8 +26,8 @@ answers_to requests replies = map answer_of replies ++ replicate (length request
 abbrev pub IsJoined : List ℕ → List ℕ → List Answer → Type 0
 IsJoined body reply answers = (is : IsReplyTo body reply) × (answers ≡ answers_to is.requests is.replies)
 
--- The answer is one to the request: values, as many words as were asked for, to a read or an RMW; that it was done, to a
--- write; a fault with the words done before it; or that it was skipped.
+-- The answer is one to the request: values, as many words as were asked for, to a read or an RMW; that it was done,
+-- to a write; a fault with the words done before it; or that it was skipped.
 abbrev pub IsAnswerTo : Request → Answer → Type 0
 IsAnswerTo request (Values values) = (is_write (op_kind request.op) ≡ false) × (length values ≡ op_count request.op)
 IsAnswerTo request Done = is_write (op_kind request.op) ≡ true

@@ -32,8 +32,8 @@ pub fn each_request_has_one_answer()
         length (answers_to is.requests is.replies) ≡ length is.requests }
 {}
 
-/// Answer i of a reply is one to request i, whatever requests the body spells: values for a read or an RMW, as many as it
-/// asked for, that a write was done, a fault that it can have, or that it was skipped.
+/// Answer i of a reply is one to request i, whatever requests the body spells: values for a read or an RMW, as many as
+/// it asked for, that a write was done, a fault that it can have, or that it was skipped.
 pub fn each_answer_is_that_of_its_request()
     ensures { (body reply : List ℕ) (answers : List OneAnswer) (requests : List Request)
         (i : ℕ) (request : Request) (answer : OneAnswer) → IsJoined body reply answers →
