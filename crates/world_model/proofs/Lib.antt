@@ -14,3 +14,4 @@ mod Flushing
 mod Waiting
 mod Accounts
 mod Patience
+mod Bodies

@@ -41,7 +41,7 @@ use Rattle.world_model.specs.Places.{at_place}
 use Rattle.world_model.specs.Messages.{ToBoard as MessageToBoard, ToHub as MessageToHub, StatusRequest, ResendRequest}
 use Rattle.world_model.specs.Messages.{ControlPacket, StatusReply, Reply, to_board, to_hub}
 use Rattle.world_model.specs.Board.{Board, executed, replies}
-use Rattle.world_model.specs.Hub.{least, places}
+use Rattle.world_model.specs.Hub.{Hub, least, places}
 use Rattle.world_model.specs.World.{World}
 
 -- the greatest window, and the most buffers of a board
@@ -64,6 +64,12 @@ bodies_of sent = map offered_body sent
 
 abbrev pub AreSendable : List Offered → Type 0
 AreSendable offers = AllByRecursion (λ (offered : Offered). IsSendable offered.body) offers
+
+-- no more bodies than these, sent and queued, and each has a spelling
+pub record HasBodies (most : ℕ) (hub : Hub) : Type 0 where
+  pub few : length hub.sent + length hub.queue ≤ most
+  pub sent : AreSendable hub.sent
+  pub queue : AreSendable hub.queue
 
 -- they rise, from `from` on and below `past`
 abbrev pub AreRising : ℕ → ℕ → List ℕ → Type 0

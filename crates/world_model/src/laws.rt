@@ -5,3 +5,4 @@ pub mod history;
 pub mod lanes;
 pub mod links;
 pub mod reading;
+pub mod sends;
