@@ -1,15 +1,18 @@
 -- The rules that a node keeps, in the order in which they are judged. Profile; the modes and what they take are uHAL's.
-use Rattle.std.specs.Prelude.{ℕ, Bool, true, false, not, ◌&&◌, ◌||◌, ◌==◌, if◌then◌else◌, List, [], ◌∷◌, length, codes, Option, Some, None, is_some}
+use Rattle.std.specs.Prelude.{ℕ, Bool, true, false, not, ◌&&◌, ◌||◌, ◌==◌, if◌then◌else◌, List, [], ◌∷◌, length}
+use Rattle.std.specs.Prelude.{codes, Option, Some, None, is_some}
 use Rattle.std.specs.List.{list_all}
 use Rattle.std.specs.Option.{option_map_or}
 use Rattle.toml.specs.Data.{Data, table, Members, get_member}
 use Rattle.address_table.specs.Numbers.{is_between}
-use Rattle.address_table.specs.Keys.{has_node_keys, text_at, address_at, mask_at, size_at, permission_at, mode_at, nodes_at}
+use Rattle.address_table.specs.Keys.{has_node_keys, text_at, address_at, mask_at, size_at, permission_at, mode_at}
+use Rattle.address_table.specs.Keys.{nodes_at}
 use Rattle.address_table.specs.Limits.{longest_id, most_words}
 use Rattle.address_table.specs.declared.kinds.Mode.{Mode}
 use Rattle.address_table.specs.declared.kinds.Mode.TheVariants.{Single, Block, Port, Hierarchical}
 use Rattle.address_table.specs.declared.refusal.TableWhy.{TableWhy}
-use Rattle.address_table.specs.declared.refusal.TableWhy.TheVariants.{Shape, UnknownKey, MissingId, BadId, BadNumber, BadMask, BadPermission, BadMode, BadSize}
+use Rattle.address_table.specs.declared.refusal.TableWhy.TheVariants.{Shape, UnknownKey, MissingId, BadId, BadNumber}
+use Rattle.address_table.specs.declared.refusal.TableWhy.TheVariants.{BadMask, BadPermission, BadMode, BadSize}
 
 -- a letter, a digit, `_` or `-`
 abbrev pub is_id_byte : ℕ → Bool
@@ -35,7 +38,8 @@ has_texts ms =
 
 -- each key that has a text or an array has one, and `module` does not stand beside `nodes`
 unfoldable pub has_shape : Members → Bool
-has_shape ms = (has_texts ms && is_some (nodes_at ms)) && not (has_key (codes "module") ms && has_key (codes "nodes") ms)
+has_shape ms =
+    (has_texts ms && is_some (nodes_at ms)) && not (has_key (codes "module") ms && has_key (codes "nodes") ms)
 
 abbrev pub has_numbers : Members → Bool
 has_numbers ms = (is_some (address_at ms) && is_some (mask_at ms)) && is_some (size_at ms)

@@ -24,7 +24,11 @@ pub record IsValidNode (n : Node) : Type 0 where
 -- nodes that are valid with all that is below them
 pub data AreValid : List Node → Type 0 where
   no_nodes : AreValid []
-  and_node : (n : Node) (ns : List Node) → IsValidNode n → AreValid (out-Node n).nodes.items → AreValid ns → AreValid (n ∷ ns)
+  and_node : (n : Node) (ns : List Node)
+      → IsValidNode n
+      → AreValid (out-Node n).nodes.items
+      → AreValid ns
+      → AreValid (n ∷ ns)
 
 -- a table of such nodes
 abbrev pub IsValid : Table → Type 0

@@ -89,8 +89,10 @@ pub fn first_rule_is_told()
     ensures shape_first { let id = key_with (codes "id") (boolean true) in
         let unknown = key_with (codes "xyz") (boolean true) in
         node_fault (node_with (id ∷ unknown ∷ [])) ≡ Some Shape }
-    ensures unknown_key_before_missing_id { node_fault (node_with (key_with (codes "xyz") (boolean true) ∷ [])) ≡ Some UnknownKey }
-    ensures missing_id_before_bad_mode { node_fault (node_with (says (codes "mode") (codes "fifo") ∷ [])) ≡ Some MissingId }
+    ensures unknown_key_before_missing_id { let unknown = key_with (codes "xyz") (boolean true) in
+        node_fault (node_with (unknown ∷ [])) ≡ Some UnknownKey }
+    ensures missing_id_before_bad_mode { let mode = says (codes "mode") (codes "fifo") in
+        node_fault (node_with (mode ∷ [])) ≡ Some MissingId }
     ensures partial_mask_on_a_port { let id = says (codes "id") (codes "x") in
         let mask = says (codes "mask") (codes "0xff") in
         node_fault (node_with (id ∷ mask ∷ says (codes "mode") (codes "port") ∷ [])) ≡ Some BadMode }

@@ -1,5 +1,7 @@
 -- What the search for overlaps keeps. No public clause speaks of it. Profile.
-use Rattle.std.specs.Prelude.{◌≡◌, ◌⊎◌, ℕ, ◌+◌, ◌<◌, ◌≤◌, ◌^◌, List, [], ◌∷◌, ◌++◌, Bool, true, false, nat_lt, nat_eq, if◌then◌else◌, length, slice_get, slice_index, slice_set, bit_and, min, Option, Some, None}
+use Rattle.std.specs.Prelude.{◌≡◌, ◌⊎◌, ℕ, ◌+◌, ◌<◌, ◌≤◌, ◌^◌, List, [], ◌∷◌, ◌++◌, Bool, true, false, nat_lt, nat_eq}
+use Rattle.std.specs.Prelude.{if◌then◌else◌, length, slice_get, slice_index, slice_set, bit_and, min, Option, Some}
+use Rattle.std.specs.Prelude.{None}
 use Rattle.std.specs.List.{Contains, starts_with}
 use Rattle.std.specs.Int.{bit_at}
 use Rattle.node_tree.specs.declared.register.Register.{Register}
@@ -21,7 +23,8 @@ AreNamedRegisters es = (i : ℕ) (e : Name × Register) → slice_get es i ≡ S
 
 -- a place that is kept for a later one is that of an entry that the later one overlaps
 abbrev pub AreFound : List (Name × Register) → List ℕ → Type 0
-AreFound es firsts = (b : ℕ) → b < length es → slice_index firsts b < b → overlap_at es (slice_index firsts b) b ≡ true
+AreFound es firsts =
+    (b : ℕ) → b < length es → slice_index firsts b < b → overlap_at es (slice_index firsts b) b ≡ true
 
 -- for each entry the place of the first that it overlaps, or one that is not before it
 pub record AreFirsts (es : List (Name × Register)) (firsts : List ℕ) : Type 0 where
@@ -124,7 +127,8 @@ pub record Meet (x y : Event) : Type 0 where
 
 -- where an event asks after another was put and shares a bit of a word with it, their entries overlap
 abbrev pub AreSound : List (Name × Register) → List Event → Type 0
-AreSound es events = (x y : Event) → Asks events x y → Meet x y → (x.place < y.place) × (overlap_at es x.place y.place ≡ true)
+AreSound es events =
+    (x y : Event) → Asks events x y → Meet x y → (x.place < y.place) × (overlap_at es x.place y.place ≡ true)
 
 -- an event has an address and some bit of a word, and each bit where it has more than one address
 pub record HasBits (e : Event) : Type 0 where
@@ -142,7 +146,8 @@ pub record AreEvents (es : List (Name × Register)) (events : List Event) (first
 -- each event that asks is lowered to those that were put before and share a bit with it at one of these addresses
 abbrev pub AreSettled : List Event → List ℕ → ℕ → ℕ → Type 0
 AreSettled events firsts first «end» =
-    (x y : Event) → Asks events x y → (m : Meet x y) → first ≤ m.address → m.address < «end» → slice_index firsts y.place ≤ x.place
+    (x y : Event) → Asks events x y → (m : Meet x y) → first ≤ m.address → m.address < «end»
+    → slice_index firsts y.place ≤ x.place
 
 -- the places that are kept after the events were settled at these addresses, whatever entries they are of
 abbrev pub Settles : List Event → ℕ → ℕ → List ℕ → List ℕ → Type 0

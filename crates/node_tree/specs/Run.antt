@@ -1,5 +1,6 @@
 -- The walk as the code goes along it, with the registers and the number of nodes so far. No public clause speaks of it.
-use Rattle.std.specs.Prelude.{◌≡◌, ℕ, ◌+◌, ◌^◌, Bool, not, nat_lt, nat_le, List, [], ◌∷◌, Option, Some, None, Result, Ok, Err}
+use Rattle.std.specs.Prelude.{◌≡◌, ℕ, ◌+◌, ◌^◌, Bool, not, nat_lt, nat_le, List, [], ◌∷◌, Option, Some, None, Result}
+use Rattle.std.specs.Prelude.{Ok, Err}
 use Rattle.std.specs.FinMap.{contains_key, insert}
 use Rattle.address_table.specs.Rules.{first_broken}
 use Rattle.node_tree.specs.Limits.{most_nodes, most_ids}

@@ -69,8 +69,8 @@ impl Index {
         self.len() == 0
     }
 
-    /// A register by its place from 0, in byte order of the names. Its mask and its size fit its mode, and it ends at an
-    /// address of 32 bits.
+    /// A register by its place from 0, in byte order of the names. Its mask and its size fit its mode, and it ends at
+    /// an address of 32 bits.
     pub fn at(&self, i: usize) -> (&str, Register)
         requires { i < map.len self.now }
         ensures entry { slice_get (map.entries self.now) i ≡ Some (result.0.now, result.1) }

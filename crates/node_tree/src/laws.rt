@@ -1,4 +1,5 @@
-//! Laws of the definitions, and worked examples of them. These functions do nothing when they run: their clauses are what is proved.
+//! Laws of the definitions, and worked examples of them. These functions do nothing when they run: their clauses are
+//! what is proved.
 ghost use Rattle.std.specs.Prelude.{◌≡◌, ◌↔◌, ◌⊎◌, ◌+◌, List, [], ◌∷◌, ◌++◌, Some, codes, true, false};
 ghost use Rattle.address_table.specs.declared.nodes.Node.{Node, out-Node};
 ghost use Rattle.address_table.specs.declared.kinds.Mode.TheVariants.{Single, Block, Port, Hierarchical};

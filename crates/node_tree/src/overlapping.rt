@@ -20,8 +20,8 @@ use std::alloc::Global;
 /// A name and its register.
 type Entry = (String, Register);
 
-/// Whether two registers overlap (profile): neither is hierarchical, they share an address and a bit of their masks, and
-/// neither name is the other's up to a dot. A block has `size` addresses, the others one.
+/// Whether two registers overlap (profile): neither is hierarchical, they share an address and a bit of their masks,
+/// and neither name is the other's up to a dot. A block has `size` addresses, the others one.
 pub fn overlap(name: &str, register: &Register, other_name: &str, other: &Register) -> bool
     ensures { result ≡ spec.overlap (name.now, register.now) (other_name.now, other.now) }
 {

@@ -43,8 +43,8 @@ impl Tables {
         }
     }
 
-    /// Keeps a table under a name, in the place of one of that name. Its nodes are valid, as those of a table that was read
-    /// are. After `NoMemory` the tables are as before.
+    /// Keeps a table under a name, in the place of one of that name. Its nodes are valid, as those of a table that was
+    /// read are. After `NoMemory` the tables are as before.
     pub fn put(&mut self, name: &str, table: Table) -> Result<(), NoMemory>
         requires { IsValid table }
         ensures ok { OnOk result (self.new ≡ map.insert self.old name.now table) }

@@ -1,5 +1,6 @@
 //! The walk through the nodes of a table and of its modules.
-ghost use Rattle.std.specs.Prelude.{◌≡◌, ◌≤◌, ◌-◌, ◌+◌, [], Ok, Err, OnOk, IfOk, IfErr, SomeIff, ◌<◌, ◌^◌, string_bytes};
+ghost use Rattle.std.specs.Prelude.{◌≡◌, ◌≤◌, ◌-◌, ◌+◌, [], Ok, Err, OnOk, IfOk, IfErr, SomeIff, ◌<◌, ◌^◌};
+ghost use Rattle.std.specs.Prelude.{string_bytes};
 ghost use Rattle.node_tree.specs.Limits.{most_ids};
 ghost use Rattle.node_tree.specs.Maps.{nodes_of as table_nodes};
 ghost use Rattle.node_tree.specs.Names.{children_of, name_below, register_of};
