@@ -1,13 +1,13 @@
-// A library with one function.
+//! Session documents: TOML read into a session of tables, boards and scripts, or the first fault of the document.
 #![tactic(auto)]
 
-ghost use Rattle.std.specs.Prelude.{◌≡◌};
-ghost use Rattle.script_lang.specs.Echo.{echo_of};
+mod keys;
+mod refusal;
+mod session;
+mod steps;
 
-// The `ensures` clause is the contract: what `echo` returns is `echo_of` of its argument, a definition
-// in `specs/Echo.antt`, which a caller's clause can cite too.
-pub fn echo(x: usize) -> usize
-    ensures { result ≡ echo_of x }
-{
-    x
-}
+pub use board_node::{BoardSpec, Fates, LinkSpec, Ranges};
+pub use ipb_base::{NoMemory, Text};
+pub use refusal::{DocWhy, SessionRefusal};
+pub use reliable_engine::Settings;
+pub use session::{Boards, Script, Scripts, Session};
