@@ -23,7 +23,8 @@ use Rattle.script_lang.specs.declared.refusal.TheConstants.{MAX_BOARDS, MAX_CLIE
 use Rattle.script_lang.specs.declared.session.Session.{Session}
 use Rattle.script_lang.specs.declared.steps.PathStep.{PathStep}
 use Rattle.script_lang.specs.declared.steps.PathStep.TheVariants.{Key, Item}
-use Rattle.script_lang.specs.Walk.{Way, shape_faults}
+use Rattle.script_lang.specs.Walk.{shape_faults}
+use Rattle.script_lang.specs.Paths.{path}
 use Rattle.script_lang.specs.Fields.{items_at}
 use Rattle.script_lang.specs.Sessions.{settings_of, boards_of, scripts_of, tables_of}
 
@@ -33,16 +34,7 @@ pub data Fault : Type 0 where
   in_document : List ℕ → DocWhy → Fault
   in_table : Name → List ℕ → TableWhy → Fault
 
--- a key as it stands, a position in decimal digits
-abbrev pub step_text : PathStep → List ℕ
-step_text (Key name) = name
-step_text (Item i) = decimal i
-
--- the steps of a way, joined by dots
-abbrev pub path : Way → List ℕ
-path [] = []
-path (step ∷ steps) = step_text step ++ flat_map (λ next. codes "." ++ step_text next) steps
-
+-- the places where a value is not what it should be
 abbrev pub misfits : Members → List Fault
 misfits document = map (λ way. in_document (path way) Shape) (shape_faults document)
 

@@ -6,7 +6,8 @@ use Rattle.std.specs.Option.{option_and_then}
 use Rattle.toml.specs.Data.{Members, get_member, as_str}
 use Rattle.address_table.specs.Rules.{has_key, holds_of}
 use Rattle.script_lang.specs.declared.keys.TextRule.TheVariants.{Any, Id, Link, RangeKind, Fates, Endpoint}
-use Rattle.script_lang.specs.declared.keys.ItemKind.{ItemKind}
+use Rattle.script_lang.specs.declared.keys.TableKind.{TableKind}
+use Rattle.script_lang.specs.declared.keys.TableKind.TheVariants.{Board, Range, Client}
 use Rattle.script_lang.specs.declared.keys.ItemKind.TheVariants as items
 use Rattle.script_lang.specs.declared.keys.Kind.{Kind}
 use Rattle.script_lang.specs.declared.keys.Kind.TheVariants.{Number, Text, Names, Array}
@@ -30,8 +31,8 @@ word = Number 0 0xffffffff 0
 -- the document itself
 abbrev pub document_keys : List KeyRule
 document_keys =
-    optional (codes "board") (Array items.Board)
-    ∷ optional (codes "client") (Array items.Client)
+    optional (codes "board") (Array (items.Table Board))
+    ∷ optional (codes "client") (Array (items.Table Client))
     ∷ optional (codes "format") (Number 1 1 1)
     ∷ optional (codes "rounds") (Number 1 255 8)
     ∷ optional (codes "tables") Names
@@ -47,7 +48,7 @@ fates_keys =
     ∷ optional (codes "link") (Text Link)
     ∷ optional (codes "mtu") (Number 92 9000 1500)
     ∷ needed (codes "name") (Text Id)
-    ∷ optional (codes "ranges") (Array items.Range)
+    ∷ optional (codes "ranges") (Array (items.Table Range))
     ∷ needed (codes "table") (Text Any)
     ∷ []
 
@@ -85,13 +86,11 @@ is_udp ms = holds_of (bytes_eq (codes "udp")) (option_and_then as_str (get_membe
 abbrev pub board_keys : Members → List KeyRule
 board_keys ms = if is_udp ms then udp_keys else if has_key (codes "fates") ms then fates_keys else noise_keys
 
--- the keys of an item that is a table; numbers and texts have none
-abbrev pub keys_of : ItemKind → Members → List KeyRule
-keys_of items.Board ms = board_keys ms
-keys_of items.Range ms = range_keys
-keys_of items.Client ms = client_keys
-keys_of items.Number ms = []
-keys_of items.Text ms = []
+-- the keys of a table that is an item
+abbrev pub keys_of : TableKind → Members → List KeyRule
+keys_of Board ms = board_keys ms
+keys_of Range ms = range_keys
+keys_of Client ms = client_keys
 
 -- what stands under a key of this name, if there is one
 abbrev pub kind_at : List KeyRule → List ℕ → Option Kind

@@ -63,11 +63,14 @@ udp_of ms =
     let address = endpoint_of (text_at (codes "address") ms) in
     Udp address.0 address.1 (number_at udp_keys (codes "wait") ms)
 
+abbrev pub link_of : Members → LinkSpec
+link_of ms = if is_udp ms then udp_of ms else sim_of ms
+
 abbrev pub board_of : Members → BoardSpec
 board_of ms = record {
   name = text_at (codes "name") ms;
   table = text_at (codes "table") ms;
-  link = if is_udp ms then udp_of ms else sim_of ms;
+  link = link_of ms;
 }
 
 abbrev pub boards_of : Members → List BoardSpec

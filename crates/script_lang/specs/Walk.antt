@@ -64,14 +64,18 @@ abbrev mutual
   pub item_faults : ItemKind → Data → List Way
   item_faults items.Number value = unless (is_some (number value))
   item_faults items.Text value = unless (is_some (as_str value))
-  item_faults kind (table ms) = keys_faults (keys_of kind ms) ms ++ missing (keys_of kind ms) ms
-  item_faults kind value = here
+  item_faults (items.Table kind) (table ms) = keys_faults (keys_of kind ms) ms ++ missing (keys_of kind ms) ms
+  item_faults (items.Table kind) value = here
 
   -- the keys that are there
   pub keys_faults : List KeyRule → Members → List Way
   keys_faults keys no_members = []
   keys_faults keys (member name value ms) = below (Key name) (value_faults (kind_at keys name) value) ++ keys_faults keys ms
 
+-- a table with these keys
+abbrev pub table_faults : List KeyRule → Members → List Way
+table_faults keys ms = keys_faults keys ms ++ missing keys ms
+
 -- the document itself
 abbrev pub shape_faults : Members → List Way
-shape_faults document = keys_faults document_keys document ++ missing document_keys document
+shape_faults document = table_faults document_keys document
