@@ -1,0 +1,4 @@
+mod Lists
+mod Finding
+mod Logs
+mod Reading
