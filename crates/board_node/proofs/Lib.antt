@@ -2,3 +2,6 @@ mod Lists
 mod Finding
 mod Logs
 mod Reading
+mod Steps
+mod Turns
+mod Held

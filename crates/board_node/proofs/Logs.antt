@@ -44,22 +44,22 @@ counted first place (e ∷ log) (r ∷ rs) same =
       | false ↦ omega arith
     ]
 
-grown : (first place : ℕ) (log : List LogEntry) (rs : List (List ℕ)) (e : LogEntry) (r : List ℕ) → length rs ≡ length log
-    → numbered_replies first place (log ++ e ∷ []) (rs ++ r ∷ []) ≡ numbered_replies first place log rs ++ if_numbered e.numbered (control_packet e.order (identifier_at first (place + numbered log)) r)
-grown first place [] [] e r same =
+pub joined : (first place : ℕ) (one two : List LogEntry) (rs ss : List (List ℕ)) → length rs ≡ length one
+    → numbered_replies first place (one ++ two) (rs ++ ss) ≡ numbered_replies first place one rs ++ numbered_replies first (place + numbered one) two ss
+joined first place [] two [] ss same =
     let here : place ≡ place + 0 = omega arith in
-    ap (λ (k : ℕ). if_numbered e.numbered (control_packet e.order (identifier_at first k) r)) here
-grown first place [] (x ∷ rs) e r same = absurd (omega arith)
-grown first place (x ∷ log) [] e r same = absurd (omega arith)
-grown first place (x ∷ log) (y ∷ rs) e r same =
-    let next : place + 1 + numbered log ≡ place + (1 + numbered log) = omega arith in
-    let here : place + numbered log ≡ place + (0 + numbered log) = omega arith in
-    let x_reply = control_packet x.order (identifier_at first place) y in
-    elim x.numbered as (λ b. cond b (x_reply ∷ numbered_replies first (place + 1) (log ++ e ∷ []) (rs ++ r ∷ [])) (numbered_replies first place (log ++ e ∷ []) (rs ++ r ∷ []))
-    ≡ cond b (x_reply ∷ numbered_replies first (place + 1) log rs) (numbered_replies first place log rs) ++ if_numbered e.numbered (control_packet e.order (identifier_at first (place + (cond b 1 0 + numbered log))) r)) [
-      | true ↦ ap (λ (ps : List Packet). x_reply ∷ ps) (grown first (place + 1) log rs e r (omega arith)
-          ∙ ap (λ (k : ℕ). numbered_replies first (place + 1) log rs ++ if_numbered e.numbered (control_packet e.order (identifier_at first k) r)) next)
-      | false ↦ grown first place log rs e r (omega arith) ∙ ap (λ (k : ℕ). numbered_replies first place log rs ++ if_numbered e.numbered (control_packet e.order (identifier_at first k) r)) here
+    ap (λ (k : ℕ). numbered_replies first k two ss) here
+joined first place [] two (r ∷ rs) ss same = absurd (omega arith)
+joined first place (e ∷ one) two [] ss same = absurd (omega arith)
+joined first place (e ∷ one) two (r ∷ rs) ss same =
+    let next : place + 1 + numbered one ≡ place + (1 + numbered one) = omega arith in
+    let here : place + numbered one ≡ place + (0 + numbered one) = omega arith in
+    let packet = control_packet e.order (identifier_at first place) r in
+    elim e.numbered as (λ b. cond b (packet ∷ numbered_replies first (place + 1) (one ++ two) (rs ++ ss)) (numbered_replies first place (one ++ two) (rs ++ ss))
+    ≡ cond b (packet ∷ numbered_replies first (place + 1) one rs) (numbered_replies first place one rs) ++ numbered_replies first (place + (cond b 1 0 + numbered one)) two ss) [
+      | true ↦ ap (λ (ps : List Packet). packet ∷ ps) (joined first (place + 1) one two rs ss (omega arith)
+          ∙ ap (λ (k : ℕ). numbered_replies first (place + 1) one rs ++ numbered_replies first k two ss) next)
+      | false ↦ joined first place one two rs ss (omega arith) ∙ ap (λ (k : ℕ). numbered_replies first place one rs ++ numbered_replies first k two ss) here
     ]
 
 -- ---- a board
@@ -94,7 +94,7 @@ pub kept_grows : (b : Board) (e : LogEntry) (id : ℕ) → (e.numbered ≡ true 
 kept_grows b e id is =
     let r = (run_body (present_bus b) e.body).reply in
     let here : 1 + numbered b.log ≡ numbered b.log + 1 = omega arith in
-    ap (numbered_replies b.first 1 (b.log ++ e ∷ [])) (replies_grow b e) ∙ (grown b.first 1 b.log (replies b) e r (as_long b)
+    ap (numbered_replies b.first 1 (b.log ++ e ∷ [])) (replies_grow b e) ∙ (joined b.first 1 b.log (e ∷ []) (replies b) (r ∷ []) (as_long b)
     ∙ ap (λ (ps : List Packet). numbered_replies b.first 1 b.log (replies b) ++ ps)
     (ap (λ (k : ℕ). if_numbered e.numbered (control_packet e.order (identifier_at b.first k) r)) here ∙ same_id e.numbered e id (expected b) r is))
 

@@ -6,6 +6,7 @@
 #![tactic(auto)]
 
 mod board;
+pub mod laws;
 mod ranges;
 mod replies;
 mod spec;
