@@ -1,5 +1,5 @@
 -- Which replies a board holds, and which one a re-send request finds.
-use Rattle.std.proofs.Common.{◌≡◌, ℕ, zero, suc, ◌+◌, ◌-◌, ◌≤◌, true, false, cond, List, [], ◌∷◌, ◌++◌, length, map, drop, Option, Some, None, refl, sym, ap, ◌∙◌, arith, append_assoc}
+use Rattle.std.proofs.Common.{◌<◌, ◌==◌, ◌≡◌, ℕ, zero, suc, ◌+◌, ◌-◌, ◌≤◌, true, false, cond, List, [], ◌∷◌, ◌++◌, length, map, drop, Option, Some, None, refl, sym, ap, ◌∙◌, arith, append_assoc}
 use Rattle.std.proofs.lemmas.Bool.{eq-eqb}
 use Rattle.std.proofs.lemmas.List.{drop-append-le, length-append, map-append}
 use Rattle.std.proofs.lemmas.Option.{slice_get_within}
@@ -12,7 +12,7 @@ use Rattle.board_bus.specs.Cells.{CellMap}
 use Rattle.world_model.specs.declared.heard.Heard.TheVariants.{Replied, Resent}
 use Rattle.world_model.specs.declared.heard.DropCause.TheVariants.{NotHeld}
 use Rattle.world_model.specs.declared.heard.LogEntry.{LogEntry}
-use Rattle.world_model.specs.Messages.{ControlPacket, ResendRequest, control_packet, to_board}
+use Rattle.world_model.specs.Messages.{ToBoard, ControlPacket, ResendRequest, control_packet, to_board}
 use Rattle.world_model.specs.Board.{Board, Hearing, body_of, dropped, expected, hear, hear_message, held, numbered, numbered_replies, present_bus, replies, send_again, with_id}
 use Rattle.board_node.specs.Hearings.{after, IsAmongLast}
 use Rattle.board_node.proofs.Lists.{differ}
@@ -133,3 +133,44 @@ pub not_held : (b : Board) (request : List ℕ) (id : ℕ) → to_board request 
 not_held b request id asked none =
     let nothing : with_id id (held b) ≡ None = missing id (held b) (λ k p at same. let f = held_place b k p at in none f.0 f.1 (sym f.2 ∙ same)) in
     ap (hear_message b) asked ∙ ap (send_again b) nothing
+
+there_is : {A : Type 0} (xs : List A) (k : ℕ) → k < length xs → (x : A) × (slice_get xs k ≡ Some x)
+there_is [] k within = absurd (omega arith)
+there_is (x ∷ xs) zero within = (x, refl)
+there_is (x ∷ xs) (suc k) within = there_is xs k (omega arith)
+
+get_dropped : {A : Type 0} (n : ℕ) (xs : List A) (k : ℕ) (x : A) → slice_get xs (n + k) ≡ Some x → slice_get (drop n xs) k ≡ Some x
+get_dropped zero xs k x at = let here : 0 + k ≡ k = omega arith in rw here at at
+get_dropped (suc n) [] k x at = absurd cc
+get_dropped (suc n) (y ∷ xs) k x at = let here : suc n + k ≡ suc (n + k) = omega arith in get_dropped n xs k x (rw here at at)
+
+some_found : (id : ℕ) (packets : List Packet) (k : ℕ) (p : Packet) → slice_get packets k ≡ Some p → p.id ≡ id → (q : Packet) × (with_id id packets ≡ Some q)
+some_found id [] k p at same = absurd cc
+some_found id (x ∷ packets) zero p at same =
+    let is : x ≡ p = cc in
+    (x, rw (eq-eqb x.id id (ap (λ (q : Packet). q.id) is ∙ same)) refl)
+some_found id (x ∷ packets) (suc k) p at same =
+    let rest = some_found id packets k p at same in
+    elim (x.id == id) as (λ b. (q : Packet) × (cond b (Some x) (with_id id packets) ≡ Some q)) [
+      | true ↦ (x, refl)
+      | false ↦ rest
+    ]
+
+heard_found : (b : Board) (request : List ℕ) (id : ℕ) (q : Packet) → to_board request ≡ Some (ResendRequest id) → with_id id (held b) ≡ Some q → (hear b request).heard ≡ Resent
+heard_found b request id q asked found =
+    ap (λ (m : Option ToBoard). (hear_message b m).heard) asked ∙ ap (λ (r : Option Packet). (send_again b r).heard) found
+
+at_last : (b : Board) (id place k : ℕ) (p : Packet) → slice_get (kept b) k ≡ Some p → 1 + k ≡ place → identifier_at b.first place ≡ id → p.id ≡ id
+at_last b id place k p at is same = named b.first 1 b.log (replies b) k p at ∙ (ap (identifier_at b.first) is ∙ same)
+
+pub among_last : (b : Board) (request : List ℕ) (id place : ℕ) → to_board request ≡ Some (ResendRequest id) → IsAmongLast b place → identifier_at b.first place ≡ id
+    → (hear b request).heard ≡ Resent
+among_last b request id place asked is same =
+    let total : length (kept b) ≡ numbered b.log = kept_count b in
+    let n = length (kept b) - b.buffers in
+    let k = place - 1 - n in
+    let here : n + k ≡ place - 1 = omega (arith, total, is.from_one, is.executed, is.recent) in
+    let there = there_is (kept b) (n + k) (omega (arith, here, total, is.from_one, is.executed)) in
+    let name = at_last b id place (n + k) there.0 there.1 (omega (arith, here, is.from_one)) same in
+    let found = some_found id (held b) k there.0 (get_dropped n (kept b) k there.0 there.1) name in
+    heard_found b request id found.0 asked found.1

@@ -5,3 +5,4 @@ mod Reading
 mod Steps
 mod Turns
 mod Held
+mod Fitting

@@ -1,5 +1,5 @@
 -- What an executed control packet adds to the log, to the bus and to the replies that are kept.
-use Rattle.std.proofs.Common.{◌≡◌, ℕ, suc, ◌+◌, ◌≤◌, Bool, true, false, cond, List, [], ◌∷◌, ◌++◌, length, refl, sym, ap, ◌∙◌, subst, arith}
+use Rattle.std.proofs.Common.{zero, drop, ◌≡◌, ℕ, suc, ◌+◌, ◌≤◌, Bool, true, false, cond, List, [], ◌∷◌, ◌++◌, length, refl, sym, ap, ◌∙◌, subst, arith}
 use Rattle.std.proofs.lemmas.List.{length-map, map-append}
 use Rattle.packet_ids.specs.Identifier.{identifier_at}
 use Rattle.packet_codec.specs.declared.packet.Packet.{Packet}
@@ -14,7 +14,8 @@ use Rattle.ipb_base.specs.Word.{AreWords}
 use Rattle.ipb_base.specs.Numbers.{payload_of}
 use Rattle.ipb_base.proofs.AllLemmas.{AllByRecursion-append}
 use Rattle.transaction_codec.specs.Answer.{reply_room}
-use Rattle.board_node.specs.View.{if_numbered, IsLoggable, IsShort}
+use Rattle.board_node.specs.View.{if_numbered, FitsMtu}
+use Rattle.board_node.specs.Log.{IsLoggable}
 
 -- ---- one body after others
 
@@ -103,9 +104,15 @@ kept_grows b e id is =
 pub fits : (b : Board) (body : List ℕ) → is_too_long b body ≡ false → (length body + 1 ≤ payload_of b.mtu) × (reply_room body + 1 ≤ payload_of b.mtu)
 fits b body is = grind (arith, nat_tests)
 
-pub short_grows : (packets : List Packet) (n : Bool) (packet : Packet) (all : List Packet) → all ≡ packets ++ if_numbered n packet → AllByRecursion IsShort packets → IsShort packet → AllByRecursion IsShort all
-short_grows packets true packet all is before here = subst (AllByRecursion IsShort) (sym is) (AllByRecursion-append IsShort packets (packet ∷ []) before (here, tt))
-short_grows packets false packet all is before here = subst (AllByRecursion IsShort) (sym is) (AllByRecursion-append IsShort packets [] before tt)
+pub fit_grows : (mtu : ℕ) (packets : List Packet) (n : Bool) (packet : Packet) (all : List Packet) → all ≡ packets ++ if_numbered n packet → AllByRecursion (FitsMtu mtu) packets → FitsMtu mtu packet
+    → AllByRecursion (FitsMtu mtu) all
+fit_grows mtu packets true packet all is before here = subst (AllByRecursion (FitsMtu mtu)) (sym is) (AllByRecursion-append (FitsMtu mtu) packets (packet ∷ []) before (here, tt))
+fit_grows mtu packets false packet all is before here = subst (AllByRecursion (FitsMtu mtu)) (sym is) (AllByRecursion-append (FitsMtu mtu) packets [] before tt)
+
+pub all_past : {A : Type 0} (P : A → Type 0) (n : ℕ) (xs : List A) → AllByRecursion P xs → AllByRecursion P (drop n xs)
+all_past P zero xs all = all
+all_past P (suc n) [] all = tt
+all_past P (suc n) (x ∷ xs) all = all_past P n xs all.1
 
 pub logged_grows : (mtu : ℕ) (log : List LogEntry) (e : LogEntry) (all : List LogEntry) → all ≡ log ++ e ∷ [] → AllByRecursion (IsLoggable mtu) log
     → AreWords e.body → (length e.body + 1 ≤ payload_of mtu) × (reply_room e.body + 1 ≤ payload_of mtu) → AllByRecursion (IsLoggable mtu) all

@@ -12,7 +12,7 @@ use Rattle.world_model.specs.Messages.{ToBoard, StatusRequest, ResendRequest, Co
 use Rattle.world_model.specs.Board.{Board, Hearing, body_of, execute, expected, hear, hear_control, hear_message, held, is_too_long, numbered, present_bus, send_again, with_id}
 use Rattle.board_node.specs.Hearings.{after, IsQuestion}
 
-either : {A : Type 0} (P : A → Type 0) (b : Bool) (x y : A) → (b ≡ true → P x) → (b ≡ false → P y) → P (cond b x y)
+pub either : {A : Type 0} (P : A → Type 0) (b : Bool) (x y : A) → (b ≡ true → P x) → (b ≡ false → P y) → P (cond b x y)
 either P true x y f g = f refl
 either P false x y f g = g refl
 

@@ -2,30 +2,26 @@
 use Rattle.std.specs.Prelude.{◌≡◌, ℕ, ◌+◌, ◌≤◌, Bool, if◌then◌else◌, List, [], ◌∷◌, length, Option, Some, None}
 use Rattle.std.specs.List.{AllByRecursion}
 use denote.Bor.{Bor}
-use Rattle.ipb_base.specs.Word.{AreWords}
 use Rattle.ipb_base.specs.Numbers.{payload_of}
 use Rattle.packet_codec.specs.declared.packet.Packet.{Packet}
 use Rattle.packet_codec.specs.declared.packet.TheConstants.{MAX_BODY_WORDS}
 use Rattle.status_packet.specs.Range.{IsMtu, IsBufferCount}
-use Rattle.transaction_codec.specs.Answer.{reply_room}
-use Rattle.world_model.specs.declared.heard.LogEntry.{LogEntry}
 use Rattle.world_model.specs.Messages.{ToBoard, said_to_board}
 use Rattle.world_model.specs.Board.{Board, replies, present_bus, numbered_replies}
+use Rattle.board_node.specs.Log.{IsLoggable}
 use Rattle.board_node.specs.declared.board.Board.TheInside.{Inside}
 
 -- the board: the present bus and the kept replies are no part of it
 abbrev pub board_of : Inside → Board
 board_of b = record { opening = b.opening; mtu = b.mtu; buffers = b.buffers; first = b.first; log = b.log.items }
 
--- an entry of the log of a board with this MTU: words, and neither they nor their longest reply are too long
-pub record IsLoggable (mtu : ℕ) (entry : LogEntry) : Type 0 where
-  pub words : AreWords entry.body
-  pub body : length entry.body + 1 ≤ payload_of mtu
-  pub room : reply_room entry.body + 1 ≤ payload_of mtu
-
 -- a packet that is not longer than a packet may be
 abbrev pub IsShort : Packet → Type 0
 IsShort packet = length packet.body ≤ MAX_BODY_WORDS
+
+-- a packet that is not longer than the MTU allows
+abbrev pub FitsMtu : ℕ → Packet → Type 0
+FitsMtu mtu packet = length packet.body + 1 ≤ payload_of mtu
 
 -- the bus is the one after the log, and the kept replies are those of the numbered entries
 pub record IsCurrent (b : Inside) : Type 0 where
@@ -33,7 +29,7 @@ pub record IsCurrent (b : Inside) : Type 0 where
   pub buffers : IsBufferCount b.buffers
   pub bus : b.bus ≡ present_bus (board_of b)
   pub kept : b.replies.items ≡ numbered_replies b.first 1 b.log.items (replies (board_of b))
-  pub short : AllByRecursion IsShort b.replies.items
+  pub fit : AllByRecursion (FitsMtu b.mtu) b.replies.items
   pub logged : AllByRecursion (IsLoggable b.mtu) b.log.items
 
 -- a packet that is kept where it was numbered

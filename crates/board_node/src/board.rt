@@ -1,7 +1,11 @@
 //! A board: what it keeps, and what it does with a datagram.
 
-ghost use Rattle.std.specs.Prelude.{◌≡◌, ◌≤◌, ◌<◌, ℕ, [], length, Some, IfSome, IfOk, IfErr, OnOk, OnErr, true, false};
-ghost use Rattle.std.specs.List.{slice_get};
+ghost use Rattle.std.specs.Prelude.{◌≡◌, ◌≤◌, ◌<◌, ◌+◌, ℕ, List, [], length, Some, IfSome, IfOk, IfErr, OnOk, OnErr, true, false};
+ghost use Rattle.std.specs.List.{slice_get, AllByRecursion};
+ghost use Rattle.ipb_base.specs.Numbers.{ip_udp_bytes};
+ghost use Rattle.packet_ids.specs.Identifier.{IsIdentifier};
+ghost use Rattle.board_bus.specs.Cells.{HoldsWords};
+ghost use Rattle.board_node.specs.Log.{IsLoggable};
 ghost use Rattle.transaction_codec.specs.declared.room.TheConstants.{LONGEST_BODY};
 ghost use Rattle.packet_codec.specs.declared.packet.TheConstants.{MAX_BODY_WORDS};
 ghost use Rattle.packet_codec.specs.Packet.{IsPacket};
@@ -14,6 +18,7 @@ ghost use Rattle.board_node.specs.View.{said_by};
 
 use crate::replies::{find_reply, keep_reply, packet_length, put_packet};
 use board_bus::Bus;
+use board_bus::laws::a_reply_has_room;
 use ipb_base::{NoMemory, Words};
 use packet_codec::laws::reading_is_the_grammar;
 use packet_codec::{BadPacket, Order, Packet, PacketKind, read_packet};
@@ -127,6 +132,32 @@ impl Board {
             Some(packet) => self.hear_packet(packet, out),
             None => Ok(Heard::Dropped(DropCause::NotPacket)),
         }
+    }
+}
+
+impl Board {
+    /// What is true of every board: its MTU, buffers and first identifier are in their ranges, it opened with 32-bit words,
+    /// and the bodies of its log are words and, like their longest replies, not too long for its MTU. It does nothing when
+    /// it runs.
+    pub fn keeps_its_ranges(&self)
+        ensures mtu { IsMtu self.now.mtu }
+        ensures buffers { IsBufferCount self.now.buffers }
+        ensures first { IsIdentifier self.now.first }
+        ensures opening { HoldsWords self.now.opening }
+        ensures log { AllByRecursion (IsLoggable self.now.mtu) self.now.log }
+    {
+        self.opening.answers_bodies();
+        let _first = self.first.get();
+    }
+
+    /// An answer is no longer than the MTU allows, the headers of IP and UDP counted, whatever the datagram. It does
+    /// nothing when it runs.
+    pub fn answers_fit(&self)
+        ensures { (datagram : List ℕ) →
+            length (answer_bytes (hear self.now datagram).answer) + ip_udp_bytes ≤ self.now.mtu }
+    {
+        a_reply_has_room();
+        let _replies = &self.replies;
     }
 }
 

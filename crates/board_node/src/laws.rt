@@ -73,10 +73,13 @@ pub fn a_reply_is_sent_again_as_it_was()
         hear later request ≡ record { heard = Resent; answer = (hear board datagram).answer; board = later } }
 {}
 
-/// A re-send request is not answered where none of the last numbered packets, as many as there are buffers, has the
+/// A re-send request is answered exactly where one of the last numbered packets, as many as there are buffers, has the
 /// identifier that it names.
-pub fn what_is_not_among_the_last_is_not_held()
-    ensures { (board : BoardValue) (request : List ℕ) (id : ℕ) → to_board request ≡ Some (ResendRequest id) →
+pub fn the_last_replies_alone_are_held()
+    ensures held { (board : BoardValue) (request : List ℕ) (id place : ℕ) →
+        to_board request ≡ Some (ResendRequest id) → IsAmongLast board place → identifier_at board.first place ≡ id →
+        (hear board request).heard ≡ Resent }
+    ensures not_held { (board : BoardValue) (request : List ℕ) (id : ℕ) → to_board request ≡ Some (ResendRequest id) →
         ((place : ℕ) → IsAmongLast board place → identifier_at board.first place ≢ id) →
         hear board request ≡ dropped board NotHeld }
 {}

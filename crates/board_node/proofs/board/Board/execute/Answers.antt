@@ -9,7 +9,7 @@ use Rattle.world_model.specs.declared.heard.LogEntry.{LogEntry}
 use Rattle.world_model.specs.Messages.{control_packet}
 use Rattle.world_model.specs.Board.{Board, expected, is_too_long, numbered_replies, present_bus, replies}
 use Rattle.board_node.specs.View.{board_of, if_numbered}
-use Rattle.board_node.proofs.Logs.{bus_grows, fits, kept_grows, logged_grows, short_grows, with_entry}
+use Rattle.board_node.proofs.Logs.{bus_grows, fits, kept_grows, logged_grows, fit_grows, with_entry}
 use Rattle.board_node.proofs.board.Board.execute.Goals as goal
 
 pub invariant_of-self-2 : goal.invariant_of-self-2
@@ -41,6 +41,6 @@ invariant_of-self-2 c =
       kept = kept ∙ (ap (λ (w : List ℕ). i.replies.items ++ if_numbered e.numbered (control_packet e.order id w)) words
           ∙ (ap (λ (ps : List Packet). ps ++ if_numbered e.numbered (control_packet e.order id (run_body (present_bus b) e.body).reply)) is.kept
           ∙ (sym (kept_grows b e id (λ n. c.requires.id n ∙ ap expected (sym c.self.view_is))) ∙ ap (λ (x : Board). numbered_replies x.first 1 x.log (replies x)) (sym board))));
-      short = short_grows i.replies.items e.numbered (control_packet e.order id c.from_vec.result) c.keep_reply.new.replies.items kept is.short (omega (arith, room, able.1, is.mtu.1));
+      fit = fit_grows i.mtu i.replies.items e.numbered (control_packet e.order id c.from_vec.result) c.keep_reply.new.replies.items kept is.fit (omega (arith, room, able.1));
       logged = logged_grows i.mtu i.log.items e c.push_reserved.new.self.items log is.logged (subst AreWords body (AreWords-at c.as_slice-body.result.now (λ k. search rules))) able;
     }
