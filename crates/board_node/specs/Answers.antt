@@ -9,8 +9,8 @@ abbrev pub answer_bytes : Option (List ℕ) → List ℕ
 answer_bytes None = []
 answer_bytes (Some bytes) = bytes
 
--- What was done, the board after it and the bytes that it answers are those of a hearing. Or memory ran out: the board is
--- as it was, and nothing is answered.
+-- What was done, the board after it and the bytes that it answers are those of a hearing. Or memory ran out: the board
+-- is as it was, and nothing is answered.
 abbrev pub IsHeard : Hearing → Board → Board → List ℕ → Result Heard NoMemory → Type 0
 IsHeard hearing old new out result = MatchResult result
     (λ heard. (heard ≡ hearing.heard) × (new ≡ hearing.board) × (out ≡ answer_bytes hearing.answer))

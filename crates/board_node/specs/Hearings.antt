@@ -23,11 +23,13 @@ heard_of board (datagram ∷ datagrams) = (hear board datagram).heard ∷ heard_
 
 -- a status request or a re-send request
 abbrev pub IsQuestion : List ℕ → Type 0
-IsQuestion datagram = (to_board datagram ≡ Some StatusRequest) ⊎ ((id : ℕ) × (to_board datagram ≡ Some (ResendRequest id)))
+IsQuestion datagram =
+    (to_board datagram ≡ Some StatusRequest) ⊎ ((id : ℕ) × (to_board datagram ≡ Some (ResendRequest id)))
 
 -- a control packet with this identifier that is not too long for the board
 abbrev pub IsShortControl : Board → ℕ → List ℕ → Type 0
-IsShortControl board id datagram = (order : Order) × (body : List ℕ) × (to_board datagram ≡ Some (ControlPacket order id body))
+IsShortControl board id datagram =
+    (order : Order) × (body : List ℕ) × (to_board datagram ≡ Some (ControlPacket order id body))
     × (is_too_long board body ≡ false)
 
 -- control packets with the identifiers of a place and of those after it, in turn

@@ -1,6 +1,7 @@
 //! A board: what it keeps, and what it does with a datagram.
 
-ghost use Rattle.std.specs.Prelude.{◌≡◌, ◌≤◌, ◌<◌, ◌+◌, ℕ, List, [], length, Some, IfSome, IfOk, IfErr, OnOk, OnErr, true, false};
+ghost use Rattle.std.specs.Prelude.{◌≡◌, ◌≤◌, ◌<◌, ◌+◌, ℕ, List, [], length, Some, true, false};
+ghost use Rattle.std.specs.Prelude.{IfSome, IfOk, OnOk, OnErr};
 ghost use Rattle.std.specs.List.{slice_get, AllByRecursion};
 ghost use Rattle.ipb_base.specs.Numbers.{ip_udp_bytes};
 ghost use Rattle.packet_ids.specs.Identifier.{IsIdentifier};
@@ -35,8 +36,8 @@ const IP_UDP_BYTES: u32 = 28;
 /// The words of a status packet after its header (IPbus 2.0, status packet).
 const STATUS_BODY_WORDS: usize = 15;
 
-/// A board. Contracts see it as the bus that it opened with, its MTU, its buffers, the identifier that it expected first
-/// and the control packets that it executed.
+/// A board. Contracts see it as the bus that it opened with, its MTU, its buffers, the identifier that it expected
+/// first and the control packets that it executed.
 #[derive(Drop)]
 pub struct Board {
     alloc: Global,
@@ -62,8 +63,8 @@ impl Model for Board {
 
 impl Board {
     /// A board that has executed nothing: it opens with this bus, has an MTU of 92 to 9000 bytes and 1 to 64 response
-    /// buffers, and expects `first` (IPbus 2.0, status packet; the ranges are the profile's). `NoMemory` where memory for
-    /// its opening bus ran out.
+    /// buffers, and expects `first` (IPbus 2.0, status packet; the ranges are the profile's). `NoMemory` where memory
+    /// for its opening bus ran out.
     pub fn new(
         alloc: Global,
         bus: Bus,
@@ -117,9 +118,9 @@ impl Board {
         id_at(self.first, self.replies.len() as u64 + 1)
     }
 
-    /// Hears a datagram and writes the answer into `out`, in place of what stood there, or leaves it empty where there is
-    /// none (IPbus 2.0, reliability mechanism, status packet, re-send request packet). It costs the length of the datagram
-    /// and of the answer. All memory is taken before anything is done.
+    /// Hears a datagram and writes the answer into `out`, in place of what stood there, or leaves it empty where there
+    /// is none (IPbus 2.0, reliability mechanism, status packet, re-send request packet). It costs the length of the
+    /// datagram and of the answer. All memory is taken before anything is done.
     pub fn hear(&mut self, datagram: &[u8], out: &mut Vec<u8>) -> Result<Heard, NoMemory>
         ensures heard { IfOk result (λ heard. heard ≡ (hear self.old datagram.now).heard) }
         ensures board { OnOk result (self.new ≡ (hear self.old datagram.now).board) }
@@ -136,9 +137,9 @@ impl Board {
 }
 
 impl Board {
-    /// What is true of every board: its MTU, buffers and first identifier are in their ranges, it opened with 32-bit words,
-    /// and the bodies of its log are words and, like their longest replies, not too long for its MTU. It does nothing when
-    /// it runs.
+    /// What is true of every board: its MTU, buffers and first identifier are in their ranges, it opened with 32-bit
+    /// words, and the bodies of its log are words and, like their longest replies, not too long for its MTU. It does
+    /// nothing when it runs.
     pub fn keeps_its_ranges(&self)
         ensures mtu { IsMtu self.now.mtu }
         ensures buffers { IsBufferCount self.now.buffers }

@@ -1,19 +1,18 @@
-//! Laws of a board, for every list of datagrams that it hears. These functions do nothing when they run: their clauses are
-//! what is proved. `hear` is what `Board::hear` does.
+//! Laws of a board, for every list of datagrams that it hears. These functions do nothing when they run: their clauses
+//! are what is proved. `hear` is what `Board::hear` does.
 
-ghost use Rattle.std.specs.Prelude.{◌≡◌, ◌≢◌, ℕ, ◌+◌, ◌<◌, ◌≤◌, true, false, List, [], ◌∷◌, ◌++◌, length, map, replicate};
-ghost use Rattle.std.specs.Prelude.{Some};
+ghost use Rattle.std.specs.Prelude.{◌≡◌, ◌≢◌, ℕ, ◌+◌, ◌<◌, ◌≤◌, false, List, [], ◌∷◌, length};
+ghost use Rattle.std.specs.Prelude.{map, replicate, Some};
 ghost use Rattle.std.specs.List.{AllByRecursion};
 ghost use Rattle.packet_codec.specs.declared.packet.Order.{Order};
-ghost use Rattle.packet_codec.specs.Packet.{packet_bytes};
 ghost use Rattle.packet_ids.specs.Identifier.{identifier_at, IsIdentifier};
 ghost use Rattle.packet_ids.specs.declared.places.TheConstants.{IDENTIFIERS};
 ghost use Rattle.status_packet.specs.Range.{IsBufferCount};
-ghost use Rattle.board_bus.specs.Bodies.{replay, run_body};
+ghost use Rattle.board_bus.specs.Bodies.{replay};
 ghost use Rattle.world_model.specs.declared.heard.Heard.TheVariants.{Replied, Resent};
 ghost use Rattle.world_model.specs.declared.heard.DropCause.TheVariants.{OtherId, NotHeld};
 ghost use Rattle.world_model.specs.declared.heard.LogEntry.{LogEntry as Entry};
-ghost use Rattle.world_model.specs.Messages.{ControlPacket, ResendRequest, control_packet, to_board};
+ghost use Rattle.world_model.specs.Messages.{ControlPacket, ResendRequest, to_board};
 ghost use Rattle.world_model.specs.Board.{Board as BoardValue, body_of, dropped, executed, expected, hear, is_too_long};
 ghost use Rattle.world_model.specs.Board.{numbered, present_bus};
 ghost use Rattle.board_node.specs.Hearings.{after, grown, heard_of, AreInTurn, IsAmongLast, IsQuestion};
@@ -44,11 +43,12 @@ pub fn the_numbered_entries_make_the_expected_identifier()
         (id ≡ expected board) × (numbered (hear board datagram).board.log ≡ numbered board.log + 1) }
 {}
 
-/// A control packet that was executed under a number is dropped each time that it is heard again, whatever was heard in
-/// between, as long as its number does not come round: until 65,535 packets were numbered, itself counted. So no datagram
-/// is executed twice under one number.
+/// A control packet that was executed under a number is dropped each time that it is heard again, whatever was heard
+/// in between, as long as its number does not come round: until 65,535 packets were numbered, itself counted. So no
+/// datagram is executed twice under one number.
 pub fn a_repeated_packet_changes_nothing()
-    ensures { (board : BoardValue) (datagram : List ℕ) (between : List (List ℕ)) (order : Order) (id : ℕ) (body : List ℕ) →
+    ensures { (board : BoardValue) (datagram : List ℕ) (between : List (List ℕ)) (order : Order) (id : ℕ)
+        (body : List ℕ) →
         IsIdentifier board.first → to_board datagram ≡ Some (ControlPacket order id body) → id ≢ 0 →
         (hear board datagram).heard ≡ Replied →
         let later = after (hear board datagram).board between in
@@ -61,8 +61,8 @@ pub fn questions_change_nothing()
         after board datagrams ≡ board }
 {}
 
-/// A re-send request for a numbered packet is answered by exactly the bytes that answered it first, whatever was heard in
-/// between, while no more packets were numbered than the board has buffers, itself counted.
+/// A re-send request for a numbered packet is answered by exactly the bytes that answered it first, whatever was heard
+/// in between, while no more packets were numbered than the board has buffers, itself counted.
 pub fn a_reply_is_sent_again_as_it_was()
     ensures { (board : BoardValue) (datagram : List ℕ) (between : List (List ℕ)) (order : Order) (id : ℕ)
         (body request : List ℕ) → IsIdentifier board.first → IsBufferCount board.buffers →
@@ -84,8 +84,8 @@ pub fn the_last_replies_alone_are_held()
         hear board request ≡ dropped board NotHeld }
 {}
 
-/// A control packet of identifier 0 that is not too long is executed at each arrival, each time on the bus that the last
-/// one left, and leaves the expected identifier.
+/// A control packet of identifier 0 that is not too long is executed at each arrival, each time on the bus that the
+/// last one left, and leaves the expected identifier.
 pub fn identifier_0_is_executed_at_each_arrival()
     ensures replied { (board : BoardValue) (datagram : List ℕ) (order : Order) (body : List ℕ) (times : ℕ) →
         to_board datagram ≡ Some (ControlPacket order 0 body) → is_too_long board body ≡ false →
@@ -99,8 +99,8 @@ pub fn identifier_0_is_executed_at_each_arrival()
         expected (after board (replicate times datagram)) ≡ expected board }
 {}
 
-/// Control packets with the identifiers in turn, none too long, are all executed and answered, however many they are: past
-/// 0xffff, which 1 follows, and past any number of such rounds.
+/// Control packets with the identifiers in turn, none too long, are all executed and answered, however many they are:
+/// past 0xffff, which 1 follows, and past any number of such rounds.
 pub fn packets_in_turn_are_all_executed()
     ensures replied { (board : BoardValue) (datagrams : List (List ℕ)) →
         AreInTurn board (numbered board.log + 1) datagrams →

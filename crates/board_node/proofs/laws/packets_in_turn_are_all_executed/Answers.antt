@@ -12,9 +12,16 @@ returns-clause-replied c = λ board datagrams all. (went_on board datagrams all)
 
 pub returns-clause-executed : goal.returns-clause-executed
 returns-clause-executed c = λ board datagrams all.
-    omega (arith, (went_on board datagrams all).executed, length-map board.log body_of, length-map (after board datagrams).log body_of)
+    omega (
+      arith,
+      (went_on board datagrams all).executed,
+      length-map board.log body_of,
+      length-map
+          (after board datagrams).log body_of,
+    )
 
 pub returns-clause-next : goal.returns-clause-next
 returns-clause-next c = λ board datagrams all.
-    ap (λ (f : ℕ). identifier_at f (numbered (after board datagrams).log + 1)) (same_first board (after board datagrams) (grew board datagrams))
+    ap (λ (f : ℕ). identifier_at f (numbered (after board datagrams).log + 1))
+    (same_first board (after board datagrams) (grew board datagrams))
     ∙ ap (λ (k : ℕ). identifier_at board.first (k + 1)) (went_on board datagrams all).count

@@ -8,7 +8,8 @@ use Rattle.board_node.proofs.laws.the_numbered_entries_make_the_expected_identif
 
 pub returns-clause-expected : goal.returns-clause-expected
 returns-clause-expected c = λ board datagrams.
-    ap (λ (f : ℕ). identifier_at f (numbered (after board datagrams).log + 1)) (same_first board (after board datagrams) (grew board datagrams))
+    ap (λ (f : ℕ). identifier_at f (numbered (after board datagrams).log + 1))
+    (same_first board (after board datagrams) (grew board datagrams))
 
 pub returns-clause-in_turn : goal.returns-clause-in_turn
 returns-clause-in_turn c = λ board datagram order id body said not heard.

@@ -10,5 +10,6 @@ pub returns : goal.returns
 returns c =
     let i = c.self.inside in
     let is = c.self.invariant in
-    subst (λ (b : Board). (datagram : List ℕ) → length (answer_bytes (hear b datagram).answer) + ip_udp_bytes ≤ b.mtu) c.self.view_is
+    subst (λ (b : Board). (datagram : List ℕ) → length (answer_bytes (hear b datagram).answer) + ip_udp_bytes ≤ b.mtu)
+    c.self.view_is
     (answer_fits c.a_reply_has_room.ensures (board_of i) is.mtu i.replies.items is.kept is.fit)
