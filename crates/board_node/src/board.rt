@@ -30,11 +30,11 @@ use std::marker::Model;
 use transaction_codec::reply_room;
 use world_model::{DropCause, Heard, LogEntry};
 
-/// The bytes of the headers of IPv4 and UDP, which an MTU counts.
-const IP_UDP_BYTES: u32 = 28;
+/// The bytes of the headers of IPv4 and UDP, which an MTU counts (RFC 791, RFC 768).
+pub(crate) const IP_UDP_BYTES: u32 = 28;
 
 /// The words of a status packet after its header (IPbus 2.0, status packet).
-const STATUS_BODY_WORDS: usize = 15;
+pub(crate) const STATUS_BODY_WORDS: usize = 15;
 
 /// A board. Contracts see it as the bus that it opened with, its MTU, its buffers, the identifier that it expected
 /// first and the control packets that it executed.

@@ -1,9 +1,10 @@
 //! Laws of a board, for every list of datagrams that it hears. These functions do nothing when they run: their clauses
 //! are what is proved. `hear` is what `Board::hear` does.
 
-ghost use Rattle.std.specs.Prelude.{◌≡◌, ◌≢◌, ℕ, ◌+◌, ◌<◌, ◌≤◌, false, List, [], ◌∷◌, length};
+ghost use Rattle.std.specs.Prelude.{◌≡◌, ◌≢◌, ℕ, ◌+◌, ◌*◌, ◌<◌, ◌≤◌, false, List, [], ◌∷◌, length};
 ghost use Rattle.std.specs.Prelude.{map, replicate, Some};
 ghost use Rattle.std.specs.List.{AllByRecursion};
+ghost use Rattle.ipb_base.specs.Numbers.{ip_udp_bytes};
 ghost use Rattle.packet_codec.specs.declared.packet.Order.{Order};
 ghost use Rattle.packet_ids.specs.Identifier.{identifier_at, IsIdentifier};
 ghost use Rattle.packet_ids.specs.declared.places.TheConstants.{IDENTIFIERS};
@@ -16,6 +17,15 @@ ghost use Rattle.world_model.specs.Messages.{ControlPacket, ResendRequest, to_bo
 ghost use Rattle.world_model.specs.Board.{Board as BoardValue, body_of, dropped, executed, expected, hear, is_too_long};
 ghost use Rattle.world_model.specs.Board.{numbered, present_bus};
 ghost use Rattle.board_node.specs.Hearings.{after, grown, heard_of, AreInTurn, IsAmongLast, IsQuestion};
+
+use crate::board::{IP_UDP_BYTES, STATUS_BODY_WORDS};
+use status_packet::STATUS_BYTES;
+
+/// The bytes of the headers that an MTU counts, and the words of a status packet after its header.
+pub fn the_numbers_of_a_board()
+    ensures headers { IP_UDP_BYTES ≡ ip_udp_bytes }
+    ensures status { 4 * (STATUS_BODY_WORDS + 1) ≡ STATUS_BYTES }
+{}
 
 /// Whatever a board hears, nothing of it changes but the log, which grows at its end.
 pub fn the_log_only_grows()
