@@ -1,0 +1,47 @@
+-- How the code keeps a board. The private functions speak of it and no public clause does.
+use Rattle.std.specs.Prelude.{◌≡◌, ℕ, ◌+◌, ◌≤◌, Bool, if◌then◌else◌, List, [], ◌∷◌, length, Option, Some, None}
+use Rattle.std.specs.List.{AllByRecursion}
+use denote.Bor.{Bor}
+use Rattle.ipb_base.specs.Numbers.{payload_of}
+use Rattle.packet_codec.specs.declared.packet.Packet.{Packet}
+use Rattle.packet_codec.specs.declared.packet.TheConstants.{MAX_BODY_WORDS}
+use Rattle.status_packet.specs.Range.{IsMtu, IsBufferCount}
+use Rattle.world_model.specs.Messages.{ToBoard, said_to_board}
+use Rattle.world_model.specs.Board.{Board, replies, present_bus, numbered_replies}
+use Rattle.board_node.specs.Log.{IsLoggable}
+use Rattle.board_node.specs.declared.board.Board.TheInside.{Inside}
+
+-- the board: the present bus and the kept replies are no part of it
+abbrev pub board_of : Inside → Board
+board_of b = record { opening = b.opening; mtu = b.mtu; buffers = b.buffers; first = b.first; log = b.log.items }
+
+-- a packet that is not longer than a packet may be
+abbrev pub IsShort : Packet → Type 0
+IsShort packet = length packet.body ≤ MAX_BODY_WORDS
+
+-- a packet that is not longer than the MTU allows
+abbrev pub FitsMtu : ℕ → Packet → Type 0
+FitsMtu mtu packet = length packet.body + 1 ≤ payload_of mtu
+
+-- the bus is the one after the log, and the kept replies are those of the numbered entries
+pub record IsCurrent (b : Inside) : Type 0 where
+  pub mtu : IsMtu b.mtu
+  pub buffers : IsBufferCount b.buffers
+  pub bus : b.bus ≡ present_bus (board_of b)
+  pub kept : b.replies.items ≡ numbered_replies b.first 1 b.log.items (replies (board_of b))
+  pub fit : AllByRecursion (FitsMtu b.mtu) b.replies.items
+  pub logged : AllByRecursion (IsLoggable b.mtu) b.log.items
+
+-- a packet that is kept where it was numbered
+abbrev pub if_numbered : Bool → Packet → List Packet
+if_numbered numbered packet = if numbered then packet ∷ [] else []
+
+-- what a packet says to a board, if there is one
+abbrev pub said_by : Option Packet → Option ToBoard
+said_by None = None
+said_by (Some packet) = said_to_board packet.kind packet.order packet.id packet.body
+
+-- the packet that is lent, if there is one
+abbrev pub lent : Option (Bor Packet) → Option Packet
+lent None = None
+lent (Some packet) = Some packet.now
