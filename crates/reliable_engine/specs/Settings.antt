@@ -1,0 +1,14 @@
+-- The settings of a session. Profile.
+use Rattle.std.specs.Prelude.{ℕ, ◌≤◌}
+use Rattle.reliable_engine.specs.declared.settings.TheConstants.{MAX_WINDOW}
+
+-- the two numbers
+pub record Limits : Type 0 where
+  pub rounds : ℕ
+  pub window : ℕ
+
+-- the numbers that settings can have
+pub record AreLimits (s : Limits) : Type 0 where
+  pub a_round : 1 ≤ s.rounds
+  pub a_place : 1 ≤ s.window
+  pub not_wide : s.window ≤ MAX_WINDOW

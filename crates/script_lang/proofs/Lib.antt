@@ -1,0 +1,4 @@
+pub mod Values
+pub mod Cuts
+pub mod Faults
+pub mod Numbers

@@ -1,0 +1,17 @@
+//! Session documents: TOML read into a session of tables, boards and scripts, or the first fault of the document.
+#![tactic(auto)]
+
+mod boards;
+mod fields;
+mod keys;
+mod refusal;
+mod session;
+mod steps;
+mod texts;
+mod walk;
+
+pub use board_node::{BoardSpec, Fates, LinkSpec, Ranges};
+pub use ipb_base::{NoMemory, Text};
+pub use refusal::{DocWhy, SessionRefusal};
+pub use reliable_engine::Settings;
+pub use session::{Boards, Script, Scripts, Session};
