@@ -1,10 +1,10 @@
 -- Every offered body stands once among the fates, the places that are waited for and the queue.
-use Rattle.std.proofs.Common.{◌≡◌, ℕ, zero, suc, ◌+◌, ◌-◌, ◌<◌, ◌≤◌, ◌==◌, Bool, true, false, cond, List, [], ◌∷◌, ◌++◌, length, map, Option, Some, None, Result, Ok, Err, refl, sym, ap, ◌∙◌, subst, arith, length-append, append_assoc, inl, inr, if◌then◌else◌}
-use Rattle.std.specs.Prelude.{nat_le, nat_lt, IfSome, IfOk}
-use Rattle.std.proofs.lemmas.List.{append-nil, map-append}
+use Rattle.std.proofs.Common.{◌≡◌, ℕ, zero, suc, ◌+◌, ◌≤◌, ◌==◌, Bool, true, false, cond, List, [], ◌∷◌, ◌++◌, length, map, Option, Some, None, Result, refl, sym, ap, ◌∙◌, subst, arith, length-append}
+use Rattle.std.specs.Prelude.{nat_lt, IfSome, IfOk}
+use Rattle.std.proofs.lemmas.List.{map-append}
 use Rattle.std.proofs.lemmas.Bool.{eqb-true, eq-eqb}
 use Rattle.std.specs.List.{AllByRecursion, slice_get}
-use Rattle.ipb_base.proofs.AllLemmas.{AllByRecursion-append, all-map}
+use Rattle.ipb_base.proofs.AllLemmas.{AllByRecursion-append}
 use Rattle.packet_ids.specs.Identifier.{identifier_at}
 use Rattle.world_model.specs.declared.datagram.Datagram.{Datagram}
 use Rattle.world_model.specs.declared.offered.Offered.{Offered}
@@ -17,12 +17,12 @@ use Rattle.world_model.specs.declared.moves.WorldEnd.{WorldEnd}
 use Rattle.world_model.specs.Places.{at_place}
 use Rattle.world_model.specs.Messages.{to_hub}
 use Rattle.world_model.specs.Board.{Board}
-use Rattle.world_model.specs.Hub.{Hub, low, want_control, offer, goes_before, insert_fate, tag_of, open_with, without, settle, recover, recovered, take_message, abandoned, time_out, unsent, want_status, give_up, hear_quiet, places, place_of}
+use Rattle.world_model.specs.Hub.{Hub, want_control, offer, goes_before, insert_fate, tag_of, open_with, without, settle, recover, take_message, abandoned, time_out, unsent, give_up, hear_quiet, places}
 use Rattle.world_model.specs.Sends.{Next, Wanted, after_open, wanted, opened, next_send, pending}
-use Rattle.world_model.specs.World.{World, sent_into, flush, handed_out, with_hub, go_on, board_hears, step, run_moves, start}
+use Rattle.world_model.specs.World.{World, sent_into, flush, handed_out, with_hub, go_on, step, run_moves, start}
 use Rattle.world_model.specs.History.{IsMove, IsRun, IsHandedOut, IsAccounted, IsOffered, offers, times, tag_of_offered, tag_of_fate, waited_tags, placed_tags}
 use Rattle.world_model.proofs.Lists.{either, at_front, at_exists, at_seam, all_get}
-use Rattle.world_model.proofs.Flushing.{send_cases, flush_keeps, message_cases, quiet_cases, step_cases, run_by, ok_map, IsOut, run_out}
+use Rattle.world_model.proofs.Flushing.{send_cases, flush_keeps, message_cases, quiet_cases, step_cases, run_by, ok_map, run_out}
 
 -- ---- how often a number stands in a list
 
@@ -76,12 +76,12 @@ pub record AreAlike (os qs : List OpenPlace) : Type 0 where
 
 alike_cons : (o q : OpenPlace) (os qs : List OpenPlace) → q.place ≡ o.place → q.waited ≡ o.waited → AreAlike os qs → AreAlike (o ∷ os) (q ∷ qs)
 alike_cons o q os qs place waited is = record {
-    places = ap (λ (p : ℕ). p ∷ places qs) place ∙ ap (λ (ps : List ℕ). o.place ∷ ps) is.places;
-    waited = λ sent.
+  places = ap (λ (p : ℕ). p ∷ places qs) place ∙ ap (λ (ps : List ℕ). o.place ∷ ps) is.places;
+  waited = λ sent.
       ap (λ (p : ℕ). cond q.waited (tag_of (at_place sent p) ∷ waited_tags sent qs) (waited_tags sent qs)) place
-        ∙ (ap (λ (b : Bool). cond b (tag_of (at_place sent o.place) ∷ waited_tags sent qs) (waited_tags sent qs)) waited
-        ∙ ap (λ (tags : List ℕ). cond o.waited (tag_of (at_place sent o.place) ∷ tags) tags) (is.waited sent));
-  }
+      ∙ (ap (λ (b : Bool). cond b (tag_of (at_place sent o.place) ∷ waited_tags sent qs) (waited_tags sent qs)) waited
+      ∙ ap (λ (tags : List ℕ). cond o.waited (tag_of (at_place sent o.place) ∷ tags) tags) (is.waited sent));
+}
 
 pub alike_same : (os : List OpenPlace) → AreAlike os os
 alike_same os = record { places = refl; waited = λ _. refl }
@@ -102,8 +102,8 @@ wanted_alike first [] = tt
 wanted_alike first (o ∷ os) = either (λ (r : Option Wanted). IfSome r (λ (w : Wanted). AreAlike (o ∷ os) w.open_places)) o.resend _ _
     (λ _. alike_cons o (record o { resend = false }) os os refl refl (alike_same os))
     (λ _. either (λ (r : Option Wanted). IfSome r (λ (w : Wanted). AreAlike (o ∷ os) w.open_places)) o.control _ _
-      (λ _. alike_cons o (record o { control = false }) os os refl refl (alike_same os))
-      (λ _. alike_later o os (wanted first os) (wanted_alike first os)))
+    (λ _. alike_cons o (record o { control = false }) os os refl refl (alike_same os))
+    (λ _. alike_later o os (wanted first os) (wanted_alike first os)))
 
 pub wanted_is_alike : (first : ℕ) (os : List OpenPlace) (w : Wanted) → wanted first os ≡ Some w → AreAlike os w.open_places
 wanted_is_alike first os w e = subst (λ (r : Option Wanted). IfSome r (λ (x : Wanted). AreAlike os x.open_places)) e (wanted_alike first os)
@@ -115,10 +115,10 @@ none_waited sent (o ∷ os) = none_waited sent os
 waited-append : (sent : List Offered) (os qs : List OpenPlace) → waited_tags sent (os ++ qs) ≡ waited_tags sent os ++ waited_tags sent qs
 waited-append sent [] qs = refl
 waited-append sent (o ∷ os) qs = elim o.waited as (λ b. cond b (tag_of (at_place sent o.place) ∷ waited_tags sent (os ++ qs)) (waited_tags sent (os ++ qs))
-      ≡ cond b (tag_of (at_place sent o.place) ∷ waited_tags sent os) (waited_tags sent os) ++ waited_tags sent qs) [
-    | true ↦ ap (λ (tags : List ℕ). tag_of (at_place sent o.place) ∷ tags) (waited-append sent os qs)
-    | false ↦ waited-append sent os qs
-  ]
+    ≡ cond b (tag_of (at_place sent o.place) ∷ waited_tags sent os) (waited_tags sent os) ++ waited_tags sent qs) [
+      | true ↦ ap (λ (tags : List ℕ). tag_of (at_place sent o.place) ∷ tags) (waited-append sent os qs)
+      | false ↦ waited-append sent os qs
+    ]
 
 abbrev pub AreUpTo : ℕ → List ℕ → Type 0
 AreUpTo last ps = AllByRecursion (λ (p : ℕ). p ≤ last) ps
@@ -131,7 +131,7 @@ waited_before : (sent more : List Offered) (os : List OpenPlace) → AreUpTo (le
 waited_before sent more [] all = refl
 waited_before sent more (o ∷ os) all =
     ap (λ (x : Option Offered). cond o.waited (tag_of x ∷ waited_tags (sent ++ more) os) (waited_tags (sent ++ more) os)) (same_place sent more o.place all.0)
-      ∙ ap (λ (tags : List ℕ). cond o.waited (tag_of (at_place sent o.place) ∷ tags) tags) (waited_before sent more os all.1)
+    ∙ ap (λ (tags : List ℕ). cond o.waited (tag_of (at_place sent o.place) ∷ tags) tags) (waited_before sent more os all.1)
 
 -- the place of a first send is waited for
 waits_push : (tag : ℕ) (sent : List Offered) (o : Offered) (os : List OpenPlace) → AreUpTo (length sent) (places os)
@@ -140,9 +140,9 @@ waits_push tag sent o os all =
     let more = sent ++ o ∷ [] in
     let here : tag_of (at_place more (length sent + 1)) ≡ o.tag = ap tag_of (at_seam sent [] o) in
     ap (times tag) (waited-append more os (opened (length sent + 1) ∷ []))
-      ∙ (times-append tag (waited_tags more os) (tag_of (at_place more (length sent + 1)) ∷ [])
-      ∙ (ap (λ (tags : List ℕ). times tag tags + times tag (tag_of (at_place more (length sent + 1)) ∷ [])) (waited_before sent (o ∷ []) os all)
-      ∙ ap (λ (t : ℕ). waits tag sent os + times tag (t ∷ [])) here))
+    ∙ (times-append tag (waited_tags more os) (tag_of (at_place more (length sent + 1)) ∷ [])
+    ∙ (ap (λ (tags : List ℕ). times tag tags + times tag (tag_of (at_place more (length sent + 1)) ∷ [])) (waited_before sent (o ∷ []) os all)
+    ∙ ap (λ (t : ℕ). waits tag sent os + times tag (t ∷ [])) here))
 
 -- ---- a place that is closed
 
@@ -152,9 +152,9 @@ waits_at tag sent o = cond o.waited (times tag (tag_of (at_place sent o.place) �
 
 waits_cons : (tag : ℕ) (sent : List Offered) (o : OpenPlace) (os : List OpenPlace) → waits tag sent (o ∷ os) ≡ waits_at tag sent o + waits tag sent os
 waits_cons tag sent o os = elim o.waited as (λ b. times tag (cond b (tag_of (at_place sent o.place) ∷ waited_tags sent os) (waited_tags sent os)) ≡ cond b (times tag (tag_of (at_place sent o.place) ∷ [])) 0 + waits tag sent os) [
-    | true ↦ omega arith
-    | false ↦ omega arith
-  ]
+  | true ↦ omega arith
+  | false ↦ omega arith
+]
 
 abbrev pub IsClosed : ℕ → ℕ → ℕ → List Offered → List OpenPlace → Option OpenPlace → Type 0
 IsClosed tag first id sent os None = Unit {0}
@@ -166,10 +166,13 @@ closed_here tag first id sent o os named = (named, rw (eq-eqb o.place o.place re
 -- the place that was found, and no other: another one with its number would have been found before it
 closed_later : (tag first id : ℕ) (sent : List Offered) (o : OpenPlace) (os : List OpenPlace) (r : Option OpenPlace) → (identifier_at first o.place == id) ≡ false → IsClosed tag first id sent os r → IsClosed tag first id sent (o ∷ os) r
 closed_later tag first id sent o os None other is = tt
-closed_later tag first id sent o os (Some x) other is = (is.0, elim (o.place == x.place) as (λ b. (o.place == x.place) ≡ b → waits tag sent (o ∷ os) ≡ waits_at tag sent x + waits tag sent (cond b os (o ∷ without x.place os))) [
+closed_later tag first id sent o os (Some x) other is = (
+  is.0,
+  elim (o.place == x.place) as (λ b. (o.place == x.place) ≡ b → waits tag sent (o ∷ os) ≡ waits_at tag sent x + waits tag sent (cond b os (o ∷ without x.place os))) [
     | true ↦ λ e. absurd (let same = eqb-true o.place x.place e in let named : (identifier_at first o.place == id) ≡ true = rw same (is.0) in cc)
     | false ↦ λ _. omega (arith, waits_cons tag sent o os, waits_cons tag sent o (without x.place os), is.1)
-  ] refl)
+  ] refl,
+)
 
 closed : (tag first id : ℕ) (sent : List Offered) (os : List OpenPlace) → IsClosed tag first id sent os (open_with first id os)
 closed tag first id sent [] = tt
@@ -183,9 +186,9 @@ closed_is tag first id sent os o e = (subst (IsClosed tag first id sent os) e (c
 all_without : (P : ℕ → Type 0) (place : ℕ) (os : List OpenPlace) → AllByRecursion P (places os) → AllByRecursion P (places (without place os))
 all_without P place [] all = tt
 all_without P place (o ∷ os) all = elim (o.place == place) as (λ b. AllByRecursion P (places (cond b os (o ∷ without place os)))) [
-    | true ↦ all.1
-    | false ↦ (all.0, all_without P place os all.1)
-  ]
+  | true ↦ all.1
+  | false ↦ (all.0, all_without P place os all.1)
+]
 
 -- ---- a give-up
 
@@ -222,10 +225,10 @@ pub record IsBalanced (tag offered : ℕ) (told : List (ℕ × Fate)) (h : Hub) 
 -- events that change only what is wanted of open places
 balanced_alike : (tag offered : ℕ) (told : List (ℕ × Fate)) (h : Hub) (os : List OpenPlace) → AreAlike h.open_places os → IsBalanced tag offered told h → IsBalanced tag offered told (record h { open_places = os })
 balanced_alike tag offered told h os same is = record {
-    up_to = subst (AreUpTo (length h.sent)) (sym same.places) is.up_to;
-    all = omega (arith, is.all, ap (times tag) (same.waited h.sent));
-    placed = omega (arith, is.placed, ap (times tag) (same.waited h.sent));
-  }
+  up_to = subst (AreUpTo (length h.sent)) (sym same.places) is.up_to;
+  all = omega (arith, is.all, ap (times tag) (same.waited h.sent));
+  placed = omega (arith, is.placed, ap (times tag) (same.waited h.sent));
+}
 
 offer_balanced : (tag offered : ℕ) (told : List (ℕ × Fate)) (h : Hub) (o : Offered) → IsBalanced tag offered told h → IsBalanced tag (offered + times tag (o.tag ∷ [])) told (offer h o)
 offer_balanced tag offered told h o is =
@@ -237,8 +240,8 @@ offer_balanced tag offered told h o is =
       placed = is.placed;
     } in
     either (λ (os : List OpenPlace). IsBalanced tag (offered + times tag (o.tag ∷ [])) told (record h { queue = h.queue ++ o ∷ []; open_places = os; gave_up = false })) h.gave_up _ _
-      (λ _. balanced_alike tag _ told (record h { queue = h.queue ++ o ∷ []; gave_up = false }) (map want_control h.open_places) (alike_map want_control h.open_places (λ _. (refl, refl))) queued)
-      (λ _. queued)
+    (λ _. balanced_alike tag _ told (record h { queue = h.queue ++ o ∷ []; gave_up = false }) (map want_control h.open_places) (alike_map want_control h.open_places (λ _. (refl, refl))) queued)
+    (λ _. queued)
 
 settle_balanced : (tag offered : ℕ) (told : List (ℕ × Fate)) (h : Hub) (id : ℕ) (words : List ℕ) (o : OpenPlace) → open_with h.first id h.open_places ≡ Some o → IsBalanced tag offered told h → IsBalanced tag offered told (settle h words (Some o))
 settle_balanced tag offered told h id words o e is =
@@ -247,20 +250,20 @@ settle_balanced tag offered told h id words o e is =
     let gone = without o.place h.open_places in
     let left = closed_is tag h.first id h.sent h.open_places o e in
     let by : (b : Bool) → waits tag h.sent h.open_places ≡ cond b (times tag (t ∷ [])) 0 + waits tag h.sent gone
-        → IsBalanced tag offered told (record h { open_places = gone; status_requests = 0; fates = cond b (insert_fate o.place new h.fates) h.fates }) =
-      λ b. elim b as (λ (x : Bool). waits tag h.sent h.open_places ≡ cond x (times tag (t ∷ [])) 0 + waits tag h.sent gone
-        → IsBalanced tag offered told (record h { open_places = gone; status_requests = 0; fates = cond x (insert_fate o.place new h.fates) h.fates })) [
-        | true ↦ λ k. record {
-            up_to = all_without (λ (p : ℕ). p ≤ length h.sent) o.place h.open_places is.up_to;
-            all = omega (arith, is.all, k, count_inserted (tagged_fates tag) (tagged_count tag) o.place new h.fates);
-            placed = omega (arith, is.placed, k, count_inserted (placed_fates tag) (placed_count tag) o.place new h.fates);
-          }
-        | false ↦ λ k. record {
-            up_to = all_without (λ (p : ℕ). p ≤ length h.sent) o.place h.open_places is.up_to;
-            all = omega (arith, is.all, k);
-            placed = omega (arith, is.placed, k);
-          }
-      ] in
+    → IsBalanced tag offered told (record h { open_places = gone; status_requests = 0; fates = cond b (insert_fate o.place new h.fates) h.fates }) =
+    λ b. elim b as (λ (x : Bool). waits tag h.sent h.open_places ≡ cond x (times tag (t ∷ [])) 0 + waits tag h.sent gone
+    → IsBalanced tag offered told (record h { open_places = gone; status_requests = 0; fates = cond x (insert_fate o.place new h.fates) h.fates })) [
+      | true ↦ λ k. record {
+        up_to = all_without (λ (p : ℕ). p ≤ length h.sent) o.place h.open_places is.up_to;
+        all = omega (arith, is.all, k, count_inserted (tagged_fates tag) (tagged_count tag) o.place new h.fates);
+        placed = omega (arith, is.placed, k, count_inserted (placed_fates tag) (placed_count tag) o.place new h.fates);
+      }
+      | false ↦ λ k. record {
+        up_to = all_without (λ (p : ℕ). p ≤ length h.sent) o.place h.open_places is.up_to;
+        all = omega (arith, is.all, k);
+        placed = omega (arith, is.placed, k);
+      }
+    ] in
     by o.waited left
 
 message_balanced : (tag offered : ℕ) (told : List (ℕ × Fate)) (h : Hub) (bytes : List ℕ) → IsBalanced tag offered told h → IsBalanced tag offered told (take_message h (to_hub bytes))
@@ -275,10 +278,22 @@ give_up_balanced tag offered told h is =
     let same = places_same abandoned h.open_places (λ _. refl) in
     record {
       up_to = subst (AreUpTo (length h.sent)) (sym same) is.up_to;
-      all = omega (arith, is.all, none, count_append (tagged_fates tag) (tagged_count tag) late (map unsent h.queue), ap (times tag) (unsent_tags h.queue),
-        time_out_count (tagged_fates tag) tag h.rounds (tagged_count tag) (λ _ _. refl) h.sent h.open_places h.fates);
-      placed = omega (arith, is.placed, none, count_append (placed_fates tag) (placed_count tag) late (map unsent h.queue), ap (times tag) (unsent_unplaced h.queue),
-        time_out_count (placed_fates tag) tag h.rounds (placed_count tag) (λ _ _. refl) h.sent h.open_places h.fates);
+      all = omega (
+        arith,
+        is.all,
+        none,
+        count_append (tagged_fates tag) (tagged_count tag) late (map unsent h.queue),
+        ap (times tag) (unsent_tags h.queue),
+        time_out_count (tagged_fates tag) tag h.rounds (tagged_count tag) (λ _ _. refl) h.sent h.open_places h.fates,
+      );
+      placed = omega (
+        arith,
+        is.placed,
+        none,
+        count_append (placed_fates tag) (placed_count tag) late (map unsent h.queue),
+        ap (times tag) (unsent_unplaced h.queue),
+        time_out_count (placed_fates tag) tag h.rounds (placed_count tag) (λ _ _. refl) h.sent h.open_places h.fates,
+      );
     }
 
 quiet_balanced : (tag offered : ℕ) (told : List (ℕ × Fate)) (h : Hub) → IsBalanced tag offered told h → IsBalanced tag offered told (hear_quiet h)
@@ -316,10 +331,10 @@ sends_balanced tag offered w is = send_cases (λ (n : Next). IsBalanced tag offe
 
 handed_balanced : (tag offered : ℕ) (w : World) → IsBalancedWorld tag offered w → IsBalancedWorld tag offered (handed_out w)
 handed_balanced tag offered w is = record {
-    up_to = is.up_to;
-    all = omega (arith, is.all, count_append (tagged_fates tag) (tagged_count tag) w.fates w.hub.fates);
-    placed = omega (arith, is.placed, count_append (placed_fates tag) (placed_count tag) w.fates w.hub.fates);
-  }
+  up_to = is.up_to;
+  all = omega (arith, is.all, count_append (tagged_fates tag) (tagged_count tag) w.fates w.hub.fates);
+  placed = omega (arith, is.placed, count_append (placed_fates tag) (placed_count tag) w.fates w.hub.fates);
+}
 
 go_on_balanced : (tag offered : ℕ) (w : World) (h : Hub) → IsBalanced tag offered w.fates h → IsBalancedWorld tag offered (go_on w h)
 go_on_balanced tag offered w h is = handed_balanced tag offered (flush (pending h) (with_hub w h))
@@ -357,7 +372,7 @@ run_balances tag at w ms can = run_by (λ _. Unit {0}) (Balances tag) (λ v offe
 pub accounted : (window rounds : ℕ) (board : Board) (air : List Datagram) (moves : List WorldMove) (w : World) (tag : ℕ) → IsRun window rounds board air moves w → IsAccounted moves w tag
 accounted window rounds board air moves w tag is =
     let ran = subst (λ (r : Result World WorldEnd). IfOk r (λ (v : World). Unit {0} × Balances tag moves (start window rounds board air) v)) is.leads.ran
-      (run_balances tag is.leads.at (start window rounds board air) moves is.leads.sendable) in
+    (run_balances tag is.leads.at (start window rounds board air) moves is.leads.sendable) in
     let all = ran.1 0 (record { up_to = tt; all = refl; placed = refl }) in
     let out = (run_out window rounds board air moves w is).1 in
     let tagged = ap (tagged_fates tag) out in
@@ -401,7 +416,7 @@ AllOffered P w = AllByRecursion P w.hub.sent × AllByRecursion P w.hub.queue
 go_on_offered : (P : Offered → Type 0) (w : World) (h : Hub) → AllByRecursion P h.sent → AllByRecursion P h.queue → AllOffered P (go_on w h)
 go_on_offered P w h sent queue = flush_keeps (AllOffered P)
     (λ v is. send_cases (λ (n : Next). AllByRecursion P n.hub.sent × AllByRecursion P n.hub.queue) v.hub is (λ _ _. is)
-      (λ o later e _. let all = subst (AllByRecursion P) e is.1 in (AllByRecursion-append P v.hub.sent (o ∷ []) is.0 (all.0, tt), all.1)))
+    (λ o later e _. let all = subst (AllByRecursion P) e is.1 in (AllByRecursion-append P v.hub.sent (o ∷ []) is.0 (all.0, tt), all.1)))
     (pending h) (with_hub w h) (sent, queue)
 
 abbrev pub Both : (Offered → Type 0) → Hub → Type 0
@@ -439,6 +454,6 @@ pub offered_there : (window rounds : ℕ) (board : Board) (air : List Datagram) 
 offered_there window rounds board air moves w place o is e =
     let P : Offered → Type 0 = IsOffered moves in
     let ran = subst (λ (r : Result World WorldEnd). IfOk r (λ (v : World). Unit {0} × KeepsOffered P moves (start window rounds board air) v)) is.leads.ran
-      (run_offered P is.leads.at (start window rounds board air) moves is.leads.sendable) in
+    (run_offered P is.leads.at (start window rounds board air) moves is.leads.sendable) in
     let all = ran.1 (λ number tag body there. record { number = number; move = there }) (tt, tt) in
     at_all P w.hub.sent place o all.0 e

@@ -1,5 +1,5 @@
 -- Each send leaves fewer sends pending, and at the end of them there is none to send.
-use Rattle.std.proofs.Common.{◌≡◌, ℕ, zero, suc, ◌+◌, ◌-◌, ◌<◌, ◌≤◌, Bool, true, false, cond, List, [], ◌∷◌, ◌++◌, length, Option, Some, None, refl, sym, ap, ◌∙◌, subst, arith, length-append, append_assoc, if◌then◌else◌}
+use Rattle.std.proofs.Common.{◌≡◌, ℕ, zero, suc, ◌+◌, ◌<◌, ◌≤◌, true, false, cond, List, [], ◌∷◌, ◌++◌, length, Option, Some, None, refl, sym, ap, ◌∙◌, subst, arith}
 use Rattle.std.specs.Prelude.{nat_le, nat_lt, IfSome, IfOk, Result, Ok, Err}
 use Rattle.std.proofs.lemmas.Bool.{leb-true, ltb-true, ltb-false}
 use Rattle.std.specs.List.{AllByRecursion, slice_get}
@@ -17,7 +17,7 @@ use Rattle.world_model.specs.declared.offered.OpenPlace.{OpenPlace}
 use Rattle.world_model.specs.declared.offered.Fate.{Fate}
 use Rattle.world_model.specs.Hub.{Hub, low, offer, open_with, settle, recovered, told_place, take_message, want_status, give_up, hear_quiet, is_waiting}
 use Rattle.world_model.specs.Sends.{Next, Wanted, after_open, wanted, opened, first_send, wanted_or_first, next_send, pending, wishes}
-use Rattle.world_model.specs.World.{World, sent_into, flush_on, flush, handed_out, with_hub, go_on, taken, hub_hears, board_hears, when_taken, step, moves_on, run_moves, start}
+use Rattle.world_model.specs.World.{World, sent_into, flush_on, flush, with_hub, go_on, taken, hub_hears, board_hears, when_taken, step, moves_on, run_moves, start}
 use Rattle.world_model.specs.History.{IsMove, IsRun}
 use Rattle.world_model.proofs.Lists.{either}
 
@@ -36,8 +36,8 @@ wanted_fewer first [] = tt
 wanted_fewer first (o ∷ os) = either (FewerWishes (o ∷ os)) o.resend _ _
     (λ e. rw e (omega arith))
     (λ _. either (FewerWishes (o ∷ os)) o.control _ _
-      (λ e. rw e (omega arith))
-      (λ _. fewer_later o os _ (wanted_fewer first os)))
+    (λ e. rw e (omega arith))
+    (λ _. fewer_later o os _ (wanted_fewer first os)))
 
 wishes_push : (os : List OpenPlace) (place : ℕ) → wishes (os ++ opened place ∷ []) ≡ wishes os
 wishes_push [] place = refl
@@ -93,13 +93,13 @@ pub flush_step : (w : World) (n : Next) → next_send w.hub ≡ Some n → flush
 flush_step w n e =
     let falls = some_falls w.hub n e in
     same_flush (pending w.hub) (suc (pending w.hub)) w (omega arith) (omega arith)
-      ∙ (flush_one (pending w.hub) w n e
-      ∙ same_flush (pending w.hub) (pending n.hub) (sent_into w n) (omega arith) (omega arith))
+    ∙ (flush_one (pending w.hub) w n e
+    ∙ same_flush (pending w.hub) (pending n.hub) (sent_into w n) (omega arith) (omega arith))
 
 pub flush_end : (w : World) → next_send w.hub ≡ None → flush (pending w.hub) w ≡ w
 flush_end w e =
     same_flush (pending w.hub) (suc (pending w.hub)) w (omega arith) (omega arith)
-      ∙ ap (λ (r : Option Next). flush_on r (λ next. flush (pending w.hub) (sent_into w next)) w) e
+    ∙ ap (λ (r : Option Next). flush_on r (λ next. flush (pending w.hub) (sent_into w next)) w) e
 
 -- ---- at the end nothing is to be sent
 
@@ -119,30 +119,26 @@ flush_sends_all (suc most) w few = last_of_flush most w (next_send w.hub) refl (
 
 -- ---- what a send can be
 
-pub ok_map : (r : Result World WorldEnd) (P Q : World → Type 0) → ((w : World) → P w → Q w) → IfOk r P → IfOk r Q
-ok_map (Ok w) P Q f is = f w is
-ok_map (Err e) P Q f is = tt
-
 pub send_cases : (Q : Next → Type 0) (h : Hub) → Q (record { send = sends.Status; hub = record h { status_wanted = false } })
     → ((w : Wanted) → wanted h.first h.open_places ≡ Some w → Q (record { send = w.send; hub = record h { open_places = w.open_places } }))
     → ((o : Offered) (later : List Offered) → h.queue ≡ o ∷ later → length h.sent + 2 ≤ h.window + low h
-      → Q (record {
-        send = sends.Control (length h.sent + 1) (identifier_at h.first (length h.sent + 1));
-        hub = record h { sent = h.sent ++ o ∷ []; queue = later; open_places = h.open_places ++ opened (length h.sent + 1) ∷ [] };
-      }))
+    → Q (record {
+      send = sends.Control (length h.sent + 1) (identifier_at h.first (length h.sent + 1));
+      hub = record h { sent = h.sent ++ o ∷ []; queue = later; open_places = h.open_places ++ opened (length h.sent + 1) ∷ [] };
+    }))
     → IfSome (next_send h) Q
 send_cases Q h status want first =
     let by_queue : (queue : List Offered) → h.queue ≡ queue → IfSome (first_send h queue) Q =
-        λ queue. elim queue as (λ (xs : List Offered). h.queue ≡ xs → IfSome (first_send h xs) Q) [
-          | [] ↦ λ _. tt
-          | o ∷ later ↦ λ e. either (λ (r : Option Next). IfSome r Q) (nat_le (length h.sent + 1 + 1) (h.window + low h)) _ _
-              (λ room. first o later e (let r = leb-true _ _ room in omega arith)) (λ _. tt)
-        ] in
+    λ queue. elim queue as (λ (xs : List Offered). h.queue ≡ xs → IfSome (first_send h xs) Q) [
+      | [] ↦ λ _. tt
+      | o ∷ later ↦ λ e. either (λ (r : Option Next). IfSome r Q) (nat_le (length h.sent + 1 + 1) (h.window + low h)) _ _
+          (λ room. first o later e (let r = leb-true _ _ room in omega arith)) (λ _. tt)
+    ] in
     let by_wish : (r : Option Wanted) → wanted h.first h.open_places ≡ r → IfSome (wanted_or_first h r) Q =
-        λ r. elim r as (λ (x : Option Wanted). wanted h.first h.open_places ≡ x → IfSome (wanted_or_first h x) Q) [
-          | None ↦ λ _. by_queue h.queue refl
-          | Some w ↦ λ e. want w e
-        ] in
+    λ r. elim r as (λ (x : Option Wanted). wanted h.first h.open_places ≡ x → IfSome (wanted_or_first h x) Q) [
+      | None ↦ λ _. by_queue h.queue refl
+      | Some w ↦ λ e. want w e
+    ] in
     either (λ (r : Option Next). IfSome r Q) h.status_wanted _ _ (λ _. status) (λ _. by_wish (wanted h.first h.open_places) refl)
 
 flush_keeps_by : (Q : World → Type 0) (w : World) (later : Next → World) (r : Option Next) → Q w → IfSome r (λ (n : Next). Q (sent_into w n)) → ((n : Next) → Q (sent_into w n) → Q (later n)) → Q (flush_on r later w)
@@ -179,6 +175,13 @@ quiet_cases Q h more last = either Q (nat_lt h.status_requests h.rounds) (want_s
 
 -- ---- moves
 
+pub ok_map : (r : Result World WorldEnd) (P Q : World → Type 0) → ((w : World) → P w → Q w) → IfOk r P → IfOk r Q
+ok_map (Ok w) P Q f is = f w is
+ok_map (Err e) P Q f is = tt
+
+pub ok_is : (Q : World → Type 0) (r : Result World WorldEnd) (w : World) → r ≡ Ok w → IfOk r Q → Q w
+ok_is Q r w e is = subst (λ (x : Result World WorldEnd). IfOk x Q) e is
+
 pub taken_by : (Q : World → Type 0) (r : Result (List ℕ) WorldEnd) (hears : List ℕ → World) → ((bytes : List ℕ) → Q (hears bytes)) → IfOk (when_taken r hears) Q
 taken_by Q (Ok bytes) hears f = f bytes
 taken_by Q (Err e) hears f = tt
@@ -208,8 +211,8 @@ pub run_by : (Q : World → Type 0) (R : List WorldMove → World → World → 
 run_by Q R none more one at w [] can is = (is, none w)
 run_by Q R none more one at w (m ∷ ms) can is =
     run_step_by (λ (v : World). Q v × R (m ∷ []) w v) (λ (x : World). Q x × R (m ∷ ms) w x) (step at w m) (λ after. run_moves (at + 1) after ms) (one at w m can.0 is)
-      (λ v moved. ok_map (run_moves (at + 1) v ms) (λ (x : World). Q x × R ms v x) (λ (x : World). Q x × R (m ∷ ms) w x)
-        (λ x later. (later.0, more m ms w v x moved.1 later.1)) (run_by Q R none more one (at + 1) v ms can.1 moved.0))
+    (λ v moved. ok_map (run_moves (at + 1) v ms) (λ (x : World). Q x × R ms v x) (λ (x : World). Q x × R (m ∷ ms) w x)
+    (λ x later. (later.0, more m ms w v x moved.1 later.1)) (run_by Q R none more one (at + 1) v ms can.1 moved.0))
 
 -- ---- fates change no send
 
@@ -240,7 +243,7 @@ pub send_told : (fates : List (ℕ × Fate)) (h : Hub) → ToldAlike fates (next
 send_told fates h =
     let next : Next = record { send = sends.Status; hub = record h { status_wanted = false } } in
     elim h.status_wanted as (λ b. ToldAlike fates (cond b (Some next) (wanted_or_first h (wanted h.first h.open_places)))
-        (cond b (Some (record { send = next.send; hub = with_fates fates next.hub })) (wanted_or_first (with_fates fates h) (wanted h.first h.open_places)))) [
+    (cond b (Some (record { send = next.send; hub = with_fates fates next.hub })) (wanted_or_first (with_fates fates h) (wanted h.first h.open_places)))) [
       | true ↦ refl
       | false ↦ or_told fates h (wanted h.first h.open_places)
     ]
@@ -268,5 +271,5 @@ step_out at w m is = step_cases IsOut at w m
 pub run_out : (window rounds : ℕ) (board : Board) (air : List Datagram) (moves : List WorldMove) (w : World) → IsRun window rounds board air moves w → IsOut w
 run_out window rounds board air moves w is =
     (subst (λ (r : Result World WorldEnd). IfOk r (λ (v : World). IsOut v × Unit {0})) is.leads.ran
-      (run_by IsOut (λ _ _ _. Unit {0}) (λ _. tt) (λ _ _ _ _ _ _ _. tt) (λ at v m _ out. ok_map (step at v m) IsOut (λ (x : World). IsOut x × Unit {0}) (λ x o. (o, tt)) (step_out at v m out))
-        is.leads.at (start window rounds board air) moves is.leads.sendable (refl, refl))).0
+    (run_by IsOut (λ _ _ _. Unit {0}) (λ _. tt) (λ _ _ _ _ _ _ _. tt) (λ at v m _ out. ok_map (step at v m) IsOut (λ (x : World). IsOut x × Unit {0}) (λ x o. (o, tt)) (step_out at v m out))
+    is.leads.at (start window rounds board air) moves is.leads.sendable (refl, refl))).0

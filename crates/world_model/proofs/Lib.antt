@@ -13,3 +13,4 @@ mod Greetings
 mod Flushing
 mod Waiting
 mod Accounts
+mod Patience

@@ -1,8 +1,8 @@
 -- A hub whose sends wait: an offer, a send and the handing out of fates keep what the state will be, and a move makes the next.
-use Rattle.std.proofs.Common.{◌≡◌, ℕ, zero, suc, ◌+◌, ◌<◌, ◌≤◌, Bool, true, false, cond, List, [], ◌∷◌, ◌++◌, length, map, Option, Some, None, Result, Ok, Err, refl, sym, ap, ◌∙◌, subst, arith, length-append, append_assoc, if◌then◌else◌}
-use Rattle.std.specs.Prelude.{nat_le, nat_lt, IfSome, IfOk}
+use Rattle.std.proofs.Common.{◌≡◌, ℕ, zero, suc, ◌+◌, ◌≤◌, Bool, true, false, cond, List, [], ◌∷◌, ◌++◌, length, map, Option, Some, None, Result, Ok, Err, refl, sym, ap, ◌∙◌, subst, arith}
+use Rattle.std.specs.Prelude.{nat_le, IfSome, IfOk}
 use Rattle.std.proofs.lemmas.List.{append-nil}
-use Rattle.std.specs.List.{AllByRecursion, slice_get}
+use Rattle.std.specs.List.{slice_get}
 use Rattle.ipb_base.proofs.AllLemmas.{AllByRecursion-append}
 use Rattle.packet_ids.specs.Identifier.{identifier_at}
 use Rattle.world_model.specs.declared.datagram.Datagram.{Datagram}
@@ -18,7 +18,7 @@ use Rattle.world_model.specs.declared.moves.WorldMove.TheVariants.{Offer, Quiet,
 use Rattle.world_model.specs.declared.moves.WorldEnd.{WorldEnd}
 use Rattle.world_model.specs.declared.moves.WorldEnd.TheVariants.{NotThere, TooOld}
 use Rattle.world_model.specs.Messages.{to_hub}
-use Rattle.world_model.specs.Hub.{Hub, low, want_control, offer, abandoned, settle, recovered, take_message, want_status, give_up, hear_quiet, is_waiting}
+use Rattle.world_model.specs.Hub.{Hub, low, want_control, offer, take_message, hear_quiet, is_waiting}
 use Rattle.world_model.specs.Sends.{Next, Wanted, after_open, wanted, opened, first_send, wanted_or_first, next_send, pending, wishes, bytes_to_send}
 use Rattle.world_model.specs.Air.{is_alive, goes_to}
 use Rattle.world_model.specs.World.{World, sent_into, flush_on, flush, handed_out, with_hub, go_on, taken, hub_hears, board_hears, when_taken, step, moves_on, run_moves}
@@ -26,7 +26,7 @@ use Rattle.world_model.specs.Facts.{IsSendable}
 use Rattle.world_model.specs.History.{IsMove}
 use Rattle.world_model.specs.Lanes.{IsState, caught_up, IsLaneState}
 use Rattle.world_model.proofs.Lists.{either}
-use Rattle.world_model.proofs.Flushing.{Falls, send_falls, some_falls, same_flush, flush_step, flush_end, send_cases, flush_keeps, message_cases, quiet_cases, step_cases, ok_map, with_fates, ToldAlike, send_told, IsOut, step_out}
+use Rattle.world_model.proofs.Flushing.{Falls, send_falls, some_falls, flush_step, flush_end, send_cases, flush_keeps, message_cases, quiet_cases, step_cases, ok_is, with_fates, ToldAlike, send_told, IsOut, step_out}
 
 -- ---- an offer, and the sends before it
 
@@ -38,7 +38,9 @@ queued h o = record h { queue = h.queue ++ o ∷ [] }
 offer_plain : (h : Hub) (o : Offered) → h.gave_up ≡ false → offer h o ≡ queued h o
 offer_plain h o e =
     ap (λ (b : Bool). record h {
-      queue = h.queue ++ o ∷ []; open_places = cond b (map want_control h.open_places) h.open_places; gave_up = false;
+      queue = h.queue ++ o ∷ [];
+      open_places = cond b (map want_control h.open_places) h.open_places;
+      gave_up = false;
     }) e ∙ ap (λ (b : Bool). record h { queue = h.queue ++ o ∷ []; gave_up = b }) (sym e)
 
 abbrev pub QueuedAlike : Hub → Offered → Option Next → Option Next → Type 0
@@ -65,7 +67,7 @@ send_alike : (h : Hub) (o : Offered) → QueuedAlike h o (next_send h) (next_sen
 send_alike h o =
     let next : Next = record { send = sends.Status; hub = record h { status_wanted = false } } in
     elim h.status_wanted as (λ b. QueuedAlike h o (cond b (Some next) (wanted_or_first h (wanted h.first h.open_places)))
-        (cond b (Some (record { send = next.send; hub = queued next.hub o })) (wanted_or_first (queued h o) (wanted h.first h.open_places)))) [
+    (cond b (Some (record { send = next.send; hub = queued next.hub o })) (wanted_or_first (queued h o) (wanted h.first h.open_places)))) [
       | true ↦ refl
       | false ↦ or_alike h o (wanted h.first h.open_places)
     ]
@@ -83,8 +85,9 @@ bytes_alike h o (sends.Control place id) = refl
 
 sent_alike : (w : World) (o : Offered) (n : Next) → sent_into (with_queued o w) (record { send = n.send; hub = queued n.hub o }) ≡ with_queued o (sent_into w n)
 sent_alike w o n = ap (λ (bytes : List ℕ). record w {
-    hub = queued n.hub o; air = w.air ++ record { direction = goes.ToBoard; bytes = bytes; birth = length n.hub.sent } ∷ [];
-  }) (bytes_alike n.hub o n.send)
+  hub = queued n.hub o;
+  air = w.air ++ record { direction = goes.ToBoard; bytes = bytes; birth = length n.hub.sent } ∷ [];
+}) (bytes_alike n.hub o n.send)
 
 later_case : (most : ℕ) (w : World) (o : Offered) (r : Option Next) → next_send w.hub ≡ r → Falls w.hub r → QueuedAlike w.hub o r (next_send (queued w.hub o)) → pending w.hub ≤ suc most
     → ((v : World) → pending v.hub ≤ most → all_sent (with_queued o v) ≡ all_sent (with_queued o (flush most v)))
@@ -110,8 +113,10 @@ bytes_told kept h (sends.Control place id) = refl
 
 sent_told : (kept told : List (ℕ × Fate)) (w : World) (n : Next) → sent_into (told_as kept told w) (record { send = n.send; hub = with_fates kept n.hub }) ≡ told_as kept told (sent_into w n)
 sent_told kept told w n = ap (λ (bytes : List ℕ). record w {
-    hub = with_fates kept n.hub; air = w.air ++ record { direction = goes.ToBoard; bytes = bytes; birth = length n.hub.sent } ∷ []; fates = told;
-  }) (bytes_told kept n.hub n.send)
+  hub = with_fates kept n.hub;
+  air = w.air ++ record { direction = goes.ToBoard; bytes = bytes; birth = length n.hub.sent } ∷ [];
+  fates = told;
+}) (bytes_told kept n.hub n.send)
 
 told_case : (kept told : List (ℕ × Fate)) (most : ℕ) (w : World) (r s : Option Next) → ToldAlike kept r s
     → ((v : World) → flush most (told_as kept told v) ≡ told_as kept told (flush most v))
@@ -120,7 +125,7 @@ told_case kept told most w None s alike later =
     ap (λ (x : Option Next). flush_on x (λ next. flush most (sent_into (told_as kept told w) next)) (told_as kept told w)) alike
 told_case kept told most w (Some n) s alike later =
     ap (λ (x : Option Next). flush_on x (λ next. flush most (sent_into (told_as kept told w) next)) (told_as kept told w)) alike
-      ∙ (ap (flush most) (sent_told kept told w n) ∙ later (sent_into w n))
+    ∙ (ap (flush most) (sent_told kept told w n) ∙ later (sent_into w n))
 
 flush_told : (kept told : List (ℕ × Fate)) (most : ℕ) (w : World) → flush most (told_as kept told w) ≡ told_as kept told (flush most w)
 flush_told kept told zero w = refl
@@ -130,8 +135,8 @@ flush_told kept told (suc most) w = told_case kept told most w (next_send w.hub)
 handed_same : (w : World) → w.hub.fates ≡ [] → handed_out w ≡ w
 handed_same w e =
     ap (λ (fates : List (ℕ × Fate)). told_as [] (w.fates ++ fates) w) e
-      ∙ (ap (λ (fates : List (ℕ × Fate)). told_as [] fates w) (append-nil w.fates)
-      ∙ ap (λ (fates : List (ℕ × Fate)). told_as fates w.fates w) (sym e))
+    ∙ (ap (λ (fates : List (ℕ × Fate)). told_as [] fates w) (append-nil w.fates)
+    ∙ ap (λ (fates : List (ℕ × Fate)). told_as fates w.fates w) (sym e))
 
 flush_fates : (most : ℕ) (w : World) → (flush most w).hub.fates ≡ w.hub.fates
 flush_fates most w = ap (λ (v : World). v.hub.fates) (flush_told w.hub.fates w.fates most w)
@@ -177,15 +182,15 @@ run_push at number begin [] m w new ran e =
     ap (λ (r : Result World WorldEnd). moves_on r (λ after. Ok after)) (ap (λ (v : World). step at v m) same ∙ same_step number at w m new e)
 run_push at number begin (x ∷ xs) m w new ran e =
     push_later (step at begin x) (λ after. run_moves (at + 1) after xs) (λ after. run_moves (at + 1) after (xs ++ m ∷ [])) w new ran
-      (λ v later. run_push (at + 1) number v xs m w new later e)
+    (λ v later. run_push (at + 1) number v xs m w new later e)
 
 -- a state of a run after a move that leads there
 moved_on : (begin w new : World) (number : ℕ) (m : WorldMove) → IsMove m → IsState begin w → step number w m ≡ Ok new → IsState begin new
 moved_on begin w new number m can is e = record {
-    moves = is.moves ++ m ∷ [];
-    sendable = AllByRecursion-append IsMove is.moves (m ∷ []) is.sendable (can, tt);
-    ran = run_push 0 number begin is.moves m w new is.ran e;
-  }
+  moves = is.moves ++ m ∷ [];
+  sendable = AllByRecursion-append IsMove is.moves (m ∷ []) is.sendable (can, tt);
+  ran = run_push 0 number begin is.moves m w new is.ran e;
+}
 
 -- ---- nothing waits
 
@@ -208,15 +213,15 @@ offered_same w o true e given_up told = ap (λ (v : World). go_on v (offer v.hub
 offered_same w o false e given_up told =
     let v = all_sent w in
     ap (λ (x : World). go_on x (offer x.hub o)) (handed_same v (flush_fates (pending w.hub) w ∙ told))
-      ∙ (ap (go_on v) (offer_plain v.hub o (gave_up_kept (pending w.hub) w false e))
-      ∙ (ap handed_out (sym (queued_later (pending w.hub) w o (omega arith)))
-      ∙ ap (go_on w) (sym (offer_plain w.hub o e))))
+    ∙ (ap (go_on v) (offer_plain v.hub o (gave_up_kept (pending w.hub) w false e))
+    ∙ (ap handed_out (sym (queued_later (pending w.hub) w o (omega arith)))
+    ∙ ap (go_on w) (sym (offer_plain w.hub o e))))
 
 pub offered_waits : (begin w : World) (o : Offered) → IsSendable o.body → IsLaneState begin w → w.hub.fates ≡ [] → IsLaneState begin (with_hub w (offer w.hub o))
 offered_waits begin w o can is told = record {
-    given_up = λ e. absurd (cc);
-    state = moved_on begin (caught_up w) (caught_up (with_hub w (offer w.hub o))) 0 (Offer o.tag o.body) can is.state (ap (λ (v : World). Ok v) (offered_same w o w.hub.gave_up refl is.given_up told));
-  }
+  given_up = λ e. absurd (cc);
+  state = moved_on begin (caught_up w) (caught_up (with_hub w (offer w.hub o))) 0 (Offer o.tag o.body) can is.state (ap (λ (v : World). Ok v) (offered_same w o w.hub.gave_up refl is.given_up told));
+}
 
 abbrev pub KeepsGivenUp : Hub → Next → Type 0
 KeepsGivenUp h n = n.hub.gave_up ≡ h.gave_up
@@ -275,7 +280,7 @@ go_on_empty : (w : World) (h : Hub) → EmptyOnceGivenUp h → EmptyOnceGivenUp 
 go_on_empty w h is =
     let Q : World → Type 0 = λ (v : World). EmptyOnceGivenUp v.hub in
     flush_keeps Q (λ v empty. send_cases (λ (n : Next). Q (sent_into v n)) v.hub empty (λ _ _. empty)
-      (λ o later e room g. absurd (let none = empty g in let some = ap (λ (xs : List Offered). length xs) e in omega arith))) (pending h) (with_hub w h) is
+    (λ o later e room g. absurd (let none = empty g in let some = ap (λ (xs : List Offered). length xs) e in omega arith))) (pending h) (with_hub w h) is
 
 step_empty : (at : ℕ) (w : World) (m : WorldMove) → EmptyOnceGivenUp w.hub → IfOk (step at w m) (λ (v : World). EmptyOnceGivenUp v.hub)
 step_empty at w m is = step_cases (λ (v : World). EmptyOnceGivenUp v.hub) at w m
@@ -284,9 +289,6 @@ step_empty at w m is = step_cases (λ (v : World). EmptyOnceGivenUp v.hub) at w 
     (λ i bytes _. go_on_empty w (take_message w.hub (to_hub bytes)) (message_cases EmptyOnceGivenUp w.hub (to_hub bytes) is (λ _. is) (λ _ _ _ _. is)))
     (λ i bytes _. is)
 
-ok_is : (Q : World → Type 0) (r : Result World WorldEnd) (w : World) → r ≡ Ok w → IfOk r Q → Q w
-ok_is Q r w e is = subst (λ (x : Result World WorldEnd). IfOk x Q) e is
-
 pub moved_waits : (begin w new : World) (at : ℕ) (m : WorldMove) → IsMove m → IsLaneState begin w → next_send w.hub ≡ None → w.hub.fates ≡ [] → step at w m ≡ Ok new → IsLaneState begin new
 moved_waits begin w new at m can is none told e =
     let out = ok_is IsOut (step at w m) new e (step_out at w m (none, told)) in
@@ -294,5 +296,5 @@ moved_waits begin w new at m can is none told e =
     record {
       given_up = λ g. none_pending new.hub out.0 (empty g);
       state = subst (IsState begin) (sym (caught_up_same new out.0 out.1))
-        (moved_on begin w new at m can (subst (IsState begin) (caught_up_same w none told) is.state) e);
+          (moved_on begin w new at m can (subst (IsState begin) (caught_up_same w none told) is.state) e);
     }
