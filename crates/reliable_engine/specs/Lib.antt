@@ -1,1 +1,4 @@
+pub mod Answers
 pub mod Settings
+pub mod Steps
+pub mod View

@@ -1,0 +1,4 @@
+mod Steps
+mod Places
+mod Keeping
+mod Hubs
