@@ -1,6 +1,7 @@
 -- The hub that an engine is, and what it answers.
 use Rattle.std.proofs.Common.{◌≡◌, ◌≤◌, ◌<◌, ℕ, zero, suc, Bool, true, false, cond, ◌⊎◌, length, take, drop}
-use Rattle.std.proofs.Common.{get_or, List, [], ◌∷◌, ◌++◌, ◌+◌, ◌-◌, Option, Some, None, refl, sym, ap, ◌∙◌, subst, arith}
+use Rattle.std.proofs.Common.{get_or, List, [], ◌∷◌, ◌++◌, ◌+◌, ◌-◌, Option, Some, None, refl, sym, ap, ◌∙◌, subst}
+use Rattle.std.proofs.Common.{arith}
 use Rattle.std.proofs.Common.{inl, inr}
 use Rattle.std.specs.Prelude.{◌↔◌}
 use Rattle.std.specs.List.{slice_get, AllByRecursion}
@@ -22,7 +23,8 @@ use Rattle.world_model.specs.Hub.{tag_of, open_with, without, place_with}
 use Rattle.world_model.specs.Sends.{Next, Wanted, after_open, wanted, opened, first_send}
 use Rattle.world_model.specs.Facts.{has}
 use Rattle.reliable_engine.specs.declared.engine.Engine.TheInside.{Inside}
-use Rattle.reliable_engine.specs.Answers.{IsOpen, NamesOpenPlace, TellsPlace, IsQuiet, IsWindowFull, HasNothingToSend, IsSendOf}
+use Rattle.reliable_engine.specs.Answers.{IsOpen, NamesOpenPlace, TellsPlace, IsQuiet, IsWindowFull, HasNothingToSend}
+use Rattle.reliable_engine.specs.Answers.{IsSendOf}
 use Rattle.reliable_engine.specs.Answers.{sent_next}
 use Rattle.reliable_engine.specs.Steps.{places_wanted, sending_of}
 use Rattle.reliable_engine.specs.View.{hub_of, IsKept}
@@ -40,7 +42,8 @@ low_of i h view is =
     ap low (sym view)
     ∙ ap (λ (n : ℕ). least (places i.open_places.items) (n + 1)) (length-take-le i.sent i.bodies.items is.within)
 
-pub open_of : (i : Inside) (h : Hub) (place : ℕ) → hub_of i ≡ h → IsKept i → IsOpen h place → (1 ≤ place) × (place ≤ i.sent)
+pub open_of : (i : Inside) (h : Hub) (place : ℕ) → hub_of i ≡ h → IsKept i → IsOpen h place
+    → (1 ≤ place) × (place ≤ i.sent)
 open_of i h place view is there =
     open_sent i.window i.sent place (places i.open_places.items) is.in_window
     (ap (λ (x : Hub). has place (places x.open_places)) view ∙ there)
@@ -231,7 +234,8 @@ place_with_is first low (suc count) id place e = elim (eqb_tells (identifier_at 
       }
 ]
 
-no_place_with : (first low count id place : ℕ) → place_with first low count id ≡ None → IsPlaceOf first low count id place → ⊥
+no_place_with : (first low count id place : ℕ) → place_with first low count id ≡ None
+    → IsPlaceOf first low count id place → ⊥
 no_place_with first low zero id place e is = omega (arith, is.from_low, is.within)
 no_place_with first low (suc count) id place e is = elim (eqb_tells (identifier_at first low) id) [
   | inl here ↦ absurd (
@@ -345,7 +349,7 @@ quiet first (o ∷ os) e =
     let later = sym (here_none first o os is.no_resend is.no_control) ∙ e in
     (is, quiet first os (after_none o (wanted first os) later))
 
-quiet_none : (first : ℕ) (os : List OpenPlace) → AllByRecursion IsQuiet os → wanted first os ≡ None
+pub quiet_none : (first : ℕ) (os : List OpenPlace) → AllByRecursion IsQuiet os → wanted first os ≡ None
 quiet_none first [] all = refl
 quiet_none first (o ∷ os) all =
     here_none first o os all.0.no_resend all.0.no_control ∙ ap (after_open o) (quiet_none first os all.1)

@@ -12,7 +12,8 @@ use Rattle.world_model.specs.Sends.{Wanted, after_open, wanted, opened}
 use Rattle.world_model.specs.Facts.{has}
 use Rattle.reliable_engine.specs.Steps.{places_wanted, waits}
 use Rattle.reliable_engine.specs.View.{Keeps}
-use Rattle.reliable_engine.proofs.Places.{either, window_push, window_less, places_map, places_without, wanted_is, IsWantedOr}
+use Rattle.reliable_engine.proofs.Places.{either, window_push, window_less, places_map, places_without, wanted_is}
+use Rattle.reliable_engine.proofs.Places.{IsWantedOr}
 
 -- ---- what is waited for
 
@@ -68,7 +69,8 @@ removed_here o os =
     let same = eq-eqb o.place o.place refl in
     record { waiting = rw same (omega arith); shorter = rw same (omega arith); there = rw same refl }
 
-removed_later : (x o : OpenPlace) (os : List OpenPlace) → (x.place == o.place) ≡ false → Removed os o → Removed (x ∷ os) o
+removed_later : (x o : OpenPlace) (os : List OpenPlace) → (x.place == o.place) ≡ false → Removed os o
+    → Removed (x ∷ os) o
 removed_later x o os apart is = record {
   waiting = rw apart (omega (arith, is.waiting));
   shorter = rw apart (omega (arith, is.shorter));
@@ -88,7 +90,8 @@ found_later first id x o os other is = elim (eqb_tells x.place o.place) [
   | inr apart ↦ record { named = is.named; gone = removed_later x o os apart.0 is.gone }
 ]
 
-pub found : (first id : ℕ) (os : List OpenPlace) (o : OpenPlace) → open_with first id os ≡ Some o → IsFound first id os o
+pub found : (first id : ℕ) (os : List OpenPlace) (o : OpenPlace) → open_with first id os ≡ Some o
+    → IsFound first id os o
 found first id [] o e = absurd (cc)
 found first id (x ∷ os) o e =
     elim (identifier_at first x.place == id) as (λ b. (identifier_at first x.place == id) ≡ b
@@ -128,7 +131,8 @@ keeps_push first window sent count os pr fl fr pr2 is more room grown =
       identifier = is.identifier;
       within = omega arith;
       few = is.few;
-      in_window = rw (map-append place_of os (opened (sent + 1) ∷ [])) (window_push window sent (places os) is.in_window room);
+      in_window = rw (map-append place_of os (opened (sent + 1) ∷ []))
+          (window_push window sent (places os) is.in_window room);
       places_fit = omega (arith, is.places_fit);
       fates_fit = omega (arith, is.fates_fit);
     }

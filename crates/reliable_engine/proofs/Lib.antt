@@ -2,3 +2,6 @@ mod Steps
 mod Places
 mod Keeping
 mod Hubs
+mod Runs
+mod Rests
+mod Draining

@@ -1,5 +1,6 @@
 -- The places of a window, which rise, and the lists of open places.
-use Rattle.std.proofs.Common.{◌≡◌, ℕ, zero, suc, ◌+◌, ◌<◌, ◌≤◌, Bool, true, false, cond, ◌==◌, ◌||◌, List, [], ◌∷◌, ◌++◌}
+use Rattle.std.proofs.Common.{◌≡◌, ℕ, zero, suc, ◌+◌, ◌<◌, ◌≤◌, Bool, true, false, cond, ◌==◌, ◌||◌, List, [], ◌∷◌}
+use Rattle.std.proofs.Common.{◌++◌}
 use Rattle.std.proofs.Common.{length, map, get_or, All, Option, Some, None, refl, ap, ◌∙◌, arith, if◌then◌else◌}
 use Rattle.std.specs.Prelude.{◌^◌}
 use Rattle.std.proofs.lemmas.Bool.{eqb-true, eq-eqb}
@@ -72,7 +73,7 @@ has_last past (p ∷ ps) = elim (p == past) as (λ b. (b || has past (ps ++ past
 ]
 
 -- a place in the list lies from its start on, below its end
-has_from : (place from past : ℕ) (ps : List ℕ) → AreRising from past ps → has place ps ≡ true → from ≤ place
+pub has_from : (place from past : ℕ) (ps : List ℕ) → AreRising from past ps → has place ps ≡ true → from ≤ place
 has_from place from past [] r h = absurd (cc)
 has_from place from past (p ∷ ps) r h =
     elim (p == place) as (λ b. (p == place) ≡ b → (b || has place ps) ≡ true → from ≤ place) [
@@ -122,6 +123,10 @@ open_sent window sent place ps is there =
     let from = has_from place _ _ ps is.rising there in
     let below = has_below place _ _ ps is.rising there in
     (omega (arith, is.from_one), omega arith)
+
+pub lowest_open : (window sent place : ℕ) (ps : List ℕ) → IsWindow window sent ps → has place ps ≡ true
+    → least ps (sent + 1) ≤ place
+lowest_open window sent place ps is there = has_from place _ _ ps is.rising there
 
 -- two open places with one identifier are one
 pub open_once : (first window sent a b : ℕ) (ps : List ℕ) → IsIdentifier first → IsWindow window sent ps

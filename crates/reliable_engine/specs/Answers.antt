@@ -9,6 +9,10 @@ use Rattle.world_model.specs.Hub.{Hub, low, places}
 use Rattle.world_model.specs.Sends.{Next}
 use Rattle.world_model.specs.Facts.{has}
 
+-- how many bodies were offered, without those that were never sent and never will be
+abbrev pub body_count : Hub → ℕ
+body_count hub = length hub.sent + length hub.queue
+
 -- a place whose body was sent and whose reply was not taken
 abbrev pub IsOpen : Hub → ℕ → Type 0
 IsOpen hub place = has place (places hub.open_places) ≡ true
@@ -19,7 +23,8 @@ pub record NamesOpenPlace (hub : Hub) (id : ℕ) : Type 0 where
   pub open_there : IsOpen hub place
   pub identifier : identifier_at hub.first place ≡ id
 
--- a round is under way, and the identifier in a status reply is that of a place from the lowest open one to the one after all
+-- a round is under way, and the identifier in a status reply is that of a place from the lowest open one to the one
+-- after all
 pub record TellsPlace (hub : Hub) (next : ℕ) : Type 0 where
   pub under_way : 0 < hub.status_requests
   pub place : ℕ

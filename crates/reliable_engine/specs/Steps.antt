@@ -41,4 +41,5 @@ prepend (o ∷ os) later = after_open o (prepend os later)
 -- no place before this index has the identifier
 pub record IsPast (first id at : ℕ) (os : List OpenPlace) : Type 0 where
   pub found : open_with first id (drop at os) ≡ open_with first id os
-  pub others : (place : ℕ) → identifier_at first place ≡ id → without place os ≡ take at os ++ without place (drop at os)
+  pub others : (place : ℕ) → identifier_at first place ≡ id
+      → without place os ≡ take at os ++ without place (drop at os)

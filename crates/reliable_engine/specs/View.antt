@@ -21,7 +21,8 @@ hub_of e = record {
   fates = e.fates.items;
 }
 
--- The bodies that were offered are `count` in all, without those that were never sent; the first `sent` of them have a place.
+-- The bodies that were offered are `count` in all, without those that were never sent; the first `sent` of them have a
+-- place.
 -- There is room for the places and the fates of all.
 pub record Keeps (first window sent count : ℕ) (os : List OpenPlace) (place_room fates fate_room : ℕ) : Type 0 where
   pub identifier : IsIdentifier first
@@ -32,4 +33,5 @@ pub record Keeps (first window sent count : ℕ) (os : List OpenPlace) (place_ro
   pub fates_fit : fates + waits os + (count - sent) ≤ fate_room
 
 abbrev pub IsKept : Inside → Type 0
-IsKept e = Keeps e.first e.window e.sent (length e.bodies.items) e.open_places.items e.open_places.cap e.fates.len e.fates.cap
+IsKept e = Keeps e.first e.window e.sent (length e.bodies.items) e.open_places.items e.open_places.cap e.fates.len
+    e.fates.cap

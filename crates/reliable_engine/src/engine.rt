@@ -1,6 +1,7 @@
 //! The engine: what it hears, what it sends, and what became of the bodies.
 
-ghost use Rattle.std.specs.Prelude.{◌≡◌, ◌↔◌, ◌≤◌, ◌<◌, ◌+◌, ◌^◌, ◌++◌, ◌∷◌, [], true, length, min, slice_get};
+ghost use Rattle.std.specs.Prelude.{◌≡◌, ◌↔◌, ◌≤◌, ◌<◌, ◌+◌, ◌^◌, ◌++◌, ◌∷◌, [], true, length, min};
+ghost use Rattle.std.specs.List.{slice_get};
 ghost use Rattle.std.specs.Prelude.{IfOk, OnOk, IfErr, OnErr, IfSome, IsTrue, IsNone};
 ghost use Rattle.std.specs.Vec.{vec_len, vec_capacity};
 ghost use Rattle.packet_ids.specs.Identifier.{IsIdentifier};
@@ -9,7 +10,7 @@ ghost use Rattle.world_model.specs.Hub.{new_hub, offer, hear_reply, hear_status,
 ghost use Rattle.world_model.specs.Hub.{low, told_place, words_of};
 ghost use Rattle.world_model.specs.Sends.{first_send, next_send, opened};
 ghost use Rattle.reliable_engine.specs.Answers.{HasNothingToSend, IsOpen, IsSendOf, NamesOpenPlace, TellsPlace};
-ghost use Rattle.reliable_engine.specs.Answers.{hub_next, sent_next, told_first};
+ghost use Rattle.reliable_engine.specs.Answers.{body_count, hub_next, sent_next, told_first};
 
 use crate::fates::{put_fate, put_time_outs, put_unsent};
 use crate::open_places::{
@@ -76,10 +77,11 @@ impl Engine {
     /// (profile). It takes the room that the body, its place and its fate will need, so no later call takes memory. Where
     /// memory ran out the body is given back, and nothing changed.
     pub fn offer(&mut self, tag: u64, body: Words) -> Result<(), Words>
-        requires few { length self.old.sent + length self.old.queue < 2 ^ 62 }
+        requires few { body_count self.old < 2 ^ 62 }
         ensures offered { OnOk result (self.new ≡ offer self.old (record { tag = tag; body = body })) }
         ensures given_back { IfErr result (λ given. given ≡ body) }
         ensures unchanged { OnErr result (self.new ≡ self.old) }
+        ensures counted { body_count self.new ≤ body_count self.old + 1 }
     {
         let queued = self.bodies.len() - self.sent;
         let Ok(()) = self.open_places.reserve(queued + 1) else {
@@ -104,6 +106,7 @@ impl Engine {
     pub fn on_status(&mut self, status: &Status) -> bool
         ensures hub { self.new ≡ hear_status self.old status.now.next }
         ensures taken { IsTrue result ↔ TellsPlace self.old status.now.next }
+        ensures counted { body_count self.new ≡ body_count self.old }
     {
         if self.status_requests == 0 {
             return false;
@@ -122,11 +125,12 @@ impl Engine {
     pub fn on_reply(&mut self, id: Id, words: Words) -> bool
         ensures hub { self.new ≡ hear_reply self.old id words }
         ensures taken { IsTrue result ↔ NamesOpenPlace self.old id }
+        ensures counted { body_count self.new ≡ body_count self.old }
     {
         let Some(settled) = take_open(&mut self.open_places, self.first, id) else {
             return false;
         };
-        self.status_requests = 0;
+        self.status_requests = 0; // the round is over
         if settled.waited {
             let tag = self.bodies[(settled.place - 1) as usize].tag;
             let place = settled.place;
@@ -140,7 +144,8 @@ impl Engine {
     /// unsent, and the open places stay open (profile).
     pub fn on_quiet(&mut self)
         requires { is_waiting self.old ≡ true }
-        ensures { self.new ≡ hear_quiet self.old }
+        ensures hub { self.new ≡ hear_quiet self.old }
+        ensures counted { body_count self.new ≤ body_count self.old }
     {
         if self.status_requests < self.rounds {
             self.status_requests += 1;
@@ -165,6 +170,7 @@ impl Engine {
         ensures hub { self.new ≡ hub_next self.old (next_send self.old) }
         ensures none { IsNone result ↔ HasNothingToSend self.old }
         ensures open_place { IfSome result (IsSendOf self.new) }
+        ensures counted { body_count self.new ≡ body_count self.old }
     {
         if self.status_wanted {
             self.status_wanted = false;
@@ -188,6 +194,7 @@ impl Engine {
     pub fn settled(&mut self) -> Option<(u64, Fate)>
         ensures fate { result ≡ slice_get self.old.fates 0 }
         ensures hub { self.new ≡ told_first self.old }
+        ensures counted { body_count self.new ≡ body_count self.old }
     {
         if self.fates.is_empty() {
             return None;
@@ -197,7 +204,8 @@ impl Engine {
 
     /// Gives up (profile).
     fn give_up(&mut self)
-        ensures { self.new ≡ give_up self.old }
+        ensures hub { self.new ≡ give_up self.old }
+        ensures counted { body_count self.new ≤ body_count self.old }
     {
         put_time_outs(
             &mut self.fates,
@@ -218,6 +226,7 @@ impl Engine {
         ensures send { result ≡ sent_next (first_send self.old self.old.queue) }
         ensures hub { self.new ≡ hub_next self.old (first_send self.old self.old.queue) }
         ensures open_place { IfSome result (IsSendOf self.new) }
+        ensures counted { body_count self.new ≡ body_count self.old }
     {
         if self.sent == self.bodies.len() {
             return None;

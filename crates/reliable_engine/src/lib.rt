@@ -7,6 +7,7 @@
 
 mod engine;
 mod fates;
+pub mod laws;
 mod open_places;
 mod settings;
 
