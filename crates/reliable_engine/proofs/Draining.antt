@@ -26,8 +26,8 @@ wanted_fewer first [] = tt
 wanted_fewer first (o ∷ os) = either (FewerWishes (o ∷ os)) o.resend _ _
     (λ e. rw e (omega arith))
     (λ _. either (FewerWishes (o ∷ os)) o.control _ _
-      (λ e. rw e (omega arith))
-      (λ _. fewer_later o os _ (wanted_fewer first os)))
+    (λ e. rw e (omega arith))
+    (λ _. fewer_later o os _ (wanted_fewer first os)))
 
 wishes_push : (os : List OpenPlace) (place : ℕ) → wishes (os ++ opened place ∷ []) ≡ wishes os
 wishes_push [] place = refl
@@ -41,7 +41,7 @@ first_falls : (h : Hub) (queue : List Offered) → queue ≡ h.queue → Falls h
 first_falls h [] same = tt
 first_falls h (o ∷ later) same = either (Falls h) (nat_le (length h.sent + 1 + 1) (h.window + low h)) _ _
     (λ _. let f = wishes_push h.open_places (length h.sent + 1) in
-      let l = ap (λ (xs : List Offered). length xs) same in omega arith)
+    let l = ap (λ (xs : List Offered). length xs) same in omega arith)
     (λ _. tt)
 
 wanted_falls : (h : Hub) (r : Option Wanted) → FewerWishes h.open_places r → Falls h (wanted_or_first h r)
@@ -74,7 +74,7 @@ drained_by n h None e f few later =
     ap (λ (r : Option Next). next_send (after_events (hub_next h r) (replicate n Send))) e ∙ stays h n e
 drained_by n h (Some next) e f few later =
     ap (λ (r : Option Next). next_send (after_events (hub_next h r) (replicate n Send))) e
-      ∙ later next.hub (omega arith)
+    ∙ later next.hub (omega arith)
 
 drained : (n : ℕ) (h : Hub) → pending h ≤ n → next_send (after_events h (replicate n Send)) ≡ None
 drained zero h few = none_left h (next_send h) (send_falls h) few

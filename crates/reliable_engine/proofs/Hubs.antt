@@ -28,7 +28,11 @@ use Rattle.reliable_engine.specs.Answers.{IsSendOf}
 use Rattle.reliable_engine.specs.Answers.{sent_next}
 use Rattle.reliable_engine.specs.Steps.{places_wanted, sending_of}
 use Rattle.reliable_engine.specs.View.{hub_of, IsKept}
-use Rattle.reliable_engine.proofs.Places.{one_place, open_sent, has_last, IsWish, IsWantedOr}
+use Rattle.std.specs.Prelude.{nat_lt}
+use Rattle.world_model.specs.Facts.{IsWindow}
+use Rattle.world_model.specs.Hub.{hear_status, recovered}
+use Rattle.std.proofs.lemmas.Bool.{lt-ltb, ltb-true}
+use Rattle.reliable_engine.proofs.Places.{either, one_place, open_sent, has_last, IsWish, IsWantedOr}
 use Rattle.reliable_engine.proofs.Keeping.{found}
 use Rattle.reliable_engine.proofs.Steps.{here_resend, here_control, here_none}
 
@@ -322,6 +326,29 @@ tells_none h next none is =
       within = omega (arith, is.from_low, is.up_to_next);
       identifier = is.identifier;
     })
+
+-- a status reply that tells a place recovers the open ones by it
+pub told_recovers : (h : Hub) (next : ℕ) (told : TellsPlace h next) → IsIdentifier h.first
+    → IsWindow h.window (length h.sent) (places h.open_places) → hear_status h next ≡ recovered h (Some told.place)
+told_recovers h next told id is =
+    let few : length h.sent + 2 - low h < 65535 = omega (arith, is.within, is.few) in
+    let at : told_place h next ≡ Some told.place =
+    place_with_found h.first (low h) (length h.sent + 2 - low h) next told.place id is.from_one few (record {
+      from_low = told.from_low;
+      within = omega (arith, told.from_low, told.up_to_next);
+      identifier = told.identifier;
+    }) in
+    rw (lt-ltb 0 h.status_requests told.under_way) (ap (recovered h) at)
+
+untold : (h : Hub) (next : ℕ) (r : Option ℕ) → told_place h next ≡ r → 0 < h.status_requests → (TellsPlace h next → ⊥)
+    → recovered h r ≡ h
+untold h next None e round none = refl
+untold h next (Some place) e round none = absurd (none (tells h next place round e))
+
+pub stray_status : (h : Hub) (next : ℕ) → (TellsPlace h next → ⊥) → hear_status h next ≡ h
+stray_status h next none = either (λ (x : Hub). x ≡ h) (nat_lt 0 h.status_requests) _ _
+    (λ e. untold h next (told_place h next) refl (ltb-true 0 h.status_requests e) none)
+    (λ _. refl)
 
 -- ---- nothing to send
 

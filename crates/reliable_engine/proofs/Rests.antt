@@ -29,37 +29,37 @@ use Rattle.reliable_engine.proofs.Runs.{IsHub, not_open}
 gone_here : (place from past : ℕ) (ps : List ℕ) → AreRising from past ps → has place (less place ps) ≡ false
 gone_here place from past [] r = refl
 gone_here place from past (p ∷ ps) r = elim (eqb_tells p place) [
-    | inl here ↦
-        let e : less place (p ∷ ps) ≡ ps = rw here.0 refl in
-        ap (has place) e ∙ not_open (has place ps) (λ there.
-          let later = has_from place (p + 1) past ps r.1 there in absurd (omega (arith, here.1)))
-    | inr apart ↦
-        let e : less place (p ∷ ps) ≡ p ∷ less place ps = rw apart.0 refl in
-        let f : has place (p ∷ less place ps) ≡ has place (less place ps) = rw apart.0 refl in
-        ap (has place) e ∙ (f ∙ gone_here place (p + 1) past ps r.1)
-  ]
+  | inl here ↦
+      let e : less place (p ∷ ps) ≡ ps = rw here.0 refl in
+      ap (has place) e ∙ not_open (has place ps) (λ there.
+      let later = has_from place (p + 1) past ps r.1 there in absurd (omega (arith, here.1)))
+  | inr apart ↦
+      let e : less place (p ∷ ps) ≡ p ∷ less place ps = rw apart.0 refl in
+      let f : has place (p ∷ less place ps) ≡ has place (less place ps) = rw apart.0 refl in
+      ap (has place) e ∙ (f ∙ gone_here place (p + 1) past ps r.1)
+]
 
 stays_less : (place other : ℕ) (ps : List ℕ) → other ≢ place → has place ps ≡ true → has place (less other ps) ≡ true
 stays_less place other [] apart there = there
 stays_less place other (p ∷ ps) apart there = elim (eqb_tells p other) [
-    | inl this ↦
-        let e : less other (p ∷ ps) ≡ ps = rw this.0 refl in
-        elim (eqb_tells p place) [
-          | inl here ↦ absurd (apart (sym this.1 ∙ here.1))
-          | inr away ↦
-              let f : has place (p ∷ ps) ≡ has place ps = rw away.0 refl in
-              ap (has place) e ∙ (sym f ∙ there)
-        ]
-    | inr that ↦
-        let e : less other (p ∷ ps) ≡ p ∷ less other ps = rw that.0 refl in
-        elim (eqb_tells p place) [
-          | inl here ↦ ap (has place) e ∙ rw here.0 refl
-          | inr away ↦
-              let f : has place (p ∷ ps) ≡ has place ps = rw away.0 refl in
-              let g : has place (p ∷ less other ps) ≡ has place (less other ps) = rw away.0 refl in
-              ap (has place) e ∙ (g ∙ stays_less place other ps apart (sym f ∙ there))
-        ]
-  ]
+  | inl this ↦
+      let e : less other (p ∷ ps) ≡ ps = rw this.0 refl in
+      elim (eqb_tells p place) [
+        | inl here ↦ absurd (apart (sym this.1 ∙ here.1))
+        | inr away ↦
+            let f : has place (p ∷ ps) ≡ has place ps = rw away.0 refl in
+            ap (has place) e ∙ (sym f ∙ there)
+      ]
+  | inr that ↦
+      let e : less other (p ∷ ps) ≡ p ∷ less other ps = rw that.0 refl in
+      elim (eqb_tells p place) [
+        | inl here ↦ ap (has place) e ∙ rw here.0 refl
+        | inr away ↦
+            let f : has place (p ∷ ps) ≡ has place ps = rw away.0 refl in
+            let g : has place (p ∷ less other ps) ≡ has place (less other ps) = rw away.0 refl in
+            ap (has place) e ∙ (g ∙ stays_less place other ps apart (sym f ∙ there))
+      ]
+]
 
 alone_none : (h : Hub) (id : ℕ) (words : List ℕ) → open_with h.first id h.open_places ≡ None → SettlesAlone h id words
 alone_none h id words none =
@@ -77,28 +77,28 @@ alone_some h id words o first is told =
     let f = found h.first id h.open_places o told in
     let ps = places h.open_places in
     let after : places (hear_reply h id words).open_places ≡ less o.place ps =
-        ap (λ (r : Option OpenPlace). places (settle h words r).open_places) told
-            ∙ places_without o.place h.open_places in
+    ap (λ (r : Option OpenPlace). places (settle h words r).open_places) told
+    ∙ places_without o.place h.open_places in
     record {
       closed = λ place there named. λ still.
-        let same : place ≡ o.place = open_once h.first h.window
-            (length h.sent) place o.place ps first is there f.gone.there
-            (named ∙ sym f.named) in
-        let gone : has place (less place ps) ≡ false = gone_here place (least ps (length h.sent + 1))
-            (length h.sent + 1) ps is.rising in
-        let here : has place (less o.place ps) ≡ true = sym (ap (has place) after) ∙ still in
-        let e : has place (less place ps) ≡ true = ap (λ (x : ℕ). has place (less x ps)) same ∙ here in
-        absurd (let bad = sym gone ∙ e in cc);
+          let same : place ≡ o.place = open_once h.first h.window
+          (length h.sent) place o.place ps first is there f.gone.there
+          (named ∙ sym f.named) in
+          let gone : has place (less place ps) ≡ false = gone_here place (least ps (length h.sent + 1))
+          (length h.sent + 1) ps is.rising in
+          let here : has place (less o.place ps) ≡ true = sym (ap (has place) after) ∙ still in
+          let e : has place (less place ps) ≡ true = ap (λ (x : ℕ). has place (less x ps)) same ∙ here in
+          absurd (let bad = sym gone ∙ e in cc);
       others = λ place there other.
-        ap (has place) after ∙ stays_less place o.place ps
+          ap (has place) after ∙ stays_less place o.place ps
           (λ same. other (ap (identifier_at h.first) (sym same) ∙ f.named)) there;
       stray = λ stray. absurd (stray (record { place = o.place; open_there = f.gone.there; identifier = f.named }));
     }
 
 pub settles_alone : (h : Hub) (id : ℕ) (words : List ℕ) → IsIdentifier h.first → IsHub h → SettlesAlone h id words
 settles_alone h id words first is =
-    elim (open_with h.first id h.open_places) as (λ r. open_with h.first id h.open_places ≡ r → SettlesAlone h id words)
-        [
+    let found_or = open_with h.first id h.open_places in
+    elim found_or as (λ r. found_or ≡ r → SettlesAlone h id words) [
       | None ↦ λ none. alone_none h id words none
       | Some o ↦ λ told. alone_some h id words o first is told
     ] refl
@@ -115,12 +115,12 @@ all_quiet (o ∷ os) = (record { no_resend = refl; no_control = refl }, all_quie
 
 pub give_up_rests : (h : Hub) → IsAtRest (give_up h)
 give_up_rests h = record {
-    queue = refl;
-    waited = none_waited h.open_places;
-    round = refl;
-    status = refl;
-    quiet = all_quiet h.open_places;
-  }
+  queue = refl;
+  waited = none_waited h.open_places;
+  round = refl;
+  status = refl;
+  quiet = all_quiet h.open_places;
+}
 
 nothing_first : (h : Hub) (queue : List Offered) → queue ≡ [] → first_send h queue ≡ None
 nothing_first h queue empty = ap (first_send h) empty
@@ -129,8 +129,8 @@ pub rest_sends : (h : Hub) → IsAtRest h → next_send h ≡ None
 rest_sends h is =
     let none = quiet_none h.first h.open_places is.quiet in
     either (λ (r : Option Next). r ≡ None) h.status_wanted _ _
-        (λ wanted. absurd (let bad = sym is.status ∙ wanted in cc))
-        (λ _. ap (wanted_or_first h) none ∙ nothing_first h h.queue is.queue)
+    (λ wanted. absurd (let bad = sym is.status ∙ wanted in cc))
+    (λ _. ap (wanted_or_first h) none ∙ nothing_first h h.queue is.queue)
 
 pub rest_waits : (h : Hub) → IsAtRest h → is_waiting h ≡ false
 rest_waits h is = rw (is.queue, is.waited) refl
@@ -155,7 +155,7 @@ waited_without place (o ∷ os) e = either (λ (ps : List OpenPlace). some_waite
     (o ∷ without place os)
     (λ _. or_right o.waited (some_waited os) e)
     (λ _. let left = or_left o.waited (some_waited os) e in
-      let right = waited_without place os (or_right o.waited (some_waited os) e) in rw left right)
+    let right = waited_without place os (or_right o.waited (some_waited os) e) in rw left right)
 
 -- at rest since the give-up
 abbrev pub RestsAfter : Hub → Type 0
@@ -219,12 +219,12 @@ event_rests h (Reply id words) can rest = settle_rests h words (open_with h.firs
 event_rests h Quiet can rest = quiet_rests h can rest
 event_rests h Send can rest = send_rests h rest
 event_rests h HandOut can rest = λ gave. let is = rest gave in record {
-    queue = is.queue;
-    waited = is.waited;
-    round = is.round;
-    status = is.status;
-    quiet = is.quiet;
-  }
+  queue = is.queue;
+  waited = is.waited;
+  round = is.round;
+  status = is.status;
+  quiet = is.quiet;
+}
 
 pub stays_at_rest : (h : Hub) (events : List HubEvent) → AreAllowed h events → RestsAfter h
     → RestsAfter (after_events h events)
@@ -300,7 +300,6 @@ rounds_counted h (event ∷ events) =
     let later = rounds_counted (after_event h event) events in
     let all = quiets_more event events in
     omega arith
-
 
 pub quiet_ends : (h : Hub) → IsOutOfRounds h → hear_quiet h ≡ give_up h
 quiet_ends h out = rw (le-ltb h.status_requests h.rounds out) refl

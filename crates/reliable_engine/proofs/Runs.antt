@@ -31,8 +31,8 @@ data IsStep (h h2 : Hub) : Type 0 where
   same : h2.sent ≡ h.sent → places h2.open_places ≡ places h.open_places → IsStep h h2
   closed : (place : ℕ) → h2.sent ≡ h.sent → places h2.open_places ≡ less place (places h.open_places) → IsStep h h2
   sent_one : (x : Offered) → h2.sent ≡ h.sent ++ x ∷ []
-    → places h2.open_places ≡ places h.open_places ++ (length h.sent + 1) ∷ []
-    → length h.sent + 2 ≤ h.window + low h → IsStep h h2
+      → places h2.open_places ≡ places h.open_places ++ (length h.sent + 1) ∷ []
+      → length h.sent + 2 ≤ h.window + low h → IsStep h h2
 
 offer_step : (h : Hub) (x : Offered) → IsStep h (offer h x)
 offer_step h x = same refl (either (λ (os : List OpenPlace). places os ≡ places h.open_places) h.gave_up _ _
@@ -59,7 +59,7 @@ first_step h [] = same refl refl
 first_step h (x ∷ later) = either (λ (r : Option Next). IsStep h (hub_next h r))
     (nat_le (length h.sent + 1 + 1) (h.window + low h)) _ _
     (λ e. sent_one x refl (map-append place_of h.open_places (opened (length h.sent + 1) ∷ []))
-        (let room = leb-true _ _ e in omega arith))
+    (let room = leb-true _ _ e in omega arith))
     (λ _. same refl refl)
 
 wanted_step : (h : Hub) (r : Option Wanted) → IsWantedOr h.open_places r → IsStep h (hub_next h (wanted_or_first h r))
@@ -156,12 +156,12 @@ new_is_hub first window rounds few one =
 
 pub in_window : (h : Hub) → IsIdentifier h.first → IsHub h → IsInWindow h
 in_window h id is = record {
-    no_more = omega (arith, is.within);
-    from_low = λ place there. lowest_open h.window (length h.sent) place (places h.open_places) is there;
-    up_to_last = λ place there. (open_sent h.window (length h.sent) place (places h.open_places) is there).1;
-    one_named = λ place other there here same.
+  no_more = omega (arith, is.within);
+  from_low = λ place there. lowest_open h.window (length h.sent) place (places h.open_places) is there;
+  up_to_last = λ place there. (open_sent h.window (length h.sent) place (places h.open_places) is there).1;
+  one_named = λ place other there here same.
       open_once h.first h.window (length h.sent) place other (places h.open_places) id is there here same;
-  }
+}
 
 -- ---- a place keeps its body
 
@@ -178,36 +178,36 @@ pub keeps_bodies : (h : Hub) (events : List HubEvent) → IsPrefix h.sent (after
 keeps_bodies h [] = ([], sym (append-nil h.sent))
 keeps_bodies h (event ∷ events) =
     prefix_trans h.sent (after_event h event).sent (after_events (after_event h event) events).sent
-        (body_step h (after_event h event) (step_of h event)) (keeps_bodies (after_event h event) events)
+    (body_step h (after_event h event) (step_of h event)) (keeps_bodies (after_event h event) events)
 
 -- ---- a place that is closed stays closed
 
 gone_less : (place other : ℕ) (ps : List ℕ) → has place ps ≡ false → has place (less other ps) ≡ false
 gone_less place other [] gone = gone
 gone_less place other (p ∷ ps) gone = elim (eqb_tells p place) [
-    | inl here ↦ absurd (let bad : has place (p ∷ ps) ≡ true = rw here.0 refl in let e = sym gone ∙ bad in cc)
-    | inr apart ↦
-        let later : has place ps ≡ false =
-            (let e : has place (p ∷ ps) ≡ has place ps = rw apart.0 refl in sym e ∙ gone) in
-        either (λ (qs : List ℕ). has place qs ≡ false) (p == other) ps (p ∷ less other ps)
-            (λ _. later)
-            (λ _. let e : has place (p ∷ less other ps) ≡ has place (less other ps) = rw apart.0 refl in
-              e ∙ gone_less place other ps later)
-  ]
+  | inl here ↦ absurd (let bad : has place (p ∷ ps) ≡ true = rw here.0 refl in let e = sym gone ∙ bad in cc)
+  | inr apart ↦
+      let later : has place ps ≡ false =
+      (let e : has place (p ∷ ps) ≡ has place ps = rw apart.0 refl in sym e ∙ gone) in
+      either (λ (qs : List ℕ). has place qs ≡ false) (p == other) ps (p ∷ less other ps)
+      (λ _. later)
+      (λ _. let e : has place (p ∷ less other ps) ≡ has place (less other ps) = rw apart.0 refl in
+      e ∙ gone_less place other ps later)
+]
 
 gone_push : (place next : ℕ) (ps : List ℕ) → has place ps ≡ false → place < next → has place (ps ++ next ∷ []) ≡ false
 gone_push place next [] gone before = elim (eqb_tells next place) [
-    | inl here ↦ absurd (omega (arith, here.1))
-    | inr apart ↦ rw apart.0 refl
-  ]
+  | inl here ↦ absurd (omega (arith, here.1))
+  | inr apart ↦ rw apart.0 refl
+]
 gone_push place next (p ∷ ps) gone before = elim (eqb_tells p place) [
-    | inl here ↦ absurd (let bad : has place (p ∷ ps) ≡ true = rw here.0 refl in let e = sym gone ∙ bad in cc)
-    | inr apart ↦
-        let later : has place ps ≡ false =
-            (let e : has place (p ∷ ps) ≡ has place ps = rw apart.0 refl in sym e ∙ gone) in
-        let e : has place (p ∷ (ps ++ next ∷ [])) ≡ has place (ps ++ next ∷ []) = rw apart.0 refl in
-        e ∙ gone_push place next ps later before
-  ]
+  | inl here ↦ absurd (let bad : has place (p ∷ ps) ≡ true = rw here.0 refl in let e = sym gone ∙ bad in cc)
+  | inr apart ↦
+      let later : has place ps ≡ false =
+      (let e : has place (p ∷ ps) ≡ has place ps = rw apart.0 refl in sym e ∙ gone) in
+      let e : has place (p ∷ (ps ++ next ∷ [])) ≡ has place (ps ++ next ∷ []) = rw apart.0 refl in
+      e ∙ gone_push place next ps later before
+]
 
 record IsClosed (h : Hub) (place : ℕ) : Type 0 where
   sent : place ≤ length h.sent
@@ -218,9 +218,9 @@ closed_step h h2 place (same s p) is = record { sent = rw s is.sent; gone = rw p
 closed_step h h2 place (closed other s p) is =
     record { sent = rw s is.sent; gone = rw p (gone_less place other (places h.open_places) is.gone) }
 closed_step h h2 place (sent_one x s p room) is = record {
-    sent = omega (arith, ap length s, length-append h.sent (x ∷ []), is.sent);
-    gone = rw p (gone_push place (length h.sent + 1) (places h.open_places) is.gone (omega (arith, is.sent)));
-  }
+  sent = omega (arith, ap length s, length-append h.sent (x ∷ []), is.sent);
+  gone = rw p (gone_push place (length h.sent + 1) (places h.open_places) is.gone (omega (arith, is.sent)));
+}
 
 closed_on : (h : Hub) (place : ℕ) (events : List HubEvent) → IsClosed h place → IsClosed (after_events h events) place
 closed_on h place [] is = is

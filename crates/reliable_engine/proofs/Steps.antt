@@ -99,8 +99,10 @@ wanted_resend first os i d within e past =
     quiet_to first os i d within past
     ∙ (ap (prepend (take i os)) (here_resend first o (drop (i + 1) os) e)
     ∙ (prepend_some (take i os) _
-    ∙ ap (λ (zs : List OpenPlace). Some (record { send = sends.Resend (identifier_at first o.place);
-        open_places = zs }))
+    ∙ ap (λ (zs : List OpenPlace). Some (record {
+      send = sends.Resend (identifier_at first o.place);
+      open_places = zs;
+    }))
     (rw add-one (sym (set_split os i (record o { resend = false }) within)))))
 
 pub wanted_control : (first : ℕ) (os : List OpenPlace) (i : ℕ) (d : OpenPlace) → i < length os
@@ -151,7 +153,7 @@ with_time_out rounds sent o fates =
 
 waited_here : (rounds : ℕ) (sent : List Offered) (o : OpenPlace) (os : List OpenPlace) (fates : List (ℕ × Fate))
     → o.waited ≡ true → time_out rounds sent (o ∷ os) fates ≡ time_out rounds sent os
-        (with_time_out rounds sent o fates)
+    (with_time_out rounds sent o fates)
 waited_here rounds sent o os fates e = rw e refl
 
 other_here : (rounds : ℕ) (sent : List Offered) (o : OpenPlace) (os : List OpenPlace) (fates : List (ℕ × Fate))

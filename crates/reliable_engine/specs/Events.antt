@@ -1,11 +1,12 @@
 -- Lists of events: whatever an engine is told and asked, in any order. Profile.
-use Rattle.std.specs.Prelude.{◌≡◌, ◌≢◌, ℕ, ◌+◌, ◌≤◌, true, false, List, [], ◌∷◌, length}
+use Rattle.std.specs.Prelude.{◌≡◌, ◌≢◌, ℕ, ◌+◌, ◌≤◌, true, false, List, [], ◌∷◌, length, map}
 use Rattle.std.specs.List.{AllByRecursion}
 use Rattle.packet_ids.specs.Identifier.{identifier_at}
 use Rattle.world_model.specs.declared.offered.Offered.{Offered}
-use Rattle.world_model.specs.Hub.{Hub, offer, hear_status, hear_reply, hear_quiet, is_waiting, low, some_waited}
+use Rattle.world_model.specs.Hub.{Hub, offer, hear_status, hear_reply, hear_quiet, is_waiting, low, recover}
+use Rattle.world_model.specs.Hub.{some_waited}
 use Rattle.world_model.specs.Sends.{next_send}
-use Rattle.reliable_engine.specs.Answers.{IsOpen, IsQuiet, NamesOpenPlace, hub_next, told_first}
+use Rattle.reliable_engine.specs.Answers.{IsOpen, IsQuiet, NamesOpenPlace, TellsPlace, hub_next, told_first}
 
 -- a body is offered; a status reply with this identifier, the reply with this identifier, or nothing at all is heard;
 -- the next
@@ -50,15 +51,20 @@ pub record IsInWindow (hub : Hub) : Type 0 where
   pub from_low : (place : ℕ) → IsOpen hub place → low hub ≤ place
   pub up_to_last : (place : ℕ) → IsOpen hub place → place ≤ length hub.sent
   pub one_named : (place other : ℕ) → IsOpen hub place → IsOpen hub other
-    → identifier_at hub.first place ≡ identifier_at hub.first other → place ≡ other
+      → identifier_at hub.first place ≡ identifier_at hub.first other → place ≡ other
 
 -- A reply closes the open place with its identifier and no other. Where no open place has it, nothing changes.
 pub record SettlesAlone (hub : Hub) (id : ℕ) (words : List ℕ) : Type 0 where
   pub closed : (place : ℕ) → IsOpen hub place → identifier_at hub.first place ≡ id
-    → ¬ IsOpen (hear_reply hub id words) place
+      → ¬ IsOpen (hear_reply hub id words) place
   pub others : (place : ℕ) → IsOpen hub place → identifier_at hub.first place ≢ id
       → IsOpen (hear_reply hub id words) place
   pub stray : ¬ NamesOpenPlace hub id → hear_reply hub id words ≡ hub
+
+-- where a status reply tells a place, each open place is recovered by it
+abbrev pub IfTold : Hub → ℕ → Type 0
+IfTold hub next = (told : TellsPlace hub next)
+    → hear_status hub next ≡ record hub { open_places = map (recover told.place) hub.open_places }
 
 -- nothing is queued, waited for or to be sent, and no round is under way
 pub record IsAtRest (hub : Hub) : Type 0 where

@@ -53,8 +53,8 @@ impl Model for Engine {
 }
 
 impl Engine {
-    /// The engine of a board that told this status: the board expects `status.next` first, and the window is the smaller
-    /// one of the board's buffers and the session's window (profile). `NoMemory` where memory ran out.
+    /// The engine of a board that told this status: the board expects `status.next` first, and the window is the
+    /// smaller one of the board's buffers and the session's window (profile). `NoMemory` where memory ran out.
     pub fn new(alloc: Global, settings: Settings, status: Status) -> Result<Engine, NoMemory>
         ensures { IfOk result (λ engine.
             engine ≡ new_hub status.next (min settings.window status.buffers) settings.rounds) }
@@ -74,8 +74,8 @@ impl Engine {
     }
 
     /// Offers a body under a tag. The first offer since a give-up has the control packet of each open place sent again
-    /// (profile). It takes the room that the body, its place and its fate will need, so no later call takes memory. Where
-    /// memory ran out the body is given back, and nothing changed.
+    /// (profile). It takes the room that the body, its place and its fate will need, so no later call takes memory.
+    /// Where memory ran out the body is given back, and nothing changed. At most 2^62 bodies are offered.
     pub fn offer(&mut self, tag: u64, body: Words) -> Result<(), Words>
         requires few { body_count self.old < 2 ^ 62 }
         ensures offered { OnOk result (self.new ≡ offer self.old (record { tag = tag; body = body })) }
@@ -100,9 +100,9 @@ impl Engine {
         Ok(())
     }
 
-    /// Hears a status reply (IPbus 2.0, status packet). It is taken while a round is under way, where the identifier in it
-    /// is that of a place from the lowest open one to the one after all. Then the reply of each open place below that
-    /// place is asked for again, and the control packet of each other open place is sent again.
+    /// Hears a status reply (IPbus 2.0, status packet). It is taken while a round is under way, where the identifier in
+    /// it is that of a place from the lowest open one to the one after all. Then the reply of each open place below
+    /// that place is asked for again, and the control packet of each other open place is sent again.
     pub fn on_status(&mut self, status: &Status) -> bool
         ensures hub { self.new ≡ hear_status self.old status.now.next }
         ensures taken { IsTrue result ↔ TellsPlace self.old status.now.next }
@@ -120,8 +120,9 @@ impl Engine {
         }
     }
 
-    /// Hears the reply to a control packet. It settles the open place with its identifier, whenever it comes; the words
-    /// go to whoever waits for them. Where no open place has the identifier nothing changes.
+    /// Hears the reply to a control packet (IPbus 2.0, reliability mechanism). It settles the open place with its
+    /// identifier, whenever it comes; the words go to whoever waits for them. Where no open place has the identifier
+    /// nothing changes.
     pub fn on_reply(&mut self, id: Id, words: Words) -> bool
         ensures hub { self.new ≡ hear_reply self.old id words }
         ensures taken { IsTrue result ↔ NamesOpenPlace self.old id }
@@ -139,9 +140,9 @@ impl Engine {
         true
     }
 
-    /// Hears that a receive was quiet. A status request is wanted; or, where as many were wanted as there are rounds and
-    /// no place was settled since, the hub gives up: each place that is waited for is timed out, each queued body is
-    /// unsent, and the open places stay open (profile).
+    /// Hears that a receive was quiet. A status request is wanted; or, where as many were wanted as there are rounds
+    /// and no place was settled since, the hub gives up: each place that is waited for is timed out, each queued body
+    /// is unsent, and the open places stay open (profile).
     pub fn on_quiet(&mut self)
         requires { is_waiting self.old ≡ true }
         ensures hub { self.new ≡ hear_quiet self.old }
@@ -162,9 +163,9 @@ impl Engine {
         self.sent < self.bodies.len() || is_any_waited(&self.open_places)
     }
 
-    /// Takes what is to be sent next: a wanted status request; then what is wanted for open places, by place, at one place
-    /// the re-send request before the control packet; then the bodies that wait, in the order of offers, while the window
-    /// has room. `None` where nothing of this is left.
+    /// Takes what is to be sent next: a wanted status request; then what is wanted for open places, by place, at one
+    /// place the re-send request before the control packet; then the bodies that wait, in the order of offers, while
+    /// the window has room (profile). `None` where nothing of this is left.
     pub fn next_send(&mut self) -> Option<Sending>
         ensures send { result ≡ sent_next (next_send self.old) }
         ensures hub { self.new ≡ hub_next self.old (next_send self.old) }

@@ -1,24 +1,25 @@
 //! Laws of an engine's hub, over every list of events. These functions do nothing when they run: their clauses are what
 //! is proved.
 
-ghost use Rattle.std.specs.Prelude.{◌≡◌, ◌≤◌, ◌<◌, ◌+◌, ℕ, List, [], ◌∷◌, ◌++◌, length, map, replicate, true, false, None, Some};
-ghost use Rattle.std.specs.List.{AllByRecursion};
+ghost use Rattle.std.specs.Prelude.{◌≡◌, ◌≤◌, ◌<◌, ◌+◌, ℕ, List, [], ◌∷◌, length, map, replicate};
+ghost use Rattle.std.specs.Prelude.{true, false, None, Some};
 ghost use Rattle.ipb_base.specs.Lists.{IsPrefix};
 ghost use Rattle.packet_ids.specs.Identifier.{IsIdentifier};
 ghost use Rattle.world_model.specs.declared.offered.Offered.{Offered};
 ghost use Rattle.world_model.specs.declared.offered.Fate.TheVariants.{Replied, TimedOut, Unsent};
-ghost use Rattle.world_model.specs.declared.sending.Sending.TheVariants.{Control, Resend};
-ghost use Rattle.world_model.specs.Hub.{Hub, give_up, hear_quiet, hear_status, new_hub, offer, want_control, want_status};
-ghost use Rattle.world_model.specs.Hub.{is_waiting, places, recover};
+ghost use Rattle.world_model.specs.declared.offered.OpenPlace.{OpenPlace};
+ghost use Rattle.world_model.specs.declared.sending.Sending.TheVariants.{Control, Status};
+ghost use Rattle.world_model.specs.Hub.{Hub, give_up, hear_quiet, hear_status, new_hub, offer, want_control};
+ghost use Rattle.world_model.specs.Hub.{is_waiting, places, recover, want_status};
 ghost use Rattle.world_model.specs.Sends.{Next, next_send, pending};
 ghost use Rattle.reliable_engine.specs.declared.settings.TheConstants.{MAX_WINDOW};
-ghost use Rattle.reliable_engine.specs.Answers.{HasNothingToSend, IsOpen, sent_next, hub_next};
+ghost use Rattle.reliable_engine.specs.Answers.{IsOpen, TellsPlace, sent_next};
 ghost use Rattle.reliable_engine.specs.Events.{AreAllowed, HubEvent, IsAtRest, IsInWindow, IsOutOfRounds, Send};
-ghost use Rattle.reliable_engine.specs.Events.{SettlesAlone, after_events, quiets};
-ghost use Rattle.reliable_engine.specs.Examples.{given_up, one_word, two_sent, two_settled};
+ghost use Rattle.reliable_engine.specs.Events.{IfTold, SettlesAlone, after_events, quiets};
+ghost use Rattle.reliable_engine.specs.Examples.{given_up, one_word, three_told, two_sent, two_settled};
 
-/// From the lowest open place to the last first send there are never more places than the window, and no two open places
-/// have one identifier.
+/// From the lowest open place to the last first send there are never more places than the window, and no two open
+/// places have one identifier.
 pub fn the_window_is_never_passed()
     ensures { (first window rounds : ℕ) (events : List HubEvent) → IsIdentifier first → 1 ≤ window
         → window ≤ MAX_WINDOW → IsInWindow (after_events (new_hub first window rounds) events) }
@@ -40,6 +41,19 @@ pub fn a_settled_place_is_closed_for_good()
 pub fn a_reply_settles_its_place_alone()
     ensures { (first window rounds id : ℕ) (words : List ℕ) (events : List HubEvent) → IsIdentifier first → 1 ≤ window
         → window ≤ MAX_WINDOW → SettlesAlone (after_events (new_hub first window rounds) events) id words }
+{}
+
+/// A status reply is taken exactly where a round is under way and it tells one of the places from the lowest open one
+/// to the one after all. Then the reply of each open place below that place is asked for again, and the control packet
+/// of each other one is sent again.
+pub fn a_status_reply_recovers_each_open_place()
+    ensures taken { (first window rounds next : ℕ) (events : List HubEvent) → IsIdentifier first → 1 ≤ window
+        → window ≤ MAX_WINDOW → IfTold (after_events (new_hub first window rounds) events) next }
+    ensures stray { (hub : Hub) (next : ℕ) → ¬ TellsPlace hub next → hear_status hub next ≡ hub }
+    ensures below { (told : ℕ) (open_place : OpenPlace) → open_place.place < told
+        → recover told open_place ≡ record open_place { resend = true } }
+    ensures others { (told : ℕ) (open_place : OpenPlace) → told ≤ open_place.place
+        → recover told open_place ≡ record open_place { control = true } }
 {}
 
 /// A give-up leaves nothing queued, waited for or to be sent, and so it stays until the next offer. That offer has the
@@ -84,8 +98,19 @@ pub fn replies_past_the_last_identifier()
     ensures settled { two_settled.open_places ≡ [] }
 {}
 
-/// With one round, the second quiet receive times the sent body out, and the queued one is unsent. The next offer has the
-/// packet of place 1 sent again.
+/// Of the places with the identifiers 65534, 65535 and 1 a status reply that expects 1 has the replies of the first two
+/// asked for again, and the packet of the third sent again.
+pub fn a_status_reply_past_the_last_identifier()
+    ensures open_places { three_told.open_places ≡
+        record { place = 1; waited = true; resend = true; control = false }
+        ∷ record { place = 2; waited = true; resend = true; control = false }
+        ∷ record { place = 3; waited = true; resend = false; control = true } ∷ [] }
+    ensures first_send { sent_next (next_send three_told) ≡ Some Status }
+    ensures stray { hear_status three_told 3 ≡ three_told }
+{}
+
+/// With one round, the second quiet receive times the sent body out, and the queued one is unsent. The next offer has
+/// the packet of place 1 sent again.
 pub fn the_second_quiet_receive_ends_one_round()
     ensures fates { given_up.fates ≡ (7, TimedOut 1 1) ∷ (8, Unsent) ∷ [] }
     ensures rest { next_send given_up ≡ None }

@@ -81,7 +81,10 @@ fn hears_status(engine: &mut Engine, next: u16) -> Result<bool, Fail>
 fn hears_reply(alloc: Global, engine: &mut Engine, number: u16, word: u32) -> Result<bool, Fail>
     ensures { body_count engine.new ≡ body_count engine.old }
 {
-    Ok(engine.on_reply(id(number)?, Words::from_vec(Vec::from_slice(alloc, &[word])?)))
+    Ok(engine.on_reply(
+        id(number)?,
+        Words::from_vec(Vec::from_slice(alloc, &[word])?),
+    ))
 }
 
 /// The next fate is the reply of this word at this place, for this tag.

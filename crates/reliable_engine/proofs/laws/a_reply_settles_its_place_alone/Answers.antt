@@ -10,4 +10,4 @@ pub returns : goal.returns
 returns c = λ first window rounds id words events is one few.
     let start = new_hub first window rounds in
     settles_alone (after_events start events) id words (subst IsIdentifier (sym (same_first start events)) is)
-        (stays_hub start events (new_is_hub first window rounds few one))
+    (stays_hub start events (new_is_hub first window rounds few one))

@@ -9,4 +9,4 @@ pub returns : goal.returns
 returns c = λ first window rounds events is one few.
     let start = new_hub first window rounds in
     in_window (after_events start events) (subst IsIdentifier (sym (same_first start events)) is)
-        (stays_hub start events (new_is_hub first window rounds few one))
+    (stays_hub start events (new_is_hub first window rounds few one))

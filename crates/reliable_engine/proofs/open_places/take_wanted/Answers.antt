@@ -27,9 +27,9 @@ returns-then-open-2-clause-send c =
     let os = c.loop-at.places in
     let first = c.args.first in
     let e = wanted_control first os c.loop-at.at no_place
-        (omega arith) c.if-open.false c.if-open-2.true c.loop-at.invariant.1 in
+    (omega arith) c.if-open.false c.if-open-2.true c.loop-at.invariant.1 in
     ap (λ (n : ℕ). Some (sends.Control (get_or os c.loop-at.at no_place).place n))
-        c.id_at-then-open-2.ensures.identifier
+    c.id_at-then-open-2.ensures.identifier
     ∙ sym (ap (λ (ps : List OpenPlace). sending_of (wanted first ps)) (sym c.loop-at.invariant.0) ∙ ap sending_of e)
 
 pub returns-then-open-2-clause-after : goal.returns-then-open-2-clause-after
@@ -37,7 +37,7 @@ returns-then-open-2-clause-after c =
     let os = c.loop-at.places in
     let first = c.args.first in
     let e = wanted_control first os c.loop-at.at no_place
-        (omega arith) c.if-open.false c.if-open-2.true c.loop-at.invariant.1 in
+    (omega arith) c.if-open.false c.if-open-2.true c.loop-at.invariant.1 in
     sym (ap (λ (ps : List OpenPlace). places_wanted ps (wanted first ps)) (sym c.loop-at.invariant.0)
     ∙ ap (places_wanted os) e)
 

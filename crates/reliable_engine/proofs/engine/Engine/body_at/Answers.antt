@@ -18,7 +18,7 @@ returns c =
     let i = c.self.inside in
     let place = open_of i c.args.self.now c.args.place c.self.view_is c.self.invariant c.requires in
     let at = at_front_of i.bodies.items i.sent c.args.place c.index.result.now place.0 place.1
-        c.self.invariant.within in
+    c.self.invariant.within in
     c.as_slice.ensures
     ∙ (ap (λ (o : Offered). o.body) c.index.ensures
     ∙ sym (ap (λ (h : Hub). words_of (at_place h.sent c.args.place)) (sym c.self.view_is) ∙ ap words_of at))

@@ -40,4 +40,4 @@ returns-clause-hub c =
 pub returns-clause-open_place : goal.returns-clause-open_place
 returns-clause-open_place c =
     last_open c.self.inside.open_places.items c.push_open.new.places.items
-        (c.self.inside.sent + 1) c.push_open.ensures.items
+    (c.self.inside.sent + 1) c.push_open.ensures.items

@@ -32,7 +32,7 @@ invariant_of-self c =
     length-drop i.sent c.deref-3.result.now
     ∙ ap (λ (xs : List Offered). length xs - i.sent) c.deref-3.ensures.value in
     subst (λ (ps : List OpenPlace). Keeps i.first i.window i.sent
-        (length c.truncate.new.self.items) ps i.open_places.cap
+    (length c.truncate.new.self.items) ps i.open_places.cap
     c.put_unsent.new.fates.len c.put_unsent.new.fates.cap)
     (sym (with_items_is i.open_places c.abandon_all.new.places len ∙ after))
     (keeps_abandoned i.first i.window i.sent (length i.bodies.items) os i.open_places.cap i.fates.len i.fates.cap

@@ -84,7 +84,7 @@ returns-clause-none c =
     let same = with_items_is i.open_places c.take_wanted.new.places len ∙ after in
     let sent = c.first_send.ensures.send
     ∙ (ap (λ (ps : List OpenPlace). sent_next (first_send (record (hub_of i) { open_places = ps }) (hub_of i).queue))
-        same
+    same
     ∙ ap (λ (y : Hub). sent_next (first_send y y.queue)) c.self.view_is) in
     nothing h c.first_send.result (ap (λ (y : Hub). y.status_wanted) (sym c.self.view_is) ∙ c.if-self.false)
     (ap (λ (y : Hub). wanted y.first y.open_places) (sym c.self.view_is) ∙ none) sent

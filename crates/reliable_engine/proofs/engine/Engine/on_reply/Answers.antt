@@ -105,7 +105,7 @@ returns-then-settled-clause-hub c =
     ∙ (ap (λ (t : ℕ). insert_fate o.place (t, Replied o.place words) i.fates.items) tag
     ∙ sym (fates_waited h o words c.if-settled.true)) in
     settle_is h words o c.take_open.new.places.items c.put_fate.new.fates.items
-        (open_with i.first id os) told after fates
+    (open_with i.first id os) told after fates
     ∙ ap (λ (x : Hub). hear_reply x id words) c.self.view_is
 
 pub returns-then-settled-clause-taken : goal.returns-then-settled-clause-taken
