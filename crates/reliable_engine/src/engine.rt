@@ -21,6 +21,7 @@ use ipb_base::{NoMemory, Words};
 use packet_ids::{Id, id_at, place_of};
 use status_packet::Status;
 use std::alloc::Global;
+use std::collections::VecDeque;
 use std::marker::Model;
 use world_model::{Fate, Offered, OpenPlace, Sending};
 
@@ -38,7 +39,7 @@ pub struct Engine {
     status_requests: u8,
     status_wanted: bool,
     gave_up: bool,
-    fates: Vec<(u64, Fate)>,
+    fates: VecDeque<(u64, Fate)>,
 }
 
 impl Model for Engine {
@@ -69,7 +70,7 @@ impl Engine {
             status_requests: 0,
             status_wanted: false,
             gave_up: false,
-            fates: Vec::new(alloc),
+            fates: VecDeque::new(alloc),
         })
     }
 
@@ -197,10 +198,7 @@ impl Engine {
         ensures hub { self.new ≡ told_first self.old }
         ensures counted { body_count self.new ≡ body_count self.old }
     {
-        if self.fates.is_empty() {
-            return None;
-        }
-        Some(self.fates.remove(0))
+        self.fates.pop_front()
     }
 
     /// Gives up (profile).

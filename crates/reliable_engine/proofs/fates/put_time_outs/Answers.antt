@@ -1,6 +1,5 @@
-use Rattle.std.proofs.Common.{◌≡◌, ℕ, ◌+◌, ◌-◌, drop, get_or, ap, sym, ◌∙◌, arith, Vec, Global}
+use Rattle.std.proofs.Common.{◌≡◌, ℕ, ◌+◌, ◌-◌, drop, get_or, ap, sym, ◌∙◌, arith, deque_items, deque_len, deque_capacity}
 use Rattle.world_model.specs.declared.offered.Offered.{Offered}
-use Rattle.world_model.specs.declared.offered.Fate.{Fate}
 use Rattle.world_model.specs.declared.offered.Fate.TheVariants.{TimedOut}
 use Rattle.world_model.specs.Places.{at_place}
 use Rattle.world_model.specs.Hub.{time_out, insert_fate, tag_of}
@@ -21,14 +20,14 @@ loop-at-preserved c =
           let read = w.index-sent-open in
           let tag : tag_of (at_place sent o.place) ≡ (get_or sent (o.place - 1) read.result).tag =
           tag_read sent o.place read.result place.0 place.1 read.is ∙ ap (λ (x : Offered). x.tag) read.is in
-          let put = ap (λ (v : Vec (ℕ × Fate) Global). v.items) w.fates-is
+          let put = ap deque_items w.fates-is
           ∙ (w.put_fate.ensures.items
           ∙ ap (λ (t : ℕ). insert_fate o.place (t, TimedOut o.place rounds) c.loop-at.fates.items) (sym tag)) in
           let count = count_waited os at no_place (omega arith) w.if-open.true in
           let len : c.if-open.fates.len ≡ w.put_fate.new.fates.len =
-          ap (λ (v : Vec (ℕ × Fate) Global). v.len) w.fates-is in
+          ap deque_len w.fates-is in
           let cap : c.if-open.fates.cap ≡ w.put_fate.new.fates.cap =
-          ap (λ (v : Vec (ℕ × Fate) Global). v.cap) w.fates-is in (
+          ap deque_capacity w.fates-is in (
             ap (time_out rounds sent (drop (at + 1) os)) put
                 ∙ (sym (time_out_waited rounds sent os c.loop-at.fates.items at no_place (omega arith) w.if-open.true)
                 ∙ c.loop-at.invariant.0),
@@ -38,7 +37,7 @@ loop-at-preserved c =
       | else-open w ↦
           let count = count_other os at no_place (omega arith) w.if-open.false in
           let same = w.fates-is in (
-            ap (λ (v : Vec (ℕ × Fate) Global). time_out rounds sent (drop (at + 1) os) v.items) same
+            ap (time_out rounds sent (drop (at + 1) os)) (ap deque_items same)
                 ∙ (sym (time_out_other rounds sent os c.loop-at.fates.items at no_place (omega arith) w.if-open.false)
                 ∙ c.loop-at.invariant.0),
             rw same (omega arith),
