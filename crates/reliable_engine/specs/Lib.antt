@@ -1,1 +1,6 @@
+pub mod Answers
+pub mod Events
+pub mod Examples
 pub mod Settings
+pub mod Steps
+pub mod View

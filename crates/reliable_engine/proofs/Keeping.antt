@@ -1,0 +1,201 @@
+-- Each event on what an engine keeps.
+use Rattle.std.proofs.Common.{◌≡◌, ◌≤◌, ◌<◌, ◌^◌, ℕ, suc, true, false, cond, ◌==◌, if◌then◌else◌, length, map, List}
+use Rattle.std.proofs.Common.{[], ◌∷◌, ◌++◌, ◌+◌, ◌-◌, Option, Some, None, refl, sym, ap, ◌∙◌, subst, arith, inl, inr}
+use Rattle.std.proofs.Common.{length-append}
+use Rattle.std.proofs.lemmas.Bool.{eqb-true, eq-eqb}
+use Rattle.std.proofs.lemmas.Bool.Decides.{eqb_tells}
+use Rattle.std.proofs.lemmas.List.{length-map, map-append}
+use Rattle.packet_ids.specs.Identifier.{identifier_at}
+use Rattle.world_model.specs.declared.offered.OpenPlace.{OpenPlace}
+use Rattle.world_model.specs.Hub.{recover, abandoned, open_with, without, places, place_of, least}
+use Rattle.world_model.specs.Sends.{Wanted, after_open, wanted, opened}
+use Rattle.world_model.specs.Facts.{has}
+use Rattle.reliable_engine.specs.Steps.{places_wanted, waits}
+use Rattle.reliable_engine.specs.View.{Keeps}
+use Rattle.reliable_engine.proofs.Places.{either, window_push, window_less, places_map, places_without, wanted_is}
+use Rattle.reliable_engine.proofs.Places.{IsWantedOr}
+
+-- ---- what is waited for
+
+-- at most so many are waited for
+waits_few : (os : List OpenPlace) → waits os ≤ length os
+waits_few [] = omega arith
+waits_few (o ∷ os) =
+    let h = waits_few os in
+    elim o.waited as (λ b. cond b 1 0 + waits os ≤ suc (length os)) [ true ↦ omega arith | false ↦ omega arith ]
+
+pub waits_map : (f : OpenPlace → OpenPlace) (os : List OpenPlace) → ((o : OpenPlace) → (f o).waited ≡ o.waited)
+    → waits (map f os) ≡ waits os
+waits_map f [] same = refl
+waits_map f (o ∷ os) same = rw (same o) (ap (λ (n : ℕ). cond o.waited 1 0 + n) (waits_map f os same))
+
+waits_abandoned : (os : List OpenPlace) → waits (map abandoned os) ≡ 0
+waits_abandoned [] = refl
+waits_abandoned (o ∷ os) = let h = waits_abandoned os in omega arith
+
+waits_push : (os : List OpenPlace) (place : ℕ) → waits (os ++ opened place ∷ []) ≡ waits os + 1
+waits_push [] place = omega arith
+waits_push (o ∷ os) place = let h = waits_push os place in omega arith
+
+abbrev SameWaits : List OpenPlace → Option Wanted → Type 0
+SameWaits os None = Unit {0}
+SameWaits os (Some w) = waits w.open_places ≡ waits os
+
+waits_later : (o : OpenPlace) (os : List OpenPlace) (r : Option Wanted) → SameWaits os r
+    → SameWaits (o ∷ os) (after_open o r)
+waits_later o os None s = tt
+waits_later o os (Some w) s = ap (λ (n : ℕ). cond o.waited 1 0 + n) s
+
+wanted_waits : (first : ℕ) (os : List OpenPlace) → SameWaits os (wanted first os)
+wanted_waits first [] = tt
+wanted_waits first (o ∷ os) = either (SameWaits (o ∷ os)) o.resend _ _
+    (λ _. refl)
+    (λ _. either (SameWaits (o ∷ os)) o.control _ _
+    (λ _. refl)
+    (λ _. waits_later o os _ (wanted_waits first os)))
+
+pub recover_waits : (told : ℕ) (o : OpenPlace) → (recover told o).waited ≡ o.waited
+recover_waits told o = either (λ (x : OpenPlace). x.waited ≡ o.waited) _ _ _ (λ _. refl) (λ _. refl)
+
+-- ---- one open place taken out
+
+pub record Removed (os : List OpenPlace) (o : OpenPlace) : Type 0 where
+  pub waiting : waits (without o.place os) + (if o.waited then 1 else 0) ≡ waits os
+  pub shorter : length (without o.place os) + 1 ≡ length os
+  pub there : has o.place (places os) ≡ true
+
+removed_here : (o : OpenPlace) (os : List OpenPlace) → Removed (o ∷ os) o
+removed_here o os =
+    let same = eq-eqb o.place o.place refl in
+    record { waiting = rw same (omega arith); shorter = rw same (omega arith); there = rw same refl }
+
+removed_later : (x o : OpenPlace) (os : List OpenPlace) → (x.place == o.place) ≡ false → Removed os o
+    → Removed (x ∷ os) o
+removed_later x o os apart is = record {
+  waiting = rw apart (omega (arith, is.waiting));
+  shorter = rw apart (omega (arith, is.shorter));
+  there = rw apart is.there;
+}
+
+-- the open place with an identifier
+pub record IsFound (first id : ℕ) (os : List OpenPlace) (o : OpenPlace) : Type 0 where
+  pub named : identifier_at first o.place ≡ id
+  pub gone : Removed os o
+
+found_later : (first id : ℕ) (x o : OpenPlace) (os : List OpenPlace) → (identifier_at first x.place == id) ≡ false
+    → IsFound first id os o → IsFound first id (x ∷ os) o
+found_later first id x o os other is = elim (eqb_tells x.place o.place) [
+  | inl same ↦ absurd (
+      let here = eq-eqb (identifier_at first x.place) id (ap (identifier_at first) same.1 ∙ is.named) in cc)
+  | inr apart ↦ record { named = is.named; gone = removed_later x o os apart.0 is.gone }
+]
+
+pub found : (first id : ℕ) (os : List OpenPlace) (o : OpenPlace) → open_with first id os ≡ Some o
+    → IsFound first id os o
+found first id [] o e = absurd (cc)
+found first id (x ∷ os) o e =
+    elim (identifier_at first x.place == id) as (λ b. (identifier_at first x.place == id) ≡ b
+    → cond b (Some x) (open_with first id os) ≡ Some o → IsFound first id (x ∷ os) o) [
+      | true ↦ λ is told.
+          let same : x ≡ o = cc in
+          subst (IsFound first id (x ∷ os)) same (record { named = eqb-true _ _ is; gone = removed_here x os })
+      | false ↦ λ is told. found_later first id x o os is (found first id os o told)
+    ] refl e
+
+-- ---- what is kept
+
+same_length : (os qs : List OpenPlace) → places qs ≡ places os → length qs ≡ length os
+same_length os qs same = sym (length-map qs place_of) ∙ (ap length same ∙ length-map os place_of)
+
+pub keeps_same : (first window sent count : ℕ) (os qs : List OpenPlace) (pr fl fr : ℕ)
+    → Keeps first window sent count os pr fl fr → places qs ≡ places os → waits qs ≡ waits os
+    → Keeps first window sent count qs pr fl fr
+keeps_same first window sent count os qs pr fl fr is same waiting =
+    let len = same_length os qs same in
+    record {
+      identifier = is.identifier;
+      within = is.within;
+      few = is.few;
+      in_window = rw same is.in_window;
+      places_fit = omega (arith, is.places_fit);
+      fates_fit = omega (arith, is.fates_fit);
+    }
+
+pub keeps_push : (first window sent count : ℕ) (os : List OpenPlace) (pr fl fr pr2 : ℕ)
+    → Keeps first window sent count os pr fl fr → sent < count → sent + 2 ≤ window + least (places os) (sent + 1)
+    → pr ≤ pr2 → Keeps first window (sent + 1) count (os ++ opened (sent + 1) ∷ []) pr2 fl fr
+keeps_push first window sent count os pr fl fr pr2 is more room grown =
+    let w = waits_push os (sent + 1) in
+    let l = length-append os (opened (sent + 1) ∷ []) in
+    record {
+      identifier = is.identifier;
+      within = omega arith;
+      few = is.few;
+      in_window = rw (map-append place_of os (opened (sent + 1) ∷ []))
+          (window_push window sent (places os) is.in_window room);
+      places_fit = omega (arith, is.places_fit);
+      fates_fit = omega (arith, is.fates_fit);
+    }
+
+pub keeps_less : (first window sent count : ℕ) (os : List OpenPlace) (o : OpenPlace) (pr fl fr fl2 fr2 : ℕ)
+    → Keeps first window sent count os pr fl fr → Removed os o → fl2 ≤ fl + (if o.waited then 1 else 0) → fr ≤ fr2
+    → Keeps first window sent count (without o.place os) pr fl2 fr2
+keeps_less first window sent count os o pr fl fr fl2 fr2 is gone fates grown = record {
+  identifier = is.identifier;
+  within = is.within;
+  few = is.few;
+  in_window = rw (places_without o.place os) (window_less window sent o.place (places os) is.in_window);
+  places_fit = omega (arith, is.places_fit, gone.shorter);
+  fates_fit = omega (arith, is.fates_fit, gone.waiting);
+}
+
+wanted_kept : (first window sent count : ℕ) (os : List OpenPlace) (pr fl fr : ℕ) (r : Option Wanted)
+    → Keeps first window sent count os pr fl fr → IsWantedOr os r → SameWaits os r
+    → Keeps first window sent count (places_wanted os r) pr fl fr
+wanted_kept first window sent count os pr fl fr None is w s = is
+wanted_kept first window sent count os pr fl fr (Some x) is w s =
+    keeps_same first window sent count os x.open_places pr fl fr is w.same s
+
+pub keeps_wanted : (first window sent count : ℕ) (os : List OpenPlace) (pr fl fr : ℕ)
+    → Keeps first window sent count os pr fl fr
+    → Keeps first window sent count (places_wanted os (wanted first os)) pr fl fr
+keeps_wanted first window sent count os pr fl fr is =
+    wanted_kept first window sent count os pr fl fr (wanted first os) is (wanted_is first os) (wanted_waits first os)
+
+wanted_length : (os : List OpenPlace) (r : Option Wanted) → IsWantedOr os r → length (places_wanted os r) ≡ length os
+wanted_length os None w = refl
+wanted_length os (Some x) w = same_length os x.open_places w.same
+
+pub places_wanted_length : (first : ℕ) (os : List OpenPlace) → length (places_wanted os (wanted first os)) ≡ length os
+places_wanted_length first os = wanted_length os (wanted first os) (wanted_is first os)
+
+pub keeps_abandoned : (first window sent count : ℕ) (os : List OpenPlace) (pr fl fr count2 fl2 fr2 : ℕ)
+    → Keeps first window sent count os pr fl fr → count2 ≡ sent → fl2 ≡ fl + waits os + (count - sent) → fr ≤ fr2
+    → Keeps first window sent count2 (map abandoned os) pr fl2 fr2
+keeps_abandoned first window sent count os pr fl fr count2 fl2 fr2 is cut told grown =
+    let w = waits_abandoned os in
+    let l = length-map os abandoned in
+    record {
+      identifier = is.identifier;
+      within = omega arith;
+      few = omega (arith, is.within, is.few);
+      in_window = rw (places_map abandoned os (λ _. refl)) is.in_window;
+      places_fit = omega (arith, is.places_fit);
+      fates_fit = omega (arith, is.fates_fit);
+    }
+
+pub keeps_offer : (first window sent count : ℕ) (os qs : List OpenPlace) (pr fl fr count2 pr2 fr2 : ℕ)
+    → Keeps first window sent count os pr fl fr → places qs ≡ places os → waits qs ≡ waits os
+    → count2 ≡ count + 1 → count < 2 ^ 62 → length os + (count - sent + 1) ≤ pr2
+    → fl + (length os + (count - sent) + 1) ≤ fr2 → Keeps first window sent count2 qs pr2 fl fr2
+keeps_offer first window sent count os qs pr fl fr count2 pr2 fr2 is same waiting more few room fate_room =
+    let len = same_length os qs same in
+    let w = waits_few os in
+    record {
+      identifier = is.identifier;
+      within = omega (arith, is.within);
+      few = omega arith;
+      in_window = rw same is.in_window;
+      places_fit = omega (arith, is.within);
+      fates_fit = omega (arith, is.within);
+    }

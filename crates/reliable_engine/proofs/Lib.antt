@@ -1,0 +1,7 @@
+mod Steps
+mod Places
+mod Keeping
+mod Hubs
+mod Runs
+mod Rests
+mod Draining

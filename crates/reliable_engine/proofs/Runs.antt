@@ -1,0 +1,238 @@
+-- The laws over every list of events.
+use Rattle.std.proofs.Common.{◌≡◌, ◌≤◌, ◌<◌, ℕ, Bool, true, false, ◌==◌, length, List}
+use Rattle.std.proofs.Common.{[]}
+use Rattle.std.proofs.Common.{◌∷◌, ◌++◌, ◌+◌, Option, Some, None, refl, sym, ap, ◌∙◌, arith, inl, inr}
+use Rattle.std.proofs.Common.{length-append, append_assoc}
+use Rattle.std.specs.Prelude.{nat_lt, nat_le}
+use Rattle.std.proofs.lemmas.Bool.{leb-true}
+use Rattle.std.proofs.lemmas.Bool.Decides.{eqb_tells}
+use Rattle.std.proofs.lemmas.List.{map-append, append-nil}
+use Rattle.ipb_base.specs.Lists.{IsPrefix}
+use Rattle.packet_ids.specs.Identifier.{IsIdentifier}
+use Rattle.world_model.specs.declared.offered.OpenPlace.{OpenPlace}
+use Rattle.world_model.specs.declared.offered.Offered.{Offered}
+use Rattle.world_model.specs.Hub.{Hub, low, places, place_of, new_hub, offer, want_control, settle}
+use Rattle.world_model.specs.Hub.{open_with}
+use Rattle.world_model.specs.Hub.{recover, recovered, told_place, hear_status, abandoned, give_up, want_status}
+use Rattle.world_model.specs.Hub.{hear_quiet}
+use Rattle.world_model.specs.Sends.{Next, Wanted, wanted, opened, first_send, wanted_or_first, next_send}
+use Rattle.world_model.specs.Facts.{has, IsWindow}
+use Rattle.reliable_engine.specs.Answers.{IsOpen, hub_next}
+use Rattle.reliable_engine.specs.Events.{HubEvent, Offer, Status, Reply, Quiet, Send, HandOut, after_event}
+use Rattle.reliable_engine.specs.Events.{after_events}
+use Rattle.reliable_engine.specs.Events.{IsInWindow}
+use Rattle.reliable_engine.proofs.Places.{either, less, window_push, window_less, open_sent, open_once}
+use Rattle.reliable_engine.proofs.Places.{places_map}
+use Rattle.reliable_engine.proofs.Places.{places_without, recover_place, wanted_is, IsWantedOr, lowest_open}
+
+-- ---- what an event does to the places: nothing, or one is closed, or the next one is opened
+
+data IsStep (h h2 : Hub) : Type 0 where
+  same : h2.sent ≡ h.sent → places h2.open_places ≡ places h.open_places → IsStep h h2
+  closed : (place : ℕ) → h2.sent ≡ h.sent → places h2.open_places ≡ less place (places h.open_places) → IsStep h h2
+  sent_one : (x : Offered) → h2.sent ≡ h.sent ++ x ∷ []
+      → places h2.open_places ≡ places h.open_places ++ (length h.sent + 1) ∷ []
+      → length h.sent + 2 ≤ h.window + low h → IsStep h h2
+
+offer_step : (h : Hub) (x : Offered) → IsStep h (offer h x)
+offer_step h x = same refl (either (λ (os : List OpenPlace). places os ≡ places h.open_places) h.gave_up _ _
+    (λ _. places_map want_control h.open_places (λ _. refl)) (λ _. refl))
+
+settle_step : (h : Hub) (words : List ℕ) (r : Option OpenPlace) → IsStep h (settle h words r)
+settle_step h words None = same refl refl
+settle_step h words (Some o) = closed o.place refl (places_without o.place h.open_places)
+
+recovered_step : (h : Hub) (r : Option ℕ) → IsStep h (recovered h r)
+recovered_step h None = same refl refl
+recovered_step h (Some told) = same refl (places_map (recover told) h.open_places (recover_place told))
+
+status_step : (h : Hub) (next : ℕ) → IsStep h (hear_status h next)
+status_step h next = either (IsStep h) (nat_lt 0 h.status_requests) _ _
+    (λ _. recovered_step h (told_place h next)) (λ _. same refl refl)
+
+quiet_step : (h : Hub) → IsStep h (hear_quiet h)
+quiet_step h = either (IsStep h) (nat_lt h.status_requests h.rounds) (want_status h) (give_up h)
+    (λ _. same refl refl) (λ _. same refl (places_map abandoned h.open_places (λ _. refl)))
+
+first_step : (h : Hub) (queue : List Offered) → IsStep h (hub_next h (first_send h queue))
+first_step h [] = same refl refl
+first_step h (x ∷ later) = either (λ (r : Option Next). IsStep h (hub_next h r))
+    (nat_le (length h.sent + 1 + 1) (h.window + low h)) _ _
+    (λ e. sent_one x refl (map-append place_of h.open_places (opened (length h.sent + 1) ∷ []))
+    (let room = leb-true _ _ e in omega arith))
+    (λ _. same refl refl)
+
+wanted_step : (h : Hub) (r : Option Wanted) → IsWantedOr h.open_places r → IsStep h (hub_next h (wanted_or_first h r))
+wanted_step h None is = first_step h h.queue
+wanted_step h (Some w) is = same refl is.same
+
+send_step : (h : Hub) → IsStep h (hub_next h (next_send h))
+send_step h = either (λ (r : Option Next). IsStep h (hub_next h r)) h.status_wanted _ _
+    (λ _. same refl refl)
+    (λ _. wanted_step h (wanted h.first h.open_places) (wanted_is h.first h.open_places))
+
+step_of : (h : Hub) (event : HubEvent) → IsStep h (after_event h event)
+step_of h (Offer x) = offer_step h x
+step_of h (Status next) = status_step h next
+step_of h (Reply id words) = settle_step h words (open_with h.first id h.open_places)
+step_of h Quiet = quiet_step h
+step_of h Send = send_step h
+step_of h HandOut = same refl refl
+
+-- ---- the numbers of the hub
+
+record Same (h h2 : Hub) : Type 0 where
+  first : h2.first ≡ h.first
+  window : h2.window ≡ h.window
+  rounds : h2.rounds ≡ h.rounds
+
+as_before : (h : Hub) → Same h h
+as_before h = record { first = refl; window = refl; rounds = refl }
+
+first_same : (h : Hub) (queue : List Offered) → Same h (hub_next h (first_send h queue))
+first_same h [] = as_before h
+first_same h (x ∷ later) = either (λ (r : Option Next). Same h (hub_next h r))
+    (nat_le (length h.sent + 1 + 1) (h.window + low h)) _ _
+    (λ _. record { first = refl; window = refl; rounds = refl }) (λ _. as_before h)
+
+wanted_same : (h : Hub) (r : Option Wanted) → Same h (hub_next h (wanted_or_first h r))
+wanted_same h None = first_same h h.queue
+wanted_same h (Some w) = record { first = refl; window = refl; rounds = refl }
+
+settle_same : (h : Hub) (words : List ℕ) (r : Option OpenPlace) → Same h (settle h words r)
+settle_same h words None = as_before h
+settle_same h words (Some o) = record { first = refl; window = refl; rounds = refl }
+
+recovered_same : (h : Hub) (r : Option ℕ) → Same h (recovered h r)
+recovered_same h None = as_before h
+recovered_same h (Some told) = record { first = refl; window = refl; rounds = refl }
+
+numbers_of : (h : Hub) (event : HubEvent) → Same h (after_event h event)
+numbers_of h (Offer x) = record { first = refl; window = refl; rounds = refl }
+numbers_of h (Status next) = either (Same h) (nat_lt 0 h.status_requests) _ _
+    (λ _. recovered_same h (told_place h next)) (λ _. as_before h)
+numbers_of h (Reply id words) = settle_same h words (open_with h.first id h.open_places)
+numbers_of h Quiet = either (Same h) (nat_lt h.status_requests h.rounds) (want_status h) (give_up h)
+    (λ _. record { first = refl; window = refl; rounds = refl })
+    (λ _. record { first = refl; window = refl; rounds = refl })
+numbers_of h Send = either (λ (r : Option Next). Same h (hub_next h r)) h.status_wanted _ _
+    (λ _. record { first = refl; window = refl; rounds = refl })
+    (λ _. wanted_same h (wanted h.first h.open_places))
+numbers_of h HandOut = record { first = refl; window = refl; rounds = refl }
+
+pub same_first : (h : Hub) (events : List HubEvent) → (after_events h events).first ≡ h.first
+same_first h [] = refl
+same_first h (event ∷ events) = same_first (after_event h event) events ∙ (numbers_of h event).first
+
+pub same_window : (h : Hub) (events : List HubEvent) → (after_events h events).window ≡ h.window
+same_window h [] = refl
+same_window h (event ∷ events) = same_window (after_event h event) events ∙ (numbers_of h event).window
+
+pub same_rounds : (h : Hub) (events : List HubEvent) → (after_events h events).rounds ≡ h.rounds
+same_rounds h [] = refl
+same_rounds h (event ∷ events) = same_rounds (after_event h event) events ∙ (numbers_of h event).rounds
+
+-- ---- the window
+
+abbrev pub IsHub : Hub → Type 0
+IsHub h = IsWindow h.window (length h.sent) (places h.open_places)
+
+window_step : (h h2 : Hub) → h2.window ≡ h.window → IsStep h h2 → IsHub h → IsHub h2
+window_step h h2 w (same s p) is = rw (w, s, p) is
+window_step h h2 w (closed place s p) is = rw (w, s, p)
+    (window_less h.window (length h.sent) place (places h.open_places) is)
+window_step h h2 w (sent_one x s p room) is =
+    let longer = length-append h.sent (x ∷ []) in
+    rw (w, s, p, longer) (window_push h.window (length h.sent) (places h.open_places) is (omega arith))
+
+pub stays_hub : (h : Hub) (events : List HubEvent) → IsHub h → IsHub (after_events h events)
+stays_hub h [] is = is
+stays_hub h (event ∷ events) is =
+    stays_hub (after_event h event) events (window_step h _ (numbers_of h event).window (step_of h event) is)
+
+pub new_is_hub : (first window rounds : ℕ) → window ≤ 16 → 1 ≤ window → IsHub (new_hub first window rounds)
+new_is_hub first window rounds few one =
+    record { few = few; rising = omega arith; from_one = omega arith; within = omega arith }
+
+pub in_window : (h : Hub) → IsIdentifier h.first → IsHub h → IsInWindow h
+in_window h id is = record {
+  no_more = omega (arith, is.within);
+  from_low = λ place there. lowest_open h.window (length h.sent) place (places h.open_places) is there;
+  up_to_last = λ place there. (open_sent h.window (length h.sent) place (places h.open_places) is there).1;
+  one_named = λ place other there here same.
+      open_once h.first h.window (length h.sent) place other (places h.open_places) id is there here same;
+}
+
+-- ---- a place keeps its body
+
+body_step : (h h2 : Hub) → IsStep h h2 → IsPrefix h.sent h2.sent
+body_step h h2 (same s p) = ([], s ∙ sym (append-nil h.sent))
+body_step h h2 (closed place s p) = ([], s ∙ sym (append-nil h.sent))
+body_step h h2 (sent_one x s p room) = (x ∷ [], s)
+
+prefix_trans : {A : Type 0} (xs ys zs : List A) → IsPrefix xs ys → IsPrefix ys zs → IsPrefix xs zs
+prefix_trans {A = A} xs ys zs front more =
+    (front.0 ++ more.0, more.1 ∙ (ap (λ (l : List A). l ++ more.0) front.1 ∙ append_assoc xs front.0 more.0))
+
+pub keeps_bodies : (h : Hub) (events : List HubEvent) → IsPrefix h.sent (after_events h events).sent
+keeps_bodies h [] = ([], sym (append-nil h.sent))
+keeps_bodies h (event ∷ events) =
+    prefix_trans h.sent (after_event h event).sent (after_events (after_event h event) events).sent
+    (body_step h (after_event h event) (step_of h event)) (keeps_bodies (after_event h event) events)
+
+-- ---- a place that is closed stays closed
+
+gone_less : (place other : ℕ) (ps : List ℕ) → has place ps ≡ false → has place (less other ps) ≡ false
+gone_less place other [] gone = gone
+gone_less place other (p ∷ ps) gone = elim (eqb_tells p place) [
+  | inl here ↦ absurd (let bad : has place (p ∷ ps) ≡ true = rw here.0 refl in let e = sym gone ∙ bad in cc)
+  | inr apart ↦
+      let later : has place ps ≡ false =
+      (let e : has place (p ∷ ps) ≡ has place ps = rw apart.0 refl in sym e ∙ gone) in
+      either (λ (qs : List ℕ). has place qs ≡ false) (p == other) ps (p ∷ less other ps)
+      (λ _. later)
+      (λ _. let e : has place (p ∷ less other ps) ≡ has place (less other ps) = rw apart.0 refl in
+      e ∙ gone_less place other ps later)
+]
+
+gone_push : (place next : ℕ) (ps : List ℕ) → has place ps ≡ false → place < next → has place (ps ++ next ∷ []) ≡ false
+gone_push place next [] gone before = elim (eqb_tells next place) [
+  | inl here ↦ absurd (omega (arith, here.1))
+  | inr apart ↦ rw apart.0 refl
+]
+gone_push place next (p ∷ ps) gone before = elim (eqb_tells p place) [
+  | inl here ↦ absurd (let bad : has place (p ∷ ps) ≡ true = rw here.0 refl in let e = sym gone ∙ bad in cc)
+  | inr apart ↦
+      let later : has place ps ≡ false =
+      (let e : has place (p ∷ ps) ≡ has place ps = rw apart.0 refl in sym e ∙ gone) in
+      let e : has place (p ∷ (ps ++ next ∷ [])) ≡ has place (ps ++ next ∷ []) = rw apart.0 refl in
+      e ∙ gone_push place next ps later before
+]
+
+record IsClosed (h : Hub) (place : ℕ) : Type 0 where
+  sent : place ≤ length h.sent
+  gone : has place (places h.open_places) ≡ false
+
+closed_step : (h h2 : Hub) (place : ℕ) → IsStep h h2 → IsClosed h place → IsClosed h2 place
+closed_step h h2 place (same s p) is = record { sent = rw s is.sent; gone = rw p is.gone }
+closed_step h h2 place (closed other s p) is =
+    record { sent = rw s is.sent; gone = rw p (gone_less place other (places h.open_places) is.gone) }
+closed_step h h2 place (sent_one x s p room) is = record {
+  sent = omega (arith, ap length s, length-append h.sent (x ∷ []), is.sent);
+  gone = rw p (gone_push place (length h.sent + 1) (places h.open_places) is.gone (omega (arith, is.sent)));
+}
+
+closed_on : (h : Hub) (place : ℕ) (events : List HubEvent) → IsClosed h place → IsClosed (after_events h events) place
+closed_on h place [] is = is
+closed_on h place (event ∷ events) is =
+    closed_on (after_event h event) place events (closed_step h _ place (step_of h event) is)
+
+pub not_open : (b : Bool) → (b ≡ true → ⊥) → b ≡ false
+not_open true n = absurd (n refl)
+not_open false n = refl
+
+pub closed_for_good : (h : Hub) (events : List HubEvent) (place : ℕ) → place ≤ length h.sent → (IsOpen h place → ⊥)
+    → IsOpen (after_events h events) place → ⊥
+closed_for_good h events place sent gone there =
+    let is = closed_on h place events (record { sent = sent; gone = not_open _ gone }) in
+    absurd (let e = sym is.gone ∙ there in cc)

@@ -1,0 +1,17 @@
+use Rattle.std.proofs.Common.{arith}
+use Rattle.reliable_engine.proofs.Runs.{same_rounds}
+use Rattle.reliable_engine.proofs.Rests.{quiet_begins, quiet_ends, rounds_counted}
+use Rattle.reliable_engine.proofs.laws.a_hub_gives_up_after_its_rounds.Goals as goal
+
+pub returns-clause-counted : goal.returns-clause-counted
+returns-clause-counted c = rounds_counted
+
+pub returns-clause-no_earlier : goal.returns-clause-no_earlier
+returns-clause-no_earlier c = λ hub events none out.
+    omega (arith, rounds_counted hub events, same_rounds hub events)
+
+pub returns-clause-gives_up : goal.returns-clause-gives_up
+returns-clause-gives_up c = quiet_ends
+
+pub returns-clause-goes_on : goal.returns-clause-goes_on
+returns-clause-goes_on c = quiet_begins

@@ -1,0 +1,89 @@
+-- Lists of events: whatever an engine is told and asked, in any order. Profile.
+use Rattle.std.specs.Prelude.{◌≡◌, ◌≢◌, ℕ, ◌+◌, ◌≤◌, true, false, List, [], ◌∷◌, length, map}
+use Rattle.std.specs.List.{AllByRecursion}
+use Rattle.packet_ids.specs.Identifier.{identifier_at}
+use Rattle.world_model.specs.declared.offered.Offered.{Offered}
+use Rattle.world_model.specs.Hub.{Hub, offer, hear_status, hear_reply, hear_quiet, is_waiting, low, recover}
+use Rattle.world_model.specs.Hub.{some_waited}
+use Rattle.world_model.specs.Sends.{next_send}
+use Rattle.reliable_engine.specs.Answers.{IsOpen, IsQuiet, NamesOpenPlace, TellsPlace, hub_next, told_first}
+
+-- a body is offered; a status reply with this identifier, the reply with this identifier, or nothing at all is heard;
+-- the next
+-- send is taken; the first fate is handed out
+pub data HubEvent : Type 0 where
+  Offer : Offered → HubEvent
+  Status : ℕ → HubEvent
+  Reply : ℕ → List ℕ → HubEvent
+  Quiet : HubEvent
+  Send : HubEvent
+  HandOut : HubEvent
+
+abbrev pub after_event : Hub → HubEvent → Hub
+after_event hub (Offer offered) = offer hub offered
+after_event hub (Status next) = hear_status hub next
+after_event hub (Reply id words) = hear_reply hub id words
+after_event hub Quiet = hear_quiet hub
+after_event hub Send = hub_next hub (next_send hub)
+after_event hub HandOut = told_first hub
+
+abbrev pub after_events : Hub → List HubEvent → Hub
+after_events hub [] = hub
+after_events hub (event ∷ events) = after_events (after_event hub event) events
+
+-- a quiet receive is noticed only while a body has no fate
+abbrev pub IsAllowed : Hub → HubEvent → Type 0
+IsAllowed hub (Offer offered) = Unit {0}
+IsAllowed hub (Status next) = Unit {0}
+IsAllowed hub (Reply id words) = Unit {0}
+IsAllowed hub Quiet = is_waiting hub ≡ true
+IsAllowed hub Send = Unit {0}
+IsAllowed hub HandOut = Unit {0}
+
+abbrev pub AreAllowed : Hub → List HubEvent → Type 0
+AreAllowed hub [] = Unit {0}
+AreAllowed hub (event ∷ events) = IsAllowed hub event × AreAllowed (after_event hub event) events
+
+-- the places from the lowest open one to the last one sent are no more than the window, and the open places are among
+-- them
+pub record IsInWindow (hub : Hub) : Type 0 where
+  pub no_more : length hub.sent + 1 ≤ low hub + hub.window
+  pub from_low : (place : ℕ) → IsOpen hub place → low hub ≤ place
+  pub up_to_last : (place : ℕ) → IsOpen hub place → place ≤ length hub.sent
+  pub one_named : (place other : ℕ) → IsOpen hub place → IsOpen hub other
+      → identifier_at hub.first place ≡ identifier_at hub.first other → place ≡ other
+
+-- A reply closes the open place with its identifier and no other. Where no open place has it, nothing changes.
+pub record SettlesAlone (hub : Hub) (id : ℕ) (words : List ℕ) : Type 0 where
+  pub closed : (place : ℕ) → IsOpen hub place → identifier_at hub.first place ≡ id
+      → ¬ IsOpen (hear_reply hub id words) place
+  pub others : (place : ℕ) → IsOpen hub place → identifier_at hub.first place ≢ id
+      → IsOpen (hear_reply hub id words) place
+  pub stray : ¬ NamesOpenPlace hub id → hear_reply hub id words ≡ hub
+
+-- where a status reply tells a place, each open place is recovered by it
+abbrev pub IfTold : Hub → ℕ → Type 0
+IfTold hub next = (told : TellsPlace hub next)
+    → hear_status hub next ≡ record hub { open_places = map (recover told.place) hub.open_places }
+
+-- nothing is queued, waited for or to be sent, and no round is under way
+pub record IsAtRest (hub : Hub) : Type 0 where
+  pub queue : hub.queue ≡ []
+  pub waited : some_waited hub.open_places ≡ false
+  pub round : hub.status_requests ≡ 0
+  pub status : hub.status_wanted ≡ false
+  pub quiet : AllByRecursion IsQuiet hub.open_places
+
+-- how many of the events are quiet receives
+abbrev pub quiets : List HubEvent → ℕ
+quiets [] = 0
+quiets (Offer offered ∷ events) = quiets events
+quiets (Status next ∷ events) = quiets events
+quiets (Reply id words ∷ events) = quiets events
+quiets (Quiet ∷ events) = quiets events + 1
+quiets (Send ∷ events) = quiets events
+quiets (HandOut ∷ events) = quiets events
+
+-- the next quiet receive ends the last round
+abbrev pub IsOutOfRounds : Hub → Type 0
+IsOutOfRounds hub = hub.rounds ≤ hub.status_requests

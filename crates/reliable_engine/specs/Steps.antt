@@ -1,0 +1,45 @@
+-- What private functions promise one another. No public contract speaks of it.
+use Rattle.std.specs.Prelude.{◌≡◌, ℕ, ◌+◌, ◌≤◌, ◌^◌, List, [], ◌∷◌, ◌++◌, take, drop, Option, Some, None, if◌then◌else◌}
+use Rattle.packet_ids.specs.Identifier.{identifier_at}
+use Rattle.world_model.specs.declared.offered.OpenPlace.{OpenPlace}
+use Rattle.world_model.specs.declared.sending.Sending.{Sending}
+use Rattle.world_model.specs.Hub.{open_with, without}
+use Rattle.world_model.specs.Sends.{Wanted, after_open}
+
+-- a place that has an identifier
+abbrev pub CanBeNamed : OpenPlace → Type 0
+CanBeNamed o = (1 ≤ o.place) × (o.place ≤ 2 ^ 63)
+
+-- a place of one of so many bodies
+abbrev pub IsSent : ℕ → OpenPlace → Type 0
+IsSent sent o = (1 ≤ o.place) × (o.place ≤ sent)
+
+-- the open places after one was taken out
+abbrev pub places_after : List OpenPlace → Option OpenPlace → List OpenPlace
+places_after os None = os
+places_after os (Some o) = without o.place os
+
+-- the send that is wanted, and the open places after it
+abbrev pub sending_of : Option Wanted → Option Sending
+sending_of None = None
+sending_of (Some w) = Some w.send
+
+abbrev pub places_wanted : List OpenPlace → Option Wanted → List OpenPlace
+places_wanted os None = os
+places_wanted os (Some w) = w.open_places
+
+-- how many of them are waited for
+abbrev pub waits : List OpenPlace → ℕ
+waits [] = 0
+waits (o ∷ os) = (if o.waited then 1 else 0) + waits os
+
+-- what is wanted of places at the front that want nothing, and of the others
+abbrev pub prepend : List OpenPlace → Option Wanted → Option Wanted
+prepend [] later = later
+prepend (o ∷ os) later = after_open o (prepend os later)
+
+-- no place before this index has the identifier
+pub record IsPast (first id at : ℕ) (os : List OpenPlace) : Type 0 where
+  pub found : open_with first id (drop at os) ≡ open_with first id os
+  pub others : (place : ℕ) → identifier_at first place ≡ id
+      → without place os ≡ take at os ++ without place (drop at os)

@@ -1,0 +1,285 @@
+//! The engine: what it hears, what it sends, and what became of the bodies.
+
+ghost use Rattle.std.specs.Prelude.{◌≡◌, ◌↔◌, ◌≤◌, ◌<◌, ◌+◌, ◌^◌, ◌++◌, ◌∷◌, [], true, length, min};
+ghost use Rattle.std.specs.List.{slice_get};
+ghost use Rattle.std.specs.Prelude.{IfOk, OnOk, IfErr, OnErr, IfSome, IsTrue, IsNone};
+ghost use Rattle.std.specs.Vec.{vec_len, vec_capacity};
+ghost use Rattle.packet_ids.specs.Identifier.{IsIdentifier};
+ghost use Rattle.world_model.specs.Places.{at_place};
+ghost use Rattle.world_model.specs.Hub.{new_hub, offer, hear_reply, hear_status, hear_quiet, give_up, is_waiting};
+ghost use Rattle.world_model.specs.Hub.{low, told_place, words_of};
+ghost use Rattle.world_model.specs.Sends.{first_send, next_send, opened};
+ghost use Rattle.reliable_engine.specs.Answers.{HasNothingToSend, IsOpen, IsSendOf, NamesOpenPlace, TellsPlace};
+ghost use Rattle.reliable_engine.specs.Answers.{body_count, hub_next, sent_next, told_first};
+
+use crate::fates::{put_fate, put_time_outs, put_unsent};
+use crate::open_places::{
+    abandon_all, is_any_waited, recover_all, take_open, take_wanted, want_all,
+};
+use crate::settings::Settings;
+use ipb_base::{NoMemory, Words};
+use packet_ids::{Id, id_at, place_of};
+use status_packet::Status;
+use std::alloc::Global;
+use std::collections::VecDeque;
+use std::marker::Model;
+use world_model::{Fate, Offered, OpenPlace, Sending};
+
+/// The hub's side of one board (IPbus 2.0, reliability mechanism). Contracts see it as `world_model`'s hub: the bodies
+/// that were sent, by place, those that wait, the open places, the round that is under way, and the fates that are not
+/// handed out.
+#[derive(Drop)]
+pub struct Engine {
+    first: Id,
+    window: u64,
+    rounds: u8,
+    bodies: Vec<Offered>,
+    sent: usize,
+    open_places: Vec<OpenPlace>,
+    status_requests: u8,
+    status_wanted: bool,
+    gave_up: bool,
+    fates: VecDeque<(u64, Fate)>,
+}
+
+impl Model for Engine {
+    ghost use Rattle.world_model.specs.Hub.{Hub};
+    ghost use Rattle.reliable_engine.specs.View.{hub_of, IsKept};
+
+    ghost Value = { Hub };
+
+    ghost view = { hub_of };
+
+    ghost invariant = { IsKept };
+}
+
+impl Engine {
+    /// The engine of a board that told this status: the board expects `status.next` first, and the window is the
+    /// smaller one of the board's buffers and the session's window (profile). `NoMemory` where memory ran out.
+    pub fn new(alloc: Global, settings: Settings, status: Status) -> Result<Engine, NoMemory>
+        ensures { IfOk result (λ engine.
+            engine ≡ new_hub status.next (min settings.window status.buffers) settings.rounds) }
+    {
+        Ok(Engine {
+            first: status.next,
+            window: u64::from(settings.window()).min(u64::from(status.buffers)),
+            rounds: settings.rounds(),
+            bodies: Vec::new(alloc),
+            sent: 0,
+            open_places: Vec::new(alloc),
+            status_requests: 0,
+            status_wanted: false,
+            gave_up: false,
+            fates: VecDeque::new(alloc),
+        })
+    }
+
+    /// Offers a body under a tag. The first offer since a give-up has the control packet of each open place sent again
+    /// (profile). It takes the room that the body, its place and its fate will need, so no later call takes memory.
+    /// Where memory ran out the body is given back, and nothing changed. At most 2^62 bodies are offered.
+    pub fn offer(&mut self, tag: u64, body: Words) -> Result<(), Words>
+        requires few { body_count self.old < 2 ^ 62 }
+        ensures offered { OnOk result (self.new ≡ offer self.old (record { tag = tag; body = body })) }
+        ensures given_back { IfErr result (λ given. given ≡ body) }
+        ensures unchanged { OnErr result (self.new ≡ self.old) }
+        ensures counted { body_count self.new ≤ body_count self.old + 1 }
+    {
+        let queued = self.bodies.len() - self.sent;
+        let Ok(()) = self.open_places.reserve(queued + 1) else {
+            return Err(body);
+        };
+        let Ok(()) = self.fates.reserve(self.open_places.len() + queued + 1) else {
+            return Err(body);
+        };
+        if let Err(refused) = self.bodies.push(Offered { tag, body }) {
+            return Err(refused.value.body);
+        }
+        if self.gave_up {
+            want_all(&mut self.open_places);
+            self.gave_up = false;
+        }
+        Ok(())
+    }
+
+    /// Hears a status reply (IPbus 2.0, status packet). It is taken while a round is under way, where the identifier in
+    /// it is that of a place from the lowest open one to the one after all. Then the reply of each open place below
+    /// that place is asked for again, and the control packet of each other open place is sent again.
+    pub fn on_status(&mut self, status: &Status) -> bool
+        ensures hub { self.new ≡ hear_status self.old status.now.next }
+        ensures taken { IsTrue result ↔ TellsPlace self.old status.now.next }
+        ensures counted { body_count self.new ≡ body_count self.old }
+    {
+        if self.status_requests == 0 {
+            return false;
+        }
+        match self.told_place(status.next) {
+            Some(told) => {
+                recover_all(&mut self.open_places, told);
+                true
+            }
+            None => false,
+        }
+    }
+
+    /// Hears the reply to a control packet (IPbus 2.0, reliability mechanism). It settles the open place with its
+    /// identifier, whenever it comes; the words go to whoever waits for them. Where no open place has the identifier
+    /// nothing changes.
+    pub fn on_reply(&mut self, id: Id, words: Words) -> bool
+        ensures hub { self.new ≡ hear_reply self.old id words }
+        ensures taken { IsTrue result ↔ NamesOpenPlace self.old id }
+        ensures counted { body_count self.new ≡ body_count self.old }
+    {
+        let Some(settled) = take_open(&mut self.open_places, self.first, id) else {
+            return false;
+        };
+        self.status_requests = 0; // the round is over
+        if settled.waited {
+            let tag = self.bodies[(settled.place - 1) as usize].tag;
+            let place = settled.place;
+            put_fate(&mut self.fates, place, tag, Fate::Replied { place, words });
+        }
+        true
+    }
+
+    /// Hears that a receive was quiet. A status request is wanted; or, where as many were wanted as there are rounds
+    /// and no place was settled since, the hub gives up: each place that is waited for is timed out, each queued body
+    /// is unsent, and the open places stay open (profile).
+    pub fn on_quiet(&mut self)
+        requires { is_waiting self.old ≡ true }
+        ensures hub { self.new ≡ hear_quiet self.old }
+        ensures counted { body_count self.new ≤ body_count self.old }
+    {
+        if self.status_requests < self.rounds {
+            self.status_requests += 1;
+            self.status_wanted = true;
+        } else {
+            self.give_up();
+        }
+    }
+
+    /// Whether a body that was offered has no fate yet.
+    pub fn waiting(&self) -> bool
+        ensures { result ≡ is_waiting self.now }
+    {
+        self.sent < self.bodies.len() || is_any_waited(&self.open_places)
+    }
+
+    /// Takes what is to be sent next: a wanted status request; then what is wanted for open places, by place, at one
+    /// place the re-send request before the control packet; then the bodies that wait, in the order of offers, while
+    /// the window has room (profile). `None` where nothing of this is left.
+    pub fn next_send(&mut self) -> Option<Sending>
+        ensures send { result ≡ sent_next (next_send self.old) }
+        ensures hub { self.new ≡ hub_next self.old (next_send self.old) }
+        ensures none { IsNone result ↔ HasNothingToSend self.old }
+        ensures open_place { IfSome result (IsSendOf self.new) }
+        ensures counted { body_count self.new ≡ body_count self.old }
+    {
+        if self.status_wanted {
+            self.status_wanted = false;
+            return Some(Sending::Status);
+        }
+        if let Some(send) = take_wanted(&mut self.open_places, self.first) {
+            return Some(send);
+        }
+        self.first_send()
+    }
+
+    /// The body at an open place.
+    pub fn body_at(&self, place: u64) -> &[u32]
+        requires { IsOpen self.now place }
+        ensures { result.now ≡ words_of (at_place self.now.sent place) }
+    {
+        self.bodies[(place - 1) as usize].body.as_slice()
+    }
+
+    /// Hands out the first fate that was not handed out, with the tag of its body. `None` where there is none.
+    pub fn settled(&mut self) -> Option<(u64, Fate)>
+        ensures fate { result ≡ slice_get self.old.fates 0 }
+        ensures hub { self.new ≡ told_first self.old }
+        ensures counted { body_count self.new ≡ body_count self.old }
+    {
+        self.fates.pop_front()
+    }
+
+    /// Gives up (profile).
+    fn give_up(&mut self)
+        ensures hub { self.new ≡ give_up self.old }
+        ensures counted { body_count self.new ≤ body_count self.old }
+    {
+        put_time_outs(
+            &mut self.fates,
+            &self.bodies[..self.sent],
+            &self.open_places,
+            self.rounds,
+        );
+        put_unsent(&mut self.fates, &self.bodies[self.sent..]);
+        self.bodies.truncate(self.sent);
+        abandon_all(&mut self.open_places);
+        self.status_requests = 0;
+        self.status_wanted = false;
+        self.gave_up = true;
+    }
+
+    /// Sends the body at the front of the queue as the next place, where the window has room.
+    fn first_send(&mut self) -> Option<Sending>
+        ensures send { result ≡ sent_next (first_send self.old self.old.queue) }
+        ensures hub { self.new ≡ hub_next self.old (first_send self.old self.old.queue) }
+        ensures open_place { IfSome result (IsSendOf self.new) }
+        ensures counted { body_count self.new ≡ body_count self.old }
+    {
+        if self.sent == self.bodies.len() {
+            return None;
+        }
+        let place = self.sent as u64 + 1;
+        if place + 1 > self.window + self.low() {
+            return None;
+        }
+        self.sent += 1;
+        push_open(&mut self.open_places, place);
+        Some(Sending::Control {
+            place,
+            id: id_at(self.first, place),
+        })
+    }
+
+    /// The place that an identifier in a status reply names, from the lowest open one to the one after all.
+    fn told_place(&self, next: Id) -> Option<u64>
+        ensures { result ≡ told_place self.now next }
+    {
+        let low = self.low();
+        let ahead = place_of(id_at(self.first, low), 1, self.sent as u64 + 2 - low, next)?;
+        Some(low + ahead - 1)
+    }
+
+    /// The lowest open place, or the one after all places.
+    fn low(&self) -> u64
+        ensures low { result ≡ low self.now }
+        ensures from_one { 1 ≤ result }
+        ensures up_to_next { result ≤ length self.now.sent + 1 }
+        ensures near { length self.now.sent < result + 16 }
+        ensures few { length self.now.sent ≤ 2 ^ 62 }
+    {
+        if self.open_places.is_empty() {
+            self.sent as u64 + 1
+        } else {
+            self.open_places[0].place
+        }
+    }
+}
+
+/// Opens a place, for which there is room.
+fn push_open(places: &mut Vec<OpenPlace>, place: u64)
+    requires { vec_len places.old < vec_capacity places.old }
+    ensures items { places.new.items ≡ places.old.items ++ opened place ∷ [] }
+    ensures len { vec_len places.new ≡ vec_len places.old + 1 }
+    ensures capacity { vec_capacity places.old ≤ vec_capacity places.new }
+{
+    places
+        .push(OpenPlace {
+            place,
+            waited: true,
+            resend: false,
+            control: false,
+        })
+        .unwrap();
+}

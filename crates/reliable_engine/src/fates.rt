@@ -1,0 +1,82 @@
+//! The fates that are not handed out yet: by place, and then those of bodies that were never sent.
+
+ghost use Rattle.std.specs.Prelude.{◌≡◌, ◌≤◌, ◌<◌, ◌+◌, ℕ, length, map, All, ◌++◌};
+ghost use Rattle.std.specs.List.{insert};
+ghost use Rattle.std.specs.VecDeque.{deque_len, deque_capacity};
+ghost use Rattle.world_model.specs.declared.offered.Fate.{Fate as FateValue};
+ghost use Rattle.world_model.specs.Hub.{insert_fate, goes_before, time_out, unsent};
+ghost use Rattle.reliable_engine.specs.Steps.{IsSent, waits};
+
+use std::collections::VecDeque;
+use world_model::{Fate, Offered, OpenPlace};
+
+/// Whether a fate at this place stands before another.
+fn goes_before(place: u64, fate: &Fate) -> bool
+    ensures { result ≡ goes_before place fate.now }
+{
+    match fate {
+        Fate::Replied { place: other, .. } => place < *other,
+        Fate::TimedOut { place: other, .. } => place < *other,
+        Fate::Unsent => true,
+    }
+}
+
+/// Where a fate at this place is put.
+fn fate_index(fates: &VecDeque<(u64, Fate)>, place: u64) -> usize
+    ensures within { result ≤ deque_len fates.now }
+    ensures index { (new : ℕ × FateValue) → insert_fate place new fates.now.items ≡ insert fates.now.items result new }
+{
+    for at in 0..fates.len() {
+        let told = &fates[at];
+        if goes_before(place, &told.1) {
+            return at;
+        }
+    }
+    fates.len()
+}
+
+/// Puts the fate of a place among the others, for which there is room.
+pub(crate) fn put_fate(fates: &mut VecDeque<(u64, Fate)>, place: u64, tag: u64, fate: Fate)
+    requires room { deque_len fates.old < deque_capacity fates.old }
+    ensures items { fates.new.items ≡ insert_fate place (tag, fate) fates.old.items }
+    ensures len { deque_len fates.new ≡ deque_len fates.old + 1 }
+    ensures capacity { deque_capacity fates.old ≤ deque_capacity fates.new }
+{
+    let at = fate_index(fates, place);
+    fates.insert(at, (tag, fate)).unwrap();
+}
+
+/// Gives each place that is waited for the fate of a time-out.
+pub(crate) fn put_time_outs(
+    fates: &mut VecDeque<(u64, Fate)>,
+    sent: &[Offered],
+    places: &[OpenPlace],
+    rounds: u8,
+)
+    requires room { deque_len fates.old + waits places.now ≤ deque_capacity fates.old }
+    requires places { All (IsSent (length sent.now)) places.now }
+    ensures items { fates.new.items ≡ time_out rounds sent.now places.now fates.old.items }
+    ensures len { deque_len fates.new ≡ deque_len fates.old + waits places.now }
+    ensures capacity { deque_capacity fates.old ≤ deque_capacity fates.new }
+{
+    for at in 0..places.len() {
+        let open = places[at];
+        if open.waited {
+            let tag = sent[(open.place - 1) as usize].tag;
+            let place = open.place;
+            put_fate(fates, place, tag, Fate::TimedOut { place, rounds });
+        }
+    }
+}
+
+/// Gives each queued body the fate of one that was never sent.
+pub(crate) fn put_unsent(fates: &mut VecDeque<(u64, Fate)>, queue: &[Offered])
+    requires room { deque_len fates.old + length queue.now ≤ deque_capacity fates.old }
+    ensures items { fates.new.items ≡ fates.old.items ++ map unsent queue.now }
+    ensures len { deque_len fates.new ≡ deque_len fates.old + length queue.now }
+    ensures capacity { deque_capacity fates.old ≤ deque_capacity fates.new }
+{
+    for offered in queue {
+        fates.push_back_reserved((offered.tag, Fate::Unsent));
+    }
+}

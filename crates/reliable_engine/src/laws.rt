@@ -1,0 +1,118 @@
+//! Laws of an engine's hub, over every list of events. These functions do nothing when they run: their clauses are what
+//! is proved.
+
+ghost use Rattle.std.specs.Prelude.{◌≡◌, ◌≤◌, ◌<◌, ◌+◌, ℕ, List, [], ◌∷◌, length, map, replicate};
+ghost use Rattle.std.specs.Prelude.{true, false, None, Some};
+ghost use Rattle.ipb_base.specs.Lists.{IsPrefix};
+ghost use Rattle.packet_ids.specs.Identifier.{IsIdentifier};
+ghost use Rattle.world_model.specs.declared.offered.Offered.{Offered};
+ghost use Rattle.world_model.specs.declared.offered.Fate.TheVariants.{Replied, TimedOut, Unsent};
+ghost use Rattle.world_model.specs.declared.offered.OpenPlace.{OpenPlace};
+ghost use Rattle.world_model.specs.declared.sending.Sending.TheVariants.{Control, Status};
+ghost use Rattle.world_model.specs.Hub.{Hub, give_up, hear_quiet, hear_status, new_hub, offer, want_control};
+ghost use Rattle.world_model.specs.Hub.{is_waiting, places, recover, want_status};
+ghost use Rattle.world_model.specs.Sends.{Next, next_send, pending};
+ghost use Rattle.reliable_engine.specs.declared.settings.TheConstants.{MAX_WINDOW};
+ghost use Rattle.reliable_engine.specs.Answers.{IsOpen, TellsPlace, sent_next};
+ghost use Rattle.reliable_engine.specs.Events.{AreAllowed, HubEvent, IsAtRest, IsInWindow, IsOutOfRounds, Send};
+ghost use Rattle.reliable_engine.specs.Events.{IfTold, SettlesAlone, after_events, quiets};
+ghost use Rattle.reliable_engine.specs.Examples.{given_up, one_word, three_told, two_sent, two_settled};
+
+/// From the lowest open place to the last first send there are never more places than the window, and no two open
+/// places have one identifier.
+pub fn the_window_is_never_passed()
+    ensures { (first window rounds : ℕ) (events : List HubEvent) → IsIdentifier first → 1 ≤ window
+        → window ≤ MAX_WINDOW → IsInWindow (after_events (new_hub first window rounds) events) }
+{}
+
+/// A place keeps its body and its identifier for good.
+pub fn a_place_keeps_its_body()
+    ensures bodies { (hub : Hub) (events : List HubEvent) → IsPrefix hub.sent (after_events hub events).sent }
+    ensures first { (hub : Hub) (events : List HubEvent) → (after_events hub events).first ≡ hub.first }
+{}
+
+/// A place that was settled is never open again.
+pub fn a_settled_place_is_closed_for_good()
+    ensures { (hub : Hub) (events : List HubEvent) (place : ℕ) → place ≤ length hub.sent → ¬ IsOpen hub place
+        → ¬ IsOpen (after_events hub events) place }
+{}
+
+/// A reply settles the one open place with its identifier, whenever it comes, and no other.
+pub fn a_reply_settles_its_place_alone()
+    ensures { (first window rounds id : ℕ) (words : List ℕ) (events : List HubEvent) → IsIdentifier first → 1 ≤ window
+        → window ≤ MAX_WINDOW → SettlesAlone (after_events (new_hub first window rounds) events) id words }
+{}
+
+/// A status reply is taken exactly where a round is under way and it tells one of the places from the lowest open one
+/// to the one after all. Then the reply of each open place below that place is asked for again, and the control packet
+/// of each other one is sent again.
+pub fn a_status_reply_recovers_each_open_place()
+    ensures taken { (first window rounds next : ℕ) (events : List HubEvent) → IsIdentifier first → 1 ≤ window
+        → window ≤ MAX_WINDOW → IfTold (after_events (new_hub first window rounds) events) next }
+    ensures stray { (hub : Hub) (next : ℕ) → ¬ TellsPlace hub next → hear_status hub next ≡ hub }
+    ensures below { (told : ℕ) (open_place : OpenPlace) → open_place.place < told
+        → recover told open_place ≡ record open_place { resend = true } }
+    ensures others { (told : ℕ) (open_place : OpenPlace) → told ≤ open_place.place
+        → recover told open_place ≡ record open_place { control = true } }
+{}
+
+/// A give-up leaves nothing queued, waited for or to be sent, and so it stays until the next offer. That offer has the
+/// control packet of each open place sent again, and the offers after it do not.
+pub fn a_give_up_ends_all_waiting()
+    ensures at_once { (hub : Hub) → IsAtRest (give_up hub) }
+    ensures until_an_offer { (first window rounds : ℕ) (events : List HubEvent)
+        → AreAllowed (new_hub first window rounds) events
+        → (after_events (new_hub first window rounds) events).gave_up ≡ true
+        → IsAtRest (after_events (new_hub first window rounds) events) }
+    ensures nothing_to_send { (hub : Hub) → IsAtRest hub → next_send hub ≡ None }
+    ensures nobody_waits { (hub : Hub) → IsAtRest hub → is_waiting hub ≡ false }
+    ensures next_offer { (hub : Hub) (offered : Offered) → hub.gave_up ≡ true
+        → (offer hub offered).open_places ≡ map want_control hub.open_places }
+    ensures later_offers { (hub : Hub) (offered : Offered) → hub.gave_up ≡ false
+        → (offer hub offered).open_places ≡ hub.open_places }
+{}
+
+/// Each quiet receive begins one round at most. So a hub that has begun none, as after a settled place, gives up only
+/// after as many quiet receives as its rounds, and then at the next one.
+pub fn a_hub_gives_up_after_its_rounds()
+    ensures counted { (hub : Hub) (events : List HubEvent)
+        → (after_events hub events).status_requests ≤ hub.status_requests + quiets events }
+    ensures no_earlier { (hub : Hub) (events : List HubEvent) → hub.status_requests ≡ 0
+        → IsOutOfRounds (after_events hub events) → hub.rounds ≤ quiets events }
+    ensures gives_up { (hub : Hub) → IsOutOfRounds hub → hear_quiet hub ≡ give_up hub }
+    ensures goes_on { (hub : Hub) → hub.status_requests < hub.rounds → hear_quiet hub ≡ want_status hub }
+{}
+
+/// Sends come to an end: after as many as are pending there is none.
+pub fn draining_ends()
+    ensures fewer { (hub : Hub) (next : Next) → next_send hub ≡ Some next → pending next.hub < pending hub }
+    ensures end { (hub : Hub) → next_send (after_events hub (replicate (pending hub) Send)) ≡ None }
+{}
+
+/// Two bodies get the identifiers 65535 and 1. Their replies, heard in the other order, settle the places 1 and 2.
+pub fn replies_past_the_last_identifier()
+    ensures full { next_send two_sent ≡ None }
+    ensures bodies { two_sent.sent ≡ one_word 7 ∷ one_word 8 ∷ [] }
+    ensures places { places two_sent.open_places ≡ 1 ∷ 2 ∷ [] }
+    ensures fates { two_settled.fates ≡ (7, Replied 1 (0x77 ∷ [])) ∷ (8, Replied 2 (0x88 ∷ [])) ∷ [] }
+    ensures settled { two_settled.open_places ≡ [] }
+{}
+
+/// Of the places with the identifiers 65534, 65535 and 1 a status reply that expects 1 has the replies of the first two
+/// asked for again, and the packet of the third sent again.
+pub fn a_status_reply_past_the_last_identifier()
+    ensures open_places { three_told.open_places ≡
+        record { place = 1; waited = true; resend = true; control = false }
+        ∷ record { place = 2; waited = true; resend = true; control = false }
+        ∷ record { place = 3; waited = true; resend = false; control = true } ∷ [] }
+    ensures first_send { sent_next (next_send three_told) ≡ Some Status }
+    ensures stray { hear_status three_told 3 ≡ three_told }
+{}
+
+/// With one round, the second quiet receive times the sent body out, and the queued one is unsent. The next offer has
+/// the packet of place 1 sent again.
+pub fn the_second_quiet_receive_ends_one_round()
+    ensures fates { given_up.fates ≡ (7, TimedOut 1 1) ∷ (8, Unsent) ∷ [] }
+    ensures rest { next_send given_up ≡ None }
+    ensures again { sent_next (next_send (offer given_up (one_word 9))) ≡ Some (Control 1 1) }
+{}

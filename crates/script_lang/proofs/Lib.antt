@@ -1,4 +1,0 @@
-pub mod Values
-pub mod Cuts
-pub mod Faults
-pub mod Numbers
