@@ -1,5 +1,5 @@
 -- Cutting a text at the first of a byte, one byte after the other.
-use Rattle.std.proofs.Common.{◌≡◌, ℕ, ◌+◌, ◌<◌, ◌==◌, List, [], ◌∷◌, ◌++◌, length, take, drop, get_or, Bool, true, false, Option, Some, None, option_map, refl, ap, sym, ◌∙◌}
+use Rattle.std.proofs.Common.{◌≡◌, ℕ, ◌+◌, ◌<◌, ◌==◌, List, [], ◌∷◌, ◌++◌, length, take, drop, get_or, true, false, Option, Some, None, option_map, refl, ap, sym}
 use Rattle.std.proofs.lemmas.List.{drop_more, take_more, append_assoc, append-nil}
 use Rattle.script_lang.specs.Texts.{cut_at}
 

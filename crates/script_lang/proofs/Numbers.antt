@@ -1,12 +1,10 @@
 -- A number that keeps the rule of its key lies between the bounds of the rule.
-use Rattle.std.proofs.Common.{◌≡◌, ℕ, ◌≤◌, Option, Some, None, codes, arith}
+use Rattle.std.proofs.Common.{ℕ, ◌≤◌, Option, Some, None, codes, arith}
 use Rattle.std.proofs.lemmas.Bool.Decides.{nat_tests}
-use Rattle.toml.specs.Data.{Data, Members, get_member}
+use Rattle.toml.specs.Data.{Members, get_member}
 use Rattle.address_table.specs.Numbers.{is_between, number}
 use Rattle.std.specs.Option.{option_and_then, unwrap_or}
 use Rattle.script_lang.specs.Texts.{checked}
-use Rattle.script_lang.specs.Fields.{number_at}
-use Rattle.script_lang.specs.Keys.{document_keys}
 use Rattle.reliable_engine.specs.Settings.{AreLimits}
 use Rattle.script_lang.specs.Sessions.{settings_of}
 

@@ -1,9 +1,8 @@
 -- The bytes of a session document, TOML in UTF-8, the session that they stand for, and the first fault of those that stand
 -- for none. Profile.
 use Rattle.std.specs.Prelude.{◌≡◌, ℕ, ◌+◌, nat_lt, ◌==◌, List, [], ◌∷◌, ◌++◌, length, map, codes, Option, Some, None, if◌then◌else◌}
-use Rattle.std.specs.List.{slice_get, list_any, flat_map}
+use Rattle.std.specs.List.{slice_get, list_any}
 use Rattle.std.specs.Option.{option_map_or}
-use Rattle.std.specs.Fmt.{decimal}
 use Rattle.std.specs.FinMap.{get}
 use Rattle.std.specs.Str.{bytes_eq, IsUtf8}
 use Rattle.toml.specs.Data.{Data, Members, no_members, member, get_member}
@@ -21,7 +20,6 @@ use Rattle.script_lang.specs.declared.refusal.SessionRefusal.{SessionRefusal}
 use Rattle.script_lang.specs.declared.refusal.SessionRefusal.TheVariants as refusal
 use Rattle.script_lang.specs.declared.refusal.TheConstants.{MAX_BOARDS, MAX_CLIENTS}
 use Rattle.script_lang.specs.declared.session.Session.{Session}
-use Rattle.script_lang.specs.declared.steps.PathStep.{PathStep}
 use Rattle.script_lang.specs.declared.steps.PathStep.TheVariants.{Key, Item}
 use Rattle.script_lang.specs.Walk.{shape_faults}
 use Rattle.script_lang.specs.Paths.{path}
@@ -42,20 +40,25 @@ misfits document = map (λ way. in_document (path way) Shape) (shape_faults docu
 abbrev pub breaks : DocWhy → List Fault
 breaks why = in_document [] why ∷ []
 
--- how many boards and clients there are
+-- there is no board, or there are too many boards or clients
 abbrev pub count_faults : ℕ → ℕ → List Fault
 count_faults boards clients =
     (if boards == 0 then breaks NoBoards else [])
     ++ (if nat_lt MAX_BOARDS boards then breaks ManyBoards else [])
     ++ (if nat_lt MAX_CLIENTS clients then breaks ManyClients else [])
 
+abbrev pub size_faults : Members → List Fault
+size_faults document = count_faults (length (items_at (codes "board") document)) (length (items_at (codes "client") document))
+
+-- the name of the board at a position is that of an earlier one
+abbrev pub duplicate_at : ℕ → Fault
+duplicate_at i = in_document (path (Key (codes "board") ∷ Item i ∷ Key (codes "name") ∷ [])) DuplicateBoard
+
 -- each board, from a position on, that has the name of an earlier one
 abbrev pub duplicates : List BoardSpec → ℕ → List BoardSpec → List Fault
 duplicates earlier i [] = []
 duplicates earlier i (board ∷ boards) =
-    (if list_any (λ other. bytes_eq other.name board.name) earlier
-    then in_document (path (Key (codes "board") ∷ Item i ∷ Key (codes "name") ∷ [])) DuplicateBoard ∷ []
-    else [])
+    (if list_any (λ other. bytes_eq other.name board.name) earlier then duplicate_at i ∷ [] else [])
     ++ duplicates (earlier ++ board ∷ []) (i + 1) boards
 
 -- the first fault of each table that has one, in byte order of the names
@@ -67,7 +70,7 @@ tables_faults (member name value ms) = option_map_or (λ fault. in_table name fa
 abbrev pub faults : Members → List Fault
 faults document =
     misfits document
-    ++ count_faults (length (items_at (codes "board") document)) (length (items_at (codes "client") document))
+    ++ size_faults document
     ++ duplicates [] 0 (boards_of document)
     ++ tables_faults (tables_of document)
 

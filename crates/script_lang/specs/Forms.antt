@@ -1,5 +1,5 @@
 -- How the code names the tables of keys. No public clause speaks of it.
-use Rattle.std.specs.Prelude.{ℕ, Bool, if◌then◌else◌, List, [], ◌∷◌, Option, Some, None}
+use Rattle.std.specs.Prelude.{ℕ, if◌then◌else◌, List, Option, Some, None}
 use Rattle.toml.specs.Data.{Members}
 use Rattle.address_table.specs.Rules.{has_key}
 use Rattle.script_lang.specs.declared.keys.Form.{Form}

@@ -82,11 +82,7 @@ fn fates(alloc: Global, members: &Table) -> Result<Fates, NoMemory>
     ensures { IfOk result (λ fates. fates ≡ spec.fates_of (table_view members.now)) }
 {
     if has_key(members, "noise") {
-        return Ok(Fates::Noise(u64::from(number_at(
-            Form::NoiseBoard,
-            members,
-            "noise",
-        ))));
+        return Ok(Fates::Noise(u64::from(number_at(Form::NoiseBoard, members, "noise"))));
     }
     Ok(Fates::Text(Text::copy_of(alloc, text_at(members, "fates"))?))
 }
@@ -144,7 +140,13 @@ fn board(alloc: Global, members: &Table) -> Result<BoardSpec, NoMemory>
 }
 
 /// The boards of a document.
-pub(crate) fn boards(alloc: Global, items: &[Value]) -> Result<Boards, NoMemory>
+pub(crate) fn boards(alloc: Global, document: &Table) -> Result<Boards, NoMemory>
+    ensures { IfOk result (λ boards. boards ≡ spec.boards_of (table_view document.now)) }
+{
+    each_board(alloc, items_at(document, "board"))
+}
+
+fn each_board(alloc: Global, items: &[Value]) -> Result<Boards, NoMemory>
     ensures { IfOk result (λ boards. boards ≡ tables_in spec.board_of (map view items.now)) }
 {
     let mut boards = Vec::with_capacity(alloc, items.len())?;
@@ -170,7 +172,13 @@ fn script(alloc: Global, items: &[Value]) -> Result<Script, NoMemory>
 }
 
 /// The scripts of a document's clients.
-pub(crate) fn scripts(alloc: Global, items: &[Value]) -> Result<Scripts, NoMemory>
+pub(crate) fn scripts(alloc: Global, document: &Table) -> Result<Scripts, NoMemory>
+    ensures { IfOk result (λ scripts. scripts ≡ spec.scripts_of (table_view document.now)) }
+{
+    each_script(alloc, items_at(document, "client"))
+}
+
+fn each_script(alloc: Global, items: &[Value]) -> Result<Scripts, NoMemory>
     ensures { IfOk result (λ scripts. scripts ≡ tables_in spec.script_of (map view items.now)) }
 {
     let mut scripts = Vec::with_capacity(alloc, items.len())?;

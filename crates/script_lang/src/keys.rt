@@ -241,11 +241,7 @@ pub(crate) fn first_missing(form: Form, members: &Table) -> Option<&'static str>
 }
 
 /// The first of two keys that a table does not have.
-fn first_of_two(
-    members: &Table,
-    first: &'static str,
-    second: &'static str,
-) -> Option<&'static str>
+fn first_of_two(members: &Table, first: &'static str, second: &'static str) -> Option<&'static str>
     ensures { option_copied result ≡ first_absent first.now second.now (table_view members.now) }
 {
     if !has_key(members, first) {

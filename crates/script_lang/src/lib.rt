@@ -2,15 +2,18 @@
 #![tactic(auto)]
 
 mod boards;
+mod document;
 mod fields;
 mod keys;
 mod refusal;
 mod session;
 mod steps;
+mod tables;
 mod texts;
 mod walk;
 
 pub use board_node::{BoardSpec, Fates, LinkSpec, Ranges};
+pub use document::read_session;
 pub use ipb_base::{NoMemory, Text};
 pub use refusal::{DocWhy, SessionRefusal};
 pub use reliable_engine::Settings;

@@ -1,7 +1,6 @@
 //! The way to a place in a document.
 
 ghost use Rattle.std.specs.Prelude.{◌≡◌, ◌∷◌, ◌++◌, [], List, IfOk, IfErr, OnOk, string_bytes};
-
 ghost use Rattle.script_lang.specs.declared.steps.PathStep.TheVariants.{Key, Item};
 ghost use Rattle.script_lang.specs.Paths.{path, tail, step_text};
 ghost use Rattle.script_lang.specs.Walk.{Way as SpecWay, below, here, unless};
@@ -93,7 +92,11 @@ pub(crate) fn check(alloc: Global, holds: bool) -> Result<(), Misfit>
     ensures none { OnOk result (unless holds ≡ []) }
     ensures first { IfErr result (TellsFirst (unless holds)) }
 {
-    if holds { Ok(()) } else { Err(misfit_here(alloc)) }
+    if holds {
+        Ok(())
+    } else {
+        Err(misfit_here(alloc))
+    }
 }
 
 /// A fault of a value under a key, as it is seen from the table.

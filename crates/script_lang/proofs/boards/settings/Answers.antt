@@ -1,4 +1,3 @@
-use Rattle.std.proofs.Common.{subst}
 use Rattle.toml.specs.View.{table_view}
 use Rattle.script_lang.proofs.Numbers.{are_limits}
 use Rattle.script_lang.proofs.boards.settings.Goals as goal

@@ -1,6 +1,6 @@
-use Rattle.std.proofs.Common.{◌≡◌, ◌<◌, ◌≤◌, ◌+◌, get_or, length, string_bytes, sym, subst, ap, refl, ◌∙◌, arith}
+use Rattle.std.proofs.Common.{◌≡◌, ◌<◌, ◌≤◌, get_or, length, string_bytes, subst, ap, ◌∙◌, arith}
 use Rattle.toml.specs.Data.{depth, items_depth}
-use Rattle.toml.specs.View.{view, array_view, table_view, members_view}
+use Rattle.toml.specs.View.{view, array_view, members_view}
 use Rattle.script_lang.specs.Forms.{form_keys}
 use Rattle.script_lang.specs.Keys.{kind_at}
 use Rattle.script_lang.specs.Reading.{TellsFirst}

@@ -1,4 +1,4 @@
-use Rattle.std.proofs.Common.{◌≡◌, false, string_bytes, subst, sym, ap, ◌∙◌}
+use Rattle.std.proofs.Common.{◌≡◌, false, string_bytes, subst}
 use Rattle.address_table.specs.Rules.{is_id}
 use Rattle.script_lang.specs.Reading.{TellsFirst}
 use Rattle.script_lang.specs.Walk.{here, names_faults, below}

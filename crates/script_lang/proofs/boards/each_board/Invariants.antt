@@ -2,7 +2,7 @@ use Rattle.std.proofs.Common.{◌≡◌, ◌++◌, drop, map}
 use Rattle.toml.specs.View.{view}
 use Rattle.script_lang.specs.Fields.{tables_in}
 use Rattle.script_lang.specs.Sessions.{board_of}
-use Rattle.script_lang.proofs.boards.boards.Given as goal
+use Rattle.script_lang.proofs.boards.each_board.Given as goal
 
 -- those so far, and those of the items that are left
 abbrev pub invariant-loop-item : goal.invariant-loop-item
