@@ -18,3 +18,6 @@ pub use ipb_base::{NoMemory, Text};
 pub use refusal::{DocWhy, SessionRefusal};
 pub use reliable_engine::Settings;
 pub use session::{Boards, Script, Scripts, Session};
+
+#[cfg(test)]
+mod tests;
