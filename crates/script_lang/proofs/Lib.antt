@@ -7,3 +7,5 @@ pub mod TableLists
 pub mod BoardNames
 pub mod Answered
 pub mod InOrder
+pub mod OneAnswer
+pub mod InRanges

@@ -8,7 +8,7 @@ use Rattle.script_lang.specs.Texts.{checked}
 use Rattle.reliable_engine.specs.Settings.{AreLimits}
 use Rattle.script_lang.specs.Sessions.{settings_of}
 
-between-checked : (least most default : ℕ) (o : Option ℕ) → least ≤ default → default ≤ most
+pub between-checked : (least most default : ℕ) (o : Option ℕ) → least ≤ default → default ≤ most
     → (least ≤ unwrap_or (checked (is_between least most) o) default) × (unwrap_or (checked (is_between least most) o) default ≤ most)
 between-checked least most default None low high = (low, high)
 between-checked least most default (Some n) low high = grind (arith, nat_tests)

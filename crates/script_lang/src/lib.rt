@@ -5,6 +5,7 @@ mod boards;
 mod document;
 mod fields;
 mod keys;
+pub mod laws;
 mod refusal;
 mod session;
 mod steps;
@@ -15,7 +16,7 @@ mod walk;
 pub use board_node::{BoardSpec, Fates, LinkSpec, Ranges};
 pub use document::read_session;
 pub use ipb_base::{NoMemory, Text};
-pub use refusal::{DocWhy, SessionRefusal};
+pub use refusal::{DocWhy, MAX_BOARDS, MAX_CLIENTS, SessionRefusal};
 pub use reliable_engine::Settings;
 pub use session::{Boards, Script, Scripts, Session};
 

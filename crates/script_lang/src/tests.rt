@@ -289,7 +289,9 @@ fn small_documents_are_refused(rt: HostRuntime) -> Result<(), Fail> {
         let found = refused(rt.alloc(), text)?;
         assert_eq!(rt; found.as_str(), expected);
     }
-    let tables = format!(in rt.alloc(); "{board}tables.main = [{{ id = \"x\", mask = 0 }}]\ntables.a = 1\n")?;
+    let tables = format!(in rt.alloc();
+        "{board}tables.main = [{{ id = \"x\", mask = 0 }}]\ntables.a = 1\n"
+    )?;
     let found = refused(rt.alloc(), tables.as_str())?;
     assert_eq!(rt; found.as_str(), "table a [] Shape");
     let tables = format!(in rt.alloc(); "{board}tables.main = [{{ id = \"x\", mask = 0 }}]\n")?;
