@@ -34,8 +34,7 @@ abbrev pub close : Progress → Progress
 close progress = record progress {
   bodies = progress.bodies ++ progress.open_body ∷ [];
   open_body = [];
-  requests =
-      0;
+  requests = 0;
   reply = 0;
 }
 

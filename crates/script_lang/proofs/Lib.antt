@@ -1,0 +1,11 @@
+pub mod Values
+pub mod Cuts
+pub mod Faults
+pub mod Numbers
+pub mod FaultLists
+pub mod TableLists
+pub mod BoardNames
+pub mod Answered
+pub mod InOrder
+pub mod OneAnswer
+pub mod InRanges

@@ -1,0 +1,21 @@
+-- A number that keeps the rule of its key lies between the bounds of the rule.
+use Rattle.std.proofs.Common.{ℕ, ◌≤◌, Option, Some, None, codes, arith}
+use Rattle.std.proofs.lemmas.Bool.Decides.{nat_tests}
+use Rattle.toml.specs.Data.{Members, get_member}
+use Rattle.address_table.specs.Numbers.{is_between, number}
+use Rattle.std.specs.Option.{option_and_then, unwrap_or}
+use Rattle.script_lang.specs.Texts.{checked}
+use Rattle.reliable_engine.specs.Settings.{AreLimits}
+use Rattle.script_lang.specs.Sessions.{settings_of}
+
+pub between-checked : (least most default : ℕ) (o : Option ℕ) → least ≤ default → default ≤ most
+    → (least ≤ unwrap_or (checked (is_between least most) o) default) × (unwrap_or (checked (is_between least most) o) default ≤ most)
+between-checked least most default None low high = (low, high)
+between-checked least most default (Some n) low high = grind (arith, nat_tests)
+
+-- the settings of a document are settings
+pub are_limits : (document : Members) → AreLimits (settings_of document)
+are_limits document =
+    let rounds = between-checked 1 255 8 (option_and_then number (get_member (codes "rounds") document)) (omega arith) (omega arith) in
+    let window = between-checked 1 16 16 (option_and_then number (get_member (codes "window") document)) (omega arith) (omega arith) in
+    record { a_round = rounds.0; a_place = window.0; not_wide = window.1 }

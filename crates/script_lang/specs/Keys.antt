@@ -1,0 +1,98 @@
+-- The keys that the tables of a session document may have: what stands under each, whether it has to be there, and what a
+-- number is where it is left out. The needed keys of a table stand in byte order. Profile.
+use Rattle.std.specs.Prelude.{ℕ, Bool, true, false, if◌then◌else◌, List, [], ◌∷◌, codes, Option, Some, None}
+use Rattle.std.specs.Str.{bytes_eq}
+use Rattle.std.specs.Option.{option_and_then}
+use Rattle.toml.specs.Data.{Members, get_member, as_str}
+use Rattle.address_table.specs.Rules.{has_key, holds_of}
+use Rattle.script_lang.specs.declared.keys.TextRule.TheVariants.{Any, Id, Link, RangeKind, Fates, Endpoint}
+use Rattle.script_lang.specs.declared.keys.TableKind.{TableKind}
+use Rattle.script_lang.specs.declared.keys.TableKind.TheVariants.{Board, Range, Client}
+use Rattle.script_lang.specs.declared.keys.ItemKind.TheVariants as items
+use Rattle.script_lang.specs.declared.keys.Kind.{Kind}
+use Rattle.script_lang.specs.declared.keys.Kind.TheVariants.{Number, Text, Names, Array}
+
+-- a key: its name, what stands under it, and whether it has to be there
+pub record KeyRule : Type 0 where
+  pub name : List ℕ
+  pub kind : Kind
+  pub is_needed : Bool
+
+abbrev pub needed : List ℕ → Kind → KeyRule
+needed name kind = record { name = name; kind = kind; is_needed = true }
+
+abbrev pub optional : List ℕ → Kind → KeyRule
+optional name kind = record { name = name; kind = kind; is_needed = false }
+
+-- any number of 32 bits, and 0 where it is left out
+abbrev pub word : Kind
+word = Number 0 0xffffffff 0
+
+-- the document itself
+abbrev pub document_keys : List KeyRule
+document_keys =
+    optional (codes "board") (Array (items.Table Board))
+    ∷ optional (codes "client") (Array (items.Table Client))
+    ∷ optional (codes "format") (Number 1 1 1)
+    ∷ optional (codes "rounds") (Number 1 255 8)
+    ∷ optional (codes "tables") Names
+    ∷ optional (codes "window") (Number 1 16 16)
+    ∷ []
+
+-- a simulated board whose fates are written out: `fates` is empty where it is left out
+abbrev pub fates_keys : List KeyRule
+fates_keys =
+    optional (codes "buffers") (Number 1 64 16)
+    ∷ optional (codes "fates") (Text Fates)
+    ∷ optional (codes "first") (Number 1 65535 1)
+    ∷ optional (codes "link") (Text Link)
+    ∷ optional (codes "mtu") (Number 92 9000 1500)
+    ∷ needed (codes "name") (Text Id)
+    ∷ optional (codes "ranges") (Array (items.Table Range))
+    ∷ needed (codes "table") (Text Any)
+    ∷ []
+
+-- a simulated board without `fates` may have `noise`
+abbrev pub noise_keys : List KeyRule
+noise_keys = optional (codes "noise") word ∷ fates_keys
+
+-- a board behind a UDP port
+abbrev pub udp_keys : List KeyRule
+udp_keys =
+    needed (codes "address") (Text Endpoint)
+    ∷ optional (codes "link") (Text Link)
+    ∷ needed (codes "name") (Text Id)
+    ∷ needed (codes "table") (Text Any)
+    ∷ optional (codes "wait") (Number 1 10000 100)
+    ∷ []
+
+-- a range of a simulated board: `kind` is `rw` where it is left out
+abbrev pub range_keys : List KeyRule
+range_keys =
+    needed (codes "base") word
+    ∷ optional (codes "init") (Array items.Number)
+    ∷ optional (codes "kind") (Text RangeKind)
+    ∷ needed (codes "size") word
+    ∷ []
+
+-- a client
+abbrev pub client_keys : List KeyRule
+client_keys = needed (codes "script") (Array items.Text) ∷ []
+
+-- a board is simulated unless its `link` is `udp`
+abbrev pub is_udp : Members → Bool
+is_udp ms = holds_of (bytes_eq (codes "udp")) (option_and_then as_str (get_member (codes "link") ms))
+
+abbrev pub board_keys : Members → List KeyRule
+board_keys ms = if is_udp ms then udp_keys else if has_key (codes "fates") ms then fates_keys else noise_keys
+
+-- the keys of a table that is an item
+abbrev pub keys_of : TableKind → Members → List KeyRule
+keys_of Board ms = board_keys ms
+keys_of Range ms = range_keys
+keys_of Client ms = client_keys
+
+-- what stands under a key of this name, if there is one
+abbrev pub kind_at : List KeyRule → List ℕ → Option Kind
+kind_at [] name = None
+kind_at (key ∷ keys) name = if bytes_eq name key.name then Some key.kind else kind_at keys name

@@ -1,0 +1,37 @@
+-- What the readers promise one another. No public clause speaks of it.
+use Rattle.std.specs.Prelude.{◌≡◌, ℕ, List, [], ◌∷◌, Option, Some}
+use Rattle.std.specs.List.{slice_get}
+use Rattle.std.specs.Option.{option_map_or}
+use Rattle.std.specs.FinMap.{get}
+use Rattle.toml.specs.Data.{Members, get_member}
+use Rattle.address_table.specs.declared.refusal.TableWhy.{TableWhy}
+use Rattle.address_table.specs.declared.refusal.TableRefusal.TheVariants as table_refusal
+use Rattle.node_tree.specs.Maps.{Name, TableMap}
+use Rattle.script_lang.specs.declared.steps.Misfit.{Misfit}
+use Rattle.script_lang.specs.declared.steps.Misfit.TheVariants.{At, NoMemory}
+use Rattle.script_lang.specs.declared.refusal.DocWhy.TheVariants.{NotToml}
+use Rattle.script_lang.specs.declared.refusal.SessionRefusal.{SessionRefusal}
+use Rattle.script_lang.specs.declared.refusal.SessionRefusal.TheVariants as refusal
+use Rattle.script_lang.specs.Walk.{Way}
+use Rattle.script_lang.specs.Document.{Fault, in_document, in_table, IsTableAt}
+
+-- a fault tells the first of these places, want of memory aside
+abbrev pub TellsFirst : List Way → Misfit → Type 0
+TellsFirst ways (At way) = slice_get ways 0 ≡ Some way
+TellsFirst ways NoMemory = Unit {0}
+
+-- a refusal of a TOML text tells the first of these faults, want of memory aside
+abbrev pub TellsFault : List Fault → SessionRefusal → Type 0
+TellsFault faults (refusal.Document path NotToml) = ⊥
+TellsFault faults (refusal.Document path why) = slice_get faults 0 ≡ Some (in_document path why)
+TellsFault faults (refusal.Table name (table_refusal.At path why)) = slice_get faults 0 ≡ Some (in_table name path why)
+TellsFault faults (refusal.Table name table_refusal.NoMemory) = ⊥
+TellsFault faults refusal.NoMemory = Unit {0}
+
+-- the fault of the table of a name, if it has one
+abbrev pub table_fault_list : Name → Option (List ℕ × TableWhy) → List Fault
+table_fault_list name fault = option_map_or (λ f. in_table name f.0 f.1 ∷ []) fault []
+
+-- each value of these is written so that it is the table of its name, and no other name has a table
+abbrev pub AreTables : Members → TableMap → Type 0
+AreTables ms tables = (name : Name) → IsTableAt (get_member name ms) (get tables name)

@@ -1,0 +1,172 @@
+//! The whole of a document.
+
+ghost use Rattle.std.specs.Prelude.{◌≡◌, ◌≢◌, ℕ, List, [], ◌∷◌, Err, IfOk, IfErr, OnOk, MatchResult, map, length, codes};
+ghost use Rattle.std.specs.List.{list_any};
+ghost use Rattle.std.specs.Str.{bytes_eq};
+ghost use Rattle.toml.specs.View.{table_view};
+ghost use Rattle.script_lang.specs.Document as spec;
+ghost use Rattle.script_lang.specs.Paths.{path as path_text};
+ghost use Rattle.script_lang.specs.Reading.{TellsFirst, TellsFault};
+ghost use Rattle.script_lang.specs.Walk.{Way as SpecWay};
+ghost use Rattle.script_lang.specs.declared.refusal.DocWhy.TheVariants as whys;
+ghost use Rattle.script_lang.specs.declared.refusal.SessionRefusal.TheVariants.{NoMemory as no_memory};
+ghost use Rattle.script_lang.specs.declared.refusal.SessionRefusal.TheVariants as refusals;
+ghost use Rattle.script_lang.specs.declared.session.Session.{Session as Sess};
+ghost use Rattle.script_lang.specs.declared.steps.PathStep.TheVariants.{Key, Item};
+
+use crate::boards::{boards, scripts, settings};
+use crate::fields::items_at;
+use crate::keys::Form;
+use crate::refusal::{DocWhy, MAX_BOARDS, MAX_CLIENTS, SessionRefusal};
+use crate::session::Session;
+use crate::steps::Misfit;
+use crate::tables::tables;
+use crate::walk::check_table;
+use board_node::BoardSpec;
+use ipb_base::Text;
+use std::alloc::Global;
+use toml::Table;
+
+/// Reads a session document: TOML in UTF-8 (profile). The answer is the session that the bytes stand for, or else the
+/// first fault of the document.
+pub fn read_session(alloc: Global, bytes: &[u8]) -> Result<Session, SessionRefusal>
+    ensures stands { IfOk result (spec.StandsFor bytes.now) }
+    ensures only { (session : Sess) → spec.StandsFor bytes.now session
+        → MatchResult result (λ read. spec.SameSession read session) (λ refusal. refusal ≡ no_memory) }
+    ensures refused { IfErr result (spec.IsRefusal bytes.now) }
+{
+    match parse(alloc, bytes) {
+        Ok(document) => session(alloc, &document),
+        Err(refusal) => Err(refusal),
+    }
+}
+
+/// The document of a TOML text.
+fn parse(alloc: Global, bytes: &[u8]) -> Result<Table, SessionRefusal>
+    ensures document { IfOk result (λ document. spec.IsToml bytes.now (table_view document)) }
+    ensures refused { IfErr result (spec.IsRefusal bytes.now) }
+    ensures not_toml { IfErr result (λ refusal. refusal ≢ no_memory → spec.IsNotToml bytes.now) }
+{
+    match toml::table_from_slice(alloc, bytes) {
+        Ok(document) => Ok(document),
+        Err(error) => {
+            if error.is_memory() {
+                Err(SessionRefusal::NoMemory)
+            } else {
+                Err(refused_whole(alloc, DocWhy::NotToml))
+            }
+        }
+    }
+}
+
+/// A refusal of the document as a whole.
+fn refused_whole(alloc: Global, why: DocWhy) -> SessionRefusal
+    ensures { result ≡ refusals.Document [] why }
+{
+    SessionRefusal::Document {
+        path: Text::from_string(String::new(alloc)),
+        why,
+    }
+}
+
+/// The session that a parsed document stands for.
+#[tactic(auto, using(crate::proofs::FaultLists::front_fault))]
+fn session(alloc: Global, document: &Table) -> Result<Session, SessionRefusal>
+    ensures found { IfOk result (spec.IsSession (table_view document.now)) }
+    ensures first { IfErr result (TellsFault (spec.faults (table_view document.now))) }
+{
+    check_shape(alloc, document)?;
+    check_counts(alloc, document)?;
+    let boards = boards(alloc, document)?;
+    check_names(alloc, boards.as_slice())?;
+    Ok(Session {
+        settings: settings(document),
+        tables: tables(alloc, document)?,
+        boards,
+        scripts: scripts(alloc, document)?,
+    })
+}
+
+/// The kinds and the rules of all values.
+fn check_shape(alloc: Global, document: &Table) -> Result<(), SessionRefusal>
+    ensures none { OnOk result (spec.misfits (table_view document.now) ≡ []) }
+    ensures first { IfErr result (TellsFault (spec.misfits (table_view document.now))) }
+{
+    match check_table(alloc, Form::Document, document) {
+        Ok(()) => Ok(()),
+        Err(misfit) => Err(refused_shape(alloc, misfit)),
+    }
+}
+
+fn refused_shape(alloc: Global, misfit: Misfit) -> SessionRefusal
+    ensures { (ways : List SpecWay) → TellsFirst ways misfit
+        → TellsFault (map (λ way. spec.in_document (path_text way) whys.Shape) ways) result }
+{
+    match misfit {
+        Misfit::At(way) => match way.path(alloc) {
+            Ok(path) => SessionRefusal::Document {
+                path,
+                why: DocWhy::Shape,
+            },
+            Err(_) => SessionRefusal::NoMemory,
+        },
+        Misfit::NoMemory => SessionRefusal::NoMemory,
+    }
+}
+
+/// How many boards and clients there are.
+fn check_counts(alloc: Global, document: &Table) -> Result<(), SessionRefusal>
+    ensures none { OnOk result (spec.size_faults (table_view document.now) ≡ []) }
+    ensures first { IfErr result (TellsFault (spec.size_faults (table_view document.now))) }
+{
+    let boards = items_at(document, "board").len();
+    let clients = items_at(document, "client").len();
+    if boards == 0 {
+        return Err(refused_whole(alloc, DocWhy::NoBoards));
+    }
+    if boards > MAX_BOARDS {
+        return Err(refused_whole(alloc, DocWhy::ManyBoards));
+    }
+    if clients > MAX_CLIENTS {
+        return Err(refused_whole(alloc, DocWhy::ManyClients));
+    }
+    Ok(())
+}
+
+/// No board has the name of an earlier one.
+fn check_names(alloc: Global, boards: &[BoardSpec]) -> Result<(), SessionRefusal>
+    ensures none { OnOk result (spec.duplicates [] 0 boards.now ≡ []) }
+    ensures first { IfErr result (TellsFault (spec.duplicates [] 0 boards.now)) }
+{
+    for (i, board) in boards.iter().enumerate() {
+        if has_name_of(&boards[..i], board) {
+            return Err(refused_name(alloc, i as u64));
+        }
+    }
+    Ok(())
+}
+
+/// Whether some board has the name of another.
+fn has_name_of(boards: &[BoardSpec], named: &BoardSpec) -> bool
+    ensures { result ≡ list_any (λ other. bytes_eq other.name named.now.name) boards.now }
+{
+    for other in boards {
+        if other.name.as_slice() == named.name.as_slice() {
+            return true;
+        }
+    }
+    false
+}
+
+/// A refusal of the name of a board.
+fn refused_name(alloc: Global, board: u64) -> SessionRefusal
+    ensures { TellsFault (spec.duplicate_at board ∷ []) result }
+{
+    match format!(in alloc; "board.{board}.name") {
+        Ok(path) => SessionRefusal::Document {
+            path: Text::from_string(path),
+            why: DocWhy::DuplicateBoard,
+        },
+        Err(_) => SessionRefusal::NoMemory,
+    }
+}

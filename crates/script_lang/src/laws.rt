@@ -1,0 +1,59 @@
+//! Laws of the definitions, and worked examples of them. These functions do nothing when they run: their clauses are
+//! what is proved.
+
+ghost use Rattle.std.specs.Prelude.{◌≡◌, ◌≢◌, ◌≤◌, ℕ, List, [], ◌∷◌, Some, None, length, codes, true, false};
+ghost use Rattle.std.specs.List.{AllByRecursion};
+ghost use Rattle.toml.specs.Data.{Members, string, integer};
+ghost use Rattle.script_lang.specs.Document as spec;
+ghost use Rattle.script_lang.specs.Limits.{KeepsRules, IsWithin};
+ghost use Rattle.script_lang.specs.Paths.{path};
+ghost use Rattle.script_lang.specs.Texts.{endpoint, decimal_between, cut_at};
+ghost use Rattle.script_lang.specs.declared.refusal.SessionRefusal.{SessionRefusal as Refusal};
+ghost use Rattle.script_lang.specs.declared.refusal.SessionRefusal.TheVariants.{NoMemory as no_memory};
+ghost use Rattle.script_lang.specs.declared.session.Session.{Session};
+ghost use Rattle.script_lang.specs.declared.steps.PathStep.TheVariants.{Key, Item};
+
+/// A document stands for at most one session.
+pub fn a_document_stands_for_one_session()
+    ensures { (bytes : List ℕ) (s t : Session)
+        → spec.StandsFor bytes s → spec.StandsFor bytes t → spec.SameSession s t }
+{}
+
+/// Bytes that stand for a session have no refusal but want of memory.
+pub fn a_read_document_is_not_refused()
+    ensures { (bytes : List ℕ) (session : Session) (refusal : Refusal)
+        → spec.StandsFor bytes session → spec.IsRefusal bytes refusal → refusal ≡ no_memory }
+{}
+
+/// Bytes have at most one first fault, and bytes that are no TOML have none.
+#[tactic(auto, using(crate::proofs::OneAnswer::one_fault))]
+pub fn a_first_fault_is_the_only_one()
+    ensures one { (bytes : List ℕ) (f g : spec.Fault) → spec.HasFirstFault bytes f → spec.HasFirstFault bytes g → f ≡ g }
+    ensures of_toml { (bytes : List ℕ) (f : spec.Fault) → spec.HasFirstFault bytes f → ¬ spec.IsNotToml bytes }
+{}
+
+/// The numbers of a session lie in the ranges of their keys, and its boards and clients within the limits of a session.
+
+pub fn a_session_keeps_its_limits()
+    ensures boards { (bytes : List ℕ) (session : Session)
+        → spec.StandsFor bytes session → AllByRecursion KeepsRules session.boards }
+    ensures counts { (bytes : List ℕ) (session : Session) → spec.StandsFor bytes session → IsWithin session }
+{}
+
+/// The way to the MTU of the first board.
+pub fn paths_are_dotted()
+    ensures { path (Key (codes "board") ∷ Item 0 ∷ Key (codes "mtu") ∷ []) ≡ codes "board.0.mtu" }
+{}
+
+/// Addresses with ports: the limits of each number, no leading zeros, and just four of them.
+#[tactic(auto, unfolding(crate::specs::Texts::endpoint))]
+pub fn addresses_with_ports()
+    ensures read { endpoint (codes "10.0.255.1:65535") ≡ Some (10 ∷ 0 ∷ 255 ∷ 1 ∷ [], 65535) }
+    ensures large { endpoint (codes "10.0.256.1:1") ≡ None }
+    ensures zero { endpoint (codes "10.0.0.1:0") ≡ None }
+    ensures leading_zero { endpoint (codes "10.0.0.01:1") ≡ None }
+    ensures five { endpoint (codes "1.2.3.4.5:1") ≡ None }
+    ensures three { endpoint (codes "1.2.3:1") ≡ None }
+    ensures hexadecimal { endpoint (codes "0x1.2.3.4:1") ≡ None }
+    ensures no_port { endpoint (codes "1.2.3.4") ≡ None }
+{}
