@@ -5,3 +5,4 @@ mod Hubs
 mod Runs
 mod Rests
 mod Draining
+mod Waiting

@@ -1,8 +1,9 @@
 -- Lists of events: whatever an engine is told and asked, in any order. Profile.
-use Rattle.std.specs.Prelude.{◌≡◌, ◌≢◌, ℕ, ◌+◌, ◌≤◌, true, false, List, [], ◌∷◌, length, map}
+use Rattle.std.specs.Prelude.{◌≡◌, ◌≢◌, ◌⊎◌, ℕ, ◌+◌, ◌≤◌, true, false, List, [], ◌∷◌, length, map}
 use Rattle.std.specs.List.{AllByRecursion}
 use Rattle.packet_ids.specs.Identifier.{identifier_at}
 use Rattle.world_model.specs.declared.offered.Offered.{Offered}
+use Rattle.world_model.specs.declared.offered.Fate.{Fate}
 use Rattle.world_model.specs.Hub.{Hub, offer, hear_status, hear_reply, hear_quiet, is_waiting, low, recover}
 use Rattle.world_model.specs.Hub.{some_waited}
 use Rattle.world_model.specs.Sends.{next_send}
@@ -83,6 +84,21 @@ quiets (Reply id words ∷ events) = quiets events
 quiets (Quiet ∷ events) = quiets events + 1
 quiets (Send ∷ events) = quiets events
 quiets (HandOut ∷ events) = quiets events
+
+-- how many of the events hand a fate out
+abbrev pub handouts : List HubEvent → ℕ
+handouts [] = 0
+handouts (Offer offered ∷ events) = handouts events
+handouts (Status next ∷ events) = handouts events
+handouts (Reply id words ∷ events) = handouts events
+handouts (Quiet ∷ events) = handouts events
+handouts (Send ∷ events) = handouts events
+handouts (HandOut ∷ events) = handouts events + 1
+
+-- a fate is one of these
+abbrev pub IsAmong : ℕ × Fate → List (ℕ × Fate) → Type 0
+IsAmong fate [] = ⊥
+IsAmong fate (other ∷ fates) = (fate ≡ other) ⊎ IsAmong fate fates
 
 -- the next quiet receive ends the last round
 abbrev pub IsOutOfRounds : Hub → Type 0

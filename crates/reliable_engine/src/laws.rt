@@ -6,6 +6,7 @@ ghost use Rattle.std.specs.Prelude.{true, false, None, Some};
 ghost use Rattle.ipb_base.specs.Lists.{IsPrefix};
 ghost use Rattle.packet_ids.specs.Identifier.{IsIdentifier};
 ghost use Rattle.world_model.specs.declared.offered.Offered.{Offered};
+ghost use Rattle.world_model.specs.declared.offered.Fate.{Fate};
 ghost use Rattle.world_model.specs.declared.offered.Fate.TheVariants.{Replied, TimedOut, Unsent};
 ghost use Rattle.world_model.specs.declared.offered.OpenPlace.{OpenPlace};
 ghost use Rattle.world_model.specs.declared.sending.Sending.TheVariants.{Control, Status};
@@ -14,7 +15,8 @@ ghost use Rattle.world_model.specs.Hub.{is_waiting, places, recover, want_status
 ghost use Rattle.world_model.specs.Sends.{Next, next_send, pending};
 ghost use Rattle.reliable_engine.specs.declared.settings.TheConstants.{MAX_WINDOW};
 ghost use Rattle.reliable_engine.specs.Answers.{IsOpen, TellsPlace, sent_next};
-ghost use Rattle.reliable_engine.specs.Events.{AreAllowed, HubEvent, IsAtRest, IsInWindow, IsOutOfRounds, Send};
+ghost use Rattle.reliable_engine.specs.Events.{AreAllowed, HubEvent, IsAllowed, IsAmong, IsAtRest, IsInWindow};
+ghost use Rattle.reliable_engine.specs.Events.{IsOutOfRounds, Send, after_event, handouts};
 ghost use Rattle.reliable_engine.specs.Events.{IfTold, SettlesAlone, after_events, quiets};
 ghost use Rattle.reliable_engine.specs.Examples.{given_up, one_word, three_told, two_sent, two_settled};
 
@@ -81,6 +83,18 @@ pub fn a_hub_gives_up_after_its_rounds()
         → IsOutOfRounds (after_events hub events) → hub.rounds ≤ quiets events }
     ensures gives_up { (hub : Hub) → IsOutOfRounds hub → hear_quiet hub ≡ give_up hub }
     ensures goes_on { (hub : Hub) → hub.status_requests < hub.rounds → hear_quiet hub ≡ want_status hub }
+{}
+
+/// A fate stays as it is until it is handed out.
+pub fn a_fate_waits_until_it_is_handed_out()
+    ensures { (hub : Hub) (events : List HubEvent) (tag : ℕ) (fate : Fate) → handouts events ≡ 0
+        → IsAmong (tag, fate) hub.fates → IsAmong (tag, fate) (after_events hub events).fates }
+{}
+
+/// A status request becomes wanted only while a body has no fate.
+pub fn a_status_is_asked_for_while_a_body_waits()
+    ensures { (hub : Hub) (event : HubEvent) → IsAllowed hub event → hub.status_wanted ≡ false
+        → (after_event hub event).status_wanted ≡ true → is_waiting (after_event hub event) ≡ true }
 {}
 
 /// Sends come to an end: after as many as are pending there is none.

@@ -5,4 +5,5 @@ use Rattle.reliable_engine.proofs.fates.fate_index.Given as goal
 
 abbrev pub invariant-loop-at : goal.invariant-loop-at
 invariant-loop-at l = (new : ℕ × Fate)
-    → insert_fate l.place new l.fates.items ≡ take l.at l.fates.items ++ insert_fate l.place new (drop l.at l.fates.items)
+    → insert_fate l.place new l.fates.items
+    ≡ take l.at l.fates.items ++ insert_fate l.place new (drop l.at l.fates.items)
