@@ -1,4 +1,5 @@
--- The addresses that a register takes, in words (uHAL: a block has one address for each word, every other register one).
+-- The addresses that a register takes, in words (uHAL: a block has one address for each word, every other register
+-- one).
 use Rattle.std.specs.Prelude.{ℕ, ◌+◌, ◌-◌}
 use Rattle.address_table.specs.declared.kinds.Mode.{Mode}
 use Rattle.address_table.specs.declared.kinds.Mode.TheVariants.{Single, Block, Port, Hierarchical}

@@ -35,7 +35,8 @@ pub record Opens (old new : NameSet) (before after : List Name) (P : Name → Ty
   pub opened : (m : Name) → IsIn new m → IsIn old m ⊎ Contains after m
   pub open_kept : (m : Name) → Contains before m → Contains after m
   pub open_only : (m : Name) → Contains after m → Contains before m ⊎ IsIn new m
-  pub fewer : (tables : TableMap) → AreTables tables P → missing new (entries tables) + length after ≤ missing old (entries tables) + length before
+  pub fewer : (tables : TableMap) → AreTables tables P
+      → missing new (entries tables) + length after ≤ missing old (entries tables) + length before
 
 -- all names of a fact were put into the set
 pub record OpensAll (old new : NameSet) (before after : List Name) (P : Name → Type 0) : Type 0 where
@@ -60,7 +61,8 @@ AreRising tables ranks = (a : Name) (rank : ℕ) → get ranks a ≡ Some rank �
 
 -- a table has a rank below those of all its modules
 abbrev pub IsBelowModules : TableMap → Ranks → Name → Type 0
-IsBelowModules tables ranks name = (rank : ℕ) × (get ranks name ≡ Some rank) × AllRanked ranks (rank + 1) (nodes_of tables name)
+IsBelowModules tables ranks name =
+    (rank : ℕ) × (get ranks name ≡ Some rank) × AllRanked ranks (rank + 1) (nodes_of tables name)
 
 -- names that have a rank keep one
 abbrev pub KeepsNames : Ranks → Ranks → Type 0

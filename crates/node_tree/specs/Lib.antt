@@ -10,7 +10,6 @@ pub mod Refusals
 pub mod Same
 pub mod Run
 pub mod Overlaps
-pub mod OverlapExamples
 pub mod OverlapSearch
 pub mod Repeats
 pub mod Examples

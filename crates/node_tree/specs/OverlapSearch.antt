@@ -152,7 +152,8 @@ AreSettled events firsts first «end» =
 -- the places that are kept after the events were settled at these addresses, whatever entries they are of
 abbrev pub Settles : List Event → ℕ → ℕ → List ℕ → List ℕ → Type 0
 Settles events first «end» old new =
-    (es : List (Name × Register)) → AreEvents es events first «end» → Lowers es old new × AreSettled events new first «end»
+    (es : List (Name × Register)) → AreEvents es events first «end»
+    → Lowers es old new × AreSettled events new first «end»
 
 -- what passes a test
 abbrev pub Passes : Test → Event → Type 0

@@ -13,8 +13,8 @@ pub use Rattle.node_tree.specs.Addresses.{words_of, last_address}
 use Rattle.node_tree.specs.Maps.{Name, TableMap, nodes_of}
 use Rattle.node_tree.specs.Names.{children_of, node_name, node_address, register_of}
 
--- A node where the walk comes to it: its name, the number of ids in the name, whether an earlier sibling has its id, and
--- its register.
+-- A node where the walk comes to it: its name, the number of ids in the name, whether an earlier sibling has its id,
+-- and its register.
 pub record Visit : Type 0 where
   pub name : Name
   pub level : ℕ

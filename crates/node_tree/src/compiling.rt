@@ -10,7 +10,7 @@ ghost use Rattle.node_tree.specs.Repeats.{TellsRepeated};
 use crate::check_modules::first_unknown;
 use crate::cycles::first_cycle;
 use crate::name_map::NameMap;
-use crate::walking::{Fault, Found, nodes_of, walk};
+use crate::walking::{Fault, Found, Level, Walker, nodes_of};
 use crate::{CompileRefusal, CompileWhy, Index, NoMemory, Register, Tables};
 use address_table::Text;
 use std::alloc::Global;
@@ -29,12 +29,14 @@ pub fn compile(alloc: Global, tables: &Tables, root: &str) -> Result<Index, Comp
 {
     check_known(alloc, tables, root)?;
     check_acyclic(alloc, tables, root)?;
-    let mut found = Found {
+    let found = Found {
         names: NameMap::new(alloc),
         count: 0,
     };
-    match walk(alloc, tables, nodes_of(tables, root), "", 0, 1, &mut found) {
-        Ok(()) => Ok(index_of(alloc, found)?),
+    let mut walker = Walker { alloc, found };
+    let top = Level { base: 0, ids: 1 };
+    match walker.walk(tables, nodes_of(tables, root), "", top) {
+        Ok(()) => Ok(index_of(alloc, walker.found)?),
         Err(Fault::At { name, why }) => Err(refused_at(alloc, root, name, why)),
         Err(Fault::NoMemory) => Err(CompileRefusal::NoMemory),
     }

@@ -1,6 +1,6 @@
-//! The first table that leads to itself through modules. Each table gets a rank that no module of it is below, so that a
-//! table below all its modules does not lead to itself: accepted tables are gone through a few times and no more. Only
-//! a table that shares its rank with a module is searched from.
+//! The first table that leads to itself through modules. Each table gets a rank that no module of it is below, so
+//! that a table below all its modules does not lead to itself: accepted tables are gone through a few times and no
+//! more. Only a table that shares its rank with a module is searched from.
 ghost use Rattle.std.specs.Prelude.{◌≡◌, MatchBool, MatchOption, IfOk, IsTrue};
 ghost use Rattle.node_tree.specs.Modules.{HasUnknown, ReachesItself, NoTable, IsFirstTable};
 ghost use Rattle.node_tree.specs.CycleSearch.{AreRising};

@@ -4,7 +4,7 @@ ghost use Rattle.std.specs.List.{Contains};
 ghost use Rattle.std.specs.List.Sorted.{IsStrictlyIncreasing};
 ghost use Rattle.node_tree.specs.declared.register.Register.{Register as Reg};
 ghost use Rattle.node_tree.specs.Named.{Name};
-ghost use Rattle.node_tree.specs.OverlapExamples.{named_register};
+ghost use Rattle.node_tree.specs.Examples.{named_register};
 ghost use Rattle.address_table.specs.declared.kinds.Mode.TheVariants.{Single, Block, Port, Hierarchical};
 ghost use Rattle.node_tree.specs.Overlaps.{overlap, overlapping, share_an_address, HasAddress, IsFirstOverlap};
 

@@ -46,73 +46,75 @@ impl From<AllocError> for Fault {
     }
 }
 
-/// Goes through nodes with all that is below them. Their names have `level` ids, the last after the name `above`, and
-/// their addresses are counted from `base`.
-pub(crate) fn walk(
-    alloc: Global,
-    tables: &Tables,
-    nodes: &[Node],
-    above: &str,
-    base: u32,
-    level: u32,
-    found: &mut Found,
-) -> Result<(), Fault>
-    requires { level ≤ most_ids + 1 }
-    ensures walked { let below = spec.walk tables.now (most_ids + 1 - level) (level + 1) in
-        let visits = spec.siblings below tables.now level above.now base [] nodes.now in
-        IfOk result (λ _. run visits found.old ≡ Ok found.new) }
-    ensures stopped { let below = spec.walk tables.now (most_ids + 1 - level) (level + 1) in
-        let visits = spec.siblings below tables.now level above.now base [] nodes.now in
-        IfErr result (λ fault. IsStop (run visits found.old) fault) }
-{
-    for node in nodes {
-        let name = dotted_name(alloc, above, node.id.as_str())?;
-        let address = visit(alloc, name.as_str(), base, level, node, found)?;
-        let below = children(tables, node);
-        walk(
-            alloc,
-            tables,
-            below,
-            name.as_str(),
-            address,
-            level + 1,
-            found,
-        )?;
-    }
-    Ok(())
+/// Where nodes stand: the address that theirs are counted from, and how many ids their names have.
+#[derive(Clone, Copy)]
+pub(crate) struct Level {
+    pub base: u32,
+    pub ids: u32,
 }
 
-/// Keeps the register of one node, or tells the first rule that the node breaks. Answers the node's address.
-fn visit(
-    alloc: Global,
-    name: &str,
-    base: u32,
-    level: u32,
-    node: &Node,
-    found: &mut Found,
-) -> Result<u32, Fault>
-    ensures shallow { OnOk result (level ≤ most_ids) }
-    ensures address { IfOk result (λ address. address ≡ (register_of base node.now).address) }
-    ensures visited { let next = visit_next found.old name.now level (register_of base node.now) in
-        OnOk result (next ≡ Ok found.new) }
-    ensures stopped { let next = visit_next found.old name.now level (register_of base node.now) in
-        IfErr result (λ fault. IsStop next fault) }
-{
-    if found.count >= MAX_NODES {
-        return Err(fault_at(alloc, name, CompileWhy::TooMany));
+/// A walk through nodes, with what it has found.
+#[derive(Drop)]
+pub(crate) struct Walker {
+    pub alloc: Global,
+    pub found: Found,
+}
+
+impl Walker {
+    /// Goes through nodes with all that is below them. The last ids of their names stand after the name `above`.
+    pub(crate) fn walk(
+        &mut self,
+        tables: &Tables,
+        nodes: &[Node],
+        above: &str,
+        level: Level,
+    ) -> Result<(), Fault>
+        requires { level.ids ≤ most_ids + 1 }
+        ensures walked { let below = spec.walk tables.now (most_ids + 1 - level.ids) (level.ids + 1) in
+            let visits = spec.siblings below tables.now level.ids above.now level.base [] nodes.now in
+            IfOk result (λ _. run visits self.old.found ≡ Ok self.new.found) }
+        ensures stopped { let below = spec.walk tables.now (most_ids + 1 - level.ids) (level.ids + 1) in
+            let visits = spec.siblings below tables.now level.ids above.now level.base [] nodes.now in
+            IfErr result (λ fault. IsStop (run visits self.old.found) fault) }
+    {
+        for node in nodes {
+            let name = dotted_name(self.alloc, above, node.id.as_str())?;
+            let address = self.visit(name.as_str(), level, node)?;
+            let below = children(tables, node);
+            let deeper = Level {
+                base: address,
+                ids: level.ids + 1,
+            };
+            self.walk(tables, below, name.as_str(), deeper)?;
+        }
+        Ok(())
     }
-    if level > MAX_IDS {
-        return Err(fault_at(alloc, name, CompileWhy::TooDeep));
+
+    /// Keeps the register of one node, or tells the first rule that the node breaks. Answers the node's address.
+    fn visit(&mut self, name: &str, level: Level, node: &Node) -> Result<u32, Fault>
+        ensures shallow { OnOk result (level.ids ≤ most_ids) }
+        ensures address { IfOk result (λ address. address ≡ (register_of level.base node.now).address) }
+        ensures visited { let next = visit_next self.old.found name.now level.ids (register_of level.base node.now) in
+            OnOk result (next ≡ Ok self.new.found) }
+        ensures stopped { let next = visit_next self.old.found name.now level.ids (register_of level.base node.now) in
+            IfErr result (λ fault. IsStop next fault) }
+    {
+        if self.found.count >= MAX_NODES {
+            return Err(fault_at(self.alloc, name, CompileWhy::TooMany));
+        }
+        if level.ids > MAX_IDS {
+            return Err(fault_at(self.alloc, name, CompileWhy::TooDeep));
+        }
+        if self.found.names.contains(name) {
+            return Err(fault_at(self.alloc, name, CompileWhy::Duplicate));
+        }
+        let Some(register) = register(level.base, node) else {
+            return Err(fault_at(self.alloc, name, CompileWhy::AddressPastEnd));
+        };
+        self.found.names.insert(self.alloc, name, register)?;
+        self.found.count += 1;
+        Ok(register.address)
     }
-    if found.names.contains(name) {
-        return Err(fault_at(alloc, name, CompileWhy::Duplicate));
-    }
-    let Some(register) = register(base, node) else {
-        return Err(fault_at(alloc, name, CompileWhy::AddressPastEnd));
-    };
-    found.names.insert(alloc, name, register)?;
-    found.count += 1;
-    Ok(register.address)
 }
 
 /// The register of a node, unless it is past the last address.

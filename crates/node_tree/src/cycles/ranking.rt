@@ -1,6 +1,6 @@
-//! Ranks of tables: those that lead to each other have one rank, which is below the ranks of all else that they lead to.
-//! The search is Tarjan's for strongly connected components, in Pearce's form and without recursion: each table is
-//! entered and left once. What is proved here is that it ends; what is rested on is looked at in `rising`.
+//! Ranks of tables: those that lead to each other have one rank, which is below the ranks of all else that they lead
+//! to. The search is Tarjan's for strongly connected components, in Pearce's form and without recursion: each table
+//! is entered and left once. What is proved here is that it ends; what is rested on is looked at in `rising`.
 ghost use Rattle.std.specs.Prelude.{◌≡◌, ◌≤◌, IfOk, IfSome, IsTrue};
 ghost use Rattle.node_tree.specs.CycleSearch.{KeepsNames, RanksMore, IsNewTable};
 

@@ -8,7 +8,7 @@ use Rattle.node_tree.proofs.compiling.compile.Goals as goal
 pub returns-in-Ok-clause-names : goal.returns-in-Ok-clause-names
 returns-in-Ok-clause-names c =
     let walked = rw (c.nodes_of.ensures, c.new.ensures, root_walk-siblings c.args.tables.now c.args.root.now) at c.in-Ok.ensures.walked in
-    rw c.in_ok-index_of-in-Ok.ensures (names-iff c.args.tables.now c.args.root.now c.walk.new.found walked)
+    rw c.in_ok-index_of-in-Ok.ensures (names-iff c.args.tables.now c.args.root.now c.walk.new.self.found walked)
 
 pub returns-in-Ok-clause-only_if_kept : goal.returns-in-Ok-clause-only_if_kept
 returns-in-Ok-clause-only_if_kept c =
@@ -16,7 +16,7 @@ returns-in-Ok-clause-only_if_kept c =
     record {
       known = c.in_ok-check_known.ensures.known;
       acyclic = c.in_ok-check_acyclic.ensures.acyclic;
-      nodes = no_fault c.args.tables.now c.args.root.now c.walk.new.found c.in_ok-check_known.ensures.valid walked;
+      nodes = no_fault c.args.tables.now c.args.root.now c.walk.new.self.found c.in_ok-check_known.ensures.valid walked;
     }
 
 pub returns-in-Err-At-clause-refused : goal.returns-in-Err-At-clause-refused
@@ -43,14 +43,14 @@ returns-in_err-check_acyclic-clause-repeated c =
 pub index_of-requires-clause-few : goal.index_of-requires-clause-few
 index_of-requires-clause-few c =
     let walked = rw (c.nodes_of.ensures, c.new.ensures, root_walk-siblings c.args.tables.now c.args.root.now) at c.in-Ok.ensures.walked in
-    few_names c.args.tables.now c.args.root.now c.walk.new.found walked
+    few_names c.args.tables.now c.args.root.now c.walk.new.self.found walked
 
 pub index_of-requires-clause-registers : goal.index_of-requires-clause-registers
 index_of-requires-clause-registers c =
     let walked = rw (c.nodes_of.ensures, c.new.ensures, root_walk-siblings c.args.tables.now c.args.root.now) at c.in-Ok.ensures.walked in
-    all_registers c.args.tables.now c.args.root.now c.walk.new.found c.in_ok-check_known.ensures.valid walked
+    all_registers c.args.tables.now c.args.root.now c.walk.new.self.found c.in_ok-check_known.ensures.valid walked
 
 pub returns-in-Ok-clause-registers : goal.returns-in-Ok-clause-registers
 returns-in-Ok-clause-registers c =
     let walked = rw (c.nodes_of.ensures, c.new.ensures, root_walk-siblings c.args.tables.now c.args.root.now) at c.in-Ok.ensures.walked in
-    rw c.in_ok-index_of-in-Ok.ensures (all_registers c.args.tables.now c.args.root.now c.walk.new.found c.in_ok-check_known.ensures.valid walked)
+    rw c.in_ok-index_of-in-Ok.ensures (all_registers c.args.tables.now c.args.root.now c.walk.new.self.found c.in_ok-check_known.ensures.valid walked)
