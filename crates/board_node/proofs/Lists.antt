@@ -1,7 +1,7 @@
 -- Bytes, and tests of numbers.
 use Rattle.std.proofs.Common.{◌≡◌, ℕ, suc, ◌<◌, ◌==◌, false, List, [], ◌∷◌, get_or, inl, inr}
 use Rattle.std.proofs.lemmas.Bool.Decides.{eqb_tells}
-use Rattle.ipb_base.specs.Word.{AreBytes}
+use Rattle.packet_codec.specs.Packet.{AreBytes}
 
 -- a list whose items are all below 256 is one of bytes
 pub are_bytes : (bytes : List ℕ) → ((i : ℕ) → get_or bytes i 0 < 256) → AreBytes bytes
