@@ -1,5 +1,5 @@
 //! Worked examples that cross crates: the program's call on sources and sinks in memory, and on a reader and a writer,
-//! and a board's bus behind packets.
+//! a board's bus behind packets, and an engine and a board that lose datagrams.
 #![tactic(auto)]
 
 #[cfg(test)]
@@ -8,3 +8,5 @@ mod edges;
 mod packets;
 #[cfg(test)]
 mod program;
+#[cfg(test)]
+mod recovery;
