@@ -11,13 +11,15 @@ use Rattle.world_model.specs.Hub.{Hub, low, settle, open_with, recovered, told_p
 use Rattle.world_model.specs.Hub.{goes_before, insert_fate, is_waiting, tag_of, time_out, unsent}
 use Rattle.world_model.specs.Sends.{Next, Wanted, wanted, first_send, wanted_or_first, next_send}
 use Rattle.reliable_engine.specs.Answers.{hub_next}
-use Rattle.reliable_engine.specs.Events.{HubEvent, Offer, Status, Reply, Quiet, Send, HandOut, after_event, after_events}
+use Rattle.reliable_engine.specs.Events.{HubEvent, Offer, Status, Reply, Quiet, Send, HandOut}
+use Rattle.reliable_engine.specs.Events.{after_event, after_events}
 use Rattle.reliable_engine.specs.Events.{IsAllowed, IsAmong, handouts}
 use Rattle.reliable_engine.proofs.Places.{either}
 
 -- ---- fates
 
-insert_among : (place : ℕ) (new f : ℕ × Fate) (fs : List (ℕ × Fate)) → IsAmong f fs → IsAmong f (insert_fate place new fs)
+insert_among : (place : ℕ) (new f : ℕ × Fate) (fs : List (ℕ × Fate)) → IsAmong f fs
+    → IsAmong f (insert_fate place new fs)
 insert_among place new f [] is = absurd is
 insert_among place new f (g ∷ gs) is =
     either (IsAmong f) (goes_before place g.1) (new ∷ g ∷ gs) (g ∷ insert_fate place new gs)
@@ -41,8 +43,9 @@ settle_among : (h : Hub) (words : List ℕ) (f : ℕ × Fate) (r : Option OpenPl
     → IsAmong f (settle h words r).fates
 settle_among h words f None is = is
 settle_among h words f (Some o) is =
-    either (IsAmong f) o.waited (insert_fate o.place (tag_of (at_place h.sent o.place), Replied o.place words) h.fates) h.fates
-    (λ _. insert_among o.place (tag_of (at_place h.sent o.place), Replied o.place words) f h.fates is)
+    let new : ℕ × Fate = (tag_of (at_place h.sent o.place), Replied o.place words) in
+    either (IsAmong f) o.waited (insert_fate o.place new h.fates) h.fates
+    (λ _. insert_among o.place new f h.fates is)
     (λ _. is)
 
 recovered_fates : (h : Hub) (r : Option ℕ) → (recovered h r).fates ≡ h.fates
