@@ -9,3 +9,6 @@ pub mod Answered
 pub mod InOrder
 pub mod OneAnswer
 pub mod InRanges
+pub mod LineWords
+pub mod MaskedValues
+pub mod RunsTell
