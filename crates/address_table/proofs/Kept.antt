@@ -1,5 +1,5 @@
 -- What a node that breaks no rule has.
-use Rattle.std.proofs.Common.{◌≡◌, List, ◌∷◌, Bool, true, false, None, IsSome, codes, drop, refl}
+use Rattle.std.proofs.Common.{◌≡◌, ℕ, zero, suc, List, [], ◌∷◌, Bool, true, false, None, IsSome, codes, drop, refl}
 use Rattle.std.proofs.lemmas.Bool.{and_parts}
 use Rattle.toml.specs.Data.{Members}
 use Rattle.address_table.specs.Keys.{text_at}
@@ -11,6 +11,12 @@ use Rattle.address_table.specs.declared.refusal.TableWhy.TheVariants.{Shape}
 pub first_kept : (why : TableWhy) (kept : Bool) (rest : List (TableWhy × Bool)) → first_broken ((why, kept) ∷ rest) ≡ None → (kept ≡ true) × (first_broken rest ≡ None)
 first_kept why true rest h = (refl, h)
 first_kept why false rest h = cc
+
+-- the rules after some
+pub kept_rest : (i : ℕ) (rs : List (TableWhy × Bool)) → first_broken rs ≡ None → first_broken (drop i rs) ≡ None
+kept_rest zero rs kept = kept
+kept_rest (suc i) [] kept = kept
+kept_rest (suc i) (rule ∷ rs) kept = kept_rest i rs (first_kept rule.0 rule.1 rs kept).1
 
 pub kept-shape : (ms : Members) → broken_rule ms ≡ None → has_shape ms ≡ true
 unfolding broken_rule

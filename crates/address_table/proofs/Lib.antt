@@ -3,3 +3,4 @@ pub mod Faults
 pub mod ReadNodes
 pub mod Kept
 pub mod Same
+pub mod ValidNodes

@@ -1,7 +1,9 @@
+pub mod Limits
 pub mod Numbers
 pub mod Kinds
 pub mod Keys
 pub mod Rules
 pub mod Fields
 pub mod Tables
+pub mod Valid
 pub mod Examples

@@ -1,24 +1,27 @@
 -- The rules that a node keeps, in the order in which they are judged. Profile; the modes and what they take are uHAL's.
-use Rattle.std.specs.Prelude.{ℕ, Bool, true, false, not, ◌&&◌, ◌||◌, ◌==◌, if◌then◌else◌, List, [], ◌∷◌, length, codes, Option, Some, None, is_some}
+use Rattle.std.specs.Prelude.{ℕ, Bool, true, false, not, ◌&&◌, ◌||◌, ◌==◌, if◌then◌else◌, List, [], ◌∷◌, length}
+use Rattle.std.specs.Prelude.{codes, Option, Some, None, is_some}
 use Rattle.std.specs.List.{list_all}
 use Rattle.std.specs.Option.{option_map_or}
 use Rattle.toml.specs.Data.{Data, table, Members, get_member}
 use Rattle.address_table.specs.Numbers.{is_between}
-use Rattle.address_table.specs.Keys.{has_node_keys, text_at, address_at, mask_at, size_at, permission_at, mode_at, nodes_at}
-use Rattle.address_table.specs.declared.limits.TheConstants.{MAX_ID_BYTES, MAX_WORDS}
+use Rattle.address_table.specs.Keys.{has_node_keys, text_at, address_at, mask_at, size_at, permission_at, mode_at}
+use Rattle.address_table.specs.Keys.{nodes_at}
+use Rattle.address_table.specs.Limits.{longest_id, most_words}
 use Rattle.address_table.specs.declared.kinds.Mode.{Mode}
 use Rattle.address_table.specs.declared.kinds.Mode.TheVariants.{Single, Block, Port, Hierarchical}
 use Rattle.address_table.specs.declared.refusal.TableWhy.{TableWhy}
-use Rattle.address_table.specs.declared.refusal.TableWhy.TheVariants.{Shape, UnknownKey, MissingId, BadId, BadNumber, BadMask, BadPermission, BadMode, BadSize}
+use Rattle.address_table.specs.declared.refusal.TableWhy.TheVariants.{Shape, UnknownKey, MissingId, BadId, BadNumber}
+use Rattle.address_table.specs.declared.refusal.TableWhy.TheVariants.{BadMask, BadPermission, BadMode, BadSize}
 
 -- a letter, a digit, `_` or `-`
 abbrev pub is_id_byte : ℕ → Bool
 is_id_byte byte =
     (is_between 65 90 byte || is_between 97 122 byte) || (is_between 48 57 byte || (byte == 95 || byte == 45))
 
--- 1 to 64 of these: the name of a node, a table or a board
+-- 1 to `longest_id` of these: the name of a node, a table or a board
 abbrev pub is_id : List ℕ → Bool
-is_id text = is_between 1 MAX_ID_BYTES (length text) && list_all is_id_byte text
+is_id text = is_between 1 longest_id (length text) && list_all is_id_byte text
 
 -- there is a value, and it passes the test
 abbrev pub holds_of : {T : Type 0} → (T → Bool) → Option T → Bool
@@ -35,7 +38,8 @@ has_texts ms =
 
 -- each key that has a text or an array has one, and `module` does not stand beside `nodes`
 unfoldable pub has_shape : Members → Bool
-has_shape ms = (has_texts ms && is_some (nodes_at ms)) && not (has_key (codes "module") ms && has_key (codes "nodes") ms)
+has_shape ms =
+    (has_texts ms && is_some (nodes_at ms)) && not (has_key (codes "module") ms && has_key (codes "nodes") ms)
 
 abbrev pub has_numbers : Members → Bool
 has_numbers ms = (is_some (address_at ms) && is_some (mask_at ms)) && is_some (size_at ms)
@@ -49,8 +53,8 @@ takes_mask Hierarchical mask = true
 
 -- the words of a register of this mode
 abbrev pub takes_size : Mode → ℕ → Bool
-takes_size Block size = is_between 1 MAX_WORDS size
-takes_size Port size = is_between 1 MAX_WORDS size
+takes_size Block size = is_between 1 most_words size
+takes_size Port size = is_between 1 most_words size
 takes_size Single size = size == 1
 takes_size Hierarchical size = size == 1
 

@@ -1,10 +1,12 @@
 -- Tables of nodes (uHAL, in TOML's spelling. Profile): the value that a table is written as, and the first fault of a
 -- value that is no table.
-use Rattle.std.specs.Prelude.{◌≡◌, ℕ, ◌+◌, List, [], ◌∷◌, ◌++◌, map, codes, Option, Some, None, option_map, option_and_then, unwrap_or, slice_get}
+use Rattle.std.specs.Prelude.{◌≡◌, ℕ, ◌+◌, List, [], ◌∷◌, ◌++◌, map, codes, Option, Some, None, option_map}
+use Rattle.std.specs.Prelude.{option_and_then, unwrap_or, slice_get}
 use Rattle.std.specs.List.{filter_map}
 use Rattle.std.specs.Ordering.{nat_cmp, match_ordering}
 use Rattle.std.specs.Cmp.Lexicographic.{slice_cmp}
-use Rattle.toml.specs.Data.{Data, array, table, Items, no_items, item, Members, no_members, member, get_member, as_array}
+use Rattle.toml.specs.Data.{Data, array, table, Items, no_items, item, Members, no_members, member, get_member}
+use Rattle.toml.specs.Data.{as_array}
 use Rattle.address_table.specs.Keys.{text_at, address_at, mask_at, size_at, permission_at, mode_at, module_at}
 use Rattle.address_table.specs.Rules.{broken_rule, node_fault}
 use Rattle.address_table.specs.declared.refusal.TableWhy.{TableWhy}
@@ -34,21 +36,24 @@ mutual
   -- The value is written so that it is this node: it keeps the rules, its keys say what the node has, and its array of
   -- nodes is the node's children.
   pub data IsNode : Data → Node → Type 0 where
-    node : (ms : Members) (n : Node) → broken_rule ms ≡ None → SaysKeys ms n → AreNodes (children ms) (out-Node n).nodes.items → IsNode (table ms) n
+    node : (ms : Members) (n : Node)
+        → broken_rule ms ≡ None
+        → SaysKeys ms n
+        → AreNodes (children ms) (out-Node n).nodes.items
+        → IsNode (table ms) n
 
   -- the items are these nodes, one for one
   pub data AreNodes : Items → List Node → Type 0 where
     none : AreNodes no_items []
-    more : (d : Data) (n : Node) (ds : Items) (ns : List Node) → IsNode d n → AreNodes ds ns → AreNodes (item d ds) (n ∷ ns)
+    more : (d : Data) (n : Node) (ds : Items) (ns : List Node)
+        → IsNode d n
+        → AreNodes ds ns
+        → AreNodes (item d ds) (n ∷ ns)
 
 -- the value is written so that it is this table
 abbrev pub IsTable : Data → Table → Type 0
 IsTable (array ds) t = AreNodes ds t.nodes.items
 IsTable _ t = ⊥
-
--- a table that some value is
-abbrev pub IsReadable : Table → Type 0
-IsReadable t = (d : Data) × IsTable d t
 
 -- a place in the item at a position
 abbrev pub place_in : ℕ → List ℕ × Data → List ℕ × Data
@@ -64,7 +69,8 @@ abbrev mutual
   pub preorder_children : Members → List (List ℕ × Data)
   preorder_children no_members = []
   preorder_children (member key d ms) =
-      match_ordering (slice_cmp nat_cmp (codes "nodes") key) (preorder_children ms) (preorder_array d) (preorder_children ms)
+      match_ordering (slice_cmp nat_cmp (codes "nodes") key)
+      (preorder_children ms) (preorder_array d) (preorder_children ms)
 
   pub preorder_array : Data → List (List ℕ × Data)
   preorder_array (array ds) = preorder_items 0 ds

@@ -42,7 +42,9 @@ pub(crate) fn refused_here(alloc: Global, why: TableWhy) -> TableRefusal
 
 /// A refusal of an item's node, or of one below it, as it stands from the array.
 pub(crate) fn refused_below(position: u64, refusal: TableRefusal) -> TableRefusal
-    ensures { (fault : Option (List ℕ × Why)) → IsFault fault refusal → IsFault (option_map (λ f. (position ∷ f.0, f.1)) fault) result }
+    ensures { (fault : Option (List ℕ × Why))
+        → IsFault fault refusal
+        → IsFault (option_map (λ f. (position ∷ f.0, f.1)) fault) result }
 {
     match refusal {
         TableRefusal::At { path, why } => {

@@ -1,5 +1,6 @@
 //! The keys of one node: what they say, and the first rule that they break.
-ghost use Rattle.std.specs.Prelude.{◌≡◌, None, Some, codes, is_some, IfOk, IfErr, option_copied, option_map, option_and_then};
+ghost use Rattle.std.specs.Prelude.{◌≡◌, None, Some, codes, is_some, IfOk, IfErr, OnOk, option_copied, option_map};
+ghost use Rattle.std.specs.Prelude.{option_and_then};
 ghost use Rattle.std.specs.List.{list_all};
 ghost use Rattle.toml.specs.Data.{get_member, as_array};
 ghost use Rattle.toml.specs.View.{view, array_view, table_view};
@@ -23,7 +24,8 @@ pub(crate) struct Fields {
     pub size: u32,
 }
 
-/// Whether a text is an id (profile): 1 to `MAX_ID_BYTES` letters, digits, `_` and `-`. Nodes, tables and boards are named so.
+/// Whether a text is an id (profile): 1 to `MAX_ID_BYTES` letters, digits, `_` and `-`. Nodes, tables and boards are
+/// named so.
 pub fn is_id(text: &[u8]) -> bool
     ensures { result ≡ rule.is_id text.now }
 {
@@ -45,7 +47,8 @@ fn is_id_byte(byte: u8) -> bool
 /// What a node says of its register, or the first rule that the node breaks, its children left aside.
 #[tactic(auto, unfolding(crate::specs::Rules::broken_rule))]
 pub(crate) fn read_fields(members: &Table) -> Result<Fields, TableWhy>
-    ensures read { IfOk result (λ fields. (rule.broken_rule (table_view members.now) ≡ None) × SaysFields (table_view members.now) fields) }
+    ensures kept { OnOk result (rule.broken_rule (table_view members.now) ≡ None) }
+    ensures read { IfOk result (λ fields. SaysFields (table_view members.now) fields) }
     ensures refused { IfErr result (λ why. rule.broken_rule (table_view members.now) ≡ Some why) }
 {
     if !has_shape(members) {
@@ -65,8 +68,10 @@ pub(crate) fn read_fields(members: &Table) -> Result<Fields, TableWhy>
 
 /// The same, where the rules before those of the numbers are kept.
 fn read_register(members: &Table) -> Result<Fields, TableWhy>
-    ensures read { IfOk result (λ fields. (rule.first_broken (rule.register_rules (table_view members.now)) ≡ None) × SaysFields (table_view members.now) fields) }
-    ensures refused { IfErr result (λ why. rule.first_broken (rule.register_rules (table_view members.now)) ≡ Some why) }
+    ensures kept { OnOk result (rule.first_broken (rule.register_rules (table_view members.now)) ≡ None) }
+    ensures read { IfOk result (λ fields. SaysFields (table_view members.now) fields) }
+    ensures refused { let broken = rule.first_broken (rule.register_rules (table_view members.now)) in
+        IfErr result (λ why. broken ≡ Some why) }
 {
     let Some(address) = number_at(members, "address", 0) else {
         return Err(TableWhy::BadNumber);
@@ -212,7 +217,8 @@ fn has_array_of_nodes(members: &Table) -> bool
 
 /// The items that the children are written as, where there are any.
 pub(crate) fn child_items(members: &Table) -> Option<&Array>
-    ensures { option_map (λ items. array_view items.now) result ≡ option_and_then as_array (get_member (codes "nodes") (table_view members.now)) }
+    ensures { let value = get_member (codes "nodes") (table_view members.now) in
+        option_map (λ items. array_view items.now) result ≡ option_and_then as_array value }
 {
     value_at(members, "nodes")?.as_array()
 }

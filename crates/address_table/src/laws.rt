@@ -7,6 +7,7 @@ ghost use Rattle.address_table.specs.declared.kinds.Permission.TheVariants.{R, W
 ghost use Rattle.address_table.specs.declared.limits.TheConstants.{MAX_ID_BYTES, MAX_WORDS};
 ghost use Rattle.address_table.specs.Examples.{node_with, array_of, key_with, says};
 ghost use Rattle.address_table.specs.Kinds.{permission_named, mode_named};
+ghost use Rattle.address_table.specs.Limits.{longest_id, most_words};
 ghost use Rattle.address_table.specs.Numbers.{number_in_text};
 ghost use Rattle.address_table.specs.declared.refusal.TableWhy.TheVariants.{Shape, UnknownKey, MissingId, BadMode};
 ghost use Rattle.address_table.specs.Rules.{is_id, node_fault};
@@ -41,8 +42,8 @@ pub fn numbers_in_texts()
 
 /// The limits of an id, and of a block or a port.
 pub fn limits()
-    ensures id { MAX_ID_BYTES ≡ 64 }
-    ensures words { MAX_WORDS ≡ 4194304 }
+    ensures id { MAX_ID_BYTES ≡ longest_id }
+    ensures words { MAX_WORDS ≡ most_words }
 {}
 
 /// The words for permissions, and no others.
@@ -88,8 +89,10 @@ pub fn first_rule_is_told()
     ensures shape_first { let id = key_with (codes "id") (boolean true) in
         let unknown = key_with (codes "xyz") (boolean true) in
         node_fault (node_with (id ∷ unknown ∷ [])) ≡ Some Shape }
-    ensures unknown_key_before_missing_id { node_fault (node_with (key_with (codes "xyz") (boolean true) ∷ [])) ≡ Some UnknownKey }
-    ensures missing_id_before_bad_mode { node_fault (node_with (says (codes "mode") (codes "fifo") ∷ [])) ≡ Some MissingId }
+    ensures unknown_key_before_missing_id { let unknown = key_with (codes "xyz") (boolean true) in
+        node_fault (node_with (unknown ∷ [])) ≡ Some UnknownKey }
+    ensures missing_id_before_bad_mode { let mode = says (codes "mode") (codes "fifo") in
+        node_fault (node_with (mode ∷ [])) ≡ Some MissingId }
     ensures partial_mask_on_a_port { let id = says (codes "id") (codes "x") in
         let mask = says (codes "mask") (codes "0xff") in
         node_fault (node_with (id ∷ mask ∷ says (codes "mode") (codes "port") ∷ [])) ≡ Some BadMode }

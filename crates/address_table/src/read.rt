@@ -3,7 +3,9 @@ ghost use Rattle.toml.specs.Data.{table};
 ghost use Rattle.toml.specs.View.{view, array_view, table_view};
 ghost use Rattle.address_table.specs.Rules.{broken_rule};
 ghost use Rattle.address_table.specs.Fields.{SaysFields};
-ghost use Rattle.address_table.specs.Tables.{IsTable, IsNode, AreNodes, IsFault, table_fault, first_fault, preorder, preorder_items, children};
+ghost use Rattle.address_table.specs.Valid.{IsValid};
+ghost use Rattle.address_table.specs.Tables.{IsTable, IsNode, AreNodes, IsFault, table_fault, first_fault, preorder};
+ghost use Rattle.address_table.specs.Tables.{preorder_items, children};
 
 use crate::copies::{copy_at, copy_module, refused_below, refused_here};
 use crate::keys::{Fields, child_items, read_fields};
@@ -16,6 +18,7 @@ use toml::value::Array;
 /// first faulty node is told, each node before its children, with the first rule that it breaks.
 pub fn read_table(alloc: Global, value: &Value) -> Result<Table, TableRefusal>
     ensures read { IfOk result (λ table. IsTable (view value.now) table) }
+    ensures valid { IfOk result (λ table. IsValid table) }
     ensures accepted { OnOk result (table_fault (view value.now) ≡ None) }
     ensures refused { IfErr result (λ refusal. IsFault (table_fault (view value.now)) refusal) }
 {
@@ -31,7 +34,8 @@ pub fn read_table(alloc: Global, value: &Value) -> Result<Table, TableRefusal>
 #[cycle(read)]
 fn read_nodes(alloc: Global, items: &Array) -> Result<Vec<Node>, TableRefusal>
     ensures read { IfOk result (λ nodes. AreNodes (array_view items.now) nodes.items) }
-    ensures refused { IfErr result (λ refusal. IsFault (first_fault (preorder_items 0 (array_view items.now))) refusal) }
+    ensures refused { let fault = first_fault (preorder_items 0 (array_view items.now)) in
+        IfErr result (λ refusal. IsFault fault refusal) }
 {
     let mut nodes = Vec::with_capacity(alloc, items.len())?;
     for (i, item) in items.iter().enumerate() {
@@ -63,7 +67,8 @@ fn read_rest(alloc: Global, members: &toml::Table, fields: Fields) -> Result<Nod
     requires kept { broken_rule (table_view members.now) ≡ None }
     requires said { SaysFields (table_view members.now) fields }
     ensures read { IfOk result (λ node. IsNode (table (table_view members.now)) node) }
-    ensures refused { IfErr result (λ refusal. IsFault (first_fault (preorder_items 0 (children (table_view members.now)))) refusal) }
+    ensures refused { let fault = first_fault (preorder_items 0 (children (table_view members.now))) in
+        IfErr result (λ refusal. IsFault fault refusal) }
 {
     let nodes = read_children(alloc, members)?;
     Ok(Node {
@@ -83,7 +88,8 @@ fn read_rest(alloc: Global, members: &toml::Table, fields: Fields) -> Result<Nod
 #[cycle(read)]
 fn read_children(alloc: Global, members: &toml::Table) -> Result<Vec<Node>, TableRefusal>
     ensures read { IfOk result (λ nodes. AreNodes (children (table_view members.now)) nodes.items) }
-    ensures refused { IfErr result (λ refusal. IsFault (first_fault (preorder_items 0 (children (table_view members.now)))) refusal) }
+    ensures refused { let fault = first_fault (preorder_items 0 (children (table_view members.now))) in
+        IfErr result (λ refusal. IsFault fault refusal) }
 {
     match child_items(members) {
         Some(items) => read_nodes(alloc, items),

@@ -1,10 +1,12 @@
 ghost use Rattle.std.specs.Prelude.{◌≡◌};
 
 use std::alloc::{AllocError, AllocFailed};
+use std::error::Error;
+use std::fmt;
 use std::marker::Model;
 
-/// Where a node stands in a table: the positions from 0 that lead to it from the top. Contracts see it as that list. The
-/// path of the table itself is empty.
+/// Where a node stands in a table: the positions from 0 that lead to it from the top. Contracts see it as that list.
+/// The path of the table itself is empty.
 #[derive(Debug, Drop)]
 pub struct Path {
     positions: Vec<u64>,
@@ -104,3 +106,32 @@ impl From<crate::NoMemory> for TableRefusal {
         TableRefusal::NoMemory
     }
 }
+
+impl fmt::Display for TableWhy {
+    fn fmt<W: fmt::Write>(&self, f: &mut fmt::Formatter<W>) -> fmt::Result {
+        match self {
+            TableWhy::Shape => write!(f, "a value of another kind"),
+            TableWhy::UnknownKey => write!(f, "a key that no node has"),
+            TableWhy::MissingId => write!(f, "no id"),
+            TableWhy::BadId => write!(f, "an id out of form"),
+            TableWhy::BadNumber => write!(f, "no number of 32 bits"),
+            TableWhy::BadMask => write!(f, "a mask of 0"),
+            TableWhy::BadPermission => write!(f, "an unknown permission"),
+            TableWhy::BadMode => write!(f, "an unknown mode, or a mask that it does not take"),
+            TableWhy::BadSize => write!(f, "a size that the mode does not take"),
+        }
+    }
+}
+
+impl Error for TableWhy {}
+
+impl fmt::Display for TableRefusal {
+    fn fmt<W: fmt::Write>(&self, f: &mut fmt::Formatter<W>) -> fmt::Result {
+        match self {
+            TableRefusal::At { path, why } => write!(f, "node {:?}: {}", path.as_slice(), why),
+            TableRefusal::NoMemory => write!(f, "out of memory"),
+        }
+    }
+}
+
+impl Error for TableRefusal {}

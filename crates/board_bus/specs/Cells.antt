@@ -1,6 +1,7 @@
 -- The bus as contracts see it: the cells that are there, each with a kind and a word. Addresses and words of 32 bits
 -- are those of IPbus 2.0; the kinds are the profile's.
-use Rattle.std.specs.Prelude.{ℕ, ◌^◌, nat_lt, if◌then◌else◌, List, [], ◌∷◌, map, Option, Some, None, IfSome, IsTrue, Result, Ok, Err}
+use Rattle.std.specs.Prelude.{ℕ, ◌^◌, nat_lt, if◌then◌else◌, List, [], ◌∷◌, map, Option, Some, None, IfSome, IsTrue}
+use Rattle.std.specs.Prelude.{Result, Ok, Err}
 use Rattle.std.specs.Ordering.{nat_cmp}
 use Rattle.std.specs.List.{enumerate_from}
 use Rattle.std.specs.FinMap.Entries.{find, is_sorted, put}

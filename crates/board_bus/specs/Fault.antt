@@ -1,6 +1,8 @@
--- The info codes of refused accesses: 4 and 5 for bus errors, 6 and 7 for timeouts. IPbus 2.0, info codes.
+-- The info codes of refused accesses, bus errors and timeouts. Their numbers are those of `transaction_codec`, by its
+-- law `the_info_codes_of_a_header`. IPbus 2.0, info codes.
 use Rattle.std.specs.Prelude.{ℕ, Option, Some, None}
-use Rattle.transaction_codec.specs.declared.info_code.TheConstants.{SUCCESS, READ_ERROR, WRITE_ERROR, READ_TIMEOUT, WRITE_TIMEOUT}
+use Rattle.transaction_codec.specs.declared.info_code.TheConstants.{SUCCESS, READ_ERROR, WRITE_ERROR, READ_TIMEOUT}
+use Rattle.transaction_codec.specs.declared.info_code.TheConstants.{WRITE_TIMEOUT}
 use Rattle.board_bus.specs.declared.fault.BusFault.{BusFault}
 use Rattle.board_bus.specs.declared.fault.BusFault.TheVariants.{ReadError, WriteError, ReadTimeout, WriteTimeout}
 

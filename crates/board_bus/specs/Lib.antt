@@ -6,3 +6,4 @@ pub mod Spans
 pub mod Transactions
 pub mod Bodies
 pub mod Answering
+pub mod Reading

@@ -1,10 +1,10 @@
 -- Lists of ranges: which are refused, and the bus that the others open. Profile throughout.
-use Rattle.std.specs.Prelude.{ℕ, ◌+◌, ◌-◌, ◌^◌, ◌<◌, ◌≤◌, ◌⊎◌, nat_le, ◌==◌, ◌&&◌, ◌||◌, nat_lt, Bool, false, if◌then◌else◌, List, [], ◌∷◌, ◌++◌, length, sum_by, replicate, Option, Some, None}
+use Rattle.std.specs.Prelude.{ℕ, ◌+◌, ◌-◌, ◌^◌, ◌<◌, ◌≤◌, ◌⊎◌, nat_le, ◌==◌, ◌&&◌, ◌||◌, nat_lt, Bool, false}
+use Rattle.std.specs.Prelude.{if◌then◌else◌, List, [], ◌∷◌, ◌++◌, length, sum_by, replicate, Option, Some, None}
 use Rattle.std.specs.List.{list_any, flat_map}
 use Rattle.board_bus.specs.declared.range.Range.{Range}
 use Rattle.board_bus.specs.declared.range.BusRefusal.{BusRefusal}
 use Rattle.board_bus.specs.declared.range.BusRefusal.TheVariants.{Empty, PastEnd, Overlap, TooLarge, InitLong}
-use Rattle.board_bus.specs.declared.range.TheConstants.{MAX_WORDS}
 use Rattle.board_bus.specs.Cells.{Cell, CellMap, cell_map, cells_from}
 
 -- the address after the last one of a range
@@ -32,13 +32,17 @@ abbrev pub any_pair : {X : Type 0} → (X → X → Bool) → List X → Bool
 any_pair test [] = false
 any_pair test (x ∷ xs) = list_any (test x) xs || any_pair test xs
 
+-- the most words that the ranges of a bus may have together
+abbrev pub most_words : ℕ
+most_words = 4194304
+
 -- The first rule that the whole list breaks, in the order of the refusals, or none.
 abbrev pub refusal_of : List Range → Option BusRefusal
 refusal_of ranges =
     if list_any is_empty_range ranges then Some Empty
     else if list_any is_past_end ranges then Some PastEnd
     else if any_pair share_address ranges then Some Overlap
-    else if nat_lt MAX_WORDS (sum_by (λ range. range.size) ranges) then Some TooLarge
+    else if nat_lt most_words (sum_by (λ range. range.size) ranges) then Some TooLarge
     else if list_any is_init_long ranges then Some InitLong
     else None
 

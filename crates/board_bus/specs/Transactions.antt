@@ -1,6 +1,7 @@
 -- What one transaction does to a bus, and the reply to it. IPbus 2.0, transactions; that a failed one keeps what it
 -- did, and how many words its reply counts and carries, is the profile's.
-use Rattle.std.specs.Prelude.{◌≡◌, ℕ, ◌+◌, ◌%◌, ◌^◌, ◌<◌, ◌⊎◌, bit_and, bit_or, List, [], ◌∷◌, map, length, replicate, Option, Some, None, Result, Ok, Err}
+use Rattle.std.specs.Prelude.{◌≡◌, ℕ, ◌+◌, ◌%◌, ◌^◌, ◌<◌, ◌⊎◌, bit_and, bit_or, List, [], ◌∷◌, map, length, replicate}
+use Rattle.std.specs.Prelude.{Option, Some, None, Result, Ok, Err}
 use Rattle.std.specs.List.{enumerate_from, range_with_len}
 use Rattle.std.specs.Result.{ok_prefix}
 use Rattle.transaction_codec.specs.declared.request.Op.{Op}

@@ -1,10 +1,16 @@
-ghost use Rattle.std.specs.Prelude.{◌≡◌, ◌≢◌, ◌≤◌, All, length, IfOk, OnOk, OnErr, MatchResult, IfErr, None, Some, Option};
-ghost use Rattle.std.specs.List.{flat_map, position};
+ghost use Rattle.std.specs.Prelude.{◌≡◌, ◌≢◌, ◌≤◌, ℕ, All, List, length, IfOk, OnOk, OnErr, IfErr, None};
+ghost use Rattle.std.specs.Prelude.{Some};
+ghost use Rattle.std.specs.List.{AllByRecursion, AllZip, flat_map, position};
+ghost use Rattle.ipb_base.specs.Word.{AreWords};
+ghost use Rattle.transaction_codec.specs.Answer.{CanAnswer};
 ghost use Rattle.board_bus.specs.declared.range.BusRefusal.TheVariants.{NoMemory as no_memory};
-ghost use Rattle.board_bus.specs.Cells.{read_fault, read_word, write_fault, write_word};
+ghost use Rattle.board_bus.specs.Cells.{HoldsWords, read_fault, read_word, write_fault, write_word};
+ghost use Rattle.board_bus.specs.Bodies.{replay, run_body};
 ghost use Rattle.board_bus.specs.Ranges.{opening_bus, opening_words, range_cells, refusal_of};
 ghost use Rattle.board_bus.specs.Blocks.{block_cells, holds};
 
+use crate::range::start_with_words;
+use crate::reading::requests_are_read;
 use crate::{BusFault, BusRefusal, Range, RangeKind, check_ranges};
 use ipb_base::NoMemory;
 use std::alloc::Global;
@@ -26,13 +32,15 @@ pub struct Bus {
 }
 
 impl Model for Bus {
-    ghost use Rattle.board_bus.specs.Cells.{CellMap};
+    ghost use Rattle.board_bus.specs.Cells.{CellMap, HoldsWords};
 
     ghost Value = { CellMap };
 
     ghost use Rattle.board_bus.specs.Blocks.{cells_of};
 
     ghost view = { λ bus. cells_of bus.blocks.items };
+
+    ghost invariant = { λ bus. HoldsWords (cells_of bus.blocks.items) };
 }
 
 impl Bus {
@@ -43,6 +51,7 @@ impl Bus {
         ensures refused { IfErr result (λ refusal. refusal ≢ no_memory → refusal_of ranges.now ≡ Some refusal) }
     {
         check_ranges(alloc, ranges)?;
+        start_with_words(ranges);
         Ok(Bus {
             blocks: blocks_of(alloc, ranges)?,
         })
@@ -87,6 +96,20 @@ impl Bus {
         }
         block.words[(address - block.base) as usize] = word;
         Ok(())
+    }
+}
+
+impl Bus {
+    /// Every word of a bus has 32 bits. So the reply to a body is one that a board can give to it, and so is that to
+    /// each of the bodies that are executed one after another. It does nothing when it runs.
+    pub fn answers_bodies(&self)
+        ensures words { HoldsWords self.now }
+        ensures reply { (body : List ℕ) → AreWords body → CanAnswer body (run_body self.now body).reply }
+        ensures replies { (bodies : List (List ℕ)) → AllByRecursion AreWords bodies →
+            AllZip CanAnswer bodies (replay self.now bodies).replies }
+    {
+        requests_are_read();
+        let _blocks = &self.blocks;
     }
 }
 

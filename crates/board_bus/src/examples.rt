@@ -1,7 +1,6 @@
 //! Worked examples of the definitions. These functions do nothing when they run: their clauses are what is proved.
 
-ghost use Rattle.std.specs.Prelude.{◌≡◌, ℕ, [], ◌∷◌, List, Some, Err};
-ghost use Rattle.board_bus.specs.declared.range.Range.{Range};
+ghost use Rattle.std.specs.Prelude.{◌≡◌, [], ◌∷◌, Some, Err};
 ghost use Rattle.board_bus.specs.declared.range.BusRefusal.TheVariants.{Overlap, PastEnd};
 ghost use Rattle.board_bus.specs.declared.kind.RangeKind.TheVariants.{Rw, Ro, Wo, Slow};
 ghost use Rattle.board_bus.specs.declared.fault.BusFault.TheVariants.{WriteError};
@@ -40,8 +39,8 @@ pub fn a_request_cut_short_is_a_bad_header()
 pub fn a_block_stops_at_the_last_address()
     ensures block { (run_body (opening_bus (record { base = 0xffffffff; size = 1; kind = Rw; init = 7 ∷ [] } ∷ []))
         (0x2000020f ∷ 0xffffffff ∷ [])).reply ≡ 0x20000104 ∷ 7 ∷ [] }
-    ensures absent { write_word (opening_bus (record { base = 0xffffffff; size = 1; kind = Rw; init = 7 ∷ [] } ∷ [])) 0 1
-        ≡ Err WriteError }
+    ensures absent { write_word (opening_bus
+        (record { base = 0xffffffff; size = 1; kind = Rw; init = 7 ∷ [] } ∷ [])) 0 1 ≡ Err WriteError }
 {}
 
 /// A masked write sets the top bit of a word, and the body's next request adds 1 modulo 2^32. Both answer the word

@@ -1,6 +1,9 @@
 ghost use Rattle.std.specs.Prelude.{◌≡◌};
 ghost use Rattle.board_bus.specs.Fault.{fault_code};
 
+use std::error::Error;
+use std::fmt;
+
 /// Why an access to one address was refused. The numbers are IPbus 2.0 info codes.
 #[derive(Clone, Copy, Debug, PartialEq, Eq)]
 pub enum BusFault {
@@ -22,3 +25,16 @@ impl BusFault {
         self as u8
     }
 }
+
+impl fmt::Display for BusFault {
+    fn fmt<W: fmt::Write>(&self, f: &mut fmt::Formatter<W>) -> fmt::Result {
+        f.write_str(match self {
+            BusFault::ReadError => "bus error on read",
+            BusFault::WriteError => "bus error on write",
+            BusFault::ReadTimeout => "bus timeout on read",
+            BusFault::WriteTimeout => "bus timeout on write",
+        })
+    }
+}
+
+impl Error for BusFault {}

@@ -1,48 +1,62 @@
 //! Laws of the definitions. These functions do nothing when they run: their clauses are what is proved.
 
-ghost use Rattle.std.specs.Prelude.{◌≡◌, ◌≢◌, ◌≤◌, ◌+◌, ◌<◌, ◌⊎◌, ◌++◌, ◌↔◌, ℕ, false, [], ◌∷◌, List, length, replicate, slice_index, Ok, Err, None, Some, IsOk};
-ghost use Rattle.std.specs.List.{AllByRecursion, count_by, list_any};
+ghost use Rattle.std.specs.Prelude.{◌≡◌, ◌≢◌, ◌≤◌, ◌+◌, ◌<◌, ◌⊎◌, ◌↔◌, ℕ, false, Ok, Err, None, Some, IsOk};
+ghost use Rattle.std.specs.Prelude.{List, [], ◌∷◌, ◌++◌, length, replicate, slice_index, take};
+ghost use Rattle.std.specs.List.{AllByRecursion, AllZip, count_by, list_any, slice_get};
 ghost use Rattle.std.specs.Ordering.{nat_cmp};
 ghost use Rattle.std.specs.FinMap.Entries.{find};
 ghost use Rattle.ipb_base.specs.Word.{AreWords};
 ghost use Rattle.transaction_codec.specs.declared.request.Op.TheVariants.{Read, ReadPort, Write, WritePort};
 ghost use Rattle.transaction_codec.specs.declared.request.Request.{Request};
-ghost use Rattle.transaction_codec.specs.Request.{AreRequests, IsRequest, NoRequestAtFront, request_words, requests_words};
+ghost use Rattle.transaction_codec.specs.Request.{AreRequests, IsRequest, NoRequestAtFront, request_words};
+ghost use Rattle.transaction_codec.specs.Request.{requests_words};
 ghost use Rattle.transaction_codec.specs.Reply.{reply_words};
 ghost use Rattle.transaction_codec.specs.Answer.{CanAnswer, IsReplyTo, bad_header_reply, reply_room};
 ghost use Rattle.transaction_codec.specs.declared.info_code.TheConstants.{SUCCESS};
 ghost use Rattle.board_bus.specs.declared.fault.BusFault.{BusFault};
-ghost use Rattle.board_bus.specs.declared.range.Range.{Range};
-ghost use Rattle.board_bus.specs.Cells.{Cell, CellMap, HoldsWords, IsInOrder, cell_at, read_fault, read_word, unless, write_word};
-ghost use Rattle.board_bus.specs.Ranges.{IsOutside, any_pair, holds_address, is_empty_range, opening_bus, opening_words, refusal_of, share_address};
+ghost use Rattle.board_bus.specs.declared.range.Range.{Range as BusRange};
+ghost use Rattle.board_bus.specs.Cells.{Cell, CellMap, HoldsWords, IsInOrder, cell_at};
+ghost use Rattle.board_bus.specs.Cells.{read_fault, read_word, unless, write_word};
+ghost use Rattle.board_bus.specs.Ranges.{IsOutside, any_pair, holds_address, is_empty_range, share_address};
+ghost use Rattle.board_bus.specs.Ranges.{most_words, opening_bus, opening_words, refusal_of};
 ghost use Rattle.board_bus.specs.Transactions.{EndsAtRefusal, outcome, transact, written_by};
 ghost use Rattle.board_bus.specs.Bodies.{replay, run_body};
 
+use crate::range::start_with_words;
+use crate::reading::requests_are_read;
+use crate::{MAX_WORDS, Range};
+
+/// The ranges of a bus have at most this many words together (profile).
+pub fn the_most_words_of_a_bus()
+    ensures { MAX_WORDS ≡ most_words }
+{}
+
 /// Of ranges that are not empty two share an address exactly where some address is in two of them.
 pub fn an_overlap_is_an_address_in_two_ranges()
-    ensures { (ranges : List Range) → list_any is_empty_range ranges ≡ false →
+    ensures { (ranges : List BusRange) → list_any is_empty_range ranges ≡ false →
         (any_pair share_address ranges ≡ false) ↔ ((address : ℕ) → count_by (holds_address address) ranges ≤ 1) }
 {}
 
 /// A bus opens with the cells of its ranges and no others: each address of a range holds the range's opening word
 /// there, a read answers it where the kind allows that, and an address in no range is absent.
 pub fn a_bus_opens_with_its_ranges()
-    ensures within { (front back : List Range) (range : Range) (place : ℕ) →
+    ensures within { (front back : List BusRange) (range : BusRange) (place : ℕ) →
         refusal_of (front ++ range ∷ back) ≡ None → place < range.size →
         cell_at (opening_bus (front ++ range ∷ back)) (range.base + place)
         ≡ Some (record { kind = range.kind; word = slice_index (opening_words range) place }) }
-    ensures read { (front back : List Range) (range : Range) (place : ℕ) →
+    ensures read { (front back : List BusRange) (range : BusRange) (place : ℕ) →
         refusal_of (front ++ range ∷ back) ≡ None → place < range.size →
         read_word (opening_bus (front ++ range ∷ back)) (range.base + place)
         ≡ unless (read_fault range.kind) (slice_index (opening_words range) place) }
-    ensures outside { (ranges : List Range) (address : ℕ) → refusal_of ranges ≡ None →
+    ensures outside { (ranges : List BusRange) (address : ℕ) → refusal_of ranges ≡ None →
         AllByRecursion (IsOutside address) ranges → cell_at (opening_bus ranges) address ≡ None }
 {}
 
 /// A write puts its word at its address and keeps the kind there. It changes no other cell.
 pub fn a_write_changes_one_word()
     ensures here { (cells after : CellMap) (address word : ℕ) (cell : Cell) →
-        write_word cells address word ≡ Ok after → cell_at cells address ≡ Some cell → cell_at after address ≡ Some (record { kind = cell.kind; word = word }) }
+        write_word cells address word ≡ Ok after → cell_at cells address ≡ Some cell →
+        cell_at after address ≡ Some (record { kind = cell.kind; word = word }) }
     ensures elsewhere { (cells after : CellMap) (address other word : ℕ) → write_word cells address word ≡ Ok after →
         (other < address) ⊎ (address < other) → cell_at after other ≡ cell_at cells other }
 {}
@@ -134,7 +148,9 @@ pub fn a_body_is_executed_in_order()
         first.reply.code ≢ SUCCESS →
         run_body cells (request_words request ++ rest)
         ≡ record { cells = first.cells; reply = reply_words first.reply } }
-{}
+{
+    requests_are_read();
+}
 
 /// A body that begins with no request leaves the bus as it is and is answered by one header: version 2, the
 /// identifier in bits 27-16 of its first word, words 0, type 0, code 1. Nothing after that word counts. The empty
@@ -144,7 +160,9 @@ pub fn a_bad_header_ends_a_body()
         NoRequestAtFront (word ∷ after) →
         run_body cells (word ∷ after) ≡ record { cells = cells; reply = reply_words (bad_header_reply word) } }
     ensures empty { (cells : CellMap) → run_body cells [] ≡ record { cells = cells; reply = [] } }
-{}
+{
+    requests_are_read();
+}
 
 /// A body leaves each address that none of its requests writes as it was, also where a bad header stands behind them.
 pub fn a_body_leaves_what_it_does_not_write()
@@ -152,7 +170,9 @@ pub fn a_body_leaves_what_it_does_not_write()
         AreWords rest → NoRequestAtFront rest →
         AllByRecursion (λ request. AllByRecursion (λ written. written ≢ address) (written_by request.op)) requests →
         cell_at (run_body cells (requests_words requests ++ rest)).cells address ≡ cell_at cells address }
-{}
+{
+    requests_are_read();
+}
 
 /// The reply to requests is a reply to them in the sense of the transaction grammar. With a bad header after them it
 /// is still one that a device can give, and so is the reply to any body.
@@ -164,25 +184,44 @@ pub fn a_reply_answers_its_body()
         CanAnswer (requests_words requests ++ rest) (run_body cells (requests_words requests ++ rest)).reply }
     ensures any { (cells : CellMap) (body : List ℕ) → HoldsWords cells → AreWords body →
         CanAnswer body (run_body cells body).reply }
-{}
+    ensures each { (cells : CellMap) (bodies : List (List ℕ)) → HoldsWords cells → AllByRecursion AreWords bodies →
+        AllZip CanAnswer bodies (replay cells bodies).replies }
+{
+    requests_are_read();
+}
+
+/// The bus that ranges open holds 32-bit words, whatever the ranges. So the reply to each of the bodies, executed one
+/// after another, is one that a board can give to it.
+pub fn an_opening_bus_answers_bodies(ranges: &[Range])
+    ensures words { HoldsWords (opening_bus ranges.now) }
+    ensures replies { (bodies : List (List ℕ)) → AllByRecursion AreWords bodies →
+        AllZip CanAnswer bodies (replay (opening_bus ranges.now) bodies).replies }
+{
+    requests_are_read();
+    start_with_words(ranges);
+}
 
 /// A reply is never longer than the longest answer to its body.
 pub fn a_reply_has_room()
     ensures { (cells : CellMap) (body : List ℕ) → length (run_body cells body).reply ≤ reply_room body }
 {}
 
-/// A bus that opens with 32-bit words holds them, and still does after any body.
+/// A bus that opens with 32-bit words holds them, and still does after any body and after any bodies.
 pub fn words_stay_words()
-    ensures opening { (ranges : List Range) → AllByRecursion (λ range. AreWords range.init) ranges →
+    ensures opening { (ranges : List BusRange) → AllByRecursion (λ range. AreWords range.init) ranges →
         HoldsWords (opening_bus ranges) }
     ensures after { (cells : CellMap) (body : List ℕ) → HoldsWords cells → AreWords body →
         HoldsWords (run_body cells body).cells }
-{}
+    ensures after_all { (cells : CellMap) (bodies : List (List ℕ)) → HoldsWords cells → AllByRecursion AreWords bodies →
+        HoldsWords (replay cells bodies).cells }
+{
+    requests_are_read();
+}
 
 /// A bus is a finite map: its entries stand by rising address as it opens and after any body, and two that stand so
 /// and find the same cell at each address are equal.
 pub fn a_bus_is_known_by_its_cells()
-    ensures opening { (ranges : List Range) → IsInOrder (opening_bus ranges) }
+    ensures opening { (ranges : List BusRange) → IsInOrder (opening_bus ranges) }
     ensures after { (cells : CellMap) (body : List ℕ) → IsInOrder cells → IsInOrder (run_body cells body).cells }
     ensures same { (cells other : CellMap) → IsInOrder cells → IsInOrder other →
         ((address : ℕ) → find nat_cmp address cells ≡ find nat_cmp address other) → cells ≡ other }
@@ -197,4 +236,12 @@ pub fn replay_goes_on()
         ≡ (replay cells front).replies ++ (replay (replay cells front).cells back).replies }
     ensures one_each { (cells : CellMap) (bodies : List (List ℕ)) →
         length (replay cells bodies).replies ≡ length bodies }
+{}
+
+/// The reply at each place is that of the body there, on the bus that the bodies before it left.
+pub fn each_reply_is_that_of_its_body()
+    ensures { (cells : CellMap) (bodies : List (List ℕ)) (place : ℕ) (body : List ℕ) →
+        slice_get bodies place ≡ Some body →
+        slice_get (replay cells bodies).replies place
+        ≡ Some (run_body (replay cells (take place bodies)).cells body).reply }
 {}

@@ -10,6 +10,7 @@ mod fault;
 mod kind;
 pub mod laws;
 mod range;
+mod reading;
 mod room;
 mod transaction;
 

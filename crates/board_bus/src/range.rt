@@ -1,12 +1,16 @@
 ghost use Rattle.std.specs.Prelude.{◌≡◌, ◌≢◌, OnOk, IfOk, IfErr, MatchBool, Some, None, sum_by, map, nat_lt, false};
-ghost use Rattle.std.specs.List.{list_any};
+ghost use Rattle.std.specs.List.{AllByRecursion, list_any};
+ghost use Rattle.ipb_base.specs.Word.{AreWords};
 ghost use Rattle.board_bus.specs.declared.range.BusRefusal.TheVariants.{NoMemory as no_memory};
-ghost use Rattle.board_bus.specs.Ranges.{any_pair, end_of, is_empty_range, is_init_long, is_past_end, refusal_of, share_address};
+ghost use Rattle.board_bus.specs.Ranges.{any_pair, end_of, is_empty_range, is_init_long, is_past_end, most_words};
+ghost use Rattle.board_bus.specs.Ranges.{refusal_of, share_address};
 ghost use Rattle.board_bus.specs.Spans.{span_of, SomeMeetsNext, NoneMeetsNext};
 
 use crate::RangeKind;
 use ipb_base::{NoMemory, Words};
 use std::alloc::Global;
+use std::error::Error;
+use std::fmt;
 
 /// The most words that the ranges of a bus may have together. Profile.
 pub const MAX_WORDS: u64 = 4_194_304;
@@ -15,7 +19,7 @@ pub const MAX_WORDS: u64 = 4_194_304;
 const ADDRESSES: u64 = 1 << 32;
 
 /// Consecutive addresses of one kind. Profile.
-#[derive(Debug, Drop)]
+#[derive(Debug, Drop, PartialEq, Eq)]
 pub struct Range {
     /// The first address.
     pub base: u32,
@@ -52,12 +56,62 @@ impl From<NoMemory> for BusRefusal {
     }
 }
 
+impl fmt::Display for BusRefusal {
+    fn fmt<W: fmt::Write>(&self, f: &mut fmt::Formatter<W>) -> fmt::Result {
+        f.write_str(match self {
+            BusRefusal::Empty => "a range has no address",
+            BusRefusal::PastEnd => "a range ends past the last address",
+            BusRefusal::Overlap => "two ranges share an address",
+            BusRefusal::TooLarge => "the ranges have too many words",
+            BusRefusal::InitLong => "a range starts with more words than it has",
+            BusRefusal::NoMemory => "out of memory",
+        })
+    }
+}
+
+impl Error for BusRefusal {}
+
 impl Range {
     /// The address after its last one.
     fn end(&self) -> u64
         ensures { result ≡ end_of self.now }
     {
         u64::from(self.base) + u64::from(self.size)
+    }
+
+    /// The same range in memory of its own.
+    pub fn copy(&self, alloc: Global) -> Result<Range, NoMemory>
+        ensures { IfOk result (λ copied. copied ≡ self.now) }
+    {
+        Ok(Range {
+            base: self.base,
+            size: self.size,
+            kind: self.kind,
+            init: Words::from_vec(self.init.as_slice().to_vec(alloc)?),
+        })
+    }
+
+    /// The words that a range starts with have 32 bits. It does nothing when it runs.
+    fn starts_with_words(&self)
+        ensures { AreWords self.now.init }
+    {
+        are_words(self.init.as_slice());
+    }
+}
+
+/// The words of a slice have 32 bits. It does nothing when it runs.
+fn are_words(words: &[u32])
+    ensures { AreWords words.now }
+{
+    let _count = words.len();
+}
+
+/// The words that ranges start with have 32 bits. It does nothing when it runs.
+pub(crate) fn start_with_words(ranges: &[Range])
+    ensures { AllByRecursion (λ range. AreWords range.init) ranges.now }
+{
+    for range in ranges {
+        range.starts_with_words();
     }
 }
 
@@ -120,7 +174,7 @@ fn has_overlap(alloc: Global, ranges: &[Range]) -> Result<bool, NoMemory>
 
 /// Whether the ranges have more words than a bus may have.
 fn is_too_large(ranges: &[Range]) -> bool
-    ensures { result ≡ nat_lt MAX_WORDS (sum_by (λ range. range.size) ranges.now) }
+    ensures { result ≡ nat_lt most_words (sum_by (λ range. range.size) ranges.now) }
 {
     let mut left = MAX_WORDS;
     for range in ranges {

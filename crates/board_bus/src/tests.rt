@@ -126,6 +126,8 @@ fn single_words_are_read_and_written(rt: HostRuntime) -> Result<(), Fail> {
     assert_eq!(rt; bus.write(0x22, 1), Err(BusFault::WriteTimeout));
     assert_eq!(rt; bus.write(0x10, 1), Err(BusFault::WriteError));
     assert_eq!(rt; BusFault::WriteTimeout.code(), 7);
+    let text = format!(in alloc; "{}", BusFault::WriteTimeout)?;
+    assert_eq!(rt; text.as_str(), "bus timeout on write");
     Ok(())
 }
 
@@ -145,7 +147,16 @@ fn ranges_are_refused(rt: HostRuntime) -> Result<(), Fail> {
         list.push(range(alloc, base, size, RangeKind::Rw, &[1, 2])?)?;
         list.push(range(alloc, other, words, RangeKind::Ro, &[])?)?;
         assert_eq!(rt; check_ranges(alloc, &list).err(), refusal);
+        let copied = list[0].copy(alloc)?;
+        assert_eq!(rt; copied, list[0]);
         assert_eq!(rt; Bus::new(alloc, &list).err(), refusal);
     }
+    Ok(())
+}
+
+#[test]
+fn refusals_have_a_text(rt: HostRuntime) -> Result<(), Fail> {
+    let text = format!(in rt.alloc(); "{}", BusRefusal::Overlap)?;
+    assert_eq!(rt; text.as_str(), "two ranges share an address");
     Ok(())
 }

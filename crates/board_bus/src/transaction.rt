@@ -6,8 +6,10 @@ ghost use Rattle.transaction_codec.specs.Request.{IsRequest};
 ghost use Rattle.transaction_codec.specs.Reply.{reply_words};
 ghost use Rattle.board_bus.specs.Fault.{info_code};
 ghost use Rattle.board_bus.specs.Cells.{read_word, write_word};
-ghost use Rattle.board_bus.specs.Transactions.{added, fault_of_reading, masked, modify, of_reading, of_writing, outcome, transact, words_read, write_words};
-ghost use Rattle.board_bus.specs.Answering.{IsModified, addresses, modified_words, outcome_words, placed, read_type, write_type};
+ghost use Rattle.board_bus.specs.Transactions.{added, fault_of_reading, masked, modify, of_reading, of_writing};
+ghost use Rattle.board_bus.specs.Transactions.{outcome, transact, words_read, write_words};
+ghost use Rattle.board_bus.specs.Answering.{IsModified, addresses, modified_words, outcome_words, placed, read_type};
+ghost use Rattle.board_bus.specs.Answering.{write_type};
 
 use crate::addressing::Addressing::{self, Block, Port};
 use crate::room::push_within;

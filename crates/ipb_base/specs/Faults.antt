@@ -1,5 +1,5 @@
--- Counts of faults. A source, a sink or a link counts each fault that it meets, in 64 bits, and the count stands still at
--- its end. So a failure that a caller sees has its cause there. Profile.
+-- Counts of faults. A source, a sink or a link counts each fault that it meets, in 64 bits, and the count stands still
+-- at its end. So a failure that a caller sees has its cause there. Profile.
 use Rattle.std.specs.Prelude.{ℕ, ◌≤◌, ◌+◌, ◌-◌, ◌^◌, min, Result, OnErr}
 
 -- one more than a count, which stands still at the end of 64 bits

@@ -1,3 +1,4 @@
 pub mod Word
 pub mod Lists
 pub mod Faults
+pub mod Numbers

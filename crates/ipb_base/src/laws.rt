@@ -4,6 +4,16 @@ ghost use Rattle.std.specs.Prelude.{◌≡◌, ◌⊎◌, ℕ, ◌+◌, ◌-◌,
 ghost use Rattle.ipb_base.specs.Word.{big_endian};
 ghost use Rattle.ipb_base.specs.Faults.{Rose, one_more};
 ghost use Rattle.ipb_base.specs.Lists.{IsPrefix, IsProperPrefix};
+ghost use Rattle.ipb_base.specs.Numbers.{
+  protocol_version,
+  least_mtu,
+  greatest_mtu,
+  payload_of,
+  least_payload,
+  greatest_payload,
+};
+
+use crate::VERSION;
 
 /// The packet header of packet 1 and a word of data, byte by byte.
 pub fn words_go_out_high_byte_first()
@@ -29,4 +39,16 @@ pub fn cut_short_is_a_shorter_prefix()
     ensures shorter { (front whole : List ℕ) → IsProperPrefix front whole → length front < length whole }
     ensures only { (front whole : List ℕ) → IsPrefix front whole → length front < length whole
         → IsProperPrefix front whole }
+{}
+
+/// The version of the protocol is 2.
+pub fn the_version_is_two()
+    ensures { VERSION ≡ protocol_version }
+{}
+
+/// The payloads of packets are those of the MTUs.
+pub fn payloads_are_those_of_mtus()
+    ensures least { payload_of least_mtu ≡ least_payload }
+    ensures greatest { payload_of greatest_mtu ≡ greatest_payload }
+    ensures rising { (less more : ℕ) → less ≤ more → payload_of less ≤ payload_of more }
 {}

@@ -1,7 +1,8 @@
 //! What every crate of the hub speaks of: want of memory, 32-bit words, kept texts and the version of the protocol.
 //!
-//! The definitions that several crates cite, of words, of lists and of counted faults, are in `specs/`. Types over a vector
-//! or a string, here and above, are seen by contracts as a list, and are made and given back without taking memory.
+//! The definitions that several crates cite, of words, of lists, of counted faults and of shared numbers, are in
+//! `specs/`. Types over a vector or a string, here and above, are seen by contracts as a list, and are made and given
+//! back without taking memory.
 #![tactic(auto)]
 
 pub mod laws;

@@ -1,4 +1,4 @@
-ghost use Rattle.std.specs.Prelude.{◌≡◌, IfOk, string_bytes};
+ghost use Rattle.std.specs.Prelude.{◌≡◌, IfOk, IfErr, IsOk, IsUtf8, string_bytes};
 
 use crate::NoMemory;
 use std::alloc::Global;
@@ -18,12 +18,44 @@ impl Model for Text {
     ghost view = { λ text. string_bytes text.content };
 }
 
+impl PartialEq for Text {
+    ghost use Rattle.std.specs.Cmp.{partial_equiv_from_equiv};
+    ghost use Rattle.std.specs.Cmp.Lexicographic.{pointwise, nat_list_eq_equiv};
+    ghost use Rattle.std.specs.Prelude.{nat_eq};
+
+    ghost eq = { pointwise nat_eq };
+
+    ghost laws = { partial_equiv_from_equiv nat_list_eq_equiv };
+
+    fn eq(&self, other: &Text) -> bool {
+        self.as_str() == other.as_str()
+    }
+}
+
+impl Eq for Text {
+    ghost use Rattle.std.specs.Cmp.Lexicographic.{nat_list_eq_equiv};
+
+    ghost laws = { nat_list_eq_equiv };
+}
+
 impl Text {
     /// The text of a string. It takes no memory.
     pub fn from_string(content: String) -> Text
         ensures { result ≡ string_bytes content }
     {
         Text { content }
+    }
+
+    /// The text of bytes that are UTF-8; other bytes are given back. It takes no memory.
+    pub fn from_vec(bytes: Vec<u8>) -> Result<Text, Vec<u8>>
+        ensures found { IfOk result (λ text. text ≡ bytes.items) }
+        ensures same { IfErr result (λ given. given ≡ bytes) }
+        ensures only { IsUtf8 bytes.items → IsOk result }
+    {
+        match String::from_utf8(bytes) {
+            Ok(content) => Ok(Text { content }),
+            Err(error) => Err(error.into_bytes()),
+        }
     }
 
     /// The same text in memory of its own.

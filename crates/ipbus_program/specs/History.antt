@@ -27,13 +27,16 @@ bodies_at place all = map (λ p. p.0) (filter (λ p. p.1.place == place) all)
 abbrev pub by_place : List BodyWithOutcome → List (List ℕ)
 by_place all = flat_map (λ place. bodies_at place all) (range_with_len 1 (length all))
 
--- The outcomes are those of one single-thread bus: each place from 1 on is that of one body, each client's bodies stand in the
--- order in which it asked them, and each reply is the one that the bus gives at its place, all bodies executed by place.
-pub record IsHistory (opening : CellMap) (bodies : List (List (List ℕ))) (outcomes : List (List BodyOutcome)) : Type 0 where
+-- The outcomes are those of one single-thread bus: each place from 1 on is that of one body, each client's bodies stand
+-- in the order in which it asked them, and each reply is the one that the bus gives at its place, all bodies executed
+-- by place.
+pub record IsHistory (opening : CellMap) (bodies : List (List (List ℕ))) (outcomes : List (List BodyOutcome))
+    : Type 0 where
   pub each_has_one : map length bodies ≡ map length outcomes
   pub one_order : (place : ℕ) → 1 ≤ place → place ≤ length (bodies_with_outcomes bodies outcomes)
       → count_by (λ p. p.1.place == place) (bodies_with_outcomes bodies outcomes) ≡ 1
   pub script_order : AllByRecursion (λ client. IsStrictlyIncreasing (map (λ outcome. outcome.place) client)) outcomes
   pub single_thread : AllByRecursion
-      (λ p. slice_get (replay opening (by_place (bodies_with_outcomes bodies outcomes))).replies (p.1.place - 1) ≡ Some p.1.reply)
+      (λ p. slice_get (replay opening (by_place (bodies_with_outcomes bodies outcomes))).replies (p.1.place - 1)
+      ≡ Some p.1.reply)
       (bodies_with_outcomes bodies outcomes)

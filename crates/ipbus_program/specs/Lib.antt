@@ -1,3 +1,4 @@
+pub mod Numbers
 pub mod Fields
 pub mod Reading
 pub mod FirstForm
@@ -8,5 +9,6 @@ pub mod Transcript
 pub mod Text
 pub mod Owed
 pub mod Steps
+pub mod Below
 pub mod Exchange
-pub mod Worked
+pub mod Examples

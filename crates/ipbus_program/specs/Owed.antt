@@ -1,13 +1,15 @@
--- What the program owes to its words and its input. `before` and `now` are the bytes that the input had left at first and in the
--- end, where it tells them. Profile.
-use Rattle.std.specs.Prelude.{◌≡◌, ℕ, ◌+◌, ◌≤◌, ◌<◌, List, [], ◌∷◌, length, map, codes, Option, string_bytes, String, ◌⊎◌}
+-- What the program owes to its words and its input. `before` and `now` are the bytes that the input had left at first
+-- and in the end, where it tells them. Profile.
+use Rattle.std.specs.Prelude.{◌≡◌, ℕ, ◌+◌, ◌≤◌, ◌<◌, List, [], ◌∷◌, length, map, codes, Option, string_bytes, String}
+use Rattle.std.specs.Prelude.{◌⊎◌}
 use Rattle.std.specs.declared.alloc.Global.{Global}
 use Rattle.std.specs.Io.KnownBytes.{prepend_known, append_known, IsAtEnd}
 use Rattle.ipb_outside.specs.Told.{AppendsPart}
 use Rattle.ipbus_program.specs.declared.session.Session.{Session}
 use Rattle.ipbus_program.specs.declared.answer.Refusal.{Refusal}
 use Rattle.ipbus_program.specs.declared.answer.Refusal.TheVariants.{TooLong, NotToml, NotBuilt}
-use Rattle.ipbus_program.specs.declared.answer.TheConstants.{DONE, USAGE, REFUSED, READ_FAULT, WRITE_FAULT, NO_MEMORY, MAX_DOCUMENT}
+use Rattle.ipbus_program.specs.Numbers.{done_status, usage_status, refused_status, read_fault_status}
+use Rattle.ipbus_program.specs.Numbers.{write_fault_status, no_memory_status, document_bytes}
 use Rattle.ipbus_program.specs.Document.{StandsFor, IsNotToml, IsNotBuilt}
 use Rattle.ipbus_program.specs.Plan.{session_bodies, session_bus}
 use Rattle.ipbus_program.specs.History.{BodyOutcome, IsHistory}
@@ -20,20 +22,21 @@ AreRun words = map string_bytes words ≡ codes "run" ∷ []
 
 -- the bytes are a document of this session, and no more than a document may be
 abbrev pub IsAccepted : List ℕ → Session → Type 0
-IsAccepted bytes session = (length bytes ≤ MAX_DOCUMENT) × StandsFor bytes session
+IsAccepted bytes session = (length bytes ≤ document_bytes) × StandsFor bytes session
 
 -- The bytes deserve this refusal: it is that of the first rule that they break.
 abbrev pub Deserves : Refusal → List ℕ → Type 0
-Deserves TooLong bytes = MAX_DOCUMENT < length bytes
-Deserves NotToml bytes = (length bytes ≤ MAX_DOCUMENT) × IsNotToml bytes
-Deserves NotBuilt bytes = (length bytes ≤ MAX_DOCUMENT) × IsNotBuilt bytes
+Deserves TooLong bytes = document_bytes < length bytes
+Deserves NotToml bytes = (length bytes ≤ document_bytes) × IsNotToml bytes
+Deserves NotBuilt bytes = (length bytes ≤ document_bytes) × IsNotBuilt bytes
 
 -- the input was read to its end, and these bytes are all that it had
 pub record ReadToEnd (before now : Option (List ℕ)) (bytes : List ℕ) : Type 0 where
   pub all : before ≡ prepend_known bytes now
   pub at_end : IsAtEnd now
 
--- the text is the transcript of the session, whose every line is a value: what a single-thread bus answers at the printed places
+-- the text is the transcript of the session, whose every line is a value: what a single-thread bus answers at the
+-- printed places
 pub record IsTranscriptOf (session : Session) (text : List ℕ) : Type 0 where
   pub outcomes : List (List BodyOutcome)
   pub history : IsHistory (session_bus session) (session_bodies session) outcomes
@@ -55,7 +58,7 @@ pub record OwesUsage (before now : Option (List ℕ)) (text : List ℕ) : Type 0
 
 -- how far an input that is refused was read: to the first byte that is too many, or to its end
 abbrev pub Stopped : Refusal → List ℕ → Option (List ℕ) → Type 0
-Stopped TooLong bytes now = length bytes ≡ MAX_DOCUMENT + 1
+Stopped TooLong bytes now = length bytes ≡ document_bytes + 1
 Stopped NotToml bytes now = IsAtEnd now
 Stopped NotBuilt bytes now = IsAtEnd now
 
@@ -75,13 +78,14 @@ pub record OwesRefusal (before now : Option (List ℕ)) (text : List ℕ) : Type
 -- What an input is answered by.
 abbrev pub AnswersInput : Option (List ℕ) → Option (List ℕ) → ℕ → List ℕ → Type 0
 AnswersInput before now status text =
-    ((status ≡ DONE) × OwesTranscript before now text) ⊎ ((status ≡ REFUSED) × OwesRefusal before now text)
+    ((status ≡ done_status) × OwesTranscript before now text)
+    ⊎ ((status ≡ refused_status) × OwesRefusal before now text)
 
 -- A status and the text that go together for these words and this input.
 abbrev pub Owes : List (String Global) → Option (List ℕ) → Option (List ℕ) → ℕ → List ℕ → Type 0
 Owes words before now status text =
     (AreRun words × AnswersInput before now status text)
-    ⊎ (¬ AreRun words × ((status ≡ USAGE) × OwesUsage before now text))
+    ⊎ (¬ AreRun words × ((status ≡ usage_status) × OwesUsage before now text))
 
 -- A text that is owed for these words and this input.
 abbrev pub OwesText : List (String Global) → Option (List ℕ) → Option (List ℕ) → List ℕ → Type 0
@@ -90,7 +94,8 @@ OwesText words before now text = (status : ℕ) × Owes words before now status 
 -- the statuses that there are
 abbrev pub IsStatus : ℕ → Type 0
 IsStatus status =
-    (status ≡ DONE) ⊎ (status ≡ USAGE) ⊎ (status ≡ REFUSED) ⊎ (status ≡ READ_FAULT) ⊎ (status ≡ WRITE_FAULT) ⊎ (status ≡ NO_MEMORY)
+    (status ≡ done_status) ⊎ (status ≡ usage_status) ⊎ (status ≡ refused_status)
+    ⊎ (status ≡ read_fault_status) ⊎ (status ≡ write_fault_status) ⊎ (status ≡ no_memory_status)
 
 -- all of this text went behind what was written
 abbrev pub Wrote : Option (List ℕ) → Option (List ℕ) → List ℕ → Type 0
@@ -106,4 +111,5 @@ WroteOwedPart owed old new = (text : List ℕ) × owed text × AppendsPart old n
 
 -- the line of this refusal was written and its status answered, or memory ran out
 abbrev pub RefusesWith : Refusal → ℕ → Option (List ℕ) → Option (List ℕ) → Type 0
-RefusesWith refusal status old new = ((status ≡ REFUSED) × Wrote old new (refusal_text refusal)) ⊎ (status ≡ NO_MEMORY)
+RefusesWith refusal status old new =
+    ((status ≡ refused_status) × Wrote old new (refusal_text refusal)) ⊎ (status ≡ no_memory_status)

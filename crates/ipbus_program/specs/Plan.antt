@@ -1,5 +1,5 @@
--- Profile. What a session asks of its board: one read of one word for each line of the script, all in one body, with transaction
--- identifiers from 0.
+-- Profile. What a session asks of its board: one read of one word for each line of the script, all in one body, with
+-- transaction identifiers from 0.
 use Rattle.std.specs.Prelude.{ℕ, ◌+◌, List, [], ◌∷◌, map, slice_index}
 use Rattle.transaction_codec.specs.declared.request.Op.TheVariants.{Read}
 use Rattle.transaction_codec.specs.declared.request.Request.{Request}

@@ -1,4 +1,5 @@
--- How the steps of the call work together: what its private functions promise one another. No public clause speaks of these.
+-- How the steps of the call work together: what its private functions promise one another. No public clause speaks of
+-- these.
 use Rattle.std.specs.Prelude.{◌≡◌, ℕ, ◌+◌, ◌≤◌, ◌⊎◌, List, [], ◌∷◌, length, Option, Ok}
 use Rattle.std.specs.List.{AllByRecursion, AllZip}
 use Rattle.ipb_base.specs.Faults.{Rose}
@@ -12,7 +13,8 @@ use Rattle.ipb_outside.specs.Told.{AppendsPart}
 use Rattle.ipbus_program.specs.declared.session.Register.{Register}
 use Rattle.ipbus_program.specs.declared.session.Session.{Session}
 use Rattle.ipbus_program.specs.declared.answer.Refusal.{Refusal}
-use Rattle.ipbus_program.specs.declared.answer.TheConstants.{DONE, REFUSED, WRITE_FAULT, MAX_LISTED}
+use Rattle.ipbus_program.specs.declared.answer.TheConstants.{MAX_LISTED}
+use Rattle.ipbus_program.specs.Numbers.{done_status, refused_status, write_fault_status}
 use Rattle.ipbus_program.specs.Text.{refusal_text}
 use Rattle.ipbus_program.specs.Owed.{IsAccepted, Deserves, IsTranscriptOf, Wrote}
 
@@ -43,11 +45,12 @@ pub record GivesValues (script : List Register) (reply : List ℕ) : Type 0 wher
 -- what bytes that were read to the end of an input are answered by
 abbrev pub AnswersBytes : List ℕ → ℕ → List ℕ → Type 0
 AnswersBytes bytes status text =
-    ((status ≡ DONE) × ((session : Session) × (IsAccepted bytes session × IsTranscriptOf session text)))
-    ⊎ ((status ≡ REFUSED) × ((refusal : Refusal) × (Deserves refusal bytes × (text ≡ refusal_text refusal))))
+    ((status ≡ done_status) × ((session : Session) × (IsAccepted bytes session × IsTranscriptOf session text)))
+    ⊎ ((status ≡ refused_status) × ((refusal : Refusal) × (Deserves refusal bytes × (text ≡ refusal_text refusal))))
 
--- The text was written whole and its status answered, or the output met a fault, a part of the text was written, and the status
--- says so. `old` and `new` are what the output was given, `before` and `now` its counts of faults.
+-- The text was written whole and its status answered, or the output met a fault, a part of the text was written, and
+-- the status says so. `old` and `new` are what the output was given, `before` and `now` its counts of faults.
 abbrev pub Delivers : ℕ → List ℕ → Option (List ℕ) → Option (List ℕ) → ℕ → ℕ → ℕ → Type 0
 Delivers status text old new before now result =
-    ((result ≡ status) × Wrote old new text) ⊎ ((result ≡ WRITE_FAULT) × (Rose before now × AppendsPart old new text))
+    ((result ≡ status) × Wrote old new text)
+    ⊎ ((result ≡ write_fault_status) × (Rose before now × AppendsPart old new text))

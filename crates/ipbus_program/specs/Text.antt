@@ -7,7 +7,8 @@ use Rattle.ipbus_program.specs.declared.session.BoardSpec.{BoardSpec}
 use Rattle.ipbus_program.specs.Plan.{opening_values}
 use Rattle.ipbus_program.specs.declared.answer.Refusal.{Refusal}
 use Rattle.ipbus_program.specs.declared.answer.Refusal.TheVariants.{TooLong, NotToml, NotBuilt}
-use Rattle.ipbus_program.specs.Transcript.{OpResult, Values, Failed, Skipped, Garbled, OpLine, op_lines, BoardLine, Transcript}
+use Rattle.ipbus_program.specs.Transcript.{OpResult, Values, Failed, Skipped, Garbled, OpLine, op_lines, BoardLine}
+use Rattle.ipbus_program.specs.Transcript.{Transcript}
 
 -- eight lower-case hexadecimal digits
 abbrev pub hex_text : ℕ → List ℕ
@@ -28,13 +29,15 @@ result_text Garbled = codes "garbled"
 
 abbrev pub op_text : OpLine → List ℕ
 op_text line =
-    decimal line.number ++ (codes " read " ++ (line.board ++ (codes ":" ++ (line.register ++ (codes " " ++ (result_text line.result
-    ++ (codes " @" ++ (decimal line.place ++ (codes "." ++ (decimal line.transaction ++ codes "\n"))))))))))
+    decimal line.number ++ (codes " read " ++ (line.board ++ (codes ":" ++ (line.register ++ (codes " "
+    ++ (result_text line.result ++ (codes " @" ++ (decimal line.place ++ (codes "."
+    ++ (decimal line.transaction ++ codes "\n"))))))))))
 
 abbrev pub board_text : BoardLine → List ℕ
 board_text line =
-    codes "board " ++ (line.name ++ (codes " places " ++ (decimal line.places ++ (codes " replied " ++ (decimal line.replied
-    ++ (codes " timeout " ++ (decimal line.timed_out ++ (codes " lost " ++ (decimal line.lost ++ codes "\n")))))))))
+    codes "board " ++ (line.name ++ (codes " places " ++ (decimal line.places
+    ++ (codes " replied " ++ (decimal line.replied ++ (codes " timeout " ++ (decimal line.timed_out
+    ++ (codes " lost " ++ (decimal line.lost ++ codes "\n")))))))))
 
 -- a client's heading, and its lines
 abbrev pub client_heading : ℕ → List ℕ
@@ -60,7 +63,8 @@ one_body_text board script words =
 
 -- the lines, from a number on, of a script whose board answers with its opening words, and their text
 abbrev pub value_lines : BoardSpec → ℕ → ℕ → List Register → List OpLine
-value_lines board place number script = op_lines board.name place number script (map (λ word. Values (word ∷ [])) (opening_values board script))
+value_lines board place number script =
+    op_lines board.name place number script (map (λ word. Values (word ∷ [])) (opening_values board script))
 
 abbrev pub lines_text : BoardSpec → ℕ → ℕ → List Register → List ℕ
 lines_text board place number script = flat_map op_text (value_lines board place number script)

@@ -1,6 +1,9 @@
 //! What the program answers: its statuses, the refusals of the input, and the limits of a session document.
 
 ghost use Rattle.std.specs.Prelude.{◌≡◌};
+ghost use Rattle.ipbus_program.specs.Text.{refusal_name};
+
+use std::fmt;
 
 /// Done whole: every line of an operation is a value.
 pub const DONE: u8 = 0;
@@ -31,4 +34,23 @@ pub enum Refusal {
     NotToml,
     /// It is TOML, and not a document that this program runs yet.
     NotBuilt,
+}
+
+impl Refusal {
+    /// The name that the line of the refusal shows.
+    pub fn name(self) -> &'static str
+        ensures { result.now ≡ refusal_name self }
+    {
+        match self {
+            Refusal::TooLong => "TooLong",
+            Refusal::NotToml => "NotToml",
+            Refusal::NotBuilt => "NotBuilt",
+        }
+    }
+}
+
+impl fmt::Display for Refusal {
+    fn fmt<W: fmt::Write>(&self, f: &mut fmt::Formatter<W>) -> fmt::Result {
+        write!(f, "{}", self.name())
+    }
 }

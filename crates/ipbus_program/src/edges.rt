@@ -1,7 +1,7 @@
-//! The program's outside: a reader as a source, a writer as a sink. Neither tells its bytes to `control`, since a reader may
-//! tell nothing and then something; what the reader and the writer tell is handed on by their own clauses.
+//! The program's outside: a reader as a source, a writer as a sink. Neither tells its bytes to `control`, since a
+//! reader may tell nothing and then something; what the reader and the writer tell is handed on by their own clauses.
 
-ghost use Rattle.std.specs.Prelude.{◌≡◌, ◌<◌, ◌≤◌, false, true, Ok, None, IfOk, length};
+ghost use Rattle.std.specs.Prelude.{◌≡◌, ◌<◌, ◌≤◌, false, true, Ok, None, IfOk, OnOk, length};
 ghost use Rattle.std.specs.Io.KnownBytes.{IsAtEnd, ReadConsumes, WriteAppends};
 ghost use Rattle.ipb_base.specs.Faults.{HasCause};
 ghost use Rattle.ipb_outside.specs.Told.{Reads, Writes};
@@ -10,8 +10,8 @@ use ipb_outside::{Failed, Sink, Source};
 use std::io::{Read, Write};
 use std::marker::Model;
 
-/// A reader, as standard input. It counts the errors that it meets, in 64 bits. Contracts see the bytes that the reader has
-/// left, where it tells them, and the count.
+/// A reader, as standard input. It counts the errors that it meets, in 64 bits. Contracts see the bytes that the reader
+/// has left, where it tells them, and the count.
 #[derive(Drop)]
 pub struct ReaderSource<R: Read + Drop> {
     reader: R,
@@ -46,6 +46,7 @@ impl<R: Read + Drop> Source for ReaderSource<R> {
         ensures taken { Reads None None result buf.new }
         ensures at_end { result ≡ Ok 0 → 0 < length buf.new → IsAtEnd None }
         ensures cause { HasCause self.old.1 self.new.1 result }
+        ensures unfaulted { OnOk result (self.new.1 ≡ self.old.1) }
         ensures handed_on { ReadConsumes self.old.0 self.new.0 result buf.new }
     {
         match self.reader.read(buf) {
@@ -58,8 +59,9 @@ impl<R: Read + Drop> Source for ReaderSource<R> {
     }
 }
 
-/// A writer, as standard output. It counts the errors that it meets, and the writes that took nothing of a piece that is
-/// not empty, in 64 bits. Contracts see what the writer was given, where it tells that, the count, and whether it was ended.
+/// A writer, as standard output. It counts the errors that it meets, and the writes that took nothing of a piece that
+/// is not empty, in 64 bits. Contracts see what the writer was given, where it tells that, the count, and whether it
+/// was ended.
 #[derive(Drop)]
 pub struct WriterSink<W: Write + Drop> {
     writer: W,
@@ -95,13 +97,14 @@ impl<W: Write + Drop> Sink for WriterSink<W> {
 
     ghost ended = { λ sink. sink.2 };
 
-    /// One write of the writer, of the same bytes. An error of the writer, of any kind, and a write that took nothing of
-    /// bytes that are there are `Failed` and are counted.
+    /// One write of the writer, of the same bytes. An error of the writer, of any kind, and a write that took nothing
+    /// of bytes that are there are `Failed` and are counted.
     fn write(&mut self, bytes: &[u8]) -> Result<usize, Failed>
         ensures within { IfOk result (λ count. count ≤ length bytes.now) }
         ensures goes_on { IfOk result (λ count. 0 < length bytes.now → 0 < count) }
         ensures appended { Writes None None result bytes.now }
         ensures cause { HasCause self.old.1 self.new.1 result }
+        ensures unfaulted { OnOk result (self.new.1 ≡ self.old.1) }
         ensures ended_kept { self.new.2 ≡ self.old.2 }
         ensures handed_on { WriteAppends self.old.0 self.new.0 result bytes.now }
     {

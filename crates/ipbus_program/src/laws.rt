@@ -1,12 +1,19 @@
 //! Laws of the definitions. These functions do nothing when they run: their clauses are what is proved.
 
-ghost use Rattle.std.specs.Prelude.{◌≡◌, ◌≤◌, ◌+◌, ◌*◌, ◌↔◌, ◌⊎◌, ℕ, List, [], ◌∷◌, ◌++◌, length, map, replicate, Option, Some, None, String};
+ghost use Rattle.std.specs.Prelude.{◌≡◌, ◌≤◌, ◌+◌, ◌*◌, ◌↔◌, ◌⊎◌, ℕ, List, [], ◌∷◌, ◌++◌, length, map, replicate};
+ghost use Rattle.std.specs.Prelude.{Option, Some, None, String};
 ghost use Rattle.std.specs.declared.alloc.Global.{Global};
 ghost use Rattle.toml.specs.Data.{Members};
+ghost use Rattle.ipb_base.specs.Numbers.{payload_of};
 ghost use Rattle.board_bus.specs.Bodies.{run_body};
 ghost use Rattle.ipbus_program.specs.declared.session.Register.{Register};
 ghost use Rattle.ipbus_program.specs.declared.session.BoardSpec.{BoardSpec};
 ghost use Rattle.ipbus_program.specs.declared.session.Session.{Session};
+ghost use Rattle.ipbus_program.specs.declared.answer.TheConstants.{DONE, USAGE, REFUSED, READ_FAULT, WRITE_FAULT};
+ghost use Rattle.ipbus_program.specs.declared.answer.TheConstants.{NO_MEMORY, MAX_DOCUMENT, MAX_LISTED, MAX_RANGE};
+ghost use Rattle.ipbus_program.specs.Numbers.{done_status, usage_status, refused_status, read_fault_status};
+ghost use Rattle.ipbus_program.specs.Numbers.{write_fault_status, no_memory_status};
+ghost use Rattle.ipbus_program.specs.Numbers.{document_bytes, listed_items, range_addresses};
 ghost use Rattle.ipbus_program.specs.Document.{CanRun};
 ghost use Rattle.ipbus_program.specs.Plan.{opening_word, opening_values, script_body, session_bus};
 ghost use Rattle.ipbus_program.specs.Transcript.{Values};
@@ -15,6 +22,21 @@ ghost use Rattle.ipbus_program.specs.Reading.{session_of};
 ghost use Rattle.ipbus_program.specs.declared.answer.Refusal.{Refusal};
 ghost use Rattle.ipbus_program.specs.FirstForm.{IsFirstForm};
 ghost use Rattle.ipbus_program.specs.Owed.{IsAccepted, Deserves, IsTranscriptOf, Owes};
+
+use crate::below::laws_below;
+
+/// The numbers that a user sees are those of the definitions.
+pub fn the_numbers_of_the_program()
+    ensures done { DONE ≡ done_status }
+    ensures usage { USAGE ≡ usage_status }
+    ensures refused { REFUSED ≡ refused_status }
+    ensures read_fault { READ_FAULT ≡ read_fault_status }
+    ensures write_fault { WRITE_FAULT ≡ write_fault_status }
+    ensures no_memory { NO_MEMORY ≡ no_memory_status }
+    ensures document { MAX_DOCUMENT ≡ document_bytes }
+    ensures listed { MAX_LISTED ≡ listed_items }
+    ensures range { MAX_RANGE ≡ range_addresses }
+{}
 
 /// What reading a parsed document gives is what the form says, both ways. So a document of the form has one session.
 pub fn reading_is_the_form()
@@ -41,9 +63,12 @@ pub fn bytes_have_one_answer()
 
 /// To words and to an input that tells its bytes just one status and one text are owed, however far it was read.
 pub fn one_text_is_owed()
-    ensures { (words : List (String Global)) (bytes : List ℕ) (now later : Option (List ℕ)) (s t : ℕ) (text other : List ℕ)
+    ensures { (words : List (String Global)) (bytes : List ℕ) (now later : Option (List ℕ)) (s t : ℕ)
+        (text other : List ℕ)
         → Owes words (Some bytes) now s text → Owes words (Some bytes) later t other → (s ≡ t) × (text ≡ other) }
-{}
+{
+    laws_below();
+}
 
 /// A session has one transcript: its lines show, in order, the words that its board opens with at the registers read.
 pub fn one_transcript()
@@ -54,14 +79,17 @@ pub fn one_transcript()
         → IsTranscriptOf session
         (one_body_text session.board.name session.script (opening_values session.board session.script)) }
     ensures form { (document : Members) (session : Session) → IsFirstForm document session → CanRun session }
-{}
+{
+    laws_below();
+}
 
 /// The lines of a script are those of its parts, one after the other, and two reads of one address show the same word.
 pub fn lines_follow_one_another()
     ensures parts { (board : BoardSpec) (place number : ℕ) (script more : List Register)
         → lines_text board place number (script ++ more)
         ≡ lines_text board place number script ++ lines_text board place (number + length script) more }
-    ensures same_word { (board : BoardSpec) (place number : ℕ) (first second : Register) → first.address ≡ second.address
+    ensures same_word { (board : BoardSpec) (place number : ℕ) (first second : Register)
+        → first.address ≡ second.address
         → map (λ line. line.result) (value_lines board place number (first ∷ second ∷ []))
         ≡ replicate 2 (Values (opening_word board first.address ∷ [])) }
 {}
@@ -70,15 +98,19 @@ pub fn lines_follow_one_another()
 pub fn reads_leave_the_board()
     ensures { (session : Session) → CanRun session
         → (run_body (session_bus session) (script_body session.script)).cells ≡ session_bus session }
-{}
+{
+    laws_below();
+}
 
-/// The body of a script and the reply to it have two words for each line. With its header each fits a packet of 368 words, the
-/// most that an MTU of 1500 bytes leaves.
+/// The body of a script and the reply to it have two words for each line. With its header each fits a packet where the
+/// MTU is 1500 bytes.
 pub fn bodies_fit_a_packet()
     ensures body { (script : List Register) → length (script_body script) ≡ 2 * length script }
     ensures reply { (session : Session) → CanRun session
         → length (run_body (session_bus session) (script_body session.script)).reply ≡ 2 * length session.script }
     ensures fits { (session : Session) → CanRun session
-        → (length (script_body session.script) + 1 ≤ 368)
-        × (length (run_body (session_bus session) (script_body session.script)).reply + 1 ≤ 368) }
-{}
+        → (length (script_body session.script) + 1 ≤ payload_of 1500)
+        × (length (run_body (session_bus session) (script_body session.script)).reply + 1 ≤ payload_of 1500) }
+{
+    laws_below();
+}

@@ -3,15 +3,16 @@
 #![tactic(auto)]
 
 mod answer;
+mod below;
 mod document;
 mod edges;
+pub mod examples;
 mod exchange;
 pub mod laws;
 mod program;
 mod run;
 mod session;
 mod text;
-pub mod worked;
 
 pub use answer::{
     DONE, MAX_DOCUMENT, MAX_LISTED, MAX_RANGE, NO_MEMORY, READ_FAULT, REFUSED, Refusal, USAGE,

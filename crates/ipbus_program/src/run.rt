@@ -16,6 +16,7 @@ ghost use Rattle.ipbus_program.specs.Text.{one_body_text};
 ghost use Rattle.ipbus_program.specs.Plan.{script_requests, script_body};
 ghost use Rattle.ipbus_program.specs.Steps.{word_replies, HaveWords, GiveWords, GivesValues};
 
+use crate::below::laws_below;
 use crate::exchange::exchange;
 use crate::session::{BoardSpec, Register, Session};
 use crate::text::{board_line, client_lines};
@@ -34,7 +35,8 @@ fn open(alloc: Global, size: u32, init: Words) -> Result<Bus, NoMemory>
     requires not_empty { 1 ≤ size }
     requires not_large { size ≤ MAX_RANGE }
     requires fits { length init ≤ size }
-    ensures { IfOk result (λ bus. bus ≡ opening_bus (record { base = 0; size = size; kind = Writable; init = init } ∷ [])) }
+    ensures { IfOk result (λ bus.
+        bus ≡ opening_bus (record { base = 0; size = size; kind = Writable; init = init } ∷ [])) }
 {
     let range = Range {
         base: 0,
@@ -82,7 +84,8 @@ fn words_of(alloc: Global, replies: &[Reply]) -> Result<Vec<u32>, NoMemory>
 /// The values of a reply that has one for each line of the script.
 fn values(alloc: Global, reply: &[u32]) -> Result<Vec<u32>, NoMemory>
     requires { (script : List RegisterValue) × GivesValues script reply.now }
-    ensures { (words : List ℕ) → AreWords words → length words ≤ MAX_LISTED → reply.now ≡ replies_words (word_replies 0 words)
+    ensures { (words : List ℕ) → AreWords words → length words ≤ MAX_LISTED
+        → reply.now ≡ replies_words (word_replies 0 words)
         → IfOk result (λ values. values.items ≡ words) }
 {
     match read_replies(alloc, reply) {
@@ -97,6 +100,7 @@ pub fn run(alloc: Global, session: Session) -> Result<String, NoMemory>
     requires { CanRun session }
     ensures { IfOk result (λ text. IsTranscriptOf session (string_bytes text)) }
 {
+    laws_below();
     let Session { board, script } = session;
     let BoardSpec { name, size, init } = board;
     let script = script.as_slice();
@@ -115,7 +119,8 @@ fn transcript(
 ) -> Result<String, NoMemory>
     requires few { length script.now ≤ MAX_LISTED }
     requires values { GivesValues script.now reply.now }
-    ensures { (words : List ℕ) → AreWords words → length words ≤ MAX_LISTED → reply.now ≡ replies_words (word_replies 0 words)
+    ensures { (words : List ℕ) → AreWords words → length words ≤ MAX_LISTED
+        → reply.now ≡ replies_words (word_replies 0 words)
         → IfOk result (λ text. string_bytes text ≡ one_body_text board.now script.now words) }
 {
     let words = values(alloc, reply)?;
@@ -132,6 +137,7 @@ fn ask(alloc: Global, bus: &mut Bus, script: &[Register]) -> Result<Words, NoMem
     requires answered { (words : List ℕ) × (length words ≡ length script.now) × GiveWords bus.old script.now words }
     ensures { IfOk result (λ reply. reply ≡ (run_body bus.old (script_body script.now)).reply) }
 {
+    laws_below();
     let requests = requests(alloc, script)?;
     let body = write_requests(alloc, &requests)?;
     let answer = exchange(alloc, bus, FIRST_ID, Words::from_vec(body))?;

@@ -2,9 +2,20 @@ ghost use Rattle.std.specs.Prelude.{◌≡◌, ◌≢◌, ℕ, ◌*◌, ◌^◌,
 ghost use Rattle.std.specs.Int.{w32, bit_not};
 ghost use Rattle.masked_fields.specs.Field.{IsShift, shift, field, shifted, FitsMask, put_field};
 
+use std::error::Error;
+use std::fmt;
+
 /// A value has a bit outside the mask that it is to be written under.
 #[derive(Clone, Copy, Debug, PartialEq, Eq)]
 pub struct BitsOutside;
+
+impl fmt::Display for BitsOutside {
+    fn fmt<W: fmt::Write>(&self, f: &mut fmt::Formatter<W>) -> fmt::Result {
+        write!(f, "the value has a bit outside the mask")
+    }
+}
+
+impl Error for BitsOutside {}
 
 /// How far a field under this mask stands above bit 0 (uHAL): the greatest number `z` such that 2^z divides the mask,
 /// 0 to 31.

@@ -14,7 +14,8 @@ pub fn a_field_gives_back_what_was_put()
     ensures inside { (word mask value : ℕ) → 0 < mask → mask < 2 ^ 32 → word < 2 ^ 32
         → FitsMask mask value → field (put_field word mask value) mask ≡ value }
     ensures outside { (word mask value : ℕ) → 0 < mask → mask < 2 ^ 32 → word < 2 ^ 32
-        → FitsMask mask value → bit_and (put_field word mask value) (bit_not w32 mask) ≡ bit_and word (bit_not w32 mask) }
+        → FitsMask mask value
+        → bit_and (put_field word mask value) (bit_not w32 mask) ≡ bit_and word (bit_not w32 mask) }
     ensures word { (word mask value : ℕ) → 0 < mask → mask < 2 ^ 32 → word < 2 ^ 32
         → FitsMask mask value → put_field word mask value < 2 ^ 32 }
 {}

@@ -1,5 +1,6 @@
 -- The pieces of an operation ask for the accesses of the operation.
-use Rattle.std.proofs.Common.{◌≡◌, ℕ, zero, suc, ◌+◌, ◌-◌, ◌*◌, ◌≤◌, ◌++◌, List, [], ◌∷◌, length, map, min, take, drop, replicate, refl, sym, ap, ◌∙◌, inl, inr, arith, append-nil, length-take, length-drop}
+use Rattle.std.proofs.Common.{◌≡◌, ℕ, zero, suc, ◌+◌, ◌-◌, ◌*◌, ◌≤◌, ◌++◌, List, [], ◌∷◌, length, map, min, take, drop}
+use Rattle.std.proofs.Common.{replicate, refl, sym, ap, ◌∙◌, inl, inr, arith, append-nil, length-take, length-drop}
 use Rattle.std.specs.Int.{div_ceil}
 use Rattle.std.specs.List.{flat_map, range_with_len, zip}
 use Rattle.std.proofs.lemmas.Bool.{cases_lt}
@@ -41,7 +42,8 @@ reads_of_port base (suc count) =
     let same : base ≡ base + 0 = omega arith in
     ap (λ rest. reads base ∷ rest) (reads_of_port base count ∙ ap (λ b. reads_from 0 b count) same)
 
-writes_of_block : (base : ℕ) (words : List ℕ) → map (λ at. writes at.0 at.1) (zip (range_with_len base (length words)) words) ≡ writes_from 1 base words
+writes_of_block : (base : ℕ) (words : List ℕ) → map (λ at. writes at.0 at.1) (zip (range_with_len base (length words))
+    words) ≡ writes_from 1 base words
 writes_of_block base [] = refl
 writes_of_block base (word ∷ words) = ap (λ rest. writes base word ∷ rest) (writes_of_block (base + 1) words)
 
@@ -61,64 +63,85 @@ accesses_are (RmwSum base addend) = refl
 
 all_accesses_are : (ops : List Op) → flat_map accesses ops ≡ flat_map walk ops
 all_accesses_are [] = refl
-all_accesses_are (op ∷ ops) = ap (λ front. front ++ flat_map accesses ops) (accesses_are op) ∙ ap (λ back. walk op ++ back) (all_accesses_are ops)
+all_accesses_are (op ∷ ops) = ap (λ front. front ++ flat_map accesses ops) (accesses_are op)
+    ∙ ap (λ back. walk op ++ back) (all_accesses_are ops)
 
-reads_from-add : (step base m n : ℕ) → reads_from step base (m + n) ≡ reads_from step base m ++ reads_from step (base + m * step) n
-reads_from-add step base zero n = let none : 0 + n ≡ n = omega arith in let same : base ≡ base + 0 * step = omega arith in ap (reads_from step base) none ∙ ap (λ b. reads_from step b n) same
+reads_from-add : (step base m n : ℕ) → reads_from step base (m + n) ≡ reads_from step base m ++ reads_from step
+    (base + m * step) n
+reads_from-add step base zero n = let none : 0 + n ≡ n = omega arith in let same : base ≡ base + 0 * step =
+    omega arith in ap (reads_from step base) none ∙ ap (λ b. reads_from step b n) same
 reads_from-add step base (suc m) n =
     let one : suc m + n ≡ suc (m + n) = omega arith in
     let same : base + step + m * step ≡ base + suc m * step = omega arith in
-    ap (reads_from step base) one ∙ ap (λ rest. reads base ∷ rest) (reads_from-add step (base + step) m n ∙ ap (λ b. reads_from step (base + step) m ++ reads_from step b n) same)
+    ap (reads_from step base) one ∙ ap (λ rest. reads base ∷ rest) (reads_from-add step (base + step) m n
+    ∙ ap (λ b. reads_from step (base + step) m ++ reads_from step b n) same)
 
-writes_from-append : (step base : ℕ) (words more : List ℕ) → writes_from step base (words ++ more) ≡ writes_from step base words ++ writes_from step (base + length words * step) more
-writes_from-append step base [] more = let same : base ≡ base + 0 * step = omega arith in ap (λ b. writes_from step b more) same
+writes_from-append : (step base : ℕ) (words more : List ℕ) → writes_from step base (words ++ more) ≡ writes_from step
+    base words ++ writes_from step (base + length words * step) more
+writes_from-append step base [] more = let same : base ≡ base + 0 * step = omega arith in
+    ap (λ b. writes_from step b more) same
 writes_from-append step base (word ∷ words) more =
     let same : base + step + length words * step ≡ base + length (word ∷ words) * step = omega arith in
-    ap (λ rest. writes base word ∷ rest) (writes_from-append step (base + step) words more ∙ ap (λ b. writes_from step (base + step) words ++ writes_from step b more) same)
+    ap (λ rest. writes base word ∷ rest) (writes_from-append step (base + step) words more
+    ∙ ap (λ b. writes_from step (base + step) words ++ writes_from step b more) same)
 
-reads_more : (step base limit count k : ℕ) → reads_from step base (min (k * limit) count) ++ reads_from step (base + k * limit * step) (min limit (count - k * limit)) ≡ reads_from step base (min ((k + 1) * limit) count)
+reads_more : (step base limit count k : ℕ) → reads_from step base (min (k * limit) count) ++ reads_from step
+    (base + k * limit * step) (min limit (count - k * limit)) ≡ reads_from step base (min ((k + 1) * limit) count)
 reads_more step base limit count k = elim (cases_lt (k * limit) count) [
   | inl less ↦
       let n = min limit (count - k * limit) in
       let before : min (k * limit) count ≡ k * limit = omega arith in
       let after : k * limit + n ≡ min ((k + 1) * limit) count = omega arith in
-      ap (λ m. reads_from step base m ++ reads_from step (base + k * limit * step) n) before ∙ sym (reads_from-add step base (k * limit) n) ∙ ap (reads_from step base) after
+      ap (λ m. reads_from step base m ++ reads_from step (base + k * limit * step) n) before
+      ∙ sym (reads_from-add step base (k * limit) n) ∙ ap (reads_from step base) after
   | inr past ↦
       let none : min limit (count - k * limit) ≡ 0 = omega arith in
       let same : min (k * limit) count ≡ min ((k + 1) * limit) count = omega arith in
-      ap (λ n. reads_from step base (min (k * limit) count) ++ reads_from step (base + k * limit * step) n) none ∙ append-nil (reads_from step base (min (k * limit) count)) ∙ ap (reads_from step base) same
+      ap (λ n. reads_from step base (min (k * limit) count) ++ reads_from step (base + k * limit * step) n) none
+      ∙ append-nil (reads_from step base (min (k * limit) count)) ∙ ap (reads_from step base) same
 ]
 
 take-min : (n : ℕ) (words : List ℕ) → take (min n (length words)) words ≡ take n words
 take-min n words = elim (cases_lt n (length words)) [
   | inl less ↦ let same : min n (length words) ≡ n = omega arith in ap (λ m. take m words) same
-  | inr past ↦ let same : min n (length words) ≡ length words = omega arith in ap (λ m. take m words) same ∙ take-length words ∙ sym (take_all n words past)
+  | inr past ↦ let same : min n (length words) ≡ length words = omega arith in
+      ap (λ m. take m words) same ∙ take-length words ∙ sym (take_all n words past)
 ]
 
 writes_more : (step base limit : ℕ) (words : List ℕ) (k : ℕ)
-    → writes_from step base (take (k * limit) words) ++ writes_from step (base + k * limit * step) (take (min limit (length words - k * limit)) (drop (k * limit) words)) ≡ writes_from step base (take ((k + 1) * limit) words)
+    → writes_from step base (take (k * limit) words) ++ writes_from step (base + k * limit * step)
+    (take (min limit (length words - k * limit)) (drop (k * limit) words)) ≡ writes_from step base
+    (take ((k + 1) * limit) words)
 writes_more step base limit words k =
     let n = k * limit in
     let front = take n words in
     let rest = take limit (drop n words) in
-    let left : min limit (length words - n) ≡ min limit (length (drop n words)) = ap (min limit) (sym (length-drop n words)) in
-    let cut_same : take (min limit (length words - n)) (drop n words) ≡ rest = ap (λ m. take m (drop n words)) left ∙ take-min limit (drop n words) in
+    let left : min limit (length words - n) ≡ min limit (length (drop n words)) =
+    ap (min limit) (sym (length-drop n words)) in
+    let cut_same : take (min limit (length words - n)) (drop n words) ≡ rest = ap (λ m. take m (drop n words)) left
+    ∙ take-min limit (drop n words) in
     let after : n + limit ≡ (k + 1) * limit = omega arith in
-    let whole : writes_from step base (front ++ rest) ≡ writes_from step base (take ((k + 1) * limit) words) = ap (writes_from step base) (sym (take-add n limit words) ∙ ap (λ m. take m words) after) in
+    let whole : writes_from step base (front ++ rest) ≡ writes_from step base (take ((k + 1) * limit) words) =
+    ap (writes_from step base) (sym (take-add n limit words) ∙ ap (λ m. take m words) after) in
     ap (λ ws. writes_from step base front ++ writes_from step (base + n * step) ws) cut_same
     ∙ elim (cases_lt n (length words)) [
       | inl less ↦
           let long : length front ≡ n = omega (arith, length-take n words) in
-          ap (λ m. writes_from step base front ++ writes_from step (base + m * step) rest) (sym long) ∙ sym (writes_from-append step base front rest) ∙ whole
+          ap (λ m. writes_from step base front ++ writes_from step (base + m * step) rest) (sym long)
+          ∙ sym (writes_from-append step base front rest) ∙ whole
       | inr past ↦
           let none : rest ≡ [] = ap (take limit) (drop_all n words past) ∙ take_all limit [] (omega arith) in
-          ap (λ ws. writes_from step base front ++ writes_from step (base + n * step) ws) none ∙ append-nil (writes_from step base front)
-          ∙ sym (ap (λ ws. writes_from step base (front ++ ws)) none ∙ ap (writes_from step base) (append-nil front)) ∙ whole
+          ap (λ ws. writes_from step base front ++ writes_from step (base + n * step) ws) none
+          ∙ append-nil (writes_from step base front)
+          ∙ sym (ap (λ ws. writes_from step base (front ++ ws)) none ∙ ap (writes_from step base) (append-nil front))
+          ∙ whole
     ]
 
-reads_front : (step base limit count : ℕ) (part : ℕ → Op) → ((k : ℕ) → walk (part k) ≡ reads_from step (base + k * limit * step) (min limit (count - k * limit)))
+reads_front : (step base limit count : ℕ) (part : ℕ → Op)
+    → ((k : ℕ) → walk (part k) ≡ reads_from step (base + k * limit * step) (min limit (count - k * limit)))
     → (k : ℕ) → flat_map walk (map part (range_with_len 0 k)) ≡ reads_from step base (min (k * limit) count)
-reads_front step base limit count part same zero = let none : 0 ≡ min (0 * limit) count = omega arith in ap (reads_from step base) none
+reads_front step base limit count part same zero = let none : 0 ≡ min (0 * limit) count = omega arith in
+    ap (reads_from step base) none
 reads_front step base limit count part same (suc k) =
     let one : suc k ≡ k + 1 = omega arith in
     ap (λ n. flat_map walk (map part (range_with_len 0 n))) one
@@ -129,9 +152,12 @@ reads_front step base limit count part same (suc k) =
     ∙ reads_more step base limit count k
     ∙ ap (λ n. reads_from step base (min (n * limit) count)) (sym one)
 
-writes_front : (step base limit : ℕ) (words : List ℕ) (part : ℕ → Op) → ((k : ℕ) → walk (part k) ≡ writes_from step (base + k * limit * step) (take (min limit (length words - k * limit)) (drop (k * limit) words)))
+writes_front : (step base limit : ℕ) (words : List ℕ) (part : ℕ → Op)
+    → ((k : ℕ) → walk (part k) ≡ writes_from step (base + k * limit * step)
+    (take (min limit (length words - k * limit)) (drop (k * limit) words)))
     → (k : ℕ) → flat_map walk (map part (range_with_len 0 k)) ≡ writes_from step base (take (k * limit) words)
-writes_front step base limit words part same zero = let none : 0 ≡ 0 * limit = omega arith in ap (λ n. writes_from step base (take n words)) none
+writes_front step base limit words part same zero = let none : 0 ≡ 0 * limit = omega arith in
+    ap (λ n. writes_from step base (take n words)) none
 writes_front step base limit words part same (suc k) =
     let one : suc k ≡ k + 1 = omega arith in
     ap (λ n. flat_map walk (map part (range_with_len 0 n))) one
@@ -146,16 +172,20 @@ writes_front step base limit words part same (suc k) =
 reaches_end : (count limit : ℕ) → 1 ≤ limit → min (div_ceil count limit * limit) count ≡ count
 reaches_end count limit some = let bounds = div_ceil_times count limit some in omega (arith, bounds.0)
 
-all_reads : (step base limit count : ℕ) (part : ℕ → Op) → 1 ≤ limit → ((k : ℕ) → walk (part k) ≡ reads_from step (base + k * limit * step) (min limit (count - k * limit)))
+all_reads : (step base limit count : ℕ) (part : ℕ → Op) → 1 ≤ limit
+    → ((k : ℕ) → walk (part k) ≡ reads_from step (base + k * limit * step) (min limit (count - k * limit)))
     → flat_map walk (map part (range_with_len 0 (div_ceil count limit))) ≡ reads_from step base count
-all_reads step base limit count part some same = reads_front step base limit count part same (div_ceil count limit) ∙ ap (reads_from step base) (reaches_end count limit some)
+all_reads step base limit count part some same = reads_front step base limit count part same (div_ceil count limit)
+    ∙ ap (reads_from step base) (reaches_end count limit some)
 
 all_writes : (step base limit : ℕ) (words : List ℕ) (part : ℕ → Op) → 1 ≤ limit
-    → ((k : ℕ) → walk (part k) ≡ writes_from step (base + k * limit * step) (take (min limit (length words - k * limit)) (drop (k * limit) words)))
+    → ((k : ℕ) → walk (part k) ≡ writes_from step (base + k * limit * step)
+    (take (min limit (length words - k * limit)) (drop (k * limit) words)))
     → flat_map walk (map part (range_with_len 0 (div_ceil (length words) limit))) ≡ writes_from step base words
 all_writes step base limit words part some same =
     let past : length words ≤ div_ceil (length words) limit * limit = (div_ceil_times (length words) limit some).0 in
-    writes_front step base limit words part same (div_ceil (length words) limit) ∙ ap (writes_from step base) (take_all (div_ceil (length words) limit * limit) words past)
+    writes_front step base limit words part same (div_ceil (length words) limit) ∙ ap (writes_from step base)
+    (take_all (div_ceil (length words) limit * limit) words past)
 
 goes_on : (base n : ℕ) → base + n ≡ base + n * 1
 goes_on base n = omega arith
@@ -165,17 +195,23 @@ stays base n = omega arith
 
 pieces_walk : (payload : ℕ) (op : Op) → 16 ≤ payload → flat_map walk (cut payload op) ≡ walk op
 pieces_walk payload (Read base count) low =
-    all_reads 1 base (min 255 (payload - 2)) count (piece payload (Read base count)) (omega arith) (λ k. ap (λ b. reads_from 1 b (min (min 255 (payload - 2)) (count - k * min 255 (payload - 2)))) (goes_on base (k * min 255 (payload - 2))))
+    all_reads 1 base (min 255 (payload - 2)) count (piece payload (Read base count)) (omega arith)
+    (λ k. ap (λ b. reads_from 1 b (min (min 255 (payload - 2)) (count - k * min 255 (payload - 2))))
+    (goes_on base (k * min 255 (payload - 2))))
 pieces_walk payload (ReadPort base count) low =
-    all_reads 0 base (min 255 (payload - 2)) count (piece payload (ReadPort base count)) (omega arith) (λ k. ap (λ b. reads_from 0 b (min (min 255 (payload - 2)) (count - k * min 255 (payload - 2)))) (stays base (k * min 255 (payload - 2))))
+    all_reads 0 base (min 255 (payload - 2)) count (piece payload (ReadPort base count)) (omega arith)
+    (λ k. ap (λ b. reads_from 0 b (min (min 255 (payload - 2)) (count - k * min 255 (payload - 2))))
+    (stays base (k * min 255 (payload - 2))))
 pieces_walk payload (Write base words) low =
     let limit = min 255 (payload - 2 - 1) in
     all_writes 1 base limit words (piece payload (Write base words)) (omega arith)
-    (λ k. ap (λ b. writes_from 1 b (take (min limit (length words - k * limit)) (drop (k * limit) words))) (goes_on base (k * limit)))
+    (λ k. ap (λ b. writes_from 1 b (take (min limit (length words - k * limit)) (drop (k * limit) words)))
+    (goes_on base (k * limit)))
 pieces_walk payload (WritePort base words) low =
     let limit = min 255 (payload - 2 - 1) in
     all_writes 0 base limit words (piece payload (WritePort base words)) (omega arith)
-    (λ k. ap (λ b. writes_from 0 b (take (min limit (length words - k * limit)) (drop (k * limit) words))) (stays base (k * limit)))
+    (λ k. ap (λ b. writes_from 0 b (take (min limit (length words - k * limit)) (drop (k * limit) words)))
+    (stays base (k * limit)))
 pieces_walk payload (RmwBits base and_term or_term) low = refl
 pieces_walk payload (RmwSum base addend) low = refl
 

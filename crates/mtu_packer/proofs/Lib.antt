@@ -5,5 +5,7 @@ pub mod Whole
 pub mod Finish
 pub mod Unique
 pub mod Asking
-pub mod Places
+pub mod PlaceLemmas
 pub mod Dealing
+pub mod Function
+pub mod Standing

@@ -1,5 +1,6 @@
 -- What is known of each piece.
-use Rattle.std.proofs.Common.{◌≡◌, ℕ, ◌+◌, ◌/◌, zero, suc, ◌≤◌, [], ◌∷◌, length, map, drop, arith, length-take, List, sum_by, length-append}
+use Rattle.std.proofs.Common.{◌≡◌, ℕ, ◌+◌, ◌/◌, zero, suc, ◌≤◌, [], ◌∷◌, length, map, drop, arith, length-take, List}
+use Rattle.std.proofs.Common.{sum_by, length-append}
 use Rattle.std.specs.Int.{div_ceil}
 use Rattle.std.specs.List.{AllByRecursion, flat_map, range_with_len}
 use Rattle.std.proofs.lemmas.List.Sums.{sum_by-append}
@@ -16,24 +17,51 @@ pub length-cut : (payload : ℕ) (op : Op) → length (cut payload op) ≡ piece
 length-cut payload op = length-map-range_with_len (piece payload op) 0 (piece_count payload op)
 
 -- a part of so few words fits an empty body
-part_fits : (payload : ℕ) (op : Op) (offset count : ℕ) → 16 ≤ payload → count ≤ piece_limit payload op → FitsAlone payload (part_of op offset count)
-part_fits payload (Read base all) offset count low few = record { count = omega arith; request = omega arith; reply = omega arith }
-part_fits payload (ReadPort base all) offset count low few = record { count = omega arith; request = omega arith; reply = omega arith }
+part_fits : (payload : ℕ) (op : Op) (offset count : ℕ) → 16 ≤ payload → count ≤ piece_limit payload op
+    → FitsAlone payload (part_of op offset count)
+part_fits payload (Read base all) offset count low few = record {
+  count = omega arith;
+  request = omega arith;
+  reply =
+      omega arith;
+}
+part_fits payload (ReadPort base all) offset count low few = record {
+  count = omega arith;
+  request =
+      omega arith;
+  reply = omega arith;
+}
 part_fits payload (Write base words) offset count low few =
     let short = length-take count (drop offset words) in
     record { count = omega (arith, short); request = omega (arith, short); reply = omega arith }
 part_fits payload (WritePort base words) offset count low few =
     let short = length-take count (drop offset words) in
     record { count = omega (arith, short); request = omega (arith, short); reply = omega arith }
-part_fits payload (RmwBits base and_term or_term) offset count low few = record { count = omega arith; request = omega arith; reply = omega arith }
-part_fits payload (RmwSum base addend) offset count low few = record { count = omega arith; request = omega arith; reply = omega arith }
+part_fits payload (RmwBits base and_term or_term) offset count low few = record {
+  count = omega arith;
+  request =
+      omega arith;
+  reply = omega arith;
+}
+part_fits payload (RmwSum base addend) offset count low few = record {
+  count = omega arith;
+  request =
+      omega arith;
+  reply = omega arith;
+}
 
 pub piece_fits : (payload : ℕ) (op : Op) (k : ℕ) → 16 ≤ payload → FitsAlone payload (piece payload op k)
-piece_fits payload op k low = part_fits payload op (piece_offset payload op k) (piece_length payload op k) low (omega arith)
+piece_fits payload op k low = part_fits payload op (piece_offset payload op k) (piece_length payload op k) low
+    (omega arith)
 
-pieces_fit : (payload : ℕ) (op : Op) (from count : ℕ) → 16 ≤ payload → AllByRecursion (FitsAlone payload) (map (piece payload op) (range_with_len from count))
+pieces_fit : (payload : ℕ) (op : Op) (from count : ℕ) → 16 ≤ payload → AllByRecursion (FitsAlone payload)
+    (map (piece payload op) (range_with_len from count))
 pieces_fit payload op from zero low = tt
-pieces_fit payload op from (suc count) low = (piece_fits payload op from low, pieces_fit payload op (from + 1) count low)
+pieces_fit payload op from (suc count) low = (
+  piece_fits payload op from low,
+  pieces_fit payload op (from + 1) count
+      low,
+)
 
 pub cut_fits : (payload : ℕ) (op : Op) → 16 ≤ payload → AllByRecursion (FitsAlone payload) (cut payload op)
 cut_fits payload op low = pieces_fit payload op 0 (piece_count payload op) low
@@ -56,4 +84,12 @@ piece_count-le payload op low = div_ceil-le (op_count op) (piece_limit payload o
 pub pieces-le : (payload : ℕ) (ops : List Op) → 16 ≤ payload → length (flat_map (cut payload) ops) ≤ sum_by op_count ops
 pieces-le payload [] low = omega arith
 pieces-le payload (op ∷ ops) low =
-    omega (arith, pieces-le payload ops low, piece_count-le payload op low, length-cut payload op, length-append (cut payload op) (flat_map (cut payload) ops), sum_by-append op_count (op ∷ []) ops)
+    omega (
+      arith,
+      pieces-le payload ops low,
+      piece_count-le payload op low,
+      length-cut payload op,
+      length-append
+          (cut payload op) (flat_map (cut payload) ops),
+      sum_by-append op_count (op ∷ []) ops,
+    )

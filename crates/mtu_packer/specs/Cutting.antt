@@ -1,5 +1,5 @@
--- How an operation is cut into pieces. Each piece is one transaction, and the packet that carries its request or its reply has
--- at most `payload` words, the packet header included. Profile.
+-- How an operation is cut into pieces. Each piece is one transaction, and the packet that carries its request or its
+-- reply has at most `payload` words, the packet header included. Profile.
 use Rattle.std.specs.Prelude.{ℕ, ◌+◌, ◌-◌, ◌*◌, ◌^◌, ◌≤◌, List, map, length, take, drop, min}
 use Rattle.std.specs.Int.{div_ceil}
 use Rattle.std.specs.List.{range_with_len}

@@ -1,11 +1,12 @@
 -- What packing answers: the bodies as words, and for each operation where its pieces stand. Profile.
-use Rattle.std.specs.Prelude.{◌≡◌, ℕ, ◌+◌, ◌≤◌, List, [], ◌∷◌, ◌++◌, map, length, Option, Some, option_and_then, slice_get}
+use Rattle.std.specs.Prelude.{◌≡◌, ℕ, ◌+◌, ◌≤◌, List, [], ◌∷◌, ◌++◌, map, length, take, drop}
+use Rattle.std.specs.Prelude.{Option, Some, option_and_then, slice_get}
 use Rattle.std.specs.List.{flat_map, range_with_len}
 use Rattle.transaction_codec.specs.declared.request.Op.{Op}
 use Rattle.transaction_codec.specs.Answer.{reply_room}
 use Rattle.mtu_packer.specs.declared.packed.Piece.{Piece}
-use Rattle.mtu_packer.specs.Cutting.{cut}
-use Rattle.mtu_packer.specs.Packing.{IsPacking, AreReadable, body_words}
+use Rattle.mtu_packer.specs.Cutting.{cut, piece_count}
+use Rattle.mtu_packer.specs.Packing.{IsPacking, AreReadable, body_words, parts_of}
 
 -- the places in one body of so many pieces
 abbrev pub places_in : ℕ → ℕ → List Piece
@@ -28,8 +29,8 @@ pub record Contents : Type 0 where
   pub bodies : List (List ℕ)
   pub pieces : List (List Piece)
 
--- The bodies are the words of a packing of the operations. At the places of each operation stand its own pieces, in order, and
--- the places are those of all pieces, in order.
+-- The bodies are the words of a packing of the operations. At the places of each operation stand its own pieces, in
+-- order, and the places are those of all pieces, in order.
 pub record IsPacked (ops : List Op) (payload : ℕ) (contents : Contents) : Type 0 where
   pub parts : List (List Op)
   pub packing : IsPacking ops payload parts
@@ -37,6 +38,19 @@ pub record IsPacked (ops : List Op) (payload : ℕ) (contents : Contents) : Type
   pub bodies : contents.bodies ≡ map body_words parts
   pub pieces : map (pieces_at parts) contents.pieces ≡ map (λ op. map Some (cut payload op)) ops
   pub places : flat_map (λ places. places) contents.pieces ≡ places_from 0 parts
+
+-- the next so many of a list for each count
+abbrev pub deal : {T : Type 0} → List ℕ → List T → List (List T)
+deal [] xs = []
+deal (count ∷ counts) xs = take count xs ∷ deal counts (drop count xs)
+
+-- what packing operations answers, as a function of the payload and the operations: each operation has the places of as
+-- many pieces as it is cut into
+abbrev pub packed : ℕ → List Op → Contents
+packed payload ops = record {
+  bodies = map body_words (parts_of payload ops);
+  pieces = deal (map (piece_count payload) ops) (places_from 0 (parts_of payload ops));
+}
 
 -- a body and the longest answer that a board can give to it fit packets of `payload` words, each with its packet header
 pub record FitsPackets (payload : ℕ) (body : List ℕ) : Type 0 where

@@ -1,6 +1,7 @@
--- How pieces are packed into the bodies of packets: each piece goes whole into the current body where the request and the
--- longest reply of that body stay within the payload, and else it begins the next body. Profile.
-use Rattle.std.specs.Prelude.{◌≡◌, ℕ, ◌+◌, ◌<◌, ◌≤◌, List, [], ◌∷◌, ◌++◌, length, take, sum_by}
+-- How pieces are packed into the bodies of packets: each piece goes whole into the current body where the request and
+-- the longest reply of that body stay within the payload, and else it begins the next body. Profile.
+use Rattle.std.specs.Prelude.{◌≡◌, ℕ, ◌+◌, ◌<◌, ◌≤◌, Bool, ◌&&◌, nat_lt, if◌then◌else◌}
+use Rattle.std.specs.Prelude.{List, [], ◌∷◌, ◌++◌, length, take, sum_by}
 use Rattle.std.specs.List.{AllByRecursion, flat_map}
 use Rattle.transaction_codec.specs.declared.request.Op.{Op}
 use Rattle.transaction_codec.specs.declared.request.Request.{Request}
@@ -41,6 +42,26 @@ pub record IsPacking (ops : List Op) (payload : ℕ) (parts : List (List Op)) : 
   pub filled : AllByRecursion (λ part. 0 < length part) parts
   pub fits : AllByRecursion (Fits payload) parts
   pub full : AreFull payload parts
+
+-- the part takes one piece more: the body and its longest reply fit packets of `payload` words then
+abbrev pub takes : ℕ → List Op → Op → Bool
+takes payload part op =
+    nat_lt (length (body_words (part ++ op ∷ []))) payload && nat_lt (longest_reply (part ++ op ∷ [])) payload
+
+-- pieces dealt out to bodies, of which the first has these already: it takes each next piece, and where it does not,
+-- the next body begins with that piece
+abbrev pub parts_from : ℕ → List Op → List Op → List (List Op)
+parts_from payload part [] = part ∷ []
+parts_from payload part (op ∷ ops) =
+    if takes payload part op then parts_from payload (part ++ op ∷ []) ops else part ∷ parts_from payload (op ∷ []) ops
+
+abbrev pub parts_in : ℕ → List Op → List (List Op)
+parts_in payload [] = []
+parts_in payload (op ∷ ops) = parts_from payload (op ∷ []) ops
+
+-- the bodies, each as the list of its pieces, into which operations are packed
+abbrev pub parts_of : ℕ → List Op → List (List Op)
+parts_of payload ops = parts_in payload (flat_map (cut payload) ops)
 
 -- every body has requests that a reader accepts: identifiers of 12 bits, counts of 8 and words of 32
 abbrev pub AreReadable : List (List Op) → Type 0

@@ -1,5 +1,6 @@
 -- The packer at work, piece by piece. No public clause speaks of it.
-use Rattle.std.specs.Prelude.{◌≡◌, ℕ, ◌+◌, ◌*◌, ◌^◌, ◌≤◌, Bool, ◌&&◌, ◌==◌, nat_le, if◌then◌else◌, min, List, [], ◌∷◌, ◌++◌, length, fold}
+use Rattle.std.specs.Prelude.{◌≡◌, ℕ, ◌+◌, ◌*◌, ◌^◌, ◌≤◌, Bool, ◌&&◌, ◌==◌, nat_le, if◌then◌else◌, min, List, [], ◌∷◌}
+use Rattle.std.specs.Prelude.{◌++◌, length, fold}
 use Rattle.std.specs.List.{AllByRecursion}
 use Rattle.ipb_base.specs.Word.{AreWords}
 use Rattle.transaction_codec.specs.declared.request.Op.{Op}
@@ -30,7 +31,13 @@ has_room progress op =
     && nat_le (progress.reply + values_done op + HEADERS) progress.payload
 
 abbrev pub close : Progress → Progress
-close progress = record progress { bodies = progress.bodies ++ progress.open_body ∷ []; open_body = []; requests = 0; reply = 0 }
+close progress = record progress {
+  bodies = progress.bodies ++ progress.open_body ∷ [];
+  open_body = [];
+  requests =
+      0;
+  reply = 0;
+}
 
 abbrev pub add : Progress → Op → Progress
 add progress op = record progress {
@@ -56,8 +63,8 @@ pub record FitsAlone (payload : ℕ) (op : Op) : Type 0 where
   pub request : length (op_words op) + HEADERS ≤ payload
   pub reply : values_done op + HEADERS ≤ payload
 
--- What holds of a packer at work: the open body and its reply are within the payload, a request has two words at least, and
--- every body has a piece.
+-- What holds of a packer at work: the open body and its reply are within the payload, a request has two words at
+-- least, and every body has a piece.
 pub record IsWithin (progress : Progress) : Type 0 where
   pub payload_low : MIN_PAYLOAD ≤ progress.payload
   pub payload_high : progress.payload ≤ MAX_PAYLOAD

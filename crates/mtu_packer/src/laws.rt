@@ -1,16 +1,66 @@
 //! Laws of the definitions. These functions do nothing when they run: their clauses are what is proved.
 
-ghost use Rattle.std.specs.Prelude.{◌≡◌, ℕ, ◌≤◌, List, [], ◌∷◌, length, map, sum_by, Some};
-ghost use Rattle.std.specs.List.{flat_map, range_with_len};
+ghost use Rattle.std.specs.Prelude.{◌≡◌, ◌↔◌, ℕ, ◌≤◌, List, [], ◌∷◌, length, map, sum_by, Some, slice_get};
+ghost use Rattle.std.specs.List.{AllByRecursion, flat_map, range_with_len};
+ghost use Rattle.ipb_base.specs.Numbers.{least_payload, greatest_payload};
 ghost use Rattle.transaction_codec.specs.declared.request.Op.{Op};
 ghost use Rattle.transaction_codec.specs.declared.request.Op.TheVariants.{Read, ReadPort, Write};
-ghost use Rattle.transaction_codec.specs.Request.{AreRequests, op_count};
+ghost use Rattle.transaction_codec.specs.declared.request.Request.{Request};
+ghost use Rattle.transaction_codec.specs.Request.{AreRequests, SpellsRequests, op_count, requests_words};
 ghost use Rattle.transaction_codec.specs.Answer.{IsLongestAnswer};
-ghost use Rattle.mtu_packer.specs.declared.packing.TheConstants.{MIN_PAYLOAD};
 ghost use Rattle.mtu_packer.specs.Accesses.{accesses};
 ghost use Rattle.mtu_packer.specs.Cutting.{cut};
-ghost use Rattle.mtu_packer.specs.Packing.{IsPacking, body_requests, body_words, longest_reply};
-ghost use Rattle.mtu_packer.specs.Packed.{Contents, IsPacked, piece_at, places_from};
+ghost use Rattle.mtu_packer.specs.Packing.{
+  AreReadable,
+  IsPacking,
+  body_requests,
+  body_words,
+  longest_reply,
+  parts_of,
+};
+ghost use Rattle.mtu_packer.specs.Packed.{Contents, IsPacked, packed, piece_at, places_from};
+ghost use Rattle.mtu_packer.specs.declared.packed.Piece.{Piece};
+
+use crate::cutting::{ADDRESS, HEADERS};
+use crate::packing::{MAX_PAYLOAD, MIN_PAYLOAD};
+use transaction_codec::laws::one_list_for_words;
+
+/// The payloads for which operations are packed, those of the least and the greatest MTU, and the words of a packet
+/// that are not words of a block.
+pub fn the_numbers_of_a_payload()
+    ensures least { MIN_PAYLOAD ≡ least_payload }
+    ensures greatest { MAX_PAYLOAD ≡ greatest_payload }
+    ensures headers { HEADERS ≡ 2 }
+    ensures address { ADDRESS ≡ 1 }
+{}
+
+/// The packing of operations is a function of the operations and the payload, and so is what packing them answers,
+/// where every body has requests that a reader accepts.
+pub fn packing_is_a_function()
+    ensures parts { (ops : List Op) (payload : ℕ) (parts : List (List Op)) → MIN_PAYLOAD ≤ payload →
+        (IsPacking ops payload parts ↔ (parts ≡ parts_of payload ops)) }
+    ensures contents { (ops : List Op) (payload : ℕ) (contents : Contents) → MIN_PAYLOAD ≤ payload →
+        (IsPacked ops payload contents ↔ (AreReadable (parts_of payload ops) × (contents ≡ packed payload ops))) }
+{}
+
+/// The bodies are words of requests alone.
+pub fn packed_bodies_spell_requests()
+    ensures { (ops : List Op) (payload : ℕ) (contents : Contents) → IsPacked ops payload contents →
+        AllByRecursion SpellsRequests contents.bodies }
+{}
+
+/// The request at the place of a piece asks for that piece, and its identifier is its place in the body: whatever
+/// requests the body spells, for piece j of operation k.
+pub fn the_request_at_a_place_is_the_piece()
+    ensures { (ops : List Op) (payload : ℕ) (contents : Contents) (k j : ℕ) (op piece : Op)
+        (places : List Piece) (place : Piece) (requests : List Request) → IsPacked ops payload contents →
+        slice_get ops k ≡ Some op → slice_get contents.pieces k ≡ Some places →
+        slice_get (cut payload op) j ≡ Some piece → slice_get places j ≡ Some place →
+        AreRequests requests → slice_get contents.bodies place.body ≡ Some (requests_words requests) →
+        slice_get requests place.index ≡ Some (record { tid = place.index; op = piece }) }
+{
+    one_list_for_words();
+}
 
 /// Operations have one packing, and so one list of bodies and of places.
 pub fn a_packing_is_the_only_one()

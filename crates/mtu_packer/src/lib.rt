@@ -10,7 +10,7 @@ mod packed;
 mod packer;
 mod packing;
 
-pub use packed::{Packed, Piece};
+pub use packed::{Packed, Piece, Places};
 pub use packing::{MAX_PAYLOAD, MIN_PAYLOAD, pack};
 
 #[cfg(test)]

@@ -20,37 +20,65 @@ pub(crate) struct Span {
     pub(crate) end: u32,
 }
 
-/// Operations that are packed into bodies. Profile.
+/// Where the pieces of each operation stand. Contracts see it as a list of lists: the places of each operation.
+/// Profile.
 #[derive(Debug, Drop)]
-pub struct Packed {
-    bodies: Vec<Words>,
+pub struct Places {
     places: Vec<Piece>,
     spans: Vec<Span>,
 }
 
-impl Model for Packed {
-    ghost use Rattle.std.specs.Prelude.{length, map};
-    ghost use Rattle.mtu_packer.specs.Packed.{Contents};
+impl Model for Places {
+    ghost use Rattle.std.specs.Prelude.{List, length, map};
+    ghost use Rattle.mtu_packer.specs.declared.packed.Piece.{Piece};
     ghost use Rattle.mtu_packer.specs.Span.{span_places, AreWithin};
 
-    ghost Value = { Contents };
+    ghost Value = { List (List Piece) };
 
-    ghost view = { λ p. record { bodies = p.bodies.items; pieces = map (span_places p.places.items) p.spans.items } };
+    ghost view = { λ p. map (span_places p.places.items) p.spans.items };
 
     ghost invariant = { λ p. AreWithin (length p.places.items) p.spans.items };
 }
 
-impl Packed {
-    pub(crate) fn new(bodies: Vec<Words>, places: Vec<Piece>, spans: Vec<Span>) -> Packed
+impl Places {
+    pub(crate) fn new(places: Vec<Piece>, spans: Vec<Span>) -> Places
         requires { AreWithin (length places.items) spans.items }
-        ensures bodies { result.bodies ≡ bodies.items }
-        ensures pieces { result.pieces ≡ map (span_places places.items) spans.items }
+        ensures { result ≡ map (span_places places.items) spans.items }
     {
-        Packed {
-            bodies,
-            places,
-            spans,
-        }
+        Places { places, spans }
+    }
+
+    /// Where the pieces of an operation stand, in order; `op` is its place in the list of operations, from 0.
+    pub fn pieces(&self, op: usize) -> &[Piece]
+        requires { op < length self.now }
+        ensures { slice_get self.now op ≡ Some result.now }
+    {
+        let span = self.spans[op];
+        &self.places.as_slice()[span.start as usize..span.end as usize]
+    }
+}
+
+/// Operations that are packed into bodies. Profile.
+#[derive(Debug, Drop)]
+pub struct Packed {
+    bodies: Vec<Words>,
+    places: Places,
+}
+
+impl Model for Packed {
+    ghost use Rattle.mtu_packer.specs.Packed.{Contents};
+
+    ghost Value = { Contents };
+
+    ghost view = { λ p. record { bodies = p.bodies.items; pieces = p.places } };
+}
+
+impl Packed {
+    pub(crate) fn new(bodies: Vec<Words>, places: Places) -> Packed
+        ensures bodies { result.bodies ≡ bodies.items }
+        ensures pieces { result.pieces ≡ places }
+    {
+        Packed { bodies, places }
     }
 
     /// The bodies, in order, each without its packet header.
@@ -65,7 +93,15 @@ impl Packed {
         requires { op < length self.now.pieces }
         ensures { slice_get self.now.pieces op ≡ Some result.now }
     {
-        let span = self.spans[op];
-        &self.places.as_slice()[span.start as usize..span.end as usize]
+        self.places.pieces(op)
+    }
+
+    /// The bodies by value, in order, and where the pieces of each operation stand in them. It takes no memory.
+    pub fn into_parts(self) -> (Vec<Words>, Places)
+        ensures bodies { result.0.items ≡ self.bodies }
+        ensures places { result.1 ≡ self.pieces }
+    {
+        let Packed { bodies, places } = self;
+        (bodies, places)
     }
 }

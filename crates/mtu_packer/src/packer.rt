@@ -3,7 +3,7 @@ ghost use Rattle.std.specs.List.{AllByRecursion};
 ghost use Rattle.ipb_base.specs.Word.{AreWords};
 ghost use Rattle.transaction_codec.specs.declared.header_word.TheConstants.{MAX_COUNT};
 ghost use Rattle.transaction_codec.specs.First.{op_of};
-ghost use Rattle.transaction_codec.specs.Request.{op_count, op_words};
+ghost use Rattle.transaction_codec.specs.Request.{op_count};
 ghost use Rattle.mtu_packer.specs.Cutting as spec;
 ghost use Rattle.mtu_packer.specs.Cutting.{CanBeCut, cut};
 ghost use Rattle.mtu_packer.specs.Span.{span_places, AreWithin};
@@ -11,7 +11,7 @@ ghost use Rattle.mtu_packer.specs.Progress as progress;
 ghost use Rattle.mtu_packer.specs.Progress.{IsWithin, FitsAlone, step, run};
 
 use crate::cutting::{HEADERS, piece, piece_count};
-use crate::packed::{Packed, Piece, Span};
+use crate::packed::{Packed, Piece, Places, Span};
 use std::alloc::Global;
 use std::marker::Model;
 use std::mem;
@@ -67,7 +67,7 @@ impl Packer {
         requires count { op_count (op_of op.now) ≤ MAX_COUNT }
         ensures { result ≡ progress.has_room self.now (op_of op.now) }
     {
-        let request = self.open_body.len() + words_after_header(op) + HEADERS as usize;
+        let request = self.open_body.len() + op.words_after_header() + HEADERS as usize;
         let reply = self.reply + op.values_done() + HEADERS;
         request <= self.payload as usize && reply <= self.payload
     }
@@ -159,19 +159,6 @@ impl Packer {
             reply: _,
             places,
         } = self;
-        Ok(Packed::new(bodies, places, spans))
-    }
-}
-
-/// How many words the request has after its header.
-fn words_after_header(op: &OpRef<'_>) -> usize
-    requires { op_count (op_of op.now) ≤ MAX_COUNT }
-    ensures { result ≡ length (op_words (op_of op.now)) }
-{
-    match *op {
-        OpRef::Read { .. } | OpRef::ReadPort { .. } => 1,
-        OpRef::Write { words, .. } | OpRef::WritePort { words, .. } => 1 + words.len(),
-        OpRef::RmwBits { .. } => 3,
-        OpRef::RmwSum { .. } => 2,
+        Ok(Packed::new(bodies, Places::new(places, spans)))
     }
 }

@@ -26,6 +26,10 @@ fn reads_share_a_body_while_the_replies_fit(rt: HostRuntime) -> Result<(), Fail>
     assert_eq!(rt; packed.pieces(0), [at(0, 0)].as_slice());
     assert_eq!(rt; packed.pieces(1), [at(0, 1)].as_slice());
     assert_eq!(rt; packed.pieces(2), [at(1, 0)].as_slice());
+    let (bodies, places) = packed.into_parts();
+    assert_eq!(rt; bodies.len(), 2);
+    assert_eq!(rt; bodies[1].as_slice(), [0x2000_020f, 96].as_slice());
+    assert_eq!(rt; places.pieces(2), [at(1, 0)].as_slice());
     Ok(())
 }
 

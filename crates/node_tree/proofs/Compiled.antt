@@ -9,14 +9,14 @@ use Rattle.address_table.specs.Rules.{first_broken}
 use Rattle.node_tree.specs.declared.register.Register.{Register}
 use Rattle.node_tree.specs.declared.refusal.CompileWhy.TheVariants.{UnknownModule, ModuleCycle, TooMany, TooDeep, Duplicate, AddressPastEnd}
 use Rattle.node_tree.specs.declared.walking.Found.{Found}
-use Rattle.node_tree.specs.Maps.{Name, RegisterMap, TableMap, nodes_of, AreReadable, AreWithin}
+use Rattle.node_tree.specs.Maps.{Name, RegisterMap, TableMap, nodes_of, AreValidTables, AreRegisters}
 use Rattle.node_tree.specs.Names.{RootNames}
 use Rattle.node_tree.specs.Walk.{Visit, Lists, HasLevel, siblings, walk, root_walk, visit_rules, fault_or, first_fault, last_address}
 use Rattle.node_tree.specs.Run.{Outcome, run, run_on, visit_next, step, found_more}
 use Rattle.node_tree.proofs.NamedLemmas.{by_bytes}
 use Rattle.node_tree.proofs.SetLemmas.{equal_of}
 use Rattle.node_tree.proofs.EntryLemmas.{get-cases}
-use Rattle.node_tree.specs.declared.limits.TheConstants.{MAX_NODES, MAX_IDS}
+use Rattle.node_tree.specs.Limits.{most_nodes, most_ids}
 use Rattle.node_tree.specs.declared.refusal.CompileWhy.{CompileWhy}
 use Rattle.node_tree.specs.declared.refusal.CompileRefusal.{CompileRefusal}
 use Rattle.node_tree.specs.declared.refusal.CompileRefusal.TheVariants.{At, NoMemory}
@@ -25,6 +25,7 @@ use Rattle.node_tree.specs.Refusals.{AreKnown, TellsNode, IsRefusal, Refuses}
 use Rattle.node_tree.proofs.Faults.{Agree, fault_of, run-first_named}
 use Rattle.node_tree.proofs.NamesLemmas.{listed-named, named-listed}
 use Rattle.node_tree.proofs.RepeatLemmas.{same-root}
+use Rattle.node_tree.proofs.RegisterLemmas.{root-register}
 
 ok_rules : (found next : Found) (name : Name) (r : Register) (a b c d : Bool)
     → step found name r (first_broken ((TooMany, a) ∷ (TooDeep, b) ∷ (Duplicate, c) ∷ (AddressPastEnd, d) ∷ [])) ≡ Ok next
@@ -41,8 +42,8 @@ not_true false h = refl
 
 -- what is known of a node that the walk went past
 record IsPassed (found next : Found) (v : Visit) : Type 0 where
-  pub few : found.count < MAX_NODES
-  pub shallow : v.level ≤ MAX_IDS
+  pub few : found.count < most_nodes
+  pub shallow : v.level ≤ most_ids
   pub new : contains_key found.names v.name ≡ false
   pub within : last_address v.register < 2 ^ 32
   pub after : next ≡ found_more found v.name v.register
@@ -55,8 +56,8 @@ unfolding visit_next
 passed found next v h =
     let (few, shallow, new, within, after) = ok_rules found next v.name v.register _ _ _ _ h in
     record {
-      few = ltb-true found.count MAX_NODES few;
-      shallow = leb-true v.level MAX_IDS shallow;
+      few = ltb-true found.count most_nodes few;
+      shallow = leb-true v.level most_ids shallow;
       new = not_true (contains_key found.names v.name) new;
       within = ltb-true (last_address v.register) (2 ^ 32) within;
       after = after;
@@ -70,11 +71,11 @@ run-cons : (vs : List Visit) (found more : Found) (v : Visit) → run (v ∷ vs)
 unfolding run
 run-cons vs found more v h = cons_case vs found more v (visit_next found v.name v.level v.register) refl h
 
-no-level : (vs : List Visit) (found more : Found) → run vs found ≡ Ok more → HasLevel vs (MAX_IDS + 1) → ⊥
+no-level : (vs : List Visit) (found more : Found) → run vs found ≡ Ok more → HasLevel vs (most_ids + 1) → ⊥
 no-level [] found more h deep = deep
 no-level (v ∷ vs) found more h (inl same) =
     let (next, ok, rest) = run-cons vs found more v h in
-    let shallow : v.level ≤ MAX_IDS = (passed found next v ok).shallow in
+    let shallow : v.level ≤ most_ids = (passed found next v ok).shallow in
     omega arith
 no-level (v ∷ vs) found more h (inr deep) = let (next, ok, rest) = run-cons vs found more v h in no-level vs next more rest deep
 
@@ -128,23 +129,23 @@ start = record { names = empty; count = 0 }
 pub Agree-start : Agree [] start
 Agree-start = record { count = refl; names = λ name. ap is_some (get-empty by_bytes name) }
 
-pub root_walk-siblings : (tables : TableMap) (root : Name) → siblings (walk tables (MAX_IDS + 1 - 1) (1 + 1)) tables 1 [] 0 [] (nodes_of tables root) ≡ root_walk tables root
+pub root_walk-siblings : (tables : TableMap) (root : Name) → siblings (walk tables (most_ids + 1 - 1) (1 + 1)) tables 1 [] 0 [] (nodes_of tables root) ≡ root_walk tables root
 unfolding walk
 root_walk-siblings tables root = refl
 
 named_side : (tables : TableMap) (root : Name) (more : Found) (q : Name) (r : Register) → (get {R = by_bytes} empty q ≡ Some r) ⊎ Lists (root_walk tables root) q r → RootNames tables root q r
 named_side tables root more q r (inl none) = let bad : ⊥ = cc (get-empty {X = Register} by_bytes q) in absurd bad
-named_side tables root more q r (inr listed) = listed-named tables (MAX_IDS + 1) 1 [] 0 (nodes_of tables root) q r listed
+named_side tables root more q r (inr listed) = listed-named tables (most_ids + 1) 1 [] 0 (nodes_of tables root) q r listed
 
 found_side : (tables : TableMap) (root : Name) (more : Found) (q : Name) (r : Register) → run (root_walk tables root) start ≡ Ok more
-    → Lists (root_walk tables root) q r ⊎ HasLevel (root_walk tables root) (MAX_IDS + 1) → get more.names q ≡ Some r
+    → Lists (root_walk tables root) q r ⊎ HasLevel (root_walk tables root) (most_ids + 1) → get more.names q ≡ Some r
 found_side tables root more q r h (inl listed) = run-listed (root_walk tables root) start more q r h listed
 found_side tables root more q r h (inr deep) = absurd (no-level (root_walk tables root) start more h deep)
 
 pub names-iff : (tables : TableMap) (root : Name) (more : Found) → run (root_walk tables root) start ≡ Ok more → (q : Name) (r : Register) → (get more.names q ≡ Some r) ↔ RootNames tables root q r
 names-iff tables root more h q r = (
   λ there. named_side tables root more q r (run-found (root_walk tables root) start more q r h there),
-  λ named. found_side tables root more q r h (named-listed tables MAX_IDS 1 [] 0 (nodes_of tables root) q r named),
+  λ named. found_side tables root more q r h (named-listed tables most_ids 1 [] 0 (nodes_of tables root) q r named),
 )
 
 -- a rule that a node breaks
@@ -174,7 +175,7 @@ rule_in v (Some w) rest path why here later h =
 fault-rule : (count : ℕ) (vs : List Visit) (path : Name) (why : CompileWhy) → first_fault count vs ≡ Some (path, why) → IsNodeRule why
 fault-rule count [] path why h = let bad : ⊥ = cc in absurd bad
 fault-rule count (v ∷ vs) path why h =
-    rule_in v (first_broken (visit_rules count v)) (first_fault (count + 1) vs) path why (λ w. node_rule (nat_lt count MAX_NODES) (nat_le v.level MAX_IDS) (not v.repeated) (nat_lt (last_address v.register) (2 ^ 32)) w) (fault-rule (count + 1) vs path why) h
+    rule_in v (first_broken (visit_rules count v)) (first_fault (count + 1) vs) path why (λ w. node_rule (nat_lt count most_nodes) (nat_le v.level most_ids) (not v.repeated) (nat_lt (last_address v.register) (2 ^ 32)) w) (fault-rule (count + 1) vs path why) h
 
 refusal-node : (tables : TableMap) (root name path : Name) (why : CompileWhy) → IsNodeRule why → TellsNode tables root name path why → IsRefusal tables root (At name path why)
 refusal-node tables root name path UnknownModule rule tells = absurd rule
@@ -191,38 +192,42 @@ refuses_node tables root path why (At n p w) told tells =
     refusal-node tables root n p w (fault-rule 0 (root_walk tables root) p w fault) (tells.0, tells.1, told.0, fault)
 
 -- where the code stops, or does not
-run-fault : (tables : TableMap) (root : Name) → AreReadable tables → fault_of (run (root_walk tables root) start) ≡ first_fault 0 (root_walk tables root)
-run-fault tables root readable = run-first_named (root_walk tables root) [] start Agree-start ∙ same-root tables root readable
+run-fault : (tables : TableMap) (root : Name) → AreValidTables tables → fault_of (run (root_walk tables root) start) ≡ first_fault 0 (root_walk tables root)
+run-fault tables root valid = run-first_named (root_walk tables root) [] start Agree-start ∙ same-root tables root valid
 
-pub refused : (tables : TableMap) (root path : Name) (why : CompileWhy) (refusal : CompileRefusal) → AreReadable tables → Refuses root path why refusal → AreKnown tables root → NoTable tables (ReachesItself tables)
+pub refused : (tables : TableMap) (root path : Name) (why : CompileWhy) (refusal : CompileRefusal) → AreValidTables tables → Refuses root path why refusal → AreKnown tables root → NoTable tables (ReachesItself tables)
     → run (root_walk tables root) start ≡ Err (path, why) → IsRefusal tables root refusal
-refused tables root path why refusal readable told known acyclic stop =
-    refuses_node tables root path why refusal told (known, acyclic, refl, sym (run-fault tables root readable) ∙ ap fault_of stop)
+refused tables root path why refusal valid told known acyclic stop =
+    refuses_node tables root path why refusal told (known, acyclic, refl, sym (run-fault tables root valid) ∙ ap fault_of stop)
 
-pub no_fault : (tables : TableMap) (root : Name) (more : Found) → AreReadable tables → run (root_walk tables root) start ≡ Ok more → first_fault 0 (root_walk tables root) ≡ None
-no_fault tables root more readable walked = sym (run-fault tables root readable) ∙ ap fault_of walked
+pub no_fault : (tables : TableMap) (root : Name) (more : Found) → AreValidTables tables → run (root_walk tables root) start ≡ Ok more → first_fault 0 (root_walk tables root) ≡ None
+no_fault tables root more valid walked = sym (run-fault tables root valid) ∙ ap fault_of walked
 
 at_most_one : (b : Bool) (n : ℕ) → cond b n (n + 1) ≤ n + 1
 at_most_one true n = omega arith
 at_most_one false n = omega arith
 
 -- no more registers than nodes, of which there are 65,536 at most
-run-size : (vs : List Visit) (found more : Found) → run vs found ≡ Ok more → len found.names ≤ found.count → found.count ≤ MAX_NODES → len more.names ≤ MAX_NODES
+run-size : (vs : List Visit) (found more : Found) → run vs found ≡ Ok more → len found.names ≤ found.count → found.count ≤ most_nodes → len more.names ≤ most_nodes
 unfolding run
-run-size [] found more h small few = let same : found ≡ more = cc in subst (λ f. len f.names ≤ MAX_NODES) same (omega arith)
+run-size [] found more h small few = let same : found ≡ more = cc in subst (λ f. len f.names ≤ most_nodes) same (omega arith)
 run-size (v ∷ vs) found more h small few =
     let (next, ok, rest) = run-cons vs found more v h in
     let past = passed found next v ok in
     let size : len (insert found.names v.name v.register) ≤ len found.names + 1 = rw (len-insert nat_list_cmp_total found.names v.name v.register) (at_most_one (contains_key found.names v.name) (len found.names)) in
-    let under : found.count < MAX_NODES = past.few in
+    let under : found.count < most_nodes = past.few in
     let next_small : len next.names ≤ next.count = subst (λ f. len f.names ≤ f.count) (sym past.after) (omega arith) in
-    let next_few : next.count ≤ MAX_NODES = subst (λ f. f.count ≤ MAX_NODES) (sym past.after) (omega arith) in
+    let next_few : next.count ≤ most_nodes = subst (λ f. f.count ≤ most_nodes) (sym past.after) (omega arith) in
     run-size vs next more rest next_small next_few
 
-pub few_names : (tables : TableMap) (root : Name) (more : Found) → run (root_walk tables root) start ≡ Ok more → len more.names ≤ MAX_NODES
+pub few_names : (tables : TableMap) (root : Name) (more : Found) → run (root_walk tables root) start ≡ Ok more → len more.names ≤ most_nodes
 few_names tables root more h =
     let none : len (empty {X = Register} {R = by_bytes}) ≡ 0 = len-empty by_bytes Register in
     run-size (root_walk tables root) start more h (omega arith) (omega arith)
+
+-- each register ends at an address of 32 bits
+abbrev AreWithin : RegisterMap → Type 0
+AreWithin registers = (name : Name) (r : Register) → get registers name ≡ Some r → last_address r < 2 ^ 32
 
 within-more : (m : RegisterMap) (k : Name) (v : Register) → AreWithin m → last_address v < 2 ^ 32 → AreWithin (insert m k v)
 within-more m k v within here name r there =
@@ -240,5 +245,9 @@ run-within (v ∷ vs) found more h within =
 within-none : AreWithin empty
 within-none name r h = let bad : ⊥ = cc (get-empty {X = Register} by_bytes name) in absurd bad
 
-pub all_within : (tables : TableMap) (root : Name) (more : Found) → run (root_walk tables root) start ≡ Ok more → AreWithin more.names
-all_within tables root more h = run-within (root_walk tables root) start more h within-none
+-- and fits its mode
+pub all_registers : (tables : TableMap) (root : Name) (more : Found) → AreValidTables tables → run (root_walk tables root) start ≡ Ok more
+    → AreRegisters more.names
+all_registers tables root more valid h name r there =
+    root-register tables root name r valid ((names-iff tables root more h name r).0 there)
+    (run-within (root_walk tables root) start more h within-none name r there)

@@ -5,7 +5,7 @@ use Rattle.std.proofs.lemmas.List.{append-nil}
 use Rattle.std.specs.Option.{option_or}
 use Rattle.address_table.specs.Rules.{first_broken}
 use Rattle.address_table.specs.declared.nodes.Node.{Node, out-Node}
-use Rattle.node_tree.specs.declared.limits.TheConstants.{MAX_NODES, MAX_IDS}
+use Rattle.node_tree.specs.Limits.{most_nodes, most_ids}
 use Rattle.node_tree.specs.declared.refusal.CompileWhy.{CompileWhy}
 use Rattle.node_tree.specs.declared.refusal.CompileWhy.TheVariants.{TooMany, TooDeep, Duplicate, AddressPastEnd}
 use Rattle.node_tree.specs.Maps.{Name, TableMap, nodes_of}
@@ -49,7 +49,7 @@ module _ (deeper : Below) (tables : TableMap) (level : ℕ) (above : Name) (base
 
   -- a node among siblings without a fault: its level, its id, and what is below it
   record IsKept (earlier : List Node) (n : Node) : Type 0 where
-    pub shallow : level ≤ MAX_IDS
+    pub shallow : level ≤ most_ids
     pub new : not (has_id (out-Node n).id earlier) ≡ true
     pub count : ℕ
     pub inner : first_fault count (deeper (node_name above n) (node_address base n) (children_of tables n)) ≡ None
@@ -61,9 +61,9 @@ module _ (deeper : Below) (tables : TableMap) (level : ℕ) (above : Name) (base
       let inner = deeper (node_name above n) (node_address base n) (children_of tables n) in
       let rest = after_some (earlier ++ n ∷ []) ns in
       let (kept, later) = kept_of v (first_broken (visit_rules count v)) (first_fault (count + 1) (inner ++ rest)) h in
-      let (shallow, new) = kept_rules (nat_lt count MAX_NODES) (nat_le level MAX_IDS) (not v.repeated) (nat_lt (last_address v.register) (2 ^ 32)) kept in
+      let (shallow, new) = kept_rules (nat_lt count most_nodes) (nat_le level most_ids) (not v.repeated) (nat_lt (last_address v.register) (2 ^ 32)) kept in
       record {
-        shallow = leb-true level MAX_IDS shallow;
+        shallow = leb-true level most_ids shallow;
         new = new;
         count = count + 1;
         inner = (none_of (first_fault (count + 1) inner) (first_fault (count + 1 + length inner) rest) (sym (first_fault-append inner rest (count + 1)) ∙ later)).0;
@@ -80,9 +80,9 @@ record AreFaultless (tables : TableMap) (above : Name) (ns : List Node) : Type 0
   pub level : ℕ
   pub base : ℕ
   pub count : ℕ
-  pub none : first_fault count (siblings (walk tables (MAX_IDS + 1 - level) (level + 1)) tables level above base [] ns) ≡ None
+  pub none : first_fault count (siblings (walk tables (most_ids + 1 - level) (level + 1)) tables level above base [] ns) ≡ None
 
-first_level : (tables : TableMap) (root : Name) → root_walk tables root ≡ siblings (walk tables (MAX_IDS + 1 - 1) (1 + 1)) tables 1 [] 0 [] (nodes_of tables root)
+first_level : (tables : TableMap) (root : Name) → root_walk tables root ≡ siblings (walk tables (most_ids + 1 - 1) (1 + 1)) tables 1 [] 0 [] (nodes_of tables root)
 unfolding walk
 first_level tables root = refl
 
@@ -90,7 +90,7 @@ faultless : (tables : TableMap) (root above : Name) (ns : List Node) → first_f
 faultless tables root above ns none top = record { level = 1; base = 0; count = 0; none = ap (first_fault 0) (sym (first_level tables root)) ∙ none }
 faultless tables root above ns none (below over before n after sibs) =
     let around = faultless tables root over (before ++ n ∷ after) none sibs in
-    let kept = kept_at (walk tables (MAX_IDS + 1 - around.level) (around.level + 1)) tables around.level over around.base around.count before n after around.none in
+    let kept = kept_at (walk tables (most_ids + 1 - around.level) (around.level + 1)) tables around.level over around.base around.count before n after around.none in
     record {
       level = around.level + 1;
       base = node_address around.base n;
@@ -102,5 +102,5 @@ pub siblings_differ : (tables : TableMap) (root above : Name) (before : List Nod
     → KeepsRules tables root → AreSiblings tables root above (before ++ n ∷ after) → HasId (out-Node n).id before → ⊥
 siblings_differ tables root above before n after rules sibs earlier =
     let around = faultless tables root above (before ++ n ∷ after) rules.nodes sibs in
-    let kept = kept_at (walk tables (MAX_IDS + 1 - around.level) (around.level + 1)) tables around.level above around.base around.count before n after around.none in
+    let kept = kept_at (walk tables (most_ids + 1 - around.level) (around.level + 1)) tables around.level above around.base around.count before n after around.none in
     not_both (has_id (out-Node n).id before) (id-true (out-Node n).id before earlier) kept.new

@@ -8,7 +8,7 @@ use Rattle.std.proofs.lemmas.Cmp.{nat_list_cmp_total}
 use Rattle.std.specs.FinMap.{get, contains_key, insert, get-insert}
 use Rattle.address_table.specs.Rules.{first_broken}
 use Rattle.node_tree.specs.declared.register.Register.{Register}
-use Rattle.node_tree.specs.declared.limits.TheConstants.{MAX_NODES, MAX_IDS}
+use Rattle.node_tree.specs.Limits.{most_nodes, most_ids}
 use Rattle.node_tree.specs.declared.refusal.CompileWhy.{CompileWhy}
 use Rattle.node_tree.specs.declared.refusal.CompileWhy.TheVariants.{TooMany, TooDeep, Duplicate, AddressPastEnd}
 use Rattle.node_tree.specs.declared.walking.Found.{Found}
@@ -23,8 +23,8 @@ is_named_by name visits = list_any (λ v. bytes_eq name v.name) visits
 -- the rules for a node after those that the walk came to before, the latest first
 abbrev pub named_rules : List Visit → Visit → List (CompileWhy × Bool)
 named_rules before v =
-    (TooMany, nat_lt (length before) MAX_NODES)
-    ∷ (TooDeep, nat_le v.level MAX_IDS)
+    (TooMany, nat_lt (length before) most_nodes)
+    ∷ (TooDeep, nat_le v.level most_ids)
     ∷ (Duplicate, not (is_named_by v.name before))
     ∷ (AddressPastEnd, nat_lt (last_address v.register) (2 ^ 32))
     ∷ []

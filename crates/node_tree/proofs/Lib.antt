@@ -2,7 +2,7 @@ pub mod NamedLemmas
 pub mod Visits
 pub mod Runs
 pub mod Faults
-pub mod MaskLemmas
+pub mod RegisterLemmas
 pub mod MentionLemmas
 pub mod SetLemmas
 pub mod EntryLemmas
@@ -15,9 +15,13 @@ pub mod Compiled
 pub mod DottedLemmas
 pub mod OverlapLemmas
 pub mod PairLemmas
-pub mod SweepLemmas
+pub mod NotingLemmas
+pub mod EventLemmas
+pub mod SettlingLemmas
+pub mod TimelineLemmas
 pub mod RepeatLemmas
 pub mod SiblingLemmas
 pub mod Places
 pub mod Uniqueness
+pub mod SameLemmas
 pub mod FaultlessLemmas

@@ -1,26 +1,23 @@
 -- A name is there already exactly where an earlier sibling has the node's id, since ids have no dot.
-use Rattle.std.proofs.Common.{◌≡◌, ◌⊎◌, inl, inr, ℕ, zero, suc, ◌+◌, ◌^◌, nat_lt, nat_le, List, [], ◌∷◌, ◌++◌, drop, length, Bool, true, false, not, ◌||◌, Option, Some, None, bytes_eq, refl, ap, sym, ◌∙◌, subst, append_assoc, codes, arith}
+use Rattle.std.proofs.Common.{◌≡◌, ◌⊎◌, inl, inr, ℕ, zero, suc, ◌+◌, ◌^◌, nat_lt, nat_le, List, [], ◌∷◌, ◌++◌, length, Bool, true, false, not, ◌||◌, Option, Some, None, bytes_eq, refl, ap, sym, ◌∙◌, subst, append_assoc, arith}
 use Rattle.std.proofs.lemmas.Bool.{false≢true, and_parts, or_left, or_right}
 use Rattle.std.proofs.lemmas.List.{append-nil, append_cancel_left}
 use Rattle.std.proofs.lemmas.Slice.Eq.{bytes_eq-Decides}
 use Rattle.std.specs.List.{AllByRecursion, list_all}
 use Rattle.std.specs.Option.{option_or}
-use Rattle.toml.specs.Data.{Data, Items, Members}
-use Rattle.address_table.specs.Keys.{text_at}
 use Rattle.address_table.specs.Numbers.{is_between}
-use Rattle.address_table.specs.Rules.{first_broken, rules, broken_rule, holds_of, is_id, is_id_byte}
-use Rattle.address_table.specs.Tables.{IsNode, node, AreNodes}
+use Rattle.address_table.specs.Rules.{first_broken, is_id, is_id_byte}
+use Rattle.address_table.specs.Limits.{longest_id}
+use Rattle.address_table.specs.Valid.{IsValidNode, AreValid}
 use Rattle.address_table.specs.declared.nodes.Node.{Node, out-Node}
-use Rattle.address_table.specs.declared.refusal.TableWhy.TheVariants.{BadId}
-use Rattle.address_table.proofs.Kept.{first_kept}
 use Rattle.node_tree.specs.declared.refusal.CompileWhy.{CompileWhy}
-use Rattle.node_tree.specs.declared.limits.TheConstants.{MAX_NODES, MAX_IDS}
+use Rattle.node_tree.specs.Limits.{most_nodes, most_ids}
 use Rattle.node_tree.specs.declared.refusal.CompileWhy.TheVariants.{TooMany, TooDeep, Duplicate, AddressPastEnd}
-use Rattle.node_tree.specs.Maps.{Name, TableMap, nodes_of, AreReadable}
+use Rattle.node_tree.specs.Maps.{Name, TableMap, nodes_of, AreValidTables}
 use Rattle.node_tree.specs.Names.{dot, children_of, name_below, node_name, node_address}
 use Rattle.node_tree.specs.Walk.{Visit, visit_of, has_id, siblings, walk, root_walk, visit_rules, first_fault, fault_or, last_address}
 use Rattle.node_tree.specs.Repeats.{HasId}
-use Rattle.node_tree.proofs.NodeLemmas.{kept_rest, parts, node-children, named_nodes, children_if}
+use Rattle.node_tree.proofs.NodeLemmas.{parts, named_nodes, children_if}
 use Rattle.node_tree.proofs.Faults.{is_named_by, named_rules, first_named}
 use Rattle.node_tree.proofs.Runs.{Below}
 
@@ -40,15 +37,11 @@ no_dots (byte ∷ id) h = let (here, rest) = and_parts (is_id_byte byte) (list_a
 
 id-plain : (id : Name) → is_id id ≡ true → Plain id
 id-plain id h =
-    let (some, bytes) = and_parts (is_between 1 64 (length id)) (list_all is_id_byte id) h in
-    (λ none. false≢true (subst (λ x. is_between 1 64 (length x) ≡ true) none some), no_dots id bytes)
+    let (some, bytes) = and_parts (is_between 1 longest_id (length id)) (list_all is_id_byte id) h in
+    (λ none. false≢true (subst (λ x. is_between 1 longest_id (length x) ≡ true) none some), no_dots id bytes)
 
-kept-id : (ms : Members) → broken_rule ms ≡ None → holds_of is_id (text_at (codes "id") ms) ≡ true
-unfolding broken_rule
-kept-id ms kept = (first_kept BadId (holds_of is_id (text_at (codes "id") ms)) (drop 4 (rules ms)) (kept_rest 3 (rules ms) kept)).0
-
-node-plain : (d : Data) (n : Node) → IsNode d n → Plain (out-Node n).id
-node-plain d n (node ms m kept says are) = id-plain (out-Node m).id (subst (λ o. holds_of is_id o ≡ true) says.id (kept-id ms kept))
+node-plain : (n : Node) → IsValidNode n → Plain (out-Node n).id
+node-plain n valid = id-plain (out-Node n).id valid.named
 
 -- what stands before the ids below a name: nothing at the top, and else the name and a dot
 abbrev prefix : Name → Name
@@ -217,7 +210,7 @@ same-node : (before : List Visit) (v : Visit) (vs : List Visit) → is_named_by 
 same-node before v vs here after =
     let one : length (v ∷ before) ≡ length before + 1 = omega arith in
     fault_or-same v (first_broken (named_rules before v)) (first_named (v ∷ before) vs) (first_fault (length before + 1) vs) (λ kept. after kept ∙ ap (λ k. first_fault k vs) one)
-    ∙ ap (λ b. fault_or v (first_broken ((TooMany, nat_lt (length before) MAX_NODES) ∷ (TooDeep, nat_le v.level MAX_IDS) ∷ (Duplicate, not b) ∷ (AddressPastEnd, nat_lt (last_address v.register) (2 ^ 32)) ∷ [])) (first_fault (length before + 1) vs)) here
+    ∙ ap (λ b. fault_or v (first_broken ((TooMany, nat_lt (length before) most_nodes) ∷ (TooDeep, nat_le v.level most_ids) ∷ (Duplicate, not b) ∷ (AddressPastEnd, nat_lt (last_address v.register) (2 ^ 32)) ∷ [])) (first_fault (length before + 1) vs)) here
 
 fault_or-or : (v : Visit) (o : Option CompileWhy) (a b : Option (Name × CompileWhy)) → fault_or v o (option_or a b) ≡ option_or (fault_or v o a) b
 fault_or-or v None a b = refl
@@ -309,37 +302,36 @@ module _ (tables : TableMap) where
         tt,
       )
 
-  same-in : AreReadable tables → (deeper : Below)
+  same-in : AreValidTables tables → (deeper : Below)
       → ((called : Name) (address : ℕ) (ms : List Node) → AllByRecursion (Under called) (deeper called address ms))
-      → ((called : Name) (address : ℕ) (ms : List Node) (before : List Visit) (es : Items) → AreNodes es ms → AllByRecursion (Known called []) before → SameFault before (deeper called address ms))
-      → (level : ℕ) (above : Name) (base : ℕ) (ns done : List Node) (before : List Visit) (ds : Items) → AreNodes ds ns
+      → ((called : Name) (address : ℕ) (ms : List Node) (before : List Visit) → AreValid ms → AllByRecursion (Known called []) before → SameFault before (deeper called address ms))
+      → (level : ℕ) (above : Name) (base : ℕ) (ns done : List Node) (before : List Visit) → AreValid ns
       → AllByRecursion (Known above done) before → AllByRecursion (Seen above before) done
       → SameFault before (siblings deeper tables level above base done ns)
   unfolding siblings
-  same-in readable deeper under inner_case level above base [] done before ds are known seen = refl
-  same-in readable deeper under inner_case level above base (n ∷ ns) done before ds are known seen =
-      let (first, others) = parts ds (n ∷ ns) are in
-      let plain = node-plain first.0 n first.1 in
-      let (es, children_are) = children_if tables readable (out-Node n).«module» (out-Node n).nodes.items (node-children first.0 n first.1) in
+  same-in valid deeper under inner_case level above base [] done before are known seen = refl
+  same-in valid deeper under inner_case level above base (n ∷ ns) done before are known seen =
+      let (here, below, others) = parts (n ∷ ns) are in
+      let plain = node-plain n here in
+      let children_are = children_if tables valid (out-Node n).«module» (out-Node n).nodes.items below in
       let v = visit_of level above base done n in
       let inner = deeper (node_name above n) (node_address base n) (children_of tables n) in
       same-node before v (inner ++ siblings deeper tables level above base (done ++ n ∷ []) ns) (named-repeated above done n before plain.1 known seen)
       (λ kept. same-append inner (siblings deeper tables level above base (done ++ n ∷ []) ns) (v ∷ before)
-      (inner_case (node_name above n) (node_address base n) (children_of tables n) (v ∷ before) es children_are (known-below above done n before v refl plain known seen kept))
-      (same-in readable deeper under inner_case level above base ns (done ++ n ∷ []) (pushed inner (v ∷ before)) others.0 others.1
+      (inner_case (node_name above n) (node_address base n) (children_of tables n) (v ∷ before) children_are (known-below above done n before v refl plain known seen kept))
+      (same-in valid deeper under inner_case level above base ns (done ++ n ∷ []) (pushed inner (v ∷ before)) others
       (known-after above done n before inner v refl plain known (under _ _ _)) (seen-after above done n before inner v refl seen)))
 
-  same-walk : AreReadable tables → (levels level : ℕ) (above : Name) (base : ℕ) (ns : List Node) (before : List Visit) (ds : Items) → AreNodes ds ns
+  same-walk : AreValidTables tables → (levels level : ℕ) (above : Name) (base : ℕ) (ns : List Node) (before : List Visit) → AreValid ns
       → AllByRecursion (Known above []) before → SameFault before (walk tables levels level above base ns)
   unfolding walk
-  same-walk readable zero level above base ns before ds are known = refl
-  same-walk readable (suc levels) level above base ns before ds are known =
-      same-in readable (walk tables levels (level + 1)) (λ called address ms. walk-under tables levels (level + 1) called address ms)
-      (λ called address ms seen_before es are_ms known_ms. same-walk readable levels (level + 1) called address ms seen_before es are_ms known_ms)
-      level above base ns [] before ds are known tt
+  same-walk valid zero level above base ns before are known = refl
+  same-walk valid (suc levels) level above base ns before are known =
+      same-in valid (walk tables levels (level + 1)) (λ called address ms. walk-under tables levels (level + 1) called address ms)
+      (λ called address ms seen_before are_ms known_ms. same-walk valid levels (level + 1) called address ms seen_before are_ms known_ms)
+      level above base ns [] before are known tt
 
 -- the first fault by names is the first fault
-pub same-root : (tables : TableMap) (root : Name) → AreReadable tables → first_named [] (root_walk tables root) ≡ first_fault 0 (root_walk tables root)
-same-root tables root readable =
-    let (ds, are) = named_nodes tables readable root in
-    same-walk tables readable (MAX_IDS + 1) 1 [] 0 (nodes_of tables root) [] ds are tt
+pub same-root : (tables : TableMap) (root : Name) → AreValidTables tables → first_named [] (root_walk tables root) ≡ first_fault 0 (root_walk tables root)
+same-root tables root valid =
+    same-walk tables valid (most_ids + 1) 1 [] 0 (nodes_of tables root) [] (named_nodes tables valid root) tt

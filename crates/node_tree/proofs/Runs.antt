@@ -7,7 +7,7 @@ use Rattle.node_tree.specs.declared.walking.Fault.{Fault}
 use Rattle.node_tree.specs.declared.walking.Fault.TheVariants.{At, NoMemory}
 use Rattle.node_tree.specs.Maps.{Name, TableMap}
 use Rattle.node_tree.specs.Names.{children_of, node_name, node_address, register_of}
-use Rattle.node_tree.specs.declared.limits.TheConstants.{MAX_IDS}
+use Rattle.node_tree.specs.Limits.{most_ids}
 use Rattle.node_tree.specs.Walk.{Visit, visit_of, siblings, walk}
 use Rattle.node_tree.specs.Run.{Outcome, run, run_on, visit_next, IsStop}
 
@@ -77,13 +77,13 @@ module _ (below : Below) (tables : TableMap) (level : ℕ) (above : Name) (base 
   none_left ns i found h = at_drop_all (λ ms. run (siblings below tables level above base (take i ns) ms) found) ns i h
 
 -- what is below a node of a level
-pub walk-level : (tables : TableMap) (level : ℕ) (above : Name) (base : ℕ) (ns : List Node) → level ≤ MAX_IDS
-    → walk tables (MAX_IDS + 1 - level) (level + 1) above base ns ≡ siblings (walk tables (MAX_IDS + 1 - (level + 1)) (level + 1 + 1)) tables (level + 1) above base [] ns
+pub walk-level : (tables : TableMap) (level : ℕ) (above : Name) (base : ℕ) (ns : List Node) → level ≤ most_ids
+    → walk tables (most_ids + 1 - level) (level + 1) above base ns ≡ siblings (walk tables (most_ids + 1 - (level + 1)) (level + 1 + 1)) tables (level + 1) above base [] ns
 unfolding walk
-walk-level tables level above base ns h = let more : MAX_IDS + 1 - level ≡ suc (MAX_IDS + 1 - (level + 1)) = omega arith in rw more refl
+walk-level tables level above base ns h = let more : most_ids + 1 - level ≡ suc (most_ids + 1 - (level + 1)) = omega arith in rw more refl
 
-pub below_is : (tables : TableMap) (level : ℕ) (name called : Name) (base address : ℕ) (ns children : List Node) → level ≤ MAX_IDS → name ≡ called → base ≡ address → ns ≡ children
-    → siblings (walk tables (MAX_IDS + 1 - (level + 1)) (level + 1 + 1)) tables (level + 1) name base [] ns ≡ walk tables (MAX_IDS + 1 - level) (level + 1) called address children
+pub below_is : (tables : TableMap) (level : ℕ) (name called : Name) (base address : ℕ) (ns children : List Node) → level ≤ most_ids → name ≡ called → base ≡ address → ns ≡ children
+    → siblings (walk tables (most_ids + 1 - (level + 1)) (level + 1 + 1)) tables (level + 1) name base [] ns ≡ walk tables (most_ids + 1 - level) (level + 1) called address children
 below_is tables level name called base address ns children h p q r =
     let more = walk-level tables level called address children h in
     rw (p, q, r) (sym more)

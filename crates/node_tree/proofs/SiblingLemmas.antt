@@ -4,7 +4,7 @@ use Rattle.std.proofs.lemmas.Bool.{false≢true}
 use Rattle.std.specs.Option.{option_or}
 use Rattle.address_table.specs.Rules.{first_broken}
 use Rattle.address_table.specs.declared.nodes.Node.{Node, out-Node}
-use Rattle.node_tree.specs.declared.limits.TheConstants.{MAX_IDS}
+use Rattle.node_tree.specs.Limits.{most_ids}
 use Rattle.node_tree.specs.declared.refusal.CompileWhy.{CompileWhy}
 use Rattle.node_tree.specs.declared.refusal.CompileWhy.TheVariants.{UnknownModule, ModuleCycle, TooMany, TooDeep, Duplicate, AddressPastEnd}
 use Rattle.node_tree.specs.declared.refusal.CompileRefusal.{CompileRefusal}
@@ -80,7 +80,7 @@ module _ (tables : TableMap) (root : Name) where
 
 -- the first fault is a duplicate only where an earlier sibling has the id
 pub repeated-root : (tables : TableMap) (root path : Name) → first_fault 0 (root_walk tables root) ≡ Some (path, Duplicate) → IsRepeated tables root path
-repeated-root tables root path fault = repeated-walk tables root path (MAX_IDS + 1) 1 [] 0 (nodes_of tables root) 0 top fault
+repeated-root tables root path fault = repeated-walk tables root path (most_ids + 1) 1 [] 0 (nodes_of tables root) 0 top fault
 
 pub tells-repeated : (tables : TableMap) (root : Name) (refusal : CompileRefusal) → IsRefusal tables root refusal → TellsRepeated tables root refusal
 tells-repeated tables root NoMemory told = tt

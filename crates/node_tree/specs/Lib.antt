@@ -1,4 +1,5 @@
 pub mod Named
+pub mod Limits
 pub mod Addresses
 pub mod Maps
 pub mod Names
@@ -6,6 +7,7 @@ pub mod Modules
 pub mod CycleSearch
 pub mod Walk
 pub mod Refusals
+pub mod Same
 pub mod Run
 pub mod Overlaps
 pub mod OverlapExamples

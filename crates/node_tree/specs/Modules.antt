@@ -1,4 +1,4 @@
--- Modules: tables whose nodes are the children of nodes of other tables.
+-- Modules (uHAL): tables whose nodes are the children of nodes of other tables.
 use Rattle.std.specs.Prelude.{◌≡◌, true, false, List, ◌∷◌, ◌++◌, Some}
 use Rattle.std.specs.List.{AllByRecursion}
 use Rattle.std.specs.Ordering.{nat_cmp}
@@ -30,6 +30,14 @@ HasAll map ns = (m : Name) → Mentions ns m → IsIn map m
 -- the nodes have a module that the map has not
 abbrev pub LacksOne : {V : Type 0} → FinMap (slice_cmp nat_cmp) V → List Node → Type 0
 LacksOne map ns = (m : Name) × Mentions ns m × (contains_key map m ≡ false)
+
+-- the map has the module of a node, if the node has one
+abbrev pub HasOwn : {V : Type 0} → FinMap (slice_cmp nat_cmp) V → Node → Type 0
+HasOwn map n = (m : Name) → (out-Node n).«module» ≡ Some m → IsIn map m
+
+-- the node has a module that the map has not
+abbrev pub LacksOwn : {V : Type 0} → FinMap (slice_cmp nat_cmp) V → Node → Type 0
+LacksOwn map n = (m : Name) × ((out-Node n).«module» ≡ Some m) × (contains_key map m ≡ false)
 
 -- a table has a module that is no table
 abbrev pub HasUnknown : TableMap → Name → Type 0

@@ -1,9 +1,10 @@
 -- The names of registers: dotted paths of node ids, with addresses that add up along the path (uHAL).
-use Rattle.std.specs.Prelude.{ℕ, ◌+◌, List, [], ◌∷◌, ◌++◌}
+use Rattle.std.specs.Prelude.{◌≡◌, ◌↔◌, ℕ, ◌+◌, List, [], ◌∷◌, ◌++◌, Some}
 use Rattle.std.specs.Option.{option_map_or}
+use Rattle.std.specs.FinMap.{get}
 use Rattle.address_table.specs.declared.nodes.Node.{Node, out-Node}
 use Rattle.node_tree.specs.declared.register.Register.{Register}
-use Rattle.node_tree.specs.Maps.{Name, TableMap, nodes_of}
+use Rattle.node_tree.specs.Maps.{Name, TableMap, RegisterMap, nodes_of}
 
 -- the children of a node: the nodes of the table of its module, or else its own
 abbrev pub children_of : TableMap → Node → List Node
@@ -49,3 +50,7 @@ pub data Names (tables : TableMap) : List Node → Name → ℕ → Name → Reg
 -- what the table of a name names
 abbrev pub RootNames : TableMap → Name → Name → Register → Type 0
 RootNames tables root name r = Names tables (nodes_of tables root) [] 0 name r
+
+-- an index has the registers that the table of a name names, and no others
+abbrev pub IsIndexOf : TableMap → Name → RegisterMap → Type 0
+IsIndexOf tables root index = (name : Name) (r : Register) → (get index name ≡ Some r) ↔ RootNames tables root name r

@@ -7,4 +7,5 @@ use Rattle.node_tree.specs.Named.{Name}
 
 -- a name with a register of an address, a mask, a mode and a size
 abbrev pub named_register : Name → ℕ → ℕ → Mode → ℕ → Name × Register
-named_register name address mask mode size = (name, record { address = address; mask = mask; permission = Rw; mode = mode; size = size })
+named_register name address mask mode size =
+    (name, record { address = address; mask = mask; permission = Rw; mode = mode; size = size })

@@ -1,5 +1,6 @@
 -- Registers that share bits of a word. Profile; uHAL for names, masks and modes.
-use Rattle.std.specs.Prelude.{◌≡◌, ℕ, ◌+◌, ◌<◌, ◌≤◌, List, [], ◌∷◌, ◌++◌, Bool, true, false, not, ◌&&◌, ◌==◌, nat_eq, nat_lt, length, slice_get, bit_and, codes, Option, Some, None}
+use Rattle.std.specs.Prelude.{◌≡◌, ℕ, ◌+◌, ◌<◌, ◌≤◌, List, [], ◌∷◌, ◌++◌, Bool, true, false, not, ◌&&◌, ◌==◌, nat_eq}
+use Rattle.std.specs.Prelude.{nat_lt, length, slice_get, bit_and, codes, Option, Some, None}
 use Rattle.std.specs.List.{position_from, starts_with}
 use Rattle.address_table.specs.declared.kinds.Mode.{Mode}
 use Rattle.address_table.specs.declared.kinds.Mode.TheVariants.{Single, Block, Port, Hierarchical}
@@ -41,7 +42,8 @@ pair_with j (Some i) = (i, j) ∷ []
 -- for each entry that overlaps one before it, the places of the first such one and of the entry
 abbrev pub overlapping : List (Name × Register) → List (Name × Register) → List (ℕ × ℕ)
 overlapping before [] = []
-overlapping before (e ∷ es) = pair_with (length before) (position_from (λ a. overlap a e) 0 before) ++ overlapping (before ++ e ∷ []) es
+overlapping before (e ∷ es) =
+    pair_with (length before) (position_from (λ a. overlap a e) 0 before) ++ overlapping (before ++ e ∷ []) es
 
 -- an entry that is there passes a test
 abbrev pub passes : (Name × Register → Bool) → Option (Name × Register) → Bool

@@ -1,8 +1,9 @@
 -- The walk as the code goes along it, with the registers and the number of nodes so far. No public clause speaks of it.
-use Rattle.std.specs.Prelude.{◌≡◌, ℕ, ◌+◌, ◌^◌, Bool, not, nat_lt, nat_le, List, [], ◌∷◌, Option, Some, None, Result, Ok, Err}
+use Rattle.std.specs.Prelude.{◌≡◌, ℕ, ◌+◌, ◌^◌, Bool, not, nat_lt, nat_le, List, [], ◌∷◌, Option, Some, None, Result}
+use Rattle.std.specs.Prelude.{Ok, Err}
 use Rattle.std.specs.FinMap.{contains_key, insert}
 use Rattle.address_table.specs.Rules.{first_broken}
-use Rattle.node_tree.specs.declared.limits.TheConstants.{MAX_NODES, MAX_IDS}
+use Rattle.node_tree.specs.Limits.{most_nodes, most_ids}
 use Rattle.node_tree.specs.declared.register.Register.{Register}
 use Rattle.node_tree.specs.declared.refusal.CompileWhy.{CompileWhy}
 use Rattle.node_tree.specs.declared.refusal.CompileWhy.TheVariants.{TooMany, TooDeep, Duplicate, AddressPastEnd}
@@ -19,8 +20,8 @@ Outcome = Result Found (Name × CompileWhy)
 -- the rules for the next node: a name that is there already stands for an earlier sibling with the node's id
 abbrev pub next_rules : Found → Name → ℕ → Register → List (CompileWhy × Bool)
 next_rules found name level r =
-    (TooMany, nat_lt found.count MAX_NODES)
-    ∷ (TooDeep, nat_le level MAX_IDS)
+    (TooMany, nat_lt found.count most_nodes)
+    ∷ (TooDeep, nat_le level most_ids)
     ∷ (Duplicate, not (contains_key found.names name))
     ∷ (AddressPastEnd, nat_lt (last_address r) (2 ^ 32))
     ∷ []

@@ -1,10 +1,11 @@
 -- The nodes of a table in the order of a walk, each before its children, and the first that breaks a rule. Profile.
-use Rattle.std.specs.Prelude.{◌≡◌, ◌⊎◌, ℕ, zero, suc, ◌+◌, ◌^◌, Bool, not, nat_lt, nat_le, List, [], ◌∷◌, ◌++◌, Option, Some, None}
+use Rattle.std.specs.Prelude.{◌≡◌, ◌⊎◌, ℕ, zero, suc, ◌+◌, ◌^◌, Bool, not, nat_lt, nat_le, List, [], ◌∷◌, ◌++◌}
+use Rattle.std.specs.Prelude.{Option, Some, None}
 use Rattle.std.specs.List.{list_any}
 use Rattle.std.specs.Str.{bytes_eq}
 use Rattle.address_table.specs.Rules.{first_broken}
 use Rattle.address_table.specs.declared.nodes.Node.{Node, out-Node}
-use Rattle.node_tree.specs.declared.limits.TheConstants.{MAX_NODES, MAX_IDS}
+use Rattle.node_tree.specs.Limits.{most_nodes, most_ids}
 use Rattle.node_tree.specs.declared.register.Register.{Register}
 use Rattle.node_tree.specs.declared.refusal.CompileWhy.{CompileWhy}
 use Rattle.node_tree.specs.declared.refusal.CompileWhy.TheVariants.{TooMany, TooDeep, Duplicate, AddressPastEnd}
@@ -50,13 +51,13 @@ walk tables (suc levels) level above base ns = siblings (walk tables levels (lev
 
 -- The walk from a root. A node at the 17th level breaks a rule, so what is below it is not looked at.
 abbrev pub root_walk : TableMap → Name → List Visit
-root_walk tables root = walk tables (MAX_IDS + 1) 1 [] 0 (nodes_of tables root)
+root_walk tables root = walk tables (most_ids + 1) 1 [] 0 (nodes_of tables root)
 
 -- the rules for a node that so many nodes come before, each with whether it is kept
 abbrev pub visit_rules : ℕ → Visit → List (CompileWhy × Bool)
 visit_rules count v =
-    (TooMany, nat_lt count MAX_NODES)
-    ∷ (TooDeep, nat_le v.level MAX_IDS)
+    (TooMany, nat_lt count most_nodes)
+    ∷ (TooDeep, nat_le v.level most_ids)
     ∷ (Duplicate, not v.repeated)
     ∷ (AddressPastEnd, nat_lt (last_address v.register) (2 ^ 32))
     ∷ []

@@ -1,9 +1,6 @@
 //! The modules of nodes, and the first table with an unknown one.
-ghost use Rattle.std.specs.Prelude.{◌≡◌, Some, false, MatchBool, MatchOption};
-ghost use Rattle.std.specs.FinMap as finite;
-ghost use Rattle.address_table.specs.declared.nodes.Node.{out-Node};
-ghost use Rattle.node_tree.specs.Maps.{Name};
-ghost use Rattle.node_tree.specs.Modules.{HasUnknown, NoTable, IsFirstTable, IsIn, HasAll, LacksOne};
+ghost use Rattle.std.specs.Prelude.{MatchBool, MatchOption};
+ghost use Rattle.node_tree.specs.Modules.{HasUnknown, NoTable, IsFirstTable, HasAll, LacksOne, HasOwn, LacksOwn};
 
 use crate::Tables;
 use crate::name_map::NameMap;
@@ -11,7 +8,8 @@ use address_table::Node;
 
 /// The first table in byte order that has a node with an unknown module.
 pub(crate) fn first_unknown(tables: &Tables) -> Option<&str>
-    ensures { MatchOption result (NoTable tables.now (HasUnknown tables.now)) (λ name. IsFirstTable tables.now (HasUnknown tables.now) name.now) }
+    ensures { let unknown = HasUnknown tables.now in
+        MatchOption result (NoTable tables.now unknown) (λ name. IsFirstTable tables.now unknown name.now) }
 {
     for (name, table) in tables.entries() {
         if !has_modules(tables.by_name(), &table.nodes) {
@@ -38,7 +36,7 @@ pub(crate) fn has_modules<V: Drop>(known: &NameMap<V>, nodes: &[Node]) -> bool
 
 /// Whether a map has the module of a node, if the node has one.
 fn has_module<V: Drop>(known: &NameMap<V>, node: &Node) -> bool
-    ensures { MatchBool result ((m : Name) → (out-Node node.now).«module» ≡ Some m → IsIn known.now m) ((m : Name) × ((out-Node node.now).«module» ≡ Some m) × (finite.contains_key known.now m ≡ false)) }
+    ensures { MatchBool result (HasOwn known.now node.now) (LacksOwn known.now node.now) }
 {
     match &node.module {
         Some(name) => known.contains(name.as_str()),

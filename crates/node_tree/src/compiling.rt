@@ -1,13 +1,11 @@
-ghost use Rattle.std.specs.Prelude.{◌≡◌, ◌≤◌, ◌↔◌, [], Some, IfOk, IfErr, OnOk};
-ghost use Rattle.node_tree.specs.declared.limits.TheConstants.{MAX_NODES};
+ghost use Rattle.std.specs.Prelude.{◌≡◌, ◌≤◌, [], IfOk, IfErr, OnOk};
+ghost use Rattle.node_tree.specs.Limits.{most_nodes};
 ghost use Rattle.std.specs.FinMap as map;
-ghost use Rattle.node_tree.specs.Maps.{AreMasked, AreWithin, AreReadable};
-ghost use Rattle.node_tree.specs.Named.{Name};
-ghost use Rattle.node_tree.specs.Names.{RootNames};
+ghost use Rattle.node_tree.specs.Maps.{AreRegisters, AreValidTables};
+ghost use Rattle.node_tree.specs.Names.{IsIndexOf};
 ghost use Rattle.node_tree.specs.Modules.{ReachesItself, NoTable};
 ghost use Rattle.node_tree.specs.Refusals.{AreKnown, KeepsRules, IsRefusal, Refuses};
 ghost use Rattle.node_tree.specs.Repeats.{TellsRepeated};
-ghost use Rattle.node_tree.specs.declared.register.Register.{Register as Reg};
 
 use crate::check_modules::first_unknown;
 use crate::cycles::first_cycle;
@@ -19,15 +17,13 @@ use std::alloc::Global;
 use std::collections::BTreeMap;
 
 /// The index of the registers that a table names (uHAL). The tables are compiled exactly where they break no rule of
-/// `CompileWhy`, and then the index has the registers that the root names and no others. No mask in it is 0, and each
-/// last address has 32 bits. A refusal tells the first rule that is broken, and where; one for a duplicate means that an
-/// earlier sibling of the node has its id.
+/// `CompileWhy`, and then the index has the registers that the root names and no others. Each mask and size fits
+/// its mode, and each register ends at an address of 32 bits. A refusal tells the first rule that is broken, and where;
+/// one for a duplicate means that an earlier sibling of the node has its id.
 pub fn compile(alloc: Global, tables: &Tables, root: &str) -> Result<Index, CompileRefusal>
-    ensures names { let named = RootNames tables.now root.now in
-        IfOk result (λ index. (name : Name) (r : Reg) → (map.get index name ≡ Some r) ↔ named name r) }
+    ensures names { IfOk result (λ index. IsIndexOf tables.now root.now index) }
     ensures only_if_kept { OnOk result (KeepsRules tables.now root.now) }
-    ensures masked { IfOk result (λ index. AreMasked index) }
-    ensures within { IfOk result (λ index. AreWithin index) }
+    ensures registers { IfOk result (λ index. AreRegisters index) }
     ensures refused { IfErr result (λ refusal. IsRefusal tables.now root.now refusal) }
     ensures repeated { IfErr result (λ refusal. TellsRepeated tables.now root.now refusal) }
 {
@@ -47,7 +43,7 @@ pub fn compile(alloc: Global, tables: &Tables, root: &str) -> Result<Index, Comp
 /// Refuses unknown modules and an unknown root.
 fn check_known(alloc: Global, tables: &Tables, root: &str) -> Result<(), CompileRefusal>
     ensures known { OnOk result (AreKnown tables.now root.now) }
-    ensures readable { OnOk result (AreReadable tables.now) }
+    ensures valid { OnOk result (AreValidTables tables.now) }
     ensures refused { IfErr result (λ refusal. IsRefusal tables.now root.now refusal) }
 {
     if let Some(name) = first_unknown(tables) {
@@ -92,9 +88,8 @@ fn refused_at(alloc: Global, table: &str, path: Text, why: CompileWhy) -> Compil
 
 /// The index of the registers that the walk found.
 fn index_of(alloc: Global, found: Found) -> Result<Index, NoMemory>
-    requires few { map.len found.names ≤ MAX_NODES }
-    requires masked { AreMasked found.names }
-    requires within { AreWithin found.names }
+    requires few { map.len found.names ≤ most_nodes }
+    requires registers { AreRegisters found.names }
     ensures { IfOk result (λ index. index ≡ found.names) }
 {
     let Found { names, count: _ } = found;

@@ -22,7 +22,9 @@ pub(crate) fn first_cycle<'a>(
     tables: &'a Tables,
 ) -> Result<Option<&'a str>, NoMemory>
     requires { NoTable tables.now (HasUnknown tables.now) }
-    ensures { IfOk result (λ first. MatchOption first (NoTable tables.now (ReachesItself tables.now)) (λ name. IsFirstTable tables.now (ReachesItself tables.now) name.now)) }
+    ensures { let loops = ReachesItself tables.now in
+        let found = IsFirstTable tables.now loops in
+        IfOk result (λ first. MatchOption first (NoTable tables.now loops) (λ name. found name.now)) }
 {
     let ranks = rising_ranks(alloc, tables)?;
     for (name, _table) in tables.entries() {
@@ -55,7 +57,8 @@ fn leads_to_itself(
 ) -> Result<bool, NoMemory>
     requires known { NoTable tables.now (HasUnknown tables.now) }
     requires rising { AreRising tables.now ranks.now }
-    ensures { IfOk result (λ leads. MatchBool leads (ReachesItself tables.now name.now) (ReachesItself tables.now name.now → ⊥)) }
+    ensures { let loops = ReachesItself tables.now name.now in
+        IfOk result (λ leads. MatchBool leads loops (loops → ⊥)) }
 {
     if is_below_modules(tables, ranks, name) {
         return Ok(false);

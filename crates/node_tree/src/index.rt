@@ -2,9 +2,8 @@ ghost use Rattle.std.specs.Prelude.{◌≡◌, ◌<◌, ◌≤◌, ◌^◌, ◌=
 ghost use Rattle.std.specs.Ordering.{nat_cmp};
 ghost use Rattle.std.specs.Cmp.Lexicographic.{slice_cmp};
 ghost use Rattle.std.specs.FinMap as map;
-ghost use Rattle.node_tree.specs.declared.limits.TheConstants.{MAX_NODES};
-ghost use Rattle.node_tree.specs.Addresses.{last_address};
-ghost use Rattle.node_tree.specs.Maps.{AreEntries};
+ghost use Rattle.node_tree.specs.Limits.{most_nodes};
+ghost use Rattle.node_tree.specs.Maps.{AreEntries, IsRegister};
 ghost use Rattle.node_tree.specs.Named.{named, AreInOrder};
 ghost use Rattle.node_tree.specs.Overlaps.{overlapping};
 
@@ -45,11 +44,11 @@ impl Index {
         Index { entries }
     }
 
-    /// The register of a name, if the index has the name. Its mask is not 0, and its last address has 32 bits.
+    /// The register of a name, if the index has the name. Its mask and its size fit its mode, and it ends at an address
+    /// of 32 bits.
     pub fn find(&self, name: &str) -> Option<Register>
         ensures found { result ≡ map.get self.now name.now }
-        ensures masked { IfSome result (λ register. 0 < register.mask) }
-        ensures within { IfSome result (λ register. last_address register < 2 ^ 32) }
+        ensures register { IfSome result IsRegister }
     {
         found_in(&self.entries, name)
     }
@@ -57,7 +56,7 @@ impl Index {
     /// How many registers there are, at most `MAX_NODES`.
     pub fn len(&self) -> usize
         ensures registers { result ≡ map.len self.now }
-        ensures few { result ≤ MAX_NODES }
+        ensures few { result ≤ most_nodes }
     {
         let entries = self.entries.as_slice();
         entries.len()
@@ -70,12 +69,12 @@ impl Index {
         self.len() == 0
     }
 
-    /// A register by its place from 0, in byte order of the names. Its mask is not 0, and its last address has 32 bits.
+    /// A register by its place from 0, in byte order of the names. Its mask and its size fit its mode, and it ends at
+    /// an address of 32 bits.
     pub fn at(&self, i: usize) -> (&str, Register)
         requires { i < map.len self.now }
         ensures entry { slice_get (map.entries self.now) i ≡ Some (result.0.now, result.1) }
-        ensures masked { 0 < result.1.mask }
-        ensures within { last_address result.1 < 2 ^ 32 }
+        ensures register { IsRegister result.1 }
     {
         let entries = self.entries.as_slice();
         let entry = &entries[i];

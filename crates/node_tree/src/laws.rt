@@ -1,19 +1,23 @@
-//! Laws of the definitions, and worked examples of them. These functions do nothing when they run: their clauses are what is proved.
-ghost use Rattle.std.specs.Prelude.{◌≡◌, ◌⊎◌, ◌+◌, List, [], ◌∷◌, ◌++◌, Some, codes, true, false};
+//! Laws of the definitions, and worked examples of them. These functions do nothing when they run: their clauses are
+//! what is proved.
+ghost use Rattle.std.specs.Prelude.{◌≡◌, ◌↔◌, ◌⊎◌, ◌+◌, List, [], ◌∷◌, ◌++◌, Some, codes, true, false};
 ghost use Rattle.address_table.specs.declared.nodes.Node.{Node, out-Node};
 ghost use Rattle.address_table.specs.declared.kinds.Mode.TheVariants.{Single, Block, Port, Hierarchical};
 ghost use Rattle.node_tree.specs.declared.limits.TheConstants.{MAX_NODES, MAX_IDS};
 ghost use Rattle.node_tree.specs.declared.refusal.CompileWhy.{CompileWhy as Why};
 ghost use Rattle.node_tree.specs.declared.refusal.CompileWhy.TheVariants.{Duplicate};
+ghost use Rattle.node_tree.specs.declared.refusal.CompileRefusal.{CompileRefusal};
 ghost use Rattle.node_tree.specs.declared.refusal.CompileRefusal.TheVariants.{At};
 ghost use Rattle.node_tree.specs.declared.register.Register.{Register as Reg};
 ghost use Rattle.node_tree.specs.Addresses.{last_address};
 ghost use Rattle.node_tree.specs.Examples.{full_register};
-ghost use Rattle.node_tree.specs.Maps.{Name, TableMap};
-ghost use Rattle.node_tree.specs.Names.{RootNames, name_below};
+ghost use Rattle.node_tree.specs.Limits.{most_nodes, most_ids};
+ghost use Rattle.node_tree.specs.Maps.{Name, TableMap, RegisterMap};
+ghost use Rattle.node_tree.specs.Names.{RootNames, IsIndexOf, name_below};
 ghost use Rattle.node_tree.specs.Overlaps.{is_dotted_prefix};
 ghost use Rattle.node_tree.specs.Refusals.{KeepsRules, IsRefusal};
 ghost use Rattle.node_tree.specs.Repeats.{AreSiblings, HasId, IsRepeated};
+ghost use Rattle.node_tree.specs.Same.{SameTables};
 ghost use Rattle.node_tree.specs.Walk.{first_fault, root_walk, Lists, HasLevel};
 
 /// Tables that keep the rules are not refused.
@@ -32,6 +36,27 @@ pub fn a_refusal_is_the_only_one()
         → (name ≡ other) × (path ≡ place) × (why ≡ rule) }
 {}
 
+/// Tables and a root have one index.
+pub fn an_index_is_determined_by_tables_and_root()
+    ensures { (tables : TableMap) (root : Name) (index other : RegisterMap)
+        → IsIndexOf tables root index
+        → IsIndexOf tables root other
+        → index ≡ other }
+{}
+
+/// Tables that have the same nodes are compiled into the same index, and refused in the same way.
+pub fn tables_that_are_the_same_compile_alike()
+    ensures index { (tables others : TableMap) (root : Name) (index : RegisterMap)
+        → SameTables tables others
+        → IsIndexOf tables root index ↔ IsIndexOf others root index }
+    ensures kept { (tables others : TableMap) (root : Name)
+        → SameTables tables others
+        → KeepsRules tables root ↔ KeepsRules others root }
+    ensures refused { (tables others : TableMap) (root : Name) (refusal : CompileRefusal)
+        → SameTables tables others
+        → IsRefusal tables root refusal ↔ IsRefusal others root refusal }
+{}
+
 /// The walk lists what the root names, as long as no name has more than `MAX_IDS` ids.
 pub fn a_walk_lists_what_the_root_names()
     ensures only { (tables : TableMap) (root name : Name) (r : Reg)
@@ -39,7 +64,7 @@ pub fn a_walk_lists_what_the_root_names()
         → RootNames tables root name r }
     ensures all { (tables : TableMap) (root name : Name) (r : Reg)
         → RootNames tables root name r
-        → Lists (root_walk tables root) name r ⊎ HasLevel (root_walk tables root) (MAX_IDS + 1) }
+        → Lists (root_walk tables root) name r ⊎ HasLevel (root_walk tables root) (most_ids + 1) }
 {}
 
 /// Where the first faulty node is told as a duplicate, an earlier sibling has its id.
@@ -60,8 +85,8 @@ pub fn siblings_have_ids_of_their_own()
 
 /// The limits of an index.
 pub fn limits()
-    ensures nodes { MAX_NODES ≡ 65536 }
-    ensures ids { MAX_IDS ≡ 16 }
+    ensures nodes { MAX_NODES ≡ most_nodes }
+    ensures ids { MAX_IDS ≡ most_ids }
 {}
 
 /// A block takes one address for each of its words, and every other register one.

@@ -19,6 +19,7 @@ pub use address_table::NoMemory;
 pub use compiling::compile;
 pub use index::Index;
 pub use limits::{MAX_IDS, MAX_NODES};
+pub use overlapping::overlap;
 pub use refusal::{CompileRefusal, CompileWhy};
 pub use register::Register;
 pub use tables::Tables;

@@ -1,12 +1,17 @@
 //! Registers that share bits of a word.
-ghost use Rattle.std.specs.Prelude.{◌≡◌, ◌<◌, ◌≤◌, ◌++◌, [], IfOk, length, string_bytes, option_to_list};
-ghost use Rattle.node_tree.specs.Named.{named};
+ghost use Rattle.std.specs.Prelude.{◌≡◌, ◌<◌, ◌≤◌, ◌++◌, [], IfOk, length, option_to_list};
+ghost use Rattle.std.specs.List.{All};
+ghost use Rattle.node_tree.specs.Limits.{most_nodes};
+ghost use Rattle.node_tree.specs.Named.{named, AreInOrder};
 ghost use Rattle.node_tree.specs.Overlaps as spec;
-ghost use Rattle.node_tree.specs.OverlapSearch.{pair_before};
+ghost use Rattle.node_tree.specs.OverlapSearch.{pair_before, AreNamedRegisters, AreFirsts};
 
-mod sweeping;
+mod events;
+mod noting;
+mod settling;
 
-use self::sweeping::first_overlaps;
+use self::events::events_of;
+use self::settling::settle;
 use crate::walking::words_of;
 use crate::{NoMemory, Register};
 use address_table::Mode;
@@ -15,12 +20,27 @@ use std::alloc::Global;
 /// A name and its register.
 type Entry = (String, Register);
 
+/// Whether two registers overlap (profile): neither is hierarchical, they share an address and a bit of their masks,
+/// and neither name is the other's up to a dot. A block has `size` addresses, the others one.
+pub fn overlap(name: &str, register: &Register, other_name: &str, other: &Register) -> bool
+    ensures { result ≡ spec.overlap (name.now, register.now) (other_name.now, other.now) }
+{
+    takes_words(register.mode)
+        && takes_words(other.mode)
+        && share_an_address(register, other)
+        && register.mask & other.mask != 0
+        && !is_dotted_prefix(name.as_bytes(), other_name.as_bytes())
+        && !is_dotted_prefix(other_name.as_bytes(), name.as_bytes())
+}
+
 /// For each entry that overlaps one before it, the places of the first such one and of the entry.
 pub(crate) fn overlapping_pairs(
     alloc: Global,
     entries: &[Entry],
 ) -> Result<Vec<(u32, u32)>, NoMemory>
-    requires { length entries.now ≤ 65536 }
+    requires few { length entries.now ≤ most_nodes }
+    requires in_order { AreInOrder entries.now }
+    requires registers { AreNamedRegisters (named entries.now) }
     ensures { IfOk result (λ pairs. pairs.items ≡ spec.overlapping [] (named entries.now)) }
 {
     let firsts = first_overlaps(alloc, entries)?;
@@ -30,6 +50,29 @@ pub(crate) fn overlapping_pairs(
         push_some(&mut pairs, pair)?;
     }
     Ok(pairs)
+}
+
+/// For each entry the place of the first that it overlaps; a place that is not before it where there is none.
+fn first_overlaps(alloc: Global, entries: &[Entry]) -> Result<Vec<usize>, NoMemory>
+    requires in_order { AreInOrder entries.now }
+    requires registers { AreNamedRegisters (named entries.now) }
+    ensures { IfOk result (λ firsts. AreFirsts (named entries.now) firsts.items) }
+{
+    let mut firsts = vec![in alloc; entries.len(); entries.len()]?;
+    lower_firsts(alloc, entries, &mut firsts)?;
+    Ok(firsts)
+}
+
+/// The same, in a list that has no place before an entry.
+fn lower_firsts(alloc: Global, entries: &[Entry], firsts: &mut [usize]) -> Result<(), NoMemory>
+    requires in_order { AreInOrder entries.now }
+    requires registers { AreNamedRegisters (named entries.now) }
+    requires lengths { length firsts.old ≡ length entries.now }
+    requires none { All (λ place. place ≡ length entries.now) firsts.old }
+    ensures { IfOk result (λ _. AreFirsts (named entries.now) firsts.new) }
+{
+    let events = events_of(alloc, entries, firsts)?;
+    settle(alloc, events, 0, 32, firsts)
 }
 
 fn push_some(pairs: &mut Vec<(u32, u32)>, pair: Option<(u32, u32)>) -> Result<(), NoMemory>
@@ -43,26 +86,13 @@ fn push_some(pairs: &mut Vec<(u32, u32)>, pair: Option<(u32, u32)>) -> Result<()
 
 /// A place and a later one; none where the first is not before the second.
 fn pair_with(first: usize, i: usize) -> Option<(u32, u32)>
-    requires { i ≤ 65536 }
+    requires { i ≤ most_nodes }
     ensures { option_to_list result ≡ pair_before first i }
 {
     if first < i {
         return Some((first as u32, i as u32));
     }
     None
-}
-
-/// Whether two registers share bits of a word: neither is hierarchical, they share an address and a bit of their masks,
-/// and neither name is a dotted prefix of the other.
-fn overlap(a: &Entry, b: &Entry) -> bool
-    ensures { result ≡ spec.overlap (string_bytes a.now.0, a.now.1) (string_bytes b.now.0, b.now.1) }
-{
-    takes_words(a.1.mode)
-        && takes_words(b.1.mode)
-        && share_an_address(&a.1, &b.1)
-        && a.1.mask & b.1.mask != 0
-        && !is_dotted_prefix(a.0.as_bytes(), b.0.as_bytes())
-        && !is_dotted_prefix(b.0.as_bytes(), a.0.as_bytes())
 }
 
 /// Whether another name begins with this one and a dot.

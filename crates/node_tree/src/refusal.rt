@@ -1,6 +1,8 @@
 ghost use Rattle.std.specs.Prelude.{◌≡◌};
 
 use address_table::{NoMemory, Text};
+use std::error::Error;
+use std::fmt;
 
 /// The rule that tables break when they are compiled (profile), in the order in which the rules are judged.
 #[derive(Clone, Copy, Debug, PartialEq, Eq)]
@@ -42,3 +44,31 @@ impl From<NoMemory> for CompileRefusal {
         CompileRefusal::NoMemory
     }
 }
+
+impl fmt::Display for CompileWhy {
+    fn fmt<W: fmt::Write>(&self, f: &mut fmt::Formatter<W>) -> fmt::Result {
+        match self {
+            CompileWhy::UnknownModule => write!(f, "an unknown table"),
+            CompileWhy::ModuleCycle => write!(f, "a table that leads to itself"),
+            CompileWhy::TooMany => write!(f, "too many nodes"),
+            CompileWhy::TooDeep => write!(f, "a name of too many ids"),
+            CompileWhy::Duplicate => write!(f, "an id that an earlier sibling has"),
+            CompileWhy::AddressPastEnd => write!(f, "an address past 0xffffffff"),
+        }
+    }
+}
+
+impl Error for CompileWhy {}
+
+impl fmt::Display for CompileRefusal {
+    fn fmt<W: fmt::Write>(&self, f: &mut fmt::Formatter<W>) -> fmt::Result {
+        match self {
+            CompileRefusal::At { table, path, why } => {
+                write!(f, "table {} {}: {}", table.as_str(), path.as_str(), why)
+            }
+            CompileRefusal::NoMemory => write!(f, "out of memory"),
+        }
+    }
+}
+
+impl Error for CompileRefusal {}

@@ -1,7 +1,7 @@
 ghost use Rattle.std.specs.Prelude.{◌≡◌, OnOk, OnErr, option_copied};
 ghost use Rattle.std.specs.FinMap as map;
-ghost use Rattle.address_table.specs.Tables.{IsReadable};
-ghost use Rattle.node_tree.specs.Maps.{AreReadable};
+ghost use Rattle.address_table.specs.Valid.{IsValid};
+ghost use Rattle.node_tree.specs.Maps.{AreValidTables};
 ghost use Rattle.node_tree.specs.Named.{named};
 
 use crate::name_map::NameMap;
@@ -20,7 +20,7 @@ pub struct Tables {
 impl Model for Tables {
     ghost use Rattle.std.specs.Coded.{coded_ℕ, coded_list};
     ghost use Rattle.std.specs.FinMap as map;
-    ghost use Rattle.node_tree.specs.Maps.{TableMap, AreReadable};
+    ghost use Rattle.node_tree.specs.Maps.{TableMap, AreValidTables};
     ghost use Rattle.address_table.specs.contracts.nodes.Table as t;
 
     ghost Value = { TableMap };
@@ -29,7 +29,7 @@ impl Model for Tables {
 
     ghost view = { λ tables. tables.by_name };
 
-    ghost invariant = { λ tables. AreReadable tables.by_name };
+    ghost invariant = { λ tables. AreValidTables tables.by_name };
 }
 
 impl Tables {
@@ -43,9 +43,10 @@ impl Tables {
         }
     }
 
-    /// Keeps a table under a name, in the place of one of that name. After `NoMemory` the tables are as before.
+    /// Keeps a table under a name, in the place of one of that name. Its nodes are valid, as those of a table that was
+    /// read are. After `NoMemory` the tables are as before.
     pub fn put(&mut self, name: &str, table: Table) -> Result<(), NoMemory>
-        requires { IsReadable table }
+        requires { IsValid table }
         ensures ok { OnOk result (self.new ≡ map.insert self.old name.now table) }
         ensures err { OnErr result (self.new ≡ self.old) }
     {
@@ -59,10 +60,10 @@ impl Tables {
         self.by_name.get(name)
     }
 
-    /// The tables by name. Each was read from a value of a document, since no other may be put.
+    /// The tables by name. The nodes of each are valid, since no other table may be put.
     pub(crate) fn by_name(&self) -> &NameMap<Table>
         ensures same { result.now ≡ self.now }
-        ensures readable { AreReadable self.now }
+        ensures valid { AreValidTables self.now }
     {
         &self.by_name
     }

@@ -292,6 +292,65 @@ fn registers_that_share_bits_are_paired(rt: HostRuntime) -> Result<(), Fail> {
     Ok(())
 }
 
+/// The pairs are those of the test of two registers, where blocks, fields and parts of them stand among one another.
+#[test]
+fn pairs_are_those_of_two_registers_that_overlap(rt: HostRuntime) -> Result<(), Fail> {
+    let text = r#"
+main = [
+    { id = "a", address = 2, mode = "block", size = 6, nodes = [{ id = "x" }, { id = "y", address = 1, mask = 3 }] },
+    { id = "a-1", address = 3, mask = 2 },
+    { id = "b", address = 0, mode = "block", size = 3 },
+    { id = "c", address = 0x400000, mode = "block", size = 4194304 },
+    { id = "d", address = 0xfffffffe, mode = "block", size = 2 },
+    { id = "e", address = 0xffffffff, mask = 0x80000000 },
+    { id = "f", address = 0x7fffff, mask = 1 },
+    { id = "g", address = 3, mask = 4, nodes = [{ id = "h", mask = 4 }, { id = "i", mask = 8 }] },
+]
+"#;
+    let tables = tables_in(rt.alloc(), text)?;
+    let index = compile(rt.alloc(), &tables, "main")?;
+    let mut wanted = Vec::new(rt.alloc());
+    for b in 0..index.len() {
+        let (name, register) = index.at(b);
+        for a in 0..b {
+            let (earlier, other) = index.at(a);
+            if overlap(earlier, &other, name, &register) {
+                wanted.push((a as u32, b as u32))?;
+                break;
+            }
+        }
+    }
+    let by_hand = [
+        (0, 1),
+        (1, 3),
+        (0, 4),
+        (6, 7),
+        (5, 8),
+        (0, 9),
+        (0, 10),
+        (0, 11),
+    ];
+    assert_eq!(rt; wanted.as_slice(), by_hand.as_slice());
+    assert_eq!(rt; index.overlaps(rt.alloc())?.as_slice(), wanted.as_slice());
+    Ok(())
+}
+
+#[test]
+fn refusals_are_told_in_words(rt: HostRuntime) -> Result<(), Fail> {
+    let tables = tables_in(rt.alloc(), "main = [{ id = \"x\" }, { id = \"x\" }]")?;
+    match compile(rt.alloc(), &tables, "main") {
+        Ok(_) => Err("compiled")?,
+        Err(refusal) => {
+            let words = format!(in rt.alloc(); "{}", refusal)?;
+            assert_eq!(rt;
+                words.as_str(),
+                "table main x: an id that an earlier sibling has"
+            );
+        }
+    }
+    Ok(())
+}
+
 /// A table that is put under a name that is there takes the place of the one before.
 #[test]
 fn a_table_replaces_one_of_its_name(rt: HostRuntime) -> Result<(), Fail> {

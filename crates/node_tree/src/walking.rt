@@ -1,6 +1,7 @@
 //! The walk through the nodes of a table and of its modules.
-ghost use Rattle.std.specs.Prelude.{◌≡◌, ◌≤◌, ◌-◌, ◌+◌, [], Ok, Err, OnOk, IfOk, IfErr, SomeIff, ◌<◌, ◌^◌, string_bytes};
-ghost use Rattle.node_tree.specs.declared.limits.TheConstants.{MAX_IDS};
+ghost use Rattle.std.specs.Prelude.{◌≡◌, ◌≤◌, ◌-◌, ◌+◌, [], Ok, Err, OnOk, IfOk, IfErr, SomeIff, ◌<◌, ◌^◌};
+ghost use Rattle.std.specs.Prelude.{string_bytes};
+ghost use Rattle.node_tree.specs.Limits.{most_ids};
 ghost use Rattle.node_tree.specs.Maps.{nodes_of as table_nodes};
 ghost use Rattle.node_tree.specs.Names.{children_of, name_below, register_of};
 ghost use Rattle.node_tree.specs.Walk as spec;
@@ -56,11 +57,11 @@ pub(crate) fn walk(
     level: u32,
     found: &mut Found,
 ) -> Result<(), Fault>
-    requires { level ≤ MAX_IDS + 1 }
-    ensures walked { let below = spec.walk tables.now (MAX_IDS + 1 - level) (level + 1) in
+    requires { level ≤ most_ids + 1 }
+    ensures walked { let below = spec.walk tables.now (most_ids + 1 - level) (level + 1) in
         let visits = spec.siblings below tables.now level above.now base [] nodes.now in
         IfOk result (λ _. run visits found.old ≡ Ok found.new) }
-    ensures stopped { let below = spec.walk tables.now (MAX_IDS + 1 - level) (level + 1) in
+    ensures stopped { let below = spec.walk tables.now (most_ids + 1 - level) (level + 1) in
         let visits = spec.siblings below tables.now level above.now base [] nodes.now in
         IfErr result (λ fault. IsStop (run visits found.old) fault) }
 {
@@ -90,7 +91,7 @@ fn visit(
     node: &Node,
     found: &mut Found,
 ) -> Result<u32, Fault>
-    ensures shallow { OnOk result (level ≤ MAX_IDS) }
+    ensures shallow { OnOk result (level ≤ most_ids) }
     ensures address { IfOk result (λ address. address ≡ (register_of base node.now).address) }
     ensures visited { let next = visit_next found.old name.now level (register_of base node.now) in
         OnOk result (next ≡ Ok found.new) }

@@ -1,6 +1,7 @@
 -- The first word of a packet, written and read.
 use Rattle.std.specs.Prelude.{◌==◌, if◌then◌else◌}
-use Rattle.std.proofs.Common.{◌≡◌, ℕ, zero, suc, ◌/◌, ◌%◌, ◌<◌, ◌^◌, Bool, true, false, List, length, Option, Some, None, Result, Ok, Err, refl, sym, ap, subst, ◌∙◌, arith, lit<}
+use Rattle.std.proofs.Common.{◌≡◌, ℕ, zero, suc, ◌/◌, ◌%◌, ◌<◌, ◌^◌, Bool, true, false, List, length, Option, Some}
+use Rattle.std.proofs.Common.{None, Result, Ok, Err, refl, sym, ap, subst, ◌∙◌, arith, lit<}
 use Rattle.std.proofs.lemmas.Bool.{eqb-true}
 use Rattle.packet_codec.specs.declared.header.Header.{Header}
 use Rattle.packet_codec.specs.declared.packet.Order.{Order}
@@ -10,7 +11,8 @@ use Rattle.packet_codec.specs.declared.packet.PacketKind.TheVariants.{Control, S
 use Rattle.packet_codec.specs.declared.packet.BadPacket.{BadPacket}
 use Rattle.packet_codec.specs.declared.packet.BadPacket.TheVariants as faults
 use Rattle.packet_codec.specs.declared.reading.Start.{Start}
-use Rattle.packet_codec.specs.Header.{kind_code, packet_header, header_of}
+use Rattle.packet_codec.specs.Header.{kind_code, packet_header}
+use Rattle.packet_codec.specs.Reading.{header_of}
 use Rattle.packet_codec.specs.Packet.{word_in_order}
 use Rattle.packet_codec.specs.Reading.{word_from, known_kind, big_start, little_start, start_by, start_of}
 use Rattle.packet_codec.proofs.HeaderLemmas.{header_again, header_back}
@@ -57,9 +59,11 @@ header_fits id kind id_fits kind_fits = omega arith
 pub written_header : (order : Order) (id kind : ℕ) → id < 2 ^ 16 → kind < 2 ^ 4
     → header_of (word_from order (word_in_order order (packet_header id kind))) ≡ Some (record { id = id; kind = kind })
 written_header order id kind id_fits kind_fits =
-    rw (word_again order (packet_header id kind) (header_fits id kind id_fits kind_fits)) (header_again id kind id_fits kind_fits)
+    rw (word_again order (packet_header id kind) (header_fits id kind id_fits kind_fits))
+    (header_again id kind id_fits kind_fits)
 
-pub begun_header : (order : Order) (first : List ℕ) (id kind : ℕ) → id < 2 ^ 16 → kind < 2 ^ 4 → first ≡ word_in_order order (packet_header id kind)
+pub begun_header : (order : Order) (first : List ℕ) (id kind : ℕ) → id < 2 ^ 16 → kind < 2 ^ 4 → first
+    ≡ word_in_order order (packet_header id kind)
     → header_of (word_from order first) ≡ Some (record { id = id; kind = kind })
 begun_header order first id kind id_fits kind_fits e =
     ap (λ (bytes : List ℕ). header_of (word_from order bytes)) e ∙ written_header order id kind id_fits kind_fits
@@ -68,19 +72,28 @@ other_version : (word : ℕ) → word / 2 ^ 24 ≡ 0xf0 → header_of word ≡ N
 other_version word e = rw e refl
 
 -- the first byte of a little-endian header of a control packet is 0xf0, and that of a big-endian header 0x20
-pub little_is_not_big : (id : ℕ) → id < 2 ^ 16 → header_of (word_from Big (word_in_order Little (packet_header id 0))) ≡ None
+pub little_is_not_big : (id : ℕ) → id < 2 ^ 16 → header_of (word_from Big (word_in_order Little (packet_header id 0)))
+    ≡ None
 little_is_not_big id id_fits =
     let low : packet_header id 0 % 256 ≡ 0xf0 = omega arith in
     other_version (word_from Big (word_in_order Little (packet_header id 0))) (omega arith)
 
-again_big : (id : ℕ) (kind : PacketKind) → id < 2 ^ 16 → start_of (word_in_order Big (packet_header id (kind_code kind))) ≡ Ok (record { order = Big; id = id; kind = kind })
+again_big : (id : ℕ) (kind : PacketKind) → id < 2 ^ 16
+    → start_of (word_in_order Big (packet_header id (kind_code kind))) ≡ Ok (record {
+      order = Big;
+      id = id;
+      kind =
+          kind;
+    })
 unfolding start_of
 again_big id kind id_fits =
     let first = word_in_order Big (packet_header id (kind_code kind)) in
-    ap (λ (header : Option Header). start_by header (header_of (word_from Little first))) (written_header Big id (kind_code kind) id_fits (kind_code-below kind))
+    ap (λ (header : Option Header). start_by header (header_of (word_from Little first)))
+    (written_header Big id (kind_code kind) id_fits (kind_code-below kind))
     ∙ ap (λ (known : Option PacketKind). big_start id known) (kind_again kind)
 
-again_little : (id : ℕ) → id < 2 ^ 16 → start_of (word_in_order Little (packet_header id 0)) ≡ Ok (record { order = Little; id = id; kind = Control })
+again_little : (id : ℕ) → id < 2 ^ 16 → start_of (word_in_order Little (packet_header id 0))
+    ≡ Ok (record { order = Little; id = id; kind = Control })
 unfolding start_of
 again_little id id_fits =
     let first = word_in_order Little (packet_header id 0) in
@@ -88,10 +101,16 @@ again_little id id_fits =
     ∙ ap (λ (header : Option Header). little_start header) (written_header Little id 0 id_fits (lit< tt))
 
 again_by : (order : Order) (id : ℕ) (kind : PacketKind) → id < 2 ^ 16 → (order ≡ Little → kind ≡ Control)
-    → start_of (word_in_order order (packet_header id (kind_code kind))) ≡ Ok (record { order = order; id = id; kind = kind })
+    → start_of (word_in_order order (packet_header id (kind_code kind))) ≡ Ok (record {
+      order = order;
+      id = id;
+      kind =
+          kind;
+    })
 again_by Big id kind id_fits allowed = again_big id kind id_fits
 again_by Little id kind id_fits allowed =
-    let P : PacketKind → Type 0 = λ k. start_of (word_in_order Little (packet_header id (kind_code k))) ≡ Ok (record { order = Little; id = id; kind = k }) in
+    let P : PacketKind → Type 0 = λ k. start_of (word_in_order Little (packet_header id (kind_code k)))
+    ≡ Ok (record { order = Little; id = id; kind = k }) in
     subst P (sym (allowed refl)) (again_little id id_fits)
 
 -- a first word that was written is read
@@ -130,32 +149,49 @@ kind_above (suc zero) e = absurd cc
 kind_above (suc (suc zero)) e = absurd cc
 kind_above (suc (suc (suc code))) e = omega arith
 
-header_bytes : (order : Order) (first : List ℕ) (header : Header) → length first ≡ 4 → IsBytes first → header_of (word_from order first) ≡ Some header
+header_bytes : (order : Order) (first : List ℕ) (header : Header) → length first ≡ 4 → IsBytes first
+    → header_of (word_from order first) ≡ Some header
     → first ≡ word_in_order order (packet_header header.id header.kind)
 header_bytes order first header four fits e =
-    sym (word_back order first four fits) ∙ ap (λ (word : ℕ). word_in_order order word) (header_back (word_from order first) header e).spelled
+    sym (word_back order first four fits) ∙ ap (λ (word : ℕ). word_in_order order word)
+    (header_back (word_from order first) header e).spelled
 
-verdict_big : (first : List ℕ) (header : Header) (known : Option PacketKind) → length first ≡ 4 → IsBytes first → header_of (word_from Big first) ≡ Some header
+verdict_big : (first : List ℕ) (header : Header) (known : Option PacketKind) → length first ≡ 4 → IsBytes first
+    → header_of (word_from Big first) ≡ Some header
     → known_kind header.kind ≡ known → StartVerdict (big_start header.id known) first
 verdict_big first header None four fits e known =
     let is = header_back (word_from Big first) header e in
-    record { id = header.id; kind = header.kind; id_fits = is.id; kind_fits = is.kind; above = kind_above header.kind known; spelled = header_bytes Big first header four fits e }
+    record {
+      id = header.id;
+      kind = header.kind;
+      id_fits = is.id;
+      kind_fits = is.kind;
+      above =
+          kind_above header.kind known;
+      spelled = header_bytes Big first header four fits e;
+    }
 verdict_big first header (Some kind) four fits e known =
     let is = header_back (word_from Big first) header e in (
       record { id = is.id; order = λ little. absurd cc },
-      header_bytes Big first header four fits e ∙ ap (λ (code : ℕ). word_in_order Big (packet_header header.id code)) (kind_back header.kind kind known),
+      header_bytes Big first header four fits e ∙ ap (λ (code : ℕ). word_in_order Big (packet_header header.id code))
+          (kind_back header.kind kind known),
     )
 
-no_big : (first : List ℕ) → header_of (word_from Big first) ≡ None → (id kind : ℕ) → id < 2 ^ 16 → kind < 2 ^ 4 → first ≡ word_in_order Big (packet_header id kind) → ⊥
-no_big first e id kind id_fits kind_fits spelled = let read = begun_header Big first id kind id_fits kind_fits spelled in cc
+no_big : (first : List ℕ) → header_of (word_from Big first) ≡ None → (id kind : ℕ) → id < 2 ^ 16 → kind < 2 ^ 4
+    → first ≡ word_in_order Big (packet_header id kind) → ⊥
+no_big first e id kind id_fits kind_fits spelled = let read = begun_header Big first id kind id_fits kind_fits
+    spelled in cc
 
-verdict_zero : (first : List ℕ) (header : Header) (control : Bool) → length first ≡ 4 → IsBytes first → header_of (word_from Big first) ≡ None
+verdict_zero : (first : List ℕ) (header : Header) (control : Bool) → length first ≡ 4 → IsBytes first
+    → header_of (word_from Big first) ≡ None
     → header_of (word_from Little first) ≡ Some header → (header.kind == 0) ≡ control
-    → StartVerdict (if control then Ok (record { order = Little; id = header.id; kind = Control }) else Err faults.Header) first
+    → StartVerdict (if control then Ok (record { order = Little; id = header.id; kind = Control }) else Err
+    faults.Header) first
 verdict_zero first header true four fits none e zero-is =
     let is = header_back (word_from Little first) header e in (
       record { id = is.id; order = λ little. refl },
-      header_bytes Little first header four fits e ∙ ap (λ (code : ℕ). word_in_order Little (packet_header header.id code)) (eqb-true _ _ zero-is),
+      header_bytes Little first header four fits e
+          ∙ ap (λ (code : ℕ). word_in_order Little (packet_header header.id code)) (eqb-true _ _ zero-is),
     )
 verdict_zero first header false four fits none e other =
     record {
@@ -168,7 +204,8 @@ verdict_zero first header false four fits none e other =
           cc;
     }
 
-verdict_little : (first : List ℕ) (little : Option Header) → length first ≡ 4 → IsBytes first → header_of (word_from Big first) ≡ None
+verdict_little : (first : List ℕ) (little : Option Header) → length first ≡ 4 → IsBytes first
+    → header_of (word_from Big first) ≡ None
     → header_of (word_from Little first) ≡ little → StartVerdict (little_start little) first
 verdict_little first None four fits none e =
     record {
@@ -177,18 +214,22 @@ verdict_little first None four fits none e =
     }
 verdict_little first (Some header) four fits none e = verdict_zero first header (header.kind == 0) four fits none e refl
 
-verdict_by : (first : List ℕ) (big little : Option Header) → length first ≡ 4 → IsBytes first → header_of (word_from Big first) ≡ big
+verdict_by : (first : List ℕ) (big little : Option Header) → length first ≡ 4 → IsBytes first
+    → header_of (word_from Big first) ≡ big
     → header_of (word_from Little first) ≡ little → StartVerdict (start_by big little) first
 verdict_by first (Some header) little four fits e f = verdict_big first header (known_kind header.kind) four fits e refl
 verdict_by first None little four fits e f = verdict_little first little four fits e f
 
 pub start_verdict : (first : List ℕ) → length first ≡ 4 → IsBytes first → StartVerdict (start_of first) first
 unfolding start_of
-start_verdict first four fits = verdict_by first (header_of (word_from Big first)) (header_of (word_from Little first)) four fits refl refl
+start_verdict first four fits = verdict_by first (header_of (word_from Big first))
+    (header_of (word_from Little first)) four fits refl refl
 
 -- a big-endian header of an unknown type is refused
-pub unknown_start : (first : List ℕ) (id kind : ℕ) → id < 2 ^ 16 → kind < 2 ^ 4 → 2 < kind → first ≡ word_in_order Big (packet_header id kind) → start_of first ≡ Err faults.Kind
+pub unknown_start : (first : List ℕ) (id kind : ℕ) → id < 2 ^ 16 → kind < 2 ^ 4 → 2 < kind → first ≡ word_in_order Big
+    (packet_header id kind) → start_of first ≡ Err faults.Kind
 unfolding start_of
 unknown_start first id kind id_fits kind_fits above spelled =
-    ap (λ (header : Option Header). start_by header (header_of (word_from Little first))) (begun_header Big first id kind id_fits kind_fits spelled)
+    ap (λ (header : Option Header). start_by header (header_of (word_from Little first)))
+    (begun_header Big first id kind id_fits kind_fits spelled)
     ∙ ap (λ (known : Option PacketKind). big_start id known) (kind_unknown kind above)

@@ -1,8 +1,7 @@
 -- The packet header of IPbus 2.0.
-use Rattle.std.specs.Prelude.{ℕ, ◌+◌, ◌*◌, ◌/◌, ◌%◌, ◌^◌, ◌==◌, ◌&&◌, if◌then◌else◌, Option, Some, None}
+use Rattle.std.specs.Prelude.{ℕ, ◌+◌, ◌*◌, ◌^◌}
 use Rattle.ipb_base.specs.declared.version.TheConstants.{VERSION}
 use Rattle.packet_codec.specs.declared.header.TheConstants.{BYTE_ORDER_QUALIFIER}
-use Rattle.packet_codec.specs.declared.header.Header.{Header}
 use Rattle.packet_codec.specs.declared.packet.PacketKind.{PacketKind}
 use Rattle.packet_codec.specs.declared.packet.PacketKind.TheVariants.{Control, Status, Resend}
 
@@ -16,10 +15,3 @@ kind_code Resend = 2
 -- qualifier in 7 to 4, the type in 3 to 0.
 abbrev pub packet_header : ℕ → ℕ → ℕ
 packet_header id kind = VERSION * 2 ^ 28 + id * 2 ^ 8 + BYTE_ORDER_QUALIFIER * 2 ^ 4 + kind
-
--- the fields of a word that is a packet header
-abbrev pub header_of : ℕ → Option Header
-header_of word =
-    if (word / 2 ^ 24 == VERSION * 2 ^ 4) && (word / 2 ^ 4 % 2 ^ 4 == BYTE_ORDER_QUALIFIER)
-    then Some (record { id = word / 2 ^ 8 % 2 ^ 16; kind = word % 2 ^ 4 })
-    else None

@@ -1,7 +1,7 @@
--- What has a spelling as a packet, and its spelling (IPbus 2.0, packet header; profile: the length, and which packets may
--- be little-endian).
+-- What has a spelling as a packet, and its spelling (IPbus 2.0, packet header; profile: the length, and which packets
+-- may be little-endian).
 use Rattle.std.specs.Prelude.{◌≡◌, ℕ, ◌<◌, ◌≤◌, ◌^◌, List, ◌∷◌, length}
-use Rattle.std.specs.List.{flat_map}
+use Rattle.std.specs.List.{AllByRecursion, flat_map}
 use Rattle.std.specs.Int.{w32, to_le_bytes}
 use Rattle.ipb_base.specs.Word.{AreWords, word_bytes}
 use Rattle.packet_codec.specs.declared.packet.TheConstants.{MAX_BODY_WORDS}
@@ -10,6 +10,13 @@ use Rattle.packet_codec.specs.declared.packet.Order.TheVariants.{Big, Little}
 use Rattle.packet_codec.specs.declared.packet.PacketKind.TheVariants.{Control}
 use Rattle.packet_codec.specs.declared.packet.Packet.{Packet}
 use Rattle.packet_codec.specs.Header.{kind_code, packet_header}
+
+-- a number of 8 bits
+abbrev pub IsByte : ℕ → Type 0
+IsByte n = n < 2 ^ 8
+
+abbrev pub AreBytes : List ℕ → Type 0
+AreBytes bytes = AllByRecursion IsByte bytes
 
 -- the four bytes of a word in a byte order
 abbrev pub word_in_order : Order → ℕ → List ℕ

@@ -1,6 +1,8 @@
--- How the code reads a packet: a function on lists, step by step. The private functions speak of it and no public clause
--- does; what a packet is, and what is wrong with bytes that are none, is in Packet.antt and Faults.antt.
-use Rattle.std.specs.Prelude.{ℕ, zero, suc, ◌*◌, ◌/◌, ◌%◌, List, length, map, take, drop, ◌==◌, nat_lt, if◌then◌else◌, Option, Some, None, Result, Ok, Err, ◌≡◌, ◌⊎◌, IsOk, MatchResult}
+-- Reading a packet: a function on lists, step by step, for definitions that go on from what bytes spell. That it is the
+-- grammar of Packet.antt, both ways, is the law `reading_is_the_grammar`.
+use Rattle.std.specs.Prelude.{ℕ, zero, suc, ◌*◌, ◌/◌, ◌%◌, ◌^◌, ◌&&◌, ◌==◌, nat_lt, if◌then◌else◌}
+use Rattle.std.specs.Prelude.{List, length, map, take, drop}
+use Rattle.std.specs.Prelude.{Option, Some, None, Result, Ok, Err, ◌≡◌, ◌⊎◌, IsOk, MatchResult}
 use Rattle.std.specs.Int.{w32, from_be_bytes, from_le_bytes}
 use Rattle.std.specs.Simd.{first_chunks}
 use Rattle.packet_codec.specs.declared.packet.TheConstants.{MAX_PACKET_WORDS}
@@ -13,7 +15,16 @@ use Rattle.packet_codec.specs.declared.packet.Packet.{Packet}
 use Rattle.packet_codec.specs.declared.reading.Start.{Start}
 use Rattle.packet_codec.specs.declared.packet.BadPacket.{BadPacket}
 use Rattle.packet_codec.specs.declared.packet.BadPacket.TheVariants as faults
-use Rattle.packet_codec.specs.Header.{kind_code, header_of}
+use Rattle.ipb_base.specs.declared.version.TheConstants.{VERSION}
+use Rattle.packet_codec.specs.declared.header.TheConstants.{BYTE_ORDER_QUALIFIER}
+use Rattle.packet_codec.specs.Header.{kind_code}
+
+-- the fields of a word that is a packet header
+abbrev pub header_of : ℕ → Option Header
+header_of word =
+    if (word / 2 ^ 24 == VERSION * 2 ^ 4) && (word / 2 ^ 4 % 2 ^ 4 == BYTE_ORDER_QUALIFIER)
+    then Some (record { id = word / 2 ^ 8 % 2 ^ 16; kind = word % 2 ^ 4 })
+    else None
 
 -- the word that four bytes are
 abbrev pub word_from : Order → List ℕ → ℕ
@@ -75,4 +86,5 @@ packet_of bytes = do
 -- What was answered is what reading gives, but want of memory may stand for a packet.
 abbrev pub Gives : Result Packet BadPacket → Result Packet BadPacket → Type 0
 Gives result read =
-    MatchResult result (λ packet. read ≡ Ok packet) (λ error. (read ≡ Err error) ⊎ ((error ≡ faults.NoMemory) × IsOk read))
+    MatchResult result (λ packet. read ≡ Ok packet) (λ error. (read ≡ Err error)
+    ⊎ ((error ≡ faults.NoMemory) × IsOk read))

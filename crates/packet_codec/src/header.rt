@@ -1,13 +1,14 @@
 //! The packet header: version, packet identifier, byte-order qualifier and type in one word.
 
 ghost use Rattle.std.specs.Prelude.{◌≡◌, ℕ, ◌^◌, ◌<◌, IfSome, Some};
-ghost use Rattle.packet_codec.specs.Header.{packet_header, header_of, kind_code};
+ghost use Rattle.packet_codec.specs.Header.{packet_header, kind_code};
+ghost use Rattle.packet_codec.specs.Reading.{header_of};
 
 use crate::packet::PacketKind;
 use ipb_base::VERSION;
 
 /// The byte-order qualifier, in bits 7 to 4 of a header (IPbus 2.0, packet header).
-const BYTE_ORDER_QUALIFIER: u32 = 0xf;
+pub(crate) const BYTE_ORDER_QUALIFIER: u32 = 0xf;
 
 /// The two fields of a packet header that differ from packet to packet (IPbus 2.0, packet header).
 #[derive(Clone, Copy, Debug, PartialEq, Eq)]
@@ -31,7 +32,13 @@ pub fn read_header(word: u32) -> Option<Header>
     ensures found { IfSome result (λ header. word ≡ packet_header header.id header.kind) }
     ensures only { (id kind : ℕ) → id < 2 ^ 16 → kind < 2 ^ 4 → word ≡ packet_header id kind
         → result ≡ Some (record { id = id; kind = kind }) }
-    ensures exact { result ≡ header_of word }
+{
+    fields_of(word)
+}
+
+/// The fields of a word that is a packet header, by its bits.
+pub(crate) fn fields_of(word: u32) -> Option<Header>
+    ensures { result ≡ header_of word }
 {
     // Eight bits: the version, and four bits that are zero.
     let version = word >> 24;

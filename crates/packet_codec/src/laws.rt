@@ -1,12 +1,27 @@
 //! Laws of the definitions. These functions do nothing when they run: their clauses are what is proved.
 
-ghost use Rattle.std.specs.Prelude.{◌≡◌, ℕ, List, [], ◌∷◌, slice_index};
-ghost use Rattle.ipb_base.specs.Word.{big_endian};
-ghost use Rattle.packet_codec.specs.Packet.{IsPacket, in_order, packet_bytes};
+ghost use Rattle.std.specs.Prelude.{◌≡◌, ℕ, ◌+◌, ◌/◌, ◌%◌, ◌<◌, ◌^◌, List, [], ◌∷◌, length, slice_index, Some, Ok};
+ghost use Rattle.ipb_base.specs.Numbers.{greatest_payload};
+ghost use Rattle.ipb_base.specs.Word.{AreWords, big_endian};
+ghost use Rattle.packet_codec.specs.Packet.{AreBytes, IsPacket, in_order, packet_bytes};
 ghost use Rattle.packet_codec.specs.Faults.{HasAllowedHeader, HasUnknownKind};
+ghost use Rattle.packet_codec.specs.Header.{packet_header};
+ghost use Rattle.packet_codec.specs.Reading.{header_of, packet_of, words_of};
+ghost use Rattle.packet_codec.specs.declared.header.Header.{Header};
 ghost use Rattle.packet_codec.specs.declared.packet.Packet.{Packet};
+ghost use Rattle.packet_codec.specs.declared.packet.Order.{Order};
 ghost use Rattle.packet_codec.specs.declared.packet.Order.TheVariants.{Big, Little};
 ghost use Rattle.packet_codec.specs.declared.packet.PacketKind.TheVariants.{Control};
+
+use crate::header::BYTE_ORDER_QUALIFIER;
+use crate::packet::{MAX_BODY_WORDS, MAX_PACKET_WORDS};
+
+/// The most words of a packet and of its body, and the byte-order qualifier.
+pub fn the_numbers_of_a_packet()
+    ensures words { MAX_PACKET_WORDS ≡ greatest_payload }
+    ensures body { MAX_BODY_WORDS + 1 ≡ MAX_PACKET_WORDS }
+    ensures qualifier { BYTE_ORDER_QUALIFIER ≡ 0xf }
+{}
 
 /// A control packet with identifier 1 that reads the word at address 4, in both byte orders.
 pub fn a_control_packet_in_both_orders()
@@ -39,4 +54,24 @@ pub fn headers_that_are_refused()
 pub fn a_spelling_is_of_one_packet()
     ensures { (one other : Packet) → IsPacket one → IsPacket other
         → packet_bytes one ≡ packet_bytes other → one ≡ other }
+{}
+
+/// Reading by the words of a packet is the grammar of packets, both ways: what is spelled is read, and what is read is
+/// spelled so. So are the fields of a header.
+pub fn reading_is_the_grammar()
+    ensures again { (packet : Packet) → IsPacket packet → packet_of (packet_bytes packet) ≡ Ok packet }
+    ensures found { (bytes : List ℕ) (packet : Packet) → AreBytes bytes → packet_of bytes ≡ Ok packet
+        → IsPacket packet × (bytes ≡ packet_bytes packet) }
+    ensures header { (id kind : ℕ) → id < 2 ^ 16 → kind < 2 ^ 4
+        → header_of (packet_header id kind) ≡ Some (record { id = id; kind = kind }) }
+    ensures header_found { (word : ℕ) (header : Header) → header_of word ≡ Some header
+        → word ≡ packet_header header.id header.kind }
+{}
+
+/// Bytes that are whole words are the bytes of the words that they are read as, in either order.
+pub fn whole_words_are_written_back()
+    ensures bytes { (order : Order) (bytes : List ℕ) → AreBytes bytes → length bytes % 4 ≡ 0
+        → in_order order (words_of order bytes) ≡ bytes }
+    ensures words { (order : Order) (bytes : List ℕ) → AreBytes bytes → AreWords (words_of order bytes) }
+    ensures count { (order : Order) (bytes : List ℕ) → length (words_of order bytes) ≡ length bytes / 4 }
 {}

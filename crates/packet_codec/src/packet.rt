@@ -4,6 +4,8 @@ ghost use Rattle.std.specs.Prelude.{◌≡◌};
 ghost use Rattle.packet_codec.specs.declared.packet.BadPacket.TheVariants.{NoMemory as no_memory};
 
 use ipb_base::{NoMemory, Words};
+use std::error::Error;
+use std::fmt;
 
 /// The most words of a packet, its header included (profile: what an MTU of 9000 bytes leaves behind the headers of
 /// IP and UDP).
@@ -85,7 +87,7 @@ impl PacketKind {
 }
 
 /// A packet: its header and the words after it (IPbus 2.0, packet header).
-#[derive(Debug, Drop)]
+#[derive(Debug, Drop, PartialEq, Eq)]
 pub struct Packet {
     /// The byte order of every word. Only control packets may be little-endian (profile).
     pub order: Order,
@@ -114,6 +116,21 @@ pub enum BadPacket {
     /// The bytes break no rule, but memory for the body ran out.
     NoMemory,
 }
+
+impl fmt::Display for BadPacket {
+    fn fmt<W: fmt::Write>(&self, f: &mut fmt::Formatter<W>) -> fmt::Result {
+        f.write_str(match self {
+            BadPacket::Empty => "there are no bytes",
+            BadPacket::Ragged => "the length is no multiple of 4 bytes",
+            BadPacket::Long => "there are more words than a packet has",
+            BadPacket::Header => "the first word is no packet header",
+            BadPacket::Kind => "the type of the packet is unknown",
+            BadPacket::NoMemory => "out of memory",
+        })
+    }
+}
+
+impl Error for BadPacket {}
 
 impl From<NoMemory> for BadPacket {
     ghost from_gives = { λ _ e. e ≡ no_memory };

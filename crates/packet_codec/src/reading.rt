@@ -6,7 +6,7 @@ ghost use Rattle.packet_codec.specs.Faults.{HasPacketLength, IsTooLong, HasAllow
 ghost use Rattle.packet_codec.specs.Reading.{length_rule, start_of, words_of, packet_of, Gives};
 ghost use Rattle.packet_codec.specs.declared.packet.Packet.{Packet as PacketValue};
 
-use crate::header::read_header;
+use crate::header::fields_of;
 use crate::packet::{BadPacket, MAX_PACKET_WORDS, Order, Packet, PacketKind};
 use ipb_base::{NoMemory, Words};
 use std::alloc::Global;
@@ -75,7 +75,7 @@ fn check_length(length: usize) -> Result<(), BadPacket>
 fn read_start(first: [u8; 4]) -> Result<Start, BadPacket>
     ensures { result ≡ start_of first }
 {
-    if let Some(header) = read_header(Order::Big.word(first)) {
+    if let Some(header) = fields_of(Order::Big.word(first)) {
         return match PacketKind::from_code(header.kind) {
             Some(kind) => Ok(Start {
                 order: Order::Big,
@@ -85,7 +85,7 @@ fn read_start(first: [u8; 4]) -> Result<Start, BadPacket>
             None => Err(BadPacket::Kind),
         };
     }
-    match read_header(Order::Little.word(first)) {
+    match fields_of(Order::Little.word(first)) {
         Some(header) if header.kind == PacketKind::Control.code() => Ok(Start {
             order: Order::Little,
             id: header.id,

@@ -9,7 +9,8 @@ use ipb_base::NoMemory;
 use std::alloc::Global;
 
 /// The bytes of a packet (IPbus 2.0, packet header), each word in the packet's byte order. Only a control packet may be
-/// little-endian, and a body has at most `MAX_BODY_WORDS` words (profile). `NoMemory` where memory for the bytes ran out.
+/// little-endian, and a body has at most `MAX_BODY_WORDS` words (profile). `NoMemory` where memory for the bytes ran
+/// out.
 pub fn write_packet(alloc: Global, packet: &Packet) -> Result<Vec<u8>, NoMemory>
     requires length { length packet.now.body ≤ MAX_BODY_WORDS }
     requires order { packet.now.order ≡ Order.Little → packet.now.kind ≡ PacketKind.Control }

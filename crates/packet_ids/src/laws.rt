@@ -18,9 +18,10 @@ pub fn an_identifier_names_one_place_nearby()
         identifier_at first place ≡ identifier_at first other → place ≡ other }
 {}
 
-/// After as many places as there are identifiers they begin again.
+/// There are 65535 identifiers, and after as many places they begin again.
 pub fn identifiers_come_again()
-    ensures { (first place : ℕ) → IsIdentifier first → 1 ≤ place →
+    ensures number { IDENTIFIERS ≡ 0xffff }
+    ensures again { (first place : ℕ) → IsIdentifier first → 1 ≤ place →
         identifier_at first (place + IDENTIFIERS) ≡ identifier_at first place }
 {}
 

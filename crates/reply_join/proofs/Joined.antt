@@ -1,5 +1,6 @@
 -- The answers of a body and its reply, request by request.
-use Rattle.std.proofs.Common.{◌≡◌, inl, inr, ℕ, ◌-◌, ◌≤◌, List, [], ◌∷◌, ◌++◌, length, map, replicate, refl, sym, ap, ◌∙◌, arith}
+use Rattle.std.proofs.Common.{◌≡◌, inl, inr, ℕ, ◌-◌, ◌≤◌, List, [], ◌∷◌, ◌++◌, length, map, replicate, refl, sym, ap}
+use Rattle.std.proofs.Common.{◌∙◌, arith}
 use Rattle.std.proofs.lemmas.List.{length-append, length-map, length-replicate}
 use Rattle.std.proofs.lemmas.List.Concat.{flat_map-cons}
 use Rattle.transaction_codec.specs.declared.request.Request.{Request}
@@ -20,43 +21,61 @@ unfolding nothing_replied
 joined_nothing = (nothing_replied, refl)
 
 -- a request and a reply more at the front
-answers_more : (request : Request) (reply : Reply) (requests : List Request) (replies : List Reply)
+pub answers_more : (request : Request) (reply : Reply) (requests : List Request) (replies : List Reply)
     → answers_to (request ∷ requests) (reply ∷ replies) ≡ answer_of reply ∷ answers_to requests replies
 answers_more request reply requests replies =
-    let fewer : length (request ∷ requests) - length (reply ∷ replies) ≡ length requests - length replies = omega arith in
+    let fewer : length (request ∷ requests) - length (reply ∷ replies) ≡ length requests - length replies =
+    omega arith in
     ap (λ n. answer_of reply ∷ (map answer_of replies ++ replicate n Skipped)) fewer
 
-pub joined_done : (request : Request) (reply : Reply) (asked rest : List ℕ) (answers : List Answer) → IsRequest request → IsReply reply → IsDone request reply → IsJoined asked rest answers
+pub joined_done : (request : Request) (reply : Reply) (asked rest : List ℕ) (answers : List Answer)
+    → IsRequest request → IsReply reply → IsDone request reply → IsJoined asked rest answers
     → IsJoined (request_words request ++ asked) (reply_words reply ++ rest) (answer_of reply ∷ answers)
 unfolding done_then
-joined_done request reply asked rest answers is is_reply done joined =
-    (done_then request reply asked rest is is_reply done joined.0, ap (λ (more : List Answer). answer_of reply ∷ more) joined.1 ∙ sym (answers_more request reply joined.0.requests joined.0.replies))
+joined_done request reply asked rest answers is is_reply done joined = (
+  done_then request reply asked rest is is_reply done joined.0,
+  ap (λ (more : List Answer). answer_of reply ∷ more)
+      joined.1 ∙ sym (answers_more request reply joined.0.requests joined.0.replies),
+)
 
-pub joined_failed : (request : Request) (reply : Reply) (asked : List ℕ) (answers : List Answer) → IsRequest request → IsReply reply → IsFailed request reply → AreSkipped asked answers
+pub joined_failed : (request : Request) (reply : Reply) (asked : List ℕ) (answers : List Answer) → IsRequest request
+    → IsReply reply → IsFailed request reply → AreSkipped asked answers
     → IsJoined (request_words request ++ asked) (reply_words reply ++ []) (answer_of reply ∷ answers)
 unfolding failed_last
 joined_failed request reply asked answers is is_reply failed skipped =
     let requests = skipped.spells.0 in
-    let none : replicate (length requests) Skipped ≡ answers_to requests [] = let all : length requests ≡ length requests - 0 = omega arith in ap (λ n. replicate n Skipped) all in
-    (failed_last request reply asked is is_reply failed skipped.spells, ap (λ (more : List Answer). answer_of reply ∷ more) (skipped.skipped ∙ none) ∙ sym (answers_more request reply requests []))
+    let none : replicate (length requests) Skipped ≡ answers_to requests [] = let all : length requests
+    ≡ length requests - 0 = omega arith in ap (λ n. replicate n Skipped) all in (
+      failed_last request reply asked is is_reply failed skipped.spells,
+      ap (λ (more : List Answer). answer_of reply ∷ more) (skipped.skipped ∙ none)
+          ∙ sym (answers_more request reply requests []),
+    )
 
-same_answers : (requests others : List Request) (replies another : List Reply) → requests ≡ others → replies ≡ another → answers_to requests replies ≡ answers_to others another
-same_answers requests others replies another e f = ap (λ (rs : List Request). answers_to rs replies) e ∙ ap (λ (rs : List Reply). answers_to others rs) f
+same_answers : (requests others : List Request) (replies another : List Reply) → requests ≡ others → replies ≡ another
+    → answers_to requests replies ≡ answers_to others another
+same_answers requests others replies another e f = ap (λ (rs : List Request). answers_to rs replies) e
+    ∙ ap (λ (rs : List Reply). answers_to others rs) f
 
-pub one_answers : (body reply : List ℕ) (left right : IsReplyTo body reply) → answers_to left.requests left.replies ≡ answers_to right.requests right.replies
+pub one_answers : (body reply : List ℕ) (left right : IsReplyTo body reply) → answers_to left.requests left.replies
+    ≡ answers_to right.requests right.replies
 one_answers body reply left right =
     same_answers left.requests right.requests left.replies right.replies
-    (one_list request_words IsRequest BreaksRequest request_at requests_format left.requests right.requests left.ranges right.ranges (sym left.asked ∙ right.asked))
-    (one_list reply_words IsReply BreaksReply reply_at replies_format left.replies right.replies left.items right.items (sym left.spelled ∙ right.spelled))
+    (one_list request_words IsRequest BreaksRequest request_at requests_format left.requests right.requests
+    left.ranges right.ranges (sym left.asked ∙ right.asked))
+    (one_list reply_words IsReply BreaksReply reply_at replies_format left.replies right.replies left.items
+    right.items (sym left.spelled ∙ right.spelled))
 
 -- there are no more replies than requests
-no_more_replies : (requests : List Request) (replies : List Reply) → Answers requests [] replies → length replies ≤ length requests
+pub no_more_replies : (requests : List Request) (replies : List Reply) → Answers requests [] replies → length replies ≤
+    length requests
 no_more_replies [] replies answers = omega (arith, ap length answers)
 no_more_replies (request ∷ requests) [] answers = omega arith
-no_more_replies (request ∷ requests) (reply ∷ replies) (inl done) = omega (arith, no_more_replies requests replies done.1)
+no_more_replies (request ∷ requests) (reply ∷ replies) (inl done) =
+    omega (arith, no_more_replies requests replies done.1)
 no_more_replies (request ∷ requests) (reply ∷ replies) (inr failed) = omega (arith, ap length failed.1)
 
-pub answers_length : (body reply : List ℕ) (is : IsReplyTo body reply) → length (answers_to is.requests is.replies) ≡ length is.requests
+pub answers_length : (body reply : List ℕ) (is : IsReplyTo body reply) → length (answers_to is.requests is.replies)
+    ≡ length is.requests
 answers_length body reply is =
     omega (
       arith,
@@ -68,14 +87,16 @@ answers_length body reply is =
 
 -- ---- steps of joining
 
-pub skipped_more : (request : Request) (body rest : List ℕ) (later : List Answer) → IsRequest request → body ≡ request_words request ++ rest → AreSkipped rest later → AreSkipped body (Skipped ∷ later)
+pub skipped_more : (request : Request) (body rest : List ℕ) (later : List Answer) → IsRequest request → body
+    ≡ request_words request ++ rest → AreSkipped rest later → AreSkipped body (Skipped ∷ later)
 skipped_more request body rest later is parts skipped =
     let spells = skipped.spells in
     record {
       spells = (
         request ∷ spells.0,
         (is, spells.1),
-        parts ∙ ap (λ (ws : List ℕ). request_words request ++ ws) spells.2 ∙ sym (flat_map-cons request_words request spells.0),
+        parts ∙ ap (λ (ws : List ℕ). request_words request ++ ws) spells.2
+            ∙ sym (flat_map-cons request_words request spells.0),
       );
       skipped = ap (λ (more : List Answer). Skipped ∷ more) skipped.skipped;
     }

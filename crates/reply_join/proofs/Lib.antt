@@ -4,3 +4,6 @@ pub mod Parts
 pub mod Garbled
 pub mod Joined
 pub mod Steps
+pub mod Refusals
+pub mod EachAnswer
+pub mod WordsJoined

@@ -2,7 +2,8 @@
 use Rattle.std.proofs.Common.{◌≡◌, ℕ, zero, suc, ◌+◌, ◌≤◌, List, [], ◌∷◌, ◌++◌, length, take, refl, ap, arith}
 
 -- what two lists with the same front have in common beyond it
-pub beyond : {A : Type 0} (a b front rest : List A) → a ++ b ≡ front ++ rest → length a ≤ length front → (more : List A) × (front ≡ a ++ more) × (b ≡ more ++ rest)
+pub beyond : {A : Type 0} (a b front rest : List A) → a ++ b ≡ front ++ rest → length a ≤ length front
+    → (more : List A) × (front ≡ a ++ more) × (b ≡ more ++ rest)
 beyond [] b front rest e le = (front, refl, e)
 beyond (x ∷ a) b [] rest e le = absurd (omega arith)
 beyond {A = A} (x ∷ a) b (y ∷ front) rest e le =

@@ -1,3 +1,4 @@
 pub mod Joining
 pub mod Garbled
 pub mod Progress
+pub mod ByWords

@@ -10,9 +10,12 @@ use Rattle.transaction_codec.specs.Reply.{IsReply, reply_words, values_after}
 use Rattle.transaction_codec.specs.Answer.{Fails, IsDone, IsFailed}
 use Rattle.reply_join.specs.declared.answer.Answer.{Answer}
 use Rattle.reply_join.specs.declared.answer.Answer.TheVariants.{Skipped}
+use Rattle.reply_join.specs.declared.refusal.JoinRefusal.{JoinRefusal}
+use Rattle.reply_join.specs.declared.refusal.JoinRefusal.TheVariants.{Garbled, NoMemory}
+use Rattle.reply_join.specs.Garbled.{IsGarbledAt}
 use Rattle.reply_join.specs.declared.joining.NoReply.{NoReply}
 use Rattle.reply_join.specs.declared.joining.NoReply.TheVariants.{Header, TooShort}
-use Rattle.reply_join.specs.Joining.{SpellsRequests}
+use Rattle.transaction_codec.specs.Request.{SpellsRequests}
 
 -- the operation can fail with this info code after so many words
 abbrev pub CanFail : Op → ℕ → ℕ → Type 0
@@ -24,7 +27,8 @@ IsOutcome op count code = ((code ≡ SUCCESS) × (count ≡ op_count op)) ⊎ Ca
 
 -- the word is the header of a reply to the request, with this words field and info code
 abbrev pub IsHeaderTo : Request → ℕ → ℕ → ℕ → Type 0
-IsHeaderTo request word count code = (word ≡ header request.tid count (op_kind request.op) code) × IsOutcome request.op count code
+IsHeaderTo request word count code = (word ≡ header request.tid count (op_kind request.op) code)
+    × IsOutcome request.op count code
 
 -- the reply is one to the request: done or failed
 pub record IsReplyOf (request : Request) (reply : Reply) : Type 0 where
@@ -60,3 +64,8 @@ fault_place TooShort all left = all
 pub record AreSkipped (body : List ℕ) (answers : List Answer) : Type 0 where
   pub spells : SpellsRequests body
   pub skipped : answers ≡ replicate (length spells.0) Skipped
+
+-- a refusal names that place, unless memory ran out
+abbrev pub IsRefusal : List ℕ → List ℕ → JoinRefusal → Type 0
+IsRefusal body reply (Garbled place) = IsGarbledAt body reply place
+IsRefusal body reply NoMemory = Unit {0}

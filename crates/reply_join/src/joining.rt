@@ -1,12 +1,13 @@
-ghost use Rattle.std.specs.Prelude.{◌≡◌, ◌≢◌, ◌⊎◌, ◌<◌, ◌≤◌, ◌++◌, List, [], length, IfOk, IfErr, MatchResult};
+ghost use Rattle.std.specs.Prelude.{◌≡◌, ◌≢◌, ◌⊎◌, ℕ, ◌<◌, ◌≤◌, ◌++◌, List, [], length};
+ghost use Rattle.std.specs.Prelude.{Err, IfOk, IfErr, MatchResult};
 ghost use Rattle.transaction_codec.specs.First.{request_of, reply_of};
-ghost use Rattle.transaction_codec.specs.Request.{IsRequest, request_words};
+ghost use Rattle.transaction_codec.specs.Request.{IsRequest, SpellsRequests, request_words};
 ghost use Rattle.transaction_codec.specs.Reply.{reply_words};
 ghost use Rattle.transaction_codec.specs.Answer.{IsReplyTo};
 ghost use Rattle.reply_join.specs.declared.answer.Answer.{Answer};
-ghost use Rattle.reply_join.specs.Joining.{SpellsRequests, IsJoined, answers_to};
-ghost use Rattle.reply_join.specs.Garbled.{IsRefusal};
-ghost use Rattle.reply_join.specs.Progress.{AreSkipped, HasNoReply, IsReplyOf, fault_place};
+ghost use Rattle.reply_join.specs.Joining.{IsJoined, answers_to};
+ghost use Rattle.reply_join.specs.Garbled.{IsGarbledAt};
+ghost use Rattle.reply_join.specs.Progress.{AreSkipped, HasNoReply, IsRefusal, IsReplyOf, fault_place};
 
 use crate::answer::{Answer, answer_of};
 use crate::outcome::{outcome_of, values_after};
@@ -16,15 +17,31 @@ use std::alloc::Global;
 use transaction_codec::info_code::SUCCESS;
 use transaction_codec::{FirstReply, FirstRequest, first_request};
 
-/// The answers that a reply's words give to a body's requests, one for each in order. A request behind one that failed is
-/// `Skipped`. `Garbled` comes exactly where the words are no reply to the body by the rules of IPbus 2.0 transactions and
-/// the profile; it names the first word at fault, or the reply's length where the reply ends too early.
+/// The answers that a reply's words give to a body's requests, one for each in order. A request behind one that failed
+/// is `Skipped`. `Garbled` comes exactly where the words are no reply to the body by the rules of IPbus 2.0
+/// transactions and the profile; it names the first word at fault, or the reply's length where it ends too early.
 ///
 /// The body is the words of requests alone, as `read_requests` of `transaction_codec` accepts them.
 pub fn join_reply(alloc: Global, body: &[u32], reply: &[u32]) -> Result<Vec<Answer>, JoinRefusal>
     requires { SpellsRequests body.now }
     ensures joined { IfOk result (λ answers. IsJoined body.now reply.now answers.items) }
     // Only want of memory refuses what is a reply to the body.
+    ensures only { (is : IsReplyTo body.now reply.now) → MatchResult result
+        (λ answers. answers.items ≡ answers_to is.requests is.replies)
+        (λ refusal. refusal ≡ JoinRefusal.NoMemory) }
+    ensures garbled { (place : ℕ) → result ≡ Err (JoinRefusal.Garbled place)
+        → IsGarbledAt body.now reply.now place }
+    // So a reply that stops being one is refused, at that place.
+    ensures refused { (place : ℕ) → IsGarbledAt body.now reply.now place
+        → (result ≡ Err (JoinRefusal.Garbled place)) ⊎ (result ≡ Err JoinRefusal.NoMemory) }
+{
+    join_by_requests(alloc, body, reply)
+}
+
+/// Gives each request its answer, one after the other.
+fn join_by_requests(alloc: Global, body: &[u32], reply: &[u32]) -> Result<Vec<Answer>, JoinRefusal>
+    requires { SpellsRequests body.now }
+    ensures joined { IfOk result (λ answers. IsJoined body.now reply.now answers.items) }
     ensures only { (is : IsReplyTo body.now reply.now) → MatchResult result
         (λ answers. answers.items ≡ answers_to is.requests is.replies)
         (λ refusal. refusal ≡ JoinRefusal.NoMemory) }

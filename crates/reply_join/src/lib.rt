@@ -1,7 +1,7 @@
 //! The answers that a reply gives to the requests of a body.
 //!
-//! A packet's reply has one reply for each request up to the first that failed. `join_reply` gives each request its answer,
-//! or says at which word the reply stops being one to that body.
+//! A packet's reply has one reply for each request up to the first that failed. `join_reply` gives each request its
+//! answer, or says at which word the reply stops being one to that body.
 #![tactic(auto)]
 
 mod answer;

@@ -63,10 +63,15 @@ fn one_word_is_read(rt: HostRuntime) -> Result<(), Fail> {
         return Err("not one answer")?;
     };
     assert_eq!(rt; values.as_slice(), [0xabcd].as_slice());
+    assert!(rt; answers == joined(rt.alloc(), &body, &[0x2000_0100, 0xabcd])??);
+    assert!(rt; answers != joined(rt.alloc(), &body, &[0x2000_0100, 0xabce])??);
     let other = joined(rt.alloc(), &body, &[0x2001_0100, 0xabcd])?;
     assert!(rt; matches!(other, Err(JoinRefusal::Garbled { place: 0 })));
     let short = joined(rt.alloc(), &body, &[0x2000_0100])?;
     assert!(rt; matches!(short, Err(JoinRefusal::Garbled { place: 1 })));
+    let refusal = short.err().ok_or("refused")?;
+    let text = format!(in rt.alloc(); "{refusal}")?;
+    assert_eq!(rt; text.as_str(), "word 1 is not that of a reply");
     Ok(())
 }
 

@@ -1,5 +1,5 @@
--- Status requests, status replies and re-send requests, as packets (IPbus 2.0, status packet and re-send request packet;
--- profile: zeros in the words of a reply that tell nothing).
+-- Status requests, status replies and re-send requests, as packets (IPbus 2.0, status packet and re-send request
+-- packet; profile: zeros in the words of a reply that tell nothing).
 use Rattle.std.specs.Prelude.{ℕ, List, [], ◌∷◌, ◌++◌, replicate}
 use Rattle.packet_codec.specs.declared.packet.Order.TheVariants.{Big}
 use Rattle.packet_codec.specs.declared.packet.PacketKind.TheVariants.{Control, Status, Resend}

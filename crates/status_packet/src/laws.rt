@@ -4,9 +4,22 @@ ghost use Rattle.std.specs.Prelude.{◌≡◌, ℕ, List, [], ◌∷◌, replica
 ghost use Rattle.ipb_base.specs.Word.{big_endian};
 ghost use Rattle.packet_codec.specs.Packet.{packet_bytes, IsPacket};
 ghost use Rattle.packet_ids.specs.Identifier.{IsIdentifier};
-ghost use Rattle.status_packet.specs.Range.{IsMtu, IsBufferCount};
+ghost use Rattle.ipb_base.specs.Numbers.{least_mtu, greatest_mtu};
+ghost use Rattle.status_packet.specs.Range.{IsMtu, IsBufferCount, most_buffers};
 ghost use Rattle.status_packet.specs.Packets.{status_request, status_reply, resend_request};
 ghost use Rattle.status_packet.specs.StatusBytes.{IsStatusRequest, IsStatusReply, IsOutOfRange};
+
+use crate::status::{MAX_BUFFERS, MAX_MTU, MIN_MTU, RESEND_BYTES, STATUS_BYTES};
+
+/// The ranges of what a board tells of itself, and the lengths of the packets (IPbus 2.0, status packet and re-send
+/// request packet).
+pub fn the_numbers_of_a_status()
+    ensures least_mtu { MIN_MTU ≡ least_mtu }
+    ensures greatest_mtu { MAX_MTU ≡ greatest_mtu }
+    ensures most_buffers { MAX_BUFFERS ≡ most_buffers }
+    ensures status_bytes { STATUS_BYTES ≡ 64 }
+    ensures resend_bytes { RESEND_BYTES ≡ 4 }
+{}
 
 /// The words of each packet.
 pub fn the_words_of_each_packet()

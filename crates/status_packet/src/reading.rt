@@ -1,12 +1,14 @@
 //! Reading status requests, status replies and re-send requests.
 
-ghost use Rattle.std.specs.Prelude.{◌≡◌, ◌≢◌, ◌↔◌, ℕ, ◌+◌, ◌*◌, ◌<◌, ◌≤◌, ◌^◌, length, Some, Err, IsTrue, IfSome, IfNone, IfOk, IsOkAnd};
+ghost use Rattle.std.specs.Prelude.{◌≡◌, ◌≢◌, ◌↔◌, ℕ, ◌+◌, ◌*◌, ◌<◌, ◌≤◌, ◌^◌, length, Some, Err, IsTrue, IfSome};
+ghost use Rattle.std.specs.Prelude.{IfNone, IfOk, IsOkAnd};
 ghost use Rattle.packet_ids.specs.Identifier.{IsIdentifier};
 ghost use Rattle.packet_codec.specs.Header.{kind_code, packet_header};
 ghost use Rattle.packet_codec.specs.Packet.{packet_bytes};
 ghost use Rattle.status_packet.specs.Range.{IsMtu, IsBufferCount};
 ghost use Rattle.status_packet.specs.Packets.{resend_request};
-ghost use Rattle.status_packet.specs.StatusBytes.{IsStatusRequest, IsStatusReply, IsNextHeader, IsNoStatus, IsOutOfRange};
+ghost use Rattle.status_packet.specs.StatusBytes.{IsStatusRequest, IsStatusReply, IsNextHeader, IsNoStatus};
+ghost use Rattle.status_packet.specs.StatusBytes.{IsOutOfRange};
 ghost use Rattle.status_packet.specs.Reading.{word_at};
 
 use crate::status::{

@@ -6,6 +6,8 @@ ghost use Rattle.status_packet.specs.StatusBytes.{status_header};
 
 use packet_codec::{PacketKind, header_word};
 use packet_ids::Id;
+use std::error::Error;
+use std::fmt;
 
 /// The least MTU of a board, in bytes (profile).
 pub const MIN_MTU: u32 = 92;
@@ -47,6 +49,18 @@ pub enum BadStatus {
     /// with an identifier from 1.
     Range,
 }
+
+impl fmt::Display for BadStatus {
+    fn fmt<W: fmt::Write>(&self, f: &mut fmt::Formatter<W>) -> fmt::Result {
+        f.write_str(match self {
+            BadStatus::Length => "a status reply has 64 bytes",
+            BadStatus::Header => "the first word is not the header of a status packet",
+            BadStatus::Range => "the MTU, the buffers or the next header is out of its range",
+        })
+    }
+}
+
+impl Error for BadStatus {}
 
 /// The header of every status packet: identifier 0 and the status type.
 pub(crate) fn status_header() -> u32

@@ -1,5 +1,7 @@
 -- What is read as a reply is spelled so, and what is spelled so is read.
-use Rattle.std.proofs.Common.{◌≡◌, ℕ, zero, suc, ◌^◌, ◌<◌, ◌≤◌, Bool, true, false, cond, not, ◌&&◌, ◌||◌, List, [], ◌∷◌, ◌++◌, length, take, drop, Result, Ok, Err, refl, sym, ap, subst, ◌∙◌, arith, eqb, ltb, inl, inr, ◌⊎◌, eq-eqb}
+use Rattle.std.proofs.Common.{◌≡◌, ℕ, zero, suc, ◌^◌, ◌<◌, ◌≤◌, Bool, true, false, cond, not, ◌&&◌, ◌||◌, List, [], ◌∷◌}
+use Rattle.std.proofs.Common.{◌++◌, length, take, drop, Result, Ok, Err, refl, sym, ap, subst, ◌∙◌, arith, eqb, ltb}
+use Rattle.std.proofs.Common.{inl, inr, ◌⊎◌, eq-eqb}
 use Rattle.std.specs.Prelude.{IfOk, IfErr}
 use Rattle.std.proofs.lemmas.Bool.{eqb-true, ltb-false, ltb-true, le-ltb}
 use Rattle.std.proofs.lemmas.Bool.Decides.{nat_tests}
@@ -11,11 +13,13 @@ use Rattle.transaction_codec.specs.declared.refusal.Why.TheVariants.{Version, Ki
 use Rattle.transaction_codec.specs.declared.first.FirstReply.{FirstReply}
 use Rattle.transaction_codec.specs.First.{reply_of, ReadsReply, IsFaultAtFront}
 use Rattle.transaction_codec.specs.Header.{header, version_of, tid_of, count_of, kind_of, code_of, is_rmw}
-use Rattle.transaction_codec.specs.Reply.{IsBusFault, Carries, HasForm, IsReply, is_reply_code, is_wrong_count, values_after, BreaksReply, reply_words, reply_at}
+use Rattle.transaction_codec.specs.Reply.{IsBusFault, Carries, HasForm, IsReply, is_reply_code, is_wrong_count}
+use Rattle.transaction_codec.specs.Reply.{values_after, BreaksReply, reply_words, reply_at}
 use Rattle.transaction_codec.specs.Listing.{IsFirstRule}
 use Rattle.transaction_codec.proofs.Fields.{header-fields, HasFields, fields-header}
 use Rattle.ipb_base.proofs.WordLemmas.{AreWords-take}
-use Rattle.transaction_codec.proofs.Steps.{test_of, Says, first_test, first_rule, no_test, passed, read, read_is, not-false}
+use Rattle.transaction_codec.proofs.Steps.{test_of, Says, first_test, first_rule, no_test, passed, read, read_is}
+use Rattle.transaction_codec.proofs.Steps.{not-false}
 
 -- the rules on a header's type, info code and words field, as tests
 abbrev is_wrong_kind : ℕ → ℕ → Bool
@@ -42,7 +46,8 @@ codes (suc (suc (suc (suc (suc (suc zero)))))) e = inr (inl (omega arith, omega 
 codes (suc (suc (suc (suc (suc (suc (suc zero))))))) e = inr (inl (omega arith, omega arith))
 codes (suc (suc (suc (suc (suc (suc (suc (suc code)))))))) e = absurd (grind (arith, nat_tests))
 
-carries : (done kind count : ℕ) → kind ≤ 5 → (is_rmw kind ≡ true → count ≡ done) → Carries done kind count (values_after kind count)
+carries : (done kind count : ℕ) → kind ≤ 5 → (is_rmw kind ≡ true → count ≡ done) → Carries done kind count
+    (values_after kind count)
 carries done zero count known rmw = inl (inl refl, refl)
 carries done (suc zero) count known rmw = inr (inl (inl refl, refl))
 carries done (suc (suc zero)) count known rmw = inl (inr refl, refl)
@@ -51,26 +56,44 @@ carries done (suc (suc (suc (suc zero)))) count known rmw = inr (inr (inl refl, 
 carries done (suc (suc (suc (suc (suc zero))))) count known rmw = inr (inr (inr refl, rmw refl, rmw refl))
 carries done (suc (suc (suc (suc (suc (suc kind)))))) count known rmw = absurd (omega arith)
 
-form_found : (kind code count : ℕ) → is_wrong_kind kind code ≡ false → is_reply_code code ≡ true → is_wrong_count kind code count ≡ false → HasForm kind code count (values_after kind count)
+form_found : (kind code count : ℕ) → is_wrong_kind kind code ≡ false → is_reply_code code ≡ true → is_wrong_count kind
+    code count ≡ false → HasForm kind code count (values_after kind count)
 form_found kind code count kind_rule code_rule count_rule =
     let known : kind ≤ 5 = ltb-false 5 kind (both_false _ _ kind_rule).0 in
-    let counts = both_false (eqb code 1 && not (eqb count 0)) (is_rmw kind && not (eqb count (cond (eqb code 0) 1 0))) count_rule in
-    let rmw : is_rmw kind ≡ true → count ≡ cond (eqb code 0) 1 0 = then_equal (is_rmw kind) count (cond (eqb code 0) 1 0) counts.1 in
+    let counts = both_false (eqb code 1 && not (eqb count 0)) (is_rmw kind && not (eqb count (cond (eqb code 0) 1 0)))
+    count_rule in
+    let rmw : is_rmw kind ≡ true → count ≡ cond (eqb code 0) 1 0 =
+    then_equal (is_rmw kind) count (cond (eqb code 0) 1 0) counts.1 in
     elim (codes code code_rule) [
       | inl is ↦ inl (is, carries 1 kind count known (λ e. rmw e ∙ rw is refl))
-      | inr (inl is) ↦ inr (inl (is, carries 0 kind count known (λ e. let k : cond (eqb code 0) 1 0 ≡ 0 = grind (arith, nat_tests) in rmw e ∙ k)))
+      | inr (inl is) ↦ inr (inl (
+        is,
+        carries 0 kind count known (λ e. let k : cond (eqb code 0) 1 0 ≡ 0 =
+            grind (arith, nat_tests) in rmw e ∙ k),
+      ))
       | inr (inr is) ↦
           let kind_is : kind ≡ 0 = then_equal (eqb code 1) kind 0 (both_false _ _ kind_rule).1 (eq-eqb code 1 is) in
           let count_is : count ≡ 0 = then_equal (eqb code 1) count 0 counts.0 (eq-eqb code 1 is) in
           inr (inr (is, kind_is, count_is, rw kind_is count_is))
     ]
 
-pub reply_found : (words : List ℕ) (x : Reply × List ℕ) → AreWords words → reply_at words ≡ Ok x → IsReply x.0 × (words ≡ reply_words x.0 ++ x.1)
+pub reply_found : (words : List ℕ) (x : Reply × List ℕ) → AreWords words → reply_at words ≡ Ok x → IsReply x.0
+    × (words ≡ reply_words x.0 ++ x.1)
 unfolding reply_at
 reply_found [] x fits e = absurd cc
 reply_found (word ∷ after) x fits e =
     let n : ℕ = values_after (kind_of word) (count_of word) in
-    let made : Reply × List ℕ = (record { tid = tid_of word; kind = kind_of word; count = count_of word; code = code_of word; values = take n after }, drop n after) in
+    let made : Reply × List ℕ = (
+      record {
+        tid = tid_of word;
+        kind = kind_of word;
+        count = count_of word;
+        code =
+            code_of word;
+        values = take n after;
+      },
+      drop n after,
+    ) in
     let version = passed (not (eqb (version_of word) 2)) Version _ x e in
     let kind = passed (is_wrong_kind (kind_of word) (code_of word)) Kind _ x version.1 in
     let code = passed (not (is_reply_code (code_of word))) Code _ x kind.1 in
@@ -83,8 +106,15 @@ reply_found (word ∷ after) x fits e =
     rw len (form_found (kind_of word) (code_of word) (count_of word) kind.0 (not-false _ code.0) count.0) in
     let spelled : word ∷ after ≡ reply_words made.0 ++ made.1 =
     rw (← header-fields word version_is) (ap (λ (ws : List ℕ). word ∷ ws) (sym (take-append-drop n after))) in
-    let ranges : IsReply made.0 = record { tid = omega arith; count = omega arith; form = form; values = AreWords-take n after fits.1 } in
-    subst (λ (y : Reply × List ℕ). IsReply y.0 × (word ∷ after ≡ reply_words y.0 ++ y.1)) (read_is made x whole.1) (ranges, spelled)
+    let ranges : IsReply made.0 = record {
+      tid = omega arith;
+      count = omega arith;
+      form = form;
+      values =
+          AreWords-take n after fits.1;
+    } in
+    subst (λ (y : Reply × List ℕ). IsReply y.0 × (word ∷ after ≡ reply_words y.0 ++ y.1)) (read_is made x whole.1)
+    (ranges, spelled)
 
 -- ---- from the form to the rules
 
@@ -106,24 +136,53 @@ pub fields_fit : (kind code count carried : ℕ) → HasForm kind code count car
 fields_fit kind code count carried form = (grind arith, grind arith)
 
 -- what a header with these fields and enough words after it is read as
-read_by_fields : (word tid kind code count carried : ℕ) (after : List ℕ) → HasFields word tid count kind code → KeepsRules kind code count carried → carried ≤ length after
-    → reply_at (word ∷ after) ≡ Ok (record { tid = tid; kind = kind; count = count; code = code; values = take carried after }, drop carried after)
+read_by_fields : (word tid kind code count carried : ℕ) (after : List ℕ) → HasFields word tid count kind code
+    → KeepsRules kind code count carried → carried ≤ length after
+    → reply_at (word ∷ after) ≡ Ok (
+      record {
+        tid = tid;
+        kind = kind;
+        count = count;
+        code = code;
+        values =
+            take carried after;
+      },
+      drop carried after,
+    )
 unfolding reply_at
 read_by_fields word tid kind code count carried after fields keeps whole =
-    let whole_is : ltb (length after) (values_after kind count) ≡ false = le-ltb _ _ (omega (arith, keeps.carried_is)) in
-    rw (fields.version_is, fields.tid_is, fields.count_is, fields.kind_is, fields.code_is, keeps.right_kind, keeps.right_code, keeps.right_count, whole_is, keeps.carried_is) refl
+    let whole_is : ltb (length after) (values_after kind count) ≡ false = le-ltb _ _ (omega (arith, keeps.carried_is))
+    in
+    rw (
+      fields.version_is,
+      fields.tid_is,
+      fields.count_is,
+      fields.kind_is,
+      fields.code_is,
+      keeps.right_kind,
+      keeps.right_code,
+      keeps.right_count,
+      whole_is,
+      keeps.carried_is,
+    ) refl
 
-pub reply_again : (reply : Reply) (rest : List ℕ) → IsReply reply → reply_at (reply_words reply ++ rest) ≡ Ok (reply, rest)
+pub reply_again : (reply : Reply) (rest : List ℕ) → IsReply reply → reply_at (reply_words reply ++ rest)
+    ≡ Ok (reply, rest)
 reply_again reply rest is =
     let keeps = keeps_rules reply.kind reply.code reply.count (length reply.values) is.form in
     let small = fields_fit reply.kind reply.code reply.count (length reply.values) is.form in
-    read_by_fields (header reply.tid reply.count reply.kind reply.code) reply.tid reply.kind reply.code reply.count (length reply.values) (reply.values ++ rest)
-    (fields-header reply.tid reply.count reply.kind reply.code is.tid is.count small.0 small.1) keeps (omega (arith, length-append reply.values rest))
-    ∙ rw (take_at reply.values rest (length reply.values) refl, drop_at reply.values rest (length reply.values) refl) refl
+    read_by_fields (header reply.tid reply.count reply.kind reply.code) reply.tid reply.kind reply.code reply.count
+    (length reply.values) (reply.values ++ rest)
+    (fields-header reply.tid reply.count reply.kind reply.code is.tid is.count small.0 small.1) keeps
+    (omega (arith, length-append reply.values rest))
+    ∙ rw (take_at reply.values rest (length reply.values) refl, drop_at reply.values rest (length reply.values) refl)
+    refl
 
 says_reply : (word : ℕ) (after : List ℕ) (rule : Why) → Says
-    (test_of (not (eqb (version_of word) 2)) (is_wrong_kind (kind_of word) (code_of word)) (not (is_reply_code (code_of word)))
-    (is_wrong_count (kind_of word) (code_of word) (count_of word)) (ltb (length after) (values_after (kind_of word) (count_of word))) rule)
+    (test_of (not (eqb (version_of word) 2)) (is_wrong_kind (kind_of word) (code_of word))
+    (not (is_reply_code (code_of word)))
+    (is_wrong_count (kind_of word) (code_of word) (count_of word))
+    (ltb (length after) (values_after (kind_of word) (count_of word))) rule)
     (BreaksReply rule word after)
 says_reply word after Version = record { yes = λ e. grind (arith, nat_tests); not_so = λ e. grind (arith, nat_tests) }
 says_reply word after Kind = record { yes = λ e. grind (arith, nat_tests); not_so = λ e h. grind (arith, nat_tests) }
@@ -131,14 +190,16 @@ says_reply word after Code = record { yes = λ e. grind (arith, nat_tests); not_
 says_reply word after Count = record { yes = λ e. grind (arith, nat_tests); not_so = λ e h. grind (arith, nat_tests) }
 says_reply word after Short = record { yes = λ e. ltb-true _ _ e; not_so = λ e lt. omega (arith, ltb-false _ _ e, lt) }
 
-pub reply_refuses : (words : List ℕ) (why : Why) → 0 < length words → reply_at words ≡ Err why → IsFirstRule BreaksReply words why
+pub reply_refuses : (words : List ℕ) (why : Why) → 0 < length words → reply_at words ≡ Err why
+    → IsFirstRule BreaksReply words why
 unfolding reply_at
 reply_refuses [] why some e = absurd (omega arith)
 reply_refuses (word ∷ after) why some e =
     first_rule BreaksReply word after _ _ _ _ _ why (says_reply word after) (first_test _ _ _ _ _ _ why e)
 
 -- what is read breaks no rule
-pub reply_keeps_rules : (word : ℕ) (after : List ℕ) (x : Reply × List ℕ) (why : Why) → reply_at (word ∷ after) ≡ Ok x → BreaksReply why word after → ⊥
+pub reply_keeps_rules : (word : ℕ) (after : List ℕ) (x : Reply × List ℕ) (why : Why) → reply_at (word ∷ after) ≡ Ok x
+    → BreaksReply why word after → ⊥
 unfolding reply_at
 reply_keeps_rules word after x why e broken = (says_reply word after why).not_so (no_test _ _ _ _ _ _ x e why) broken
 
@@ -163,6 +224,7 @@ fault_at_front [] why e =
     inl (refl, sym same)
 fault_at_front (word ∷ after) why e = inr (reply_refuses (word ∷ after) why (omega arith) e)
 
-pub is_fault : (words : List ℕ) (r : Result FirstReply Why) → ReadsReply r words → IfErr r (IsFaultAtFront BreaksReply words)
+pub is_fault : (words : List ℕ) (r : Result FirstReply Why) → ReadsReply r words
+    → IfErr r (IsFaultAtFront BreaksReply words)
 is_fault words (Ok first) exact = tt
 is_fault words (Err why) exact = fault_at_front words why exact

@@ -1,5 +1,6 @@
 -- Readings by rules in their order: a rule that was passed, and what was read then.
-use Rattle.std.proofs.Common.{◌<◌, subst, ◌≡◌, ℕ, Bool, true, false, cond, not, List, ◌∷◌, get_or, take, drop, Result, Ok, Err, refl, Fits, w32, arith, ◌+◌, add_comm, add-one}
+use Rattle.std.proofs.Common.{◌<◌, subst, ◌≡◌, ℕ, Bool, true, false, cond, not, List, ◌∷◌, get_or, take, drop, Result}
+use Rattle.std.proofs.Common.{Ok, Err, refl, Fits, w32, arith, ◌+◌, add_comm, add-one}
 use Rattle.ipb_base.specs.Word.{AreWords}
 use Rattle.ipb_base.proofs.WordLemmas.{AreWords-at}
 use Rattle.transaction_codec.specs.declared.refusal.Why.{Why}
@@ -7,7 +8,8 @@ use Rattle.transaction_codec.specs.declared.refusal.Why.TheVariants.{Version, Ki
 use Rattle.transaction_codec.specs.Listing.{why_number, IsFirstRule}
 
 -- a rule that is not broken
-pub passed : {A : Type 0} (broken : Bool) (why : Why) (then : Result A Why) (x : A) → cond broken (Err why) then ≡ Ok x → (broken ≡ false) × (then ≡ Ok x)
+pub passed : {A : Type 0} (broken : Bool) (why : Why) (then : Result A Why) (x : A) → cond broken (Err why) then
+    ≡ Ok x → (broken ≡ false) × (then ≡ Ok x)
 passed true why then x e = absurd cc
 passed false why then x e = (refl, e)
 
@@ -21,7 +23,8 @@ test_of a b c d e Short = e
 
 -- five tests in their order, each with its rule
 abbrev pub by_tests : {A : Type 0} → Bool → Bool → Bool → Bool → Bool → A → Result A Why
-by_tests a b c d e x = cond a (Err Version) (cond b (Err Kind) (cond c (Err Code) (cond d (Err Count) (cond e (Err Short) (Ok x)))))
+by_tests a b c d e x =
+    cond a (Err Version) (cond b (Err Kind) (cond c (Err Code) (cond d (Err Count) (cond e (Err Short) (Ok x)))))
 
 -- the rule of the first test that is true
 pub record IsFirstTest (a b c d e : Bool) (why : Why) : Type 0 where
@@ -69,16 +72,23 @@ refused A why = Err why
 rule_is : (A : Type 0) (why other : Why) → refused A why ≡ refused A other → why ≡ other
 rule_is A why other e = cc
 
-pub first_test : {A : Type 0} (a b c d e : Bool) (x : A) (why : Why) → by_tests a b c d e x ≡ Err why → IsFirstTest a b c d e why
-first_test {A = A} true b c d e x why h = subst (IsFirstTest true b c d e) (rule_is A Version why h) (record { broken = refl; earlier = before_version true b c d e })
-first_test {A = A} false true c d e x why h = subst (IsFirstTest false true c d e) (rule_is A Kind why h) (record { broken = refl; earlier = before_kind true c d e })
-first_test {A = A} false false true d e x why h = subst (IsFirstTest false false true d e) (rule_is A Code why h) (record { broken = refl; earlier = before_code true d e })
-first_test {A = A} false false false true e x why h = subst (IsFirstTest false false false true e) (rule_is A Count why h) (record { broken = refl; earlier = before_count true e })
-first_test {A = A} false false false false true x why h = subst (IsFirstTest false false false false true) (rule_is A Short why h) (record { broken = refl; earlier = before_short true })
+pub first_test : {A : Type 0} (a b c d e : Bool) (x : A) (why : Why) → by_tests a b c d e x ≡ Err why
+    → IsFirstTest a b c d e why
+first_test {A = A} true b c d e x why h = subst (IsFirstTest true b c d e) (rule_is A Version why h)
+    (record { broken = refl; earlier = before_version true b c d e })
+first_test {A = A} false true c d e x why h = subst (IsFirstTest false true c d e) (rule_is A Kind why h)
+    (record { broken = refl; earlier = before_kind true c d e })
+first_test {A = A} false false true d e x why h = subst (IsFirstTest false false true d e) (rule_is A Code why h)
+    (record { broken = refl; earlier = before_code true d e })
+first_test {A = A} false false false true e x why h = subst (IsFirstTest false false false true e)
+    (rule_is A Count why h) (record { broken = refl; earlier = before_count true e })
+first_test {A = A} false false false false true x why h = subst (IsFirstTest false false false false true)
+    (rule_is A Short why h) (record { broken = refl; earlier = before_short true })
 first_test {A = A} false false false false false x why h = absurd cc
 
 -- where all is read, no test is true
-pub no_test : {A : Type 0} (a b c d e : Bool) (x y : A) → by_tests a b c d e x ≡ Ok y → (rule : Why) → test_of a b c d e rule ≡ false
+pub no_test : {A : Type 0} (a b c d e : Bool) (x y : A) → by_tests a b c d e x ≡ Ok y → (rule : Why) → test_of a b c d
+    e rule ≡ false
 no_test true b c d e x y h rule = absurd cc
 no_test false true c d e x y h rule = absurd cc
 no_test false false true d e x y h rule = absurd cc
@@ -95,9 +105,11 @@ pub record Says (test : Bool) (Broken : Type 0) : Type 0 where
   pub yes : test ≡ true → Broken
   pub not_so : test ≡ false → Broken → ⊥
 
-pub first_rule : (Breaks : Why → ℕ → List ℕ → Type 0) (word : ℕ) (after : List ℕ) (a b c d e : Bool) (why : Why) → ((rule : Why) → Says (test_of a b c d e rule) (Breaks rule word after))
+pub first_rule : (Breaks : Why → ℕ → List ℕ → Type 0) (word : ℕ) (after : List ℕ) (a b c d e : Bool) (why : Why)
+    → ((rule : Why) → Says (test_of a b c d e rule) (Breaks rule word after))
     → IsFirstTest a b c d e why → IsFirstRule Breaks (word ∷ after) why
-first_rule Breaks word after a b c d e why says first = ((says why).yes first.broken, λ other lt. (says other).not_so (first.earlier other lt))
+first_rule Breaks word after a b c d e why says first =
+    ((says why).yes first.broken, λ other lt. (says other).not_so (first.earlier other lt))
 
 abbrev pub read : {A : Type 0} → A → Result A Why
 read x = Ok x

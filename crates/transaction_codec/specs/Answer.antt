@@ -1,5 +1,5 @@
--- Which words answer a body: of any device that answers each access by a word or a code. It need not remember. IPbus 2.0,
--- transactions; what a failed transaction and a bad header answer is the profile's.
+-- Which words answer a body: of any device that answers each access by a word or a code. It need not remember. IPbus
+-- 2.0, transactions; what a failed transaction and a bad header answer is the profile's.
 use Rattle.std.specs.Prelude.{◌≡◌, ◌⊎◌, ℕ, zero, suc, ◌+◌, ◌≤◌, ◌<◌, List, [], ◌∷◌, ◌++◌, length, Result, Ok, Err}
 use Rattle.transaction_codec.specs.declared.request.Op.{Op}
 use Rattle.transaction_codec.specs.declared.request.Op.TheVariants.{Read, ReadPort, Write, WritePort, RmwBits, RmwSum}
@@ -7,9 +7,11 @@ use Rattle.transaction_codec.specs.declared.request.Request.{Request}
 use Rattle.transaction_codec.specs.declared.reply.Reply.{Reply}
 use Rattle.transaction_codec.specs.declared.refusal.Why.{Why}
 use Rattle.transaction_codec.specs.declared.transaction_type.TheConstants.{READ}
-use Rattle.transaction_codec.specs.declared.info_code.TheConstants.{SUCCESS, BAD_HEADER, READ_ERROR, WRITE_ERROR, READ_TIMEOUT, WRITE_TIMEOUT}
+use Rattle.transaction_codec.specs.declared.info_code.TheConstants.{SUCCESS, BAD_HEADER, READ_ERROR, WRITE_ERROR}
+use Rattle.transaction_codec.specs.declared.info_code.TheConstants.{READ_TIMEOUT, WRITE_TIMEOUT}
 use Rattle.transaction_codec.specs.Header.{tid_of}
-use Rattle.transaction_codec.specs.Request.{op_kind, op_count, AreRequests, requests_words, request_at, NoRequestAtFront}
+use Rattle.transaction_codec.specs.Request.{op_kind, op_count, AreRequests, requests_words, request_at}
+use Rattle.transaction_codec.specs.Request.{NoRequestAtFront}
 use Rattle.transaction_codec.specs.Reply.{IsBusFault, AreReplies, replies_words}
 
 -- the words of a reply that did all of the operation: those read, nothing for a write, the word before for an RMW
@@ -21,13 +23,17 @@ values_done (WritePort base words) = 0
 values_done (RmwBits base and_term or_term) = 1
 values_done (RmwSum base addend) = 1
 
--- The operation failed with this code after `count` words, of which the reply carries `values`. A read of no words, and a write
--- of none, does not fail.
+-- The operation failed with this code after `count` words, of which the reply carries `values`. A read of no words,
+-- and a write of none, does not fail.
 abbrev pub Fails : Op → ℕ → ℕ → ℕ → Type 0
-Fails (Read base asked) code count values = ((code ≡ READ_ERROR) ⊎ (code ≡ READ_TIMEOUT)) × (count < asked) × (values ≡ count)
-Fails (ReadPort base asked) code count values = ((code ≡ READ_ERROR) ⊎ (code ≡ READ_TIMEOUT)) × (count < asked) × (values ≡ count)
-Fails (Write base words) code count values = ((code ≡ WRITE_ERROR) ⊎ (code ≡ WRITE_TIMEOUT)) × (count < length words) × (values ≡ 0)
-Fails (WritePort base words) code count values = ((code ≡ WRITE_ERROR) ⊎ (code ≡ WRITE_TIMEOUT)) × (count < length words) × (values ≡ 0)
+Fails (Read base asked) code count values = ((code ≡ READ_ERROR) ⊎ (code ≡ READ_TIMEOUT)) × (count < asked)
+    × (values ≡ count)
+Fails (ReadPort base asked) code count values = ((code ≡ READ_ERROR) ⊎ (code ≡ READ_TIMEOUT)) × (count < asked)
+    × (values ≡ count)
+Fails (Write base words) code count values = ((code ≡ WRITE_ERROR) ⊎ (code ≡ WRITE_TIMEOUT)) × (count < length words)
+    × (values ≡ 0)
+Fails (WritePort base words) code count values = ((code ≡ WRITE_ERROR) ⊎ (code ≡ WRITE_TIMEOUT))
+    × (count < length words) × (values ≡ 0)
 Fails (RmwBits base and_term or_term) code count values = IsBusFault code × (count ≡ 0) × (values ≡ 0)
 Fails (RmwSum base addend) code count values = IsBusFault code × (count ≡ 0) × (values ≡ 0)
 
@@ -45,8 +51,8 @@ pub record IsFailed (request : Request) (reply : Reply) : Type 0 where
   pub kind : reply.kind ≡ op_kind request.op
   pub fault : Fails request.op reply.code reply.count (length reply.values)
 
--- The replies to these requests: each is done and followed by the replies to the rest, or fails and is the last. `ending` is
--- what follows where all are done.
+-- The replies to these requests: each is done and followed by the replies to the rest, or fails and is the last.
+-- `ending` is what follows where all are done.
 abbrev pub Answers : List Request → List Reply → List Reply → Type 0
 Answers [] ending replies = replies ≡ ending
 Answers (request ∷ requests) ending [] = ⊥
@@ -67,13 +73,14 @@ pub record IsReplyTo (body reply : List ℕ) : Type 0 where
 abbrev pub bad_header_reply : ℕ → Reply
 bad_header_reply word = record { tid = tid_of word; kind = READ; count = 0; code = BAD_HEADER; values = [] }
 
--- what a board answers to what stands after the requests: nothing to nothing, one reply to a bad header and all after it
+-- what a board answers to what stands after the requests: nothing to nothing, one reply to a bad header and all after
+-- it
 abbrev pub ending_of : List ℕ → List Reply
 ending_of [] = []
 ending_of (word ∷ words) = bad_header_reply word ∷ []
 
--- The words are what a board can answer to a body, which may have a bad header: replies to the requests before it, and where
--- all of them are done one reply to the bad header. Nothing after it counts.
+-- The words are what a board can answer to a body, which may have a bad header: replies to the requests before it, and
+-- where all of them are done one reply to the bad header. Nothing after it counts.
 pub record CanAnswer (body answer : List ℕ) : Type 0 where
   pub requests : List Request
   pub rest : List ℕ
@@ -92,8 +99,8 @@ pub record IsLongestAnswer (body : List ℕ) (room : ℕ) : Type 0 where
   pub given : CanAnswer body answer
   pub reached : length answer ≡ room
 
--- The longest answer is one header for each request and the words of a reply that did all of it. A place where no request
--- stands counts as one word, and nothing after it counts.
+-- The longest answer is one header for each request and the words of a reply that did all of it. A place where no
+-- request stands counts as one word, and nothing after it counts.
 abbrev pub room_first : Result (Request × List ℕ) Why → (List ℕ → ℕ) → ℕ
 room_first (Ok (request, rest)) later = 1 + values_done request.op + later rest
 room_first (Err why) later = 1

@@ -26,12 +26,20 @@ abbrev pub request_of : FirstRequest → Request
 request_of first = record { tid = first.tid; op = op_of first.op }
 
 abbrev pub reply_of : FirstReply → Reply
-reply_of first = record { tid = first.tid; kind = first.kind; count = first.count; code = first.code; values = first.values.now }
+reply_of first = record {
+  tid = first.tid;
+  kind = first.kind;
+  count = first.count;
+  code = first.code;
+  values =
+      first.values.now;
+}
 
 -- the reader of one request answers what reading the words as a list answers
 abbrev pub ReadsRequest : Result FirstRequest Why → List ℕ → Type 0
 ReadsRequest result words =
-    MatchResult result (λ first. request_at words ≡ Ok (request_of first, first.rest.now)) (λ why. request_at words ≡ Err why)
+    MatchResult result (λ first. request_at words ≡ Ok (request_of first, first.rest.now)) (λ why. request_at words
+    ≡ Err why)
 
 -- likewise the reader of one reply
 abbrev pub ReadsReply : Result FirstReply Why → List ℕ → Type 0

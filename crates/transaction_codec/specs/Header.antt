@@ -3,7 +3,8 @@ use Rattle.std.specs.Prelude.{ℕ, ◌+◌, ◌*◌, ◌/◌, ◌%◌, ◌^◌, 
 use Rattle.ipb_base.specs.declared.version.TheConstants.{VERSION}
 use Rattle.transaction_codec.specs.declared.transaction_type.TheConstants.{WRITE, WRITE_PORT, RMW_BITS, RMW_SUM}
 
--- the version in bits 31-28, the transaction identifier in 27-16, the words in 15-8, the type in 7-4, the info code in 3-0
+-- the version in bits 31-28, the transaction identifier in 27-16, the words in 15-8, the type in 7-4, the info code in
+-- 3-0
 abbrev pub header : ℕ → ℕ → ℕ → ℕ → ℕ
 header tid count kind code = VERSION * 2 ^ 28 + tid * 2 ^ 16 + count * 2 ^ 8 + kind * 2 ^ 4 + code
 

@@ -23,14 +23,16 @@ IsFirstRule Breaks [] why = ⊥
 IsFirstRule Breaks (word ∷ after) why =
     Breaks why word after × ((earlier : Why) → why_number earlier < why_number why → Breaks earlier word after → ⊥)
 
--- The first fault of the words: what stands before its place is a list, no longer prefix of the words is one, and the header
--- at its place breaks this rule first.
-pub record IsFirstFault {Item : Type 0} (item_words : Item → List ℕ) (IsItem : Item → Type 0) (Breaks : Why → ℕ → List ℕ → Type 0)
+-- The first fault of the words: what stands before its place is a list, no longer prefix of the words is one, and the
+-- header at its place breaks this rule first.
+pub record IsFirstFault {Item : Type 0} (item_words : Item → List ℕ) (IsItem : Item → Type 0) (Breaks : Why → ℕ
+    → List ℕ → Type 0)
     (words : List ℕ) (place : ℕ) (why : Why) : Type 0 where
   pub before : List Item
   pub ranges : AllByRecursion IsItem before
   pub front : take place words ≡ flat_map item_words before
-  pub longest : (items : List Item) → AllByRecursion IsItem items → IsPrefix (flat_map item_words items) words → length (flat_map item_words items) ≤ place
+  pub longest : (items : List Item) → AllByRecursion IsItem items → IsPrefix (flat_map item_words items) words
+      → length (flat_map item_words items) ≤ place
   pub rule : IsFirstRule Breaks (drop place words) why
 
 -- a refusal names the first fault, unless memory ran out

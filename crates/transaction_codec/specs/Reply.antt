@@ -1,12 +1,14 @@
 -- Replies and their words. IPbus 2.0, transaction header; what a failed transaction carries is the profile's.
-use Rattle.std.specs.Prelude.{◌≡◌, ◌≢◌, ℕ, ◌^◌, ◌<◌, ◌≤◌, Bool, ◌==◌, ◌&&◌, ◌||◌, not, nat_lt, nat_le, ◌⊎◌, if◌then◌else◌, List, [], ◌∷◌, length, take, drop, Result, Ok, Err}
+use Rattle.std.specs.Prelude.{◌≡◌, ◌≢◌, ℕ, ◌^◌, ◌<◌, ◌≤◌, Bool, ◌==◌, ◌&&◌, ◌||◌, not, nat_lt, nat_le, ◌⊎◌}
+use Rattle.std.specs.Prelude.{if◌then◌else◌, List, [], ◌∷◌, length, take, drop, Result, Ok, Err}
 use Rattle.std.specs.List.{AllByRecursion, flat_map}
 use Rattle.ipb_base.specs.Word.{AreWords}
 use Rattle.ipb_base.specs.declared.version.TheConstants.{VERSION}
 use Rattle.transaction_codec.specs.declared.reply.Reply.{Reply}
 use Rattle.transaction_codec.specs.declared.refusal.Why.{Why}
 use Rattle.transaction_codec.specs.declared.refusal.Why.TheVariants.{Version, Kind, Code, Count, Short}
-use Rattle.transaction_codec.specs.declared.transaction_type.TheConstants.{READ, WRITE, READ_PORT, WRITE_PORT, RMW_BITS, RMW_SUM}
+use Rattle.transaction_codec.specs.declared.transaction_type.TheConstants.{READ, WRITE, READ_PORT, WRITE_PORT, RMW_BITS}
+use Rattle.transaction_codec.specs.declared.transaction_type.TheConstants.{RMW_SUM}
 use Rattle.transaction_codec.specs.declared.info_code.TheConstants.{SUCCESS, BAD_HEADER, READ_ERROR, WRITE_TIMEOUT}
 use Rattle.transaction_codec.specs.Header.{header, version_of, tid_of, count_of, kind_of, code_of, is_write, is_rmw}
 
@@ -21,16 +23,16 @@ replies_words replies = flat_map reply_words replies
 abbrev pub IsBusFault : ℕ → Type 0
 IsBusFault code = (READ_ERROR ≤ code) × (code ≤ WRITE_TIMEOUT)
 
--- The words of a reply to a transaction that did `count` words: a read carries them, a write none. An RMW that did its word
--- has done = 1, one that failed has done = 0.
+-- The words of a reply to a transaction that did `count` words: a read carries them, a write none. An RMW that did its
+-- word has done = 1, one that failed has done = 0.
 abbrev pub Carries : ℕ → ℕ → ℕ → ℕ → Type 0
 Carries done kind count carried =
     (((kind ≡ READ) ⊎ (kind ≡ READ_PORT)) × (carried ≡ count))
     ⊎ ((((kind ≡ WRITE) ⊎ (kind ≡ WRITE_PORT)) × (carried ≡ 0))
     ⊎ (((kind ≡ RMW_BITS) ⊎ (kind ≡ RMW_SUM)) × (count ≡ done) × (carried ≡ done)))
 
--- The forms of replies, by type, info code, words field and the number of words carried: a success, a bus fault, or the answer
--- to a bad header.
+-- The forms of replies, by type, info code, words field and the number of words carried: a success, a bus fault, or
+-- the answer to a bad header.
 abbrev pub HasForm : ℕ → ℕ → ℕ → ℕ → Type 0
 HasForm kind code count carried =
     ((code ≡ SUCCESS) × Carries 1 kind count carried)
@@ -51,7 +53,8 @@ AreReplies replies = AllByRecursion IsReply replies
 abbrev pub is_reply_code : ℕ → Bool
 is_reply_code code = code == SUCCESS || code == BAD_HEADER || (nat_le READ_ERROR code && nat_le code WRITE_TIMEOUT)
 
--- Which words fields are wrong: one that is not 0 with code 1; for an RMW one that is not 1 with code 0, or not 0 with another.
+-- Which words fields are wrong: one that is not 0 with code 1; for an RMW one that is not 1 with code 0, or not 0 with
+-- another.
 abbrev pub is_wrong_count : ℕ → ℕ → ℕ → Bool
 is_wrong_count kind code count =
     (code == BAD_HEADER && not (count == 0)) || (is_rmw kind && not (count == (if code == SUCCESS then 1 else 0)))

@@ -1,5 +1,6 @@
 -- Requests and their words. IPbus 2.0, transaction header; which headers are bad is the profile's.
-use Rattle.std.specs.Prelude.{◌≡◌, ◌≢◌, ◌⊎◌, ℕ, ◌+◌, ◌^◌, ◌<◌, ◌==◌, ◌&&◌, not, nat_lt, if◌then◌else◌, List, [], ◌∷◌, ◌++◌, length, take, drop, slice_index, Result, Ok, Err}
+use Rattle.std.specs.Prelude.{◌≡◌, ◌≢◌, ◌⊎◌, ℕ, ◌+◌, ◌^◌, ◌<◌, ◌==◌, ◌&&◌, not, nat_lt, if◌then◌else◌, List, [], ◌∷◌}
+use Rattle.std.specs.Prelude.{◌++◌, length, take, drop, slice_index, Result, Ok, Err}
 use Rattle.std.specs.List.{AllByRecursion, flat_map}
 use Rattle.ipb_base.specs.Word.{AreWords}
 use Rattle.ipb_base.specs.declared.version.TheConstants.{VERSION}
@@ -8,7 +9,8 @@ use Rattle.transaction_codec.specs.declared.request.Op.TheVariants.{Read, ReadPo
 use Rattle.transaction_codec.specs.declared.request.Request.{Request}
 use Rattle.transaction_codec.specs.declared.refusal.Why.{Why}
 use Rattle.transaction_codec.specs.declared.refusal.Why.TheVariants.{Version, Kind, Code, Count, Short}
-use Rattle.transaction_codec.specs.declared.transaction_type.TheConstants.{READ, WRITE, READ_PORT, WRITE_PORT, RMW_BITS, RMW_SUM}
+use Rattle.transaction_codec.specs.declared.transaction_type.TheConstants.{READ, WRITE, READ_PORT, WRITE_PORT, RMW_BITS}
+use Rattle.transaction_codec.specs.declared.transaction_type.TheConstants.{RMW_SUM}
 use Rattle.transaction_codec.specs.declared.info_code.TheConstants.{REQUEST}
 use Rattle.transaction_codec.specs.Header.{header, version_of, tid_of, count_of, kind_of, code_of, is_write, is_rmw}
 
@@ -54,6 +56,10 @@ pub record IsRequest (request : Request) : Type 0 where
 
 abbrev pub AreRequests : List Request → Type 0
 AreRequests requests = AllByRecursion IsRequest requests
+
+-- the words are those of requests alone, as a reader of requests accepts them
+abbrev pub SpellsRequests : List ℕ → Type 0
+SpellsRequests body = (requests : List Request) × AreRequests requests × (body ≡ requests_words requests)
 
 -- a header has room for the identifier, 12 bits, and for the number of words, 8 bits
 pub record FitsHeader (request : Request) : Type 0 where
@@ -102,4 +108,7 @@ request_at (word ∷ after) =
     else if not (code_of word == REQUEST) then Err Code
     else if is_rmw (kind_of word) && not (count_of word == 1) then Err Count
     else if nat_lt (length after) (words_after (kind_of word) (count_of word)) then Err Short
-    else Ok (record { tid = tid_of word; op = op_at (kind_of word) (count_of word) after }, drop (words_after (kind_of word) (count_of word)) after)
+    else Ok (
+      record { tid = tid_of word; op = op_at (kind_of word) (count_of word) after },
+      drop (words_after (kind_of word) (count_of word)) after,
+    )

@@ -130,8 +130,8 @@ fn op_at(kind: u8, count: u8, after: &[u32]) -> OpRef<'_>
     }
 }
 
-/// The request at the front of the words, or the first rule that is broken there: an empty slice is `Short`. It takes no
-/// memory. IPbus 2.0, transaction header.
+/// The request at the front of the words, or the first rule that is broken there: an empty slice is `Short`. It takes
+/// no memory. IPbus 2.0, transaction header.
 pub fn first_request(words: &[u32]) -> Result<FirstRequest<'_>, Why>
     ensures exact { ReadsRequest result words.now }
     ensures found { IfOk result (λ first.
@@ -196,8 +196,8 @@ fn values_after(kind: u8, count: u8) -> usize
     if is_write(kind) { 0 } else { count as usize }
 }
 
-/// The reply at the front of the words, or the first rule that is broken there: an empty slice is `Short`. It takes no
-/// memory. IPbus 2.0, transaction header.
+/// The reply at the front of the words, or the first rule that is broken there: an empty slice is `Short`. It takes
+/// no memory. IPbus 2.0, transaction header.
 pub fn first_reply(words: &[u32]) -> Result<FirstReply<'_>, Why>
     ensures exact { ReadsReply result words.now }
     ensures found { IfOk result (λ first.

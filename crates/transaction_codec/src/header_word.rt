@@ -24,8 +24,8 @@ pub fn header(tid: u16, count: u8, kind: u8, code: u8) -> u32
     front | (u32::from(count) << 8) | (u32::from(kind) << 4) | u32::from(code)
 }
 
-/// The answer to a bad header: the one word that a board puts there, with that header's transaction identifier, no words,
-/// type 0 and code 1. Profile.
+/// The answer to a bad header: the one word that a board puts there, with that header's transaction identifier, no
+/// words, type 0 and code 1. Profile.
 pub fn bad_header_reply(word: u32) -> u32
     ensures value { result ≡ header (field.tid_of word) 0 READ BAD_HEADER }
     ensures reply { reply_words (Answer.bad_header_reply word) ≡ result ∷ [] }

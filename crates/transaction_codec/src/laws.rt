@@ -1,18 +1,55 @@
 //! Laws of the definitions. These functions do nothing when they run: their clauses are what is proved.
 
-ghost use Rattle.std.specs.Prelude.{◌≡◌, List, ℕ, ◌++◌, ◌∷◌, [], Ok, Err};
+ghost use Rattle.std.specs.Prelude.{◌≡◌, ◌↔◌, List, ℕ, ◌<◌, ◌≤◌, ◌^◌, ◌++◌, ◌∷◌, [], Ok, Err};
 ghost use Rattle.ipb_base.specs.Lists.{IsProperPrefix};
 ghost use Rattle.ipb_base.specs.Word.{AreWords};
 ghost use Rattle.transaction_codec.specs.declared.refusal.Why.{Why};
 ghost use Rattle.transaction_codec.specs.declared.request.Request.{Request};
 ghost use Rattle.transaction_codec.specs.declared.reply.Reply.{Reply};
-ghost use Rattle.transaction_codec.specs.Request.{AreRequests, IsRequest, BreaksRequest, request_at, request_words, requests_words};
+ghost use Rattle.transaction_codec.specs.Request.{AreRequests, IsRequest, BreaksRequest, request_at, request_words};
+ghost use Rattle.transaction_codec.specs.Request.{requests_words};
 ghost use Rattle.transaction_codec.specs.Reply.{AreReplies, IsReply, BreaksReply, reply_at, reply_words, replies_words};
 ghost use Rattle.transaction_codec.specs.Listing.{IsFirstRule, IsRequestFault, IsReplyFault};
 ghost use Rattle.transaction_codec.specs.Answer.{CanAnswer, IsReplyTo, IsLongestAnswer, reply_room};
 
+use crate::header_word::MAX_COUNT;
+use crate::info_code::{
+    BAD_HEADER, READ_ERROR, READ_TIMEOUT, REQUEST, SUCCESS, WRITE_ERROR, WRITE_TIMEOUT,
+};
 use crate::refusal::{BadWords, Why};
 use crate::request::Op;
+use crate::room::LONGEST_BODY;
+use crate::transaction_type::{READ, READ_PORT, RMW_BITS, RMW_SUM, WRITE, WRITE_PORT};
+
+/// The types of a header (IPbus 2.0, transaction header).
+pub fn the_types_of_a_header()
+    ensures read { READ ≡ 0 }
+    ensures write { WRITE ≡ 1 }
+    ensures read_port { READ_PORT ≡ 2 }
+    ensures write_port { WRITE_PORT ≡ 3 }
+    ensures rmw_bits { RMW_BITS ≡ 4 }
+    ensures rmw_sum { RMW_SUM ≡ 5 }
+{}
+
+/// The info codes of a header (IPbus 2.0, transaction header).
+pub fn the_info_codes_of_a_header()
+    ensures success { SUCCESS ≡ 0 }
+    ensures bad_header { BAD_HEADER ≡ 1 }
+    ensures read_error { READ_ERROR ≡ 4 }
+    ensures write_error { WRITE_ERROR ≡ 5 }
+    ensures read_timeout { READ_TIMEOUT ≡ 6 }
+    ensures write_timeout { WRITE_TIMEOUT ≡ 7 }
+    ensures request { REQUEST ≡ 0xf }
+{}
+
+/// The greatest transaction identifier, of 12 bits, the most words that the words field tells, in 8 bits, and the most
+/// words of a body that is measured or executed at once (profile).
+pub fn the_numbers_of_a_body()
+    ensures identifiers { (tid : ℕ) → (tid < 2 ^ 12) ↔ (tid ≤ 4095) }
+    ensures counts { (count : ℕ) → (count < 2 ^ 8) ↔ (count ≤ MAX_COUNT) }
+    ensures most_words { MAX_COUNT ≡ 255 }
+    ensures longest { LONGEST_BODY ≡ 65536 }
+{}
 
 /// Words are the spelling of at most one list of requests, and of at most one list of replies.
 pub fn one_list_for_words()
@@ -40,8 +77,8 @@ pub fn written_is_read_again()
 
 /// What is read of 32-bit words is spelled so.
 pub fn read_is_spelled_so()
-    ensures request { (words rest : List ℕ) (request : Request) → AreWords words → request_at words ≡ Ok (request, rest) →
-        IsRequest request × (words ≡ request_words request ++ rest) }
+    ensures request { (words rest : List ℕ) (request : Request) → AreWords words →
+        request_at words ≡ Ok (request, rest) → IsRequest request × (words ≡ request_words request ++ rest) }
     ensures reply { (words rest : List ℕ) (reply : Reply) → AreWords words → reply_at words ≡ Ok (reply, rest) →
         IsReply reply × (words ≡ reply_words reply ++ rest) }
 {}
@@ -72,7 +109,8 @@ pub fn replies_are_what_boards_answer()
 /// Each body has one longest answer, and `reply_room` is its length.
 pub fn longest_answer_of_a_body()
     ensures there { (body : List ℕ) → AreWords body → IsLongestAnswer body (reply_room body) }
-    ensures one { (body : List ℕ) (left right : ℕ) → IsLongestAnswer body left → IsLongestAnswer body right → left ≡ right }
+    ensures one { (body : List ℕ) (left right : ℕ) →
+        IsLongestAnswer body left → IsLongestAnswer body right → left ≡ right }
 {}
 
 /// Words have one first fault: one place and one rule.
@@ -93,7 +131,8 @@ pub fn worked_spellings()
         ≡ 0x20000100 ∷ 0xabcd ∷ [] }
     ensures rmw_bits { requests_words (record { tid = 0; op = Op.RmwBits 8 0x7fffffff 0x80000000 } ∷ [])
         ≡ 0x2000014f ∷ 8 ∷ 0x7fffffff ∷ 0x80000000 ∷ [] }
-    ensures write { requests_words (record { tid = 1; op = Op.Write 16 (7 ∷ 9 ∷ []) } ∷ []) ≡ 0x2001021f ∷ 16 ∷ 7 ∷ 9 ∷ [] }
+    ensures write { requests_words (record { tid = 1; op = Op.Write 16 (7 ∷ 9 ∷ []) } ∷ [])
+        ≡ 0x2001021f ∷ 16 ∷ 7 ∷ 9 ∷ [] }
     ensures write_of_no_words { requests_words (record { tid = 2; op = Op.WritePort 5 [] } ∷ []) ≡ 0x2002003f ∷ 5 ∷ [] }
 {}
 
@@ -122,6 +161,6 @@ pub fn worked_answer()
 
 /// The longest answers of bodies, by hand: to a read of three words, an RMW, a write of two words and a bad header.
 pub fn worked_room()
-    ensures { let body = 0x2000030f ∷ 0 ∷ 0x2001015f ∷ 4 ∷ 1 ∷ 0x2002021f ∷ 8 ∷ 7 ∷ 7 ∷ 0x3000010f ∷ 0x2000030f ∷ 0 ∷ [] in
-        reply_room body ≡ 8 }
+    ensures { reply_room
+        (0x2000030f ∷ 0 ∷ 0x2001015f ∷ 4 ∷ 1 ∷ 0x2002021f ∷ 8 ∷ 7 ∷ 7 ∷ 0x3000010f ∷ 0x2000030f ∷ 0 ∷ []) ≡ 8 }
 {}

@@ -1,7 +1,7 @@
 //! IPbus 2.0 transactions: requests and replies as 32-bit words, both ways.
 //!
-//! A body is the word list of a control packet without its packet header. It is read as a list of requests or of replies
-//! and written from one. `first_request` and `first_reply` read one at the front of a body and take no memory.
+//! A body is the word list of a control packet without its packet header. It is read as a list of requests or of
+//! replies and written from one. `first_request` and `first_reply` read one at the front of a body and take no memory.
 #![tactic(auto)]
 
 mod first;

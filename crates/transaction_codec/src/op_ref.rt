@@ -1,6 +1,6 @@
 //! Operations whose words stand elsewhere, as in the body that was read. They take no memory.
 
-ghost use Rattle.std.specs.Prelude.{◌≡◌, ◌≤◌, IfOk};
+ghost use Rattle.std.specs.Prelude.{◌≡◌, ◌<◌, ◌≤◌, ◌^◌, IfOk, length};
 ghost use Rattle.transaction_codec.specs.Request as of_request;
 ghost use Rattle.transaction_codec.specs.Answer as of_answer;
 ghost use Rattle.transaction_codec.specs.First.{op_of};
@@ -101,6 +101,19 @@ impl OpRef<'_> {
         }
     }
 
+    /// How many words stand after the header of its request: the address, and the words or terms of a write or an RMW.
+    pub fn words_after_header(&self) -> usize
+        requires { of_request.op_count (op_of self.now) < 2 ^ 8 }
+        ensures { result ≡ length (of_request.op_words (op_of self.now)) }
+    {
+        match *self {
+            OpRef::Read { .. } | OpRef::ReadPort { .. } => 1,
+            OpRef::Write { words, .. } | OpRef::WritePort { words, .. } => 1 + words.len(),
+            OpRef::RmwBits { .. } => 3,
+            OpRef::RmwSum { .. } => 2,
+        }
+    }
+
     /// How many words a reply carries that did all of it: those read, none for a write, the word before an RMW.
     pub fn values_done(&self) -> u32
         ensures { result ≡ of_answer.values_done (op_of self.now) }
@@ -109,45 +122,6 @@ impl OpRef<'_> {
             OpRef::Read { count, .. } | OpRef::ReadPort { count, .. } => count,
             OpRef::Write { .. } | OpRef::WritePort { .. } => 0,
             OpRef::RmwBits { .. } | OpRef::RmwSum { .. } => 1,
-        }
-    }
-}
-
-impl Op {
-    /// The same operation, with its words where they stand.
-    pub fn as_op_ref(&self) -> OpRef<'_>
-        ensures { op_of result ≡ self.now }
-    {
-        match self {
-            Op::Read { base, count } => OpRef::Read {
-                base: *base,
-                count: *count,
-            },
-            Op::ReadPort { base, count } => OpRef::ReadPort {
-                base: *base,
-                count: *count,
-            },
-            Op::Write { base, words } => OpRef::Write {
-                base: *base,
-                words: words.as_slice(),
-            },
-            Op::WritePort { base, words } => OpRef::WritePort {
-                base: *base,
-                words: words.as_slice(),
-            },
-            Op::RmwBits {
-                base,
-                and_term,
-                or_term,
-            } => OpRef::RmwBits {
-                base: *base,
-                and_term: *and_term,
-                or_term: *or_term,
-            },
-            Op::RmwSum { base, addend } => OpRef::RmwSum {
-                base: *base,
-                addend: *addend,
-            },
         }
     }
 }

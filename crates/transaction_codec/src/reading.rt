@@ -12,8 +12,8 @@ use crate::reply::Reply;
 use crate::request::Request;
 use std::alloc::Global;
 
-/// The requests that a body's words are, all of them. No words are no requests. A refusal names the first faulty header and
-/// the first rule that it breaks.
+/// The requests that a body's words are, all of them. No words are no requests. A refusal names the first faulty header
+/// and the first rule that it breaks.
 pub fn read_requests(alloc: Global, words: &[u32]) -> Result<Vec<Request>, BadWords>
     ensures found { IfOk result (λ list. AreRequests list.items × (words.now ≡ requests_words list.items)) }
     // Only want of memory refuses what is a list.
@@ -38,8 +38,8 @@ pub fn read_requests(alloc: Global, words: &[u32]) -> Result<Vec<Request>, BadWo
     Ok(requests)
 }
 
-/// The replies that a body's words are, all of them. No words are no replies. A refusal names the first faulty header and
-/// the first rule that it breaks.
+/// The replies that a body's words are, all of them. No words are no replies. A refusal names the first faulty header
+/// and the first rule that it breaks.
 pub fn read_replies(alloc: Global, words: &[u32]) -> Result<Vec<Reply>, BadWords>
     ensures found { IfOk result (λ list. AreReplies list.items × (words.now ≡ replies_words list.items)) }
     // Only want of memory refuses what is a list.

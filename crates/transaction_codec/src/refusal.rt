@@ -3,6 +3,8 @@ ghost use Rattle.transaction_codec.specs.declared.refusal.BadWords.TheVariants.{
 
 use ipb_base::NoMemory;
 use std::alloc::{AllocError, AllocFailed};
+use std::error::Error;
+use std::fmt;
 
 /// What is wrong at a header: the first rule, in this order, that is broken.
 #[derive(Clone, Copy, Debug, PartialEq, Eq)]
@@ -13,12 +15,26 @@ pub enum Why {
     Kind,
     /// The info code is not 15 in a request; not one of 0, 1, 4, 5, 6, 7 in a reply.
     Code,
-    /// The words field is not 1 in the request of an RMW. In a reply it is not 0 with code 1; in that of an RMW it is not 1
-    /// with code 0, or not 0 with another code.
+    /// The words field is not 1 in the request of an RMW. In a reply it is not 0 with code 1; in that of an RMW it is
+    /// not 1 with code 0, or not 0 with another code.
     Count,
     /// The words end before the transaction does.
     Short,
 }
+
+impl fmt::Display for Why {
+    fn fmt<W: fmt::Write>(&self, f: &mut fmt::Formatter<W>) -> fmt::Result {
+        f.write_str(match self {
+            Why::Version => "the version is not 2",
+            Why::Kind => "the type is not one that may stand there",
+            Why::Code => "the info code is not one that may stand there",
+            Why::Count => "the number of words does not go with the type and the info code",
+            Why::Short => "the words end before the transaction does",
+        })
+    }
+}
+
+impl Error for Why {}
 
 /// Why words are not a list of requests, or of replies.
 #[derive(Clone, Copy, Debug, PartialEq, Eq)]
@@ -28,6 +44,17 @@ pub enum BadWords {
     /// Memory ran out.
     NoMemory,
 }
+
+impl fmt::Display for BadWords {
+    fn fmt<W: fmt::Write>(&self, f: &mut fmt::Formatter<W>) -> fmt::Result {
+        match self {
+            BadWords::At { place, why } => write!(f, "word {place}: {why}"),
+            BadWords::NoMemory => write!(f, "out of memory"),
+        }
+    }
+}
+
+impl Error for BadWords {}
 
 impl From<NoMemory> for BadWords {
     ghost from_gives = { λ _ bad. bad ≡ no_memory };

@@ -1,7 +1,11 @@
+ghost use Rattle.std.specs.Prelude.{◌≡◌};
+ghost use Rattle.transaction_codec.specs.First.{op_of};
+
+use crate::op_ref::OpRef;
 use ipb_base::Words;
 
 /// What a request asks. Addresses and terms are 32-bit; a count or a word list is at most 255 words in a header.
-#[derive(Debug, Drop)]
+#[derive(Debug, Drop, PartialEq, Eq)]
 pub enum Op {
     /// Reads `count` words at `base`, `base + 1`, ..
     Read {
@@ -36,8 +40,47 @@ pub enum Op {
     },
 }
 
+impl Op {
+    /// The same operation, with its words where they stand.
+    pub fn as_op_ref(&self) -> OpRef<'_>
+        ensures { op_of result ≡ self.now }
+    {
+        match self {
+            Op::Read { base, count } => OpRef::Read {
+                base: *base,
+                count: *count,
+            },
+            Op::ReadPort { base, count } => OpRef::ReadPort {
+                base: *base,
+                count: *count,
+            },
+            Op::Write { base, words } => OpRef::Write {
+                base: *base,
+                words: words.as_slice(),
+            },
+            Op::WritePort { base, words } => OpRef::WritePort {
+                base: *base,
+                words: words.as_slice(),
+            },
+            Op::RmwBits {
+                base,
+                and_term,
+                or_term,
+            } => OpRef::RmwBits {
+                base: *base,
+                and_term: *and_term,
+                or_term: *or_term,
+            },
+            Op::RmwSum { base, addend } => OpRef::RmwSum {
+                base: *base,
+                addend: *addend,
+            },
+        }
+    }
+}
+
 /// A request with its transaction identifier, at most 4095 in a header.
-#[derive(Debug, Drop)]
+#[derive(Debug, Drop, PartialEq, Eq)]
 pub struct Request {
     pub tid: u16,
     pub op: Op,

@@ -7,8 +7,8 @@ use crate::first::first_request;
 /// The most words of a body that is measured or executed at once. Profile: a packet has fewer.
 pub const LONGEST_BODY: usize = 65_536;
 
-/// The length in words of the longest answer that a board can give to this body: one header for each request and the words
-/// that it reads. A bad header counts as one word, and nothing after it counts. It takes no memory. Profile.
+/// The length in words of the longest answer that a board can give to this body: one header for each request and the
+/// words that it reads. A bad header counts as one word, and nothing after it counts. It takes no memory. Profile.
 pub fn reply_room(body: &[u32]) -> u32
     requires { length body.now ≤ LONGEST_BODY }
     ensures longest { IsLongestAnswer body.now result }

@@ -47,6 +47,8 @@ fn requests_are_read_and_written(rt: HostRuntime) -> Result<(), Fail> {
     let words = write_requests(rt.alloc(), list.as_slice())?;
     assert_eq!(rt; words.as_slice(), REQUESTS.as_slice());
     assert!(rt; read_requests(rt.alloc(), &[])?.is_empty());
+    assert!(rt; list == read_requests(rt.alloc(), &REQUESTS)?);
+    assert!(rt; list[0] != list[1]);
     Ok(())
 }
 
@@ -91,6 +93,8 @@ fn replies_are_read_and_written(rt: HostRuntime) -> Result<(), Fail> {
     }
     let words = write_replies(rt.alloc(), list.as_slice())?;
     assert_eq!(rt; words.as_slice(), REPLIES.as_slice());
+    assert!(rt; list == read_replies(rt.alloc(), &REPLIES)?);
+    assert!(rt; list[0] != list[1]);
     Ok(())
 }
 
@@ -128,6 +132,15 @@ fn first_faults(rt: HostRuntime) {
             Some(BadWords::At { place, why })
         );
     }
+}
+
+#[test]
+fn a_fault_says_where_and_why(rt: HostRuntime) -> Result<(), Fail> {
+    let fault = read_requests(rt.alloc(), &[0x2000_010f, 4, 0x3000_010f]).err();
+    let fault = fault.ok_or("the version of word 2 is 3")?;
+    let text = format!(in rt.alloc(); "{fault}")?;
+    assert_eq!(rt; text.as_str(), "word 2: the version is not 2");
+    Ok(())
 }
 
 #[test]

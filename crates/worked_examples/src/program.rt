@@ -6,8 +6,19 @@ use ipbus_program::{DONE, NO_MEMORY, READ_FAULT, REFUSED, USAGE, WRITE_FAULT, co
 use std::alloc::{AllocError, Global};
 use std::test::Fail;
 
-const FIRST: &str =
-    "[[tables.main]]\nid = \"id\"\naddress = 4\n[[board]]\nname = \"b0\"\ntable = \"main\"\n[[board.ranges]]\nbase = 0\nsize = 16\ninit = [0, 0, 0, 0, 0xabcd]\n[[client]]\nscript = [\"read b0:id\"]\n";
+const FIRST: &str = r#"[[tables.main]]
+id = "id"
+address = 4
+[[board]]
+name = "b0"
+table = "main"
+[[board.ranges]]
+base = 0
+size = 16
+init = [0, 0, 0, 0, 0xabcd]
+[[client]]
+script = ["read b0:id"]
+"#;
 
 const TRANSCRIPT: &str =
     "client 1\n1 read b0:id = 0x0000abcd @1.1\nboard b0 places 1 replied 1 timeout 0 lost 0\n";
@@ -43,8 +54,8 @@ fn first_answer(alloc: Global) -> Result<(u8, Vec<u8>), NoMemory> {
     Ok((status, Vec::from_slice(alloc, out.bytes())?))
 }
 
-/// Whichever allocation fails, the answer is the transcript or status 6 and no text. `rt try --test --fail-alloc N` makes the
-/// Nth one fail.
+/// Whichever allocation fails, the answer is the transcript or status 6 and no text. `rt try --test --fail-alloc N`
+/// makes the Nth one fail.
 #[test]
 fn first_session_with_any_memory(rt: HostRuntime) -> Result<(), Fail> {
     match first_answer(rt.alloc()) {

@@ -37,7 +37,9 @@ fn reach_modules<'a>(
     pending: &mut Vec<&'a str>,
     nodes: &'a [Node],
 ) -> Result<(), NoMemory>
-    ensures { IfOk result (λ _. OpensAll reached.old reached.new (names_of pending.old.items) (names_of pending.new.items) (Mentions nodes.now)) }
+    ensures { let before = names_of pending.old.items in
+        let after = names_of pending.new.items in
+        IfOk result (λ _. OpensAll reached.old reached.new before after (Mentions nodes.now)) }
 {
     for node in nodes {
         reach_module(alloc, reached, pending, node)?;
@@ -53,7 +55,9 @@ fn reach_module<'a>(
     pending: &mut Vec<&'a str>,
     node: &'a Node,
 ) -> Result<(), NoMemory>
-    ensures { IfOk result (λ _. OpensAll reached.old reached.new (names_of pending.old.items) (names_of pending.new.items) (λ m. (out-Node node.now).«module» ≡ Some m)) }
+    ensures { let before = names_of pending.old.items in
+        let after = names_of pending.new.items in
+        IfOk result (λ _. OpensAll reached.old reached.new before after (λ m. (out-Node node.now).«module» ≡ Some m)) }
 {
     if let Some(name) = &node.module {
         reach(alloc, reached, pending, name.as_str())?;
@@ -68,7 +72,9 @@ fn reach<'a>(
     pending: &mut Vec<&'a str>,
     name: &'a str,
 ) -> Result<(), NoMemory>
-    ensures { IfOk result (λ _. OpensAll reached.old reached.new (names_of pending.old.items) (names_of pending.new.items) (λ m. name.now ≡ m)) }
+    ensures { let before = names_of pending.old.items in
+        let after = names_of pending.new.items in
+        IfOk result (λ _. OpensAll reached.old reached.new before after (λ m. name.now ≡ m)) }
 {
     if reached.contains(name) {
         return Ok(());

@@ -39,7 +39,7 @@ is_table (table es) ms h = cc
 
 pub read_node-returns-in-Ok-clause-refused : goal.read_node-returns-in-Ok-clause-refused
 read_node-returns-in-Ok-clause-refused t c =
-    rw (is_table (view c.args.value.now) (table_view c.in-Some.members.now) c.in-Some.ensures, first_fault-node _ c.in-Ok.ensures.read.0) c.read_rest.ensures.refused
+    rw (is_table (view c.args.value.now) (table_view c.in-Some.members.now) c.in-Some.ensures, first_fault-node _ c.in-Ok.ensures.kept) c.read_rest.ensures.refused
 
 pub read_nodes-read_node-requires : goal.read_nodes-read_node-requires
 read_nodes-read_node-requires t c =

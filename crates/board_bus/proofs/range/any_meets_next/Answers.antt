@@ -9,5 +9,12 @@ returns-then-spans-i c =
     let none : Span = record { base = 0; «end» = 0 } in
     let next : c.loop-i.i - 1 + 1 ≡ c.loop-i.i = omega arith in
     let within : c.loop-i.i < length spans = omega arith in
-    let before : c.loop-i.i - 1 < length spans = omega arith in
-    (c.loop-i.i - 1, omega arith, λ d. rw (next, get_or_default spans c.loop-i.i d none within, get_or_default spans (c.loop-i.i - 1) d none before) c.if-spans-i.true)
+    let before : c.loop-i.i - 1 < length spans = omega arith in (
+      c.loop-i.i - 1,
+      omega arith,
+      λ d. rw (
+        next,
+        get_or_default spans c.loop-i.i d none within,
+        get_or_default spans (c.loop-i.i - 1) d none before,
+      ) c.if-spans-i.true,
+    )

@@ -11,7 +11,8 @@ returns-clause-again c = session_of_again
 
 -- a document has one reading
 pub returns-clause-one_session : goal.returns-clause-one_session
-returns-clause-one_session c document s t of_s of_t = same_Some s t (sym (session_of_again document s of_s) ∙ session_of_again document t of_t)
+returns-clause-one_session c document s t of_s of_t =
+    same_Some s t (sym (session_of_again document s of_s) ∙ session_of_again document t of_t)
 
 pub returns-clause-refused : goal.returns-clause-refused
 returns-clause-refused c document = (no_session document, no_session_again document)

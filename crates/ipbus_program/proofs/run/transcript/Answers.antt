@@ -7,7 +7,8 @@ values-requires c = (c.args.script.now, c.requires.values)
 pub client_lines-requires-clause-as_many : goal.client_lines-requires-clause-as_many
 client_lines-requires-clause-as_many c =
     let gives = c.requires.values in
-    ap length (c.deref.ensures.value ∙ c.in_ok-words.ensures gives.words gives.are_words gives.listed gives.spelled) ∙ gives.as_many
+    ap length (c.deref.ensures.value ∙ c.in_ok-words.ensures gives.words gives.are_words gives.listed gives.spelled)
+    ∙ gives.as_many
 
 pub returns : goal.returns
 returns c = λ words fit few spelled.

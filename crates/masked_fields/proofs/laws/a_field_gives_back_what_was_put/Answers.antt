@@ -7,7 +7,9 @@ pub returns-clause-inside : goal.returns-clause-inside
 returns-clause-inside c word mask value some fits small inside = field-put_field word mask value fits inside
 
 pub returns-clause-outside : goal.returns-clause-outside
-returns-clause-outside c word mask value some fits small inside = joined_outside mask word (shifted mask value) fits inside
+returns-clause-outside c word mask value some fits small inside = joined_outside mask word (shifted mask value) fits
+    inside
 
 pub returns-clause-word : goal.returns-clause-word
-returns-clause-word c word mask value some fits small inside = joined_word mask word (shifted mask value) fits small inside
+returns-clause-word c word mask value some fits small inside = joined_word mask word (shifted mask value) fits small
+    inside

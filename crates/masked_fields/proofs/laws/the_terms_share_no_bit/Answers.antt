@@ -6,4 +6,5 @@ use Rattle.masked_fields.proofs.Masks.{no_bit_outside}
 use Rattle.masked_fields.proofs.laws.the_terms_share_no_bit.Goals as goal
 
 pub returns : goal.returns
-returns c mask value fits inside = and_comm (bit_not w32 mask) (shifted mask value) ∙ no_bit_outside mask (shifted mask value) fits inside
+returns c mask value fits inside = and_comm (bit_not w32 mask) (shifted mask value) ∙ no_bit_outside mask
+    (shifted mask value) fits inside

@@ -11,7 +11,17 @@ pub returns-clause-packing : goal.returns-clause-packing
 returns-clause-packing c = record {
   whole = refl;
   filled = (omega arith, (omega arith, tt));
-  fits = (record { request = omega arith; reply = omega arith }, (record { request = omega arith; reply = omega arith }, tt));
+  fits = (
+    record { request = omega arith; reply = omega arith },
+    (
+      record {
+        request = omega arith;
+        reply =
+            omega arith;
+      },
+      tt,
+    ),
+  );
   full = (λ fits. absurd (let reply : 513 ≤ 368 = fits.reply in omega arith), tt);
 }
 

@@ -5,7 +5,17 @@ pub returns-clause-packing : goal.returns-clause-packing
 returns-clause-packing c = record {
   whole = refl;
   filled = (omega arith, (omega arith, tt));
-  fits = (record { request = omega arith; reply = omega arith }, (record { request = omega arith; reply = omega arith }, tt));
+  fits = (
+    record { request = omega arith; reply = omega arith },
+    (
+      record {
+        request = omega arith;
+        reply =
+            omega arith;
+      },
+      tt,
+    ),
+  );
   full = (λ fits. absurd (let request : 19 ≤ 16 = fits.request in omega arith), tt);
 }
 

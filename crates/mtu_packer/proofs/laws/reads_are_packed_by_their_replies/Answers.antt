@@ -5,6 +5,16 @@ pub returns : goal.returns
 returns c = record {
   whole = refl;
   filled = (omega arith, (omega arith, tt));
-  fits = (record { request = omega arith; reply = omega arith }, (record { request = omega arith; reply = omega arith }, tt));
+  fits = (
+    record { request = omega arith; reply = omega arith },
+    (
+      record {
+        request = omega arith;
+        reply =
+            omega arith;
+      },
+      tt,
+    ),
+  );
   full = (λ fits. absurd (let reply : 19 ≤ 16 = fits.reply in omega arith), tt);
 }

@@ -15,19 +15,24 @@ loop-op-preserved c =
     let pushed = c.in_ok-end.ensures in
     let start = c.loop-op.start in
     let after = c.push_op.new.self in
-    let next = underway_next _ _ _ _ _ _ c.op-item.result after c.loop-op.invariant c.loop-op-test.true c.op-item.is pushed.taken pushed.within in
+    let next = underway_next _ _ _ _ _ _ c.op-item.result after c.loop-op.invariant c.loop-op-test.true c.op-item.is
+    pushed.taken pushed.within in
     let end_is = pushed.places ∙ next.places in
-    subst (λ spans. Underway c.args.ops.now c.args.payload (c.loop-op.op-index + 1) after spans c.in_ok-end.end) (sym c.in_ok-push.ensures.items)
-    (subst (λ n. Underway c.args.ops.now c.args.payload (c.loop-op.op-index + 1) after (c.loop-op.spans.items ++ record { start = start; end = n } ∷ []) n) (sym end_is) next)
+    subst (λ spans. Underway c.args.ops.now c.args.payload (c.loop-op.op-index + 1) after spans c.in_ok-end.end)
+    (sym c.in_ok-push.ensures.items)
+    (subst (λ n. Underway c.args.ops.now c.args.payload (c.loop-op.op-index + 1) after (c.loop-op.spans.items
+    ++ record { start = start; end = n } ∷ []) n) (sym end_is) next)
 
 pub finish-requires-clause-spans : goal.finish-requires-clause-spans
-finish-requires-clause-spans c = over_within _ _ _ _ (underway_over _ _ _ _ _ _ c.loop-op.invariant c.loop-op-test.false)
+finish-requires-clause-spans c =
+    over_within _ _ _ _ (underway_over _ _ _ _ _ _ c.loop-op.invariant c.loop-op-test.false)
 
 pub returns : goal.returns
 returns c =
     let done = c.finish.ensures in
     let over = underway_over _ _ _ _ _ _ c.loop-op.invariant c.loop-op-test.false in
-    let packed = answer_packed c.args.ops.now c.args.payload c.loop-op.packer c.loop-op.spans.items c.requires.payload_low c.requires.payload_high over c.finish.result done.bodies done.words done.pieces in
+    let packed = answer_packed c.args.ops.now c.args.payload c.loop-op.packer c.loop-op.spans.items
+    c.requires.payload_low c.requires.payload_high over c.finish.result done.bodies done.words done.pieces in
     record {
       packed = packed;
       operations = packed_operations c.args.ops.now c.args.payload c.finish.result packed;

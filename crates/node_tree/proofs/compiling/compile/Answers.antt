@@ -1,8 +1,7 @@
 use Rattle.std.proofs.Common.{IfErr, rules}
 use Rattle.std.proofs.lemmas.Result.{IfErr-weaker}
 use Rattle.node_tree.specs.Refusals.{IsRefusal}
-use Rattle.node_tree.proofs.Compiled.{root_walk-siblings, names-iff, refused, no_fault, few_names, all_within}
-use Rattle.node_tree.proofs.MaskLemmas.{root-masked}
+use Rattle.node_tree.proofs.Compiled.{root_walk-siblings, names-iff, refused, no_fault, few_names, all_registers}
 use Rattle.node_tree.proofs.SiblingLemmas.{tells-repeated}
 use Rattle.node_tree.proofs.compiling.compile.Goals as goal
 
@@ -17,19 +16,19 @@ returns-in-Ok-clause-only_if_kept c =
     record {
       known = c.in_ok-check_known.ensures.known;
       acyclic = c.in_ok-check_acyclic.ensures.acyclic;
-      nodes = no_fault c.args.tables.now c.args.root.now c.walk.new.found c.in_ok-check_known.ensures.readable walked;
+      nodes = no_fault c.args.tables.now c.args.root.now c.walk.new.found c.in_ok-check_known.ensures.valid walked;
     }
 
 pub returns-in-Err-At-clause-refused : goal.returns-in-Err-At-clause-refused
 returns-in-Err-At-clause-refused c =
     let stop = rw (c.nodes_of.ensures, c.new.ensures, root_walk-siblings c.args.tables.now c.args.root.now, c.in-Err-At.field-0-is) at c.in-Err-At.ensures.stopped in
-    refused c.args.tables.now c.args.root.now c.in-Err-At.name c.in-Err-At.why c.refused_at.result c.in_ok-check_known.ensures.readable c.refused_at.ensures c.in_ok-check_known.ensures.known c.in_ok-check_acyclic.ensures.acyclic stop
+    refused c.args.tables.now c.args.root.now c.in-Err-At.name c.in-Err-At.why c.refused_at.result c.in_ok-check_known.ensures.valid c.refused_at.ensures c.in_ok-check_known.ensures.known c.in_ok-check_acyclic.ensures.acyclic stop
 
 pub returns-in-Err-At-clause-repeated : goal.returns-in-Err-At-clause-repeated
 returns-in-Err-At-clause-repeated c =
     let stop = rw (c.nodes_of.ensures, c.new.ensures, root_walk-siblings c.args.tables.now c.args.root.now, c.in-Err-At.field-0-is) at c.in-Err-At.ensures.stopped in
     tells-repeated c.args.tables.now c.args.root.now c.refused_at.result
-    (refused c.args.tables.now c.args.root.now c.in-Err-At.name c.in-Err-At.why c.refused_at.result c.in_ok-check_known.ensures.readable c.refused_at.ensures c.in_ok-check_known.ensures.known c.in_ok-check_acyclic.ensures.acyclic stop)
+    (refused c.args.tables.now c.args.root.now c.in-Err-At.name c.in-Err-At.why c.refused_at.result c.in_ok-check_known.ensures.valid c.refused_at.ensures c.in_ok-check_known.ensures.known c.in_ok-check_acyclic.ensures.acyclic stop)
 
 pub returns-in_err-check_known-clause-repeated : goal.returns-in_err-check_known-clause-repeated
 returns-in_err-check_known-clause-repeated c =
@@ -46,22 +45,12 @@ index_of-requires-clause-few c =
     let walked = rw (c.nodes_of.ensures, c.new.ensures, root_walk-siblings c.args.tables.now c.args.root.now) at c.in-Ok.ensures.walked in
     few_names c.args.tables.now c.args.root.now c.walk.new.found walked
 
-pub index_of-requires-clause-masked : goal.index_of-requires-clause-masked
-index_of-requires-clause-masked c =
+pub index_of-requires-clause-registers : goal.index_of-requires-clause-registers
+index_of-requires-clause-registers c =
     let walked = rw (c.nodes_of.ensures, c.new.ensures, root_walk-siblings c.args.tables.now c.args.root.now) at c.in-Ok.ensures.walked in
-    λ q r there. root-masked c.args.tables.now c.args.root.now q r c.in_ok-check_known.ensures.readable ((names-iff c.args.tables.now c.args.root.now c.walk.new.found walked q r).0 there)
+    all_registers c.args.tables.now c.args.root.now c.walk.new.found c.in_ok-check_known.ensures.valid walked
 
-pub returns-in-Ok-clause-masked : goal.returns-in-Ok-clause-masked
-returns-in-Ok-clause-masked c =
+pub returns-in-Ok-clause-registers : goal.returns-in-Ok-clause-registers
+returns-in-Ok-clause-registers c =
     let walked = rw (c.nodes_of.ensures, c.new.ensures, root_walk-siblings c.args.tables.now c.args.root.now) at c.in-Ok.ensures.walked in
-    rw c.in_ok-index_of-in-Ok.ensures (λ q r there. root-masked c.args.tables.now c.args.root.now q r c.in_ok-check_known.ensures.readable ((names-iff c.args.tables.now c.args.root.now c.walk.new.found walked q r).0 there))
-
-pub index_of-requires-clause-within : goal.index_of-requires-clause-within
-index_of-requires-clause-within c =
-    let walked = rw (c.nodes_of.ensures, c.new.ensures, root_walk-siblings c.args.tables.now c.args.root.now) at c.in-Ok.ensures.walked in
-    all_within c.args.tables.now c.args.root.now c.walk.new.found walked
-
-pub returns-in-Ok-clause-within : goal.returns-in-Ok-clause-within
-returns-in-Ok-clause-within c =
-    let walked = rw (c.nodes_of.ensures, c.new.ensures, root_walk-siblings c.args.tables.now c.args.root.now) at c.in-Ok.ensures.walked in
-    rw c.in_ok-index_of-in-Ok.ensures (all_within c.args.tables.now c.args.root.now c.walk.new.found walked)
+    rw c.in_ok-index_of-in-Ok.ensures (all_registers c.args.tables.now c.args.root.now c.walk.new.found c.in_ok-check_known.ensures.valid walked)

@@ -1,7 +1,7 @@
 use Rattle.std.proofs.Common.{◌≡◌, ◌≤◌, length, ap, sym, ◌∙◌, subst}
 use Rattle.std.specs.FinMap.{entries, entries_sorted, from_sorted, entries-from_sorted, same_entries_map, len-entries}
-use Rattle.node_tree.specs.declared.limits.TheConstants.{MAX_NODES}
-use Rattle.node_tree.specs.Maps.{AreMasked, AreWithin, RegisterMap}
+use Rattle.node_tree.specs.Limits.{most_nodes}
+use Rattle.node_tree.specs.Maps.{AreRegisters, RegisterMap}
 use Rattle.node_tree.specs.Named.{named}
 use Rattle.node_tree.proofs.NamedLemmas.{by_bytes, length-named, entries-in_order}
 use Rattle.node_tree.proofs.compiling.index_of.Goals as goal
@@ -16,9 +16,8 @@ from_sorted-requires c =
     let all : c.args.found.names ≡ from_sorted (named c.in_ok-entries.entries.items) = sym (ap from_sorted same ∙ whole c.args.found.names) in
     record {
       ordered = entries-in_order c.args.found.names c.in_ok-entries.entries.items same;
-      few = subst (λ n. n ≤ MAX_NODES) (len-entries c.args.found.names ∙ ap length (sym same) ∙ length-named c.in_ok-entries.entries.items) c.requires.few;
-      masked = subst AreMasked all c.requires.masked;
-      within = subst AreWithin all c.requires.within;
+      few = subst (λ n. n ≤ most_nodes) (len-entries c.args.found.names ∙ ap length (sym same) ∙ length-named c.in_ok-entries.entries.items) c.requires.few;
+      registers = subst AreRegisters all c.requires.registers;
     }
 
 pub returns : goal.returns

@@ -1,6 +1,6 @@
 use Rattle.std.proofs.Common.{◌≡◌, ◌≤◌, ◌+◌, ◌-◌, [], Ok, IfErr, rules, sym, ap, ◌∙◌, subst, arith, refl}
 use Rattle.std.proofs.lemmas.Result.{IfErr-weaker}
-use Rattle.node_tree.specs.declared.limits.TheConstants.{MAX_IDS}
+use Rattle.node_tree.specs.Limits.{most_ids}
 use Rattle.node_tree.specs.Names.{name_below, register_of}
 use Rattle.node_tree.specs.Walk.{walk, siblings}
 use Rattle.node_tree.specs.Run.{run, visit_next, IsStop}
@@ -12,7 +12,7 @@ loop-node-init t c = refl
 
 pub walk-requires : goal.walk-requires
 walk-requires t c =
-    let shallow : c.args.level ≤ MAX_IDS = c.in_ok-address.ensures.shallow in
+    let shallow : c.args.level ≤ most_ids = c.in_ok-address.ensures.shallow in
     (omega arith, omega arith)
 
 pub returns-in_err-address-clause-stopped : goal.returns-in_err-address-clause-stopped
@@ -29,7 +29,7 @@ returns-in_err-walk-clause-stopped t c =
     let again = c.as_str-in-loop-node-2.ensures.value ∙ c.in_ok-name.ensures ∙ ap (name_below c.args.above.now) c.as_str.ensures in
     let visited = subst (λ name. visit_next c.loop-node.found name c.args.level (register_of c.args.base c.node-item.result) ≡ Ok c.visit.new.found) called c.in_ok-address.ensures.visited in
     let below = below_is c.args.tables.now c.args.level _ _ _ _ _ _ c.in_ok-address.ensures.shallow again c.in_ok-address.ensures.address c.children-below.ensures in
-    let deeper = siblings (walk c.args.tables.now (MAX_IDS + 1 - (c.args.level + 1)) (c.args.level + 1 + 1)) c.args.tables.now (c.args.level + 1) c.as_str-in-loop-node-2.result.now c.in_ok-address.address [] c.children-below.result.now in
+    let deeper = siblings (walk c.args.tables.now (most_ids + 1 - (c.args.level + 1)) (c.args.level + 1 + 1)) c.args.tables.now (c.args.level + 1) c.as_str-in-loop-node-2.result.now c.in_ok-address.address [] c.children-below.result.now in
     let told : IfErr c.from_residual-in_err-walk.result (IsStop (run deeper c.visit.new.found)) = search rules in
     IfErr-weaker c.from_residual-in_err-walk.result _ _
     (λ fault stop. subst (λ r. IsStop r fault) c.loop-node.invariant

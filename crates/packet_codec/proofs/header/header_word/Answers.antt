@@ -11,4 +11,5 @@ code_fits Status = lit< tt
 code_fits Resend = lit< tt
 
 pub returns : goal.returns
-returns c = rw (c.from.ensures, c.from-2.ensures, c.code.ensures) (fields_joined c.args.id (kind_code c.args.kind) (omega arith) (code_fits c.args.kind))
+returns c = rw (c.from.ensures, c.from-2.ensures, c.code.ensures) (fields_joined c.args.id (kind_code c.args.kind)
+    (omega arith) (code_fits c.args.kind))

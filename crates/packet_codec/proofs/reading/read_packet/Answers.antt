@@ -23,4 +23,5 @@ pub returns-clause-kind : goal.returns-clause-kind
 returns-clause-kind c = kind c.args.bytes.now c.type_inv.bytes c.read_by_offsets.result c.read_by_offsets.ensures
 
 pub returns-clause-no_memory : goal.returns-clause-no_memory
-returns-clause-no_memory c = no_memory c.args.bytes.now c.type_inv.bytes c.read_by_offsets.result c.read_by_offsets.ensures
+returns-clause-no_memory c = no_memory c.args.bytes.now c.type_inv.bytes c.read_by_offsets.result
+    c.read_by_offsets.ensures

@@ -13,8 +13,13 @@ loop-rest-preserved c =
     record {
       body = request.ensures.rest;
       skipped = λ later skipped.
-          let whole = c.loop-rest.invariant.skipped (Skipped ∷ later) (skipped_more (request_of request.result) c.loop-rest.rest.now request.result.rest.now later request.ensures.is request.ensures.parts skipped) in
-          (whole.0, whole.1, ap (λ (front : List Answer). front ++ later) c.in_ok-push.ensures.items ∙ append_assoc c.loop-rest.answers.items (Skipped ∷ []) later ∙ whole.2);
+          let whole = c.loop-rest.invariant.skipped (Skipped ∷ later) (skipped_more (request_of request.result)
+          c.loop-rest.rest.now request.result.rest.now later request.ensures.is request.ensures.parts skipped) in (
+            whole.0,
+            whole.1,
+            ap (λ (front : List Answer). front ++ later) c.in_ok-push.ensures.items
+                ∙ append_assoc c.loop-rest.answers.items (Skipped ∷ []) later ∙ whole.2,
+          );
     }
 
 pub returns : goal.returns

@@ -5,7 +5,7 @@ use Rattle.transaction_codec.specs.declared.reply.Reply.{Reply}
 use Rattle.transaction_codec.specs.Request.{IsRequest}
 use Rattle.transaction_codec.specs.Reply.{IsReply}
 use Rattle.transaction_codec.specs.Answer.{IsDone}
-use Rattle.reply_join.specs.Joining.{SpellsRequests}
+use Rattle.transaction_codec.specs.Request.{SpellsRequests}
 use Rattle.reply_join.specs.Progress.{IsOutcome}
 use Rattle.reply_join.proofs.Garbled.{no_header, ends_early, garbled_later, garbled_end}
 use Rattle.reply_join.proofs.Joined.{joined_nothing, joined_done}
@@ -42,12 +42,26 @@ other_header count code e (inr fails) = omega (arith, fails.0, fails.1)
 pub returns-clause-other_identifier : goal.returns-clause-other_identifier
 returns-clause-other_identifier c =
     no_header request [] (0x20010100 ∷ 0xabcd ∷ []) is_request body
-    (record { word = 0x20010100; after = 0xabcd ∷ []; parts = refl; none = λ count code head. other_header count code (omega (arith, head.0)) head.1 })
+    (record {
+      word = 0x20010100;
+      after = 0xabcd ∷ [];
+      parts = refl;
+      none = λ count code head. other_header count code
+          (omega (arith, head.0)) head.1;
+    })
 
 pub returns-clause-cut_short : goal.returns-clause-cut_short
 returns-clause-cut_short c =
     ends_early request [] (0x20000100 ∷ []) is_request nothing
-    (record { reply = reply; more = 0xabcd ∷ []; is = record { is = is_reply; answers = inl is_done }; some = lit< tt; spelled = refl })
+    (record {
+      reply = reply;
+      more = 0xabcd ∷ [];
+      is = record { is = is_reply; answers = inl is_done };
+      some =
+          lit< tt;
+      spelled = refl;
+    })
 
 pub returns-clause-too_long : goal.returns-clause-too_long
-returns-clause-too_long c = garbled_later request reply [] is_request is_reply (0 ∷ []) 0 is_done (garbled_end (0 ∷ []) (lit< tt))
+returns-clause-too_long c = garbled_later request reply [] is_request is_reply (0 ∷ []) 0 is_done
+    (garbled_end (0 ∷ []) (lit< tt))

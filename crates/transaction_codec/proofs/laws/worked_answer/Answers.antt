@@ -27,7 +27,10 @@ returns c = record {
   ranges = (record { tid = lit< tt; count = lit< tt; words = (lit< tt, tt) }, tt);
   parts = refl;
   bad = bad;
-  items = (record { tid = lit< tt; count = lit< tt; form = inl (refl, inl (inl refl, refl)); values = (lit< tt, tt) }, (bad_is_reply 0x2001016f, tt));
+  items = (
+    record { tid = lit< tt; count = lit< tt; form = inl (refl, inl (inl refl, refl)); values = (lit< tt, tt) },
+    (bad_is_reply 0x2001016f, tt),
+  );
   answers = inl (record { tid = refl; kind = refl; code = refl; count = refl; values = refl }, refl);
   spelled = refl;
 }

@@ -7,10 +7,13 @@ use Rattle.transaction_codec.proofs.Lists.{first_fault}
 use Rattle.transaction_codec.proofs.Formats.{replies_format}
 use Rattle.transaction_codec.proofs.laws.worked_faults_of_replies.Goals as goal
 
-fault_after : (before : List Reply) (rest : List ℕ) (why : Why) (place : ℕ) → AreReplies before → 0 < length rest → reply_at rest ≡ Err why
-    → length (replies_words before ++ rest) ≡ place + length rest → IsFirstFault reply_words IsReply BreaksReply (replies_words before ++ rest) place why
+fault_after : (before : List Reply) (rest : List ℕ) (why : Why) (place : ℕ) → AreReplies before → 0 < length rest
+    → reply_at rest ≡ Err why
+    → length (replies_words before ++ rest) ≡ place + length rest → IsFirstFault reply_words IsReply BreaksReply
+    (replies_words before ++ rest) place why
 fault_after before rest why place ranges some bad there =
-    first_fault reply_words IsReply BreaksReply reply_at replies_format (replies_words before ++ rest) before rest why place ranges refl some bad there
+    first_fault reply_words IsReply BreaksReply reply_at replies_format (replies_words before ++ rest) before rest why
+    place ranges refl some bad there
 
 pub returns-clause-code : goal.returns-clause-code
 unfolding reply_at
@@ -24,7 +27,8 @@ pub returns-clause-kind : goal.returns-clause-kind
 unfolding reply_at first
 returns-clause-kind c =
     fault_after (first ∷ []) (0x20000141 ∷ []) _ 1
-    (record { tid = lit< tt; count = lit< tt; form = inl (refl, inr (inl (inl refl, refl))); values = tt }, tt) (lit< tt) refl refl
+    (record { tid = lit< tt; count = lit< tt; form = inl (refl, inr (inl (inl refl, refl))); values = tt }, tt)
+    (lit< tt) refl refl
 
 pub returns-clause-count : goal.returns-clause-count
 unfolding reply_at

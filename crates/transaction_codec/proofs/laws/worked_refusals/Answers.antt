@@ -2,16 +2,20 @@ use Rattle.std.proofs.Common.{◌≡◌, ℕ, ◌+◌, ◌<◌, List, [], ◌∷
 use Rattle.transaction_codec.specs.declared.request.Request.{Request}
 use Rattle.transaction_codec.specs.declared.request.Op.TheVariants.{Read}
 use Rattle.transaction_codec.specs.declared.refusal.Why.{Why}
-use Rattle.transaction_codec.specs.Request.{request_words, IsRequest, AreRequests, BreaksRequest, requests_words, request_at}
+use Rattle.transaction_codec.specs.Request.{request_words, IsRequest, AreRequests, BreaksRequest, requests_words}
+use Rattle.transaction_codec.specs.Request.{request_at}
 use Rattle.transaction_codec.specs.Listing.{IsFirstFault}
 use Rattle.transaction_codec.proofs.Lists.{first_fault}
 use Rattle.transaction_codec.proofs.Formats.{requests_format}
 use Rattle.transaction_codec.proofs.laws.worked_refusals.Goals as goal
 
-fault_after : (before : List Request) (rest : List ℕ) (why : Why) (place : ℕ) → AreRequests before → 0 < length rest → request_at rest ≡ Err why
-    → length (requests_words before ++ rest) ≡ place + length rest → IsFirstFault request_words IsRequest BreaksRequest (requests_words before ++ rest) place why
+fault_after : (before : List Request) (rest : List ℕ) (why : Why) (place : ℕ) → AreRequests before → 0 < length rest
+    → request_at rest ≡ Err why
+    → length (requests_words before ++ rest) ≡ place + length rest → IsFirstFault request_words IsRequest
+    BreaksRequest (requests_words before ++ rest) place why
 fault_after before rest why place ranges some bad there =
-    first_fault request_words IsRequest BreaksRequest request_at requests_format (requests_words before ++ rest) before rest why place ranges refl some bad there
+    first_fault request_words IsRequest BreaksRequest request_at requests_format (requests_words before ++ rest)
+    before rest why place ranges refl some bad there
 
 pub returns-clause-count : goal.returns-clause-count
 unfolding request_at
@@ -39,4 +43,12 @@ first = record { tid = 0; op = Read 4 1 }
 pub returns-clause-second : goal.returns-clause-second
 unfolding request_at first
 returns-clause-second c =
-    fault_after (first ∷ []) (0x2001041f ∷ 8 ∷ 1 ∷ []) _ 2 (record { tid = lit< tt; count = lit< tt; words = (lit< tt, tt) }, tt) (lit< tt) refl refl
+    fault_after (first ∷ []) (0x2001041f ∷ 8 ∷ 1 ∷ []) _ 2 (
+      record {
+        tid = lit< tt;
+        count = lit< tt;
+        words =
+            (lit< tt, tt);
+      },
+      tt,
+    ) (lit< tt) refl refl

@@ -11,24 +11,35 @@ pub returns-in-Err-clause-refused : goal.returns-in-Err-clause-refused
 returns-in-Err-clause-refused c =
     let some : 0 < length c.loop-rest.rest.now = grind (arith, nat_tests) in
     let whole = c.loop-rest.invariant.parts in
-    rw c.fault_at.ensures (first_fault request_words IsRequest BreaksRequest request_at requests_format c.args.words.now c.loop-rest.requests.items c.loop-rest.rest.now c.in-Err.why _
-    c.loop-rest.invariant.ranges whole some c.in-Err.ensures.exact (omega (arith, ap length whole, length-append (requests_words c.loop-rest.requests.items) c.loop-rest.rest.now)))
+    rw c.fault_at.ensures (first_fault request_words IsRequest BreaksRequest request_at requests_format
+    c.args.words.now c.loop-rest.requests.items c.loop-rest.rest.now c.in-Err.why _
+    c.loop-rest.invariant.ranges whole some c.in-Err.ensures.exact
+    (omega (
+      arith,
+      ap length whole,
+      length-append (requests_words c.loop-rest.requests.items)
+          c.loop-rest.rest.now,
+    )))
 
 pub returns-in-Err-clause-only : goal.returns-in-Err-clause-only
 returns-in-Err-clause-only c list ranges e =
     let fault = rw c.fault_at.ensures at (returns-in-Err-clause-refused c) in
-    absurd (fault_is_no_list request_words IsRequest BreaksRequest request_at requests_format c.args.words.now _ c.in-Err.why fault list ranges e)
+    absurd (fault_is_no_list request_words IsRequest BreaksRequest request_at requests_format c.args.words.now _
+    c.in-Err.why fault list ranges e)
 
 -- nothing is left, so the words are this list and no other
 pub returns-clause-only : goal.returns-clause-only
 returns-clause-only c list ranges e =
     let none : c.loop-rest.rest.now ≡ [] = nil_from_length _ (grind (arith, nat_tests)) in
-    let whole = c.loop-rest.invariant.parts ∙ ap (λ rest. requests_words c.loop-rest.requests.items ++ rest) none ∙ append-nil (requests_words c.loop-rest.requests.items) in
-    one_list request_words IsRequest BreaksRequest request_at requests_format c.loop-rest.requests.items list c.loop-rest.invariant.ranges ranges (sym whole ∙ e)
+    let whole = c.loop-rest.invariant.parts ∙ ap (λ rest. requests_words c.loop-rest.requests.items ++ rest) none
+    ∙ append-nil (requests_words c.loop-rest.requests.items) in
+    one_list request_words IsRequest BreaksRequest request_at requests_format c.loop-rest.requests.items list
+    c.loop-rest.invariant.ranges ranges (sym whole ∙ e)
 
 -- the fault that was found is the only one
 pub returns-in-Err-clause-faulty : goal.returns-in-Err-clause-faulty
 returns-in-Err-clause-faulty c place why fault =
     let found = rw c.fault_at.ensures at (returns-in-Err-clause-refused c) in
-    let same = one_fault request_words IsRequest BreaksRequest request_at requests_format c.args.words.now _ place c.in-Err.why why found fault in
+    let same = one_fault request_words IsRequest BreaksRequest request_at requests_format c.args.words.now _ place
+    c.in-Err.why why found fault in
     inl (rw (c.fault_at.ensures, same.0, same.1) refl)

@@ -18,7 +18,8 @@ returns-in-Some-read_fault c =
     let there : position (λ b. holds b c.args.address) c.self.inside.blocks.items ≡ Some c.in-Some.place = cc in
     let below : c.args.address < 2 ^ 32 = omega arith in
     let fault : read_fault c.index-block.result.now.kind ≡ Some c.in-Some-read_fault.fault = cc in
-    sym (ap read_cell (present _ _ _ _ _ c.self.view_is below there c.index-block.ensures) ∙ ap (λ refused. unless refused (cell_in c.index-block.result.now c.args.address).word) fault)
+    sym (ap read_cell (present _ _ _ _ _ c.self.view_is below there c.index-block.ensures)
+    ∙ ap (λ refused. unless refused (cell_in c.index-block.result.now c.args.address).word) fault)
 
 pub overflow_sub-address : goal.overflow_sub-address
 overflow_sub-address c =

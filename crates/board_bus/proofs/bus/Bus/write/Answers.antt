@@ -1,11 +1,12 @@
 -- Each answer reads the cell at the address: there is none where no block was found, and else it is that of the block.
-use Rattle.std.proofs.Common.{◌≡◌, ◌<◌, ◌^◌, Ok, Some, None, refl, sym, ap, ◌∙◌, arith}
+use Rattle.std.proofs.Common.{◌≡◌, ◌<◌, ◌^◌, Some, None, refl, ap, ◌∙◌, subst, arith}
 use Rattle.std.specs.List.{position}
 use Rattle.std.specs.FinMap.Entries.{put}
 use Rattle.std.specs.Ordering.{nat_cmp}
-use Rattle.board_bus.specs.Cells.{CellMap, write_cell, write_fault, unless}
+use Rattle.board_bus.specs.Cells.{HoldsWords, write_cell, write_fault, unless}
 use Rattle.board_bus.specs.Blocks.{holds}
-use Rattle.board_bus.proofs.Lookups.{absent, present, found_holds, held_range, written}
+use Rattle.board_bus.proofs.Lookups.{absent, present, found_holds, held_range, write_held}
+use Rattle.board_bus.proofs.WordsKept.{words-written}
 use Rattle.board_bus.proofs.bus.Bus.write.Goals as goal
 
 pub returns-in_default-clause-refused : goal.returns-in_default-clause-refused
@@ -20,8 +21,10 @@ returns-in-Some-write_fault-clause-refused c =
     let below : c.args.address < 2 ^ 32 = omega arith in
     let fault : write_fault c.index_mut-block.result.now.kind ≡ Some c.in-Some-write_fault.fault = cc in
     let b = c.index_mut-block.result.now in
-    ap (write_cell c.args.self.now c.args.address c.args.word) (present _ _ _ _ _ c.self.view_is below there c.index_mut-block.ensures.value)
-    ∙ ap (λ refused. unless refused (put nat_cmp c.args.address (record { kind = b.kind; word = c.args.word }) c.args.self.now)) fault
+    ap (write_cell c.args.self.now c.args.address c.args.word)
+    (present _ _ _ _ _ c.self.view_is below there c.index_mut-block.ensures.value)
+    ∙ ap (λ refused. unless refused (put nat_cmp c.args.address (record { kind = b.kind; word = c.args.word })
+    c.args.self.now)) fault
 
 pub overflow_sub-address : goal.overflow_sub-address
 overflow_sub-address c =
@@ -42,7 +45,17 @@ returns-clause-written c =
     let below : c.args.address < 2 ^ 32 = omega arith in
     let fine : write_fault c.index_mut-block.result.now.kind ≡ None = cc in
     let b = c.index_mut-block.result.now in
-    ap (write_cell c.args.self.now c.args.address c.args.word) (present _ _ _ _ _ c.self.view_is below there c.index_mut-block.ensures.value)
-    ∙ ap (λ refused. unless refused (put nat_cmp c.args.address (record { kind = b.kind; word = c.args.word }) c.args.self.now)) fine
-    ∙ ap (λ (m : CellMap). Ok m)
-    (sym (written _ c.args.self.now c.args.address c.in-Some.place c.args.word b _ c.self.view_is there c.index_mut-block.ensures.value record { base = refl; kind = refl; words = refl }))
+    write_held _ c.args.self.now c.args.address c.in-Some.place c.args.word b _ c.self.view_is below there
+    c.index_mut-block.ensures.value fine record { base = refl; kind = refl; words = refl }
+
+-- what is written is a word, and so the bus still holds words
+pub invariant_of-self-2 : goal.invariant_of-self-2
+invariant_of-self-2 c =
+    let there : position (λ b. holds b c.args.address) c.self.inside.blocks.items ≡ Some c.in-Some.place = cc in
+    let below : c.args.address < 2 ^ 32 = omega arith in
+    let fine : write_fault c.index_mut-block.result.now.kind ≡ None = cc in
+    let b = c.index_mut-block.result.now in
+    words-written c.args.self.now _ c.args.address c.args.word (subst HoldsWords c.self.view_is c.self.invariant)
+    (omega arith)
+    (write_held _ c.args.self.now c.args.address c.in-Some.place c.args.word b _ c.self.view_is below there
+    c.index_mut-block.ensures.value fine record { base = refl; kind = refl; words = refl })

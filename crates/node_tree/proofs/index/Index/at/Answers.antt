@@ -2,7 +2,7 @@ use Rattle.std.proofs.Common.{◌≡◌, ◌<◌, sym, ap, ◌∙◌, length, ge
 use Rattle.std.specs.FinMap.{len, entries}
 use Rattle.node_tree.proofs.NamedLemmas.{len-named, at-named}
 use Rattle.node_tree.proofs.EntryLemmas.{get-at}
-use Rattle.node_tree.specs.Maps.{AreMasked, AreWithin}
+use Rattle.node_tree.specs.Maps.{AreRegisters}
 use Rattle.node_tree.proofs.index.Index.at.Goals as goal
 
 pub bounds-entries-i : goal.bounds-entries-i
@@ -28,10 +28,6 @@ returns-clause-entry c =
     ∙ at-named c.self.inside.entries.items c.args.i c.index-entries-i.result c.self.invariant.ordered within here
     ∙ ap (λ bytes. Some (bytes, c.index-entries-i.result.1)) (sym c.as_str.ensures.value)
 
-pub returns-clause-masked : goal.returns-clause-masked
-returns-clause-masked c =
-    subst AreMasked c.self.view_is c.self.invariant.masked _ c.index-entries-i.result.1 (get-at c.args.self.now c.args.i _ c.index-entries-i.result.1 (returns-clause-entry c))
-
-pub returns-clause-within : goal.returns-clause-within
-returns-clause-within c =
-    subst AreWithin c.self.view_is c.self.invariant.within _ c.index-entries-i.result.1 (get-at c.args.self.now c.args.i _ c.index-entries-i.result.1 (returns-clause-entry c))
+pub returns-clause-register : goal.returns-clause-register
+returns-clause-register c =
+    subst AreRegisters c.self.view_is c.self.invariant.registers _ c.index-entries-i.result.1 (get-at c.args.self.now c.args.i _ c.index-entries-i.result.1 (returns-clause-entry c))

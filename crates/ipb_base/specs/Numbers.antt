@@ -1,0 +1,29 @@
+-- Numbers that a user or another implementation sees and that several crates mean. Each stands here once, and a law of
+-- each crate that has such a constant shows that it is this number: `the_version_is_two` and `the_numbers_of_..`.
+use Rattle.std.specs.Prelude.{ℕ, ◌-◌, ◌/◌}
+
+-- the version in each packet header and transaction header (IPbus 2.0)
+abbrev pub protocol_version : ℕ
+protocol_version = 2
+
+-- the least and the greatest MTU of a board, in bytes (profile)
+abbrev pub least_mtu : ℕ
+least_mtu = 92
+
+abbrev pub greatest_mtu : ℕ
+greatest_mtu = 9000
+
+-- the bytes of the headers of IPv4 and UDP (RFC 791, RFC 768)
+abbrev pub ip_udp_bytes : ℕ
+ip_udp_bytes = 28
+
+-- the payload of an MTU: the words of the longest packet that it has room for, the packet header included
+abbrev pub payload_of : ℕ → ℕ
+payload_of mtu = (mtu - ip_udp_bytes) / 4
+
+-- the payloads of the least and of the greatest MTU, so the most words that a packet can have (profile)
+abbrev pub least_payload : ℕ
+least_payload = 16
+
+abbrev pub greatest_payload : ℕ
+greatest_payload = 2243

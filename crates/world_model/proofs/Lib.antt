@@ -1,0 +1,17 @@
+mod Lists
+mod Places
+mod Readings
+mod Replies
+mod Boards
+mod Hubs
+mod Worlds
+mod Histories
+mod Links
+mod Kept
+mod Grammar
+mod Greetings
+mod Flushing
+mod Waiting
+mod Accounts
+mod Patience
+mod Bodies

@@ -1,0 +1,14 @@
+use Rattle.world_model.proofs.Waiting.{offered_waits, sent_waits, fates_wait, moved_waits}
+use Rattle.world_model.proofs.laws.lanes.waiting_sends_change_no_run.Goals as goal
+
+pub returns-clause-offered : goal.returns-clause-offered
+returns-clause-offered c = offered_waits
+
+pub returns-clause-sent : goal.returns-clause-sent
+returns-clause-sent c = sent_waits
+
+pub returns-clause-fates : goal.returns-clause-fates
+returns-clause-fates c = fates_wait
+
+pub returns-clause-moved : goal.returns-clause-moved
+returns-clause-moved c = moved_waits

@@ -1,0 +1,13 @@
+pub mod Below
+pub mod Places
+pub mod Messages
+pub mod Board
+pub mod Hub
+pub mod Sends
+pub mod Air
+pub mod World
+pub mod Links
+pub mod Facts
+pub mod History
+pub mod Lanes
+pub mod Examples

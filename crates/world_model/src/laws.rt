@@ -1,0 +1,8 @@
+//! Laws of the definitions. These functions do nothing when they run: their clauses are what is proved.
+
+pub mod fates;
+pub mod history;
+pub mod lanes;
+pub mod links;
+pub mod reading;
+pub mod sends;

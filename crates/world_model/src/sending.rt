@@ -1,0 +1,12 @@
+use packet_ids::Id;
+
+/// What a hub sends next.
+#[derive(Clone, Copy, Debug, PartialEq, Eq)]
+pub enum Sending {
+    /// A status request.
+    Status,
+    /// A request to send the reply to this control packet again.
+    Resend { id: Id },
+    /// The control packet of a place, for the first time or again.
+    Control { place: u64, id: Id },
+}
