@@ -12,3 +12,5 @@ pub mod InRanges
 pub mod LineWords
 pub mod MaskedValues
 pub mod RunsTell
+pub mod Packable
+pub mod Asking

@@ -1,11 +1,11 @@
 -- The words of a line, from its front.
-use Rattle.std.proofs.Common.{◌≡◌, ℕ, zero, suc, ◌+◌, ◌<◌, ◌≤◌, List, [], ◌∷◌, ◌++◌, length, take, drop, get_or, add-one, Bool, true, false, not, ◌||◌, ◌==◌, refl, sym, ap, ◌∙◌, arith, subst}
+use Rattle.std.proofs.Common.{◌≡◌, ℕ, zero, suc, ◌+◌, ◌<◌, ◌≤◌, List, [], ◌∷◌, length, take, drop, get_or, add-one, Bool, true, false, not, ◌==◌, refl, sym, ap, ◌∙◌, arith, subst}
 use Rattle.std.specs.List.{prefix_len, filter}
 use Rattle.std.specs.Str.{IsCharBoundary, IsUtf8}
 use Rattle.std.proofs.lemmas.Bool.Decides.{nat_tests}
 use Rattle.std.proofs.lemmas.Str.{IsCharBoundary-start, IsCharBoundary-after_ascii}
 use Rattle.std.proofs.lemmas.List.Sums.{prefix_len-le-length, prefix_len_passes, prefix_len_stops}
-use Rattle.script_lang.specs.Lines.{is_blank, starts_blank, with_first, pieces, is_word, words}
+use Rattle.script_lang.specs.Lines.{is_blank, starts_blank, pieces, is_word, words}
 
 abbrev pub in_word : ℕ → Bool
 in_word byte = not (is_blank byte)
@@ -67,10 +67,12 @@ no_word_low byte h = grind (arith, nat_tests)
 
 -- and before the first blank
 pub boundary-after_word : (text : List ℕ) → IsCharBoundary text (prefix_len in_word text)
-boundary-after_word text =
-    (prefix_len-le-length in_word text, λ within high.
-    let low : get_or text (prefix_len in_word text) 0 < 128 = no_word_low _ (prefix_len_stops in_word text 0 within) in
-    absurd (omega arith))
+boundary-after_word text = (
+  prefix_len-le-length in_word text,
+  λ within high.
+      let low : get_or text (prefix_len in_word text) 0 < 128 = no_word_low _ (prefix_len_stops in_word text 0 within) in
+      absurd (omega arith),
+)
 
 -- the pieces that follow a blank
 abbrev after : List ℕ → List (List ℕ)

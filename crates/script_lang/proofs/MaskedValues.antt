@@ -1,5 +1,5 @@
 -- Values that fit masks, and rules that are kept.
-use Rattle.std.proofs.Common.{◌≡◌, ◌≢◌, ℕ, ◌==◌, Bool, true, false, bit_and, Result, Ok, Err, OnOk, OnErr, None, slice_index, List, ◌∷◌, not, drop, refl, sym, arith}
+use Rattle.std.proofs.Common.{◌≡◌, ◌≢◌, ℕ, Bool, true, false, Result, Ok, Err, OnOk, OnErr, None, List, ◌∷◌, not, drop, refl, sym, arith}
 use Rattle.std.specs.Result.{is_ok, IsOk}
 use Rattle.std.proofs.lemmas.Bool.Decides.{nat_tests}
 use Rattle.masked_fields.specs.Field.{field, shifted, FitsMask}
@@ -31,7 +31,7 @@ pub has_terms : (mask value : ℕ) (r : Result (ℕ × ℕ) Outside) → fits_ma
 has_terms mask value (Ok terms) good bad = refl
 has_terms mask value (Err e) good bad = absurd (bad (shifted mask value) (field-shifted mask value (fits mask value good)))
 
-later_kept : (why : ScriptWhy) (kept : Bool) (rest : List (ScriptWhy × Bool)) → first_broken ((why, kept) ∷ rest) ≡ None → (kept ≡ true) × (first_broken rest ≡ None)
+pub later_kept : (why : ScriptWhy) (kept : Bool) (rest : List (ScriptWhy × Bool)) → first_broken ((why, kept) ∷ rest) ≡ None → (kept ≡ true) × (first_broken rest ≡ None)
 later_kept why true rest h = (refl, h)
 later_kept why false rest h = cc
 

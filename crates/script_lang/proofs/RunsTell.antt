@@ -1,6 +1,6 @@
 -- Reading scripts line by line gives their steps, or stops at their first fault.
-use Rattle.std.proofs.Common.{◌≡◌, ℕ, ◌+◌, List, [], ◌∷◌, ◌++◌, length, map, Bool, true, false, if◌then◌else◌, Option, Some, None, option_to_list, Result, Ok, Err, slice_get, refl, sym, ap, ◌∙◌, subst, arith}
-use Rattle.std.specs.List.{sum_by, filter_map, cons_option}
+use Rattle.std.proofs.Common.{◌≡◌, ℕ, ◌+◌, List, [], ◌∷◌, ◌++◌, Bool, true, false, Option, Some, None, option_to_list, Result, Ok, Err, slice_get, refl, sym, ap, ◌∙◌, subst, arith}
+use Rattle.std.specs.List.{cons_option}
 use Rattle.std.specs.Option.{option_map_or}
 use Rattle.std.proofs.lemmas.List.{append_assoc, append-nil}
 use Rattle.std.proofs.lemmas.List.Sums.{sum_by-append}
@@ -10,12 +10,11 @@ use Rattle.node_tree.specs.Maps.{RegisterMap}
 use Rattle.script_lang.specs.declared.operation.Step.{Step}
 use Rattle.script_lang.specs.declared.tally.Tally.{Tally}
 use Rattle.script_lang.specs.declared.script_refusal.ScriptWhy.{ScriptWhy}
-use Rattle.script_lang.specs.declared.script_refusal.ScriptWhy.TheVariants.{TooMany}
 use Rattle.script_lang.specs.declared.script_refusal.ScriptRefusal.{ScriptRefusal}
 use Rattle.script_lang.specs.declared.script_refusal.ScriptRefusal.TheVariants.{At, NoMemory}
 use Rattle.script_lang.specs.Operations.{meaning}
-use Rattle.script_lang.specs.Scripts.{ScriptLine, lines_from, all_lines, LineFault, operations_in, block_words_in, Meaning, count_in, is_over, line_meaning, count_of, tally_of, broken_by, faults_after, script_faults, step_in, steps_from, steps_of, TellsLine}
-use Rattle.script_lang.specs.Tallies.{with_step, within, Run, counted, line_run, joined, then_run, prepended, then_all, run_from, run_all, StopsAs, nothing}
+use Rattle.script_lang.specs.Scripts.{ScriptLine, lines_from, all_lines, LineFault, operations_in, block_words_in, Meaning, count_in, is_over, line_meaning, tally_of, broken_by, faults_after, script_faults, steps_from, steps_of, TellsLine}
+use Rattle.script_lang.specs.Tallies.{with_step, Run, line_run, joined, then_run, prepended, then_all, run_from, run_all, StopsAs, nothing}
 
 first_front : (xs ys : List LineFault) (f : LineFault) → slice_get xs 0 ≡ Some f → slice_get (xs ++ ys) 0 ≡ Some f
 first_front [] ys f h = cc
@@ -40,9 +39,12 @@ module _ (boards : List BoardSpec) (indexes : List RegisterMap) where
   tally-more : (earlier : List ScriptLine) (line : ScriptLine) (step : Option Step) → line_meaning boards indexes line ≡ Ok step
       → tally_of boards indexes (earlier ++ line ∷ []) ≡ with_step (tally_of boards indexes earlier) step
   tally-more earlier line step means =
-      rw (length-append earlier (line ∷ []),
-      sum_by-append (λ l. count_in operations_in (line_meaning boards indexes l)) earlier (line ∷ []),
-      sum_by-append (λ l. count_in block_words_in (line_meaning boards indexes l)) earlier (line ∷ []), means)
+      rw (
+        length-append earlier (line ∷ []),
+        sum_by-append (λ l. count_in operations_in (line_meaning boards indexes l)) earlier (line ∷ []),
+        sum_by-append (λ l. count_in block_words_in (line_meaning boards indexes l)) earlier (line ∷ []),
+        means,
+      )
       (rw (zero_plus (operations_in step), zero_plus (block_words_in step)) refl)
 
   abbrev line_at : ℕ → ℕ → List ℕ → ScriptLine
@@ -56,10 +58,11 @@ module _ (boards : List BoardSpec) (indexes : List RegisterMap) where
   with_line : (client number : ℕ) (text : List ℕ) (texts : List (List ℕ)) (earlier : List ScriptLine) (step : Option Step) (run : Run)
       → meaning boards indexes number text ≡ Ok step → is_over (tally_of boards indexes (earlier ++ line_at client number text ∷ [])) ≡ false
       → TellsLines client (number + 1) texts (earlier ++ line_at client number text ∷ []) run → TellsLines client number (text ∷ texts) earlier (joined (option_to_list step) run)
-  with_line client number text texts earlier step (Ok run) means within_it told =
-      (rw (means, within_it) told.0,
-      ap (λ xs. option_to_list step ++ xs) told.1 ∙ next_first step (steps_from boards indexes (number + 1) texts) ∙ rw means refl,
-      told.2 ∙ ap (tally_of boards indexes) (append_assoc earlier (line_at client number text ∷ []) (lines_from client (number + 1) texts)))
+  with_line client number text texts earlier step (Ok run) means within_it told = (
+    rw (means, within_it) told.0,
+    ap (λ xs. option_to_list step ++ xs) told.1 ∙ next_first step (steps_from boards indexes (number + 1) texts) ∙ rw means refl,
+    told.2 ∙ ap (tally_of boards indexes) (append_assoc earlier (line_at client number text ∷ []) (lines_from client (number + 1) texts)),
+  )
   with_line client number text texts earlier step (Err fault) means within_it told = rw (means, within_it) told
 
   abbrev Follows : ℕ → ℕ → List (List ℕ) → Type 0
@@ -109,9 +112,10 @@ module _ (boards : List BoardSpec) (indexes : List RegisterMap) where
       (rest : Result (List (List Step)) LineFault)
       → faults_after boards indexes earlier (lines_from client 1 script) ≡ [] → steps ≡ steps_from boards indexes 1 script
       → TellsAll (client + 1) scripts (earlier ++ lines_from client 1 script) rest → TellsAll client (script ∷ scripts) earlier (prepended (steps ∷ []) rest)
-  with_script client script scripts earlier steps (Ok all) none same told =
-      (faults_after-append earlier (lines_from client 1 script) (all_lines (client + 1) scripts) ∙ rw none told.0,
-      rw (same, told.1) refl)
+  with_script client script scripts earlier steps (Ok all) none same told = (
+    faults_after-append earlier (lines_from client 1 script) (all_lines (client + 1) scripts) ∙ rw none told.0,
+    rw (same, told.1) refl,
+  )
   with_script client script scripts earlier steps (Err fault) none same told =
       ap (λ fs. slice_get fs 0) (faults_after-append earlier (lines_from client 1 script) (all_lines (client + 1) scripts)) ∙ rw none told
 

@@ -9,7 +9,7 @@ use Rattle.address_table.specs.Rules.{first_broken}
 use Rattle.address_table.specs.declared.kinds.Permission.{Permission}
 use Rattle.address_table.specs.declared.kinds.Permission.TheVariants.{R, W, Rw}
 use Rattle.address_table.specs.declared.kinds.Mode.{Mode}
-use Rattle.address_table.specs.declared.kinds.Mode.TheVariants.{Single, Block, Port, Hierarchical}
+use Rattle.address_table.specs.declared.kinds.Mode.TheVariants.{Port, Hierarchical}
 use Rattle.board_node.specs.declared.spec.BoardSpec.{BoardSpec}
 use Rattle.masked_fields.specs.Field.{shifted}
 use Rattle.node_tree.specs.Maps.{RegisterMap}

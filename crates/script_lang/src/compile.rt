@@ -1,7 +1,10 @@
 //! Scripts as steps.
 
-ghost use Rattle.std.specs.Prelude.{◌≡◌, ◌≤◌, ◌<◌, ◌^◌, ◌+◌, [], false, length, slice_get, Ok, IfOk, IfErr, OnOk, IfSome};
-ghost use Rattle.node_tree.specs.Addresses.{last_address};
+ghost use Rattle.std.specs.Prelude.{◌≡◌, ◌≤◌, ◌+◌, [], false, true, length, slice_get, Ok, IfOk, IfErr, OnOk, IfSome};
+ghost use Rattle.std.specs.List.{AllByRecursion};
+ghost use Rattle.node_tree.specs.Maps.{IsRegister};
+ghost use Rattle.script_lang.specs.Lines.{takes};
+ghost use Rattle.script_lang.specs.Packing.{CanBePacked};
 ghost use Rattle.script_lang.specs.Operations as op;
 ghost use Rattle.script_lang.specs.Scripts as spec;
 ghost use Rattle.script_lang.specs.Tallies.{line_run, run_from, run_all, nothing, StopsAs};
@@ -34,6 +37,8 @@ pub fn compile_scripts(
     ensures accepted { OnOk result (spec.script_faults session.now.boards indexes.now session.now.scripts ≡ []) }
     ensures refused { let faults = spec.script_faults session.now.boards indexes.now session.now.scripts in
         IfErr result (spec.TellsLine (slice_get faults 0)) }
+    // Each operation can be packed, whatever packets its board takes.
+    ensures packed { IfOk result (λ all. AllByRecursion (AllByRecursion CanBePacked) all.items) }
 {
     let boards = session.boards.as_slice();
     let scripts = session.scripts.as_slice();
@@ -56,8 +61,7 @@ fn board_at(boards: &[BoardSpec], name: &[u8]) -> Option<u32>
 /// The register of a name, in the index of the board at a position.
 fn register_at(indexes: &[Index], board: u32, name: &str) -> Option<Register>
     ensures found { result ≡ op.register_at indexes.now board name.now }
-    ensures masked { IfSome result (λ register. 0 < register.mask) }
-    ensures within { IfSome result (λ register. last_address register < 2 ^ 32) }
+    ensures register { IfSome result IsRegister }
 {
     let index = indexes.get(board as usize)?;
     index.find(name)
@@ -70,8 +74,10 @@ fn asked(
     line: u32,
     call: Call,
 ) -> Result<Option<Step>, ScriptWhy>
-    requires { length boards.now ≤ MAX_BOARDS }
-    ensures { result ≡ op.asked boards.now indexes.now line call }
+    requires few { length boards.now ≤ MAX_BOARDS }
+    requires taken { takes call.verb call.numbers ≡ true }
+    ensures step { result ≡ op.asked boards.now indexes.now line call }
+    ensures packed { IfOk result (λ step. IfSome step CanBePacked) }
 {
     let Some(board) = board_at(boards, call.board.as_slice()) else {
         return Err(ScriptWhy::UnknownBoard);
@@ -94,7 +100,8 @@ fn meaning(
     text: &str,
 ) -> Result<Result<Option<Step>, ScriptWhy>, NoMemory>
     requires { length boards.now ≤ MAX_BOARDS }
-    ensures { IfOk result (λ meaning. meaning ≡ op.meaning boards.now indexes.now line text.now) }
+    ensures meaning { IfOk result (λ meaning. meaning ≡ op.meaning boards.now indexes.now line text.now) }
+    ensures packed { IfOk result (λ meaning. IfOk meaning (λ step. IfSome step CanBePacked)) }
 {
     Ok(match command(alloc, text)? {
         None => Err(ScriptWhy::BadLine),
@@ -120,6 +127,7 @@ fn next_step(
         IfOk result (λ next. run ≡ Ok next) }
     ensures within { IfOk result (λ next. spec.is_over next.1 ≡ false) }
     ensures counted { IfOk result (λ next. next.1.lines ≡ tally.lines + 1) }
+    ensures packed { IfOk result (λ next. IfSome next.0 CanBePacked) }
     ensures stopped { let run = line_run client line tally (op.meaning boards.now indexes.now line text.now) in
         IfErr result (StopsAs run) }
 {
@@ -151,6 +159,7 @@ fn script_steps(
     ensures run { let run = run_from boards.now indexes.now client tally 1 lines.now in
         IfOk result (λ done. run ≡ Ok done) }
     ensures within { IfOk result (λ done. spec.is_over done.1 ≡ false) }
+    ensures packed { IfOk result (λ done. AllByRecursion CanBePacked done.0) }
     ensures stopped { IfErr result (StopsAs (run_from boards.now indexes.now client tally 1 lines.now)) }
 {
     let mut steps = Vec::new(alloc);
@@ -177,6 +186,7 @@ fn all_steps(
     requires few { length boards.now ≤ MAX_BOARDS }
     requires clients { length scripts.now ≤ MAX_CLIENTS }
     ensures run { IfOk result (λ all. run_all boards.now indexes.now 1 nothing scripts.now ≡ Ok all.items) }
+    ensures packed { IfOk result (λ all. AllByRecursion (AllByRecursion CanBePacked) all.items) }
     ensures stopped { IfErr result (StopsAs (run_all boards.now indexes.now 1 nothing scripts.now)) }
 {
     let mut all = Vec::with_capacity(alloc, scripts.len())?;

@@ -8,8 +8,8 @@ mod compile;
 mod document;
 mod fields;
 mod keys;
-mod line;
 pub mod laws;
+mod line;
 mod operation;
 mod refusal;
 mod script_refusal;
@@ -28,10 +28,10 @@ pub use ipb_base::{NoMemory, Text};
 pub use operation::{RegOp, Step, Steps, Verb};
 pub use refusal::{DocWhy, MAX_BOARDS, MAX_CLIENTS, SessionRefusal};
 pub use reliable_engine::Settings;
-pub use script_refusal::{
-    MAX_BLOCK_WORDS, MAX_LINES, MAX_OPERATIONS, ScriptRefusal, ScriptWhy,
-};
+pub use script_refusal::{MAX_BLOCK_WORDS, MAX_LINES, MAX_OPERATIONS, ScriptRefusal, ScriptWhy};
 pub use session::{Boards, Script, Scripts, Session};
 
+#[cfg(test)]
+mod script_tests;
 #[cfg(test)]
 mod tests;

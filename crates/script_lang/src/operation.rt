@@ -70,6 +70,14 @@ impl Steps {
         Steps { items }
     }
 
+    /// The vector of these steps. It takes no memory.
+    pub fn into_vec(self) -> Vec<Step>
+        ensures { result.items ≡ self }
+    {
+        let Steps { items } = self;
+        items
+    }
+
     /// The steps, in order.
     pub fn as_slice(&self) -> &[Step]
         ensures { result.now ≡ self.now }

@@ -1,13 +1,15 @@
 //! What is asked of a register: the rules that it keeps, and the operation on the bus.
 
-ghost use Rattle.std.specs.Prelude.{◌≡◌, ◌<◌, ◌≤◌, slice_index, true};
+ghost use Rattle.std.specs.Prelude.{◌≡◌, ◌<◌, ◌≤◌, slice_index, true, IfOk};
 ghost use Rattle.address_table.specs.Rules.{first_broken};
+ghost use Rattle.mtu_packer.specs.Cutting.{CanBeCut};
+ghost use Rattle.node_tree.specs.Maps.{IsRegister};
+ghost use Rattle.script_lang.specs.Lines.{takes};
 ghost use Rattle.script_lang.specs.Operations as spec;
 
-use crate::ScriptWhy;
-use crate::Verb;
 use crate::call::Call;
 use crate::operation::RegOp;
+use crate::{ScriptWhy, Verb};
 use address_table::{Mode, Permission};
 use ipb_base::Words;
 use masked_fields::terms;
@@ -208,15 +210,17 @@ fn op_on(register: &Register, verb: Verb, numbers: Words) -> Op
 }
 
 /// What is asked of a register, by the line of this number.
-#[tactic(auto, using(crate::proofs::MaskedValues::kept_field))]
+#[tactic(auto, using(crate::proofs::MaskedValues::kept_field, crate::proofs::Packable::cut_kept))]
 pub(crate) fn use_of(
     line: u32,
     board: u32,
     call: Call,
     register: &Register,
 ) -> Result<RegOp, ScriptWhy>
-    requires { 0 < register.now.mask }
-    ensures { result ≡ spec.use_of line board call register.now }
+    requires register { IsRegister register.now }
+    requires taken { takes call.verb call.numbers ≡ true }
+    ensures used { result ≡ spec.use_of line board call register.now }
+    ensures packed { IfOk result (λ op. CanBeCut op.op) }
 {
     if let Some(why) = broken_rule(register, &call) {
         return Err(why);

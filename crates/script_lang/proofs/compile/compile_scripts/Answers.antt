@@ -1,4 +1,4 @@
-use Rattle.std.proofs.Common.{◌≡◌, [], IfOk, IfErr, Ok, slice_get}
+use Rattle.std.proofs.Common.{◌≡◌, [], Ok, slice_get}
 use Rattle.std.proofs.lemmas.Result.{IfOk-weaker, IfErr-weaker}
 use Rattle.script_lang.specs.Scripts.{script_faults, steps_of, TellsLine}
 use Rattle.script_lang.specs.Tallies.{run_all, nothing, StopsAs}

@@ -1,6 +1,5 @@
-use Rattle.std.proofs.Common.{◌<◌, ◌≤◌, length, sym, ◌∙◌, arith}
-use Rattle.std.specs.List.{prefix_len}
-use Rattle.script_lang.proofs.LineWords.{in_word, words-first, word-some, some_bytes, boundary-after_word}
+use Rattle.std.proofs.Common.{◌<◌, length, sym, ◌∙◌, arith}
+use Rattle.script_lang.proofs.LineWords.{words-first, word-some, some_bytes, boundary-after_word}
 use Rattle.script_lang.proofs.line.next_word.Goals as goal
 
 pub split_at-requires : goal.split_at-requires
