@@ -9,6 +9,6 @@ pub record Limits : Type 0 where
 
 -- the numbers that settings can have
 pub record AreLimits (s : Limits) : Type 0 where
-  pub a_round : 1 ≤ s.rounds
-  pub a_place : 1 ≤ s.window
-  pub not_wide : s.window ≤ MAX_WINDOW
+  pub some_rounds : 1 ≤ s.rounds
+  pub some_window : 1 ≤ s.window
+  pub window_in_range : s.window ≤ MAX_WINDOW

@@ -6,7 +6,8 @@ use std::marker::Model;
 /// The greatest window of a session (profile).
 pub const MAX_WINDOW: u8 = 16;
 
-/// How patient a session is with its boards (profile). Contracts see the two numbers.
+/// How long a hub waits for a board, and how many bodies go ahead of their replies (profile). Contracts see the two
+/// numbers.
 #[derive(Clone, Copy, Debug, PartialEq, Eq)]
 pub struct Settings {
     rounds: u8,
@@ -38,7 +39,8 @@ impl Settings {
         Some(Settings { rounds, window })
     }
 
-    /// After how many status requests without news the hub gives up: 1 to 255.
+    /// After how many rounds in a row the hub gives up: 1 to 255. A round is a status request and a receive that ends quiet,
+    /// with no place settled between them.
     pub fn rounds(self) -> u8
         ensures value { result ≡ self.rounds }
         ensures range { AreLimits self }
@@ -46,7 +48,8 @@ impl Settings {
         self.rounds
     }
 
-    /// How many bodies at most are on their way to a board at once: 1 to `MAX_WINDOW`.
+    /// How many places, from the lowest without a reply on, may have been sent: 1 to `MAX_WINDOW`. The board's buffers
+    /// bound the window too.
     pub fn window(self) -> u8
         ensures value { result ≡ self.window }
         ensures range { AreLimits self }

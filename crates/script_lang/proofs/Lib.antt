@@ -9,3 +9,8 @@ pub mod Answered
 pub mod InOrder
 pub mod OneAnswer
 pub mod InRanges
+pub mod LineWords
+pub mod MaskedValues
+pub mod RunsTell
+pub mod Packable
+pub mod Asking

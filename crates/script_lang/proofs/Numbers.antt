@@ -18,4 +18,4 @@ pub are_limits : (document : Members) → AreLimits (settings_of document)
 are_limits document =
     let rounds = between-checked 1 255 8 (option_and_then number (get_member (codes "rounds") document)) (omega arith) (omega arith) in
     let window = between-checked 1 16 16 (option_and_then number (get_member (codes "window") document)) (omega arith) (omega arith) in
-    record { a_round = rounds.0; a_place = window.0; not_wide = window.1 }
+    record { some_rounds = rounds.0; some_window = window.0; window_in_range = window.1 }

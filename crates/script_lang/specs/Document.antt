@@ -66,7 +66,8 @@ abbrev pub tables_faults : Members → List Fault
 tables_faults no_members = []
 tables_faults (member name value ms) = option_map_or (λ fault. in_table name fault.0 fault.1 ∷ []) (table_fault value) [] ++ tables_faults ms
 
--- All that is wrong with a document, in the order in which it is told.
+-- What is wrong with a document, in the order in which it is told. The list counts up to its first fault: behind a value that is
+-- not what it should be, the rest is read as if that value were left out.
 abbrev pub faults : Members → List Fault
 faults document =
     misfits document

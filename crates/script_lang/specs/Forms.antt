@@ -3,13 +3,13 @@ use Rattle.std.specs.Prelude.{ℕ, if◌then◌else◌, List, Option, Some, None
 use Rattle.toml.specs.Data.{Members}
 use Rattle.address_table.specs.Rules.{has_key}
 use Rattle.script_lang.specs.declared.keys.Form.{Form}
-use Rattle.script_lang.specs.declared.keys.Form.TheVariants.{Document, FatesBoard, NoiseBoard, UdpBoard, Range, Client}
-use Rattle.script_lang.specs.Keys.{KeyRule, document_keys, fates_keys, noise_keys, udp_keys, range_keys, client_keys}
+use Rattle.script_lang.specs.declared.keys.Form.TheVariants.{Document, SimBoard, NoisyBoard, UdpBoard, Range, Client}
+use Rattle.script_lang.specs.Keys.{KeyRule, document_keys, sim_keys, sim_keys_with_noise, udp_keys, range_keys, client_keys}
 
 abbrev pub form_keys : Form → List KeyRule
 form_keys Document = document_keys
-form_keys FatesBoard = fates_keys
-form_keys NoiseBoard = noise_keys
+form_keys SimBoard = sim_keys
+form_keys NoisyBoard = sim_keys_with_noise
 form_keys UdpBoard = udp_keys
 form_keys Range = range_keys
 form_keys Client = client_keys

@@ -5,7 +5,8 @@ use Rattle.std.specs.Str.{bytes_eq}
 use Rattle.std.specs.Option.{option_and_then}
 use Rattle.toml.specs.Data.{Members, get_member, as_str}
 use Rattle.address_table.specs.Rules.{has_key, holds_of}
-use Rattle.script_lang.specs.declared.keys.TextRule.TheVariants.{Any, Id, Link, RangeKind, Fates, Endpoint}
+use Rattle.reliable_engine.specs.declared.settings.TheConstants.{MAX_WINDOW}
+use Rattle.script_lang.specs.declared.keys.TextRule.TheVariants.{Any, Id, Link, RangeWord, Fates, Endpoint}
 use Rattle.script_lang.specs.declared.keys.TableKind.{TableKind}
 use Rattle.script_lang.specs.declared.keys.TableKind.TheVariants.{Board, Range, Client}
 use Rattle.script_lang.specs.declared.keys.ItemKind.TheVariants as items
@@ -36,12 +37,12 @@ document_keys =
     ∷ optional (codes "format") (Number 1 1 1)
     ∷ optional (codes "rounds") (Number 1 255 8)
     ∷ optional (codes "tables") Names
-    ∷ optional (codes "window") (Number 1 16 16)
+    ∷ optional (codes "window") (Number 1 MAX_WINDOW 16)
     ∷ []
 
--- a simulated board whose fates are written out: `fates` is empty where it is left out
-abbrev pub fates_keys : List KeyRule
-fates_keys =
+-- a simulated board: `fates` is empty where it is left out
+abbrev pub sim_keys : List KeyRule
+sim_keys =
     optional (codes "buffers") (Number 1 64 16)
     ∷ optional (codes "fates") (Text Fates)
     ∷ optional (codes "first") (Number 1 65535 1)
@@ -53,8 +54,8 @@ fates_keys =
     ∷ []
 
 -- a simulated board without `fates` may have `noise`
-abbrev pub noise_keys : List KeyRule
-noise_keys = optional (codes "noise") word ∷ fates_keys
+abbrev pub sim_keys_with_noise : List KeyRule
+sim_keys_with_noise = optional (codes "noise") word ∷ sim_keys
 
 -- a board behind a UDP port
 abbrev pub udp_keys : List KeyRule
@@ -71,7 +72,7 @@ abbrev pub range_keys : List KeyRule
 range_keys =
     needed (codes "base") word
     ∷ optional (codes "init") (Array items.Number)
-    ∷ optional (codes "kind") (Text RangeKind)
+    ∷ optional (codes "kind") (Text RangeWord)
     ∷ needed (codes "size") word
     ∷ []
 
@@ -84,7 +85,7 @@ abbrev pub is_udp : Members → Bool
 is_udp ms = holds_of (bytes_eq (codes "udp")) (option_and_then as_str (get_member (codes "link") ms))
 
 abbrev pub board_keys : Members → List KeyRule
-board_keys ms = if is_udp ms then udp_keys else if has_key (codes "fates") ms then fates_keys else noise_keys
+board_keys ms = if is_udp ms then udp_keys else if has_key (codes "fates") ms then sim_keys else sim_keys_with_noise
 
 -- the keys of a table that is an item
 abbrev pub keys_of : TableKind → Members → List KeyRule

@@ -1,11 +1,9 @@
 -- What a document without faults stands for, its tables left aside. Profile.
 use Rattle.std.specs.Prelude.{ℕ, List, [], ◌∷◌, codes, if◌then◌else◌}
 use Rattle.std.specs.Option.{unwrap_or, option_and_then}
-use Rattle.std.specs.Str.{bytes_eq}
 use Rattle.toml.specs.Data.{Members, no_members, get_member, as_table}
 use Rattle.address_table.specs.Rules.{has_key}
-use Rattle.board_bus.specs.declared.kind.RangeKind.{RangeKind}
-use Rattle.board_bus.specs.declared.kind.RangeKind.TheVariants.{Rw, Ro, Wo, Slow}
+use Rattle.board_bus.specs.declared.kind.RangeKind.TheVariants.{Rw}
 use Rattle.board_bus.specs.declared.range.Range.{Range}
 use Rattle.board_node.specs.declared.spec.Fates.{Fates}
 use Rattle.board_node.specs.declared.spec.Fates.TheVariants as fates
@@ -13,9 +11,9 @@ use Rattle.board_node.specs.declared.spec.LinkSpec.{LinkSpec}
 use Rattle.board_node.specs.declared.spec.LinkSpec.TheVariants.{Sim, Udp}
 use Rattle.board_node.specs.declared.spec.BoardSpec.{BoardSpec}
 use Rattle.reliable_engine.specs.Settings.{Limits}
-use Rattle.script_lang.specs.Keys.{document_keys, fates_keys, noise_keys, udp_keys, range_keys, is_udp}
+use Rattle.script_lang.specs.Keys.{document_keys, sim_keys, sim_keys_with_noise, udp_keys, range_keys, is_udp}
 use Rattle.script_lang.specs.Fields.{number_at, text_at, items_at, numbers_in, texts_in, tables_in}
-use Rattle.script_lang.specs.Texts.{endpoint}
+use Rattle.script_lang.specs.Texts.{endpoint, range_kind_named}
 
 abbrev pub settings_of : Members → Limits
 settings_of document = record {
@@ -23,34 +21,27 @@ settings_of document = record {
   window = number_at document_keys (codes "window") document;
 }
 
--- the kind of a range, `rw` where it is left out
-abbrev pub range_kind_named : List ℕ → RangeKind
-range_kind_named word =
-    if bytes_eq word (codes "ro") then Ro
-    else if bytes_eq word (codes "wo") then Wo
-    else if bytes_eq word (codes "slow") then Slow
-    else Rw
-
+-- a range; its kind is `rw` where it is left out
 abbrev pub range_of : Members → Range
 range_of ms = record {
   base = number_at range_keys (codes "base") ms;
   size = number_at range_keys (codes "size") ms;
-  kind = range_kind_named (text_at (codes "kind") ms);
+  kind = unwrap_or (range_kind_named (text_at (codes "kind") ms)) Rw;
   init = numbers_in (items_at (codes "init") ms);
 }
 
 -- noise where it is there, else the text of the fates
 abbrev pub fates_of : Members → Fates
 fates_of ms =
-    if has_key (codes "noise") ms then fates.Noise (number_at noise_keys (codes "noise") ms)
+    if has_key (codes "noise") ms then fates.Noise (number_at sim_keys_with_noise (codes "noise") ms)
     else fates.Text (text_at (codes "fates") ms)
 
 abbrev pub sim_of : Members → LinkSpec
 sim_of ms =
     Sim
-    (number_at fates_keys (codes "mtu") ms)
-    (number_at fates_keys (codes "buffers") ms)
-    (number_at fates_keys (codes "first") ms)
+    (number_at sim_keys (codes "mtu") ms)
+    (number_at sim_keys (codes "buffers") ms)
+    (number_at sim_keys (codes "first") ms)
     (tables_in range_of (items_at (codes "ranges") ms))
     (fates_of ms)
 

@@ -4,8 +4,11 @@ use Rattle.std.specs.List.{list_all}
 use Rattle.address_table.specs.Kinds.{is_one_of}
 use Rattle.address_table.specs.Numbers.{is_between, number_in_text}
 use Rattle.address_table.specs.Rules.{is_id}
+use Rattle.std.specs.Str.{bytes_eq}
+use Rattle.board_bus.specs.declared.kind.RangeKind.{RangeKind}
+use Rattle.board_bus.specs.declared.kind.RangeKind.TheVariants.{Rw, Ro, Wo, Slow}
 use Rattle.script_lang.specs.declared.keys.TextRule.{TextRule}
-use Rattle.script_lang.specs.declared.keys.TextRule.TheVariants.{Any, Id, Link, RangeKind, Fates, Endpoint}
+use Rattle.script_lang.specs.declared.keys.TextRule.TheVariants.{Any, Id, Link, RangeWord, Fates, Endpoint}
 
 -- the value, if the test holds of it
 abbrev pub checked : {A : Type 0} → (A → Bool) → Option A → Option A
@@ -38,7 +41,7 @@ abbrev pub ◌>>=◌ : {A B : Type 0} → Option A → (A → Option B) → Opti
 None >>= f = None
 (Some x) >>= f = f x
 
--- An IPv4 address and a port: four decimal numbers from 0 to 255 joined by dots, a colon, and a port from 1.
+-- `A.B.C.D:PORT`: the four bytes of an IPv4 address and a port, all decimal.
 unfoldable pub endpoint : List ℕ → Option (List ℕ × ℕ)
 endpoint text = do
   parts ← cut_at 58 text
@@ -52,11 +55,20 @@ endpoint text = do
   port ← decimal_between 1 65535 parts.1
   Some (a ∷ b ∷ c ∷ d ∷ [], port)
 
+-- the kinds of ranges
+abbrev pub range_kind_named : List ℕ → Option RangeKind
+range_kind_named word =
+    if bytes_eq word (codes "rw") then Some Rw
+    else if bytes_eq word (codes "ro") then Some Ro
+    else if bytes_eq word (codes "wo") then Some Wo
+    else if bytes_eq word (codes "slow") then Some Slow
+    else None
+
 -- a text keeps its rule
 abbrev pub keeps : TextRule → List ℕ → Bool
 keeps Any text = true
 keeps Id text = is_id text
 keeps Link text = is_one_of (codes "sim" ∷ codes "udp" ∷ []) text
-keeps RangeKind text = is_one_of (codes "rw" ∷ codes "ro" ∷ codes "wo" ∷ codes "slow" ∷ []) text
+keeps RangeWord text = is_some (range_kind_named text)
 keeps Fates text = list_all is_fate text
 keeps Endpoint text = is_some (endpoint text)

@@ -3,13 +3,13 @@
 ghost use Rattle.std.specs.Prelude.{◌≡◌, ◌≤◌, IfOk, map, codes};
 ghost use Rattle.toml.specs.View.{view, table_view};
 ghost use Rattle.script_lang.specs.Fields.{number_at as number_there, numbers_in, texts_in, tables_in};
-ghost use Rattle.script_lang.specs.Keys.{fates_keys};
+ghost use Rattle.script_lang.specs.Keys.{sim_keys};
 ghost use Rattle.script_lang.specs.Sessions as spec;
 
 use crate::fields::{has_key, is_udp, items_at, number_at, text_at};
 use crate::keys::Form;
 use crate::session::{Boards, Script, Scripts};
-use crate::texts::endpoint;
+use crate::texts::{endpoint, range_kind_named};
 use address_table::number;
 use board_bus::{Range, RangeKind};
 use board_node::{BoardSpec, Fates, LinkSpec, Ranges};
@@ -41,27 +41,13 @@ fn numbers(alloc: Global, items: &[Value]) -> Result<Words, NoMemory>
     Ok(Words::from_vec(words))
 }
 
-fn range_kind(word: &str) -> RangeKind
-    ensures { result ≡ spec.range_kind_named word.now }
-{
-    if word == "ro" {
-        RangeKind::Ro
-    } else if word == "wo" {
-        RangeKind::Wo
-    } else if word == "slow" {
-        RangeKind::Slow
-    } else {
-        RangeKind::Rw
-    }
-}
-
 fn range(alloc: Global, members: &Table) -> Result<Range, NoMemory>
     ensures { IfOk result (λ range. range ≡ spec.range_of (table_view members.now)) }
 {
     Ok(Range {
         base: number_at(Form::Range, members, "base"),
         size: number_at(Form::Range, members, "size"),
-        kind: range_kind(text_at(members, "kind")),
+        kind: range_kind_named(text_at(members, "kind")).unwrap_or(RangeKind::Rw),
         init: numbers(alloc, items_at(members, "init"))?,
     })
 }
@@ -82,16 +68,16 @@ fn fates(alloc: Global, members: &Table) -> Result<Fates, NoMemory>
     ensures { IfOk result (λ fates. fates ≡ spec.fates_of (table_view members.now)) }
 {
     if has_key(members, "noise") {
-        return Ok(Fates::Noise(u64::from(number_at(Form::NoiseBoard, members, "noise"))));
+        return Ok(Fates::Noise(u64::from(number_at(Form::NoisyBoard, members, "noise"))));
     }
     Ok(Fates::Text(Text::copy_of(alloc, text_at(members, "fates"))?))
 }
 
 /// The identifier that a simulated board expects first.
 fn first(members: &Table) -> Id
-    ensures { result ≡ number_there fates_keys (codes "first") (table_view members.now) }
+    ensures { result ≡ number_there sim_keys (codes "first") (table_view members.now) }
 {
-    let first = number_at(Form::FatesBoard, members, "first") as u16;
+    let first = number_at(Form::SimBoard, members, "first") as u16;
     Id::new(first).unwrap()
 }
 
@@ -99,8 +85,8 @@ fn sim(alloc: Global, members: &Table) -> Result<LinkSpec, NoMemory>
     ensures { IfOk result (λ link. link ≡ spec.sim_of (table_view members.now)) }
 {
     Ok(LinkSpec::Sim {
-        mtu: number_at(Form::FatesBoard, members, "mtu"),
-        buffers: number_at(Form::FatesBoard, members, "buffers"),
+        mtu: number_at(Form::SimBoard, members, "mtu"),
+        buffers: number_at(Form::SimBoard, members, "buffers"),
         first: first(members),
         ranges: ranges(alloc, items_at(members, "ranges"))?,
         fates: fates(alloc, members)?,

@@ -9,6 +9,7 @@ ghost use Rattle.script_lang.specs.Walk.{missing};
 ghost use Rattle.script_lang.specs.declared.steps.PathStep.TheVariants.{Key};
 
 use crate::fields::{has_key, is_udp};
+use reliable_engine::MAX_WINDOW;
 use toml::Table;
 
 /// The rule of a text.
@@ -17,7 +18,7 @@ pub(crate) enum TextRule {
     Any,
     Id,
     Link,
-    RangeKind,
+    RangeWord,
     Fates,
     Endpoint,
 }
@@ -56,9 +57,9 @@ pub(crate) enum Kind {
 pub(crate) enum Form {
     Document,
     /// A simulated board with `fates`, which has no `noise`.
-    FatesBoard,
+    SimBoard,
     /// A simulated board without `fates`.
-    NoiseBoard,
+    NoisyBoard,
     UdpBoard,
     Range,
     Client,
@@ -87,9 +88,9 @@ fn board_form(members: &Table) -> Form
     if is_udp(members) {
         Form::UdpBoard
     } else if has_key(members, "fates") {
-        Form::FatesBoard
+        Form::SimBoard
     } else {
-        Form::NoiseBoard
+        Form::NoisyBoard
     }
 }
 
@@ -99,8 +100,8 @@ pub(crate) fn kind_at(form: Form, name: &str) -> Option<Kind>
 {
     match form {
         Form::Document => document_kind(name),
-        Form::FatesBoard => sim_kind(name),
-        Form::NoiseBoard => noise_kind(name),
+        Form::SimBoard => sim_kind(name),
+        Form::NoisyBoard => noise_kind(name),
         Form::UdpBoard => udp_kind(name),
         Form::Range => range_kind(name),
         Form::Client => client_kind(name),
@@ -132,14 +133,14 @@ fn document_kind(name: &str) -> Option<Kind>
     } else if name == "tables" {
         Some(Kind::Names)
     } else if name == "window" {
-        number(1, 16, 16)
+        number(1, u32::from(MAX_WINDOW), 16)
     } else {
         None
     }
 }
 
 fn noise_kind(name: &str) -> Option<Kind>
-    ensures { result ≡ spec.kind_at spec.noise_keys name.now }
+    ensures { result ≡ spec.kind_at spec.sim_keys_with_noise name.now }
 {
     if name == "noise" {
         Some(WORD)
@@ -149,7 +150,7 @@ fn noise_kind(name: &str) -> Option<Kind>
 }
 
 fn sim_kind(name: &str) -> Option<Kind>
-    ensures { result ≡ spec.kind_at spec.fates_keys name.now }
+    ensures { result ≡ spec.kind_at spec.sim_keys name.now }
 {
     if name == "buffers" {
         number(1, 64, 16)
@@ -198,7 +199,7 @@ fn range_kind(name: &str) -> Option<Kind>
     } else if name == "init" {
         Some(Kind::Array(ItemKind::Number))
     } else if name == "kind" {
-        Some(Kind::Text(TextRule::RangeKind))
+        Some(Kind::Text(TextRule::RangeWord))
     } else if name == "size" {
         Some(WORD)
     } else {
@@ -223,7 +224,7 @@ pub(crate) fn first_missing(form: Form, members: &Table) -> Option<&'static str>
 {
     match form {
         Form::Document => None,
-        Form::FatesBoard | Form::NoiseBoard => first_of_two(members, "name", "table"),
+        Form::SimBoard | Form::NoisyBoard => first_of_two(members, "name", "table"),
         Form::UdpBoard => {
             if !has_key(members, "address") {
                 return Some("address");

@@ -10,6 +10,9 @@ ghost use Rattle.script_lang.specs.Paths.{path};
 ghost use Rattle.script_lang.specs.Texts.{endpoint, decimal_between, cut_at};
 ghost use Rattle.script_lang.specs.declared.refusal.SessionRefusal.{SessionRefusal as Refusal};
 ghost use Rattle.script_lang.specs.declared.refusal.SessionRefusal.TheVariants.{NoMemory as no_memory};
+ghost use Rattle.reliable_engine.specs.declared.settings.TheConstants.{MAX_WINDOW};
+ghost use Rattle.script_lang.specs.declared.refusal.TheConstants.{MAX_BOARDS, MAX_CLIENTS};
+ghost use Rattle.script_lang.specs.declared.script_refusal.TheConstants.{MAX_LINES, MAX_OPERATIONS, MAX_BLOCK_WORDS};
 ghost use Rattle.script_lang.specs.declared.session.Session.{Session};
 ghost use Rattle.script_lang.specs.declared.steps.PathStep.TheVariants.{Key, Item};
 
@@ -38,6 +41,16 @@ pub fn a_session_keeps_its_limits()
     ensures boards { (bytes : List ℕ) (session : Session)
         → spec.StandsFor bytes session → AllByRecursion KeepsRules session.boards }
     ensures counts { (bytes : List ℕ) (session : Session) → spec.StandsFor bytes session → IsWithin session }
+{}
+
+/// The limits of a session.
+pub fn limits()
+    ensures boards { MAX_BOARDS ≡ 16 }
+    ensures clients { MAX_CLIENTS ≡ 64 }
+    ensures window { MAX_WINDOW ≡ 16 }
+    ensures lines { MAX_LINES ≡ 200000 }
+    ensures operations { MAX_OPERATIONS ≡ 100000 }
+    ensures block_words { MAX_BLOCK_WORDS ≡ 1048576 }
 {}
 
 /// The way to the MTU of the first board.

@@ -17,8 +17,7 @@ pub const MAX_CLIENTS: usize = 64;
 pub enum DocWhy {
     /// The bytes are no TOML text.
     NotToml,
-    /// An unknown key, a value of the wrong kind or out of its rule, a key that the board's link does not have, or a
-    /// missing key.
+    /// A value is not what stands under its key, the table has no such key, or a key that it needs is left out.
     Shape,
     /// There is no board.
     NoBoards,
@@ -33,8 +32,8 @@ pub enum DocWhy {
 /// Why a document was not read: its first fault.
 #[derive(Debug, Drop)]
 pub enum SessionRefusal {
-    /// A fault of the document outside its tables. The path is the keys and positions from 0 that lead to it, joined by
-    /// dots; it is empty where the fault has no place.
+    /// A fault of the document outside its tables. The path leads from the document to the place of the fault: keys as
+    /// they are and positions from 0, with dots between them. It is empty where the document as a whole is at fault.
     Document { path: Text, why: DocWhy },
     /// A fault in the table of this name.
     Table { table: Text, refusal: TableRefusal },

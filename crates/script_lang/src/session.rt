@@ -69,6 +69,14 @@ impl Script {
         Script { lines }
     }
 
+    /// The vector of these lines. It takes no memory.
+    pub fn into_vec(self) -> Vec<Text>
+        ensures { result.items ≡ self }
+    {
+        let Script { lines } = self;
+        lines
+    }
+
     /// The lines, in order.
     pub fn as_slice(&self) -> &[Text]
         ensures { result.now ≡ self.now }
@@ -99,6 +107,14 @@ impl Scripts {
         Scripts { items }
     }
 
+    /// The vector of these scripts. It takes no memory.
+    pub fn into_vec(self) -> Vec<Script>
+        ensures { result.items ≡ self }
+    {
+        let Scripts { items } = self;
+        items
+    }
+
     /// The scripts, in order.
     pub fn as_slice(&self) -> &[Script]
         ensures { result.now ≡ self.now }
@@ -107,10 +123,10 @@ impl Scripts {
     }
 }
 
-/// A session: what a document stands for.
+/// A session: what a document stands for. Of one that was read the limits below hold.
 #[derive(Drop)]
 pub struct Session {
-    /// How patient the session is.
+    /// How long the hub waits for a board, and how many bodies go ahead of their replies.
     pub settings: Settings,
     /// The register tables by their names.
     pub tables: Tables,

@@ -3,7 +3,7 @@ use address_table::{TableRefusal, TableWhy};
 use std::alloc::Global;
 use std::test::*;
 
-const TABLES: &str = r#"
+pub(crate) const TABLES: &str = r#"
 [[tables.main]]
 id = "sys"
 mode = "hierarchical"
@@ -24,13 +24,13 @@ mode = "block"
 size = 600
 "#;
 
-const BOARD: &str = r#"
+pub(crate) const BOARD: &str = r#"
 [[board]]
 name = "b0"
 table = "main"
 "#;
 
-const RANGES: &str = r#"
+pub(crate) const RANGES: &str = r#"
 [[board.ranges]]
 base = 0
 size = 16
@@ -242,6 +242,14 @@ fn changes_of_the_first_document_are_refused(rt: HostRuntime) -> Result<(), Fail
             "document board.0.noise Shape",
         ),
         ("", "wait = 5\n", "", "document board.0.wait Shape"),
+        ("window = 0\nrounds = 0\n", "", "", "document rounds Shape"),
+        ("window = \"0x11\"\n", "", "", "document window Shape"),
+        (
+            "",
+            "link = 3\naddress = \"\"\n",
+            "",
+            "document board.0.address Shape",
+        ),
         (
             "",
             "link = \"udp\"\nmtu = 1500\n",

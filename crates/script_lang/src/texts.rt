@@ -9,6 +9,7 @@ ghost use Rattle.script_lang.specs.Texts as spec;
 
 use crate::keys::TextRule;
 use address_table::{is_id, number_in_text};
+use board_bus::RangeKind;
 use toml::Value;
 
 /// Whether a value is a text that keeps a rule.
@@ -29,9 +30,26 @@ fn keeps(rule: TextRule, text: &str) -> bool
         TextRule::Any => true,
         TextRule::Id => is_id(text.as_bytes()),
         TextRule::Link => text == "sim" || text == "udp",
-        TextRule::RangeKind => text == "rw" || text == "ro" || text == "wo" || text == "slow",
+        TextRule::RangeWord => range_kind_named(text).is_some(),
         TextRule::Fates => are_fates(text.as_bytes()),
         TextRule::Endpoint => endpoint(text.as_bytes()).is_some(),
+    }
+}
+
+/// The kind of a range that a word names.
+pub(crate) fn range_kind_named(word: &str) -> Option<RangeKind>
+    ensures { result ≡ spec.range_kind_named word.now }
+{
+    if word == "rw" {
+        Some(RangeKind::Rw)
+    } else if word == "ro" {
+        Some(RangeKind::Ro)
+    } else if word == "wo" {
+        Some(RangeKind::Wo)
+    } else if word == "slow" {
+        Some(RangeKind::Slow)
+    } else {
+        None
     }
 }
 
@@ -114,7 +132,7 @@ pub(crate) fn cut_at(cut: u8, text: &[u8]) -> Option<(&[u8], &[u8])>
     None
 }
 
-/// An IPv4 address and a port: four decimal numbers joined by dots, a colon and the port.
+/// The IPv4 address and the port of a text `A.B.C.D:PORT`.
 #[tactic(auto, unfolding(crate::specs::Texts::endpoint))]
 pub(crate) fn endpoint(text: &[u8]) -> Option<([u8; 4], u16)>
     ensures { result ≡ spec.endpoint text.now }

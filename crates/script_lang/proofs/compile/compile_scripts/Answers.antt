@@ -1,0 +1,30 @@
+use Rattle.std.proofs.Common.{◌≡◌, [], Ok, slice_get}
+use Rattle.std.proofs.lemmas.Result.{IfOk-weaker, IfErr-weaker}
+use Rattle.script_lang.specs.Scripts.{script_faults, steps_of, TellsLine}
+use Rattle.script_lang.specs.Tallies.{run_all, nothing, StopsAs}
+use Rattle.script_lang.proofs.RunsTell.{all_told, stop_told}
+use Rattle.script_lang.proofs.compile.compile_scripts.Goals as goal
+
+pub returns-clause-steps : goal.returns-clause-steps
+returns-clause-steps c =
+    let boards = c.as_slice-boards.result.now in
+    let scripts = c.as_slice-scripts.result.now in
+    rw (← c.as_slice-boards.ensures, ← c.as_slice-scripts.ensures)
+    (IfOk-weaker c.all_steps.result (λ all. run_all boards c.args.indexes.now 1 nothing scripts ≡ Ok all.items) (λ all. all.items ≡ steps_of boards c.args.indexes.now scripts)
+    (λ all ends. (all_told boards c.args.indexes.now scripts all.items ends).1) c.all_steps.ensures.run)
+
+pub returns-clause-accepted : goal.returns-clause-accepted
+returns-clause-accepted c =
+    let boards = c.as_slice-boards.result.now in
+    let scripts = c.as_slice-scripts.result.now in
+    rw (← c.as_slice-boards.ensures, ← c.as_slice-scripts.ensures)
+    (IfOk-weaker c.all_steps.result (λ all. run_all boards c.args.indexes.now 1 nothing scripts ≡ Ok all.items) (λ all. script_faults boards c.args.indexes.now scripts ≡ [])
+    (λ all ends. (all_told boards c.args.indexes.now scripts all.items ends).0) c.all_steps.ensures.run)
+
+pub returns-clause-refused : goal.returns-clause-refused
+returns-clause-refused c =
+    let boards = c.as_slice-boards.result.now in
+    let scripts = c.as_slice-scripts.result.now in
+    rw (← c.as_slice-boards.ensures, ← c.as_slice-scripts.ensures)
+    (IfErr-weaker c.all_steps.result (StopsAs (run_all boards c.args.indexes.now 1 nothing scripts)) (TellsLine (slice_get (script_faults boards c.args.indexes.now scripts) 0))
+    (λ refusal stops. stop_told boards c.args.indexes.now scripts refusal stops) c.all_steps.ensures.stopped)

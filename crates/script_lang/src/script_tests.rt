@@ -1,0 +1,124 @@
+//! Scripts of the first document, compiled.
+
+use super::*;
+use crate::tests::{BOARD, RANGES, TABLES};
+use node_tree::{Index, compile};
+use std::alloc::Global;
+use std::test::*;
+use transaction_codec::{Request, write_requests};
+
+/// The steps of one client's script, given as the items of its array.
+fn steps_of(alloc: Global, script: &str) -> Result<Result<Vec<Steps>, ScriptRefusal>, Fail> {
+    let client = format!(in alloc; "[[client]]\nscript = [{script}]\n")?;
+    let text = format!(in alloc; "{TABLES}{BOARD}{RANGES}{client}")?;
+    let session = read_session(alloc, text.as_bytes())?;
+    let mut indexes: Vec<Index> = Vec::new(alloc);
+    for board in session.boards.as_slice() {
+        indexes.push(compile(alloc, &session.tables, board.table.as_str())?)?;
+    }
+    Ok(compile_scripts(alloc, &session, indexes.as_slice()))
+}
+
+/// The words of the requests of a script that compiles, numbered from 0.
+fn words_of(alloc: Global, script: &str) -> Result<Vec<u32>, Fail> {
+    let mut requests = Vec::new(alloc);
+    let mut tid = 0u16;
+    for steps in steps_of(alloc, script)?? {
+        for step in steps.into_vec() {
+            if let Step::Do(op) = step {
+                requests.push(Request { tid, op: op.op })?;
+                tid = tid.saturating_add(1);
+            }
+        }
+    }
+    let words = write_requests(alloc, requests.as_slice())?;
+    Ok(words)
+}
+
+#[test]
+fn operations_are_compiled(rt: HostRuntime) -> Result<(), Fail> {
+    let cases = [
+        ("\"read b0:sys.id\"", [0x2000010f, 4].as_slice()),
+        (
+            "\"write b0:a.top 1\"",
+            [0x2000014f, 8, 0x7fffffff, 0x80000000].as_slice(),
+        ),
+        ("\"write b0:a 0x5\"", [0x2000011f, 8, 5].as_slice()),
+        ("\"readblock b0:mem 3\"", [0x2000030f, 0x100].as_slice()),
+        (
+            "\"writeblock b0:mem 1 2\"",
+            [0x2000021f, 0x100, 1, 2].as_slice(),
+        ),
+        ("\"rmwsum b0:a 7\"", [0x2000015f, 8, 7].as_slice()),
+        (
+            "\"\\t rmwbits\\tb0:a  1 2 \"",
+            [0x2000014f, 8, 1, 2].as_slice(),
+        ),
+        ("\"# read\", \"\", \" \\t\", \"dispatch\"", [].as_slice()),
+    ];
+    for (script, expected) in cases {
+        let words = words_of(rt.alloc(), script)?;
+        assert_eq!(rt; words.as_slice(), expected, "{script}");
+    }
+    Ok(())
+}
+
+#[test]
+fn faulty_lines_are_told(rt: HostRuntime) -> Result<(), Fail> {
+    let cases = [
+        ("\"reed b0:a\"", ScriptWhy::BadLine),
+        ("\"read b0a\"", ScriptWhy::BadLine),
+        ("\"read\"", ScriptWhy::BadLine),
+        ("\"write b0:a 0X10\"", ScriptWhy::BadLine),
+        ("\"write b0:a 00000000010\"", ScriptWhy::BadLine),
+        ("\"readblock b0:mem 0\"", ScriptWhy::BadLine),
+        ("\"dispatch now\"", ScriptWhy::BadLine),
+        ("\"read b1:a\"", ScriptWhy::UnknownBoard),
+        ("\"read :a\"", ScriptWhy::UnknownBoard),
+        ("\"read b0:zz\"", ScriptWhy::UnknownName),
+        ("\"read b0:a:top\"", ScriptWhy::UnknownName),
+        ("\"write b0:sys.id 1\"", ScriptWhy::NoPermission),
+        ("\"read b0:sys\"", ScriptWhy::WrongMode),
+        ("\"readblock b0:mem 601\"", ScriptWhy::PastSize),
+        ("\"write b0:a.top 2\"", ScriptWhy::BitsOutside),
+        ("\"rmwsum b0:a.top 1\"", ScriptWhy::NotWhole),
+    ];
+    for (script, why) in cases {
+        match steps_of(rt.alloc(), script)? {
+            Err(
+                ScriptRefusal::At {
+                    client,
+                    line,
+                    why: found,
+                },
+            ) => {
+                assert_eq!(rt; client, 1, "{script}");
+                assert_eq!(rt; line, 1, "{script}");
+                assert_eq!(rt; found, why, "{script}");
+            }
+            _ => Err("compiled")?,
+        }
+    }
+    Ok(())
+}
+
+#[test]
+fn the_steps_say_where_they_stand(rt: HostRuntime) -> Result<(), Fail> {
+    let script = "\"#\", \"read b0:a.top\", \"dispatch\"";
+    let clients = steps_of(rt.alloc(), script)??;
+    assert_eq!(rt; clients.len(), 1);
+    let steps = clients[0].as_slice();
+    assert_eq!(rt; steps.len(), 2);
+    match &steps[0] {
+        Step::Do(op) => {
+            assert_eq!(rt; op.line, 2);
+            assert_eq!(rt; op.verb, Verb::Read);
+            assert_eq!(rt; op.board, 0);
+            assert_eq!(rt; op.name.as_str(), "a.top");
+            assert_eq!(rt; op.mask, 0x8000_0000);
+        }
+        Step::Dispatch => Err("dispatch")?,
+    }
+    assert!(rt; matches!(&steps[1], Step::Dispatch));
+    Ok(())
+}
