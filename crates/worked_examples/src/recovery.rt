@@ -1,6 +1,6 @@
 //! An engine, a board and the datagrams between them, of which some are lost.
 
-ghost use Rattle.std.specs.Prelude.{◌≡◌};
+ghost use Rattle.std.specs.Prelude.{◌≡◌, ◌≤◌, ◌<◌, ◌+◌, IfOk};
 ghost use Rattle.reliable_engine.specs.Answers.{body_count};
 
 use board_bus::{Bus, Range, RangeKind};
@@ -74,49 +74,78 @@ fn settled(alloc: Global, engine: &mut Engine, datagram: &[u8]) -> Result<(u64, 
     }
 }
 
-#[test]
-fn what_is_lost_is_recovered(rt: HostRuntime) -> Result<(), Fail> {
-    let alloc = rt.alloc();
-    let mut board = board(alloc)?;
+/// The engine for a board, which told its status.
+fn greeted(alloc: Global, board: &mut Board) -> Result<Engine, Fail>
+    ensures { IfOk result (λ engine. body_count engine ≡ 0) }
+{
     let mut answer = Vec::new(alloc);
     board.hear(&write_status_request(), &mut answer)?;
     let settings = Settings::new(2, 16).ok_or("out of range")?;
-    let mut engine = Engine::new(alloc, settings, status(&answer)?)?;
+    Ok(Engine::new(alloc, settings, status(&answer)?)?)
+}
 
-    // The reply to the first body is lost: it is sent again, and nothing is executed twice.
+/// A body that adds 1 is offered, and its control packet is the datagram.
+fn offered(alloc: Global, engine: &mut Engine, tag: u64) -> Result<Vec<u8>, Fail>
+    requires { body_count engine.old < 100 }
+    ensures counted { body_count engine.new ≤ body_count engine.old + 1 }
+{
     let body = Words::from_vec(ADD_ONE.to_vec(alloc)?);
-    assert!(rt; engine.offer(7, body).is_ok());
-    let datagram = sent(alloc, &mut engine)?;
-    assert_eq!(rt; board.hear(&datagram, &mut answer)?, Heard::Replied);
-    assert!(rt; engine.waiting());
+    if engine.offer(tag, body).is_err() {
+        return Err("the body was refused".into());
+    }
+    sent(alloc, engine)
+}
+
+/// A receive is quiet, and the status of the board is asked for and heard: the datagram is what the engine sends then.
+fn recovering(alloc: Global, board: &mut Board, engine: &mut Engine) -> Result<Vec<u8>, Fail>
+    ensures counted { body_count engine.new ≤ body_count engine.old }
+{
+    if !engine.waiting() {
+        return Err("nobody waits".into());
+    }
     engine.on_quiet();
-    let datagram = sent(alloc, &mut engine)?;
-    assert_eq!(rt; board.hear(&datagram, &mut answer)?, Heard::StatusSent);
-    assert!(rt; engine.on_status(&status(&answer)?));
-    let datagram = sent(alloc, &mut engine)?;
+    let datagram = sent(alloc, engine)?;
+    let mut answer = Vec::new(alloc);
+    board.hear(&datagram, &mut answer)?;
+    if !engine.on_status(&status(&answer)?) {
+        return Err("the status tells no place".into());
+    }
+    sent(alloc, engine)
+}
+
+#[test]
+fn a_lost_reply_is_sent_again(rt: HostRuntime) -> Result<(), Fail> {
+    let alloc = rt.alloc();
+    let mut board = board(alloc)?;
+    let mut engine = greeted(alloc, &mut board)?;
+    let datagram = offered(alloc, &mut engine, 7)?;
+    let mut answer = Vec::new(alloc);
+    assert_eq!(rt; board.hear(&datagram, &mut answer)?, Heard::Replied);
+    // The answer is lost.
+    let datagram = recovering(alloc, &mut board, &mut engine)?;
     assert_eq!(rt; board.hear(&datagram, &mut answer)?, Heard::Resent);
     let (tag, place, words) = settled(alloc, &mut engine, &answer)?;
     assert_eq!(rt; (tag, place), (7, 1));
     assert_eq!(rt; words.as_slice(), [0x2000_0150, 0xabcd].as_slice());
     assert_eq!(rt; board.bus().read(4), Ok(0xabce));
+    Ok(())
+}
 
-    // The control packet of the second, whose identifier is 1, is lost: it is sent again.
-    let body = Words::from_vec(ADD_ONE.to_vec(alloc)?);
-    assert!(rt; engine.offer(8, body).is_ok());
-    let lost = sent(alloc, &mut engine)?;
-    assert!(rt; engine.waiting());
-    engine.on_quiet();
-    let datagram = sent(alloc, &mut engine)?;
-    assert_eq!(rt; board.hear(&datagram, &mut answer)?, Heard::StatusSent);
-    assert!(rt; engine.on_status(&status(&answer)?));
-    let datagram = sent(alloc, &mut engine)?;
+#[test]
+fn a_lost_packet_is_sent_again(rt: HostRuntime) -> Result<(), Fail> {
+    let alloc = rt.alloc();
+    let mut board = board(alloc)?;
+    let mut engine = greeted(alloc, &mut board)?;
+    let lost = offered(alloc, &mut engine, 8)?;
+    let datagram = recovering(alloc, &mut board, &mut engine)?;
     assert_eq!(rt; datagram, lost);
+    let mut answer = Vec::new(alloc);
     assert_eq!(rt; board.hear(&datagram, &mut answer)?, Heard::Replied);
     let (tag, place, words) = settled(alloc, &mut engine, &answer)?;
-    assert_eq!(rt; (tag, place), (8, 2));
-    assert_eq!(rt; words.as_slice(), [0x2000_0150, 0xabce].as_slice());
-    assert_eq!(rt; board.executed_len(), 2);
-    assert_eq!(rt; board.next().get(), 2);
+    assert_eq!(rt; (tag, place), (8, 1));
+    assert_eq!(rt; words.as_slice(), [0x2000_0150, 0xabcd].as_slice());
+    assert_eq!(rt; board.executed_len(), 1);
+    assert_eq!(rt; board.next().get(), 1); // 1 follows 65535
     Ok(())
 }
 
