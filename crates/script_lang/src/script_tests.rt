@@ -12,8 +12,12 @@ fn steps_of(alloc: Global, script: &str) -> Result<Result<Vec<Steps>, ScriptRefu
     let client = format!(in alloc; "[[client]]\nscript = [{script}]\n")?;
     let text = format!(in alloc; "{TABLES}{BOARD}{RANGES}{client}")?;
     let session = read_session(alloc, text.as_bytes())?;
+    let (boards, clients) = (session.boards.as_slice(), session.scripts.as_slice());
+    if boards.len() > MAX_BOARDS || clients.len() > MAX_CLIENTS {
+        return Err("a session has no more of them".into());
+    }
     let mut indexes: Vec<Index> = Vec::new(alloc);
-    for board in session.boards.as_slice() {
+    for board in boards {
         indexes.push(compile(alloc, &session.tables, board.table.as_str())?)?;
     }
     Ok(compile_scripts(alloc, &session, indexes.as_slice()))

@@ -142,7 +142,7 @@ fn the_first_document_is_read(rt: HostRuntime) -> Result<(), Fail> {
     assert_eq!(rt; session.settings.window(), 16);
     let main = session.tables.get("main").ok_or("no table")?;
     assert_eq!(rt; main.nodes.len(), 3);
-    let board = &session.boards.as_slice()[0];
+    let board = session.boards.as_slice().first().ok_or("no board")?;
     assert_eq!(rt; board.name.as_str(), "b0");
     assert_eq!(rt; board.table.as_str(), "main");
     let LinkSpec::Sim {
@@ -169,7 +169,9 @@ fn the_first_document_is_read(rt: HostRuntime) -> Result<(), Fail> {
     }
     let scripts = session.scripts.as_slice();
     assert_eq!(rt; scripts.len(), 1);
-    assert_eq!(rt; scripts[0].as_slice()[0].as_str(), "read b0:sys.id");
+    let lines = scripts[0].as_slice();
+    assert_eq!(rt; lines.len(), 1);
+    assert_eq!(rt; lines[0].as_str(), "read b0:sys.id");
     Ok(())
 }
 
@@ -194,8 +196,9 @@ fn the_realistic_session_is_read(rt: HostRuntime) -> Result<(), Fail> {
     }
     let scripts = session.scripts.as_slice();
     assert_eq!(rt; scripts.len(), 2);
-    assert_eq!(rt; scripts[0].as_slice().len(), 7);
-    assert_eq!(rt; scripts[0].as_slice()[4].as_str(), "dispatch");
+    let lines = scripts[0].as_slice();
+    assert_eq!(rt; lines.len(), 7);
+    assert_eq!(rt; lines[4].as_str(), "dispatch");
     assert!(rt; session.tables.get("channel").is_some());
     assert!(rt; session.tables.get("none").is_none());
     Ok(())
@@ -206,7 +209,7 @@ fn a_board_behind_udp_is_read(rt: HostRuntime) -> Result<(), Fail> {
     let text =
         "board = [{ name = \"u\", table = \"t\", link = \"udp\", address = \"10.0.255.1:50001\" }]";
     let session = read_session(rt.alloc(), text.as_bytes())?;
-    match &session.boards.as_slice()[0].link {
+    match &session.boards.as_slice().first().ok_or("no board")?.link {
         LinkSpec::Udp {
             address,
             port,
