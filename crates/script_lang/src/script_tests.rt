@@ -5,7 +5,7 @@ use crate::tests::{BOARD, RANGES, TABLES};
 use node_tree::{Index, compile};
 use std::alloc::Global;
 use std::test::*;
-use transaction_codec::{Request, write_requests};
+use transaction_codec::{Op, put_request};
 
 /// The steps of one client's script, given as the items of its array.
 fn steps_of(alloc: Global, script: &str) -> Result<Result<Vec<Steps>, ScriptRefusal>, Fail> {
@@ -23,19 +23,27 @@ fn steps_of(alloc: Global, script: &str) -> Result<Result<Vec<Steps>, ScriptRefu
     Ok(compile_scripts(alloc, &session, indexes.as_slice()))
 }
 
+/// Appends the request of an operation.
+fn put_operation(words: &mut Vec<u32>, tid: u16, op: &Op) -> Result<(), Fail> {
+    let op = op.as_op_ref();
+    if tid >= 4096 || op.count() >= 256 {
+        return Err("no header has room for it".into());
+    }
+    Ok(put_request(words, tid, &op)?)
+}
+
 /// The words of the requests of a script that compiles, numbered from 0.
 fn words_of(alloc: Global, script: &str) -> Result<Vec<u32>, Fail> {
-    let mut requests = Vec::new(alloc);
+    let mut words = Vec::new(alloc);
     let mut tid = 0u16;
     for steps in steps_of(alloc, script)?? {
-        for step in steps.into_vec() {
+        for step in steps.as_slice() {
             if let Step::Do(op) = step {
-                requests.push(Request { tid, op: op.op })?;
+                put_operation(&mut words, tid, &op.op)?;
                 tid = tid.saturating_add(1);
             }
         }
     }
-    let words = write_requests(alloc, requests.as_slice())?;
     Ok(words)
 }
 
