@@ -36,7 +36,6 @@ pub fn a_first_fault_is_the_only_one()
 {}
 
 /// The numbers of a session lie in the ranges of their keys, and its boards and clients within the limits of a session.
-
 pub fn a_session_keeps_its_limits()
     ensures boards { (bytes : List ℕ) (session : Session)
         → spec.StandsFor bytes session → AllByRecursion KeepsRules session.boards }
