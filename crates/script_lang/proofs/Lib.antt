@@ -8,6 +8,7 @@ pub mod BoardNames
 pub mod Answered
 pub mod InOrder
 pub mod OneAnswer
+pub mod Kept
 pub mod InRanges
 pub mod LineWords
 pub mod MaskedValues
