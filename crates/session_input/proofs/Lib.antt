@@ -1,0 +1,2 @@
+pub mod ToldFirst
+pub mod Told

@@ -14,7 +14,6 @@ use crate::refusal::{MAX_DOCUMENT, Refusal, Unread};
 use address_table::TableRefusal;
 use node_tree::Index;
 use script_lang::{ScriptRefusal, Session, SessionRefusal, Steps, compile_scripts, read_session};
-use script_lang::laws::a_session_keeps_its_limits;
 use std::alloc::Global;
 
 /// A session that can be run, and the steps of its clients in order.
@@ -32,7 +31,6 @@ pub fn read_for_run(alloc: Global, bytes: &[u8]) -> Result<Runnable, Unread>
     // Each operation of the steps can be packed, whatever packets its board takes.
     ensures packed { IfOk result (λ read. AllByRecursion (AllByRecursion CanBePacked) read.steps.items) }
 {
-    a_session_keeps_its_limits();
     let session = read(alloc, bytes)?;
     let steps = steps_of(alloc, &session)?;
     Ok(Runnable { session, steps })
@@ -45,13 +43,15 @@ pub fn read_for_check(alloc: Global, bytes: &[u8], table: &str) -> Result<Index,
     ensures refused { IfErr result (spec.Tells (spec.Deserves (spec.BreaksInCheck table.now) bytes.now)) }
 {
     let session = read(alloc, bytes)?;
-    index_of(alloc, &session.tables, table)
+    let index = index_of(alloc, &session.tables, table)?;
+    Ok(index)
 }
 
 /// The session that bytes stand for.
 fn read(alloc: Global, bytes: &[u8]) -> Result<Session, Unread>
     ensures fits { OnOk result (length bytes.now ≤ document_bytes) }
     ensures stands { IfOk result (StandsFor bytes.now) }
+    ensures within { IfOk result IsWithin }
     ensures refused { IfErr result (spec.Tells (spec.DeservesUnread bytes.now)) }
 {
     if bytes.len() > MAX_DOCUMENT {

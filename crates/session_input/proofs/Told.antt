@@ -1,0 +1,15 @@
+-- A refusal that is told for one reason is told for a weaker one.
+use Rattle.std.proofs.Common.{Result, IfErr}
+use Rattle.std.proofs.lemmas.Result.{IfErr-weaker}
+use Rattle.session_input.specs.declared.refusal.Refusal.{Refusal}
+use Rattle.session_input.specs.declared.refusal.Unread.{Unread}
+use Rattle.session_input.specs.declared.refusal.Unread.TheVariants as unread
+use Rattle.session_input.specs.Deserved.{Tells}
+
+weaker : (P Q : Refusal → Type 0) → ((r : Refusal) → P r → Q r) → (u : Unread) → Tells P u → Tells Q u
+weaker P Q gives (unread.Refused refusal) told = gives refusal told
+weaker P Q gives unread.NoMemory told = tt
+
+pub told_by : {T : Type 0} (result : Result T Unread) (P Q : Refusal → Type 0) → ((r : Refusal) → P r → Q r)
+    → IfErr result (Tells P) → IfErr result (Tells Q)
+told_by result P Q gives told = IfErr-weaker result (Tells P) (Tells Q) (weaker P Q gives) told
