@@ -1,2 +1,5 @@
 pub mod ToldFirst
 pub mod Told
+pub mod OneAnswer
+pub mod Moved
+pub mod OneText

@@ -2,3 +2,4 @@ pub mod Numbers
 pub mod Names
 pub mod Lines
 pub mod Deserved
+pub mod Below

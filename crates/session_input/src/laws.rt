@@ -1,10 +1,44 @@
 //! Laws of the definitions. These functions do nothing when they run: their clauses are what is proved.
 
-ghost use Rattle.std.specs.Prelude.{◌≡◌};
+ghost use Rattle.std.specs.Prelude.{◌≡◌, ℕ, List};
+ghost use Rattle.node_tree.specs.Maps.{RegisterMap};
+ghost use Rattle.script_lang.specs.Document.{SameSession};
+ghost use Rattle.script_lang.specs.declared.operation.Step.{Step};
+ghost use Rattle.script_lang.specs.declared.session.Session.{Session};
+ghost use Rattle.session_input.specs.Deserved.{BreaksInCheck, BreaksInRun, Deserves, IsListed, IsRunnable};
 ghost use Rattle.session_input.specs.Numbers.{document_bytes};
+ghost use Rattle.session_input.specs.declared.refusal.Refusal.{Refusal};
 ghost use Rattle.session_input.specs.declared.refusal.TheConstants.{MAX_DOCUMENT};
+
+use crate::below::{document_laws, table_laws};
 
 /// The limit of a document.
 pub fn limits()
     ensures { MAX_DOCUMENT ≡ document_bytes }
 {}
+
+/// Bytes that can be run have one session, node for node, and one list of steps; others deserve at most one refusal.
+pub fn bytes_have_one_answer_to_run()
+    ensures session { (bytes : List ℕ) (s t : Session) (steps more : List (List Step))
+        → IsRunnable bytes s steps → IsRunnable bytes t more → SameSession s t × (steps ≡ more) }
+    ensures refusal { (bytes : List ℕ) (r q : Refusal)
+        → Deserves BreaksInRun bytes r → Deserves BreaksInRun bytes q → r ≡ q }
+    ensures not_both { (bytes : List ℕ) (session : Session) (steps : List (List Step)) (refusal : Refusal)
+        → IsRunnable bytes session steps → ¬ Deserves BreaksInRun bytes refusal }
+{
+    document_laws();
+    table_laws();
+}
+
+/// Bytes whose table can be listed have one index of it; others deserve at most one refusal.
+pub fn bytes_have_one_answer_to_check()
+    ensures index { (bytes root : List ℕ) (index other : RegisterMap)
+        → IsListed bytes root index → IsListed bytes root other → index ≡ other }
+    ensures refusal { (bytes root : List ℕ) (r q : Refusal)
+        → Deserves (BreaksInCheck root) bytes r → Deserves (BreaksInCheck root) bytes q → r ≡ q }
+    ensures not_both { (bytes root : List ℕ) (index : RegisterMap) (refusal : Refusal)
+        → IsListed bytes root index → ¬ Deserves (BreaksInCheck root) bytes refusal }
+{
+    document_laws();
+    table_laws();
+}

@@ -2,6 +2,7 @@
 //! its tables, or the first rule that they break, as a line that tells it.
 #![tactic(auto)]
 
+mod below;
 mod checking;
 pub mod laws;
 mod lines;

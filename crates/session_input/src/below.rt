@@ -1,0 +1,27 @@
+//! Laws of the crates below, put together. These functions do nothing when they run.
+
+ghost use Rattle.session_input.specs.Below.{DocumentLaws, TableLaws};
+
+use node_tree::laws::{
+    a_refusal_is_the_only_one, an_index_is_determined_by_tables_and_root,
+    tables_that_are_the_same_compile_alike, tables_that_keep_the_rules_are_not_refused,
+};
+use script_lang::laws::{a_document_stands_for_one_session, a_first_fault_is_the_only_one};
+
+/// A document stands for one session or has one first fault.
+pub(crate) fn document_laws()
+    ensures { DocumentLaws }
+{
+    a_document_stands_for_one_session();
+    a_first_fault_is_the_only_one();
+}
+
+/// Tables compile into one index or are refused in one way.
+pub(crate) fn table_laws()
+    ensures { TableLaws }
+{
+    tables_that_keep_the_rules_are_not_refused();
+    a_refusal_is_the_only_one();
+    an_index_is_determined_by_tables_and_root();
+    tables_that_are_the_same_compile_alike();
+}
