@@ -16,3 +16,4 @@ pub mod RunsTell
 pub mod Packable
 pub mod Asking
 pub mod FewPieces
+pub mod Faultless
