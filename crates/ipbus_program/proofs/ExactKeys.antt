@@ -1,5 +1,5 @@
 -- A table that has some different keys, and no more keys than these, has exactly these.
-use Rattle.std.proofs.Common.{◌≡◌, ◌⊎◌, inl, inr, ℕ, ◌+◌, ◌≤◌, List, [], ◌∷◌, length, Bool, true, false, Option, Some, None, Ordering, Less, Equal, Greater, nat_cmp, refl, sym, ap, ◌∙◌, subst, arith}
+use Rattle.std.proofs.Common.{◌≡◌, ◌⊎◌, inl, inr, ℕ, ◌+◌, ◌≤◌, List, [], ◌∷◌, length, true, false, Some, None, Ordering, Less, Equal, Greater, nat_cmp, refl, sym, ap, ◌∙◌, subst, arith}
 use Rattle.std.specs.Ordering.{match_ordering, is_eq}
 use Rattle.std.specs.Cmp.Lexicographic.{slice_cmp}
 use Rattle.std.specs.List.{AllByRecursion}
@@ -58,7 +58,7 @@ one_less key (e ∷ es) h =
     (λ is. rw is (omega (arith, rest)))
     (λ is.
     let stay : without key es ≡ es =
-        others_stay key es (subst (λ k. AllByRecursion (λ other. IsOtherKey other.0 k) es) (same_name e.0 key is) h.0) in
+    others_stay key es (subst (λ k. AllByRecursion (λ other. IsOtherKey other.0 k) es) (same_name e.0 key is) h.0) in
     rw (is, stay) (omega arith))
     (λ is. rw is (omega (arith, rest)))
 
@@ -132,7 +132,7 @@ module _ (P : List ℕ → Data → Type 0) where
       (λ found. (
         found,
         each_member ms (without key es) (still_apart key es apart) (in_rest key value ms es inside) (kept_of (λ e. P e.0 e.1) key es holds)
-        (omega (arith, one_less key es apart, few)),
+            (omega (arith, one_less key es apart, few)),
       ))
       (first_is key value ms es inside holds)
 

@@ -1,16 +1,16 @@
 -- A range, a board and a client of the first form are those of a whole session document.
-use Rattle.std.proofs.Common.{◌≡◌, ℕ, ◌+◌, ◌^◌, ◌≤◌, ◌<◌, pos, List, [], ◌∷◌, ◌++◌, codes, length, map, Bool, true, false, Option, Some, None, nat_lt, lt-ltb, refl, sym, ap, ap₂, subst, ◌∙◌, arith}
+use Rattle.std.proofs.Common.{◌≡◌, ℕ, ◌^◌, ◌≤◌, ◌<◌, List, [], ◌∷◌, codes, length, map, true, Some, None, lt-ltb, refl, ap, arith}
 use Rattle.std.proofs.lemmas.Bool.Decides.{nat_tests}
 use Rattle.std.specs.List.{AllByRecursion, AllZip}
 use Rattle.std.specs.Option.{is_some}
-use Rattle.toml.specs.Data.{Data, Items, no_items, item, Members, no_members, member, string, array, table, get_member, as_str}
+use Rattle.toml.specs.Data.{Data, Items, no_items, item, Members, no_members, member, string, array, get_member, as_str}
 use Rattle.address_table.specs.Numbers.{is_between, number}
 use Rattle.board_bus.specs.declared.kind.RangeKind.TheVariants.{Rw}
 use Rattle.script_lang.specs.Fields.{ruled_number, numbers_in, texts_in}
 use Rattle.script_lang.specs.Fields.{values as items_of}
-use Rattle.script_lang.specs.Keys.{KeyRule, word, kind_at, is_udp, board_keys, range_keys, client_keys, sim_keys_with_noise}
+use Rattle.script_lang.specs.Keys.{KeyRule, word, kind_at, board_keys, range_keys, client_keys, sim_keys_with_noise}
 use Rattle.script_lang.specs.Sessions.{range_of, board_of, script_of}
-use Rattle.script_lang.specs.Walk.{value_faults, keys_faults, missing, table_faults}
+use Rattle.script_lang.specs.Walk.{value_faults, keys_faults, table_faults}
 use Rattle.script_lang.proofs.Faultless.{numbers_kept, texts_kept}
 use Rattle.ipbus_program.specs.declared.session.Register.{Register}
 use Rattle.ipbus_program.specs.declared.session.BoardSpec.{BoardSpec}

@@ -1,16 +1,16 @@
 -- A document of the first form is a whole session document, and stands for one session there.
-use Rattle.std.proofs.Common.{◌≡◌, ℕ, ◌≤◌, List, [], ◌∷◌, ◌++◌, codes, length, map, cond, true, false, Option, Some, None, Ordering, Less, Equal, Greater, nat_cmp, refl, sym, ap, subst, ◌∙◌, arith}
+use Rattle.std.proofs.Common.{◌≡◌, ◌≤◌, List, [], ◌∷◌, codes, length, map, cond, Some, None, Ordering, Less, Equal, Greater, nat_cmp, refl, sym, arith}
 use Rattle.std.specs.Ordering.{match_ordering, is_eq}
 use Rattle.std.specs.Cmp.Lexicographic.{slice_cmp}
 use Rattle.std.specs.FinMap.{get, insert, empty, get-insert, get-empty}
-use Rattle.std.specs.List.{AllByRecursion, AllZip}
+use Rattle.std.specs.List.{AllZip}
 use Rattle.std.proofs.lemmas.Cmp.{nat_list_cmp_total}
-use Rattle.toml.specs.Data.{Data, Items, no_items, item, Members, no_members, member, array, table, get_member}
+use Rattle.toml.specs.Data.{Data, no_items, item, Members, no_members, member, array, table, get_member}
 use Rattle.address_table.proofs.Faults.{table-faultless}
 use Rattle.address_table.specs.Tables.{IsTable}
 use Rattle.address_table.specs.declared.nodes.Table.{Table}
-use Rattle.node_tree.specs.Maps.{Name, TableMap}
-use Rattle.script_lang.specs.Document.{misfits, size_faults, duplicates, tables_faults, faults, IsTableAt, IsSession}
+use Rattle.node_tree.specs.Maps.{Name}
+use Rattle.script_lang.specs.Document.{size_faults, duplicates, tables_faults, faults, IsTableAt, IsSession}
 use Rattle.script_lang.specs.Keys.{document_keys, kind_at}
 use Rattle.script_lang.specs.Sessions.{settings_of, boards_of, scripts_of, tables_of}
 use Rattle.script_lang.specs.Walk.{value_faults, shape_faults}
@@ -18,7 +18,7 @@ use Rattle.ipbus_program.specs.declared.session.Session.{Session}
 use Rattle.ipbus_program.specs.Fields.{member_count}
 use Rattle.ipbus_program.specs.FirstForm.{IsFirstForm}
 use Rattle.ipbus_program.specs.WholeSession.{IsRegisterNode, whole_board, read_line, whole_session}
-use Rattle.ipbus_program.proofs.ExactKeys.{Entry, IsOtherKey, AreApart, AreIn, EachMember, each_member, absent_key}
+use Rattle.ipbus_program.proofs.ExactKeys.{Entry, AreApart, AreIn, EachMember, each_member, absent_key}
 use Rattle.ipbus_program.proofs.WholeBoards.{keys_kept, board_kept, board_read, client_kept, script_read}
 use Rattle.ipbus_program.proofs.WholeNodes.{table_nodes}
 

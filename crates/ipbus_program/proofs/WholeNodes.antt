@@ -1,12 +1,12 @@
 -- The nodes of the first form are nodes of a register table.
-use Rattle.std.proofs.Common.{◌≡◌, ℕ, ◌^◌, ◌≤◌, pos, List, [], ◌∷◌, codes, length, Bool, true, false, Option, Some, None, nat_lt, lt-ltb, refl, sym, arith}
+use Rattle.std.proofs.Common.{◌≡◌, ℕ, ◌^◌, ◌≤◌, List, [], ◌∷◌, codes, length, true, Some, None, lt-ltb, refl, arith}
 use Rattle.std.specs.List.{AllByRecursion, AllZip}
-use Rattle.toml.specs.Data.{Data, Items, no_items, item, Members, no_members, member, string, array, table, get_member}
-use Rattle.address_table.specs.Keys.{is_node_key, has_node_keys, text_at, address_at, mask_at, size_at, permission_at, mode_at, module_at}
+use Rattle.toml.specs.Data.{Data, Items, no_items, item, Members, no_members, member, string, get_member}
+use Rattle.address_table.specs.Keys.{is_node_key, has_node_keys, address_at}
 use Rattle.address_table.specs.Rules.{has_texts, has_shape, broken_rule}
 use Rattle.address_table.specs.Tables.{SaysKeys, children, AreNodes, none, more, node}
 use Rattle.address_table.specs.Tables.{IsNode as IsTableNode}
-use Rattle.address_table.specs.declared.nodes.Node.{Node, out-Node}
+use Rattle.address_table.specs.declared.nodes.Node.{Node}
 use Rattle.ipbus_program.specs.declared.session.Register.{Register}
 use Rattle.ipbus_program.specs.Fields.{values, member_count}
 use Rattle.ipbus_program.specs.FirstForm.{IsNode}

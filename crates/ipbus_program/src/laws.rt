@@ -59,9 +59,12 @@ pub fn reading_is_the_form()
 /// script: one table, whose nodes are whole words that may be read and written; one simulated board, of one range of read-write
 /// words; one client, whose lines read the same registers in the same order. What the document leaves out has its default.
 pub fn the_first_form_is_a_session_document()
-    ensures { (document : Members) (session : Session) (form : IsFirstForm document session) (table : Table)
+    ensures stands { (document : Members) (session : Session) (form : IsFirstForm document session) (table : Table)
         → AllZip IsRegisterNode form.registers table.nodes.items
         → IsSession document (whole_session form.table_name table session) }
+    ensures table_there { (alloc : Global) (document : Members) (session : Session)
+        (form : IsFirstForm document session)
+        → (table : Table) × AllZip IsRegisterNode form.registers table.nodes.items }
 {}
 
 /// Any bytes have just one answer: they are a document of one session, or they deserve one refusal.
