@@ -17,3 +17,8 @@ pub mod FormRegisters
 pub mod FormBoards
 pub mod FormScripts
 pub mod FormWhole
+pub mod ExactKeys
+pub mod WholeNodes
+pub mod WholeBoards
+pub mod WholeForm
+pub mod WholeTable

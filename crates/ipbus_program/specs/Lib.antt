@@ -2,6 +2,7 @@ pub mod Numbers
 pub mod Fields
 pub mod Reading
 pub mod FirstForm
+pub mod WholeSession
 pub mod Document
 pub mod Plan
 pub mod History

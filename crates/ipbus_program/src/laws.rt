@@ -3,7 +3,10 @@
 ghost use Rattle.std.specs.Prelude.{◌≡◌, ◌≤◌, ◌+◌, ◌*◌, ◌↔◌, ◌⊎◌, ℕ, List, [], ◌∷◌, ◌++◌, length, map, replicate};
 ghost use Rattle.std.specs.Prelude.{Option, Some, None, String};
 ghost use Rattle.std.specs.declared.alloc.Global.{Global};
+ghost use Rattle.std.specs.List.{AllZip};
 ghost use Rattle.toml.specs.Data.{Members};
+ghost use Rattle.address_table.specs.declared.nodes.Table.{Table};
+ghost use Rattle.script_lang.specs.Document.{IsSession};
 ghost use Rattle.ipb_base.specs.Numbers.{payload_of};
 ghost use Rattle.board_bus.specs.Bodies.{run_body};
 ghost use Rattle.ipbus_program.specs.declared.session.Register.{Register};
@@ -21,6 +24,7 @@ ghost use Rattle.ipbus_program.specs.Text.{client_heading, board_text, value_lin
 ghost use Rattle.ipbus_program.specs.Reading.{session_of};
 ghost use Rattle.ipbus_program.specs.declared.answer.Refusal.{Refusal};
 ghost use Rattle.ipbus_program.specs.FirstForm.{IsFirstForm};
+ghost use Rattle.ipbus_program.specs.WholeSession.{IsRegisterNode, whole_session};
 ghost use Rattle.ipbus_program.specs.Owed.{IsAccepted, Deserves, IsTranscriptOf, Owes};
 
 use crate::below::laws_below;
@@ -49,6 +53,18 @@ pub fn reading_is_the_form()
     // Reading gives nothing exactly where the document is of the form for no session.
     ensures refused { (document : Members)
         → (session_of document ≡ None) ↔ ((session : Session) → ¬ IsFirstForm document session) }
+{}
+
+/// A document of the first form is a whole session document too, and stands there for the session of its table, its board and its
+/// script: one table, whose nodes are whole words that may be read and written; one simulated board, of one range of read-write
+/// words; one client, whose lines read the same registers in the same order. What the document leaves out has its default.
+pub fn the_first_form_is_a_session_document()
+    ensures stands { (document : Members) (session : Session) (form : IsFirstForm document session) (table : Table)
+        → AllZip IsRegisterNode form.registers table.nodes.items
+        → IsSession document (whole_session form.table_name table session) }
+    ensures table_there { (alloc : Global) (document : Members) (session : Session)
+        (form : IsFirstForm document session)
+        → (table : Table) × AllZip IsRegisterNode form.registers table.nodes.items }
 {}
 
 /// Any bytes have just one answer: they are a document of one session, or they deserve one refusal.

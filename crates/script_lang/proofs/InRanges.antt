@@ -1,25 +1,25 @@
 -- The numbers of a session lie in their ranges, its fates are known, and it has so many boards and clients.
-use Rattle.std.proofs.Common.{◌≡◌, ℕ, ◌^◌, ◌≤◌, ◌<◌, ◌==◌, if◌then◌else◌, List, [], ◌∷◌, ◌++◌, length, Bool, true, false, Option, Some, None, codes, nat_lt, refl, subst, arith}
+use Rattle.std.proofs.Common.{◌≡◌, ℕ, ◌≤◌, ◌==◌, if◌then◌else◌, List, [], ◌∷◌, ◌++◌, length, Bool, true, false, Option, Some, None, codes, nat_lt, refl, subst, arith}
 use Rattle.std.specs.List.{AllByRecursion, list_all}
-use Rattle.std.specs.Option.{option_and_then, unwrap_or, is_some}
+use Rattle.std.specs.Option.{option_and_then, unwrap_or}
 use Rattle.toml.specs.Data.{Data, Members, get_member, as_str, as_table}
 use Rattle.address_table.specs.Numbers.{number}
 use Rattle.address_table.specs.Rules.{has_key, holds_of}
 use Rattle.script_lang.specs.declared.session.Session.{Session}
-use Rattle.script_lang.specs.Document.{Fault, breaks, misfits, size_faults, duplicates, tables_faults, StandsFor}
+use Rattle.script_lang.specs.Document.{Fault, breaks, misfits, size_faults, duplicates, StandsFor}
 use Rattle.script_lang.specs.declared.refusal.DocWhy.TheVariants.{NoBoards, ManyBoards}
 use Rattle.script_lang.specs.declared.refusal.TheConstants.{MAX_BOARDS, MAX_CLIENTS}
 use Rattle.std.proofs.lemmas.Bool.Decides.{nat_tests}
 use Rattle.script_lang.specs.Fields.{items_at, tables_in, text_at, ruled_number}
 use Rattle.script_lang.specs.declared.keys.ItemKind.TheVariants as items
-use Rattle.script_lang.specs.declared.keys.Kind.TheVariants.{Number, Text}
+use Rattle.script_lang.specs.declared.keys.Kind.TheVariants.{Number}
 use Rattle.script_lang.specs.declared.keys.TableKind.TheVariants.{Board}
 use Rattle.script_lang.specs.declared.keys.TextRule.TheVariants.{Fates}
-use Rattle.script_lang.specs.Keys.{document_keys, sim_keys, board_keys, is_udp, kind_at}
-use Rattle.script_lang.specs.Limits.{IsBetween, AreFates, IsSimulated, LinkKeepsRules, KeepsRules, IsWithin}
+use Rattle.script_lang.specs.Keys.{document_keys, sim_keys, board_keys, is_udp}
+use Rattle.script_lang.specs.Limits.{IsBetween, AreFates, LinkKeepsRules, KeepsRules, IsWithin}
 use Rattle.script_lang.specs.Sessions.{boards_of, scripts_of, script_of, board_of, link_of, sim_of, udp_of, fates_of}
 use Rattle.script_lang.specs.Texts.{is_fate, keeps}
-use Rattle.script_lang.specs.Walk.{value_faults, keys_faults, table_faults, missing, shape_faults}
+use Rattle.script_lang.specs.Walk.{keys_faults, table_faults, missing, shape_faults}
 use Rattle.script_lang.proofs.Kept.{parts_none, mapped_none, no_fault, kept_value, items_kept, each_table}
 use Rattle.script_lang.proofs.Numbers.{between-checked, are_limits}
 

@@ -1,5 +1,5 @@
 -- What stands under the keys of a table without faults.
-use Rattle.std.proofs.Common.{◌≡◌, ℕ, ◌+◌, List, [], ◌∷◌, ◌++◌, length, map, Bool, true, false, Option, Some, None, Ordering, Less, Equal, Greater, nat_cmp, refl, sym, ap, ◌∙◌, subst, arith}
+use Rattle.std.proofs.Common.{◌≡◌, ℕ, ◌+◌, List, [], ◌∷◌, ◌++◌, length, map, Bool, true, false, Option, Some, None, Ordering, Less, Equal, Greater, nat_cmp, refl, subst, arith}
 use Rattle.std.specs.Ordering.{match_ordering}
 use Rattle.std.specs.Cmp.Lexicographic.{slice_cmp}
 use Rattle.std.specs.List.{AllByRecursion}
@@ -8,11 +8,10 @@ use Rattle.script_lang.specs.declared.keys.ItemKind.{ItemKind}
 use Rattle.script_lang.specs.declared.keys.ItemKind.TheVariants as items
 use Rattle.script_lang.specs.declared.keys.Kind.TheVariants.{Array}
 use Rattle.script_lang.specs.declared.keys.TableKind.{TableKind}
-use Rattle.script_lang.specs.declared.steps.PathStep.{PathStep}
 use Rattle.script_lang.specs.declared.steps.PathStep.TheVariants.{Key, Item}
 use Rattle.script_lang.specs.Fields.{values, items_at, tables_in}
 use Rattle.script_lang.specs.Keys.{KeyRule, keys_of, kind_at}
-use Rattle.script_lang.specs.Walk.{Way, below, unless, value_faults, items_faults, item_faults, keys_faults, table_faults}
+use Rattle.script_lang.specs.Walk.{below, unless, value_faults, items_faults, item_faults, keys_faults, table_faults}
 use Rattle.script_lang.proofs.TableLists.{same_name}
 
 -- lists that are empty when put together

@@ -15,3 +15,5 @@ pub mod MaskedValues
 pub mod RunsTell
 pub mod Packable
 pub mod Asking
+pub mod FewPieces
+pub mod Faultless

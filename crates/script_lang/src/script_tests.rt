@@ -7,17 +7,16 @@ use std::alloc::Global;
 use std::test::*;
 use transaction_codec::{Op, put_request};
 
+/// A register that takes any number of words.
+const PORT: &str = "[[tables.main]]\nid = \"port\"\nmode = \"port\"\n";
+
 /// The steps of one client's script, given as the items of its array.
 fn steps_of(alloc: Global, script: &str) -> Result<Result<Vec<Steps>, ScriptRefusal>, Fail> {
     let client = format!(in alloc; "[[client]]\nscript = [{script}]\n")?;
-    let text = format!(in alloc; "{TABLES}{BOARD}{RANGES}{client}")?;
+    let text = format!(in alloc; "{TABLES}{PORT}{BOARD}{RANGES}{client}")?;
     let session = read_session(alloc, text.as_bytes())?;
-    let (boards, clients) = (session.boards.as_slice(), session.scripts.as_slice());
-    if boards.len() > MAX_BOARDS || clients.len() > MAX_CLIENTS {
-        return Err("a session has no more of them".into());
-    }
     let mut indexes: Vec<Index> = Vec::new(alloc);
-    for board in boards {
+    for board in session.boards.as_slice() {
         indexes.push(compile(alloc, &session.tables, board.table.as_str())?)?;
     }
     Ok(compile_scripts(alloc, &session, indexes.as_slice()))
@@ -110,6 +109,27 @@ fn faulty_lines_are_told(rt: HostRuntime) -> Result<(), Fail> {
             }
             _ => Err("compiled")?,
         }
+    }
+    Ok(())
+}
+
+#[test]
+fn words_are_counted_through_the_clients(rt: HostRuntime) -> Result<(), Fail> {
+    let first = "\"readblock b0:port 1048576\"";
+    assert!(rt; steps_of(rt.alloc(), first)?.is_ok());
+    let script = format!(in rt.alloc();
+        "{first}]\n[[client]]\nscript = [\"read b0:a\", \"readblock b0:port 1\", \"\""
+    )?;
+    match steps_of(rt.alloc(), script.as_str())? {
+        Err(refusal) => assert_eq!(rt;
+            refusal,
+            ScriptRefusal::At {
+                client: 2,
+                line: 2,
+                why: ScriptWhy::TooMany,
+            }
+        ),
+        Ok(_) => Err("compiled")?,
     }
     Ok(())
 }

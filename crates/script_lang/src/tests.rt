@@ -100,6 +100,18 @@ script = ["read fe0:id", "write fe0:ch0.ctrl.gain 5",
 script = ["rmwbits fe1:ch1.ctrl 0xffffff0f 0x30", "read fe1:ch1.ctrl.gain"]
 "#;
 
+/// Boards whose names come again, the later name first.
+const TWO_NAMES_TWICE: &str = r#"
+board = [{ name = "a", table = "" }, { name = "b", table = "" },
+  { name = "b", table = "" }, { name = "a", table = "" }]
+"#;
+
+/// Boards of one name, and a faulty table.
+const TWINS_AND_TABLE: &str = r#"
+tables.main = 1
+board = [{ name = "a", table = "main" }, { name = "a", table = "main" }]
+"#;
+
 /// The first document, with lines of its own at the top, in its board and after it.
 fn document(alloc: Global, top: &str, board: &str, end: &str) -> Result<String, Fail> {
     Ok(format!(in alloc; "{top}{TABLES}{BOARD}{board}{RANGES}{CLIENT}{end}")?)
@@ -295,6 +307,9 @@ fn small_documents_are_refused(rt: HostRuntime) -> Result<(), Fail> {
         ("a = ", "document  NotToml"),
         ("tables = 1", "document tables Shape"),
         ("tables = { \"a b\" = [] }", "document tables.a b Shape"),
+        ("x = 1", "document x Shape"),
+        (TWO_NAMES_TWICE, "document board.2.name DuplicateBoard"),
+        (TWINS_AND_TABLE, "document board.1.name DuplicateBoard"),
     ];
     for (text, expected) in cases {
         let found = refused(rt.alloc(), text)?;
