@@ -6,3 +6,4 @@ pub mod Session
 pub mod Text
 pub mod Listing
 pub mod Examples
+pub mod Steps

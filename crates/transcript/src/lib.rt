@@ -12,6 +12,7 @@ pub mod examples;
 mod line;
 mod outcome;
 mod planned;
+mod results;
 mod text;
 
 pub use board_run::{BoardRun, ClientPart, ClientParts};
