@@ -26,3 +26,17 @@ ends_on client run = option_map_or ends_of (slice_get run.parts client) []
 -- line `number` of a client, operation `k`, from 0, of those on its board
 abbrev pub line_on : ℕ → ℕ → ℕ → RegOp → BoardRun → OpLine
 line_on client number k op run = line_with number op run.name (showing run client k op)
+
+-- one more at a place that is there
+abbrev pub bumped : ℕ → List ℕ → List ℕ
+bumped at counts = slice_set counts at (slice_index counts at + 1)
+
+abbrev pub AreBelow : ℕ → List ℕ → Type 0
+AreBelow most counts = (b : ℕ) → slice_index counts b ≤ most
+
+-- where a client's first `i` steps have these lines, so many operations, and so many on each board
+pub record IsProgress (runs : List BoardRun) (client : ℕ) (steps : List Step) (i : ℕ) (made : List OpLine) (number : ℕ) (counts : List ℕ) : Type 0 where
+  pub lines : made ++ lines_behind runs client (operations (take i steps)) (operations (drop i steps)) ≡ client_lines runs client steps
+  pub operations' : number ≡ length (operations (take i steps))
+  pub boards : length counts ≡ length runs
+  pub counts' : (b : ℕ) → b < length runs → slice_index counts b ≡ count_on b (operations (take i steps))

@@ -10,6 +10,7 @@ mod board_run;
 mod body_end;
 pub mod examples;
 mod line;
+mod lines;
 mod outcome;
 mod planned;
 mod results;

@@ -1,8 +1,9 @@
 //! The bodies that a client asks a board to execute.
 
-ghost use Rattle.std.specs.Prelude.{◌≡◌};
+ghost use Rattle.std.specs.Prelude.{◌≡◌, Some, None, MatchOption, IfSome, slice_get};
 ghost use Rattle.std.specs.List.{AllByRecursion};
 ghost use Rattle.transaction_codec.specs.Request.{SpellsRequests};
+ghost use Rattle.transcript.specs.Plan.{IsWithinBody};
 
 use ipb_base::Words;
 use std::marker::Model;
@@ -74,10 +75,13 @@ impl Planned {
         self.bodies.as_slice()
     }
 
-    /// Where the pieces of each of the client's operations on the board stand, in the order of the operations.
-    pub fn pieces(&self) -> &[OpPieces]
-        ensures { result.now ≡ self.now.pieces }
+    /// Where the pieces of operation `op`, from 0, of those of the client on the board stand; none where it has fewer.
+    pub fn pieces(&self, op: usize) -> Option<&[PieceAt]>
+        ensures pieces { MatchOption result (slice_get self.now.pieces op ≡ None)
+            (λ pieces. slice_get self.now.pieces op ≡ Some pieces.now) }
+        ensures within { IfSome result (λ pieces. AllByRecursion IsWithinBody pieces.now) }
     {
-        self.pieces.as_slice()
+        let pieces = self.pieces.get(op)?;
+        Some(pieces.as_slice())
     }
 }
