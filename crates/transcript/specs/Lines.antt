@@ -1,5 +1,5 @@
 -- The lines of a run: a function of each client's steps, and of what became of each board. Profile.
-use Rattle.std.specs.Prelude.{ℕ, ◌+◌, ◌==◌, Bool, true, false, ◌&&◌, if◌then◌else◌, List, [], ◌∷◌, ◌++◌, length, map, count_by, slice_get}
+use Rattle.std.specs.Prelude.{ℕ, ◌+◌, ◌^◌, ◌<◌, ◌==◌, Bool, true, false, ◌&&◌, if◌then◌else◌, List, [], ◌∷◌, ◌++◌, length, map, count_by, slice_get}
 use Rattle.std.specs.Prelude.{Option, Some, None, option_to_list, option_map}
 use Rattle.std.specs.List.{flat_map, list_all}
 use Rattle.script_lang.specs.declared.operation.RegOp.{RegOp}
@@ -104,9 +104,16 @@ is_lost Unsent = false
 is_lost (LinkLost (Some place)) = true
 is_lost (LinkLost None) = false
 
--- what became of all bodies on a board
+-- what became of all bodies of some clients on a board
+abbrev pub outcomes_in : List ClientPart → List Outcome
+outcomes_in parts = flat_map (λ (part : ClientPart). part.outcomes) parts
+
 abbrev pub outcomes_on : BoardRun → List Outcome
-outcomes_on run = flat_map (λ (part : ClientPart). part.outcomes) run.parts
+outcomes_on run = outcomes_in run.parts
+
+-- they are so few that 64 bits count them
+abbrev pub IsCountable : BoardRun → Type 0
+IsCountable run = length (outcomes_on run) < 2 ^ 64
 
 abbrev pub live_line : List ℕ → List Outcome → BoardLine
 live_line name outcomes =

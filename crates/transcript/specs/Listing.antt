@@ -1,7 +1,6 @@
 -- The listing of a register table: its registers, and which of them overlap. uHAL for names and modes; profile.
-use Rattle.std.specs.Prelude.{ℕ, List, [], ◌∷◌, ◌++◌, codes, Option, Some, None, option_and_then, option_map, slice_get}
+use Rattle.std.specs.Prelude.{ℕ, List, [], ◌∷◌, ◌++◌, codes, Option, Some, None, slice_get}
 use Rattle.std.specs.List.{flat_map}
-use Rattle.std.specs.Option.{option_map_or}
 use Rattle.std.specs.Fmt.{decimal}
 use Rattle.std.specs.FinMap.{entries}
 use Rattle.address_table.specs.declared.kinds.Permission.{Permission}
@@ -24,23 +23,27 @@ mode_text Block = codes "block"
 mode_text Port = codes "port"
 mode_text Hierarchical = codes "hierarchical"
 
-abbrev pub kinds_text : Permission → Mode → List ℕ
-kinds_text permission mode = permission_text permission ++ (codes " " ++ mode_text mode)
+-- how a register may be used, and its words
+abbrev pub kinds_text : Register → List ℕ
+kinds_text register =
+    permission_text register.permission ++ (codes " " ++ (mode_text register.mode ++ (codes " " ++ (decimal register.size
+    ++ codes "\n"))))
 
 -- the line of a register
 abbrev pub register_text : Name × Register → List ℕ
 register_text (name, register) =
     name ++ (codes " " ++ (word_text register.address ++ (codes " " ++ (word_text register.mask ++ (codes " "
-    ++ (kinds_text register.permission register.mode ++ (codes " " ++ (decimal register.size ++ codes "\n"))))))))
+    ++ kinds_text register)))))
 
--- the name at a place from 0
-abbrev pub name_at : List (Name × Register) → ℕ → Name
-name_at named place = option_map_or (λ entry. entry.0) (slice_get named place) []
+-- the line of two registers that overlap; places that are not there have none
+abbrev pub overlap_of : Option (Name × Register) → Option (Name × Register) → List ℕ
+overlap_of (Some first) (Some second) = codes "overlap " ++ (first.0 ++ (codes " " ++ (second.0 ++ codes "\n")))
+overlap_of (Some first) None = []
+overlap_of None second = []
 
--- the line of two registers that overlap
+-- that of the registers at two places from 0
 abbrev pub overlap_text : List (Name × Register) → ℕ × ℕ → List ℕ
-overlap_text named (first, second) =
-    codes "overlap " ++ (name_at named first ++ (codes " " ++ (name_at named second ++ codes "\n")))
+overlap_text named (first, second) = overlap_of (slice_get named first) (slice_get named second)
 
 -- each register in byte order of the names, and then each that overlaps an earlier one, with the first such
 abbrev pub listing_text : RegisterMap → List ℕ

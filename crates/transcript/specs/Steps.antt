@@ -10,10 +10,12 @@ use Rattle.transcript.specs.declared.body_end.BodyEnd.{BodyEnd}
 use Rattle.transcript.specs.declared.board_run.BoardRun.{BoardRun}
 use Rattle.transcript.specs.declared.line.OpResult.{OpResult}
 use Rattle.transcript.specs.declared.line.OpLine.{OpLine}
+use Rattle.transcript.specs.declared.boards.Kind.{Kind}
+use Rattle.transcript.specs.declared.boards.Kind.TheVariants as kind
 use Rattle.transcript.specs.Plan.{operations}
 use Rattle.transcript.specs.Ends.{ends_of}
 use Rattle.transcript.specs.Results.{is_good}
-use Rattle.transcript.specs.Lines.{showing, line_with, lines_behind, client_lines, count_on}
+use Rattle.transcript.specs.Lines.{showing, line_with, lines_behind, client_lines, count_on, is_sent, is_replied, is_timed_out, is_lost}
 
 -- what a piece came to, where it failed
 abbrev pub fault_in : OpResult → Option OpResult
@@ -40,3 +42,9 @@ pub record IsProgress (runs : List BoardRun) (client : ℕ) (steps : List Step) 
   pub operations' : number ≡ length (operations (take i steps))
   pub boards : length counts ≡ length runs
   pub counts' : (b : ℕ) → b < length runs → slice_index counts b ≡ count_on b (operations (take i steps))
+
+abbrev pub is_of : Kind → Outcome → Bool
+is_of kind.Sent outcome = is_sent outcome
+is_of kind.Replied outcome = is_replied outcome
+is_of kind.TimedOut outcome = is_timed_out outcome
+is_of kind.Lost outcome = is_lost outcome

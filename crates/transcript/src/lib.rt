@@ -7,19 +7,24 @@
 #![tactic(auto)]
 
 mod board_run;
+mod boards;
 mod body_end;
 pub mod examples;
 mod line;
 mod lines;
+mod listing;
 mod outcome;
 mod planned;
 mod results;
 mod text;
 
 pub use board_run::{BoardRun, ClientPart, ClientParts};
+pub use boards::board_lines;
 pub use body_end::{Answers, BodyEnd, Told};
 pub use ipb_base::{NoMemory, Text, Words};
 pub use line::{BoardLine, LinePlaces, OpLine, OpResult};
+pub use lines::client_lines;
+pub use listing::listing_text;
 pub use outcome::{Greeting, Outcome, Outcomes};
 pub use planned::{OpPieces, PieceAt, Planned};
 pub use text::{line_text, transcript_text};
