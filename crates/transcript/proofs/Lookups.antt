@@ -1,9 +1,9 @@
 -- Reading lists by position.
-use Rattle.std.proofs.Common.{◌≡◌, ℕ, zero, suc, ◌<◌, length, get_or, List, [], ◌∷◌, map, Option, Some, None, refl, sym, ap, subst, ◌∙◌}
+use Rattle.std.proofs.Common.{◌≡◌, ℕ, zero, suc, ◌+◌, ◌<◌, add-one, drop, drop-cons, length, get_or, List, [], ◌∷◌, map, Option, Some, None, refl, sym, ap, subst, ◌∙◌}
 use Rattle.std.proofs.lemmas.List.{length-map}
 use Rattle.std.specs.List.{AllByRecursion, slice_get}
 use Rattle.std.specs.Option.{option_map}
-use Rattle.std.proofs.lemmas.Option.{slice_get-map, slice_get_read, same_Some}
+use Rattle.std.proofs.lemmas.Option.{slice_get-map, slice_get_read, slice_get_within, get_or_from_slice_get, same_Some}
 
 -- what holds of each element holds of the one at a position
 pub all_at : {T : Type 0} (P : T → Type 0) (xs : List T) (k : ℕ) (x : T) → slice_get xs k ≡ Some x → AllByRecursion P xs → P x
@@ -23,3 +23,9 @@ pub same_read : {A B C : Type 0} (f : A → C) (g : B → C) (xs : List A) (ys :
 same_read f g xs ys k x y same within at also =
     let long : length ys ≡ length xs = sym (simp length-map at (ap length same)) in
     same_at f g xs ys k x y same (slice_get_read xs (length ys) k x long within at) (slice_get_read ys (length ys) k y refl within also)
+
+-- what is left of a list from the place of an element on
+pub drop_at : {T : Type 0} (xs : List T) (i : ℕ) (x : T) → slice_get xs i ≡ Some x → drop i xs ≡ x ∷ drop (i + 1) xs
+drop_at xs i x at =
+    drop-cons xs i x (slice_get_within xs i x at)
+    ∙ (ap (λ y. y ∷ drop (suc i) xs) (get_or_from_slice_get xs i x x at) ∙ rw add-one)
