@@ -1,0 +1,31 @@
+-- What a run may show of one board: one legal history. Profile.
+use Rattle.std.specs.Prelude.{◌≡◌, ℕ, List, map, length}
+use Rattle.board_bus.specs.Cells.{CellMap}
+use Rattle.transcript.specs.declared.outcome.Outcome.{Outcome}
+use Rattle.transcript.specs.declared.board_run.ClientPart.{ClientPart}
+use Rattle.transcript.specs.declared.board_run.BoardRun.{BoardRun}
+use Rattle.board_history.specs.Order.{order}
+use Rattle.board_history.specs.Parts.{HasOneOrder, KeepsScripts, AreRepliesOf}
+
+-- The bodies of each client on a board that opened with this bus, and what became of them, are one history.
+pub record IsHistory (opening : CellMap) (bodies : List (List (List ℕ))) (outcomes : List (List Outcome)) : Type 0 where
+  -- each body of each client has an outcome
+  pub shape : map length outcomes ≡ map length bodies
+  -- the places are 1, 2, 3, .., and each belongs to one body
+  pub one_order : HasOneOrder bodies outcomes
+  -- the bodies of each client stand in the order of its script
+  pub script_order : KeepsScripts bodies outcomes
+  -- each reply is the one that a bus with a single thread gives at its place
+  pub replies : AreRepliesOf opening (order bodies outcomes) outcomes
+
+-- what each client asked of a board
+abbrev pub bodies_by_client : BoardRun → List (List (List ℕ))
+bodies_by_client run = map (λ (part : ClientPart). part.planned.bodies) run.parts
+
+-- what became of it
+abbrev pub outcomes_by_client : BoardRun → List (List Outcome)
+outcomes_by_client run = map (λ (part : ClientPart). part.outcomes) run.parts
+
+-- What a run shows of a board that opened with this bus is one history.
+abbrev pub ShowsHistory : CellMap → BoardRun → Type 0
+ShowsHistory opening run = IsHistory opening (bodies_by_client run) (outcomes_by_client run)

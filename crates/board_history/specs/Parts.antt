@@ -1,0 +1,61 @@
+-- What holds of the order of a board, part by part. Profile.
+use Rattle.std.specs.Prelude.{◌≡◌, ℕ, zero, suc, ◌≤◌, List, [], ◌∷◌, length, Option, Some, None}
+use Rattle.std.specs.List.{AllByRecursion, slice_get}
+use Rattle.ipb_base.specs.Lists.{IsPrefix}
+use Rattle.board_bus.specs.Cells.{CellMap}
+use Rattle.board_bus.specs.Bodies.{replay}
+use Rattle.transcript.specs.declared.outcome.Outcome.{Outcome}
+use Rattle.transcript.specs.declared.outcome.Outcome.TheVariants.{Replied, TimedOut, Unsent, LinkLost}
+use Rattle.board_history.specs.Order.{Placed, placed, order, places_of, bodies_of, CountsFrom, RisesFrom}
+
+-- what stands at a place, counted from 1
+abbrev pub at_place : {A : Type 0} → List A → ℕ → Option A
+at_place xs zero = None
+at_place xs (suc k) = slice_get xs k
+
+-- The places on a board are 1, 2, 3, .. up to the number of bodies sent, and each belongs to one body.
+abbrev pub HasOneOrder : List (List (List ℕ)) → List (List Outcome) → Type 0
+HasOneOrder bodies outcomes = CountsFrom 1 (places_of (order bodies outcomes))
+
+-- The places of each client's bodies rise.
+abbrev pub KeepsScripts : List (List (List ℕ)) → List (List Outcome) → Type 0
+KeepsScripts [] outcomes = Unit {0}
+KeepsScripts (bodies ∷ later) [] = Unit {0}
+KeepsScripts (bodies ∷ later) (outcomes ∷ others) =
+    RisesFrom 1 (places_of (placed bodies outcomes)) × KeepsScripts later others
+
+-- the reply is one of these at its place
+abbrev pub IsReplyOf : List (List ℕ) → Outcome → Type 0
+IsReplyOf replies (Replied place words) = at_place replies place ≡ Some words
+IsReplyOf replies (TimedOut place rounds) = Unit {0}
+IsReplyOf replies Unsent = Unit {0}
+IsReplyOf replies (LinkLost place) = Unit {0}
+
+-- Each reply is the one that a single-thread bus gives at its place, which opens like this and replays the bodies by
+-- place.
+abbrev pub AreRepliesOf : CellMap → List Placed → List (List Outcome) → Type 0
+AreRepliesOf opening order outcomes =
+    AllByRecursion (AllByRecursion (IsReplyOf (replay opening (bodies_of order)).replies)) outcomes
+
+-- a body that was replied to is one of the first so many of the order
+abbrev pub IsExecuted : ℕ → Outcome → Type 0
+IsExecuted executed (Replied place words) = place ≤ executed
+IsExecuted executed (TimedOut place rounds) = Unit {0}
+IsExecuted executed Unsent = Unit {0}
+IsExecuted executed (LinkLost place) = Unit {0}
+
+-- What a board executed is a front of the order, so each body of it once, and each body that was replied to is in it.
+pub record IsExecutedOnce (order : List Placed) (outcomes : List (List Outcome)) (executed : List (List ℕ)) : Type 0 where
+  pub front : IsPrefix executed (bodies_of order)
+  pub replied : AllByRecursion (AllByRecursion (IsExecuted (length executed))) outcomes
+
+-- the board replied
+abbrev pub IsReplied : Outcome → Type 0
+IsReplied (Replied place words) = Unit {0}
+IsReplied (TimedOut place rounds) = ⊥
+IsReplied Unsent = ⊥
+IsReplied (LinkLost place) = ⊥
+
+-- every body of every client was replied to
+abbrev pub AllReplied : List (List Outcome) → Type 0
+AllReplied outcomes = AllByRecursion (AllByRecursion IsReplied) outcomes

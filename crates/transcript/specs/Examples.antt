@@ -1,0 +1,71 @@
+-- Sessions worked by hand: what each line of a transcript looks like. One board with an MTU of 1500, unless it is said
+-- otherwise. Profile.
+use Rattle.std.specs.Prelude.{ℕ, List, [], ◌∷◌, ◌++◌, codes, replicate, Some, None}
+use Rattle.transaction_codec.specs.declared.request.Op.{Op}
+use Rattle.transaction_codec.specs.declared.request.Op.TheVariants as ops
+use Rattle.script_lang.specs.declared.operation.Verb.{Verb}
+use Rattle.script_lang.specs.declared.operation.Verb.TheVariants as verb
+use Rattle.script_lang.specs.declared.operation.Step.{Step}
+use Rattle.script_lang.specs.declared.operation.Step.TheVariants.{Do, Dispatch}
+use Rattle.transcript.specs.declared.outcome.Outcome.{Outcome}
+use Rattle.transcript.specs.declared.outcome.Outcome.TheVariants.{Replied, TimedOut, Unsent, LinkLost}
+use Rattle.transcript.specs.declared.outcome.Greeting.{Greeting}
+use Rattle.transcript.specs.declared.outcome.Greeting.TheVariants.{Live, Silent, Down}
+use Rattle.transcript.specs.Session.{BoardFate, transcript}
+use Rattle.transcript.specs.Text.{transcript_text}
+
+abbrev pub full_mask : ℕ
+full_mask = 0xffffffff
+
+-- an operation on the one board
+abbrev pub ask : Verb → List ℕ → ℕ → Op → Step
+ask kind name mask op = Do (record { line = 1; verb = kind; board = 0; name = name; mask = mask; op = op })
+
+abbrev pub read_id : Step
+read_id = ask verb.Read (codes "sys.id") full_mask (ops.Read 4 1)
+
+abbrev pub read_mem : ℕ → Step
+read_mem count = ask verb.ReadBlock (codes "mem") full_mask (ops.Read 0x100 count)
+
+abbrev pub write_a : Step
+write_a = ask verb.Write (codes "a") full_mask (ops.Write 8 (1 ∷ []))
+
+abbrev pub read_a : Step
+read_a = ask verb.Read (codes "a") full_mask (ops.Read 8 1)
+
+-- the top bit of `a`
+abbrev pub write_top : Step
+write_top = ask verb.Write (codes "a.top") 0x80000000 (ops.RmwBits 8 0x7fffffff 0x80000000)
+
+abbrev pub read_top : Step
+read_top = ask verb.Read (codes "a.top") 0x80000000 (ops.Read 8 1)
+
+-- the board's part in one client's run
+abbrev pub told : Greeting → List (List Outcome) → List BoardFate
+told greeting outcomes = record { name = codes "b0"; greeting = greeting; outcomes = outcomes ∷ [] } ∷ []
+
+-- what is printed of one client
+abbrev pub printed : List Step → Greeting → List (List Outcome) → List ℕ
+printed steps greeting outcomes = transcript_text (transcript (steps ∷ []) (told greeting outcomes))
+
+-- the payload of an MTU of 1500 bytes, and of 92
+abbrev pub live : Greeting
+live = Live 368
+
+abbrev pub narrow : Greeting
+narrow = Live 16
+
+-- the reply to a block read of so many words, with this identifier
+abbrev pub zeros_read : ℕ → ℕ → List ℕ
+zeros_read header count = header ∷ replicate count 0
+
+-- one dispatch in which a block read ends past the last word of its range, and then one for each other end
+abbrev pub every_step : List Step
+every_step =
+    read_id ∷ write_a ∷ ask verb.RmwSum (codes "a") full_mask (ops.RmwSum 8 1) ∷ read_mem 10 ∷ read_id ∷ Dispatch
+    ∷ read_id ∷ Dispatch ∷ read_id ∷ Dispatch ∷ read_id ∷ Dispatch ∷ read_id ∷ []
+
+abbrev pub every_outcome : List (List Outcome)
+every_outcome =
+    (Replied 1 ((0x20000100 ∷ 0xabcd ∷ 0x20010110 ∷ 0x20020150 ∷ 1 ∷ []) ++ zeros_read 0x20030804 8) ∷ [])
+    ∷ (Replied 2 (0x20010100 ∷ 0xabcd ∷ []) ∷ []) ∷ (TimedOut 3 2 ∷ []) ∷ (Unsent ∷ []) ∷ (LinkLost (Some 4) ∷ []) ∷ []

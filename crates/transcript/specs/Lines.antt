@@ -1,0 +1,151 @@
+-- The lines of a run: a function of each client's steps, and of what became of each board. Profile.
+use Rattle.std.specs.Prelude.{ℕ, ◌+◌, ◌^◌, ◌<◌, ◌==◌, Bool, true, false, ◌&&◌, if◌then◌else◌, List, [], ◌∷◌, ◌++◌, length, map, count_by, slice_get}
+use Rattle.std.specs.Prelude.{Option, Some, None, option_to_list, option_map}
+use Rattle.std.specs.List.{flat_map, list_all}
+use Rattle.script_lang.specs.declared.operation.RegOp.{RegOp}
+use Rattle.script_lang.specs.declared.operation.Step.{Step}
+use Rattle.transcript.specs.declared.outcome.Outcome.{Outcome}
+use Rattle.transcript.specs.declared.outcome.Outcome.TheVariants.{Replied, TimedOut, Unsent, LinkLost}
+use Rattle.transcript.specs.declared.outcome.Greeting.{Greeting}
+use Rattle.transcript.specs.declared.outcome.Greeting.TheVariants as greeting
+use Rattle.transcript.specs.declared.planned.PieceAt.{PieceAt}
+use Rattle.transcript.specs.declared.board_run.ClientPart.{ClientPart}
+use Rattle.transcript.specs.declared.board_run.BoardRun.{BoardRun}
+use Rattle.transcript.specs.declared.line.OpResult.{OpResult}
+use Rattle.transcript.specs.declared.line.OpResult.TheVariants as result
+use Rattle.transcript.specs.declared.line.OpLine.{OpLine}
+use Rattle.transcript.specs.declared.line.BoardLine.{BoardLine}
+use Rattle.transcript.specs.declared.line.BoardLine.TheVariants as board_lines
+use Rattle.transcript.specs.Plan.{operations}
+use Rattle.transcript.specs.Ends.{ends_of, place_of}
+use Rattle.transcript.specs.Results.{op_result, op_places, is_good}
+
+-- ---- operations
+
+-- what is told of an operation: its result and its places
+abbrev pub Showing : Type 0
+Showing = OpResult × List (ℕ × ℕ)
+
+abbrev pub never_sent : Showing
+never_sent = (result.Unsent, [])
+
+abbrev pub by_pieces : ClientPart → RegOp → Option (List PieceAt) → Showing
+by_pieces part op (Some pieces) = (op_result (ends_of part) op pieces, op_places (ends_of part) pieces)
+by_pieces part op None = never_sent
+
+-- operation `k`, from 0, of those of a client on a board
+abbrev pub in_part : Option ClientPart → ℕ → RegOp → Showing
+in_part (Some part) k op = by_pieces part op (slice_get part.planned.pieces k)
+in_part None k op = never_sent
+
+-- on a board that is not live nothing is done and nothing has a place
+abbrev pub showing : BoardRun → ℕ → ℕ → RegOp → Showing
+showing run client k op = elim run.greeting as (λ _. Showing) [
+  | greeting.Live payload ↦ in_part (slice_get run.parts client) k op
+  | greeting.Silent ↦ never_sent
+  | greeting.Down ↦ (result.LinkLost, [])
+  ]
+
+-- how many of these operations are on a board
+abbrev pub count_on : ℕ → List RegOp → ℕ
+count_on board ops = count_by (λ (op : RegOp). op.board == board) ops
+
+abbrev pub line_with : ℕ → RegOp → List ℕ → Showing → OpLine
+line_with number op name shows =
+    record { number = number; verb = op.verb; board = name; name = op.name; result = shows.0; places = shows.1 }
+
+-- the line of an operation on a board, behind these operations of its client
+abbrev pub line_of : ℕ → List RegOp → RegOp → BoardRun → OpLine
+line_of client before op run =
+    line_with (length before + 1) op run.name (showing run client (count_on op.board before) op)
+
+-- the lines of a client's operations, behind others; one on a board that is not there has none
+abbrev pub lines_behind : List BoardRun → ℕ → List RegOp → List RegOp → List OpLine
+lines_behind runs client before [] = []
+lines_behind runs client before (op ∷ ops) =
+    option_to_list (option_map (line_of client before op) (slice_get runs op.board))
+    ++ lines_behind runs client (before ++ op ∷ []) ops
+
+-- the lines of a client, counted from 0
+abbrev pub client_lines : List BoardRun → ℕ → List Step → List OpLine
+client_lines runs client steps = lines_behind runs client [] (operations steps)
+
+-- the lines of the clients from a number on
+abbrev pub lines_from : List BoardRun → ℕ → List (List Step) → List (List OpLine)
+lines_from runs client [] = []
+lines_from runs client (steps ∷ scripts) = client_lines runs client steps ∷ lines_from runs (client + 1) scripts
+
+-- ---- boards
+
+abbrev pub is_sent : Outcome → Bool
+is_sent (Replied place words) = true
+is_sent (TimedOut place rounds) = true
+is_sent Unsent = false
+is_sent (LinkLost (Some place)) = true
+is_sent (LinkLost None) = false
+
+abbrev pub is_replied : Outcome → Bool
+is_replied (Replied place words) = true
+is_replied (TimedOut place rounds) = false
+is_replied Unsent = false
+is_replied (LinkLost place) = false
+
+abbrev pub is_timed_out : Outcome → Bool
+is_timed_out (Replied place words) = false
+is_timed_out (TimedOut place rounds) = true
+is_timed_out Unsent = false
+is_timed_out (LinkLost place) = false
+
+-- it was sent, and lost with the link
+abbrev pub is_lost : Outcome → Bool
+is_lost (Replied place words) = false
+is_lost (TimedOut place rounds) = false
+is_lost Unsent = false
+is_lost (LinkLost (Some place)) = true
+is_lost (LinkLost None) = false
+
+-- what became of all bodies of some clients on a board
+abbrev pub outcomes_in : List ClientPart → List Outcome
+outcomes_in parts = flat_map (λ (part : ClientPart). part.outcomes) parts
+
+abbrev pub outcomes_on : BoardRun → List Outcome
+outcomes_on run = outcomes_in run.parts
+
+-- they are so few that 64 bits count them
+abbrev pub IsCountable : BoardRun → Type 0
+IsCountable run = length (outcomes_on run) < 2 ^ 64
+
+abbrev pub live_line : List ℕ → List Outcome → BoardLine
+live_line name outcomes =
+    board_lines.Live name (count_by is_sent outcomes) (count_by is_replied outcomes) (count_by is_timed_out outcomes)
+    (count_by is_lost outcomes)
+
+abbrev pub board_line : BoardRun → BoardLine
+board_line run = elim run.greeting as (λ _. BoardLine) [
+  | greeting.Live payload ↦ live_line run.name (outcomes_on run)
+  | greeting.Silent ↦ board_lines.Silent run.name
+  | greeting.Down ↦ board_lines.Down run.name
+  ]
+
+-- ---- the whole
+
+pub record Transcript : Type 0 where
+  pub clients : List (List OpLine)
+  pub boards : List BoardLine
+
+-- the lines of a run, by the steps of each client and what became of each board
+abbrev pub transcript_of : List (List Step) → List BoardRun → Transcript
+transcript_of scripts runs = record { clients = lines_from runs 0 scripts; boards = map board_line runs }
+
+-- ---- the status
+
+-- every line is a value, done or was
+abbrev pub are_good : List OpLine → Bool
+are_good lines = list_all (λ (line : OpLine). is_good line.result) lines
+
+abbrev pub all_good : List (List OpLine) → Bool
+all_good clients = list_all are_good clients
+
+-- 0 where every line is a value, done or was, and else 1
+abbrev pub run_status : List (List OpLine) → ℕ
+run_status clients = if all_good clients then 0 else 1

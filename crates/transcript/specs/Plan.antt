@@ -1,0 +1,94 @@
+-- What a client asks of its boards: the bodies of its scripts' operations, dispatch by dispatch. uHAL: operations are
+-- queued, and sent at a dispatch. Profile.
+use Rattle.std.specs.Prelude.{ℕ, ◌+◌, ◌<◌, ◌^◌, ◌==◌, if◌then◌else◌, List, [], ◌∷◌, ◌++◌, length, map, fold}
+use Rattle.std.specs.List.{AllByRecursion, filter_map}
+use Rattle.std.specs.Prelude.{Option, Some, None}
+use Rattle.transaction_codec.specs.declared.request.Op.{Op}
+use Rattle.transaction_codec.specs.Request.{SpellsRequests}
+use Rattle.mtu_packer.specs.declared.packed.Piece.{Piece}
+use Rattle.mtu_packer.specs.Packed.{Contents, packed}
+use Rattle.script_lang.specs.declared.operation.RegOp.{RegOp}
+use Rattle.script_lang.specs.declared.operation.Step.{Step}
+use Rattle.script_lang.specs.declared.operation.Step.TheVariants.{Do, Dispatch}
+use Rattle.transcript.specs.declared.outcome.Greeting.{Greeting}
+use Rattle.transcript.specs.declared.outcome.Greeting.TheVariants.{Live, Silent, Down}
+use Rattle.transcript.specs.declared.planned.PieceAt.{PieceAt}
+
+-- the operation that a step asks for
+abbrev pub operation_in : Step → Option RegOp
+operation_in (Do op) = Some op
+operation_in Dispatch = None
+
+-- the operations of a client, in order
+abbrev pub operations : List Step → List RegOp
+operations steps = filter_map operation_in steps
+
+-- an operation joins the dispatch that is next
+abbrev pub begun : RegOp → List (List RegOp) → List (List RegOp)
+begun op [] = (op ∷ []) ∷ []
+begun op (dispatch ∷ later) = (op ∷ dispatch) ∷ later
+
+-- the operations of each dispatch; the end of a script is one
+abbrev pub dispatches : List Step → List (List RegOp)
+dispatches [] = [] ∷ []
+dispatches (Do op ∷ steps) = begun op (dispatches steps)
+dispatches (Dispatch ∷ steps) = [] ∷ dispatches steps
+
+-- what operations ask of the bus of one board
+abbrev pub ops_on : ℕ → List RegOp → List Op
+ops_on board [] = []
+ops_on board (o ∷ os) = if o.board == board then o.op ∷ ops_on board os else ops_on board os
+
+-- A client's plan on a board that takes packets of `payload` words: for each dispatch the bodies, and where the pieces
+-- of each operation stand in them. One dispatch never shares a body with another.
+abbrev pub plan : ℕ → ℕ → List Step → List Contents
+plan payload board steps = map (λ dispatch. packed payload (ops_on board dispatch)) (dispatches steps)
+
+-- the bodies of a plan, dispatch by dispatch
+abbrev pub bodies_in : List Contents → List (List (List ℕ))
+bodies_in dispatches = map (λ (c : Contents). c.bodies) dispatches
+
+-- ---- the plan as one list
+
+-- All bodies of a client on a board, and where the pieces of each of its operations there stand. The bodies are
+-- numbered from 0 through all dispatches.
+pub record ClientBodies : Type 0 where
+  pub bodies : List (List ℕ)
+  pub pieces : List (List PieceAt)
+
+abbrev pub no_bodies : ClientBodies
+no_bodies = record { bodies = []; pieces = [] }
+
+-- a piece in a dispatch that begins with the body of this number
+abbrev pub moved : ℕ → Piece → PieceAt
+moved first piece = record { body = first + piece.body; index = piece.index }
+
+-- a dispatch more
+abbrev pub with_dispatch : ClientBodies → Contents → ClientBodies
+with_dispatch all dispatch = record {
+  bodies = all.bodies ++ dispatch.bodies;
+  pieces = all.pieces ++ map (λ pieces. map (moved (length all.bodies)) pieces) dispatch.pieces;
+}
+
+abbrev pub all_dispatches : List Contents → ClientBodies
+all_dispatches dispatches = fold with_dispatch no_bodies dispatches
+
+-- a client's bodies on a board: one that is not live is asked nothing
+abbrev pub planned_on : ℕ → Greeting → List Step → ClientBodies
+planned_on board (Live payload) steps = all_dispatches (plan payload board steps)
+planned_on board Silent steps = no_bodies
+planned_on board Down steps = no_bodies
+
+-- ---- what holds of the bodies of every plan
+
+-- each body is the words of requests alone
+abbrev pub AreSpelled : List (List ℕ) → Type 0
+AreSpelled bodies = AllByRecursion SpellsRequests bodies
+
+-- a transaction has a number of 12 bits in its body
+abbrev pub IsWithinBody : PieceAt → Type 0
+IsWithinBody piece = piece.index < 2 ^ 12
+
+pub record AreSound (all : ClientBodies) : Type 0 where
+  pub spelled : AreSpelled all.bodies
+  pub within : AllByRecursion (AllByRecursion IsWithinBody) all.pieces

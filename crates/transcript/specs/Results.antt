@@ -1,0 +1,64 @@
+-- What an operation came to, by what its pieces came to. Profile; uHAL for masked reads.
+use Rattle.std.specs.Prelude.{ℕ, Bool, true, false, if◌then◌else◌, List, [], ◌∷◌, map, Option, Some, None, slice_get, unwrap_or}
+use Rattle.std.specs.List.{flat_map}
+use Rattle.masked_fields.specs.Field.{field}
+use Rattle.script_lang.specs.declared.operation.Verb.{Verb}
+use Rattle.script_lang.specs.declared.operation.Verb.TheVariants.{Read, Write, ReadBlock, WriteBlock, RmwBits, RmwSum}
+use Rattle.script_lang.specs.declared.operation.RegOp.{RegOp}
+use Rattle.transcript.specs.declared.planned.PieceAt.{PieceAt}
+use Rattle.transcript.specs.declared.body_end.BodyEnd.{BodyEnd}
+use Rattle.transcript.specs.declared.line.OpResult.{OpResult}
+use Rattle.transcript.specs.declared.line.OpResult.TheVariants.{Value, Done, Was, Error, Skipped, TimedOut, Unsent, LinkLost, Garbled}
+use Rattle.transcript.specs.Ends.{piece_result, piece_place}
+
+-- it was executed without a fault
+abbrev pub is_good : OpResult → Bool
+is_good (Value words) = true
+is_good Done = true
+is_good (Was word) = true
+is_good (Error code after) = false
+is_good Skipped = false
+is_good (TimedOut rounds) = false
+is_good Unsent = false
+is_good LinkLost = false
+is_good Garbled = false
+
+abbrev pub first_fault : List OpResult → Option OpResult
+first_fault [] = None
+first_fault (r ∷ rs) = if is_good r then first_fault rs else Some r
+
+abbrev pub values_in : OpResult → List ℕ
+values_in (Value words) = words
+values_in Done = []
+values_in (Was word) = word ∷ []
+values_in (Error code after) = []
+values_in Skipped = []
+values_in (TimedOut rounds) = []
+values_in Unsent = []
+values_in LinkLost = []
+values_in Garbled = []
+
+-- the word before a read-modify-write
+abbrev pub word_before : List ℕ → OpResult
+word_before [] = Garbled
+word_before (word ∷ words) = Was word
+
+-- what an operation that was done shows of the words that its pieces gave; a masked read shows the field
+abbrev pub shown : Verb → ℕ → List ℕ → OpResult
+shown Read mask words = Value (map (λ word. field word mask) words)
+shown Write mask words = Done
+shown ReadBlock mask words = Value words
+shown WriteBlock mask words = Done
+shown RmwBits mask words = word_before words
+shown RmwSum mask words = word_before words
+
+-- The first piece that failed says what the operation came to. Where none did it shows the words of all of them.
+abbrev pub combined : Verb → ℕ → List OpResult → OpResult
+combined verb mask results = unwrap_or (first_fault results) (shown verb mask (flat_map values_in results))
+
+-- what an operation came to, and where it stands in its board's order
+abbrev pub op_result : List BodyEnd → RegOp → List PieceAt → OpResult
+op_result ends op pieces = combined op.verb op.mask (map (piece_result ends) pieces)
+
+abbrev pub op_places : List BodyEnd → List PieceAt → List (ℕ × ℕ)
+op_places ends pieces = flat_map (piece_place ends) pieces

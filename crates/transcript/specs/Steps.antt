@@ -1,0 +1,50 @@
+-- How the steps of the calls work together: what private functions promise one another. No public clause speaks of
+-- these.
+use Rattle.std.specs.Prelude.{◌≡◌, ℕ, ◌+◌, ◌≤◌, ◌<◌, ◌^◌, Bool, if◌then◌else◌, List, [], ◌∷◌, ◌++◌, length, map, take, drop, slice_get, slice_set, slice_index}
+use Rattle.std.specs.Prelude.{Option, Some, None, option_to_list, option_map, count_by}
+use Rattle.std.specs.Option.{option_map_or}
+use Rattle.script_lang.specs.declared.operation.RegOp.{RegOp}
+use Rattle.script_lang.specs.declared.operation.Step.{Step}
+use Rattle.transcript.specs.declared.outcome.Outcome.{Outcome}
+use Rattle.transcript.specs.declared.body_end.BodyEnd.{BodyEnd}
+use Rattle.transcript.specs.declared.board_run.BoardRun.{BoardRun}
+use Rattle.transcript.specs.declared.line.OpResult.{OpResult}
+use Rattle.transcript.specs.declared.line.OpLine.{OpLine}
+use Rattle.transcript.specs.declared.boards.Kind.{Kind}
+use Rattle.transcript.specs.declared.boards.Kind.TheVariants as kind
+use Rattle.transcript.specs.Plan.{operations}
+use Rattle.transcript.specs.Ends.{ends_of}
+use Rattle.transcript.specs.Results.{is_good}
+use Rattle.transcript.specs.Lines.{showing, line_with, lines_behind, client_lines, count_on, is_sent, is_replied, is_timed_out, is_lost}
+
+-- what a piece came to, where it failed
+abbrev pub fault_in : OpResult → Option OpResult
+fault_in r = if is_good r then None else Some r
+
+-- how a client's bodies on a board ended
+abbrev pub ends_on : ℕ → BoardRun → List BodyEnd
+ends_on client run = option_map_or ends_of (slice_get run.parts client) []
+
+-- line `number` of a client, operation `k`, from 0, of those on its board
+abbrev pub line_on : ℕ → ℕ → ℕ → RegOp → BoardRun → OpLine
+line_on client number k op run = line_with number op run.name (showing run client k op)
+
+-- one more at a place that is there
+abbrev pub bumped : ℕ → List ℕ → List ℕ
+bumped at counts = slice_set counts at (slice_index counts at + 1)
+
+abbrev pub AreBelow : ℕ → List ℕ → Type 0
+AreBelow most counts = (b : ℕ) → slice_index counts b ≤ most
+
+-- where a client's first `i` steps have these lines, so many operations, and so many on each board
+pub record IsProgress (runs : List BoardRun) (client : ℕ) (steps : List Step) (i : ℕ) (made : List OpLine) (number : ℕ) (counts : List ℕ) : Type 0 where
+  pub lines : made ++ lines_behind runs client (operations (take i steps)) (operations (drop i steps)) ≡ client_lines runs client steps
+  pub operations' : number ≡ length (operations (take i steps))
+  pub boards : length counts ≡ length runs
+  pub counts' : (b : ℕ) → b < length runs → slice_index counts b ≡ count_on b (operations (take i steps))
+
+abbrev pub is_of : Kind → Outcome → Bool
+is_of kind.Sent outcome = is_sent outcome
+is_of kind.Replied outcome = is_replied outcome
+is_of kind.TimedOut outcome = is_timed_out outcome
+is_of kind.Lost outcome = is_lost outcome

@@ -1,0 +1,63 @@
+//! What became of a board.
+
+ghost use Rattle.std.specs.Prelude.{◌≡◌};
+
+use crate::outcome::{Greeting, Outcomes};
+use crate::planned::Planned;
+use ipb_base::Text;
+use std::marker::Model;
+
+/// What one client asked of a board, and what became of it: the outcomes stand in the order of the bodies.
+#[derive(Debug, Drop)]
+pub struct ClientPart {
+    pub planned: Planned,
+    pub outcomes: Outcomes,
+}
+
+/// The parts of the clients on a board, client 1 first. Contracts see that list.
+#[derive(Debug, Drop)]
+pub struct ClientParts {
+    items: Vec<ClientPart>,
+}
+
+impl Model for ClientParts {
+    ghost use Rattle.std.specs.Prelude.{List};
+    ghost use Rattle.transcript.specs.declared.board_run.ClientPart.{ClientPart};
+
+    ghost Value = { List ClientPart };
+
+    ghost view = { λ parts. parts.items.items };
+}
+
+impl ClientParts {
+    /// The parts of a vector, in its order. It takes no memory.
+    pub fn from_vec(items: Vec<ClientPart>) -> ClientParts
+        ensures { result ≡ items.items }
+    {
+        ClientParts { items }
+    }
+
+    /// The vector of these parts. It takes no memory.
+    pub fn into_vec(self) -> Vec<ClientPart>
+        ensures { result.items ≡ self }
+    {
+        let ClientParts { items } = self;
+        items
+    }
+
+    /// The parts, in order.
+    pub fn as_slice(&self) -> &[ClientPart]
+        ensures { result.now ≡ self.now }
+    {
+        self.items.as_slice()
+    }
+}
+
+/// A board after a run: its name, what greeting it told, and what each client asked of it. A board that is not live
+/// was asked nothing.
+#[derive(Debug, Drop)]
+pub struct BoardRun {
+    pub name: Text,
+    pub greeting: Greeting,
+    pub parts: ClientParts,
+}

@@ -1,0 +1,97 @@
+//! The lines of a run's boards.
+
+ghost use Rattle.std.specs.Prelude.{◌≡◌, ◌+◌, ◌^◌, ◌<◌, IfOk, length, map, count_by};
+ghost use Rattle.std.specs.List.{AllByRecursion, flat_map};
+ghost use Rattle.transcript.specs.Lines as spec;
+ghost use Rattle.transcript.specs.Steps.{is_of};
+
+use crate::board_run::{BoardRun, ClientPart};
+use crate::line::BoardLine;
+use crate::outcome::{Greeting, Outcome};
+use ipb_base::{NoMemory, Text};
+use std::alloc::Global;
+
+/// What a board's line counts.
+#[derive(Clone, Copy, Debug)]
+enum Kind {
+    Sent,
+    Replied,
+    TimedOut,
+    Lost,
+}
+
+fn is_sent(outcome: &Outcome) -> bool
+    ensures { result ≡ spec.is_sent outcome.now }
+{
+    match outcome {
+        Outcome::Replied { .. } | Outcome::TimedOut { .. } => true,
+        Outcome::Unsent => false,
+        Outcome::LinkLost { place } => place.is_some(),
+    }
+}
+
+/// Whether this is the outcome of a body that is counted.
+fn is_of(kind: Kind, outcome: &Outcome) -> bool
+    ensures { result ≡ is_of kind outcome.now }
+{
+    match kind {
+        Kind::Sent => is_sent(outcome),
+        Kind::Replied => matches!(outcome, Outcome::Replied { .. }),
+        Kind::TimedOut => matches!(outcome, Outcome::TimedOut { .. }),
+        Kind::Lost => matches!(outcome, Outcome::LinkLost { place: Some(_) }),
+    }
+}
+
+fn count_in(outcomes: &[Outcome], kind: Kind) -> usize
+    ensures { result ≡ count_by (is_of kind) outcomes.now }
+{
+    outcomes
+        .iter()
+        .filter(|outcome| is_of(kind, outcome))
+        .count()
+}
+
+/// How many bodies of the clients on a board are of a kind.
+fn count(parts: &[ClientPart], kind: Kind) -> u64
+    requires { length (spec.outcomes_in parts.now) < 2 ^ 64 }
+    ensures { result ≡ count_by (is_of kind) (spec.outcomes_in parts.now) }
+{
+    let mut total = 0;
+    for part in parts {
+        total += count_in(part.outcomes.as_slice(), kind) as u64;
+    }
+    total
+}
+
+/// The line of a board.
+fn board_line(alloc: Global, run: &BoardRun) -> Result<BoardLine, NoMemory>
+    requires { spec.IsCountable run.now }
+    ensures { IfOk result (λ line. line ≡ spec.board_line run.now) }
+{
+    let name = Text::copy_of(alloc, run.name.as_str())?;
+    let parts = run.parts.as_slice();
+    match run.greeting {
+        Greeting::Live { .. } => Ok(BoardLine::Live {
+            name,
+            sent: count(parts, Kind::Sent),
+            replied: count(parts, Kind::Replied),
+            timed_out: count(parts, Kind::TimedOut),
+            lost: count(parts, Kind::Lost),
+        }),
+        Greeting::Silent => Ok(BoardLine::Silent { name }),
+        Greeting::Down => Ok(BoardLine::Down { name }),
+    }
+}
+
+/// The lines of the boards, in their order: for each live one the first sends, and what became of them. The bodies of
+/// a board are so few that 64 bits count them.
+pub fn board_lines(alloc: Global, runs: &[BoardRun]) -> Result<Vec<BoardLine>, NoMemory>
+    requires { AllByRecursion spec.IsCountable runs.now }
+    ensures { IfOk result (λ lines. lines.items ≡ map spec.board_line runs.now) }
+{
+    let mut lines = Vec::new(alloc);
+    for run in runs {
+        lines.push(board_line(alloc, run)?)?;
+    }
+    Ok(lines)
+}

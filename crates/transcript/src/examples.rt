@@ -1,0 +1,116 @@
+//! Sessions worked by hand. These functions do nothing when they run: their clauses are what is proved, by computing
+//! the definitions.
+
+ghost use Rattle.std.specs.Prelude.{◌≡◌, ℕ, ◌∷◌, ◌++◌, [], Some, None, codes, replicate};
+ghost use Rattle.transcript.specs.declared.outcome.Outcome.TheVariants.{Replied, TimedOut, Unsent, LinkLost};
+ghost use Rattle.transcript.specs.declared.outcome.Greeting.TheVariants.{Silent, Down};
+ghost use Rattle.script_lang.specs.declared.operation.Step.TheVariants.{Dispatch};
+ghost use Rattle.std.specs.List.{flat_map};
+ghost use Rattle.transcript.specs.Lines.{run_status};
+ghost use Rattle.transcript.specs.Session.{transcript};
+ghost use Rattle.transcript.specs.Examples.{
+  printed,
+  told,
+  live,
+  narrow,
+  read_id,
+  read_mem,
+  write_a,
+  read_a,
+  write_top,
+  read_top,
+  zeros_read,
+  every_step,
+  every_outcome,
+};
+
+/// One read of one word.
+pub fn one_read()
+    ensures text { printed (read_id ∷ []) live ((Replied 1 (0x20000100 ∷ 0xabcd ∷ []) ∷ []) ∷ [])
+        ≡ codes "client 1\n1 read b0:sys.id = 0x0000abcd @1.1\nboard b0 places 1 replied 1 timeout 0 lost 0\n" }
+    ensures status { run_status (transcript ((read_id ∷ []) ∷ [])
+        (told live ((Replied 1 (0x20000100 ∷ 0xabcd ∷ []) ∷ []) ∷ []))).clients ≡ 0 }
+{}
+
+/// A field of one bit is written, and read as the whole word and under its mask.
+pub fn a_masked_write_and_a_masked_read()
+    ensures { printed (write_top ∷ read_a ∷ read_top ∷ []) live
+        ((Replied 1 (0x20000140 ∷ 0 ∷ 0x20010100 ∷ 0x80000000 ∷ 0x20020100 ∷ 0x80000000 ∷ []) ∷ []) ∷ [])
+        ≡ codes "client 1\n1 write b0:a.top done @1.1\n2 read b0:a = 0x80000000 @1.2\n"
+        ++ codes "3 read b0:a.top = 0x00000001 @1.3\nboard b0 places 1 replied 1 timeout 0 lost 0\n" }
+{}
+
+/// A block read of 20 words at a payload of 16 words: two bodies, whose places another client's stands between.
+pub fn pieces_have_places_of_their_own()
+    ensures { printed (read_mem 20 ∷ []) narrow
+        ((Replied 1 (zeros_read 0x20000e00 14) ∷ Replied 3 (zeros_read 0x20000600 6) ∷ []) ∷ [])
+        ≡ codes "client 1\n1 readblock b0:mem ="
+        ++ (codes " 0x00000000 0x00000000 0x00000000 0x00000000 0x00000000 0x00000000 0x00000000 0x00000000"
+        ++ (codes " 0x00000000 0x00000000 0x00000000 0x00000000 0x00000000 0x00000000 0x00000000 0x00000000"
+        ++ (codes " 0x00000000 0x00000000 0x00000000 0x00000000 @1.1,3.1\n"
+        ++ codes "board b0 places 2 replied 2 timeout 0 lost 0\n"))) }
+{}
+
+/// A block read that ends past the last word of its range, the read behind it, and one in a later body.
+pub fn a_fault_skips_the_rest_of_its_body()
+    ensures text { printed (read_mem 10 ∷ read_id ∷ Dispatch ∷ read_id ∷ []) live
+        ((Replied 1 (zeros_read 0x20000804 8) ∷ []) ∷ (Replied 2 (0x20000100 ∷ 0xabcd ∷ []) ∷ []) ∷ [])
+        ≡ codes "client 1\n1 readblock b0:mem error 4 after 8 @1.1\n2 read b0:sys.id skipped @1.2\n"
+        ++ codes "3 read b0:sys.id = 0x0000abcd @2.1\nboard b0 places 2 replied 2 timeout 0 lost 0\n" }
+    ensures status { run_status (transcript ((read_mem 10 ∷ read_id ∷ Dispatch ∷ read_id ∷ []) ∷ [])
+        (told live ((Replied 1 (zeros_read 0x20000804 8) ∷ []) ∷ (Replied 2 (0x20000100 ∷ 0xabcd ∷ []) ∷ []) ∷ []))
+        ).clients ≡ 1 }
+{}
+
+/// A window of one body: the first times out, and the one behind it is never sent.
+pub fn a_timeout_and_what_waits_behind_it()
+    ensures { printed (read_mem 14 ∷ read_id ∷ []) narrow ((TimedOut 1 2 ∷ Unsent ∷ []) ∷ [])
+        ≡ codes "client 1\n1 readblock b0:mem timeout after 2 rounds, execution unknown @1.1\n"
+        ++ codes "2 read b0:sys.id unsent\nboard b0 places 1 replied 0 timeout 1 lost 0\n" }
+{}
+
+/// A write that was executed although its reply never came: the next dispatch reads it.
+pub fn a_timeout_that_was_executed()
+    ensures { printed (write_a ∷ Dispatch ∷ read_a ∷ []) live
+        ((TimedOut 1 2 ∷ []) ∷ (Replied 2 (0x20000100 ∷ 1 ∷ []) ∷ []) ∷ [])
+        ≡ codes "client 1\n1 write b0:a timeout after 2 rounds, execution unknown @1.1\n"
+        ++ codes "2 read b0:a = 0x00000001 @2.1\nboard b0 places 2 replied 1 timeout 1 lost 0\n" }
+{}
+
+/// A board that does not answer, one whose link fails in the greeting, and one whose link fails later.
+pub fn boards_that_do_not_answer()
+    ensures silent { printed (read_id ∷ []) Silent [] ≡ codes "client 1\n1 read b0:sys.id unsent\nboard b0 silent\n" }
+    ensures down { printed (read_id ∷ []) Down [] ≡ codes "client 1\n1 read b0:sys.id link lost\nboard b0 down\n" }
+    ensures lost { printed (read_id ∷ []) live ((LinkLost (Some 1) ∷ []) ∷ [])
+        ≡ codes "client 1\n1 read b0:sys.id link lost @1.1\nboard b0 places 1 replied 0 timeout 0 lost 1\n" }
+    ensures before { printed (read_id ∷ []) live ((LinkLost None ∷ []) ∷ [])
+        ≡ codes "client 1\n1 read b0:sys.id link lost\nboard b0 places 0 replied 0 timeout 0 lost 0\n" }
+{}
+
+/// Words that are no reply to the body, and a client without operations.
+pub fn garbled_words_and_an_empty_script()
+    ensures garbled { printed (read_id ∷ []) live ((Replied 1 (0x20010100 ∷ 0xabcd ∷ []) ∷ []) ∷ [])
+        ≡ codes "client 1\n1 read b0:sys.id garbled @1.1\nboard b0 places 1 replied 1 timeout 0 lost 0\n" }
+    ensures empty { printed [] live []
+        ≡ codes "client 1\nboard b0 places 0 replied 0 timeout 0 lost 0\n" }
+{}
+
+/// A block read of 600 words: three pieces, of which two share the second body.
+pub fn three_pieces_in_two_bodies()
+    ensures { printed (read_mem 600 ∷ []) live ((Replied 1 (zeros_read 0x2000ff00 255)
+        ∷ Replied 2 (zeros_read 0x2000ff00 255 ++ zeros_read 0x20015a00 90) ∷ []) ∷ [])
+        ≡ codes "client 1\n1 readblock b0:mem =" ++ (flat_map (λ (word : ℕ). codes " 0x00000000") (replicate 600 0)
+        ++ codes " @1.1,2.1,2.2\nboard b0 places 2 replied 2 timeout 0 lost 0\n") }
+{}
+
+/// What every operation of a session came to, each in another way.
+pub fn every_result()
+    ensures text { printed every_step live every_outcome
+        ≡ codes "client 1\n1 read b0:sys.id = 0x0000abcd @1.1\n2 write b0:a done @1.2\n"
+        ++ (codes "3 rmwsum b0:a was 0x00000001 @1.3\n4 readblock b0:mem error 4 after 8 @1.4\n"
+        ++ (codes "5 read b0:sys.id skipped @1.5\n6 read b0:sys.id garbled @2.1\n"
+        ++ (codes "7 read b0:sys.id timeout after 2 rounds, execution unknown @3.1\n"
+        ++ (codes "8 read b0:sys.id unsent\n9 read b0:sys.id link lost @4.1\n"
+        ++ codes "board b0 places 4 replied 2 timeout 1 lost 1\n")))) }
+    ensures status { run_status (transcript (every_step ∷ []) (told live every_outcome)).clients ≡ 1 }
+{}

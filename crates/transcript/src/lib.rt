@@ -1,0 +1,30 @@
+//! The lines that a run prints, as a function of the scripts' steps and of what became of each body, and their text.
+//!
+//! `plan_on` packs the operations of a client's steps on one board. `client_lines` and `board_lines` make the lines of
+//! a run from the steps, those bodies and their outcomes, and `transcript_text` prints them. The definitions that
+//! contracts cite are in `specs/`: the plan of a session, the results and places of operations, the lines, and their
+//! bytes.
+#![tactic(auto)]
+
+mod board_run;
+mod boards;
+mod body_end;
+pub mod examples;
+mod line;
+mod lines;
+mod listing;
+mod outcome;
+mod planned;
+mod results;
+mod text;
+
+pub use board_run::{BoardRun, ClientPart, ClientParts};
+pub use boards::board_lines;
+pub use body_end::{Answers, BodyEnd, Told};
+pub use ipb_base::{NoMemory, Text, Words};
+pub use line::{BoardLine, LinePlaces, OpLine, OpResult};
+pub use lines::client_lines;
+pub use listing::listing_text;
+pub use outcome::{Greeting, Outcome, Outcomes};
+pub use planned::{OpPieces, PieceAt, Planned};
+pub use text::{line_text, transcript_text};

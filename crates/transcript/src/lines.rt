@@ -1,0 +1,180 @@
+//! The lines of a run's operations.
+
+ghost use Rattle.std.specs.Prelude.{◌≡◌, ℕ, ◌+◌, ◌-◌, ◌++◌, ◌^◌, ◌<◌, ◌≤◌, [], IfOk, OnOk, length, map, option_to_list, option_map, slice_get, slice_set, slice_index};
+ghost use Rattle.transcript.specs.declared.board_run.ClientPart.{ClientPart as PartValue};
+ghost use Rattle.transcript.specs.Ends as of_ends;
+ghost use Rattle.transcript.specs.Lines as spec;
+ghost use Rattle.transcript.specs.Steps.{ends_on, line_on, bumped, AreBelow};
+
+use crate::board_run::{BoardRun, ClientPart};
+use crate::body_end::{BodyEnd, ends_of};
+use crate::line::{LinePlaces, OpLine, OpResult};
+use crate::outcome::Greeting;
+use crate::results::{op_places, op_result};
+use ipb_base::{NoMemory, Text};
+use script_lang::{RegOp, Step};
+use std::alloc::Global;
+
+/// How a client's bodies on a board ended.
+fn ends_on(alloc: Global, run: &BoardRun, client: usize) -> Result<Vec<BodyEnd>, NoMemory>
+    ensures { IfOk result (λ ends. ends.items ≡ ends_on client run.now) }
+{
+    match run.parts.as_slice().get(client) {
+        Some(part) => ends_of(alloc, part.planned.bodies(), part.outcomes.as_slice()),
+        None => Ok(Vec::new(alloc)),
+    }
+}
+
+/// The same of every board.
+fn all_ends(
+    alloc: Global,
+    runs: &[BoardRun],
+    client: usize,
+) -> Result<Vec<Vec<BodyEnd>>, NoMemory>
+    ensures { IfOk result (λ all. map (λ ends. ends.items) all.items ≡ map (ends_on client) runs.now) }
+{
+    let mut all = Vec::new(alloc);
+    for run in runs {
+        all.push(ends_on(alloc, run, client)?)?;
+    }
+    Ok(all)
+}
+
+/// An operation without a place, and what it came to.
+fn without_place(alloc: Global, came_to: OpResult) -> (OpResult, LinePlaces)
+    ensures { result ≡ (came_to, []) }
+{
+    (came_to, LinePlaces::from_vec(Vec::new(alloc)))
+}
+
+/// What operation `k`, from 0, of those of a client on a board came to, and its places.
+fn in_part(
+    alloc: Global,
+    parts: &[ClientPart],
+    client: usize,
+    ends: &[BodyEnd],
+    k: usize,
+    op: &RegOp,
+) -> Result<(OpResult, LinePlaces), NoMemory>
+    requires { (part : PartValue) → slice_get parts.now client ≡ Some part → ends.now ≡ of_ends.ends_of part }
+    ensures { IfOk result (λ shows. shows ≡ spec.in_part (slice_get parts.now client) k op.now) }
+{
+    let Some(part) = parts.get(client) else {
+        return Ok(without_place(alloc, OpResult::Unsent));
+    };
+    let Some(pieces) = part.planned.pieces(k) else {
+        return Ok(without_place(alloc, OpResult::Unsent));
+    };
+    let came_to = op_result(alloc, ends, op, pieces)?;
+    let places = op_places(alloc, ends, pieces)?;
+    Ok((came_to, places))
+}
+
+/// The same of a board, whatever its greeting told.
+fn showing(
+    alloc: Global,
+    run: &BoardRun,
+    client: usize,
+    ends: &[BodyEnd],
+    k: usize,
+    op: &RegOp,
+) -> Result<(OpResult, LinePlaces), NoMemory>
+    requires { ends.now ≡ ends_on client run.now }
+    ensures { IfOk result (λ shows. shows ≡ spec.showing run.now client k op.now) }
+{
+    match run.greeting {
+        Greeting::Live { .. } => in_part(alloc, run.parts.as_slice(), client, ends, k, op),
+        Greeting::Silent => Ok(without_place(alloc, OpResult::Unsent)),
+        Greeting::Down => Ok(without_place(alloc, OpResult::LinkLost)),
+    }
+}
+
+/// The line of an operation: line `number` of its client, and operation `k`, from 0, of those on its board.
+fn line_on(
+    alloc: Global,
+    run: &BoardRun,
+    client: usize,
+    ends: &[BodyEnd],
+    number: u32,
+    k: usize,
+    op: &RegOp,
+) -> Result<OpLine, NoMemory>
+    requires { ends.now ≡ ends_on client run.now }
+    ensures { IfOk result (λ line. line ≡ line_on client number k op.now run.now) }
+{
+    let (result, places) = showing(alloc, run, client, ends, k, op)?;
+    Ok(OpLine {
+        number,
+        verb: op.verb,
+        board: Text::copy_of(alloc, run.name.as_str())?,
+        name: Text::copy_of(alloc, op.name.as_str())?,
+        result,
+        places,
+    })
+}
+
+/// The lines of a client so far.
+#[derive(Drop)]
+struct Progress {
+    lines: Vec<OpLine>,
+    /// How many operations there were, and how many of them on each board.
+    number: u32,
+    counts: Vec<usize>,
+}
+
+/// Adds the line of a client's next operation.
+fn add_line(
+    alloc: Global,
+    runs: &[BoardRun],
+    client: usize,
+    ends: &[Vec<BodyEnd>],
+    op: &RegOp,
+    progress: &mut Progress,
+) -> Result<(), NoMemory>
+    requires ends { map (λ e. e.items) ends.now ≡ map (ends_on client) runs.now }
+    requires boards { length progress.old.counts.items ≡ length runs.now }
+    requires below { AreBelow progress.old.number progress.old.counts.items }
+    requires few { progress.old.number + 1 < 2 ^ 32 }
+    ensures number { OnOk result (progress.new.number ≡ progress.old.number + 1) }
+    ensures counts { OnOk result (progress.new.counts.items ≡ bumped op.now.board progress.old.counts.items) }
+    ensures lines { let number = progress.old.number + 1 in
+        let k = slice_index progress.old.counts.items op.now.board in
+        OnOk result (progress.new.lines.items ≡ progress.old.lines.items
+        ++ option_to_list (option_map (line_on client number k op.now) (slice_get runs.now op.now.board))) }
+{
+    progress.number += 1;
+    let board = op.board as usize;
+    let Some(run) = runs.get(board) else {
+        return Ok(());
+    };
+    let k = progress.counts[board];
+    let line = line_on(alloc, run, client, ends[board].as_slice(), progress.number, k, op)?;
+    progress.lines.push(line)?;
+    progress.counts[board] = k + 1;
+    Ok(())
+}
+
+/// The lines of a client, counted from 0, in the order of its operations: by its steps, and by what became of each
+/// board. Each reply is joined to its body once.
+pub fn client_lines(
+    alloc: Global,
+    runs: &[BoardRun],
+    client: usize,
+    steps: &[Step],
+) -> Result<Vec<OpLine>, NoMemory>
+    requires { length steps.now < 2 ^ 32 }
+    ensures { IfOk result (λ lines. lines.items ≡ spec.client_lines runs.now client steps.now) }
+{
+    let ends = all_ends(alloc, runs, client)?;
+    let mut progress = Progress {
+        lines: Vec::new(alloc),
+        number: 0,
+        counts: vec![in alloc; 0; runs.len()]?,
+    };
+    for step in steps {
+        if let Step::Do(op) = step {
+            add_line(alloc, runs, client, ends.as_slice(), op, &mut progress)?;
+        }
+    }
+    Ok(progress.lines)
+}
