@@ -1,0 +1,5 @@
+pub mod ExactKeys
+pub mod WholeNodes
+pub mod WholeBoards
+pub mod WholeForm
+pub mod WholeTable

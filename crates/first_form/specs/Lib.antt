@@ -1,0 +1,5 @@
+pub mod Numbers
+pub mod Fields
+pub mod Session
+pub mod FirstForm
+pub mod WholeSession
