@@ -15,6 +15,7 @@ mod lines;
 mod listing;
 mod outcome;
 mod planned;
+mod planning;
 mod results;
 mod text;
 
@@ -27,4 +28,5 @@ pub use lines::client_lines;
 pub use listing::listing_text;
 pub use outcome::{Greeting, Outcome, Outcomes};
 pub use planned::{OpPieces, PieceAt, Planned};
+pub use planning::plan_on;
 pub use text::{line_text, transcript_text};

@@ -3,7 +3,7 @@
 ghost use Rattle.std.specs.Prelude.{◌≡◌, Some, None, MatchOption, IfSome, slice_get};
 ghost use Rattle.std.specs.List.{AllByRecursion};
 ghost use Rattle.transaction_codec.specs.Request.{SpellsRequests};
-ghost use Rattle.transcript.specs.Plan.{IsWithinBody};
+ghost use Rattle.transcript.specs.Plan.{IsWithinBody, AreSound};
 
 use ipb_base::Words;
 use std::marker::Model;
@@ -67,6 +67,14 @@ impl Model for Planned {
 }
 
 impl Planned {
+    /// The bodies, and where the pieces of each operation stand in them. It takes no memory.
+    pub(crate) fn new(bodies: Vec<Words>, pieces: Vec<OpPieces>) -> Planned
+        requires { AreSound (record { bodies = bodies.items; pieces = pieces.items }) }
+        ensures { result ≡ record { bodies = bodies.items; pieces = pieces.items } }
+    {
+        Planned { bodies, pieces }
+    }
+
     /// The bodies, in order, each without its packet header. Each is the words of requests alone.
     pub fn bodies(&self) -> &[Words]
         ensures bodies { result.now ≡ self.now.bodies }

@@ -1,0 +1,23 @@
+use Rattle.std.proofs.Common.{◌≡◌, ◌+◌, ◌∙◌, sym, ap, subst}
+use Rattle.transcript.specs.declared.planning.Planning.{Planning}
+use Rattle.transcript.specs.Plan.{AreSound}
+use Rattle.transcript.specs.Steps.{IsPlanning, so_far}
+use Rattle.transcript.proofs.PlanLemmas.{after_dispatch, after_operation}
+use Rattle.transcript.proofs.planning.pack_dispatches.Goals as goal
+use Rattle.transcript.proofs.planning.pack_dispatches.Goals.{in-Do+in_ok-queue-in-Do, in-Dispatch+in_ok-dispatch-in-Dispatch}
+
+pub loop-step-preserved : goal.loop-step-preserved
+loop-step-preserved c =
+    let Holds : Planning → Type 0 =
+    λ p. IsPlanning c.args.payload c.args.board c.args.steps.now (c.loop-step.step-index + 1) (so_far p) p.queued.items in
+    elim c.match-step.branch [
+      | in-Do+in_ok-queue-in-Do w ↦ subst Holds (sym w.planning-is) (
+        rw w.in_ok-queue-in-Do.ensures
+        (after_operation c.args.payload c.args.board c.args.steps.now c.loop-step.step-index _ _ c.step-item.result
+        c.loop-step.invariant c.loop-step-test.true c.step-item.is w.in-Do.op w.in-Do.is))
+      | in-Dispatch+in_ok-dispatch-in-Dispatch w ↦ subst Holds (sym w.planning-is) (
+        let e = w.in_ok-dispatch-in-Dispatch.ensures in
+        rw (e.planned, e.emptied)
+        (after_dispatch c.args.payload c.args.board c.args.steps.now c.loop-step.step-index _ _ c.step-item.result
+        c.loop-step.invariant c.loop-step-test.true c.step-item.is w.in-Dispatch.is (subst AreSound e.planned e.sound)))
+    ]
