@@ -17,7 +17,7 @@ use Rattle.script_lang.specs.declared.operation.RegOp.{RegOp}
 use Rattle.script_lang.specs.declared.operation.Step.{Step}
 use Rattle.script_lang.specs.declared.operation.Step.TheVariants.{Do, Dispatch}
 use Rattle.transcript.specs.declared.planned.PieceAt.{PieceAt}
-use Rattle.transcript.specs.Plan.{ClientBodies, AreSound, IsWithinBody, moved, begun, dispatches, ops_on, plan, with_dispatch, all_dispatches, operations, words_asked}
+use Rattle.transcript.specs.Plan.{ClientBodies, no_bodies, AreSound, IsWithinBody, moved, begun, dispatches, ops_on, plan, with_dispatch, all_dispatches, operations, words_asked}
 use Rattle.transcript.specs.Steps.{continued, IsPlanning}
 
 -- ---- indices
@@ -147,3 +147,13 @@ module _ (payload board : ℕ) (steps : List Step) (i : ℕ) (all : ClientBodies
             sum_by-cons (λ (o : RegOp). op_count o.op) op (operations (drop (i + 1) steps)) in
             omega (arith, few_words board op);
       }
+
+pub at_start : (payload board : ℕ) (steps : List Step) → AllByRecursion CanBePacked steps → words_asked steps ≤ 2 ^ 31
+    → IsPlanning payload board steps 0 no_bodies []
+at_start payload board steps can few = record {
+  planned = ap (fold with_dispatch no_bodies) (sym (begins_anew payload board steps));
+  sound = record { spelled = tt; within = tt };
+  can = All-nil CanBeCut;
+  can_later = can;
+  few = omega arith;
+}

@@ -51,14 +51,15 @@ bodies_in dispatches = map (λ (c : Contents). c.bodies) dispatches
 
 -- ---- the plan as one list
 
--- All bodies of a client on a board, and where the pieces of each of its operations there stand. The bodies are
--- numbered from 0 through all dispatches.
+-- All bodies of a client on a board, where the pieces of each of its operations there stand, and how many bodies each
+-- dispatch has. The bodies are numbered from 0 through all dispatches.
 pub record ClientBodies : Type 0 where
   pub bodies : List (List ℕ)
   pub pieces : List (List PieceAt)
+  pub counts : List ℕ
 
 abbrev pub no_bodies : ClientBodies
-no_bodies = record { bodies = []; pieces = [] }
+no_bodies = record { bodies = []; pieces = []; counts = [] }
 
 -- a piece in a dispatch that begins with the body of this number
 abbrev pub moved : ℕ → Piece → PieceAt
@@ -69,6 +70,7 @@ abbrev pub with_dispatch : ClientBodies → Contents → ClientBodies
 with_dispatch all dispatch = record {
   bodies = all.bodies ++ dispatch.bodies;
   pieces = all.pieces ++ map (λ pieces. map (moved (length all.bodies)) pieces) dispatch.pieces;
+  counts = all.counts ++ length dispatch.bodies ∷ [];
 }
 
 abbrev pub all_dispatches : List Contents → ClientBodies

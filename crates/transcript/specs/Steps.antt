@@ -60,7 +60,7 @@ is_of kind.Lost outcome = is_lost outcome
 -- ---- planning
 
 abbrev pub so_far : Planning → ClientBodies
-so_far p = record { bodies = p.bodies.items; pieces = p.pieces.items }
+so_far p = record { bodies = p.bodies.items; pieces = p.pieces.items; counts = p.counts.items }
 
 -- the dispatches that are left, the first of which begins with the operations that wait
 abbrev pub continued : ℕ → ℕ → List Op → List (List RegOp) → List Contents

@@ -112,6 +112,7 @@ fn push_bodies(all: &mut Vec<Words>, bodies: Vec<Words>) -> Result<(), NoMemory>
 struct Planning {
     bodies: Vec<Words>,
     pieces: Vec<OpPieces>,
+    counts: Vec<usize>,
     queued: Vec<Op>,
 }
 
@@ -143,7 +144,7 @@ fn dispatch(alloc: Global, planning: &mut Planning, payload: u32) -> Result<(), 
     ensures sound { OnOk result (spec.AreSound (so_far planning.new)) }
 {
     if planning.queued.is_empty() {
-        return Ok(());
+        return Ok(planning.counts.push(0)?);
     }
     pieces_are_no_more_than_words();
     packing_is_a_function();
@@ -153,6 +154,7 @@ fn dispatch(alloc: Global, planning: &mut Planning, payload: u32) -> Result<(), 
     let count = planning.queued.len();
     push_pieces(alloc, &mut planning.pieces, &packed, count, first)?;
     let (bodies, _) = packed.into_parts();
+    planning.counts.push(bodies.len())?;
     push_bodies(&mut planning.bodies, bodies)?;
     planning.queued.clear();
     Ok(())
@@ -174,6 +176,7 @@ fn pack_dispatches(
     let mut planning = Planning {
         bodies: Vec::new(alloc),
         pieces: Vec::new(alloc),
+        counts: Vec::new(alloc),
         queued: Vec::new(alloc),
     };
     for step in steps {
@@ -183,8 +186,19 @@ fn pack_dispatches(
         }
     }
     dispatch(alloc, &mut planning, payload)?;
-    let Planning { bodies, pieces, .. } = planning;
-    Ok(Planned::new(bodies, pieces))
+    let Planning {
+        bodies,
+        pieces,
+        counts,
+        ..
+    } = planning;
+    Ok(Planned::new(bodies, pieces, counts))
+}
+
+fn nothing(alloc: Global) -> Planned
+    ensures { result ≡ spec.no_bodies }
+{
+    Planned::new(Vec::new(alloc), Vec::new(alloc), Vec::new(alloc))
 }
 
 /// The bodies of a client's steps on the board at a position from 0, and where the pieces of each operation stand in
@@ -206,6 +220,6 @@ pub fn plan_on(
 {
     match greeting {
         Greeting::Live { payload } => pack_dispatches(alloc, steps, board, payload),
-        Greeting::Silent | Greeting::Down => Ok(Planned::new(Vec::new(alloc), Vec::new(alloc))),
+        Greeting::Silent | Greeting::Down => Ok(nothing(alloc)),
     }
 }

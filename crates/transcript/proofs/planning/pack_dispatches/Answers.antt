@@ -2,9 +2,14 @@ use Rattle.std.proofs.Common.{◌≡◌, ◌+◌, ◌∙◌, sym, ap, subst}
 use Rattle.transcript.specs.declared.planning.Planning.{Planning}
 use Rattle.transcript.specs.Plan.{AreSound}
 use Rattle.transcript.specs.Steps.{IsPlanning, so_far}
-use Rattle.transcript.proofs.PlanLemmas.{after_dispatch, after_operation}
+use Rattle.transcript.proofs.PlanLemmas.{after_dispatch, after_operation, at_start}
 use Rattle.transcript.proofs.planning.pack_dispatches.Goals as goal
 use Rattle.transcript.proofs.planning.pack_dispatches.Goals.{in-Do+in_ok-queue-in-Do, in-Dispatch+in_ok-dispatch-in-Dispatch}
+
+pub loop-step-init : goal.loop-step-init
+loop-step-init c =
+    rw (c.new.ensures.items, c.new-2.ensures.items, c.new-3.ensures.items, c.new-4.ensures.items)
+    (at_start c.args.payload c.args.board c.args.steps.now c.requires.can c.requires.few)
 
 pub loop-step-preserved : goal.loop-step-preserved
 loop-step-preserved c =
