@@ -8,7 +8,7 @@ use Rattle.script_lang.specs.declared.operation.Verb.{Verb}
 use Rattle.script_lang.specs.Lines.{takes, call_of, command_of, dispatch_of, numbers_of, is_comment, verb_named}
 use Rattle.script_lang.specs.Texts.{◌>>=◌, cut_at}
 
-abbrev AsksWell : Option Command → Type 0
+abbrev pub AsksWell : Option Command → Type 0
 AsksWell None = Unit {0}
 AsksWell (Some Nothing) = Unit {0}
 AsksWell (Some Dispatch) = Unit {0}
@@ -46,7 +46,7 @@ by_word : (b : Bool) (one other : Option Command) → AsksWell one → AsksWell 
 by_word true one other first second = first
 by_word false one other first second = second
 
-command_asks : (words : List (List ℕ)) → AsksWell (command_of words)
+pub command_asks : (words : List (List ℕ)) → AsksWell (command_of words)
 command_asks [] = tt
 command_asks (word ∷ words) =
     by_word (is_comment word) (Some Nothing) (if bytes_eq word (codes "dispatch") then dispatch_of words else (verb_named word >>= λ verb. call_of verb words)) tt

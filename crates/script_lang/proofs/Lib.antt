@@ -8,9 +8,11 @@ pub mod BoardNames
 pub mod Answered
 pub mod InOrder
 pub mod OneAnswer
+pub mod Kept
 pub mod InRanges
 pub mod LineWords
 pub mod MaskedValues
 pub mod RunsTell
 pub mod Packable
 pub mod Asking
+pub mod FewPieces

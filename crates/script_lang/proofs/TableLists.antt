@@ -57,7 +57,7 @@ next_at Less rest found have d t last is h = h
 next_at Greater rest found have d t last is h = h
 next_at Equal rest found have d t last is h = rw (last refl, h) is
 
-same_name : (name k : Name) → slice_cmp nat_cmp name k ≡ Equal → name ≡ k
+pub same_name : (name k : Name) → slice_cmp nat_cmp name k ≡ Equal → name ≡ k
 same_name name k h = (bytes_eq-Decides name k).0 (sym (is_eq-slice_cmp name k) ∙ ap is_eq h)
 
 -- one more table is read

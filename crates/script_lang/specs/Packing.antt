@@ -1,5 +1,9 @@
--- The operations of steps are operations that packing takes. Profile.
-use Rattle.mtu_packer.specs.Cutting.{CanBeCut}
+-- What packing asks of the operations of steps. Profile.
+use Rattle.std.specs.Prelude.{◌≡◌, ◌⊎◌, ℕ, ◌^◌, ◌≤◌, List, [], ◌∷◌, length, Option, Some, None}
+use Rattle.std.specs.List.{filter_map, flat_map}
+use Rattle.mtu_packer.specs.Cutting.{CanBeCut, cut}
+use Rattle.mtu_packer.specs.declared.packing.TheConstants.{MIN_PAYLOAD}
+use Rattle.transaction_codec.specs.declared.request.Op.{Op}
 use Rattle.script_lang.specs.declared.operation.Step.{Step}
 use Rattle.script_lang.specs.declared.operation.Step.TheVariants.{Do, Dispatch}
 
@@ -7,3 +11,23 @@ use Rattle.script_lang.specs.declared.operation.Step.TheVariants.{Do, Dispatch}
 abbrev pub CanBePacked : Step → Type 0
 CanBePacked (Do op) = CanBeCut op.op
 CanBePacked Dispatch = Unit {0}
+
+abbrev pub operation_of : Step → Option Op
+operation_of (Do op) = Some op.op
+operation_of Dispatch = None
+
+-- the operations of steps, in order
+abbrev pub operations : List Step → List Op
+operations steps = filter_map operation_of steps
+
+-- some items of a list, in its order
+abbrev pub IsSelection : {T : Type 0} → List T → List T → Type 0
+IsSelection [] xs = Unit {0}
+IsSelection (y ∷ ys) [] = ⊥
+IsSelection (y ∷ ys) (x ∷ xs) = ((y ≡ x) × IsSelection ys xs) ⊎ IsSelection (y ∷ ys) xs
+
+-- The operations of a client, or any of them, are cut into no more pieces than packing takes, whatever packets their board takes.
+abbrev pub HaveFewPieces : List Step → Type 0
+HaveFewPieces steps =
+    (ops : List Op) (payload : ℕ) → IsSelection ops (operations steps) → MIN_PAYLOAD ≤ payload
+    → length (flat_map (cut payload) ops) ≤ 2 ^ 31

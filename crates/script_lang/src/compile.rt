@@ -4,7 +4,7 @@ ghost use Rattle.std.specs.Prelude.{◌≡◌, ◌≤◌, ◌+◌, [], false, tr
 ghost use Rattle.std.specs.List.{AllByRecursion};
 ghost use Rattle.node_tree.specs.Maps.{IsRegister};
 ghost use Rattle.script_lang.specs.Lines.{takes};
-ghost use Rattle.script_lang.specs.Packing.{CanBePacked};
+ghost use Rattle.script_lang.specs.Packing.{CanBePacked, HaveFewPieces};
 ghost use Rattle.script_lang.specs.Operations as op;
 ghost use Rattle.script_lang.specs.Scripts as spec;
 ghost use Rattle.script_lang.specs.Tallies.{line_run, run_from, run_all, nothing, StopsAs};
@@ -37,8 +37,9 @@ pub fn compile_scripts(
     ensures accepted { OnOk result (spec.script_faults session.now.boards indexes.now session.now.scripts ≡ []) }
     ensures refused { let faults = spec.script_faults session.now.boards indexes.now session.now.scripts in
         IfErr result (spec.TellsLine (slice_get faults 0)) }
-    // Each operation can be packed, whatever packets its board takes.
+    // Each operation can be packed, whatever packets its board takes, and those of a client are few enough.
     ensures packed { IfOk result (λ all. AllByRecursion (AllByRecursion CanBePacked) all.items) }
+    ensures few { IfOk result (λ all. AllByRecursion HaveFewPieces all.items) }
 {
     let boards = session.boards.as_slice();
     let scripts = session.scripts.as_slice();

