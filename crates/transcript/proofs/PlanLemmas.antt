@@ -1,24 +1,25 @@
 -- Planning, step by step, and what holds of the bodies of a plan.
 use Rattle.std.proofs.Common.{◌≡◌, ℕ, zero, suc, ◌+◌, ◌≤◌, ◌<◌, ◌^◌, ◌==◌, Bool, true, false, length, get_or, take, drop, map, List, [], ◌∷◌, ◌++◌}
-use Rattle.std.proofs.Common.{refl, sym, ap, subst, ◌∙◌, inl, inr, arith, append_assoc, append-nil, add-one, add-zero, drop-cons, sum_by}
-use Rattle.std.specs.List.{AllByRecursion, All, fold, range_with_len}
+use Rattle.std.proofs.Common.{refl, sym, ap, subst, ◌∙◌, inl, inr, arith, append_assoc, append-nil, add-one, add-zero, drop-cons}
+use Rattle.std.specs.List.{AllByRecursion, All, flat_map, fold, range_with_len}
 use Rattle.std.proofs.lemmas.Bool.{cases_Bool}
 use Rattle.std.proofs.lemmas.List.Elements.{All-nil, All-cons, All-append}
-use Rattle.std.proofs.lemmas.List.Sums.{sum_by-append, sum_by-cons}
 use Rattle.ipb_base.proofs.AllLemmas.{AllByRecursion-append, all_of_each}
 use Rattle.transaction_codec.specs.declared.request.Op.{Op}
-use Rattle.transaction_codec.specs.Request.{AreRequests, op_count}
+use Rattle.transaction_codec.specs.Request.{AreRequests}
 use Rattle.mtu_packer.specs.declared.packed.Piece.{Piece}
-use Rattle.mtu_packer.specs.Cutting.{CanBeCut}
+use Rattle.mtu_packer.specs.Cutting.{CanBeCut, cut}
 use Rattle.mtu_packer.specs.Packing.{AreReadable, requests_from}
-use Rattle.mtu_packer.specs.Packed.{Contents, IsPacked, packed, places_in, places_from}
-use Rattle.script_lang.specs.Packing.{CanBePacked}
+use Rattle.mtu_packer.specs.Packed.{Contents, FitsPackets, IsPacked, packed, places_in, places_from}
+use Rattle.script_lang.specs.Packing.{CanBePacked, IsSelection, HaveFewPieces}
+use Rattle.script_lang.specs.Packing as script
+use Rattle.mtu_packer.specs.declared.packing.TheConstants.{MIN_PAYLOAD}
 use Rattle.script_lang.specs.declared.operation.RegOp.{RegOp}
 use Rattle.script_lang.specs.declared.operation.Step.{Step}
 use Rattle.script_lang.specs.declared.operation.Step.TheVariants.{Do, Dispatch}
 use Rattle.transcript.specs.declared.planned.PieceAt.{PieceAt}
-use Rattle.transcript.specs.Plan.{ClientBodies, no_bodies, AreSound, IsWithinBody, moved, begun, dispatches, ops_on, plan, with_dispatch, all_dispatches, operations, words_asked}
-use Rattle.transcript.specs.Steps.{continued, IsPlanning}
+use Rattle.transcript.specs.Plan.{ClientBodies, no_bodies, AreSound, IsWithinBody, moved, begun, dispatches, ops_on, plan, with_dispatch, all_dispatches, operations}
+use Rattle.transcript.specs.Steps.{continued, HaveFewBehind, IsPlanning}
 
 -- ---- indices
 
@@ -78,12 +79,23 @@ can_be_cut board op can =
       | inr away ↦ rw away (All-nil CanBeCut)
     ]
 
-few_words : (board : ℕ) (op : RegOp) → sum_by op_count (ops_on board (op ∷ [])) ≤ op_count op.op
-few_words board op =
+-- a selection of the rest is one of all, with the first or without
+selected_later : (ops : List Op) (first : Op) (rest : List Op) → IsSelection ops rest → IsSelection ops (first ∷ rest)
+selected_later [] first rest is = tt
+selected_later (op ∷ ops) first rest is = inr is
+
+-- what waits and an operation more are few, where what waits was, with any selection of the rest
+few_more : (payload board : ℕ) (queued : List Op) (op : RegOp) (steps : List Step) → HaveFewBehind payload queued (Do op ∷ steps)
+    → HaveFewBehind payload (queued ++ ops_on board (op ∷ [])) steps
+few_more payload board queued op steps few ops is =
     elim (cases_Bool (op.board == board)) [
-      | inl here ↦ rw here (omega (arith, sum_by-cons op_count op.op []))
-      | inr away ↦ rw away (omega arith)
+      | inl here ↦ rw (here, append_assoc) (few (op.op ∷ ops) (inl (refl, is)))
+      | inr away ↦ rw (away, append-nil) (few ops (selected_later ops op.op (script.operations steps) is))
     ]
+
+few_without : (payload : ℕ) (queued : List Op) (op : RegOp) (steps : List Step) → HaveFewBehind payload queued (Do op ∷ steps)
+    → HaveFewBehind payload queued steps
+few_without payload queued op steps few ops is = few ops (selected_later ops op.op (script.operations steps) is)
 
 module _ (payload board : ℕ) where
   queued_on : (queued : List Op) (op : RegOp) (later : List (List RegOp))
@@ -111,11 +123,12 @@ module _ (payload board : ℕ) (steps : List Step) (i : ℕ) (all : ClientBodies
   left = drop-cons steps i step within ∙ (ap (λ s. s ∷ drop (suc i) steps) (sym is) ∙ rw add-one)
 
   pub after_dispatch : step ≡ Dispatch → AreSound (with_dispatch all (packed payload queued))
+      → AllByRecursion (FitsPackets payload) (with_dispatch all (packed payload queued)).bodies
       → IsPlanning payload board steps (i + 1) (with_dispatch all (packed payload queued)) []
-  after_dispatch none sound =
+  after_dispatch none sound room =
       let rest : drop i steps ≡ Dispatch ∷ drop (i + 1) steps = left ∙ ap (λ s. s ∷ drop (i + 1) steps) none in
       let planned = rw rest at so_far.planned in
-      let few = rw rest at so_far.few in
+      let few : HaveFewBehind payload [] (drop (i + 1) steps) = subst (HaveFewBehind payload []) rest so_far.few_later in
       let can = rw rest at so_far.can_later in
       record {
         planned =
@@ -123,9 +136,11 @@ module _ (payload board : ℕ) (steps : List Step) (i : ℕ) (all : ClientBodies
             ∙ (ap (λ ops. fold with_dispatch (with_dispatch all (packed payload ops))
             (map (λ ops. packed payload (ops_on board ops)) (dispatches (drop (i + 1) steps)))) (sym (append-nil queued)) ∙ planned);
         sound = sound;
+        room = room;
         can = All-nil CanBeCut;
         can_later = can.1;
-        few = omega arith;
+        few = few;
+        few_later = few;
       }
 
   pub after_operation : (op : RegOp) → step ≡ Do op
@@ -133,27 +148,31 @@ module _ (payload board : ℕ) (steps : List Step) (i : ℕ) (all : ClientBodies
   after_operation op asks =
       let rest : drop i steps ≡ Do op ∷ drop (i + 1) steps = left ∙ ap (λ s. s ∷ drop (i + 1) steps) asks in
       let planned = rw rest at so_far.planned in
-      let few = rw rest at so_far.few in
       let can = rw rest at so_far.can_later in
       record {
         planned = ap (fold with_dispatch all) (sym (queued_on payload board queued op (dispatches (drop (i + 1) steps)))) ∙ planned;
         sound = so_far.sound;
+        room = so_far.room;
         can = All-append CanBeCut queued (ops_on board (op ∷ [])) so_far.can (can_be_cut board op can.0);
         can_later = can.1;
-        few =
-            let more : sum_by op_count (queued ++ ops_on board (op ∷ [])) ≡ sum_by op_count queued + sum_by op_count (ops_on board (op ∷ [])) =
-            sum_by-append op_count queued (ops_on board (op ∷ [])) in
-            let asked : words_asked (Do op ∷ drop (i + 1) steps) ≡ op_count op.op + words_asked (drop (i + 1) steps) =
-            sum_by-cons (λ (o : RegOp). op_count o.op) op (operations (drop (i + 1) steps)) in
-            omega (arith, few_words board op);
+        few = few_more payload board queued op (drop (i + 1) steps) (subst (HaveFewBehind payload queued) rest so_far.few);
+        few_later = few_without payload [] op (drop (i + 1) steps) (subst (HaveFewBehind payload []) rest so_far.few_later);
       }
 
-pub at_start : (payload board : ℕ) (steps : List Step) → AllByRecursion CanBePacked steps → words_asked steps ≤ 2 ^ 31
-    → IsPlanning payload board steps 0 no_bodies []
-at_start payload board steps can few = record {
+pub at_start : (payload board : ℕ) (steps : List Step) → AllByRecursion CanBePacked steps → MIN_PAYLOAD ≤ payload
+    → HaveFewPieces steps → IsPlanning payload board steps 0 no_bodies []
+at_start payload board steps can low few = record {
   planned = ap (fold with_dispatch no_bodies) (sym (begins_anew payload board steps));
   sound = record { spelled = tt; within = tt };
+  room = tt;
   can = All-nil CanBeCut;
   can_later = can;
-  few = omega arith;
+  few = λ ops is. few ops payload is low;
+  few_later = λ ops is. few ops payload is low;
 }
+
+-- what waits alone is few
+pub few_waiting : (payload : ℕ) (queued : List Op) (steps : List Step) → HaveFewBehind payload queued steps
+    → length (flat_map (cut payload) queued) ≤ 2 ^ 31
+few_waiting payload queued steps few =
+    subst (λ ops. length (flat_map (cut payload) ops) ≤ 2 ^ 31) (append-nil queued) (few [] tt)

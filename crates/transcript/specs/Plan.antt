@@ -1,13 +1,13 @@
 -- What a client asks of its boards: the bodies of its scripts' operations, dispatch by dispatch. uHAL: operations are
 -- queued, and sent at a dispatch. Profile.
-use Rattle.std.specs.Prelude.{ℕ, ◌+◌, ◌<◌, ◌≤◌, ◌^◌, ◌==◌, if◌then◌else◌, List, [], ◌∷◌, ◌++◌, length, map, fold, sum_by}
+use Rattle.std.specs.Prelude.{ℕ, ◌+◌, ◌<◌, ◌≤◌, ◌^◌, ◌==◌, if◌then◌else◌, List, [], ◌∷◌, ◌++◌, length, map, fold}
 use Rattle.std.specs.List.{AllByRecursion, filter_map}
 use Rattle.std.specs.Prelude.{Option, Some, None}
 use Rattle.transaction_codec.specs.declared.request.Op.{Op}
-use Rattle.transaction_codec.specs.Request.{SpellsRequests, op_count}
+use Rattle.transaction_codec.specs.Request.{SpellsRequests}
 use Rattle.mtu_packer.specs.declared.packed.Piece.{Piece}
 use Rattle.mtu_packer.specs.declared.packing.TheConstants.{MIN_PAYLOAD, MAX_PAYLOAD}
-use Rattle.mtu_packer.specs.Packed.{Contents, packed}
+use Rattle.mtu_packer.specs.Packed.{Contents, FitsPackets, packed}
 use Rattle.script_lang.specs.declared.operation.RegOp.{RegOp}
 use Rattle.script_lang.specs.declared.operation.Step.{Step}
 use Rattle.script_lang.specs.declared.operation.Step.TheVariants.{Do, Dispatch}
@@ -82,15 +82,17 @@ planned_on board (Live payload) steps = all_dispatches (plan payload board steps
 planned_on board Silent steps = no_bodies
 planned_on board Down steps = no_bodies
 
--- the words that a client's operations read and write
-abbrev pub words_asked : List Step → ℕ
-words_asked steps = sum_by (λ (op : RegOp). op_count op.op) (operations steps)
-
 -- what a greeting can tell of the packets of a live board
 abbrev pub IsGreeting : Greeting → Type 0
 IsGreeting (Live payload) = (MIN_PAYLOAD ≤ payload) × (payload ≤ MAX_PAYLOAD)
 IsGreeting Silent = Unit {0}
 IsGreeting Down = Unit {0}
+
+-- the packets that a live board takes have room for bodies and for the longest answers to them
+abbrev pub FitGreeting : Greeting → List (List ℕ) → Type 0
+FitGreeting (Live payload) bodies = AllByRecursion (FitsPackets payload) bodies
+FitGreeting Silent bodies = Unit {0}
+FitGreeting Down bodies = Unit {0}
 
 -- ---- what holds of the bodies of every plan
 

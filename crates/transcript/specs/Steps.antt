@@ -12,15 +12,15 @@ use Rattle.transcript.specs.declared.line.OpResult.{OpResult}
 use Rattle.transcript.specs.declared.line.OpLine.{OpLine}
 use Rattle.transcript.specs.declared.boards.Kind.{Kind}
 use Rattle.transcript.specs.declared.boards.Kind.TheVariants as kind
-use Rattle.std.specs.Prelude.{All, fold, sum_by}
-use Rattle.std.specs.List.{AllByRecursion}
+use Rattle.std.specs.Prelude.{All, fold}
+use Rattle.std.specs.List.{AllByRecursion, flat_map}
 use Rattle.transaction_codec.specs.declared.request.Op.{Op}
-use Rattle.transaction_codec.specs.Request.{op_count}
-use Rattle.mtu_packer.specs.Cutting.{CanBeCut}
-use Rattle.mtu_packer.specs.Packed.{Contents, packed}
-use Rattle.script_lang.specs.Packing.{CanBePacked}
+use Rattle.mtu_packer.specs.Cutting.{CanBeCut, cut}
+use Rattle.mtu_packer.specs.Packed.{Contents, FitsPackets, packed}
+use Rattle.script_lang.specs.Packing.{CanBePacked, IsSelection}
+use Rattle.script_lang.specs.Packing as script
 use Rattle.transcript.specs.declared.planning.Planning.{Planning}
-use Rattle.transcript.specs.Plan.{ClientBodies, AreSound, operations, dispatches, ops_on, plan, with_dispatch, all_dispatches, words_asked}
+use Rattle.transcript.specs.Plan.{ClientBodies, AreSound, operations, dispatches, ops_on, plan, with_dispatch, all_dispatches}
 use Rattle.transcript.specs.Ends.{ends_of}
 use Rattle.transcript.specs.Results.{is_good}
 use Rattle.transcript.specs.Lines.{showing, line_with, lines_behind, client_lines, count_on, is_sent, is_replied, is_timed_out, is_lost}
@@ -68,10 +68,17 @@ continued payload board queued [] = packed payload queued ∷ []
 continued payload board queued (dispatch ∷ later) =
     packed payload (queued ++ ops_on board dispatch) ∷ map (λ ops. packed payload (ops_on board ops)) later
 
+-- selections of operations, behind these, are cut into no more pieces than packing takes
+abbrev pub HaveFewBehind : ℕ → List Op → List Step → Type 0
+HaveFewBehind payload queued steps =
+    (ops : List Op) → IsSelection ops (script.operations steps) → length (flat_map (cut payload) (queued ++ ops)) ≤ 2 ^ 31
+
 -- where the first `i` steps are planned, but for what waits for the next dispatch
 pub record IsPlanning (payload board : ℕ) (steps : List Step) (i : ℕ) (all : ClientBodies) (queued : List Op) : Type 0 where
   pub planned : fold with_dispatch all (continued payload board queued (dispatches (drop i steps))) ≡ all_dispatches (plan payload board steps)
   pub sound : AreSound all
+  pub room : AllByRecursion (FitsPackets payload) all.bodies
   pub can : All CanBeCut queued
   pub can_later : AllByRecursion CanBePacked (drop i steps)
-  pub few : sum_by op_count queued + words_asked (drop i steps) ≤ 2 ^ 31
+  pub few : HaveFewBehind payload queued (drop i steps)
+  pub few_later : HaveFewBehind payload [] (drop i steps)

@@ -1,21 +1,18 @@
 //! The operations of a client on one board, packed dispatch by dispatch.
 
-ghost use Rattle.std.specs.Prelude.{◌≡◌, ◌+◌, ◌++◌, ◌∷◌, ◌^◌, ◌<◌, ◌≤◌, [], All, IfOk, OnOk, length, map, sum_by};
-ghost use Rattle.std.specs.List.{AllByRecursion};
-ghost use Rattle.transaction_codec.specs.Request.{op_count};
-ghost use Rattle.mtu_packer.specs.Cutting.{CanBeCut};
-ghost use Rattle.mtu_packer.specs.Packed.{packed};
+ghost use Rattle.std.specs.Prelude.{◌≡◌, ◌+◌, ◌++◌, ◌∷◌, ◌^◌, ◌<◌, ◌≤◌, [], All, IfOk, OnOk, length, map};
+ghost use Rattle.std.specs.List.{AllByRecursion, flat_map};
+ghost use Rattle.mtu_packer.specs.Cutting.{CanBeCut, cut};
+ghost use Rattle.mtu_packer.specs.Packed.{FitsPackets, packed};
 ghost use Rattle.mtu_packer.specs.declared.packing.TheConstants.{MIN_PAYLOAD, MAX_PAYLOAD};
-ghost use Rattle.script_lang.specs.Packing.{CanBePacked};
+ghost use Rattle.script_lang.specs.Packing.{CanBePacked, HaveFewPieces};
 ghost use Rattle.transcript.specs.Plan as spec;
 ghost use Rattle.transcript.specs.Steps.{so_far};
 
 use crate::outcome::Greeting;
 use crate::planned::{OpPieces, PieceAt, Planned};
 use ipb_base::{NoMemory, Words};
-use mtu_packer::laws::{
-    packed_bodies_spell_requests, packing_is_a_function, pieces_are_no_more_than_words,
-};
+use mtu_packer::laws::{packed_bodies_spell_requests, packing_is_a_function};
 use mtu_packer::{Packed, Piece, pack};
 use script_lang::{RegOp, Step};
 use std::alloc::Global;
@@ -136,17 +133,18 @@ fn dispatch(alloc: Global, planning: &mut Planning, payload: u32) -> Result<(), 
     requires payload_low { MIN_PAYLOAD ≤ payload }
     requires payload_high { payload ≤ MAX_PAYLOAD }
     requires can { All CanBeCut planning.old.queued.items }
-    requires few { sum_by op_count planning.old.queued.items ≤ 2 ^ 31 }
+    requires few { length (flat_map (cut payload) planning.old.queued.items) ≤ 2 ^ 31 }
     requires sound { spec.AreSound (so_far planning.old) }
+    requires room { AllByRecursion (FitsPackets payload) planning.old.bodies.items }
     ensures planned { OnOk result (so_far planning.new
         ≡ spec.with_dispatch (so_far planning.old) (packed payload planning.old.queued.items)) }
     ensures emptied { OnOk result (planning.new.queued.items ≡ []) }
     ensures sound { OnOk result (spec.AreSound (so_far planning.new)) }
+    ensures room { OnOk result (AllByRecursion (FitsPackets payload) planning.new.bodies.items) }
 {
     if planning.queued.is_empty() {
         return Ok(planning.counts.push(0)?);
     }
-    pieces_are_no_more_than_words();
     packing_is_a_function();
     packed_bodies_spell_requests();
     let packed = pack(alloc, planning.queued.as_slice(), payload)?;
@@ -170,8 +168,9 @@ fn pack_dispatches(
     requires payload_low { MIN_PAYLOAD ≤ payload }
     requires payload_high { payload ≤ MAX_PAYLOAD }
     requires can { AllByRecursion CanBePacked steps.now }
-    requires few { spec.words_asked steps.now ≤ 2 ^ 31 }
-    ensures { IfOk result (λ planned. planned ≡ spec.all_dispatches (spec.plan payload board steps.now)) }
+    requires few { HaveFewPieces steps.now }
+    ensures planned { IfOk result (λ planned. planned ≡ spec.all_dispatches (spec.plan payload board steps.now)) }
+    ensures room { IfOk result (λ planned. AllByRecursion (FitsPackets payload) planned.bodies) }
 {
     let mut planning = Planning {
         bodies: Vec::new(alloc),
@@ -205,8 +204,8 @@ fn nothing(alloc: Global) -> Planned
 /// them. Each dispatch is packed on its own, for the packets that the board takes (profile); a board that is not live is
 /// asked nothing.
 ///
-/// The operations can be packed, and have at most 2^31 words together. A live board takes packets of `MIN_PAYLOAD` to
-/// `MAX_PAYLOAD` words.
+/// The operations can be packed and cut into few enough pieces, as those of compiled scripts can. A live board takes
+/// packets of `MIN_PAYLOAD` to `MAX_PAYLOAD` words.
 pub fn plan_on(
     alloc: Global,
     steps: &[Step],
@@ -215,8 +214,10 @@ pub fn plan_on(
 ) -> Result<Planned, NoMemory>
     requires payload { spec.IsGreeting greeting }
     requires can { AllByRecursion CanBePacked steps.now }
-    requires few { spec.words_asked steps.now ≤ 2 ^ 31 }
-    ensures { IfOk result (λ planned. planned ≡ spec.planned_on board greeting steps.now) }
+    requires few { HaveFewPieces steps.now }
+    ensures planned { IfOk result (λ planned. planned ≡ spec.planned_on board greeting steps.now) }
+    // Each body and the longest answer to it fit packets of the board.
+    ensures room { IfOk result (λ planned. spec.FitGreeting greeting planned.bodies) }
 {
     match greeting {
         Greeting::Live { payload } => pack_dispatches(alloc, steps, board, payload),
