@@ -1,9 +1,13 @@
--- The numbers that a user of the program sees: its exit statuses, and the limits of a session document. Profile.
+-- The exit statuses that a user of the program sees. Profile.
 use Rattle.std.specs.Prelude.{ℕ}
 
--- every line of an operation is a value
+-- every line of an operation is a value, done or was; no registers overlap
 abbrev pub done_status : ℕ
 done_status = 0
+
+-- the text is whole, and some line tells otherwise
+abbrev pub not_all_done_status : ℕ
+not_all_done_status = 1
 
 -- the words are no command
 abbrev pub usage_status : ℕ
@@ -24,15 +28,3 @@ write_fault_status = 5
 -- memory ran out
 abbrev pub no_memory_status : ℕ
 no_memory_status = 6
-
--- the most bytes of a document
-abbrev pub document_bytes : ℕ
-document_bytes = 16777216
-
--- the most nodes of a table, and lines of a script
-abbrev pub listed_items : ℕ
-listed_items = 100
-
--- the most addresses of a board's range
-abbrev pub range_addresses : ℕ
-range_addresses = 65536

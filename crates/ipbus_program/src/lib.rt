@@ -1,23 +1,18 @@
-//! The program `ipbus`: a session document is read, its script is run on the document's board, and what the board
-//! answered is printed.
+//! The program `ipbus`: a session document is read and its scripts are run on its boards, or the registers of one of its
+//! tables are listed.
 #![tactic(auto)]
 
 mod answer;
-mod below;
-mod document;
+mod command;
 mod edges;
-pub mod examples;
-mod exchange;
 pub mod laws;
 mod program;
-mod run;
-mod session;
-mod text;
+mod running;
 
 pub use answer::{
-    DONE, MAX_DOCUMENT, MAX_LISTED, MAX_RANGE, NO_MEMORY, READ_FAULT, REFUSED, Refusal, USAGE,
-    WRITE_FAULT,
+    DONE, NO_MEMORY, NOT_ALL_DONE, READ_FAULT, REFUSED, USAGE, WRITE_FAULT,
 };
+pub use command::Command;
 pub use edges::{ReaderSource, WriterSink};
 pub use program::control;
-pub use session::{BoardSpec, Register, Registers, Session};
+pub use session_input::{MAX_DOCUMENT, Refusal};

@@ -1,5 +1,0 @@
-use Rattle.toml.proofs.Views.{table_get}
-use Rattle.ipbus_program.proofs.document.fields.get.Goals as goal
-
-pub returns : goal.returns
-returns c = table_get c.get.result c.args.key.now c.args.fields.now.entries c.get.ensures.value
