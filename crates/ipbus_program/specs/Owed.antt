@@ -11,35 +11,55 @@ use Rattle.ipbus_program.specs.declared.command.Command.{Command}
 use Rattle.ipbus_program.specs.Commands.{command_of, usage_text}
 use Rattle.ipbus_program.specs.Numbers.{done_status, not_all_done_status, usage_status, refused_status}
 use Rattle.ipbus_program.specs.Numbers.{read_fault_status, write_fault_status, no_memory_status}
-use Rattle.ipbus_program.specs.Runs.{Owes}
+use Rattle.ipbus_program.specs.Runs.{IsDoneOf, IsRefusalOf}
 
--- the words are this command
+-- the words are this command, some command, or none
 abbrev pub AreCommand : List (String Global) → Command → Type 0
 AreCommand words command = command_of (map string_bytes words) ≡ Some command
 
--- the words are no command
+abbrev pub AreSomeCommand : List (String Global) → Type 0
+AreSomeCommand words = (command : Command) × AreCommand words command
+
 abbrev pub AreNoCommand : List (String Global) → Type 0
 AreNoCommand words = command_of (map string_bytes words) ≡ None
 
--- These bytes were read of the input: all that it had, or one more than a document may have.
+-- the input was read to its end, and these bytes are all that it had
+pub record IsReadToEnd (before now : Option (List ℕ)) (bytes : List ℕ) : Type 0 where
+  pub all : before ≡ prepend_known bytes now
+  pub at_end : IsAtEnd now
+
+-- these bytes were read: all that the input had, or one more than a document may have
 pub record IsRead (before now : Option (List ℕ)) (bytes : List ℕ) : Type 0 where
   pub taken : before ≡ prepend_known bytes now
   pub stopped : IsAtEnd now ⊎ (length bytes ≡ document_bytes + 1)
 
--- the bytes were read, and this status and this text are what the command owes to them
-pub record OwesAnswer (command : Command) (before now : Option (List ℕ)) (status : ℕ) (text : List ℕ) : Type 0 where
+-- the bytes of the whole input break no rule of the command, and this status and this text are what it makes of them
+pub record IsDone (command : Command) (before now : Option (List ℕ)) (status : ℕ) (text : List ℕ) : Type 0 where
+  pub bytes : List ℕ
+  pub read : IsReadToEnd before now bytes
+  pub done : IsDoneOf command bytes status text
+
+-- the bytes that were read deserve a refusal, and the text is its line
+pub record IsRefused (command : Command) (before now : Option (List ℕ)) (text : List ℕ) : Type 0 where
   pub bytes : List ℕ
   pub read : IsRead before now bytes
-  pub owed : Owes command bytes status text
+  pub refused : IsRefusalOf command bytes text
 
--- the words are a command, and this is what it owes to the input
-pub record OwesCommand (words : List (String Global)) (before now : Option (List ℕ)) (status : ℕ) (text : List ℕ)
-    : Type 0 where
-  pub command : Command
-  pub words_are : AreCommand words command
-  pub answer : OwesAnswer command before now status text
+-- What a command answers to an input.
+abbrev pub AnswersInput : Command → Option (List ℕ) → Option (List ℕ) → ℕ → List ℕ → Type 0
+AnswersInput command before now status text =
+    IsDone command before now status text ⊎ ((status ≡ refused_status) × IsRefused command before now text)
 
--- the words are no command: nothing was read, and the text is the usage line
+-- what the words owe that are a command: what it makes of the input, or the line of a refusal
+abbrev pub OwesDone : List (String Global) → Option (List ℕ) → Option (List ℕ) → ℕ → List ℕ → Type 0
+OwesDone words before now status text =
+    (command : Command) × AreCommand words command × IsDone command before now status text
+
+abbrev pub OwesRefusal : List (String Global) → Option (List ℕ) → Option (List ℕ) → List ℕ → Type 0
+OwesRefusal words before now text =
+    (command : Command) × AreCommand words command × IsRefused command before now text
+
+-- and those that are none: nothing was read, and the text is the usage line
 pub record OwesUsage (words : List (String Global)) (before now : Option (List ℕ)) (text : List ℕ) : Type 0 where
   pub words_are : AreNoCommand words
   pub unread : now ≡ before
@@ -48,7 +68,9 @@ pub record OwesUsage (words : List (String Global)) (before now : Option (List �
 -- A status and a text that go together for these words and this input.
 abbrev pub OwesWords : List (String Global) → Option (List ℕ) → Option (List ℕ) → ℕ → List ℕ → Type 0
 OwesWords words before now status text =
-    OwesCommand words before now status text ⊎ ((status ≡ usage_status) × OwesUsage words before now text)
+    OwesDone words before now status text
+    ⊎ ((status ≡ refused_status) × OwesRefusal words before now text)
+    ⊎ ((status ≡ usage_status) × OwesUsage words before now text)
 
 -- a text that is owed for these words and this input
 abbrev pub OwesText : List (String Global) → Option (List ℕ) → Option (List ℕ) → List ℕ → Type 0

@@ -1,6 +1,7 @@
 //! The words of a command line.
 
-ghost use Rattle.std.specs.Prelude.{◌≡◌, IfOk, map, string_bytes};
+ghost use Rattle.std.specs.Prelude.{◌≡◌, Some, IfOk, OnErr, map, string_bytes};
+ghost use Rattle.ipbus_program.specs.declared.command.Command.TheVariants.{Check};
 ghost use Rattle.ipbus_program.specs.Commands as spec;
 
 use ipb_base::{NoMemory, Text};
@@ -17,7 +18,9 @@ pub enum Command {
 
 /// The command that words are, if they are one. A word that begins with a hyphen is in none.
 pub fn command_of(alloc: Global, words: &[String]) -> Result<Option<Command>, NoMemory>
-    ensures { IfOk result (λ command. command ≡ spec.command_of (map string_bytes words.now)) }
+    ensures command { IfOk result (λ command. command ≡ spec.command_of (map string_bytes words.now)) }
+    // Memory may run out only where the words are a command.
+    ensures no_memory { OnErr result (spec.AreSome (map string_bytes words.now)) }
 {
     match words {
         [word] => Ok(single(word.as_str())),
@@ -33,7 +36,8 @@ fn single(word: &str) -> Option<Command>
 }
 
 fn pair(alloc: Global, word: &str, table: &str) -> Result<Option<Command>, NoMemory>
-    ensures { IfOk result (λ command. command ≡ spec.command_of_two word.now table.now) }
+    ensures command { IfOk result (λ command. command ≡ spec.command_of_two word.now table.now) }
+    ensures no_memory { OnErr result (spec.command_of_two word.now table.now ≡ Some (Check table.now)) }
 {
     if word == "check" && !is_option(table.as_bytes()) {
         Ok(Some(Command::Check {
