@@ -32,7 +32,9 @@ use Rattle.std.specs.Prelude.{nat_lt}
 use Rattle.world_model.specs.Facts.{IsWindow}
 use Rattle.world_model.specs.Hub.{hear_status, recovered}
 use Rattle.std.proofs.lemmas.Bool.{lt-ltb, ltb-true}
-use Rattle.reliable_engine.proofs.Places.{either, one_place, open_sent, has_last, IsWish, IsWantedOr}
+use Rattle.world_model.proofs.Lists.{either}
+use Rattle.world_model.proofs.Places.{has_last, one_place}
+use Rattle.reliable_engine.proofs.Places.{IsWantedOr, IsWish, open_sent}
 use Rattle.reliable_engine.proofs.Keeping.{found}
 use Rattle.reliable_engine.proofs.Steps.{here_resend, here_control, here_none}
 
@@ -422,17 +424,21 @@ nothing h r status told is = (
       subst (λ (n : Option Next). IsNone (sent_next n)) (sym (first_none h h.queue nothing.no_first)) refl),
 )
 
--- ---- a control packet that is sent is that of an open place
+-- ---- what is sent for a place is sent for an open one
 
-wish_sendable : (h : Hub) (os : List OpenPlace) (s : Sending) → places h.open_places ≡ places os → IsWish (places os) s
-    → IsSendOf h s
+wish_sendable : (h : Hub) (os : List OpenPlace) (s : Sending) → places h.open_places ≡ places os
+    → IsWish h.first (places os) s → IsSendOf h s
 wish_sendable h os sends.Status same wish = tt
-wish_sendable h os (sends.Resend id) same wish = tt
+wish_sendable h os (sends.Resend id) same wish = record {
+  place = wish.place;
+  open_there = ap (has wish.place) same ∙ wish.there;
+  identifier = wish.identifier;
+}
 wish_sendable h os (sends.Control place id) same wish = ap (has place) same ∙ wish
 
 pub sendable : (h : Hub) (os : List OpenPlace) (r : Option Wanted) (s : Sending) → h.open_places ≡ places_wanted os r
-    → IsWantedOr os r → sending_of r ≡ Some s → IsSendOf h s
+    → IsWantedOr h.first os r → sending_of r ≡ Some s → IsSendOf h s
 sendable h os None s same is told = absurd (cc)
 sendable h os (Some w) s same is told =
     let e : w.send ≡ s = cc in
-    wish_sendable h os s (ap places same ∙ is.same) (subst (IsWish (places os)) e is.wish)
+    wish_sendable h os s (ap places same ∙ is.same) (subst (IsWish h.first (places os)) e is.wish)

@@ -12,8 +12,10 @@ use Rattle.world_model.specs.Sends.{Wanted, after_open, wanted, opened}
 use Rattle.world_model.specs.Facts.{has}
 use Rattle.reliable_engine.specs.Steps.{places_wanted, waits}
 use Rattle.reliable_engine.specs.View.{Keeps}
-use Rattle.reliable_engine.proofs.Places.{either, window_push, window_less, places_map, places_without, wanted_is}
-use Rattle.reliable_engine.proofs.Places.{IsWantedOr}
+use Rattle.world_model.proofs.Hubs.{places_map, places_without}
+use Rattle.world_model.proofs.Lists.{either}
+use Rattle.world_model.proofs.Places.{window_less, window_push}
+use Rattle.reliable_engine.proofs.Places.{IsWantedOr, wanted_is}
 
 -- ---- what is waited for
 
@@ -150,7 +152,7 @@ keeps_less first window sent count os o pr fl fr fl2 fr2 is gone fates grown = r
 }
 
 wanted_kept : (first window sent count : ℕ) (os : List OpenPlace) (pr fl fr : ℕ) (r : Option Wanted)
-    → Keeps first window sent count os pr fl fr → IsWantedOr os r → SameWaits os r
+    → Keeps first window sent count os pr fl fr → IsWantedOr first os r → SameWaits os r
     → Keeps first window sent count (places_wanted os r) pr fl fr
 wanted_kept first window sent count os pr fl fr None is w s = is
 wanted_kept first window sent count os pr fl fr (Some x) is w s =
@@ -162,12 +164,12 @@ pub keeps_wanted : (first window sent count : ℕ) (os : List OpenPlace) (pr fl 
 keeps_wanted first window sent count os pr fl fr is =
     wanted_kept first window sent count os pr fl fr (wanted first os) is (wanted_is first os) (wanted_waits first os)
 
-wanted_length : (os : List OpenPlace) (r : Option Wanted) → IsWantedOr os r → length (places_wanted os r) ≡ length os
-wanted_length os None w = refl
-wanted_length os (Some x) w = same_length os x.open_places w.same
+wanted_length : (first : ℕ) (os : List OpenPlace) (r : Option Wanted) → IsWantedOr first os r → length (places_wanted os r) ≡ length os
+wanted_length first os None w = refl
+wanted_length first os (Some x) w = same_length os x.open_places w.same
 
 pub places_wanted_length : (first : ℕ) (os : List OpenPlace) → length (places_wanted os (wanted first os)) ≡ length os
-places_wanted_length first os = wanted_length os (wanted first os) (wanted_is first os)
+places_wanted_length first os = wanted_length first os (wanted first os) (wanted_is first os)
 
 pub keeps_abandoned : (first window sent count : ℕ) (os : List OpenPlace) (pr fl fr count2 fl2 fr2 : ℕ)
     → Keeps first window sent count os pr fl fr → count2 ≡ sent → fl2 ≡ fl + waits os + (count - sent) → fr ≤ fr2

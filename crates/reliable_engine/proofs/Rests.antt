@@ -19,7 +19,10 @@ use Rattle.reliable_engine.specs.Answers.{IsQuiet, hub_next}
 use Rattle.reliable_engine.specs.Events.{HubEvent, Offer, Status, Reply, Quiet, Send, HandOut, after_event}
 use Rattle.reliable_engine.specs.Events.{after_events}
 use Rattle.reliable_engine.specs.Events.{IsAllowed, AreAllowed, SettlesAlone, IsAtRest, quiets, IsOutOfRounds}
-use Rattle.reliable_engine.proofs.Places.{either, less, has_from, places_without, open_once}
+use Rattle.world_model.proofs.Hubs.{places_without}
+use Rattle.world_model.proofs.Lists.{either}
+use Rattle.world_model.proofs.Places.{has_from, less}
+use Rattle.reliable_engine.proofs.Places.{open_once}
 use Rattle.reliable_engine.proofs.Keeping.{found}
 use Rattle.reliable_engine.proofs.Hubs.{names_none, quiet_none}
 use Rattle.reliable_engine.proofs.Runs.{IsHub, not_open}

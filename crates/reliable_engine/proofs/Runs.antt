@@ -21,9 +21,10 @@ use Rattle.reliable_engine.specs.Answers.{IsOpen, hub_next}
 use Rattle.reliable_engine.specs.Events.{HubEvent, Offer, Status, Reply, Quiet, Send, HandOut, after_event}
 use Rattle.reliable_engine.specs.Events.{after_events}
 use Rattle.reliable_engine.specs.Events.{IsInWindow}
-use Rattle.reliable_engine.proofs.Places.{either, less, window_push, window_less, open_sent, open_once}
-use Rattle.reliable_engine.proofs.Places.{places_map}
-use Rattle.reliable_engine.proofs.Places.{places_without, recover_place, wanted_is, IsWantedOr, lowest_open}
+use Rattle.world_model.proofs.Hubs.{places_map, places_without, recover_place}
+use Rattle.world_model.proofs.Lists.{either}
+use Rattle.world_model.proofs.Places.{less, window_less, window_push}
+use Rattle.reliable_engine.proofs.Places.{IsWantedOr, lowest_open, open_once, open_sent, wanted_is}
 
 -- ---- what an event does to the places: nothing, or one is closed, or the next one is opened
 
@@ -62,7 +63,7 @@ first_step h (x ∷ later) = either (λ (r : Option Next). IsStep h (hub_next h 
     (let room = leb-true _ _ e in omega arith))
     (λ _. same refl refl)
 
-wanted_step : (h : Hub) (r : Option Wanted) → IsWantedOr h.open_places r → IsStep h (hub_next h (wanted_or_first h r))
+wanted_step : (h : Hub) (r : Option Wanted) → IsWantedOr h.first h.open_places r → IsStep h (hub_next h (wanted_or_first h r))
 wanted_step h None is = first_step h h.queue
 wanted_step h (Some w) is = same refl is.same
 

@@ -14,7 +14,7 @@ use Rattle.reliable_engine.specs.Answers.{hub_next}
 use Rattle.reliable_engine.specs.Events.{HubEvent, Offer, Status, Reply, Quiet, Send, HandOut}
 use Rattle.reliable_engine.specs.Events.{after_event, after_events}
 use Rattle.reliable_engine.specs.Events.{IsAllowed, IsAmong, handouts}
-use Rattle.reliable_engine.proofs.Places.{either}
+use Rattle.world_model.proofs.Lists.{either}
 
 -- ---- fates
 

@@ -3,4 +3,5 @@ pub mod Events
 pub mod Examples
 pub mod Settings
 pub mod Steps
+pub mod ToldFates
 pub mod View

@@ -20,6 +20,8 @@ ghost use Rattle.reliable_engine.specs.Events.{IsOutOfRounds, Send, after_event,
 ghost use Rattle.reliable_engine.specs.Events.{IfTold, SettlesAlone, after_events, quiets};
 ghost use Rattle.reliable_engine.specs.Examples.{given_up, one_word, three_told, two_sent, two_settled};
 
+use world_model::laws::sends::sends_go_one_by_one;
+
 /// From the lowest open place to the last first send there are never more places than the window, and no two open
 /// places have one identifier.
 pub fn the_window_is_never_passed()
@@ -101,7 +103,9 @@ pub fn a_status_is_asked_for_while_a_body_waits()
 pub fn draining_ends()
     ensures fewer { (hub : Hub) (next : Next) → next_send hub ≡ Some next → pending next.hub < pending hub }
     ensures end { (hub : Hub) → next_send (after_events hub (replicate (pending hub) Send)) ≡ None }
-{}
+{
+    sends_go_one_by_one();
+}
 
 /// Two bodies get the identifiers 65535 and 1. Their replies, heard in the other order, settle the places 1 and 2.
 pub fn replies_past_the_last_identifier()

@@ -48,19 +48,19 @@ places_map f [] same = refl
 places_map f (o ∷ os) same = ap (λ (p : ℕ). p ∷ places (map f os)) (same o)
     ∙ ap (λ (ps : List ℕ). o.place ∷ ps) (places_map f os same)
 
+pub places_without : (place : ℕ) (os : List OpenPlace) → places (without place os) ≡ less place (places os)
+places_without place [] = refl
+places_without place (o ∷ os) = elim (o.place == place)
+    as (λ b. places (cond b os (o ∷ without place os)) ≡ cond b (places os) (o.place ∷ less place (places os))) [
+      | true ↦ refl
+      | false ↦ ap (λ (ps : List ℕ). o.place ∷ ps) (places_without place os)
+    ]
+
+pub recover_place : (e : ℕ) (o : OpenPlace) → (recover e o).place ≡ o.place
+recover_place e o = either (λ (x : OpenPlace). x.place ≡ o.place) (nat_lt o.place e) _ _ (λ _. refl) (λ _. refl)
+
 module _ (below : Below) where
   -- ---- places under the hub's events
-
-  pub places_without : (place : ℕ) (os : List OpenPlace) → places (without place os) ≡ less place (places os)
-  places_without place [] = refl
-  places_without place (o ∷ os) = elim (o.place == place)
-      as (λ b. places (cond b os (o ∷ without place os)) ≡ cond b (places os) (o.place ∷ less place (places os))) [
-        | true ↦ refl
-        | false ↦ ap (λ (ps : List ℕ). o.place ∷ ps) (places_without place os)
-      ]
-
-  pub recover_place : (e : ℕ) (o : OpenPlace) → (recover e o).place ≡ o.place
-  recover_place e o = either (λ (x : OpenPlace). x.place ≡ o.place) (nat_lt o.place e) _ _ (λ _. refl) (λ _. refl)
 
   pub record IsFound (first id : ℕ) (os : List OpenPlace) (o : OpenPlace) : Type 0 where
     pub there : has o.place (places os) ≡ true

@@ -3,7 +3,7 @@ use Rattle.std.proofs.lemmas.List.{with_items_is, length-map, length-take, lengt
 use Rattle.world_model.specs.declared.offered.OpenPlace.{OpenPlace}
 use Rattle.world_model.specs.Hub.{Hub, want_control}
 use Rattle.reliable_engine.specs.View.{Keeps, hub_of}
-use Rattle.reliable_engine.proofs.Places.{places_map}
+use Rattle.world_model.proofs.Hubs.{places_map}
 use Rattle.reliable_engine.proofs.Keeping.{keeps_offer, waits_map}
 use Rattle.reliable_engine.proofs.engine.Engine.offer.Goals as goal
 

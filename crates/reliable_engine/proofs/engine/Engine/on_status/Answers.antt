@@ -3,7 +3,7 @@ use Rattle.std.proofs.lemmas.List.{with_items_is, length-map}
 use Rattle.world_model.specs.declared.offered.OpenPlace.{OpenPlace}
 use Rattle.world_model.specs.Hub.{Hub, recover}
 use Rattle.reliable_engine.specs.View.{Keeps}
-use Rattle.reliable_engine.proofs.Places.{places_map, recover_place}
+use Rattle.world_model.proofs.Hubs.{places_map, recover_place}
 use Rattle.reliable_engine.proofs.Keeping.{keeps_same, waits_map, recover_waits}
 use Rattle.reliable_engine.proofs.Hubs.{tells, tells_none}
 use Rattle.reliable_engine.proofs.engine.Engine.on_status.Goals as goal
