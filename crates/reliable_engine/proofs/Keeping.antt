@@ -10,7 +10,9 @@ use Rattle.world_model.specs.declared.offered.OpenPlace.{OpenPlace}
 use Rattle.world_model.specs.Hub.{recover, abandoned, open_with, without, places, place_of, least}
 use Rattle.world_model.specs.Sends.{Wanted, after_open, wanted, opened}
 use Rattle.world_model.specs.Facts.{has}
+use Rattle.world_model.specs.History.{times}
 use Rattle.reliable_engine.specs.Steps.{places_wanted, waits}
+use Rattle.reliable_engine.specs.ToldFates.{waited_places}
 use Rattle.reliable_engine.specs.View.{Keeps}
 use Rattle.world_model.proofs.Hubs.{places_map, places_without}
 use Rattle.world_model.proofs.Lists.{either}
@@ -59,22 +61,40 @@ wanted_waits first (o ∷ os) = either (SameWaits (o ∷ os)) o.resend _ _
 pub recover_waits : (told : ℕ) (o : OpenPlace) → (recover told o).waited ≡ o.waited
 recover_waits told o = either (λ (x : OpenPlace). x.waited ≡ o.waited) _ _ _ (λ _. refl) (λ _. refl)
 
+-- how often a place is waited for
+abbrev pub place_waits : ℕ → List OpenPlace → ℕ
+place_waits place os = times place (waited_places os)
+
+pub waits_first : (place : ℕ) (o : OpenPlace) (os : List OpenPlace)
+    → place_waits place (o ∷ os) ≡ place_waits place (o ∷ []) + place_waits place os
+waits_first place o os = elim o.waited as (λ b. times place (cond b (o.place ∷ waited_places os) (waited_places os))
+    ≡ times place (cond b (o.place ∷ []) []) + place_waits place os) [ true ↦ omega arith | false ↦ omega arith ]
+
 -- ---- one open place taken out
 
 pub record Removed (os : List OpenPlace) (o : OpenPlace) : Type 0 where
   pub waiting : waits (without o.place os) + (if o.waited then 1 else 0) ≡ waits os
+  pub waited : (place : ℕ)
+      → place_waits place os ≡ place_waits place (o ∷ []) + place_waits place (without o.place os)
   pub shorter : length (without o.place os) + 1 ≡ length os
   pub there : has o.place (places os) ≡ true
 
 removed_here : (o : OpenPlace) (os : List OpenPlace) → Removed (o ∷ os) o
 removed_here o os =
     let same = eq-eqb o.place o.place refl in
-    record { waiting = rw same (omega arith); shorter = rw same (omega arith); there = rw same refl }
+    record {
+      waiting = rw same (omega arith);
+      waited = λ place. rw same (waits_first place o os);
+      shorter = rw same (omega arith);
+      there = rw same refl;
+    }
 
 removed_later : (x o : OpenPlace) (os : List OpenPlace) → (x.place == o.place) ≡ false → Removed os o
     → Removed (x ∷ os) o
 removed_later x o os apart is = record {
   waiting = rw apart (omega (arith, is.waiting));
+  waited = λ place. rw apart (omega (arith, is.waited place, waits_first place x os,
+      waits_first place x (without o.place os)));
   shorter = rw apart (omega (arith, is.shorter));
   there = rw apart is.there;
 }

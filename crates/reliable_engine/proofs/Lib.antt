@@ -6,3 +6,6 @@ mod Runs
 mod Rests
 mod Draining
 mod Waiting
+mod Cases
+mod AllFates
+mod PlaceAccounts

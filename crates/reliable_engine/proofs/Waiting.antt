@@ -1,4 +1,4 @@
--- Fates wait until they are handed out, and a status request is wanted only while a body waits.
+-- A status request becomes wanted only while a body waits.
 use Rattle.std.proofs.Common.{◌≡◌, ℕ, ◌+◌, Bool, true, false, List, [], ◌∷◌, ◌++◌, length, map, Option, Some, None}
 use Rattle.std.proofs.Common.{refl, sym, ◌∙◌, arith, inl, inr}
 use Rattle.std.specs.Prelude.{nat_lt, nat_le}
@@ -15,91 +15,6 @@ use Rattle.reliable_engine.specs.Events.{HubEvent, Offer, Status, Reply, Quiet, 
 use Rattle.reliable_engine.specs.Events.{after_event, after_events}
 use Rattle.reliable_engine.specs.Events.{IsAllowed, IsAmong, handouts}
 use Rattle.world_model.proofs.Lists.{either}
-
--- ---- fates
-
-insert_among : (place : ℕ) (new f : ℕ × Fate) (fs : List (ℕ × Fate)) → IsAmong f fs
-    → IsAmong f (insert_fate place new fs)
-insert_among place new f [] is = absurd is
-insert_among place new f (g ∷ gs) is =
-    either (IsAmong f) (goes_before place g.1) (new ∷ g ∷ gs) (g ∷ insert_fate place new gs)
-    (λ _. inr is)
-    (λ _. elim is [ inl here ↦ inl here | inr later ↦ inr (insert_among place new f gs later) ])
-
-append_among : (f : ℕ × Fate) (fs gs : List (ℕ × Fate)) → IsAmong f fs → IsAmong f (fs ++ gs)
-append_among f [] gs is = absurd is
-append_among f (g ∷ fs) gs is = elim is [ inl here ↦ inl here | inr later ↦ inr (append_among f fs gs later) ]
-
-time_out_among : (rounds : ℕ) (sent : List Offered) (f : ℕ × Fate) (os : List OpenPlace) (fs : List (ℕ × Fate))
-    → IsAmong f fs → IsAmong f (time_out rounds sent os fs)
-time_out_among rounds sent f [] fs is = is
-time_out_among rounds sent f (o ∷ os) fs is =
-    time_out_among rounds sent f os _ (either (IsAmong f) o.waited
-    (insert_fate o.place (tag_of (at_place sent o.place), TimedOut o.place rounds) fs) fs
-    (λ _. insert_among o.place (tag_of (at_place sent o.place), TimedOut o.place rounds) f fs is)
-    (λ _. is))
-
-settle_among : (h : Hub) (words : List ℕ) (f : ℕ × Fate) (r : Option OpenPlace) → IsAmong f h.fates
-    → IsAmong f (settle h words r).fates
-settle_among h words f None is = is
-settle_among h words f (Some o) is =
-    let new : ℕ × Fate = (tag_of (at_place h.sent o.place), Replied o.place words) in
-    either (IsAmong f) o.waited (insert_fate o.place new h.fates) h.fates
-    (λ _. insert_among o.place new f h.fates is)
-    (λ _. is)
-
-recovered_fates : (h : Hub) (r : Option ℕ) → (recovered h r).fates ≡ h.fates
-recovered_fates h None = refl
-recovered_fates h (Some told) = refl
-
-status_fates : (h : Hub) (next : ℕ) → (hear_status h next).fates ≡ h.fates
-status_fates h next = either (λ (x : Hub). x.fates ≡ h.fates) (nat_lt 0 h.status_requests) _ _
-    (λ _. recovered_fates h (told_place h next)) (λ _. refl)
-
-first_fates : (h : Hub) (queue : List Offered) → (hub_next h (first_send h queue)).fates ≡ h.fates
-first_fates h [] = refl
-first_fates h (x ∷ later) = either (λ (r : Option Next). (hub_next h r).fates ≡ h.fates)
-    (nat_le (length h.sent + 1 + 1) (h.window + low h)) _ _ (λ _. refl) (λ _. refl)
-
-wanted_fates : (h : Hub) (r : Option Wanted) → (hub_next h (wanted_or_first h r)).fates ≡ h.fates
-wanted_fates h None = first_fates h h.queue
-wanted_fates h (Some w) = refl
-
-send_fates : (h : Hub) → (hub_next h (next_send h)).fates ≡ h.fates
-send_fates h = either (λ (r : Option Next). (hub_next h r).fates ≡ h.fates) h.status_wanted _ _
-    (λ _. refl) (λ _. wanted_fates h (wanted h.first h.open_places))
-
-among_same : (f : ℕ × Fate) (fs gs : List (ℕ × Fate)) → gs ≡ fs → IsAmong f fs → IsAmong f gs
-among_same f fs gs same is = rw same is
-
-event_among : (h : Hub) (event : HubEvent) (f : ℕ × Fate) → handouts (event ∷ []) ≡ 0 → IsAmong f h.fates
-    → IsAmong f (after_event h event).fates
-event_among h (Offer x) f none is = is
-event_among h (Status next) f none is = among_same f h.fates _ (status_fates h next) is
-event_among h (Reply id words) f none is = settle_among h words f (open_with h.first id h.open_places) is
-event_among h Quiet f none is = either (λ (x : Hub). IsAmong f x.fates) (nat_lt h.status_requests h.rounds)
-    (want_status h) (give_up h)
-    (λ _. is)
-    (λ _. append_among f (time_out h.rounds h.sent h.open_places h.fates) (map unsent h.queue)
-    (time_out_among h.rounds h.sent f h.open_places h.fates is))
-event_among h Send f none is = among_same f h.fates _ (send_fates h) is
-event_among h HandOut f none is = absurd (omega (arith, none))
-
-front_none : (event : HubEvent) (events : List HubEvent) → handouts (event ∷ events) ≡ 0
-    → (handouts (event ∷ []) ≡ 0) × (handouts events ≡ 0)
-front_none (Offer x) events none = (refl, none)
-front_none (Status next) events none = (refl, none)
-front_none (Reply id words) events none = (refl, none)
-front_none Quiet events none = (refl, none)
-front_none Send events none = (refl, none)
-front_none HandOut events none = absurd (omega (arith, none))
-
-pub fate_waits : (h : Hub) (events : List HubEvent) (f : ℕ × Fate) → handouts events ≡ 0 → IsAmong f h.fates
-    → IsAmong f (after_events h events).fates
-fate_waits h [] f none is = is
-fate_waits h (event ∷ events) f none is =
-    let parts = front_none event events none in
-    fate_waits (after_event h event) events f parts.1 (event_among h event f parts.0 is)
 
 -- ---- status requests
 

@@ -1,7 +1,7 @@
 //! Laws of an engine's hub, over every list of events. These functions do nothing when they run: their clauses are what
 //! is proved.
 
-ghost use Rattle.std.specs.Prelude.{◌≡◌, ◌≤◌, ◌<◌, ◌+◌, ℕ, List, [], ◌∷◌, length, map, replicate};
+ghost use Rattle.std.specs.Prelude.{◌≡◌, ◌≤◌, ◌<◌, ◌+◌, ℕ, List, [], ◌∷◌, ◌++◌, length, map, replicate};
 ghost use Rattle.std.specs.Prelude.{true, false, None, Some};
 ghost use Rattle.ipb_base.specs.Lists.{IsPrefix};
 ghost use Rattle.packet_ids.specs.Identifier.{IsIdentifier};
@@ -13,11 +13,13 @@ ghost use Rattle.world_model.specs.declared.sending.Sending.TheVariants.{Control
 ghost use Rattle.world_model.specs.Hub.{Hub, give_up, hear_quiet, hear_status, new_hub, offer, want_control};
 ghost use Rattle.world_model.specs.Hub.{is_waiting, places, recover, want_status};
 ghost use Rattle.world_model.specs.Sends.{Next, next_send, pending};
+ghost use Rattle.world_model.specs.History.{times};
 ghost use Rattle.reliable_engine.specs.declared.settings.TheConstants.{MAX_WINDOW};
 ghost use Rattle.reliable_engine.specs.Answers.{IsOpen, TellsPlace, sent_next};
 ghost use Rattle.reliable_engine.specs.Events.{AreAllowed, HubEvent, IsAllowed, IsAmong, IsAtRest, IsInWindow};
 ghost use Rattle.reliable_engine.specs.Events.{IsOutOfRounds, Send, after_event, handouts};
 ghost use Rattle.reliable_engine.specs.Events.{IfTold, SettlesAlone, after_events, quiets};
+ghost use Rattle.reliable_engine.specs.ToldFates.{IsSentPlace, StandsIn, all_fates, fate_places, handed_out, tellings};
 ghost use Rattle.reliable_engine.specs.Examples.{given_up, one_word, three_told, two_sent, two_settled};
 
 use world_model::laws::sends::sends_go_one_by_one;
@@ -87,9 +89,31 @@ pub fn a_hub_gives_up_after_its_rounds()
     ensures goes_on { (hub : Hub) → hub.status_requests < hub.rounds → hear_quiet hub ≡ want_status hub }
 {}
 
-/// A fate stays as it is until it is handed out.
-pub fn a_fate_waits_until_it_is_handed_out()
-    ensures { (hub : Hub) (events : List HubEvent) (tag : ℕ) (fate : Fate) → handouts events ≡ 0
+/// Each place that was sent has one fate, or is waited for, and never both; no other place has a fate. So the fate of a
+/// place is told once, counting those that were handed out and those that wait.
+pub fn the_fate_of_a_place_is_told_once()
+    ensures once { (first window rounds : ℕ) (events : List HubEvent) (place : ℕ)
+        → times place (fate_places (all_fates (new_hub first window rounds) events)) ≤ 1 }
+    ensures fate_or_waited { (first window rounds : ℕ) (events : List HubEvent) (place : ℕ)
+        → IsSentPlace (after_events (new_hub first window rounds) events) place
+        → tellings (after_events (new_hub first window rounds) events) (all_fates (new_hub first window rounds) events)
+            place ≡ 1 }
+    ensures no_other { (first window rounds : ℕ) (events : List HubEvent) (place : ℕ)
+        → 1 ≤ tellings (after_events (new_hub first window rounds) events)
+            (all_fates (new_hub first window rounds) events) place
+        → IsSentPlace (after_events (new_hub first window rounds) events) place }
+{}
+
+/// A fate never changes. Whatever events follow, all fates that were told stand among those told then, in the same
+/// order; those that were handed out come first; and a fate waits until it is handed out.
+pub fn a_fate_never_changes()
+    ensures in_order { (hub : Hub) (events more : List HubEvent)
+        → StandsIn (all_fates hub events) (all_fates hub (events ++ more)) }
+    ensures among { (hub : Hub) (events more : List HubEvent) (tag : ℕ) (fate : Fate)
+        → IsAmong (tag, fate) (all_fates hub events) → IsAmong (tag, fate) (all_fates hub (events ++ more)) }
+    ensures handed_out { (hub : Hub) (events more : List HubEvent)
+        → IsPrefix (handed_out hub events) (handed_out hub (events ++ more)) }
+    ensures waits { (hub : Hub) (events : List HubEvent) (tag : ℕ) (fate : Fate) → handouts events ≡ 0
         → IsAmong (tag, fate) hub.fates → IsAmong (tag, fate) (after_events hub events).fates }
 {}
 
