@@ -20,7 +20,7 @@ use Rattle.world_model.specs.declared.sending.Sending.TheVariants as sends
 use Rattle.world_model.specs.Places.{at_place}
 use Rattle.world_model.specs.Hub.{Hub, low, least, places, place_of, some_queued, settle, told_place, insert_fate}
 use Rattle.world_model.specs.Hub.{tag_of, open_with, without, place_with}
-use Rattle.world_model.specs.Sends.{Next, Wanted, after_open, wanted, opened, first_send}
+use Rattle.world_model.specs.Sends.{Next, Wanted, after_open, wanted, opened, first_send, next_send}
 use Rattle.world_model.specs.Facts.{has}
 use Rattle.reliable_engine.specs.declared.engine.Engine.TheInside.{Inside}
 use Rattle.reliable_engine.specs.Answers.{IsOpen, NamesOpenPlace, TellsPlace, IsQuiet, IsWindowFull, HasNothingToSend}
@@ -28,13 +28,14 @@ use Rattle.reliable_engine.specs.Answers.{IsSendOf}
 use Rattle.reliable_engine.specs.Answers.{sent_next}
 use Rattle.reliable_engine.specs.Steps.{places_wanted, sending_of}
 use Rattle.reliable_engine.specs.View.{hub_of, IsKept}
-use Rattle.std.specs.Prelude.{nat_lt}
+use Rattle.std.specs.Prelude.{IfSome, nat_lt}
 use Rattle.world_model.specs.Facts.{IsWindow}
 use Rattle.world_model.specs.Hub.{hear_status, recovered}
 use Rattle.std.proofs.lemmas.Bool.{lt-ltb, ltb-true}
+use Rattle.world_model.proofs.Flushing.{send_cases}
 use Rattle.world_model.proofs.Lists.{either}
 use Rattle.world_model.proofs.Places.{has_last, one_place}
-use Rattle.reliable_engine.proofs.Places.{IsWantedOr, IsWish, open_sent}
+use Rattle.reliable_engine.proofs.Places.{IsWantedOr, IsWish, open_sent, wanted_is}
 use Rattle.reliable_engine.proofs.Keeping.{found}
 use Rattle.reliable_engine.proofs.Steps.{here_resend, here_control, here_none}
 
@@ -442,3 +443,12 @@ sendable h os None s same is told = absurd (cc)
 sendable h os (Some w) s same is told =
     let e : w.send ≡ s = cc in
     wish_sendable h os s (ap places same ∙ is.same) (subst (IsWish h.first (places os)) e is.wish)
+
+-- the send of a hub is that of one of its open places
+pub send_open : (h : Hub) (next : Next) → next_send h ≡ Some next → IsSendOf next.hub next.send
+send_open h next e = subst (λ (r : Option Next). IfSome r (λ (n : Next). IsSendOf n.hub n.send)) e
+    (send_cases (λ (n : Next). IsSendOf n.hub n.send) h tt
+    (λ w told. sendable (record h { open_places = w.open_places }) h.open_places (Some w) w.send refl
+    (subst (IsWantedOr h.first h.open_places) told (wanted_is h.first h.open_places)) refl)
+    (λ x later queue room. last_open h.open_places (h.open_places ++ opened (length h.sent + 1) ∷ [])
+    (length h.sent + 1) refl))

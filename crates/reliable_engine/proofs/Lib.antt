@@ -9,3 +9,4 @@ mod Waiting
 mod Cases
 mod AllFates
 mod PlaceAccounts
+mod TagAccounts

@@ -1,7 +1,7 @@
 -- The laws over every list of events.
 use Rattle.std.proofs.Common.{◌≡◌, ◌≤◌, ◌<◌, ℕ, Bool, true, false, ◌==◌, length, List}
 use Rattle.std.proofs.Common.{[]}
-use Rattle.std.proofs.Common.{◌∷◌, ◌++◌, ◌+◌, Option, Some, None, refl, sym, ap, ◌∙◌, arith, inl, inr}
+use Rattle.std.proofs.Common.{◌∷◌, ◌++◌, ◌+◌, Option, Some, None, refl, sym, ap, ◌∙◌, subst, arith, inl, inr}
 use Rattle.std.proofs.Common.{length-append, append_assoc}
 use Rattle.std.specs.Prelude.{nat_lt, nat_le}
 use Rattle.std.proofs.lemmas.Bool.{leb-true}
@@ -16,14 +16,16 @@ use Rattle.world_model.specs.Hub.{open_with}
 use Rattle.world_model.specs.Hub.{recover, recovered, told_place, hear_status, abandoned, give_up, want_status}
 use Rattle.world_model.specs.Hub.{hear_quiet}
 use Rattle.world_model.specs.Sends.{Next, Wanted, wanted, opened, first_send, wanted_or_first, next_send}
+use Rattle.world_model.specs.declared.sending.Sending.TheVariants as sends
 use Rattle.world_model.specs.Facts.{has, IsWindow}
-use Rattle.reliable_engine.specs.Answers.{IsOpen, hub_next}
+use Rattle.reliable_engine.specs.Answers.{IsOpen, IsSendOf, hub_next}
 use Rattle.reliable_engine.specs.Events.{HubEvent, Offer, Status, Reply, Quiet, Send, HandOut, after_event}
 use Rattle.reliable_engine.specs.Events.{after_events}
 use Rattle.reliable_engine.specs.Events.{IsInWindow}
 use Rattle.world_model.proofs.Hubs.{places_map, places_without, recover_place}
 use Rattle.world_model.proofs.Lists.{either}
 use Rattle.world_model.proofs.Places.{less, window_less, window_push}
+use Rattle.reliable_engine.proofs.Hubs.{send_open}
 use Rattle.reliable_engine.proofs.Places.{IsWantedOr, lowest_open, open_once, open_sent, wanted_is}
 
 -- ---- what an event does to the places: nothing, or one is closed, or the next one is opened
@@ -237,3 +239,17 @@ pub closed_for_good : (h : Hub) (events : List HubEvent) (place : ℕ) → place
 closed_for_good h events place sent gone there =
     let is = closed_on h place events (record { sent = sent; gone = not_open _ gone }) in
     absurd (let e = sym is.gone ∙ there in cc)
+
+-- ---- no send for a closed place
+
+pub not_sent_again : (h : Hub) (events : List HubEvent) (next : Next) (place id : ℕ) → place ≤ length h.sent
+    → (IsOpen h place → ⊥) → next_send (after_events h events) ≡ Some next → next.send ≡ sends.Control place id → ⊥
+not_sent_again h events next place id sent gone e told =
+    let last = after_events h events in
+    let is = closed_on h place events (record { sent = sent; gone = not_open _ gone }) in
+    let after : next.hub ≡ hub_next last (next_send last) = ap (hub_next last) (sym e) in
+    let closed = closed_step last (hub_next last (next_send last)) place (send_step last) is in
+    let there : IsSendOf next.hub (sends.Control place id) = subst (IsSendOf next.hub) told (send_open last next e) in
+    let here : has place (places (hub_next last (next_send last)).open_places) ≡ true =
+    ap (λ (x : Hub). has place (places x.open_places)) (sym after) ∙ there in
+    absurd (let bad = sym closed.gone ∙ here in cc)

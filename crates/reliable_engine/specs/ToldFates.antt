@@ -1,10 +1,10 @@
 -- All fates that a list of events brings about: which are handed out, which wait, and whose they are. Profile.
-use Rattle.std.specs.Prelude.{◌≡◌, ◌⊎◌, ℕ, ◌+◌, ◌≤◌, if◌then◌else◌, List, [], ◌∷◌, ◌++◌, take, length}
+use Rattle.std.specs.Prelude.{◌≡◌, ◌⊎◌, ℕ, ◌+◌, ◌≤◌, if◌then◌else◌, List, [], ◌∷◌, ◌++◌, take, length, map}
 use Rattle.world_model.specs.declared.offered.OpenPlace.{OpenPlace}
 use Rattle.world_model.specs.declared.offered.Fate.{Fate}
 use Rattle.world_model.specs.declared.offered.Fate.TheVariants.{Replied, TimedOut, Unsent}
 use Rattle.world_model.specs.Hub.{Hub}
-use Rattle.world_model.specs.History.{times}
+use Rattle.world_model.specs.History.{placed_tags, tag_of_fate, tag_of_offered, times, waited_tags}
 use Rattle.reliable_engine.specs.Events.{HubEvent, Offer, Status, Reply, Quiet, Send, HandOut, after_event, after_events}
 
 -- the fate that an event hands out
@@ -61,3 +61,12 @@ offered_tags (Reply id words ∷ events) = offered_tags events
 offered_tags (Quiet ∷ events) = offered_tags events
 offered_tags (Send ∷ events) = offered_tags events
 offered_tags (HandOut ∷ events) = offered_tags events
+
+-- Every offered body stands once among the fates, the bodies that are waited for and those that are queued; and every
+-- body that was sent stands once among the fates with a place and the bodies that are waited for.
+pub record IsAccounted (hub : Hub) (fates : List (ℕ × Fate)) (offers : List ℕ) (tag : ℕ) : Type 0 where
+  pub offered : times tag offers ≡
+      times tag (map tag_of_fate fates) + times tag (waited_tags hub.sent hub.open_places)
+      + times tag (map tag_of_offered hub.queue)
+  pub sent : times tag (map tag_of_offered hub.sent) ≡
+      times tag (placed_tags fates) + times tag (waited_tags hub.sent hub.open_places)

@@ -1,7 +1,7 @@
 //! Laws of an engine's hub, over every list of events. These functions do nothing when they run: their clauses are what
 //! is proved.
 
-ghost use Rattle.std.specs.Prelude.{◌≡◌, ◌≤◌, ◌<◌, ◌+◌, ℕ, List, [], ◌∷◌, ◌++◌, length, map, replicate};
+ghost use Rattle.std.specs.Prelude.{◌≡◌, ◌≢◌, ◌≤◌, ◌<◌, ◌+◌, ◌-◌, ℕ, List, [], ◌∷◌, ◌++◌, length, map, replicate};
 ghost use Rattle.std.specs.Prelude.{true, false, None, Some};
 ghost use Rattle.ipb_base.specs.Lists.{IsPrefix};
 ghost use Rattle.packet_ids.specs.Identifier.{IsIdentifier};
@@ -11,15 +11,16 @@ ghost use Rattle.world_model.specs.declared.offered.Fate.TheVariants.{Replied, T
 ghost use Rattle.world_model.specs.declared.offered.OpenPlace.{OpenPlace};
 ghost use Rattle.world_model.specs.declared.sending.Sending.TheVariants.{Control, Status};
 ghost use Rattle.world_model.specs.Hub.{Hub, give_up, hear_quiet, hear_status, new_hub, offer, want_control};
-ghost use Rattle.world_model.specs.Hub.{is_waiting, places, recover, want_status};
+ghost use Rattle.world_model.specs.Hub.{is_waiting, low, places, recover, want_status};
 ghost use Rattle.world_model.specs.Sends.{Next, next_send, pending};
-ghost use Rattle.world_model.specs.History.{times};
+ghost use Rattle.world_model.specs.History.{tag_of_fate, times};
 ghost use Rattle.reliable_engine.specs.declared.settings.TheConstants.{MAX_WINDOW};
-ghost use Rattle.reliable_engine.specs.Answers.{IsOpen, TellsPlace, sent_next};
+ghost use Rattle.reliable_engine.specs.Answers.{IsOpen, IsSendOf, TellsPlace, sent_next};
 ghost use Rattle.reliable_engine.specs.Events.{AreAllowed, HubEvent, IsAllowed, IsAmong, IsAtRest, IsInWindow};
 ghost use Rattle.reliable_engine.specs.Events.{IsOutOfRounds, Send, after_event, handouts};
 ghost use Rattle.reliable_engine.specs.Events.{IfTold, SettlesAlone, after_events, quiets};
-ghost use Rattle.reliable_engine.specs.ToldFates.{IsSentPlace, StandsIn, all_fates, fate_places, handed_out, tellings};
+ghost use Rattle.reliable_engine.specs.ToldFates.{IsAccounted, IsSentPlace, StandsIn, all_fates, fate_places};
+ghost use Rattle.reliable_engine.specs.ToldFates.{handed_out, offered_tags, tellings};
 ghost use Rattle.reliable_engine.specs.Examples.{given_up, one_word, three_told, two_sent, two_settled};
 
 use world_model::laws::sends::sends_go_one_by_one;
@@ -27,8 +28,11 @@ use world_model::laws::sends::sends_go_one_by_one;
 /// From the lowest open place to the last first send there are never more places than the window, and no two open
 /// places have one identifier.
 pub fn the_window_is_never_passed()
-    ensures { (first window rounds : ℕ) (events : List HubEvent) → IsIdentifier first → 1 ≤ window
+    ensures in_window { (first window rounds : ℕ) (events : List HubEvent) → IsIdentifier first → 1 ≤ window
         → window ≤ MAX_WINDOW → IsInWindow (after_events (new_hub first window rounds) events) }
+    ensures number { (first window rounds : ℕ) (events : List HubEvent) → 1 ≤ window → window ≤ MAX_WINDOW
+        → length (after_events (new_hub first window rounds) events).sent + 1
+            - low (after_events (new_hub first window rounds) events) ≤ window }
 {}
 
 /// A place keeps its body and its identifier for good.
@@ -41,6 +45,14 @@ pub fn a_place_keeps_its_body()
 pub fn a_settled_place_is_closed_for_good()
     ensures { (hub : Hub) (events : List HubEvent) (place : ℕ) → place ≤ length hub.sent → ¬ IsOpen hub place
         → ¬ IsOpen (after_events hub events) place }
+{}
+
+/// What is sent is a status request, the request for the reply of an open place, or the control packet of an open place:
+/// never that of a place that was settled.
+pub fn no_send_is_for_a_closed_place()
+    ensures open_place { (hub : Hub) (next : Next) → next_send hub ≡ Some next → IsSendOf next.hub next.send }
+    ensures not_again { (hub : Hub) (events : List HubEvent) (next : Next) (place id : ℕ) → place ≤ length hub.sent
+        → ¬ IsOpen hub place → next_send (after_events hub events) ≡ Some next → next.send ≢ Control place id }
 {}
 
 /// A reply settles the one open place with its identifier, whenever it comes, and no other.
@@ -102,6 +114,17 @@ pub fn the_fate_of_a_place_is_told_once()
         → 1 ≤ tellings (after_events (new_hub first window rounds) events)
             (all_fates (new_hub first window rounds) events) place
         → IsSentPlace (after_events (new_hub first window rounds) events) place }
+{}
+
+/// Each offered body stands once among the fates, the bodies that are waited for and those that are queued. So no tag has
+/// more fates than offers.
+pub fn an_offered_body_has_one_fate()
+    ensures account { (first window rounds : ℕ) (events : List HubEvent) (tag : ℕ)
+        → IsAccounted (after_events (new_hub first window rounds) events)
+            (all_fates (new_hub first window rounds) events) (offered_tags events) tag }
+    ensures no_more { (first window rounds : ℕ) (events : List HubEvent) (tag : ℕ)
+        → times tag (map tag_of_fate (all_fates (new_hub first window rounds) events))
+            ≤ times tag (offered_tags events) }
 {}
 
 /// A fate never changes. Whatever events follow, all fates that were told stand among those told then, in the same
