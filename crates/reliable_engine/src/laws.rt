@@ -18,10 +18,11 @@ ghost use Rattle.reliable_engine.specs.declared.settings.TheConstants.{MAX_WINDO
 ghost use Rattle.reliable_engine.specs.Answers.{IsOpen, IsSendOf, TellsPlace, sent_next};
 ghost use Rattle.reliable_engine.specs.Events.{AreAllowed, HubEvent, IsAllowed, IsAmong, IsAtRest, IsInWindow};
 ghost use Rattle.reliable_engine.specs.Events.{IsOutOfRounds, Send, after_event, handouts};
-ghost use Rattle.reliable_engine.specs.Events.{IfTold, SettlesAlone, after_events, quiets};
+ghost use Rattle.reliable_engine.specs.Events.{IfTold, SettleNone, SettlesAlone, WasAsked, after_events, quiets};
 ghost use Rattle.reliable_engine.specs.ToldFates.{IsAccounted, IsSentPlace, StandsIn, all_fates, fate_places};
 ghost use Rattle.reliable_engine.specs.ToldFates.{handed_out, offered_tags, tellings};
-ghost use Rattle.reliable_engine.specs.Examples.{given_up, one_word, three_told, two_sent, two_settled};
+ghost use Rattle.reliable_engine.specs.Examples.{given_up, one_word, settled_while_asked, three_told, two_sent};
+ghost use Rattle.reliable_engine.specs.Examples.{two_settled};
 
 use world_model::laws::sends::sends_go_one_by_one;
 
@@ -90,13 +91,18 @@ pub fn a_give_up_ends_all_waiting()
         → (offer hub offered).open_places ≡ hub.open_places }
 {}
 
-/// Each quiet receive begins one round at most. So a hub that has begun none, as after a settled place, gives up only
-/// after as many quiet receives as its rounds, and then at the next one.
+/// Each quiet receive begins one round at most, and exactly one where no place is settled. So a hub that has begun none,
+/// as after a settled place, gives up only after as many quiet receives as its rounds, and then at the next one.
 pub fn a_hub_gives_up_after_its_rounds()
     ensures counted { (hub : Hub) (events : List HubEvent)
         → (after_events hub events).status_requests ≤ hub.status_requests + quiets events }
     ensures no_earlier { (hub : Hub) (events : List HubEvent) → hub.status_requests ≡ 0
         → IsOutOfRounds (after_events hub events) → hub.rounds ≤ quiets events }
+    ensures one_each { (hub : Hub) (events : List HubEvent) → SettleNone hub events
+        → hub.status_requests + quiets events ≤ hub.rounds
+        → (after_events hub events).status_requests ≡ hub.status_requests + quiets events }
+    ensures in_time { (hub : Hub) (events : List HubEvent) → hub.status_requests ≡ 0 → SettleNone hub events
+        → quiets events ≡ hub.rounds → IsOutOfRounds (after_events hub events) }
     ensures gives_up { (hub : Hub) → IsOutOfRounds hub → hear_quiet hub ≡ give_up hub }
     ensures goes_on { (hub : Hub) → hub.status_requests < hub.rounds → hear_quiet hub ≡ want_status hub }
 {}
@@ -140,10 +146,15 @@ pub fn a_fate_never_changes()
         → IsAmong (tag, fate) hub.fates → IsAmong (tag, fate) (after_events hub events).fates }
 {}
 
-/// A status request becomes wanted only while a body has no fate.
+/// A status request becomes wanted only while a body has no fate: where one is wanted, a quiet receive came while a body
+/// waited, and nothing was sent since. A reply may have settled that body in between; the request is sent all the same.
 pub fn a_status_is_asked_for_while_a_body_waits()
-    ensures { (hub : Hub) (event : HubEvent) → IsAllowed hub event → hub.status_wanted ≡ false
+    ensures becomes { (hub : Hub) (event : HubEvent) → IsAllowed hub event → hub.status_wanted ≡ false
         → (after_event hub event).status_wanted ≡ true → is_waiting (after_event hub event) ≡ true }
+    ensures since { (hub : Hub) (events : List HubEvent) → AreAllowed hub events → hub.status_wanted ≡ false
+        → (after_events hub events).status_wanted ≡ true → WasAsked hub events }
+    ensures wanted_still { settled_while_asked.status_wanted ≡ true }
+    ensures settled { is_waiting settled_while_asked ≡ false }
 {}
 
 /// Sends come to an end: after as many as are pending there is none.
