@@ -1,8 +1,7 @@
 -- Fates stand in the list of all of them, in order, from when they are told on.
-use Rattle.std.proofs.Common.{◌≡◌, ℕ, ◌⊎◌, true, false, List, [], ◌∷◌, ◌++◌, take, drop, map, Option, Some, None, refl}
+use Rattle.std.proofs.Common.{◌≡◌, ℕ, List, [], ◌∷◌, ◌++◌, map, Some, refl}
 use Rattle.std.proofs.Common.{sym, ap, ◌∙◌, subst, inl, inr, append_assoc, arith}
-use Rattle.std.proofs.lemmas.List.{append-nil, take-append-drop}
-use Rattle.std.specs.Prelude.{nat_lt}
+use Rattle.std.proofs.lemmas.List.{take-append-drop}
 use Rattle.ipb_base.specs.Lists.{IsPrefix}
 use Rattle.world_model.specs.declared.offered.OpenPlace.{OpenPlace}
 use Rattle.world_model.specs.declared.offered.Offered.{Offered}
@@ -13,7 +12,7 @@ use Rattle.world_model.specs.Hub.{Hub, give_up, goes_before, insert_fate, settle
 use Rattle.world_model.proofs.Lists.{either}
 use Rattle.reliable_engine.specs.Events.{HubEvent, Offer, Status, Reply, Quiet, Send, HandOut, after_event}
 use Rattle.reliable_engine.specs.Events.{IsAmong, after_events, handouts}
-use Rattle.reliable_engine.proofs.Cases.{Cases, after_is}
+use Rattle.reliable_engine.proofs.Cases.{after_is}
 use Rattle.reliable_engine.specs.ToldFates.{StandsIn, all_fates, handed, handed_out}
 
 -- ---- lists that stand in others

@@ -33,9 +33,10 @@ use Rattle.world_model.specs.Facts.{IsWindow}
 use Rattle.world_model.specs.Hub.{hear_status, recovered}
 use Rattle.std.proofs.lemmas.Bool.{lt-ltb, ltb-true}
 use Rattle.world_model.proofs.Flushing.{send_cases}
+use Rattle.world_model.proofs.Hubs.{IsWantedOr, IsWish, wanted_is}
 use Rattle.world_model.proofs.Lists.{either}
 use Rattle.world_model.proofs.Places.{has_last, one_place}
-use Rattle.reliable_engine.proofs.Places.{IsWantedOr, IsWish, open_sent, wanted_is}
+use Rattle.reliable_engine.proofs.Places.{open_sent}
 use Rattle.reliable_engine.proofs.Keeping.{found}
 use Rattle.reliable_engine.proofs.Steps.{here_resend, here_control, here_none}
 
@@ -435,7 +436,7 @@ wish_sendable h os (sends.Resend id) same wish = record {
   open_there = ap (has wish.place) same ∙ wish.there;
   identifier = wish.identifier;
 }
-wish_sendable h os (sends.Control place id) same wish = ap (has place) same ∙ wish
+wish_sendable h os (sends.Control place id) same wish = ap (has place) same ∙ wish.0
 
 pub sendable : (h : Hub) (os : List OpenPlace) (r : Option Wanted) (s : Sending) → h.open_places ≡ places_wanted os r
     → IsWantedOr h.first os r → sending_of r ≡ Some s → IsSendOf h s

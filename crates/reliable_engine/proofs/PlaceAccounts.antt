@@ -1,5 +1,5 @@
 -- Each place that was sent has one fate, or is waited for.
-use Rattle.std.proofs.Common.{◌≡◌, ℕ, zero, suc, ◌⊎◌, ◌+◌, ◌<◌, ◌≤◌, ◌==◌, Bool, true, false, cond, List, [], ◌∷◌, ◌++◌, take}
+use Rattle.std.proofs.Common.{◌≡◌, ℕ, zero, suc, ◌+◌, ◌<◌, ◌≤◌, Bool, true, false, cond, List, [], ◌∷◌, ◌++◌, take}
 use Rattle.std.proofs.Common.{drop, map, length, Option, Some, None, refl, sym, ap, ◌∙◌, inl, inr, subst, arith}
 use Rattle.std.proofs.Common.{length-append}
 use Rattle.std.specs.Prelude.{IfSome}
@@ -11,25 +11,25 @@ use Rattle.world_model.specs.declared.offered.Offered.{Offered}
 use Rattle.world_model.specs.declared.offered.Fate.{Fate}
 use Rattle.world_model.specs.declared.offered.Fate.TheVariants.{Replied, TimedOut, Unsent}
 use Rattle.world_model.specs.Places.{at_place}
-use Rattle.world_model.specs.Hub.{Hub, abandoned, give_up, insert_fate, new_hub, offer, open_with, recover, settle}
+use Rattle.world_model.specs.Hub.{Hub, abandoned, give_up, insert_fate, new_hub, open_with, recover, settle}
 use Rattle.world_model.specs.Hub.{tag_of, time_out, unsent, want_control, without}
 use Rattle.world_model.specs.Sends.{Wanted, after_open, opened, wanted}
 use Rattle.world_model.specs.History.{times}
-use Rattle.world_model.proofs.Accounts.{IsCount, count_append, count_inserted, times-append}
+use Rattle.world_model.proofs.Accounts.{IsCount, count_append, count_inserted}
 use Rattle.world_model.proofs.Hubs.{recover_place}
 use Rattle.world_model.proofs.Lists.{either}
 use Rattle.reliable_engine.specs.Events.{HubEvent, after_event, after_events}
 use Rattle.reliable_engine.specs.ToldFates.{IsSentPlace, all_fates, fate_places, handed, handed_out, tellings}
 use Rattle.reliable_engine.specs.ToldFates.{waited_places}
-use Rattle.reliable_engine.proofs.Cases.{Cases, after_is}
-use Rattle.reliable_engine.proofs.Keeping.{found, place_waits, recover_waits, waits_first}
+use Rattle.reliable_engine.proofs.Cases.{after_is}
+use Rattle.reliable_engine.proofs.Keeping.{SameWaited, found, place_waits, recover_waits, waited_map, waits_first}
+use Rattle.reliable_engine.proofs.Keeping.{wanted_waited}
 
 -- ---- the places up to the last one
 
 abbrev pub places_to : ℕ → List ℕ
 places_to zero = []
 places_to (suc n) = suc n ∷ places_to n
-
 
 none_past : (place n : ℕ) → n < place → times place (places_to n) ≡ 0
 none_past place zero past = refl
@@ -82,11 +82,6 @@ none_unsent place (x ∷ xs) = none_unsent place xs
 
 -- ---- places that are waited for
 
-waited_map : (f : OpenPlace → OpenPlace) (os : List OpenPlace) → ((o : OpenPlace) → (f o).place ≡ o.place)
-    → ((o : OpenPlace) → (f o).waited ≡ o.waited) → waited_places (map f os) ≡ waited_places os
-waited_map f [] place waited = refl
-waited_map f (o ∷ os) place waited = rw (place o, waited o, waited_map f os place waited) refl
-
 none_waited : (os : List OpenPlace) → waited_places (map abandoned os) ≡ []
 none_waited [] = refl
 none_waited (o ∷ os) = none_waited os
@@ -96,22 +91,6 @@ waited_push : (place : ℕ) (os : List OpenPlace) (o : OpenPlace)
 waited_push place [] o = omega arith
 waited_push place (x ∷ os) o =
     omega (arith, waits_first place x (os ++ o ∷ []), waits_first place x os, waited_push place os o)
-
-abbrev SameWaited : List OpenPlace → Option Wanted → Type 0
-SameWaited os r = IfSome r (λ (w : Wanted). waited_places w.open_places ≡ waited_places os)
-
-waited_later : (o : OpenPlace) (os : List OpenPlace) (r : Option Wanted) → SameWaited os r
-    → SameWaited (o ∷ os) (after_open o r)
-waited_later o os None same = tt
-waited_later o os (Some w) same = ap (λ (ps : List ℕ). cond o.waited (o.place ∷ ps) ps) same
-
-wanted_waited : (first : ℕ) (os : List OpenPlace) → SameWaited os (wanted first os)
-wanted_waited first [] = tt
-wanted_waited first (o ∷ os) = either (SameWaited (o ∷ os)) o.resend _ _
-    (λ _. refl)
-    (λ _. either (SameWaited (o ∷ os)) o.control _ _
-    (λ _. refl)
-    (λ _. waited_later o os _ (wanted_waited first os)))
 
 -- each time-out is that of a place that was waited for
 time_out_places : (place rounds : ℕ) (sent : List Offered) (os : List OpenPlace) (fates : List (ℕ × Fate))
@@ -183,17 +162,28 @@ event_placed place before h event is = after_is (Placed place before) h (record 
       (λ _. omega (arith, is, ap (times place) (waited_map want_control h.open_places (λ _. refl) (λ _. refl))))
       (λ _. omega (arith, is));
   same = omega (arith, is);
-  told = λ at. omega (arith, is,
-      ap (times place) (waited_map (recover at) h.open_places (recover_place at) (recover_waits at)));
+  told = λ at. omega (
+    arith,
+    is,
+    ap (times place) (waited_map (recover at) h.open_places (recover_place at) (recover_waits at)),
+  );
   settled = λ id words o told. settle_placed place before h id words o told is;
   wants_status = omega (arith, is);
   gives_up = give_up_placed place before h is;
   asked = omega (arith, is);
-  wished = λ w e. omega (arith, is, ap (times place) (subst (SameWaited h.open_places) e
-      (wanted_waited h.first h.open_places)));
+  wished = λ w e. omega (
+    arith,
+    is,
+    ap (times place) (subst (SameWaited h.open_places) e
+        (wanted_waited h.first h.open_places)),
+  );
   sent_first = λ x later e room. first_placed place before h x is;
-  handed = omega (arith, is, ap (fates_at place) (take-append-drop 1 h.fates),
-      count_append (fates_at place) (at_count place) (take 1 h.fates) (drop 1 h.fates));
+  handed = omega (
+    arith,
+    is,
+    ap (fates_at place) (take-append-drop 1 h.fates),
+    count_append (fates_at place) (at_count place) (take 1 h.fates) (drop 1 h.fates),
+  );
 }) event
 
 placed : (place before : ℕ) (h : Hub) (events : List HubEvent) → IsPlaced place before h

@@ -1,4 +1,4 @@
--- The places of a window, and what is wanted for them.
+-- The places of a window.
 use Rattle.std.proofs.Common.{◌≡◌, ℕ, zero, suc, ◌+◌, ◌<◌, ◌≤◌, true, false, ◌==◌, ◌||◌, List, [], ◌∷◌}
 use Rattle.std.proofs.Common.{length, get_or, All, Option, Some, None, refl, ap, arith}
 use Rattle.std.specs.Prelude.{◌^◌}
@@ -55,55 +55,3 @@ all_sent window sent os is k d h =
 pub all_named : (window sent : ℕ) (os : List OpenPlace) → IsWindow window sent (places os) → sent ≤ 2 ^ 62
     → All CanBeNamed os
 all_named window sent os is few k d h = let r = all_sent window sent os is k d h in (r.0, omega arith)
-
--- ---- what is wanted for open places
-
--- a re-send request asks for the reply of one of the places, and a control packet is that of one of them
-pub record IsNamed (first : ℕ) (ps : List ℕ) (id : ℕ) : Type 0 where
-  pub place : ℕ
-  pub there : has place ps ≡ true
-  pub identifier : identifier_at first place ≡ id
-
-abbrev pub IsWish : ℕ → List ℕ → Sending → Type 0
-IsWish first ps sends.Status = Unit {0}
-IsWish first ps (sends.Resend id) = IsNamed first ps id
-IsWish first ps (sends.Control place id) = has place ps ≡ true
-
-pub record IsWanted (first : ℕ) (os : List OpenPlace) (w : Wanted) : Type 0 where
-  pub same : places w.open_places ≡ places os
-  pub wish : IsWish first (places os) w.send
-
-abbrev pub IsWantedOr : ℕ → List OpenPlace → Option Wanted → Type 0
-IsWantedOr first os None = Unit {0}
-IsWantedOr first os (Some w) = IsWanted first os w
-
-has_later : (place p : ℕ) (ps : List ℕ) → has place ps ≡ true → has place (p ∷ ps) ≡ true
-has_later place p ps there = elim (p == place) as (λ b. (b || has place ps) ≡ true) [ true ↦ refl | false ↦ there ]
-
-has_first : (place : ℕ) (ps : List ℕ) → has place (place ∷ ps) ≡ true
-has_first place ps = rw (eq-eqb place place refl) refl
-
-wish_later : (first p : ℕ) (ps : List ℕ) (s : Sending) → IsWish first ps s → IsWish first (p ∷ ps) s
-wish_later first p ps sends.Status is = tt
-wish_later first p ps (sends.Resend id) is =
-    record { place = is.place; there = has_later is.place p ps is.there; identifier = is.identifier }
-wish_later first p ps (sends.Control place id) is = has_later place p ps is
-
-wanted_later : (first : ℕ) (o : OpenPlace) (os : List OpenPlace) (r : Option Wanted) → IsWantedOr first os r
-    → IsWantedOr first (o ∷ os) (after_open o r)
-wanted_later first o os None is = tt
-wanted_later first o os (Some w) is = record {
-  same = ap (λ (ps : List ℕ). o.place ∷ ps) is.same;
-  wish = wish_later first o.place (places os) w.send is.wish;
-}
-
-pub wanted_is : (first : ℕ) (os : List OpenPlace) → IsWantedOr first os (wanted first os)
-wanted_is first [] = tt
-wanted_is first (o ∷ os) = either (IsWantedOr first (o ∷ os)) o.resend _ _
-    (λ _. record {
-      same = refl;
-      wish = record { place = o.place; there = has_first o.place (places os); identifier = refl };
-    })
-    (λ _. either (IsWantedOr first (o ∷ os)) o.control _ _
-    (λ _. record { same = refl; wish = has_first o.place (places os) })
-    (λ _. wanted_later first o os _ (wanted_is first os)))

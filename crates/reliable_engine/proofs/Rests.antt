@@ -2,18 +2,18 @@
 use Rattle.std.proofs.Common.{◌≡◌, ◌≢◌, ◌≤◌, ◌<◌, ℕ, Bool, true, false, ◌==◌, ◌||◌, length, map, List}
 use Rattle.std.proofs.Common.{[]}
 use Rattle.std.proofs.Common.{◌∷◌, ◌+◌, Option, Some, None, refl, sym, ap, ◌∙◌, subst, arith, inl, inr}
-use Rattle.std.specs.Prelude.{nat_lt, nat_le}
+use Rattle.std.specs.Prelude.{nat_lt}
 use Rattle.std.specs.List.{AllByRecursion}
 use Rattle.std.proofs.lemmas.Bool.{lt-ltb, le-ltb}
 use Rattle.std.proofs.lemmas.Bool.Decides.{eqb_tells}
 use Rattle.packet_ids.specs.Identifier.{identifier_at, IsIdentifier}
 use Rattle.world_model.specs.declared.offered.OpenPlace.{OpenPlace}
 use Rattle.world_model.specs.declared.offered.Offered.{Offered}
-use Rattle.world_model.specs.Hub.{Hub, low, least, places, new_hub, offer, want_control, settle, hear_reply, open_with}
-use Rattle.world_model.specs.Hub.{without, recovered, told_place, hear_status, abandoned, give_up, want_status}
+use Rattle.world_model.specs.Hub.{Hub, least, places, new_hub, offer, want_control, settle, hear_reply, open_with}
+use Rattle.world_model.specs.Hub.{without, hear_status, abandoned, give_up, want_status}
 use Rattle.world_model.specs.Hub.{hear_quiet}
 use Rattle.world_model.specs.Hub.{is_waiting, some_waited}
-use Rattle.world_model.specs.Sends.{Next, Wanted, wanted, first_send, wanted_or_first, next_send}
+use Rattle.world_model.specs.Sends.{Next, first_send, wanted_or_first, next_send}
 use Rattle.world_model.specs.Facts.{has, AreRising}
 use Rattle.reliable_engine.specs.Answers.{IsQuiet, NamesOpenPlace, hub_next}
 use Rattle.reliable_engine.specs.Events.{HubEvent, Offer, Status, Reply, Quiet, Send, HandOut, after_event}

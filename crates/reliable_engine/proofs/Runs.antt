@@ -1,33 +1,29 @@
 -- The laws over every list of events.
 use Rattle.std.proofs.Common.{◌≡◌, ◌≤◌, ◌<◌, ℕ, Bool, true, false, ◌==◌, length, List}
 use Rattle.std.proofs.Common.{[]}
-use Rattle.std.proofs.Common.{◌∷◌, ◌++◌, ◌+◌, Option, Some, None, refl, sym, ap, ◌∙◌, subst, arith, inl, inr}
+use Rattle.std.proofs.Common.{◌∷◌, ◌++◌, ◌+◌, Some, refl, sym, ap, ◌∙◌, subst, arith, inl, inr}
 use Rattle.std.proofs.Common.{length-append, append_assoc}
-use Rattle.std.specs.Prelude.{nat_lt, nat_le}
-use Rattle.std.proofs.lemmas.Bool.{leb-true}
 use Rattle.std.proofs.lemmas.Bool.Decides.{eqb_tells}
 use Rattle.std.proofs.lemmas.List.{map-append, append-nil}
 use Rattle.ipb_base.specs.Lists.{IsPrefix}
 use Rattle.packet_ids.specs.Identifier.{IsIdentifier}
 use Rattle.world_model.specs.declared.offered.OpenPlace.{OpenPlace}
 use Rattle.world_model.specs.declared.offered.Offered.{Offered}
-use Rattle.world_model.specs.Hub.{Hub, low, places, place_of, new_hub, offer, want_control, settle}
-use Rattle.world_model.specs.Hub.{open_with}
-use Rattle.world_model.specs.Hub.{recover, recovered, told_place, hear_status, abandoned, give_up, want_status}
-use Rattle.world_model.specs.Hub.{hear_quiet}
-use Rattle.world_model.specs.Sends.{Next, Wanted, wanted, opened, first_send, wanted_or_first, next_send}
+use Rattle.world_model.specs.Hub.{Hub, low, places, place_of, new_hub, want_control}
+use Rattle.world_model.specs.Hub.{recover, abandoned}
+use Rattle.world_model.specs.Sends.{Next, opened, next_send}
 use Rattle.world_model.specs.declared.sending.Sending.TheVariants as sends
 use Rattle.world_model.specs.Facts.{has, IsWindow}
 use Rattle.reliable_engine.specs.Answers.{IsOpen, IsSendOf, hub_next}
-use Rattle.reliable_engine.specs.Events.{HubEvent, Offer, Status, Reply, Quiet, Send, HandOut, after_event}
+use Rattle.reliable_engine.specs.Events.{HubEvent, Send, after_event}
 use Rattle.reliable_engine.specs.Events.{after_events}
 use Rattle.reliable_engine.specs.Events.{IsInWindow}
-use Rattle.world_model.proofs.Hubs.{places_map, places_without, recover_place}
+use Rattle.world_model.proofs.Hubs.{IsWantedOr, places_map, places_without, recover_place, wanted_is}
 use Rattle.world_model.proofs.Lists.{either}
 use Rattle.world_model.proofs.Places.{less, window_less, window_push}
-use Rattle.reliable_engine.proofs.Cases.{Cases, after_is}
+use Rattle.reliable_engine.proofs.Cases.{after_is}
 use Rattle.reliable_engine.proofs.Hubs.{send_open}
-use Rattle.reliable_engine.proofs.Places.{IsWantedOr, lowest_open, open_once, open_sent, wanted_is}
+use Rattle.reliable_engine.proofs.Places.{lowest_open, open_once, open_sent}
 
 -- ---- what an event does to the places: nothing, or one is closed, or the next one is opened
 

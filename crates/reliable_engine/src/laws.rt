@@ -33,7 +33,7 @@ pub fn the_window_is_never_passed()
         → window ≤ MAX_WINDOW → IsInWindow (after_events (new_hub first window rounds) events) }
     ensures number { (first window rounds : ℕ) (events : List HubEvent) → 1 ≤ window → window ≤ MAX_WINDOW
         → length (after_events (new_hub first window rounds) events).sent + 1
-            - low (after_events (new_hub first window rounds) events) ≤ window }
+        - low (after_events (new_hub first window rounds) events) ≤ window }
 {}
 
 /// A place keeps its body and its identifier for good.
@@ -115,10 +115,10 @@ pub fn the_fate_of_a_place_is_told_once()
     ensures fate_or_waited { (first window rounds : ℕ) (events : List HubEvent) (place : ℕ)
         → IsSentPlace (after_events (new_hub first window rounds) events) place
         → tellings (after_events (new_hub first window rounds) events) (all_fates (new_hub first window rounds) events)
-            place ≡ 1 }
+        place ≡ 1 }
     ensures no_other { (first window rounds : ℕ) (events : List HubEvent) (place : ℕ)
         → 1 ≤ tellings (after_events (new_hub first window rounds) events)
-            (all_fates (new_hub first window rounds) events) place
+        (all_fates (new_hub first window rounds) events) place
         → IsSentPlace (after_events (new_hub first window rounds) events) place }
 {}
 
@@ -127,10 +127,10 @@ pub fn the_fate_of_a_place_is_told_once()
 pub fn an_offered_body_has_one_fate()
     ensures account { (first window rounds : ℕ) (events : List HubEvent) (tag : ℕ)
         → IsAccounted (after_events (new_hub first window rounds) events)
-            (all_fates (new_hub first window rounds) events) (offered_tags events) tag }
+        (all_fates (new_hub first window rounds) events) (offered_tags events) tag }
     ensures no_more { (first window rounds : ℕ) (events : List HubEvent) (tag : ℕ)
         → times tag (map tag_of_fate (all_fates (new_hub first window rounds) events))
-            ≤ times tag (offered_tags events) }
+        ≤ times tag (offered_tags events) }
 {}
 
 /// A fate never changes. Whatever events follow, all fates that were told stand among those told then, in the same

@@ -59,9 +59,62 @@ places_without place (o ∷ os) = elim (o.place == place)
 pub recover_place : (e : ℕ) (o : OpenPlace) → (recover e o).place ≡ o.place
 recover_place e o = either (λ (x : OpenPlace). x.place ≡ o.place) (nat_lt o.place e) _ _ (λ _. refl) (λ _. refl)
 
-module _ (below : Below) where
-  -- ---- places under the hub's events
+-- ---- what is wanted of open places
 
+-- a re-send request asks for the reply of one of the places
+pub record IsNamed (first : ℕ) (ps : List ℕ) (id : ℕ) : Type 0 where
+  pub place : ℕ
+  pub there : has place ps ≡ true
+  pub identifier : identifier_at first place ≡ id
+
+pub named_fits : (first : ℕ) (ps : List ℕ) (id : ℕ) → IsNamed first ps id → id < 2 ^ 16
+named_fits first ps id is = omega (arith, is.identifier, id_fits first is.place)
+
+abbrev pub IsWish : ℕ → List ℕ → Sending → Type 0
+IsWish first ps sends.Status = Unit {0}
+IsWish first ps (sends.Resend id) = IsNamed first ps id
+IsWish first ps (sends.Control place id) = (has place ps ≡ true) × (id ≡ identifier_at first place)
+
+pub record IsWanted (first : ℕ) (os : List OpenPlace) (w : Wanted) : Type 0 where
+  pub same : places w.open_places ≡ places os
+  pub wish : IsWish first (places os) w.send
+
+abbrev pub IsWantedOr : ℕ → List OpenPlace → Option Wanted → Type 0
+IsWantedOr first os None = Unit {0}
+IsWantedOr first os (Some w) = IsWanted first os w
+
+has_later : (place p : ℕ) (ps : List ℕ) → has place ps ≡ true → has place (p ∷ ps) ≡ true
+has_later place p ps there = elim (p == place) as (λ b. (b || has place ps) ≡ true) [ true ↦ refl | false ↦ there ]
+
+has_first : (place : ℕ) (ps : List ℕ) → has place (place ∷ ps) ≡ true
+has_first place ps = rw (eq-eqb place place refl) refl
+
+wish_later : (first p : ℕ) (ps : List ℕ) (s : Sending) → IsWish first ps s → IsWish first (p ∷ ps) s
+wish_later first p ps sends.Status is = tt
+wish_later first p ps (sends.Resend id) is =
+    record { place = is.place; there = has_later is.place p ps is.there; identifier = is.identifier }
+wish_later first p ps (sends.Control place id) is = (has_later place p ps is.0, is.1)
+
+wanted_later : (first : ℕ) (o : OpenPlace) (os : List OpenPlace) (r : Option Wanted) → IsWantedOr first os r
+    → IsWantedOr first (o ∷ os) (after_open o r)
+wanted_later first o os None is = tt
+wanted_later first o os (Some w) is = record {
+  same = ap (λ (ps : List ℕ). o.place ∷ ps) is.same;
+  wish = wish_later first o.place (places os) w.send is.wish;
+}
+
+pub wanted_is : (first : ℕ) (os : List OpenPlace) → IsWantedOr first os (wanted first os)
+wanted_is first [] = tt
+wanted_is first (o ∷ os) = either (IsWantedOr first (o ∷ os)) o.resend _ _
+    (λ _. record {
+      same = refl;
+      wish = record { place = o.place; there = has_first o.place (places os); identifier = refl };
+    })
+    (λ _. either (IsWantedOr first (o ∷ os)) o.control _ _
+    (λ _. record { same = refl; wish = (has_first o.place (places os), refl) })
+    (λ _. wanted_later first o os _ (wanted_is first os)))
+
+module _ (below : Below) where
   pub record IsFound (first id : ℕ) (os : List OpenPlace) (o : OpenPlace) : Type 0 where
     pub there : has o.place (places os) ≡ true
     pub named : identifier_at first o.place ≡ id
@@ -219,44 +272,6 @@ module _ (below : Below) where
 
   -- ---- sends
 
-  abbrev pub IsWish : ℕ → List ℕ → Sending → Type 0
-  IsWish first ps sends.Status = Unit {0}
-  IsWish first ps (sends.Resend id) = id < 2 ^ 16
-  IsWish first ps (sends.Control place id) = (has place ps ≡ true) × (id ≡ identifier_at first place)
-
-  pub record IsWanted (first : ℕ) (os : List OpenPlace) (w : Wanted) : Type 0 where
-    pub same : places w.open_places ≡ places os
-    pub wish : IsWish first (places os) w.send
-
-  abbrev pub IsWantedOr : ℕ → List OpenPlace → Option Wanted → Type 0
-  IsWantedOr first os None = Unit {0}
-  IsWantedOr first os (Some w) = IsWanted first os w
-
-  wish_later : (first p : ℕ) (ps : List ℕ) (s : Sending) → IsWish first ps s → IsWish first (p ∷ ps) s
-  wish_later first p ps sends.Status is = tt
-  wish_later first p ps (sends.Resend id) is = is
-  wish_later first p ps (sends.Control place id) is = (
-    elim (p == place) as (λ b. (b || has place ps) ≡ true)
-        [ true ↦ refl | false ↦ is.0 ],
-    is.1,
-  )
-
-  wanted_later : (first : ℕ) (o : OpenPlace) (os : List OpenPlace) (r : Option Wanted) → IsWantedOr first os r
-      → IsWantedOr first (o ∷ os) (after_open o r)
-  wanted_later first o os None is = tt
-  wanted_later first o os (Some w) is = record {
-    same = ap (λ (ps : List ℕ). o.place ∷ ps) is.same;
-    wish = wish_later first o.place (places os) w.send is.wish;
-  }
-
-  pub wanted_is : (first : ℕ) (os : List OpenPlace) → IsWantedOr first os (wanted first os)
-  wanted_is first [] = tt
-  wanted_is first (o ∷ os) = either (IsWantedOr first (o ∷ os)) o.resend _ _
-      (λ _. record { same = refl; wish = id_fits first o.place })
-      (λ _. either (IsWantedOr first (o ∷ os)) o.control _ _
-      (λ _. record { same = refl; wish = (rw (eq-eqb o.place o.place refl) refl, refl) })
-      (λ _. wanted_later first o os _ (wanted_is first os)))
-
   abbrev pub IsSendSound : World → Option Next → Type 0
   IsSendSound w None = Unit {0}
   IsSendSound w (Some next) = IsSound (sent_into w next)
@@ -297,7 +312,7 @@ module _ (below : Below) where
   wish_said w sends.Status is wish = subst (IsSaidToBoard w.hub.first (bodies_of w.hub.sent) (length w.hub.sent))
       (sym (request_read below)) tt
   wish_said w (sends.Resend id) is wish = subst (IsSaidToBoard w.hub.first (bodies_of w.hub.sent) (length w.hub.sent))
-      (sym (resend_read below id wish)) tt
+      (sym (resend_read below id (named_fits w.hub.first (places w.hub.open_places) id wish))) tt
   wish_said w (sends.Control place id) is wish =
       let ps = places w.hub.open_places in
       let sent = length w.hub.sent in

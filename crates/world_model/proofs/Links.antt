@@ -40,7 +40,7 @@ use Rattle.world_model.proofs.Lists.{at_seam, at_exists, either, all_get}
 use Rattle.world_model.proofs.Places.{has_from, has_below, one_place, id_fits}
 use Rattle.world_model.proofs.Readings.{control_read, request_read, resend_read}
 use Rattle.world_model.proofs.Hubs.{offer_holds, quiet_holds, send_holds, IsSendSound, IsWish, IsWanted, IsWantedOr}
-use Rattle.world_model.proofs.Hubs.{wanted_is, sendable_at}
+use Rattle.world_model.proofs.Hubs.{named_fits, wanted_is, sendable_at}
 use Rattle.world_model.proofs.Kept.{message_sent, quiet_sent}
 use Rattle.world_model.proofs.Worlds.{board_goes_on, IsTaken, hub_heard, start_holds, same_way}
 use Rattle.world_model.specs.Below.{Below}
@@ -76,11 +76,11 @@ module _ (below : Below) where
   IsCounted w (Some n) = (if is_first_send w.hub.first (length w.hub.sent) goes.ToBoard
       (bytes_to_send n.hub n.send) then length w.hub.sent + 1 else length w.hub.sent) ≡ length n.hub.sent
 
-  wish_counted : (w : World) (s : Sending) → IsSound w → IsWish below w.hub.first (places w.hub.open_places) s
+  wish_counted : (w : World) (s : Sending) → IsSound w → IsWish w.hub.first (places w.hub.open_places) s
       → is_first_send w.hub.first (length w.hub.sent) goes.ToBoard (bytes_to_send w.hub s) ≡ false
   wish_counted w sends.Status is wish = ap (is_first_message w.hub.first (length w.hub.sent)) (request_read below)
   wish_counted w (sends.Resend id) is wish = ap (is_first_message w.hub.first (length w.hub.sent))
-      (resend_read below id wish)
+      (resend_read below id (named_fits w.hub.first (places w.hub.open_places) id wish))
   wish_counted w (sends.Control place id) is wish =
       let ps = places w.hub.open_places in
       let sent = length w.hub.sent in
@@ -119,7 +119,7 @@ module _ (below : Below) where
   open_bytes h os (sends.Resend id) = refl
   open_bytes h os (sends.Control place id) = refl
 
-  wanted_counted : (w : World) (r : Option Wanted) → IsSound w → IsWantedOr below w.hub.first w.hub.open_places r
+  wanted_counted : (w : World) (r : Option Wanted) → IsSound w → IsWantedOr w.hub.first w.hub.open_places r
       → IsCounted w (wanted_or_first w.hub r)
   wanted_counted w None is want = first_counted w w.hub.queue is.queued_bodies
   wanted_counted w (Some x) is want =
@@ -131,7 +131,7 @@ module _ (below : Below) where
   send_counted w is = either (IsCounted w) w.hub.status_wanted _ _
       (λ _. not_counted w (record { send = sends.Status; hub = record w.hub { status_wanted = false } })
       (wish_counted w sends.Status is tt) refl)
-      (λ _. wanted_counted w (wanted w.hub.first w.hub.open_places) is (wanted_is below w.hub.first w.hub.open_places))
+      (λ _. wanted_counted w (wanted w.hub.first w.hub.open_places) is (wanted_is w.hub.first w.hub.open_places))
 
   -- ---- a receive: the board hears some datagrams
 

@@ -1,4 +1,3 @@
-use Rattle.world_model.specs.declared.offered.Fate.{Fate}
 use Rattle.reliable_engine.specs.ToldFates.{all_fates}
 use Rattle.reliable_engine.proofs.AllFates.{all_stand, fate_waits, handed_first, stands_among}
 use Rattle.reliable_engine.proofs.laws.a_fate_never_changes.Goals as goal

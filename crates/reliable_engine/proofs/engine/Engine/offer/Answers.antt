@@ -32,7 +32,7 @@ invariant_of-self-then-self c =
     (sym (with_items_is c.reserve.new.self c.want_all.new.places len ∙ after))
     (rw c.reserve-2.ensures.len (keeps_offer i.first i.window i.sent (length all) os (map want_control os)
     i.open_places.cap i.fates.len i.fates.cap _ _ _ is (places_map want_control os (λ _. refl))
-    (waits_map want_control os (λ _. refl)) more few room fate_room))
+    (waits_map want_control os (λ _. refl) (λ _. refl)) more few room fate_room))
 
 pub invariant_of-self-else-self : goal.invariant_of-self-else-self
 invariant_of-self-else-self c =

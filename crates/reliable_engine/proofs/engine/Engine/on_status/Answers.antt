@@ -22,7 +22,7 @@ invariant_of-self c =
     (sym (with_items_is i.open_places c.recover_all.new.places len ∙ after))
     (keeps_same i.first i.window i.sent (length i.bodies.items) os (map (recover told) os) i.open_places.cap
     i.fates.len i.fates.cap c.self.invariant (places_map (recover told) os (recover_place told))
-    (waits_map (recover told) os (recover_waits told)))
+    (waits_map (recover told) os (recover_place told) (recover_waits told)))
 
 pub returns-in-Some-clause-taken : goal.returns-in-Some-clause-taken
 returns-in-Some-clause-taken c =
