@@ -373,7 +373,7 @@ quiet_here first o os e = elim (either_way o.resend) [
   ]
 ]
 
-quiet : (first : ℕ) (os : List OpenPlace) → wanted first os ≡ None → AllByRecursion IsQuiet os
+pub quiet : (first : ℕ) (os : List OpenPlace) → wanted first os ≡ None → AllByRecursion IsQuiet os
 quiet first [] e = tt
 quiet first (o ∷ os) e =
     let is = quiet_here first o os e in

@@ -10,3 +10,5 @@ mod Cases
 mod AllFates
 mod PlaceAccounts
 mod TagAccounts
+mod FateOrder
+mod SendOrder

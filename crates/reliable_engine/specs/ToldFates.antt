@@ -38,6 +38,20 @@ fate_places ((tag, Replied place words) ∷ fates) = place ∷ fate_places fates
 fate_places ((tag, TimedOut place rounds) ∷ fates) = place ∷ fate_places fates
 fate_places ((tag, Unsent) ∷ fates) = fate_places fates
 
+-- bodies that were never sent
+abbrev pub AreUnsent : List (ℕ × Fate) → Type 0
+AreUnsent [] = Unit {0}
+AreUnsent ((tag, Replied place words) ∷ fates) = ⊥
+AreUnsent ((tag, TimedOut place rounds) ∷ fates) = ⊥
+AreUnsent ((tag, Unsent) ∷ fates) = AreUnsent fates
+
+-- fates of places from this one on, none behind that of a higher place, and then those of bodies that were never sent
+abbrev pub AreByPlace : ℕ → List (ℕ × Fate) → Type 0
+AreByPlace from [] = Unit {0}
+AreByPlace from ((tag, Replied place words) ∷ fates) = (from ≤ place) × AreByPlace place fates
+AreByPlace from ((tag, TimedOut place rounds) ∷ fates) = (from ≤ place) × AreByPlace place fates
+AreByPlace from ((tag, Unsent) ∷ fates) = AreUnsent fates
+
 -- the places that are waited for
 abbrev pub waited_places : List OpenPlace → List ℕ
 waited_places [] = []

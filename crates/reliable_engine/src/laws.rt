@@ -19,7 +19,8 @@ ghost use Rattle.reliable_engine.specs.Answers.{IsOpen, IsSendOf, TellsPlace, se
 ghost use Rattle.reliable_engine.specs.Events.{AreAllowed, HubEvent, IsAllowed, IsAmong, IsAtRest, IsInWindow};
 ghost use Rattle.reliable_engine.specs.Events.{IsOutOfRounds, Send, after_event, handouts};
 ghost use Rattle.reliable_engine.specs.Events.{IfTold, SettleNone, SettlesAlone, WasAsked, after_events, quiets};
-ghost use Rattle.reliable_engine.specs.ToldFates.{IsAccounted, IsSentPlace, StandsIn, all_fates, fate_places};
+ghost use Rattle.reliable_engine.specs.SendOrder.{GoesByPlace, HasNothingWanted};
+ghost use Rattle.reliable_engine.specs.ToldFates.{AreByPlace, IsAccounted, IsSentPlace, StandsIn, all_fates, fate_places};
 ghost use Rattle.reliable_engine.specs.ToldFates.{handed_out, offered_tags, tellings};
 ghost use Rattle.reliable_engine.specs.Examples.{given_up, one_word, settled_while_asked, three_told, two_sent};
 ghost use Rattle.reliable_engine.specs.Examples.{two_settled};
@@ -146,6 +147,12 @@ pub fn a_fate_never_changes()
         → IsAmong (tag, fate) hub.fates → IsAmong (tag, fate) (after_events hub events).fates }
 {}
 
+/// Fates wait in the order of their places, and behind them those of bodies that were never sent.
+pub fn fates_wait_by_place()
+    ensures { (first window rounds : ℕ) (events : List HubEvent)
+        → AreByPlace 0 (after_events (new_hub first window rounds) events).fates }
+{}
+
 /// A status request becomes wanted only while a body has no fate: where one is wanted, a quiet receive came while a body
 /// waited, and nothing was sent since. A reply may have settled that body in between; the request is sent all the same.
 pub fn a_status_is_asked_for_while_a_body_waits()
@@ -155,6 +162,17 @@ pub fn a_status_is_asked_for_while_a_body_waits()
         → (after_events hub events).status_wanted ≡ true → WasAsked hub events }
     ensures wanted_still { settled_while_asked.status_wanted ≡ true }
     ensures settled { is_waiting settled_while_asked ≡ false }
+{}
+
+/// A wanted status request goes first. What is sent for an open place again goes by place, and at one place the re-send
+/// request goes before the control packet. A body is sent first only where nothing else is to be sent.
+pub fn sends_go_in_order()
+    ensures status_first { (hub : Hub) → hub.status_wanted ≡ true → sent_next (next_send hub) ≡ Some Status }
+    ensures by_place { (first window rounds : ℕ) (events : List HubEvent) (next : Next) → 1 ≤ window
+        → window ≤ MAX_WINDOW → next_send (after_events (new_hub first window rounds) events) ≡ Some next
+        → GoesByPlace (after_events (new_hub first window rounds) events) next.send }
+    ensures new_last { (hub : Hub) (next : Next) → next_send hub ≡ Some next
+        → length hub.sent < length next.hub.sent → HasNothingWanted hub }
 {}
 
 /// Sends come to an end: after as many as are pending there is none.
