@@ -10,6 +10,7 @@ use Rattle.world_model.specs.declared.sending.Sending.TheVariants as sends
 use Rattle.world_model.specs.Hub.{Hub, least, low, places}
 use Rattle.world_model.specs.Sends.{Next, Wanted, after_open, first_send, next_send, wanted, wanted_or_first}
 use Rattle.world_model.specs.Facts.{AreRising}
+use Rattle.world_model.proofs.Hubs.{has_first, has_later}
 use Rattle.world_model.proofs.Lists.{either}
 use Rattle.reliable_engine.specs.Answers.{IsQuiet, sent_next}
 use Rattle.reliable_engine.specs.SendOrder.{GoesByPlace, HasNothingWanted, IsForLowest, IsQuietBelow}
@@ -38,7 +39,12 @@ for_later : (first : ℕ) (o : OpenPlace) (os : List OpenPlace) (s : Sending) �
     → IsForLowest first (o ∷ os) s
 for_later first o os sends.Status calm is = tt
 for_later first o os (sends.Resend id) calm is =
-    record { place = is.place; identifier = is.identifier; lowest = (λ _. calm, is.lowest) }
+    record {
+      place = is.place;
+      there = has_later is.place o.place (places os) is.there;
+      identifier = is.identifier;
+      lowest = (λ _. calm, is.lowest);
+    }
 for_later first o os (sends.Control place id) calm is =
     record { lowest = (λ _. calm, is.lowest); asked = (λ _. calm.no_resend, is.asked) }
 
@@ -57,7 +63,12 @@ wanted_lowest first from past (o ∷ os) rising =
     let below : IsQuietBelow o.place (o ∷ os) =
     (λ itself. absurd (omega arith), none_below o.place (o.place + 1) past os (omega arith) rising.1) in
     either (IsLowestOr first (o ∷ os)) o.resend _ _
-    (λ _. record { place = o.place; identifier = refl; lowest = below })
+    (λ _. record {
+      place = o.place;
+      there = has_first o.place (places os);
+      identifier = refl;
+      lowest = below;
+    })
     (λ a. either (IsLowestOr first (o ∷ os)) o.control _ _
     (λ _. record { lowest = below; asked = (λ _. a, none_at o.place (o.place + 1) past os (omega arith) rising.1) })
     (λ b. wanted_later first o os (wanted first os) (record { no_resend = a; no_control = b })

@@ -1,11 +1,12 @@
 -- In which order a hub sends. Profile.
-use Rattle.std.specs.Prelude.{◌≡◌, ℕ, ◌<◌, false, List}
+use Rattle.std.specs.Prelude.{◌≡◌, ℕ, ◌<◌, true, false, List}
 use Rattle.std.specs.List.{AllByRecursion}
 use Rattle.packet_ids.specs.Identifier.{identifier_at}
 use Rattle.world_model.specs.declared.offered.OpenPlace.{OpenPlace}
 use Rattle.world_model.specs.declared.sending.Sending.{Sending}
 use Rattle.world_model.specs.declared.sending.Sending.TheVariants as sends
-use Rattle.world_model.specs.Hub.{Hub}
+use Rattle.world_model.specs.Hub.{Hub, places}
+use Rattle.world_model.specs.Facts.{has}
 use Rattle.reliable_engine.specs.Answers.{IsQuiet}
 
 -- no status request is wanted, and nothing for an open place
@@ -17,9 +18,10 @@ pub record HasNothingWanted (hub : Hub) : Type 0 where
 abbrev pub IsQuietBelow : ℕ → List OpenPlace → Type 0
 IsQuietBelow place os = AllByRecursion (λ (o : OpenPlace). o.place < place → IsQuiet o) os
 
--- a re-send request is for the place with its identifier
+-- a re-send request is for the open place with its identifier
 pub record AsksLowest (first id : ℕ) (os : List OpenPlace) : Type 0 where
   pub place : ℕ
+  pub there : has place (places os) ≡ true
   pub identifier : identifier_at first place ≡ id
   pub lowest : IsQuietBelow place os
 

@@ -83,10 +83,10 @@ abbrev pub IsWantedOr : ℕ → List OpenPlace → Option Wanted → Type 0
 IsWantedOr first os None = Unit {0}
 IsWantedOr first os (Some w) = IsWanted first os w
 
-has_later : (place p : ℕ) (ps : List ℕ) → has place ps ≡ true → has place (p ∷ ps) ≡ true
+pub has_later : (place p : ℕ) (ps : List ℕ) → has place ps ≡ true → has place (p ∷ ps) ≡ true
 has_later place p ps there = elim (p == place) as (λ b. (b || has place ps) ≡ true) [ true ↦ refl | false ↦ there ]
 
-has_first : (place : ℕ) (ps : List ℕ) → has place (place ∷ ps) ≡ true
+pub has_first : (place : ℕ) (ps : List ℕ) → has place (place ∷ ps) ≡ true
 has_first place ps = rw (eq-eqb place place refl) refl
 
 wish_later : (first p : ℕ) (ps : List ℕ) (s : Sending) → IsWish first ps s → IsWish first (p ∷ ps) s
