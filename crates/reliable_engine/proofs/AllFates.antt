@@ -95,7 +95,7 @@ event_stands h event = after_is (λ now after. StandsIn h.fates (now ++ after.fa
 -- ---- all fates
 
 -- the fates of one event and of those after it
-all_cons : (h : Hub) (event : HubEvent) (events : List HubEvent)
+pub all_cons : (h : Hub) (event : HubEvent) (events : List HubEvent)
     → all_fates h (event ∷ events) ≡ handed h event ++ all_fates (after_event h event) events
 all_cons h event events = append_assoc (handed h event) (handed_out (after_event h event) events)
     (after_events (after_event h event) events).fates

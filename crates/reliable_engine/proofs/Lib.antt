@@ -12,3 +12,4 @@ mod PlaceAccounts
 mod TagAccounts
 mod FateOrder
 mod SendOrder
+mod FateBodies

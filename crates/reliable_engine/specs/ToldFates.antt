@@ -1,9 +1,11 @@
 -- All fates that a list of events brings about: which are handed out, which wait, and whose they are. Profile.
 use Rattle.std.specs.Prelude.{◌≡◌, ◌⊎◌, ℕ, ◌+◌, ◌≤◌, if◌then◌else◌, List, [], ◌∷◌, ◌++◌, take, length, map}
+use Rattle.world_model.specs.declared.offered.Offered.{Offered}
 use Rattle.world_model.specs.declared.offered.OpenPlace.{OpenPlace}
 use Rattle.world_model.specs.declared.offered.Fate.{Fate}
 use Rattle.world_model.specs.declared.offered.Fate.TheVariants.{Replied, TimedOut, Unsent}
 use Rattle.world_model.specs.Hub.{Hub}
+use Rattle.world_model.specs.Facts.{IsTagged}
 use Rattle.world_model.specs.History.{placed_tags, tag_of_fate, tag_of_offered, times, waited_tags}
 use Rattle.reliable_engine.specs.Events.{HubEvent, Offer, Status, Reply, Quiet, Send, HandOut, after_event, after_events}
 
@@ -51,6 +53,12 @@ AreByPlace from [] = Unit {0}
 AreByPlace from ((tag, Replied place words) ∷ fates) = (from ≤ place) × AreByPlace place fates
 AreByPlace from ((tag, TimedOut place rounds) ∷ fates) = (from ≤ place) × AreByPlace place fates
 AreByPlace from ((tag, Unsent) ∷ fates) = AreUnsent fates
+
+-- a fate with a place has the tag of the body that was sent there
+abbrev pub IsOfItsBody : List Offered → ℕ × Fate → Type 0
+IsOfItsBody sent (tag, Replied place words) = IsTagged sent tag place
+IsOfItsBody sent (tag, TimedOut place rounds) = IsTagged sent tag place
+IsOfItsBody sent (tag, Unsent) = Unit {0}
 
 -- the places that are waited for
 abbrev pub waited_places : List OpenPlace → List ℕ

@@ -3,6 +3,7 @@
 
 ghost use Rattle.std.specs.Prelude.{◌≡◌, ◌≢◌, ◌≤◌, ◌<◌, ◌+◌, ◌-◌, ℕ, List, [], ◌∷◌, ◌++◌, length, map, replicate};
 ghost use Rattle.std.specs.Prelude.{true, false, None, Some};
+ghost use Rattle.std.specs.List.{AllByRecursion};
 ghost use Rattle.ipb_base.specs.Lists.{IsPrefix};
 ghost use Rattle.packet_ids.specs.Identifier.{IsIdentifier};
 ghost use Rattle.world_model.specs.declared.offered.Offered.{Offered};
@@ -20,8 +21,8 @@ ghost use Rattle.reliable_engine.specs.Events.{AreAllowed, HubEvent, IsAllowed, 
 ghost use Rattle.reliable_engine.specs.Events.{IsOutOfRounds, Send, after_event, handouts};
 ghost use Rattle.reliable_engine.specs.Events.{IfTold, SettleNone, SettlesAlone, WasAsked, after_events, quiets};
 ghost use Rattle.reliable_engine.specs.SendOrder.{GoesByPlace, HasNothingWanted};
-ghost use Rattle.reliable_engine.specs.ToldFates.{AreByPlace, IsAccounted, IsSentPlace, StandsIn, all_fates, fate_places};
-ghost use Rattle.reliable_engine.specs.ToldFates.{handed_out, offered_tags, tellings};
+ghost use Rattle.reliable_engine.specs.ToldFates.{AreByPlace, IsAccounted, IsOfItsBody, IsSentPlace, StandsIn};
+ghost use Rattle.reliable_engine.specs.ToldFates.{all_fates, fate_places, handed_out, offered_tags, tellings};
 ghost use Rattle.reliable_engine.specs.Examples.{given_up, one_word, settled_while_asked, three_told, two_sent};
 ghost use Rattle.reliable_engine.specs.Examples.{two_settled};
 
@@ -132,6 +133,13 @@ pub fn an_offered_body_has_one_fate()
     ensures no_more { (first window rounds : ℕ) (events : List HubEvent) (tag : ℕ)
         → times tag (map tag_of_fate (all_fates (new_hub first window rounds) events))
         ≤ times tag (offered_tags events) }
+{}
+
+/// A fate with a place is that of the body that was sent there: it has that body's tag.
+pub fn a_fate_is_that_of_its_body()
+    ensures { (first window rounds : ℕ) (events : List HubEvent) → 1 ≤ window → window ≤ MAX_WINDOW
+        → AllByRecursion (IsOfItsBody (after_events (new_hub first window rounds) events).sent)
+        (all_fates (new_hub first window rounds) events) }
 {}
 
 /// A fate never changes. Whatever events follow, all fates that were told stand among those told then, in the same

@@ -114,6 +114,42 @@ wanted_is first (o ∷ os) = either (IsWantedOr first (o ∷ os)) o.resend _ _
     (λ _. record { same = refl; wish = (has_first o.place (places os), refl) })
     (λ _. wanted_later first o os _ (wanted_is first os)))
 
+-- ---- fates
+
+-- the tag of the body at a place that was sent
+pub tagged : (sent : List Offered) (place : ℕ) → 1 ≤ place → place ≤ length sent
+    → IsTagged sent (tag_of (at_place sent place)) place
+tagged sent place one within =
+    let x = at_exists sent place one within in
+    record { offered = x.0; at = x.1; tag_is = ap tag_of (sym x.1) }
+
+pub all_inserted : (P : ℕ × Fate → Type 0) (place : ℕ) (new : ℕ × Fate) (fates : List (ℕ × Fate)) → P new
+    → AllByRecursion P fates → AllByRecursion P (insert_fate place new fates)
+all_inserted P place new [] is all = (is, tt)
+all_inserted P place new (f ∷ fs) is all = either (AllByRecursion P) (goes_before place f.1) _ _
+    (λ _. (is, all))
+    (λ _. (all.0, all_inserted P place new fs is all.1))
+
+-- what holds of each time-out holds after a give-up
+pub all_timed_out : (P : ℕ × Fate → Type 0) (from rounds : ℕ) (sent : List Offered) (os : List OpenPlace)
+    (fates : List (ℕ × Fate))
+    → ((place : ℕ) → 1 ≤ place → place ≤ length sent → P (tag_of (at_place sent place), TimedOut place rounds))
+    → 1 ≤ from → AreRising from (length sent + 1) (places os) → AllByRecursion P fates
+    → AllByRecursion P (time_out rounds sent os fates)
+all_timed_out P from rounds sent [] fates late one rising all = all
+all_timed_out P from rounds sent (o ∷ os) fates late one rising all =
+    let under = rising_end (o.place + 1) (length sent + 1) (places os) rising.1 in
+    let new = late o.place (omega (arith, rising.0)) (omega arith) in
+    all_timed_out P (o.place + 1) rounds sent os _ late (omega arith) rising.1
+    (either (AllByRecursion P) o.waited _ _
+    (λ _. all_inserted P o.place (tag_of (at_place sent o.place), TimedOut o.place rounds) fates new all)
+    (λ _. all))
+
+pub all_unsent : (P : ℕ × Fate → Type 0) (queue : List Offered) → ((tag : ℕ) → P (tag, Unsent))
+    → AllByRecursion P (map unsent queue)
+all_unsent P [] is = tt
+all_unsent P (o ∷ os) is = (is o.tag, all_unsent P os is)
+
 module _ (below : Below) where
   pub record IsFound (first id : ℕ) (os : List OpenPlace) (o : OpenPlace) : Type 0 where
     pub there : has o.place (places os) ≡ true
@@ -137,41 +173,6 @@ module _ (below : Below) where
   open_found first id (o ∷ os) = either (IsFoundOr first id (o ∷ os)) (identifier_at first o.place == id) _ _
       (λ e. record { there = rw (eq-eqb o.place o.place refl) refl; named = eqb-true _ _ e })
       (λ _. found_later first id o os _ (open_found first id os))
-
-  -- ---- fates
-
-  -- the tag of the body at a place that was sent
-  pub tagged : (sent : List Offered) (place : ℕ) → 1 ≤ place → place ≤ length sent
-      → IsTagged sent (tag_of (at_place sent place)) place
-  tagged sent place one within =
-      let x = at_exists sent place one within in
-      record { offered = x.0; at = x.1; tag_is = ap tag_of (sym x.1) }
-
-  fate_inserted : (sent : List Offered) (answers : List (List ℕ)) (place : ℕ) (new : ℕ × Fate) (fates : List (ℕ × Fate))
-      → IsRightFate sent answers new → AreRight sent answers fates → AreRight sent answers (insert_fate place new fates)
-  fate_inserted sent answers place new [] is all = (is, tt)
-  fate_inserted sent answers place new (f ∷ fs) is all = either (AreRight sent answers) (goes_before place f.1) _ _
-      (λ _. (is, all))
-      (λ _. (all.0, fate_inserted sent answers place new fs is all.1))
-
-  timed_out : (from : ℕ) (answers : List (List ℕ)) (rounds : ℕ) (sent : List Offered) (os : List OpenPlace)
-      (fates : List (ℕ × Fate)) → 1 ≤ from → AreRising from (length sent + 1) (places os)
-      → AreRight sent answers fates → AreRight sent answers (time_out rounds sent os fates)
-  timed_out from answers rounds sent [] fates one rising all = all
-  timed_out from answers rounds sent (o ∷ os) fates one rising all =
-      let under = rising_end (o.place + 1) (length sent + 1) (places os) rising.1 in
-      let new : IsRightFate sent answers (tag_of (at_place sent o.place), TimedOut o.place rounds) =
-      tagged sent o.place (omega (arith, rising.0)) (omega arith) in
-      timed_out (o.place + 1) answers rounds sent os _ (omega arith) rising.1
-      (either (AreRight sent answers) o.waited _ _
-      (λ _. fate_inserted sent answers o.place (tag_of (at_place sent o.place), TimedOut o.place rounds) fates new
-      all)
-      (λ _. all))
-
-  unsent_right : (sent : List Offered) (answers : List (List ℕ)) (queue : List Offered)
-      → AreRight sent answers (map unsent queue)
-  unsent_right sent answers [] = tt
-  unsent_right sent answers (o ∷ os) = (tt, unsent_right sent answers os)
 
   -- ---- events that leave the places
 
@@ -203,10 +204,10 @@ module _ (below : Below) where
       (want_status w.hub) (give_up w.hub)
       (λ _. same_places _ _ _ _ _ _ _ _ _ _ _ _ refl is.queued_bodies is.waiting_fates is)
       (λ _. same_places _ _ _ _ _ _ _ _ _ _ _ _ (places_map abandoned w.hub.open_places (λ _. refl)) tt
-      (AllByRecursion-append _ _ _ (timed_out (least (places w.hub.open_places) (length w.hub.sent + 1))
-      (replies w.board) w.hub.rounds w.hub.sent w.hub.open_places w.hub.fates is.hub.from_one is.hub.rising
-      is.waiting_fates)
-      (unsent_right w.hub.sent (replies w.board) w.hub.queue)) is)
+      (AllByRecursion-append _ _ _ (all_timed_out (IsRightFate w.hub.sent (replies w.board))
+      (least (places w.hub.open_places) (length w.hub.sent + 1)) w.hub.rounds w.hub.sent w.hub.open_places
+      w.hub.fates (tagged w.hub.sent) is.hub.from_one is.hub.rising is.waiting_fates)
+      (all_unsent (IsRightFate w.hub.sent (replies w.board)) w.hub.queue (λ _. tt))) is)
 
   recovered_holds : (w : World) (e : Option ℕ) → IsSound w → IsSound (with_hub w (recovered w.hub e))
   recovered_holds w None is = is
@@ -250,7 +251,7 @@ module _ (below : Below) where
         node = is.node;
         said = is.said;
         waiting_fates = either (AreRight w.hub.sent (replies w.board)) o.waited _ _
-            (λ _. fate_inserted w.hub.sent (replies w.board) o.place
+            (λ _. all_inserted (IsRightFate w.hub.sent (replies w.board)) o.place
             (tag, Replied o.place words) w.hub.fates new is.waiting_fates)
             (λ _. is.waiting_fates);
         told_fates = is.told_fates;
