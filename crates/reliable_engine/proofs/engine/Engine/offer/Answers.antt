@@ -5,6 +5,7 @@ use Rattle.world_model.specs.Hub.{Hub, want_control}
 use Rattle.reliable_engine.specs.View.{Keeps, hub_of}
 use Rattle.world_model.proofs.Hubs.{places_map}
 use Rattle.reliable_engine.proofs.Keeping.{keeps_offer, waits_map}
+use Rattle.reliable_engine.proofs.Hubs.{few_bodies}
 use Rattle.reliable_engine.proofs.engine.Engine.offer.Goals as goal
 
 pub invariant_of-self-then-self : goal.invariant_of-self-then-self
@@ -13,9 +14,7 @@ invariant_of-self-then-self c =
     let is = c.self.invariant in
     let os = i.open_places.items in
     let all = i.bodies.items in
-    let h : length (hub_of i).sent + length (hub_of i).queue < 2 ^ 62 =
-    subst (λ (x : Hub). length x.sent + length x.queue < 2 ^ 62) (sym c.self.view_is) c.requires.few in
-    let few : length all < 2 ^ 62 = omega (arith, h, length-take i.sent all, length-drop i.sent all) in
+    let few = few_bodies i c.args.self.now c.self.view_is c.requires.few in
     let more : length c.push.new.self.items ≡ length all + 1 =
     ap length c.in_default-push.ensures.items ∙ length_push all _ in
     let queue : c.len.result - i.sent ≡ length all - i.sent = omega (arith, c.len.ensures) in
@@ -40,9 +39,7 @@ invariant_of-self-else-self c =
     let is = c.self.invariant in
     let os = i.open_places.items in
     let all = i.bodies.items in
-    let h : length (hub_of i).sent + length (hub_of i).queue < 2 ^ 62 =
-    subst (λ (x : Hub). length x.sent + length x.queue < 2 ^ 62) (sym c.self.view_is) c.requires.few in
-    let few : length all < 2 ^ 62 = omega (arith, h, length-take i.sent all, length-drop i.sent all) in
+    let few = few_bodies i c.args.self.now c.self.view_is c.requires.few in
     let more : length c.push.new.self.items ≡ length all + 1 =
     ap length c.in_default-push.ensures.items ∙ length_push all _ in
     let queue : c.len.result - i.sent ≡ length all - i.sent = omega (arith, c.len.ensures) in
