@@ -17,7 +17,7 @@ use Rattle.reliable_engine.specs.Events.{HubEvent, Offer, Status, Reply, Quiet, 
 use Rattle.reliable_engine.specs.Events.{after_events}
 use Rattle.reliable_engine.specs.ToldFates.{IsOfItsBody, all_fates, handed}
 use Rattle.reliable_engine.proofs.AllFates.{all_cons}
-use Rattle.reliable_engine.proofs.Cases.{Cases, after_is}
+use Rattle.reliable_engine.proofs.Cases.{after_is}
 use Rattle.reliable_engine.proofs.Keeping.{found}
 use Rattle.reliable_engine.proofs.Places.{open_sent}
 use Rattle.reliable_engine.proofs.Runs.{IsHub, keeps_bodies, stays_hub}

@@ -1,5 +1,5 @@
 -- Fates wait in the order of their places, and then those of bodies that were never sent.
-use Rattle.std.proofs.Common.{◌≡◌, ℕ, ◌+◌, ◌≤◌, true, false, cond, List, [], ◌∷◌, ◌++◌, drop, map, Some, refl, arith}
+use Rattle.std.proofs.Common.{◌≡◌, ℕ, ◌≤◌, List, [], ◌∷◌, ◌++◌, drop, map, Some, refl, arith}
 use Rattle.std.specs.Prelude.{nat_lt}
 use Rattle.std.proofs.lemmas.Bool.{ltb-false, ltb-true}
 use Rattle.world_model.specs.declared.offered.OpenPlace.{OpenPlace}
@@ -7,11 +7,11 @@ use Rattle.world_model.specs.declared.offered.Offered.{Offered}
 use Rattle.world_model.specs.declared.offered.Fate.{Fate}
 use Rattle.world_model.specs.declared.offered.Fate.TheVariants.{Replied, TimedOut, Unsent}
 use Rattle.world_model.specs.Places.{at_place}
-use Rattle.world_model.specs.Hub.{Hub, give_up, insert_fate, settle, tag_of, time_out, unsent}
+use Rattle.world_model.specs.Hub.{Hub, insert_fate, settle, tag_of, time_out, unsent}
 use Rattle.world_model.proofs.Lists.{either}
 use Rattle.reliable_engine.specs.Events.{HubEvent, after_event, after_events}
 use Rattle.reliable_engine.specs.ToldFates.{AreByPlace, AreUnsent}
-use Rattle.reliable_engine.proofs.Cases.{Cases, after_is}
+use Rattle.reliable_engine.proofs.Cases.{after_is}
 
 abbrev IsOf : ℕ → ℕ × Fate → Type 0
 IsOf place (tag, Replied other words) = other ≡ place

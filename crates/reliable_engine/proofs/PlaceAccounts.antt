@@ -1,8 +1,7 @@
 -- Each place that was sent has one fate, or is waited for.
 use Rattle.std.proofs.Common.{◌≡◌, ℕ, zero, suc, ◌+◌, ◌<◌, ◌≤◌, Bool, true, false, cond, List, [], ◌∷◌, ◌++◌, take}
-use Rattle.std.proofs.Common.{drop, map, length, Option, Some, None, refl, sym, ap, ◌∙◌, inl, inr, subst, arith}
+use Rattle.std.proofs.Common.{drop, map, length, Some, refl, sym, ap, ◌∙◌, inl, inr, subst, arith}
 use Rattle.std.proofs.Common.{length-append}
-use Rattle.std.specs.Prelude.{IfSome}
 use Rattle.std.proofs.lemmas.Bool.{cases_lt}
 use Rattle.std.proofs.lemmas.Bool.Decides.{eqb_tells}
 use Rattle.std.proofs.lemmas.List.{take-append-drop}
@@ -13,7 +12,7 @@ use Rattle.world_model.specs.declared.offered.Fate.TheVariants.{Replied, TimedOu
 use Rattle.world_model.specs.Places.{at_place}
 use Rattle.world_model.specs.Hub.{Hub, abandoned, give_up, insert_fate, new_hub, open_with, recover, settle}
 use Rattle.world_model.specs.Hub.{tag_of, time_out, unsent, want_control, without}
-use Rattle.world_model.specs.Sends.{Wanted, after_open, opened, wanted}
+use Rattle.world_model.specs.Sends.{opened}
 use Rattle.world_model.specs.History.{times}
 use Rattle.world_model.proofs.Accounts.{IsCount, count_append, count_inserted}
 use Rattle.world_model.proofs.Hubs.{recover_place}

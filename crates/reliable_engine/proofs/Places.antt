@@ -1,16 +1,11 @@
 -- The places of a window.
-use Rattle.std.proofs.Common.{◌≡◌, ℕ, zero, suc, ◌+◌, ◌<◌, ◌≤◌, true, false, ◌==◌, ◌||◌, List, [], ◌∷◌}
-use Rattle.std.proofs.Common.{length, get_or, All, Option, Some, None, refl, ap, arith}
+use Rattle.std.proofs.Common.{◌≡◌, ℕ, zero, suc, ◌+◌, ◌<◌, ◌≤◌, true, List, [], ◌∷◌}
+use Rattle.std.proofs.Common.{length, get_or, All, arith}
 use Rattle.std.specs.Prelude.{◌^◌}
-use Rattle.std.proofs.lemmas.Bool.{eq-eqb}
 use Rattle.packet_ids.specs.Identifier.{identifier_at, IsIdentifier}
 use Rattle.world_model.specs.declared.offered.OpenPlace.{OpenPlace}
-use Rattle.world_model.specs.declared.sending.Sending.{Sending}
-use Rattle.world_model.specs.declared.sending.Sending.TheVariants as sends
 use Rattle.world_model.specs.Hub.{least, places}
-use Rattle.world_model.specs.Sends.{Wanted, after_open, wanted}
 use Rattle.world_model.specs.Facts.{AreRising, has, IsWindow}
-use Rattle.world_model.proofs.Lists.{either}
 use Rattle.world_model.proofs.Places.{has_below, has_from, one_place, rising_end}
 use Rattle.reliable_engine.specs.Steps.{CanBeNamed, IsSent}
 

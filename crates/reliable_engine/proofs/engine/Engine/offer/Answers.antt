@@ -1,8 +1,8 @@
-use Rattle.std.proofs.Common.{◌≡◌, ◌≤◌, ◌<◌, ◌+◌, ◌-◌, ◌^◌, ◌∙◌, List, length, map, ap, sym, subst, refl, arith}
-use Rattle.std.proofs.lemmas.List.{with_items_is, length-map, length-take, length-drop, length_push}
+use Rattle.std.proofs.Common.{◌≡◌, ◌≤◌, ◌+◌, ◌-◌, ◌∙◌, List, length, map, ap, sym, subst, refl, arith}
+use Rattle.std.proofs.lemmas.List.{with_items_is, length-map, length_push}
 use Rattle.world_model.specs.declared.offered.OpenPlace.{OpenPlace}
-use Rattle.world_model.specs.Hub.{Hub, want_control}
-use Rattle.reliable_engine.specs.View.{Keeps, hub_of}
+use Rattle.world_model.specs.Hub.{want_control}
+use Rattle.reliable_engine.specs.View.{Keeps}
 use Rattle.world_model.proofs.Hubs.{places_map}
 use Rattle.reliable_engine.proofs.Keeping.{keeps_offer, waits_map}
 use Rattle.reliable_engine.proofs.Hubs.{few_bodies}

@@ -1,12 +1,11 @@
-use Rattle.std.proofs.Common.{◌≡◌, ◌∙◌, ◌+◌, ℕ, Bool, List, Some, cond, length, ap, sym, subst, refl, arith}
-use Rattle.world_model.specs.declared.offered.OpenPlace.{OpenPlace}
+use Rattle.std.proofs.Common.{◌≡◌, ◌∙◌, ◌+◌, ℕ, Bool, Some, cond, ap, sym, subst, refl, arith}
 use Rattle.world_model.specs.declared.offered.Offered.{Offered}
 use Rattle.world_model.specs.declared.offered.Fate.TheVariants.{Replied}
 use Rattle.world_model.specs.Places.{at_place}
 use Rattle.world_model.specs.Hub.{Hub, hear_reply, insert_fate, open_with, tag_of, without}
 use Rattle.reliable_engine.specs.Answers.{NamesOpenPlace}
 use Rattle.reliable_engine.specs.Steps.{places_after, waits}
-use Rattle.reliable_engine.specs.View.{Keeps, hub_of}
+use Rattle.reliable_engine.specs.View.{hub_of}
 use Rattle.reliable_engine.proofs.Places.{all_named}
 use Rattle.reliable_engine.proofs.Keeping.{found}
 use Rattle.reliable_engine.proofs.Hubs.{at_front_of, fates_waited, found_sent, names, names_none, reply_keeps, settle_is}
