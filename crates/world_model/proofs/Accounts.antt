@@ -22,7 +22,7 @@ use Rattle.world_model.specs.Hub.{Hub, want_control, offer, goes_before, insert_
 use Rattle.world_model.specs.Hub.{settle, recover, take_message, abandoned, time_out, unsent, give_up, hear_quiet}
 use Rattle.world_model.specs.Hub.{places}
 use Rattle.world_model.specs.Sends.{Next, Wanted, after_open, wanted, opened, next_send, pending}
-use Rattle.world_model.specs.World.{World, sent_into, flush, handed_out, with_hub, go_on, step, run_moves, start}
+use Rattle.world_model.specs.World.{World, flush, handed_out, with_hub, go_on, step, run_moves, start}
 use Rattle.world_model.specs.History.{IsMove, IsRun, IsHandedOut, IsAccounted, IsOffered, offers, times, tag_of_offered}
 use Rattle.world_model.specs.History.{tag_of_fate, waited_tags, placed_tags}
 use Rattle.world_model.proofs.Hubs.{places_map}

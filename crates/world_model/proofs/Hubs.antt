@@ -1,14 +1,13 @@
 -- The hub's events and sends keep the facts.
-use Rattle.std.proofs.Common.{◌≡◌, ℕ, zero, suc, ◌+◌, ◌-◌, ◌<◌, ◌≤◌, ◌^◌, Bool, true, false, cond, ◌==◌, ◌||◌, List, []}
-use Rattle.std.proofs.Common.{◌∷◌, ◌++◌, length, map, drop, Option, Some, None, refl, sym, ap, ◌∙◌, subst, arith}
-use Rattle.std.proofs.Common.{length-append, add-one, append_assoc, inl, inr, if◌then◌else◌}
+use Rattle.std.proofs.Common.{◌≡◌, ℕ, zero, suc, ◌+◌, ◌-◌, ◌<◌, ◌≤◌, ◌^◌, true, false, cond, ◌==◌, ◌||◌, List, []}
+use Rattle.std.proofs.Common.{◌∷◌, ◌++◌, length, map, Option, Some, None, refl, sym, ap, ◌∙◌, subst, arith}
+use Rattle.std.proofs.Common.{length-append}
 use Rattle.std.specs.Prelude.{nat_lt, nat_le}
-use Rattle.std.proofs.lemmas.Bool.{eqb-true, eq-eqb, cases_lt, leb-true}
+use Rattle.std.proofs.lemmas.Bool.{eqb-true, eq-eqb, leb-true}
 use Rattle.std.proofs.lemmas.List.{length-map, map-append, append-nil}
-use Rattle.std.specs.List.{AllByRecursion, slice_get}
-use Rattle.ipb_base.specs.Lists.{IsPrefix}
-use Rattle.ipb_base.proofs.AllLemmas.{AllByRecursion-append, all-map}
-use Rattle.packet_ids.specs.Identifier.{identifier_at, IsIdentifier}
+use Rattle.std.specs.List.{AllByRecursion}
+use Rattle.ipb_base.proofs.AllLemmas.{AllByRecursion-append}
+use Rattle.packet_ids.specs.Identifier.{identifier_at}
 use Rattle.packet_codec.specs.declared.packet.Order.TheVariants.{Big}
 use Rattle.packet_codec.specs.Packet.{packet_bytes}
 use Rattle.world_model.specs.declared.datagram.Datagram.{Datagram}
@@ -20,22 +19,22 @@ use Rattle.world_model.specs.declared.offered.Fate.TheVariants.{Replied, TimedOu
 use Rattle.world_model.specs.declared.sending.Sending.{Sending}
 use Rattle.world_model.specs.declared.sending.Sending.TheVariants as sends
 use Rattle.world_model.specs.Places.{at_place}
-use Rattle.world_model.specs.Messages.{ToHub, StatusReply, Reply, control_packet, to_board, to_hub}
+use Rattle.world_model.specs.Messages.{control_packet, to_board}
 use Rattle.world_model.specs.Hub.{Hub, low, want_control, offer, goes_before, insert_fate, tag_of, words_of, open_with}
-use Rattle.world_model.specs.Hub.{without, settle, hear_reply, place_with, recover, recovered, told_place, hear_status}
-use Rattle.world_model.specs.Hub.{take_message, abandoned, time_out, unsent, give_up, want_status, hear_quiet, places}
+use Rattle.world_model.specs.Hub.{without, settle, hear_reply, recover, recovered, told_place, hear_status}
+use Rattle.world_model.specs.Hub.{abandoned, time_out, unsent, give_up, want_status, hear_quiet, places}
 use Rattle.world_model.specs.Hub.{place_of, least}
 use Rattle.world_model.specs.Sends.{Next, Wanted, after_open, wanted, opened, first_send, wanted_or_first, next_send}
-use Rattle.world_model.specs.Sends.{packet_to_send, bytes_to_send}
+use Rattle.world_model.specs.Sends.{bytes_to_send}
 use Rattle.world_model.specs.Board.{Board, executed, replies}
 use Rattle.world_model.specs.Air.{LIFETIME}
 use Rattle.world_model.specs.World.{World, sent_into, with_hub}
-use Rattle.world_model.specs.Facts.{IsWindow, IsExecuted, IsBoard, IsDatagram, IsSaidToBoard, IsControlOf, IsReplyOf}
-use Rattle.world_model.specs.Facts.{IsSendable, AreSendable, IsTagged, IsRightFate, AreRight, MOST_OPEN, MOST_HELD}
+use Rattle.world_model.specs.Facts.{IsExecuted, IsDatagram, IsSaidToBoard, IsControlOf, IsReplyOf}
+use Rattle.world_model.specs.Facts.{IsSendable, AreSendable, IsTagged, IsRightFate, AreRight, MOST_OPEN}
 use Rattle.world_model.specs.Facts.{Holds, IsSound, bodies_of, offered_body, has, AreRising}
-use Rattle.world_model.proofs.Lists.{at_front, at_seam, at_from_one, at_within, at_exists, at_map, either, front_length}
+use Rattle.world_model.proofs.Lists.{at_seam, at_from_one, at_within, at_exists, at_map, either, front_length}
 use Rattle.world_model.proofs.Lists.{all_get}
-use Rattle.world_model.proofs.Places.{less, has_from, has_below, rising_end, sent_near, window_push, window_less}
+use Rattle.world_model.proofs.Places.{less, has_from, has_below, rising_end, window_push, window_less}
 use Rattle.world_model.proofs.Places.{executed_push, executed_less, one_place, id_fits}
 use Rattle.world_model.proofs.Readings.{control_read, request_read, resend_read}
 use Rattle.world_model.proofs.Boards.{air_grows, fates_grow, replies_length}

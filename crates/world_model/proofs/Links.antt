@@ -1,45 +1,41 @@
 -- A hub and a link that tells stay joined.
-use Rattle.std.proofs.Common.{◌≡◌, ℕ, zero, suc, ◌+◌, ◌-◌, ◌<◌, ◌≤◌, ◌^◌, Bool, true, false, cond, ◌==◌, List, [], ◌∷◌}
-use Rattle.std.proofs.Common.{◌++◌, length, map, Option, Some, None, refl, sym, ap, ◌∙◌, subst, arith, length-append}
-use Rattle.std.proofs.Common.{add-one, inl, inr, if◌then◌else◌}
-use Rattle.std.specs.Prelude.{nat_lt, nat_le, min, IfSome}
-use Rattle.std.proofs.lemmas.Bool.{eqb-true, eq-eqb, leb-true}
+use Rattle.std.proofs.Common.{◌≡◌, ℕ, ◌+◌, true, false, ◌==◌, List, [], ◌∷◌}
+use Rattle.std.proofs.Common.{◌++◌, length, Option, Some, None, refl, sym, ap, ◌∙◌, subst, arith}
+use Rattle.std.proofs.Common.{inl, inr, if◌then◌else◌}
+use Rattle.std.specs.Prelude.{nat_le, min, IfSome}
+use Rattle.std.proofs.lemmas.Bool.{eq-eqb, leb-true}
 use Rattle.std.proofs.lemmas.Bool.Decides.{eqb_tells}
-use Rattle.std.proofs.lemmas.List.{length-map, length_push, append-nil}
+use Rattle.std.proofs.lemmas.List.{length_push, append-nil}
 use Rattle.std.specs.List.{AllByRecursion, slice_get}
-use Rattle.packet_ids.specs.Identifier.{identifier_at, IsIdentifier}
-use Rattle.packet_codec.specs.declared.packet.Order.{Order}
+use Rattle.packet_ids.specs.Identifier.{identifier_at}
 use Rattle.packet_codec.specs.declared.packet.Order.TheVariants.{Big}
-use Rattle.packet_codec.specs.declared.packet.Packet.{Packet}
-use Rattle.packet_codec.specs.Packet.{packet_bytes}
 use Rattle.world_model.specs.declared.datagram.Datagram.{Datagram}
 use Rattle.world_model.specs.declared.datagram.Direction.{Direction}
 use Rattle.world_model.specs.declared.datagram.Direction.TheVariants as goes
-use Rattle.world_model.specs.declared.heard.LogEntry.{LogEntry}
 use Rattle.world_model.specs.declared.offered.Offered.{Offered}
 use Rattle.world_model.specs.declared.offered.OpenPlace.{OpenPlace}
 use Rattle.world_model.specs.declared.offered.Fate.{Fate}
 use Rattle.world_model.specs.declared.sending.Sending.{Sending}
 use Rattle.world_model.specs.declared.sending.Sending.TheVariants as sends
 use Rattle.world_model.specs.Places.{at_place}
-use Rattle.world_model.specs.Messages.{ToBoard, ToHub, StatusRequest, ResendRequest, ControlPacket, StatusReply, Reply}
-use Rattle.world_model.specs.Messages.{control_packet, to_board, to_hub}
-use Rattle.world_model.specs.Board.{Board, Hearing, expected, held, with_id, is_too_long, send_again, hear_control}
-use Rattle.world_model.specs.Board.{hear_message, hear, executed, replies}
-use Rattle.world_model.specs.Hub.{Hub, low, words_of, offer, open_with, settle, hear_reply, recovered, told_place}
-use Rattle.world_model.specs.Hub.{hear_status, take_message, want_status, give_up, hear_quiet, new_hub, places, least}
+use Rattle.world_model.specs.Messages.{ToBoard, StatusRequest, ResendRequest, ControlPacket}
+use Rattle.world_model.specs.Messages.{to_board, to_hub}
+use Rattle.world_model.specs.Board.{Board, Hearing, expected, held, with_id, is_too_long, send_again}
+use Rattle.world_model.specs.Board.{hear_message, hear, replies}
+use Rattle.world_model.specs.Hub.{Hub, low, words_of, offer}
+use Rattle.world_model.specs.Hub.{take_message, hear_quiet, new_hub, places, least}
 use Rattle.world_model.specs.Sends.{Next, Wanted, wanted, first_send, wanted_or_first, next_send, bytes_to_send}
-use Rattle.world_model.specs.Air.{LIFETIME, is_alive, goes_to}
-use Rattle.world_model.specs.World.{World, sent_into, with_hub, answered, board_hears}
+use Rattle.world_model.specs.Air.{is_alive, goes_to}
+use Rattle.world_model.specs.World.{World, answered}
 use Rattle.world_model.specs.Facts.{IsSound, Holds, IsSendable, AreSendable, IsStart, IsSaid, IsGreeting, IsGreetingOf}
 use Rattle.world_model.specs.Facts.{AreRight, bodies_of, has}
-use Rattle.world_model.specs.Links.{Told, IsHeard, IsHanded, IsHandedAt, is_first_message, is_first_send}
+use Rattle.world_model.specs.Links.{Told, IsHeard, IsHanded, is_first_message, is_first_send}
 use Rattle.world_model.specs.Links.{first_sends_from, first_sends, birth_of, sent_on, heard_on, heard_by, then_told}
 use Rattle.world_model.specs.Links.{hears_all, together, IsJoined}
 use Rattle.world_model.proofs.Lists.{at_seam, at_exists, either, all_get}
 use Rattle.world_model.proofs.Places.{has_from, has_below, one_place, id_fits}
 use Rattle.world_model.proofs.Readings.{control_read, request_read, resend_read}
-use Rattle.world_model.proofs.Hubs.{offer_holds, quiet_holds, send_holds, IsSendSound, IsWish, IsWanted, IsWantedOr}
+use Rattle.world_model.proofs.Hubs.{offer_holds, quiet_holds, send_holds, IsSendSound, IsWish, IsWantedOr}
 use Rattle.world_model.proofs.Hubs.{named_fits, wanted_is, sendable_at}
 use Rattle.world_model.proofs.Kept.{message_sent, quiet_sent}
 use Rattle.world_model.proofs.Worlds.{board_goes_on, IsTaken, hub_heard, start_holds, same_way}
