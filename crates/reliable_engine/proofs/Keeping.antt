@@ -224,18 +224,17 @@ keeps_abandoned first window sent count os pr fl fr count2 fl2 fr2 is cut told g
       fates_fit = omega (arith, is.fates_fit);
     }
 
-pub keeps_offer : (first window sent count : ℕ) (os qs : List OpenPlace) (pr fl fr count2 pr2 fr2 : ℕ)
-    → Keeps first window sent count os pr fl fr → places qs ≡ places os → waits qs ≡ waits os
-    → count2 ≡ count + 1 → count < 2 ^ 62 → length os + (count - sent + 1) ≤ pr2
-    → fl + (length os + (count - sent) + 1) ≤ fr2 → Keeps first window sent count2 qs pr2 fl fr2
-keeps_offer first window sent count os qs pr fl fr count2 pr2 fr2 is same waiting more few room fate_room =
-    let len = same_length os qs same in
+pub keeps_offer : (first window sent count : ℕ) (os : List OpenPlace) (pr fl fr count2 pr2 fr2 : ℕ)
+    → Keeps first window sent count os pr fl fr → count2 ≡ count + 1 → count < 2 ^ 62
+    → length os + (count - sent + 1) ≤ pr2 → fl + (length os + (count - sent) + 1) ≤ fr2
+    → Keeps first window sent count2 os pr2 fl fr2
+keeps_offer first window sent count os pr fl fr count2 pr2 fr2 is more few room fate_room =
     let w = waits_few os in
     record {
       identifier = is.identifier;
       within = omega (arith, is.within);
       few = omega arith;
-      in_window = rw same is.in_window;
+      in_window = is.in_window;
       places_fit = omega (arith, is.within);
       fates_fit = omega (arith, is.within);
     }
