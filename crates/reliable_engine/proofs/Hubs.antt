@@ -1,6 +1,6 @@
 -- The hub that an engine is, and what it answers.
 use Rattle.std.proofs.Common.{◌≡◌, ◌≤◌, ◌<◌, ℕ, zero, suc, Bool, true, false, cond, ◌⊎◌, length, take, drop}
-use Rattle.std.proofs.Common.{get_or, List, [], ◌∷◌, ◌++◌, ◌+◌, ◌-◌, Option, Some, None, refl, sym, ap, ◌∙◌, subst}
+use Rattle.std.proofs.Common.{get_or, List, [], ◌∷◌, ◌++◌, ◌+◌, ◌-◌, Option, Some, None, refl, sym, ap, ◌∙◌, subst, ◌^◌, if◌then◌else◌}
 use Rattle.std.proofs.Common.{arith}
 use Rattle.std.proofs.Common.{inl, inr}
 use Rattle.std.specs.Prelude.{◌↔◌}
@@ -9,7 +9,7 @@ use Rattle.std.specs.Option.{IsNone}
 use Rattle.std.proofs.lemmas.Bool.{cases_lt, le-leb, lt-leb}
 use Rattle.std.proofs.lemmas.Option.{slice_get-get_or}
 use Rattle.std.proofs.lemmas.Bool.Decides.{eqb_tells}
-use Rattle.std.proofs.lemmas.List.{map-append, length-take-le, get_or-take, drop_more, take_more}
+use Rattle.std.proofs.lemmas.List.{map-append, length-drop, length-take, length-take-le, get_or-take, drop_more, take_more}
 use Rattle.packet_ids.specs.Identifier.{identifier_at, IsIdentifier, IsPlaceOf}
 use Rattle.world_model.specs.declared.offered.OpenPlace.{OpenPlace}
 use Rattle.world_model.specs.declared.offered.Offered.{Offered}
@@ -20,26 +20,37 @@ use Rattle.world_model.specs.declared.sending.Sending.TheVariants as sends
 use Rattle.world_model.specs.Places.{at_place}
 use Rattle.world_model.specs.Hub.{Hub, low, least, places, place_of, some_queued, settle, told_place, insert_fate}
 use Rattle.world_model.specs.Hub.{tag_of, open_with, without, place_with}
-use Rattle.world_model.specs.Sends.{Next, Wanted, after_open, wanted, opened, first_send}
+use Rattle.world_model.specs.Sends.{Next, Wanted, after_open, wanted, opened, first_send, next_send}
 use Rattle.world_model.specs.Facts.{has}
 use Rattle.reliable_engine.specs.declared.engine.Engine.TheInside.{Inside}
 use Rattle.reliable_engine.specs.Answers.{IsOpen, NamesOpenPlace, TellsPlace, IsQuiet, IsWindowFull, HasNothingToSend}
 use Rattle.reliable_engine.specs.Answers.{IsSendOf}
 use Rattle.reliable_engine.specs.Answers.{sent_next}
-use Rattle.reliable_engine.specs.Steps.{places_wanted, sending_of}
-use Rattle.reliable_engine.specs.View.{hub_of, IsKept}
-use Rattle.std.specs.Prelude.{nat_lt}
+use Rattle.reliable_engine.specs.Steps.{places_after, places_wanted, sending_of}
+use Rattle.reliable_engine.specs.View.{hub_of, IsKept, Keeps}
+use Rattle.std.specs.Prelude.{IfSome, nat_lt}
 use Rattle.world_model.specs.Facts.{IsWindow}
 use Rattle.world_model.specs.Hub.{hear_status, recovered}
 use Rattle.std.proofs.lemmas.Bool.{lt-ltb, ltb-true}
-use Rattle.reliable_engine.proofs.Places.{either, one_place, open_sent, has_last, IsWish, IsWantedOr}
-use Rattle.reliable_engine.proofs.Keeping.{found}
+use Rattle.world_model.proofs.Flushing.{send_cases}
+use Rattle.world_model.proofs.Hubs.{IsWantedOr, IsWish, wanted_is}
+use Rattle.world_model.proofs.Lists.{either}
+use Rattle.world_model.proofs.Places.{has_last, one_place}
+use Rattle.reliable_engine.proofs.Places.{open_sent}
+use Rattle.reliable_engine.proofs.Keeping.{found, keeps_less}
 use Rattle.reliable_engine.proofs.Steps.{here_resend, here_control, here_none}
 
 -- ---- bodies, sent and queued
 
 pub sent_of : (i : Inside) (h : Hub) → hub_of i ≡ h → IsKept i → length h.sent ≡ i.sent
 sent_of i h view is = ap (λ (x : Hub). length x.sent) (sym view) ∙ length-take-le i.sent i.bodies.items is.within
+
+pub few_bodies : (i : Inside) (h : Hub) → hub_of i ≡ h → length h.sent + length h.queue < 2 ^ 62
+    → length i.bodies.items < 2 ^ 62
+few_bodies i h view few =
+    let kept : length (hub_of i).sent + length (hub_of i).queue < 2 ^ 62 =
+    subst (λ (x : Hub). length x.sent + length x.queue < 2 ^ 62) (sym view) few in
+    omega (arith, kept, length-take i.sent i.bodies.items, length-drop i.sent i.bodies.items)
 
 pub low_of : (i : Inside) (h : Hub) → hub_of i ≡ h → IsKept i → low h ≡ least (places i.open_places.items) (i.sent + 1)
 low_of i h view is =
@@ -183,6 +194,18 @@ unnamed first id (o ∷ os) place none there same = elim (eqb_tells (identifier_
 
 pub names_none : (h : Hub) (id : ℕ) → open_with h.first id h.open_places ≡ None → NamesOpenPlace h id → ⊥
 names_none h id none names = unnamed h.first id h.open_places names.place none names.open_there names.identifier
+
+-- what is kept after the open place with an identifier was taken out
+pub reply_keeps : (i : Inside) (id : ℕ) (o : OpenPlace) (r : Option OpenPlace) (os : List OpenPlace) (pr fl fr : ℕ)
+    → IsKept i → r ≡ open_with i.first id i.open_places.items → r ≡ Some o → os ≡ places_after i.open_places.items r
+    → pr ≡ i.open_places.cap → fl ≤ i.fates.len + (if o.waited then 1 else 0) → i.fates.cap ≤ fr
+    → Keeps i.first i.window i.sent (length i.bodies.items) os pr fl fr
+reply_keeps i id o r os pr fl fr is taken some after same fates grown =
+    let all = i.open_places.items in
+    let told : open_with i.first id all ≡ Some o = sym taken ∙ some in
+    let left : os ≡ without o.place all = after ∙ ap (places_after all) some in
+    rw (left, same) (keeps_less i.first i.window i.sent (length i.bodies.items) all o i.open_places.cap i.fates.len
+    i.fates.cap fl fr is (found i.first id all o told).gone fates grown)
 
 -- ---- the place that a status reply tells
 
@@ -369,7 +392,7 @@ quiet_here first o os e = elim (either_way o.resend) [
   ]
 ]
 
-quiet : (first : ℕ) (os : List OpenPlace) → wanted first os ≡ None → AllByRecursion IsQuiet os
+pub quiet : (first : ℕ) (os : List OpenPlace) → wanted first os ≡ None → AllByRecursion IsQuiet os
 quiet first [] e = tt
 quiet first (o ∷ os) e =
     let is = quiet_here first o os e in
@@ -422,17 +445,30 @@ nothing h r status told is = (
       subst (λ (n : Option Next). IsNone (sent_next n)) (sym (first_none h h.queue nothing.no_first)) refl),
 )
 
--- ---- a control packet that is sent is that of an open place
+-- ---- what is sent for a place is sent for an open one
 
-wish_sendable : (h : Hub) (os : List OpenPlace) (s : Sending) → places h.open_places ≡ places os → IsWish (places os) s
-    → IsSendOf h s
+wish_sendable : (h : Hub) (os : List OpenPlace) (s : Sending) → places h.open_places ≡ places os
+    → IsWish h.first (places os) s → IsSendOf h s
 wish_sendable h os sends.Status same wish = tt
-wish_sendable h os (sends.Resend id) same wish = tt
-wish_sendable h os (sends.Control place id) same wish = ap (has place) same ∙ wish
+wish_sendable h os (sends.Resend id) same wish = record {
+  place = wish.place;
+  open_there = ap (has wish.place) same ∙ wish.there;
+  identifier = wish.identifier;
+}
+wish_sendable h os (sends.Control place id) same wish = ap (has place) same ∙ wish.0
 
 pub sendable : (h : Hub) (os : List OpenPlace) (r : Option Wanted) (s : Sending) → h.open_places ≡ places_wanted os r
-    → IsWantedOr os r → sending_of r ≡ Some s → IsSendOf h s
+    → IsWantedOr h.first os r → sending_of r ≡ Some s → IsSendOf h s
 sendable h os None s same is told = absurd (cc)
 sendable h os (Some w) s same is told =
     let e : w.send ≡ s = cc in
-    wish_sendable h os s (ap places same ∙ is.same) (subst (IsWish (places os)) e is.wish)
+    wish_sendable h os s (ap places same ∙ is.same) (subst (IsWish h.first (places os)) e is.wish)
+
+-- the send of a hub is that of one of its open places
+pub send_open : (h : Hub) (next : Next) → next_send h ≡ Some next → IsSendOf next.hub next.send
+send_open h next e = subst (λ (r : Option Next). IfSome r (λ (n : Next). IsSendOf n.hub n.send)) e
+    (send_cases (λ (n : Next). IsSendOf n.hub n.send) h tt
+    (λ w told. sendable (record h { open_places = w.open_places }) h.open_places (Some w) w.send refl
+    (subst (IsWantedOr h.first h.open_places) told (wanted_is h.first h.open_places)) refl)
+    (λ x later queue room. last_open h.open_places (h.open_places ++ opened (length h.sent + 1) ∷ [])
+    (length h.sent + 1) refl))

@@ -2,6 +2,7 @@
 use Rattle.std.proofs.Common.{◌≡◌, ◌≤◌, ◌<◌, ◌^◌, ℕ, suc, true, false, cond, ◌==◌, if◌then◌else◌, length, map, List}
 use Rattle.std.proofs.Common.{[], ◌∷◌, ◌++◌, ◌+◌, ◌-◌, Option, Some, None, refl, sym, ap, ◌∙◌, subst, arith, inl, inr}
 use Rattle.std.proofs.Common.{length-append}
+use Rattle.std.specs.Prelude.{IfSome}
 use Rattle.std.proofs.lemmas.Bool.{eqb-true, eq-eqb}
 use Rattle.std.proofs.lemmas.Bool.Decides.{eqb_tells}
 use Rattle.std.proofs.lemmas.List.{length-map, map-append}
@@ -10,10 +11,13 @@ use Rattle.world_model.specs.declared.offered.OpenPlace.{OpenPlace}
 use Rattle.world_model.specs.Hub.{recover, abandoned, open_with, without, places, place_of, least}
 use Rattle.world_model.specs.Sends.{Wanted, after_open, wanted, opened}
 use Rattle.world_model.specs.Facts.{has}
+use Rattle.world_model.specs.History.{times}
 use Rattle.reliable_engine.specs.Steps.{places_wanted, waits}
+use Rattle.reliable_engine.specs.ToldFates.{waited_places}
 use Rattle.reliable_engine.specs.View.{Keeps}
-use Rattle.reliable_engine.proofs.Places.{either, window_push, window_less, places_map, places_without, wanted_is}
-use Rattle.reliable_engine.proofs.Places.{IsWantedOr}
+use Rattle.world_model.proofs.Hubs.{IsWantedOr, places_map, places_without, wanted_is}
+use Rattle.world_model.proofs.Lists.{either}
+use Rattle.world_model.proofs.Places.{window_less, window_push}
 
 -- ---- what is waited for
 
@@ -24,10 +28,25 @@ waits_few (o ∷ os) =
     let h = waits_few os in
     elim o.waited as (λ b. cond b 1 0 + waits os ≤ suc (length os)) [ true ↦ omega arith | false ↦ omega arith ]
 
-pub waits_map : (f : OpenPlace → OpenPlace) (os : List OpenPlace) → ((o : OpenPlace) → (f o).waited ≡ o.waited)
-    → waits (map f os) ≡ waits os
-waits_map f [] same = refl
-waits_map f (o ∷ os) same = rw (same o) (ap (λ (n : ℕ). cond o.waited 1 0 + n) (waits_map f os same))
+waits_places : (os : List OpenPlace) → waits os ≡ length (waited_places os)
+waits_places [] = refl
+waits_places (o ∷ os) = elim o.waited as (λ b. cond b 1 0 + waits os
+    ≡ length (cond b (o.place ∷ waited_places os) (waited_places os))) [
+      | true ↦ omega (arith, waits_places os)
+      | false ↦ omega (arith, waits_places os)
+    ]
+
+pub waited_map : (f : OpenPlace → OpenPlace) (os : List OpenPlace) → ((o : OpenPlace) → (f o).place ≡ o.place)
+    → ((o : OpenPlace) → (f o).waited ≡ o.waited) → waited_places (map f os) ≡ waited_places os
+waited_map f [] place waited = refl
+waited_map f (o ∷ os) place waited = rw (place o, waited o, waited_map f os place waited) refl
+
+same_waits : (os qs : List OpenPlace) → waited_places qs ≡ waited_places os → waits qs ≡ waits os
+same_waits os qs same = omega (arith, waits_places os, waits_places qs, ap length same)
+
+pub waits_map : (f : OpenPlace → OpenPlace) (os : List OpenPlace) → ((o : OpenPlace) → (f o).place ≡ o.place)
+    → ((o : OpenPlace) → (f o).waited ≡ o.waited) → waits (map f os) ≡ waits os
+waits_map f os place waited = same_waits os (map f os) (waited_map f os place waited)
 
 waits_abandoned : (os : List OpenPlace) → waits (map abandoned os) ≡ 0
 waits_abandoned [] = refl
@@ -37,42 +56,63 @@ waits_push : (os : List OpenPlace) (place : ℕ) → waits (os ++ opened place �
 waits_push [] place = omega arith
 waits_push (o ∷ os) place = let h = waits_push os place in omega arith
 
-abbrev SameWaits : List OpenPlace → Option Wanted → Type 0
-SameWaits os None = Unit {0}
-SameWaits os (Some w) = waits w.open_places ≡ waits os
+abbrev pub SameWaited : List OpenPlace → Option Wanted → Type 0
+SameWaited os r = IfSome r (λ (w : Wanted). waited_places w.open_places ≡ waited_places os)
 
-waits_later : (o : OpenPlace) (os : List OpenPlace) (r : Option Wanted) → SameWaits os r
-    → SameWaits (o ∷ os) (after_open o r)
-waits_later o os None s = tt
-waits_later o os (Some w) s = ap (λ (n : ℕ). cond o.waited 1 0 + n) s
+waited_later : (o : OpenPlace) (os : List OpenPlace) (r : Option Wanted) → SameWaited os r
+    → SameWaited (o ∷ os) (after_open o r)
+waited_later o os None same = tt
+waited_later o os (Some w) same = ap (λ (ps : List ℕ). cond o.waited (o.place ∷ ps) ps) same
 
-wanted_waits : (first : ℕ) (os : List OpenPlace) → SameWaits os (wanted first os)
-wanted_waits first [] = tt
-wanted_waits first (o ∷ os) = either (SameWaits (o ∷ os)) o.resend _ _
+pub wanted_waited : (first : ℕ) (os : List OpenPlace) → SameWaited os (wanted first os)
+wanted_waited first [] = tt
+wanted_waited first (o ∷ os) = either (SameWaited (o ∷ os)) o.resend _ _
     (λ _. refl)
-    (λ _. either (SameWaits (o ∷ os)) o.control _ _
+    (λ _. either (SameWaited (o ∷ os)) o.control _ _
     (λ _. refl)
-    (λ _. waits_later o os _ (wanted_waits first os)))
+    (λ _. waited_later o os _ (wanted_waited first os)))
 
 pub recover_waits : (told : ℕ) (o : OpenPlace) → (recover told o).waited ≡ o.waited
 recover_waits told o = either (λ (x : OpenPlace). x.waited ≡ o.waited) _ _ _ (λ _. refl) (λ _. refl)
+
+-- how often a place is waited for
+abbrev pub place_waits : ℕ → List OpenPlace → ℕ
+place_waits place os = times place (waited_places os)
+
+pub waits_first : (place : ℕ) (o : OpenPlace) (os : List OpenPlace)
+    → place_waits place (o ∷ os) ≡ place_waits place (o ∷ []) + place_waits place os
+waits_first place o os = elim o.waited as (λ b. times place (cond b (o.place ∷ waited_places os) (waited_places os))
+    ≡ times place (cond b (o.place ∷ []) []) + place_waits place os) [ true ↦ omega arith | false ↦ omega arith ]
 
 -- ---- one open place taken out
 
 pub record Removed (os : List OpenPlace) (o : OpenPlace) : Type 0 where
   pub waiting : waits (without o.place os) + (if o.waited then 1 else 0) ≡ waits os
+  pub waited : (place : ℕ)
+      → place_waits place os ≡ place_waits place (o ∷ []) + place_waits place (without o.place os)
   pub shorter : length (without o.place os) + 1 ≡ length os
   pub there : has o.place (places os) ≡ true
 
 removed_here : (o : OpenPlace) (os : List OpenPlace) → Removed (o ∷ os) o
 removed_here o os =
     let same = eq-eqb o.place o.place refl in
-    record { waiting = rw same (omega arith); shorter = rw same (omega arith); there = rw same refl }
+    record {
+      waiting = rw same (omega arith);
+      waited = λ place. rw same (waits_first place o os);
+      shorter = rw same (omega arith);
+      there = rw same refl;
+    }
 
 removed_later : (x o : OpenPlace) (os : List OpenPlace) → (x.place == o.place) ≡ false → Removed os o
     → Removed (x ∷ os) o
 removed_later x o os apart is = record {
   waiting = rw apart (omega (arith, is.waiting));
+  waited = λ place. rw apart (omega (
+    arith,
+    is.waited place,
+    waits_first place x os,
+    waits_first place x (without o.place os),
+  ));
   shorter = rw apart (omega (arith, is.shorter));
   there = rw apart is.there;
 }
@@ -150,24 +190,24 @@ keeps_less first window sent count os o pr fl fr fl2 fr2 is gone fates grown = r
 }
 
 wanted_kept : (first window sent count : ℕ) (os : List OpenPlace) (pr fl fr : ℕ) (r : Option Wanted)
-    → Keeps first window sent count os pr fl fr → IsWantedOr os r → SameWaits os r
+    → Keeps first window sent count os pr fl fr → IsWantedOr first os r → SameWaited os r
     → Keeps first window sent count (places_wanted os r) pr fl fr
 wanted_kept first window sent count os pr fl fr None is w s = is
 wanted_kept first window sent count os pr fl fr (Some x) is w s =
-    keeps_same first window sent count os x.open_places pr fl fr is w.same s
+    keeps_same first window sent count os x.open_places pr fl fr is w.same (same_waits os x.open_places s)
 
 pub keeps_wanted : (first window sent count : ℕ) (os : List OpenPlace) (pr fl fr : ℕ)
     → Keeps first window sent count os pr fl fr
     → Keeps first window sent count (places_wanted os (wanted first os)) pr fl fr
 keeps_wanted first window sent count os pr fl fr is =
-    wanted_kept first window sent count os pr fl fr (wanted first os) is (wanted_is first os) (wanted_waits first os)
+    wanted_kept first window sent count os pr fl fr (wanted first os) is (wanted_is first os) (wanted_waited first os)
 
-wanted_length : (os : List OpenPlace) (r : Option Wanted) → IsWantedOr os r → length (places_wanted os r) ≡ length os
-wanted_length os None w = refl
-wanted_length os (Some x) w = same_length os x.open_places w.same
+wanted_length : (first : ℕ) (os : List OpenPlace) (r : Option Wanted) → IsWantedOr first os r → length (places_wanted os r) ≡ length os
+wanted_length first os None w = refl
+wanted_length first os (Some x) w = same_length os x.open_places w.same
 
 pub places_wanted_length : (first : ℕ) (os : List OpenPlace) → length (places_wanted os (wanted first os)) ≡ length os
-places_wanted_length first os = wanted_length os (wanted first os) (wanted_is first os)
+places_wanted_length first os = wanted_length first os (wanted first os) (wanted_is first os)
 
 pub keeps_abandoned : (first window sent count : ℕ) (os : List OpenPlace) (pr fl fr count2 fl2 fr2 : ℕ)
     → Keeps first window sent count os pr fl fr → count2 ≡ sent → fl2 ≡ fl + waits os + (count - sent) → fr ≤ fr2
@@ -184,18 +224,17 @@ keeps_abandoned first window sent count os pr fl fr count2 fl2 fr2 is cut told g
       fates_fit = omega (arith, is.fates_fit);
     }
 
-pub keeps_offer : (first window sent count : ℕ) (os qs : List OpenPlace) (pr fl fr count2 pr2 fr2 : ℕ)
-    → Keeps first window sent count os pr fl fr → places qs ≡ places os → waits qs ≡ waits os
-    → count2 ≡ count + 1 → count < 2 ^ 62 → length os + (count - sent + 1) ≤ pr2
-    → fl + (length os + (count - sent) + 1) ≤ fr2 → Keeps first window sent count2 qs pr2 fl fr2
-keeps_offer first window sent count os qs pr fl fr count2 pr2 fr2 is same waiting more few room fate_room =
-    let len = same_length os qs same in
+pub keeps_offer : (first window sent count : ℕ) (os : List OpenPlace) (pr fl fr count2 pr2 fr2 : ℕ)
+    → Keeps first window sent count os pr fl fr → count2 ≡ count + 1 → count < 2 ^ 62
+    → length os + (count - sent + 1) ≤ pr2 → fl + (length os + (count - sent) + 1) ≤ fr2
+    → Keeps first window sent count2 os pr2 fl fr2
+keeps_offer first window sent count os pr fl fr count2 pr2 fr2 is more few room fate_room =
     let w = waits_few os in
     record {
       identifier = is.identifier;
       within = omega (arith, is.within);
       few = omega arith;
-      in_window = rw same is.in_window;
+      in_window = is.in_window;
       places_fit = omega (arith, is.within);
       fates_fit = omega (arith, is.within);
     }

@@ -6,3 +6,10 @@ mod Runs
 mod Rests
 mod Draining
 mod Waiting
+mod Cases
+mod AllFates
+mod PlaceAccounts
+mod TagAccounts
+mod FateOrder
+mod SendOrder
+mod FateBodies

@@ -2,27 +2,33 @@
 use Rattle.std.proofs.Common.{◌≡◌, ◌≢◌, ◌≤◌, ◌<◌, ℕ, Bool, true, false, ◌==◌, ◌||◌, length, map, List}
 use Rattle.std.proofs.Common.{[]}
 use Rattle.std.proofs.Common.{◌∷◌, ◌+◌, Option, Some, None, refl, sym, ap, ◌∙◌, subst, arith, inl, inr}
-use Rattle.std.specs.Prelude.{nat_lt, nat_le}
+use Rattle.std.specs.Prelude.{nat_lt}
 use Rattle.std.specs.List.{AllByRecursion}
 use Rattle.std.proofs.lemmas.Bool.{lt-ltb, le-ltb}
 use Rattle.std.proofs.lemmas.Bool.Decides.{eqb_tells}
 use Rattle.packet_ids.specs.Identifier.{identifier_at, IsIdentifier}
 use Rattle.world_model.specs.declared.offered.OpenPlace.{OpenPlace}
 use Rattle.world_model.specs.declared.offered.Offered.{Offered}
-use Rattle.world_model.specs.Hub.{Hub, low, least, places, new_hub, offer, want_control, settle, hear_reply, open_with}
-use Rattle.world_model.specs.Hub.{without, recovered, told_place, hear_status, abandoned, give_up, want_status}
+use Rattle.world_model.specs.Hub.{Hub, least, places, new_hub, offer, want_control, settle, hear_reply, open_with}
+use Rattle.world_model.specs.Hub.{without, hear_status, abandoned, give_up, want_status}
 use Rattle.world_model.specs.Hub.{hear_quiet}
 use Rattle.world_model.specs.Hub.{is_waiting, some_waited}
-use Rattle.world_model.specs.Sends.{Next, Wanted, wanted, first_send, wanted_or_first, next_send}
+use Rattle.world_model.specs.Sends.{Next, first_send, wanted_or_first, next_send}
 use Rattle.world_model.specs.Facts.{has, AreRising}
-use Rattle.reliable_engine.specs.Answers.{IsQuiet, hub_next}
+use Rattle.reliable_engine.specs.Answers.{IsQuiet, NamesOpenPlace, hub_next}
 use Rattle.reliable_engine.specs.Events.{HubEvent, Offer, Status, Reply, Quiet, Send, HandOut, after_event}
 use Rattle.reliable_engine.specs.Events.{after_events}
 use Rattle.reliable_engine.specs.Events.{IsAllowed, AreAllowed, SettlesAlone, IsAtRest, quiets, IsOutOfRounds}
-use Rattle.reliable_engine.proofs.Places.{either, less, has_from, places_without, open_once}
+use Rattle.reliable_engine.specs.Events.{SettleNone, SettlesNone}
+use Rattle.world_model.proofs.Flushing.{quiet_cases, reply_cases, status_cases}
+use Rattle.world_model.proofs.Hubs.{places_without}
+use Rattle.world_model.proofs.Lists.{either}
+use Rattle.world_model.proofs.Places.{has_from, less}
+use Rattle.reliable_engine.proofs.Places.{open_once}
 use Rattle.reliable_engine.proofs.Keeping.{found}
-use Rattle.reliable_engine.proofs.Hubs.{names_none, quiet_none}
-use Rattle.reliable_engine.proofs.Runs.{IsHub, not_open}
+use Rattle.reliable_engine.proofs.Cases.{after_send}
+use Rattle.reliable_engine.proofs.Hubs.{names, names_none, quiet_none}
+use Rattle.reliable_engine.proofs.Runs.{IsHub, not_open, same_rounds}
 
 -- ---- a reply
 
@@ -173,13 +179,8 @@ settle_rests h words (Some o) rest = λ gave.
       quiet = all_without IsQuiet o.place h.open_places is.quiet;
     }
 
-recovered_gave : (h : Hub) (r : Option ℕ) → (recovered h r).gave_up ≡ h.gave_up
-recovered_gave h None = refl
-recovered_gave h (Some told) = refl
-
 status_gave : (h : Hub) (next : ℕ) → (hear_status h next).gave_up ≡ h.gave_up
-status_gave h next = either (λ (x : Hub). x.gave_up ≡ h.gave_up) (nat_lt 0 h.status_requests) _ _
-    (λ _. recovered_gave h (told_place h next)) (λ _. refl)
+status_gave h next = status_cases (λ after. after.gave_up ≡ h.gave_up) h next refl (λ _. refl)
 
 status_rest : (h : Hub) (next : ℕ) → IsAtRest h → hear_status h next ≡ h
 status_rest h next is = rw is.round refl
@@ -194,18 +195,8 @@ quiet_rests h waits rest = either RestsAfter (nat_lt h.status_requests h.rounds)
     (λ _. λ gave. absurd (let bad = sym (rest_waits h (rest gave)) ∙ waits in cc))
     (λ _. λ _. give_up_rests h)
 
-first_gave : (h : Hub) (queue : List Offered) → (hub_next h (first_send h queue)).gave_up ≡ h.gave_up
-first_gave h [] = refl
-first_gave h (x ∷ later) = either (λ (r : Option Next). (hub_next h r).gave_up ≡ h.gave_up)
-    (nat_le (length h.sent + 1 + 1) (h.window + low h)) _ _ (λ _. refl) (λ _. refl)
-
-wanted_gave : (h : Hub) (r : Option Wanted) → (hub_next h (wanted_or_first h r)).gave_up ≡ h.gave_up
-wanted_gave h None = first_gave h h.queue
-wanted_gave h (Some w) = refl
-
 send_gave : (h : Hub) → (hub_next h (next_send h)).gave_up ≡ h.gave_up
-send_gave h = either (λ (r : Option Next). (hub_next h r).gave_up ≡ h.gave_up) h.status_wanted _ _
-    (λ _. refl) (λ _. wanted_gave h (wanted h.first h.open_places))
+send_gave h = after_send (λ after. after.gave_up ≡ h.gave_up) h refl refl (λ _ _. refl) (λ _ _ _ _. refl)
 
 send_rests : (h : Hub) → RestsAfter h → RestsAfter (hub_next h (next_send h))
 send_rests h rest = λ gave.
@@ -249,38 +240,25 @@ offer_leaves h x gave = rw gave refl
 
 -- ---- rounds
 
-settle_rounds : (h : Hub) (words : List ℕ) (r : Option OpenPlace)
-    → (settle h words r).status_requests ≤ h.status_requests
-settle_rounds h words None = omega arith
-settle_rounds h words (Some o) = omega arith
+status_rounds : (h : Hub) (next : ℕ) → (hear_status h next).status_requests ≡ h.status_requests
+status_rounds h next = status_cases (λ after. after.status_requests ≡ h.status_requests) h next refl (λ _. refl)
 
-recovered_rounds : (h : Hub) (r : Option ℕ) → (recovered h r).status_requests ≤ h.status_requests
-recovered_rounds h None = omega arith
-recovered_rounds h (Some told) = omega arith
+reply_rounds : (h : Hub) (id : ℕ) (words : List ℕ) → (hear_reply h id words).status_requests ≤ h.status_requests
+reply_rounds h id words = reply_cases (λ after. after.status_requests ≤ h.status_requests) h id words
+    (omega arith) (λ _ _. omega arith)
 
-first_rounds : (h : Hub) (queue : List Offered) → (hub_next h (first_send h queue)).status_requests ≤ h.status_requests
-first_rounds h [] = omega arith
-first_rounds h (x ∷ later) = either (λ (r : Option Next). (hub_next h r).status_requests ≤ h.status_requests)
-    (nat_le (length h.sent + 1 + 1) (h.window + low h)) _ _ (λ _. omega arith) (λ _. omega arith)
+send_rounds : (h : Hub) → (hub_next h (next_send h)).status_requests ≡ h.status_requests
+send_rounds h = after_send (λ after. after.status_requests ≡ h.status_requests) h refl refl (λ _ _. refl)
+    (λ _ _ _ _. refl)
 
-wanted_rounds : (h : Hub) (r : Option Wanted) → (hub_next h (wanted_or_first h r)).status_requests ≤ h.status_requests
-wanted_rounds h None = first_rounds h h.queue
-wanted_rounds h (Some w) = omega arith
-
-event_rounds : (h : Hub) (event : HubEvent) → (after_event h event).status_requests ≤ h.status_requests + quiets
-    (event ∷ [])
+event_rounds : (h : Hub) (event : HubEvent)
+    → (after_event h event).status_requests ≤ h.status_requests + quiets (event ∷ [])
 event_rounds h (Offer x) = omega arith
-event_rounds h (Status next) = either (λ (x : Hub). x.status_requests ≤ h.status_requests + 0)
-    (nat_lt 0 h.status_requests) _ _
-    (λ _. let r = recovered_rounds h (told_place h next) in omega arith) (λ _. omega arith)
-event_rounds h (Reply id words) =
-    let r = settle_rounds h words (open_with h.first id h.open_places) in omega arith
-event_rounds h Quiet = either (λ (x : Hub). x.status_requests ≤ h.status_requests + 1)
-    (nat_lt h.status_requests h.rounds)
-    (want_status h) (give_up h) (λ _. omega arith) (λ _. omega arith)
-event_rounds h Send = either (λ (r : Option Next). (hub_next h r).status_requests ≤ h.status_requests + 0)
-    h.status_wanted _ _
-    (λ _. omega arith) (λ _. let r = wanted_rounds h (wanted h.first h.open_places) in omega arith)
+event_rounds h (Status next) = omega (arith, status_rounds h next)
+event_rounds h (Reply id words) = omega (arith, reply_rounds h id words)
+event_rounds h Quiet = quiet_cases (λ after. after.status_requests ≤ h.status_requests + 1) h
+    (λ _. omega arith) (λ _. omega arith)
+event_rounds h Send = omega (arith, send_rounds h)
 event_rounds h HandOut = omega arith
 
 quiets_more : (event : HubEvent) (events : List HubEvent)
@@ -306,3 +284,30 @@ quiet_ends h out = rw (le-ltb h.status_requests h.rounds out) refl
 
 pub quiet_begins : (h : Hub) → h.status_requests < h.rounds → hear_quiet h ≡ want_status h
 quiet_begins h more = rw (lt-ltb h.status_requests h.rounds more) refl
+
+stray_reply : (h : Hub) (id : ℕ) (words : List ℕ) → (NamesOpenPlace h id → ⊥) → hear_reply h id words ≡ h
+stray_reply h id words stray = reply_cases (λ after. after ≡ h) h id words refl
+    (λ o told. absurd (stray (names h id o told)))
+
+-- an event that settles no place begins a round where it is a quiet receive
+round_begun : (h : Hub) (event : HubEvent) → SettlesNone h event
+    → h.status_requests + quiets (event ∷ []) ≤ h.rounds
+    → (after_event h event).status_requests ≡ h.status_requests + quiets (event ∷ [])
+round_begun h (Offer x) none few = omega arith
+round_begun h (Status next) none few = omega (arith, status_rounds h next)
+round_begun h (Reply id words) none few =
+    omega (arith, ap (λ (x : Hub). x.status_requests) (stray_reply h id words none))
+round_begun h Quiet none few = ap (λ (x : Hub). x.status_requests) (quiet_begins h (omega arith))
+round_begun h Send none few = omega (arith, send_rounds h)
+round_begun h HandOut none few = omega arith
+
+pub rounds_begun : (h : Hub) (events : List HubEvent) → SettleNone h events
+    → h.status_requests + quiets events ≤ h.rounds
+    → (after_events h events).status_requests ≡ h.status_requests + quiets events
+rounds_begun h [] none few = omega arith
+rounds_begun h (event ∷ events) none few =
+    let all = quiets_more event events in
+    let one = round_begun h event none.0 (omega arith) in
+    let same : (after_event h event).rounds ≡ h.rounds = same_rounds h (event ∷ []) in
+    let later = rounds_begun (after_event h event) events none.1 (omega arith) in
+    omega arith

@@ -1,29 +1,29 @@
 -- The laws over every list of events.
 use Rattle.std.proofs.Common.{◌≡◌, ◌≤◌, ◌<◌, ℕ, Bool, true, false, ◌==◌, length, List}
 use Rattle.std.proofs.Common.{[]}
-use Rattle.std.proofs.Common.{◌∷◌, ◌++◌, ◌+◌, Option, Some, None, refl, sym, ap, ◌∙◌, arith, inl, inr}
+use Rattle.std.proofs.Common.{◌∷◌, ◌++◌, ◌+◌, Some, refl, sym, ap, ◌∙◌, subst, arith, inl, inr}
 use Rattle.std.proofs.Common.{length-append, append_assoc}
-use Rattle.std.specs.Prelude.{nat_lt, nat_le}
-use Rattle.std.proofs.lemmas.Bool.{leb-true}
 use Rattle.std.proofs.lemmas.Bool.Decides.{eqb_tells}
 use Rattle.std.proofs.lemmas.List.{map-append, append-nil}
 use Rattle.ipb_base.specs.Lists.{IsPrefix}
 use Rattle.packet_ids.specs.Identifier.{IsIdentifier}
 use Rattle.world_model.specs.declared.offered.OpenPlace.{OpenPlace}
 use Rattle.world_model.specs.declared.offered.Offered.{Offered}
-use Rattle.world_model.specs.Hub.{Hub, low, places, place_of, new_hub, offer, want_control, settle}
-use Rattle.world_model.specs.Hub.{open_with}
-use Rattle.world_model.specs.Hub.{recover, recovered, told_place, hear_status, abandoned, give_up, want_status}
-use Rattle.world_model.specs.Hub.{hear_quiet}
-use Rattle.world_model.specs.Sends.{Next, Wanted, wanted, opened, first_send, wanted_or_first, next_send}
+use Rattle.world_model.specs.Hub.{Hub, low, places, place_of, new_hub, want_control}
+use Rattle.world_model.specs.Hub.{recover, abandoned}
+use Rattle.world_model.specs.Sends.{Next, opened, next_send}
+use Rattle.world_model.specs.declared.sending.Sending.TheVariants as sends
 use Rattle.world_model.specs.Facts.{has, IsWindow}
-use Rattle.reliable_engine.specs.Answers.{IsOpen, hub_next}
-use Rattle.reliable_engine.specs.Events.{HubEvent, Offer, Status, Reply, Quiet, Send, HandOut, after_event}
+use Rattle.reliable_engine.specs.Answers.{IsOpen, IsSendOf, hub_next}
+use Rattle.reliable_engine.specs.Events.{HubEvent, Send, after_event}
 use Rattle.reliable_engine.specs.Events.{after_events}
 use Rattle.reliable_engine.specs.Events.{IsInWindow}
-use Rattle.reliable_engine.proofs.Places.{either, less, window_push, window_less, open_sent, open_once}
-use Rattle.reliable_engine.proofs.Places.{places_map}
-use Rattle.reliable_engine.proofs.Places.{places_without, recover_place, wanted_is, IsWantedOr, lowest_open}
+use Rattle.world_model.proofs.Hubs.{IsWantedOr, places_map, places_without, recover_place, wanted_is}
+use Rattle.world_model.proofs.Lists.{either}
+use Rattle.world_model.proofs.Places.{less, window_less, window_push}
+use Rattle.reliable_engine.proofs.Cases.{after_is}
+use Rattle.reliable_engine.proofs.Hubs.{send_open}
+use Rattle.reliable_engine.proofs.Places.{lowest_open, open_once, open_sent}
 
 -- ---- what an event does to the places: nothing, or one is closed, or the next one is opened
 
@@ -34,50 +34,22 @@ data IsStep (h h2 : Hub) : Type 0 where
       → places h2.open_places ≡ places h.open_places ++ (length h.sent + 1) ∷ []
       → length h.sent + 2 ≤ h.window + low h → IsStep h h2
 
-offer_step : (h : Hub) (x : Offered) → IsStep h (offer h x)
-offer_step h x = same refl (either (λ (os : List OpenPlace). places os ≡ places h.open_places) h.gave_up _ _
-    (λ _. places_map want_control h.open_places (λ _. refl)) (λ _. refl))
-
-settle_step : (h : Hub) (words : List ℕ) (r : Option OpenPlace) → IsStep h (settle h words r)
-settle_step h words None = same refl refl
-settle_step h words (Some o) = closed o.place refl (places_without o.place h.open_places)
-
-recovered_step : (h : Hub) (r : Option ℕ) → IsStep h (recovered h r)
-recovered_step h None = same refl refl
-recovered_step h (Some told) = same refl (places_map (recover told) h.open_places (recover_place told))
-
-status_step : (h : Hub) (next : ℕ) → IsStep h (hear_status h next)
-status_step h next = either (IsStep h) (nat_lt 0 h.status_requests) _ _
-    (λ _. recovered_step h (told_place h next)) (λ _. same refl refl)
-
-quiet_step : (h : Hub) → IsStep h (hear_quiet h)
-quiet_step h = either (IsStep h) (nat_lt h.status_requests h.rounds) (want_status h) (give_up h)
-    (λ _. same refl refl) (λ _. same refl (places_map abandoned h.open_places (λ _. refl)))
-
-first_step : (h : Hub) (queue : List Offered) → IsStep h (hub_next h (first_send h queue))
-first_step h [] = same refl refl
-first_step h (x ∷ later) = either (λ (r : Option Next). IsStep h (hub_next h r))
-    (nat_le (length h.sent + 1 + 1) (h.window + low h)) _ _
-    (λ e. sent_one x refl (map-append place_of h.open_places (opened (length h.sent + 1) ∷ []))
-    (let room = leb-true _ _ e in omega arith))
-    (λ _. same refl refl)
-
-wanted_step : (h : Hub) (r : Option Wanted) → IsWantedOr h.open_places r → IsStep h (hub_next h (wanted_or_first h r))
-wanted_step h None is = first_step h h.queue
-wanted_step h (Some w) is = same refl is.same
-
-send_step : (h : Hub) → IsStep h (hub_next h (next_send h))
-send_step h = either (λ (r : Option Next). IsStep h (hub_next h r)) h.status_wanted _ _
-    (λ _. same refl refl)
-    (λ _. wanted_step h (wanted h.first h.open_places) (wanted_is h.first h.open_places))
-
 step_of : (h : Hub) (event : HubEvent) → IsStep h (after_event h event)
-step_of h (Offer x) = offer_step h x
-step_of h (Status next) = status_step h next
-step_of h (Reply id words) = settle_step h words (open_with h.first id h.open_places)
-step_of h Quiet = quiet_step h
-step_of h Send = send_step h
-step_of h HandOut = same refl refl
+step_of h event = after_is (λ _ after. IsStep h after) h (record {
+  offered = λ x. same refl (either (λ (os : List OpenPlace). places os ≡ places h.open_places) h.gave_up _ _
+      (λ _. places_map want_control h.open_places (λ _. refl)) (λ _. refl));
+  same = same refl refl;
+  told = λ at. same refl (places_map (recover at) h.open_places (recover_place at));
+  settled = λ id words o told. closed o.place refl (places_without o.place h.open_places);
+  wants_status = same refl refl;
+  gives_up = same refl (places_map abandoned h.open_places (λ _. refl));
+  asked = same refl refl;
+  wished = λ w told. same refl (subst (IsWantedOr h.first h.open_places) told
+      (wanted_is h.first h.open_places)).same;
+  sent_first = λ x later queue room. sent_one x refl
+      (map-append place_of h.open_places (opened (length h.sent + 1) ∷ [])) room;
+  handed = same refl refl;
+}) event
 
 -- ---- the numbers of the hub
 
@@ -86,39 +58,21 @@ record Same (h h2 : Hub) : Type 0 where
   window : h2.window ≡ h.window
   rounds : h2.rounds ≡ h.rounds
 
-as_before : (h : Hub) → Same h h
-as_before h = record { first = refl; window = refl; rounds = refl }
-
-first_same : (h : Hub) (queue : List Offered) → Same h (hub_next h (first_send h queue))
-first_same h [] = as_before h
-first_same h (x ∷ later) = either (λ (r : Option Next). Same h (hub_next h r))
-    (nat_le (length h.sent + 1 + 1) (h.window + low h)) _ _
-    (λ _. record { first = refl; window = refl; rounds = refl }) (λ _. as_before h)
-
-wanted_same : (h : Hub) (r : Option Wanted) → Same h (hub_next h (wanted_or_first h r))
-wanted_same h None = first_same h h.queue
-wanted_same h (Some w) = record { first = refl; window = refl; rounds = refl }
-
-settle_same : (h : Hub) (words : List ℕ) (r : Option OpenPlace) → Same h (settle h words r)
-settle_same h words None = as_before h
-settle_same h words (Some o) = record { first = refl; window = refl; rounds = refl }
-
-recovered_same : (h : Hub) (r : Option ℕ) → Same h (recovered h r)
-recovered_same h None = as_before h
-recovered_same h (Some told) = record { first = refl; window = refl; rounds = refl }
-
 numbers_of : (h : Hub) (event : HubEvent) → Same h (after_event h event)
-numbers_of h (Offer x) = record { first = refl; window = refl; rounds = refl }
-numbers_of h (Status next) = either (Same h) (nat_lt 0 h.status_requests) _ _
-    (λ _. recovered_same h (told_place h next)) (λ _. as_before h)
-numbers_of h (Reply id words) = settle_same h words (open_with h.first id h.open_places)
-numbers_of h Quiet = either (Same h) (nat_lt h.status_requests h.rounds) (want_status h) (give_up h)
-    (λ _. record { first = refl; window = refl; rounds = refl })
-    (λ _. record { first = refl; window = refl; rounds = refl })
-numbers_of h Send = either (λ (r : Option Next). Same h (hub_next h r)) h.status_wanted _ _
-    (λ _. record { first = refl; window = refl; rounds = refl })
-    (λ _. wanted_same h (wanted h.first h.open_places))
-numbers_of h HandOut = record { first = refl; window = refl; rounds = refl }
+numbers_of h event =
+    let same : Same h h = record { first = refl; window = refl; rounds = refl } in
+    after_is (λ _ after. Same h after) h (record {
+      offered = λ x. record { first = refl; window = refl; rounds = refl };
+      same = same;
+      told = λ at. record { first = refl; window = refl; rounds = refl };
+      settled = λ id words o told. record { first = refl; window = refl; rounds = refl };
+      wants_status = record { first = refl; window = refl; rounds = refl };
+      gives_up = record { first = refl; window = refl; rounds = refl };
+      asked = record { first = refl; window = refl; rounds = refl };
+      wished = λ w told. record { first = refl; window = refl; rounds = refl };
+      sent_first = λ x later queue room. record { first = refl; window = refl; rounds = refl };
+      handed = record { first = refl; window = refl; rounds = refl };
+    }) event
 
 pub same_first : (h : Hub) (events : List HubEvent) → (after_events h events).first ≡ h.first
 same_first h [] = refl
@@ -236,3 +190,17 @@ pub closed_for_good : (h : Hub) (events : List HubEvent) (place : ℕ) → place
 closed_for_good h events place sent gone there =
     let is = closed_on h place events (record { sent = sent; gone = not_open _ gone }) in
     absurd (let e = sym is.gone ∙ there in cc)
+
+-- ---- no send for a closed place
+
+pub not_sent_again : (h : Hub) (events : List HubEvent) (next : Next) (place id : ℕ) → place ≤ length h.sent
+    → (IsOpen h place → ⊥) → next_send (after_events h events) ≡ Some next → next.send ≡ sends.Control place id → ⊥
+not_sent_again h events next place id sent gone e told =
+    let last = after_events h events in
+    let is = closed_on h place events (record { sent = sent; gone = not_open _ gone }) in
+    let after : next.hub ≡ hub_next last (next_send last) = ap (hub_next last) (sym e) in
+    let closed = closed_step last (hub_next last (next_send last)) place (step_of last Send) is in
+    let there : IsSendOf next.hub (sends.Control place id) = subst (IsSendOf next.hub) told (send_open last next e) in
+    let here : has place (places (hub_next last (next_send last)).open_places) ≡ true =
+    ap (λ (x : Hub). has place (places x.open_places)) (sym after) ∙ there in
+    absurd (let bad = sym closed.gone ∙ here in cc)

@@ -56,10 +56,10 @@ abbrev pub hub_next : Hub → Option Next → Hub
 hub_next hub None = hub
 hub_next hub (Some next) = next.hub
 
--- a control packet is that of an open place
+-- a re-send request asks for the reply of an open place, and a control packet is that of an open place
 abbrev pub IsSendOf : Hub → Sending → Type 0
 IsSendOf hub sends.Status = Unit {0}
-IsSendOf hub (sends.Resend id) = Unit {0}
+IsSendOf hub (sends.Resend id) = NamesOpenPlace hub id
 IsSendOf hub (sends.Control place id) = IsOpen hub place
 
 -- the hub whose first fate was handed out

@@ -1,5 +1,5 @@
 -- Lists of events: whatever an engine is told and asked, in any order. Profile.
-use Rattle.std.specs.Prelude.{◌≡◌, ◌≢◌, ◌⊎◌, ℕ, ◌+◌, ◌≤◌, true, false, List, [], ◌∷◌, length, map}
+use Rattle.std.specs.Prelude.{◌≡◌, ◌≢◌, ◌⊎◌, ℕ, ◌+◌, ◌≤◌, true, false, List, [], ◌∷◌, ◌++◌, length, map}
 use Rattle.std.specs.List.{AllByRecursion}
 use Rattle.packet_ids.specs.Identifier.{identifier_at}
 use Rattle.world_model.specs.declared.offered.Offered.{Offered}
@@ -66,6 +66,28 @@ pub record SettlesAlone (hub : Hub) (id : ℕ) (words : List ℕ) : Type 0 where
 abbrev pub IfTold : Hub → ℕ → Type 0
 IfTold hub next = (told : TellsPlace hub next)
     → hear_status hub next ≡ record hub { open_places = map (recover told.place) hub.open_places }
+
+-- one of the events was a quiet receive while a body had no fate, and nothing was sent since
+pub record WasAsked (hub : Hub) (events : List HubEvent) : Type 0 where
+  pub before : List HubEvent
+  pub since : List HubEvent
+  pub all : events ≡ before ++ Quiet ∷ since
+  pub waited : is_waiting (after_events hub before) ≡ true
+  pub not_sent : AllByRecursion (λ (event : HubEvent). event ≢ Send) since
+
+-- an event is not the reply to an open place
+abbrev pub SettlesNone : Hub → HubEvent → Type 0
+SettlesNone hub (Offer offered) = Unit {0}
+SettlesNone hub (Status next) = Unit {0}
+SettlesNone hub (Reply id words) = ¬ NamesOpenPlace hub id
+SettlesNone hub Quiet = Unit {0}
+SettlesNone hub Send = Unit {0}
+SettlesNone hub HandOut = Unit {0}
+
+-- no place is settled by these events
+abbrev pub SettleNone : Hub → List HubEvent → Type 0
+SettleNone hub [] = Unit {0}
+SettleNone hub (event ∷ events) = SettlesNone hub event × SettleNone (after_event hub event) events
 
 -- nothing is queued, waited for or to be sent, and no round is under way
 pub record IsAtRest (hub : Hub) : Type 0 where

@@ -23,3 +23,8 @@ three_told = after_events (new_hub 65534 16 8)
 -- a hub of one round that gave up with one body sent and one queued
 abbrev pub given_up : Hub
 given_up = after_events (new_hub 1 1 1) (Offer (one_word 7) ∷ Offer (one_word 8) ∷ Send ∷ Quiet ∷ Send ∷ Quiet ∷ [])
+
+-- a reply settles the last body that is waited for, while a status request is still wanted
+abbrev pub settled_while_asked : Hub
+settled_while_asked =
+    after_events (new_hub 1 1 8) (Offer (one_word 7) ∷ Send ∷ Quiet ∷ Reply 1 (0x77 ∷ []) ∷ [])

@@ -1,10 +1,17 @@
 -- What private functions promise one another. No public contract speaks of it.
-use Rattle.std.specs.Prelude.{◌≡◌, ℕ, ◌+◌, ◌≤◌, ◌^◌, List, [], ◌∷◌, ◌++◌, take, drop, Option, Some, None, if◌then◌else◌}
+use Rattle.std.specs.Prelude.{◌≡◌, ℕ, ◌+◌, ◌≤◌, ◌^◌, List, [], ◌∷◌, ◌++◌, take, drop, map, false, Option, Some, None, if◌then◌else◌}
 use Rattle.packet_ids.specs.Identifier.{identifier_at}
 use Rattle.world_model.specs.declared.offered.OpenPlace.{OpenPlace}
 use Rattle.world_model.specs.declared.sending.Sending.{Sending}
-use Rattle.world_model.specs.Hub.{open_with, without}
+use Rattle.world_model.specs.Hub.{Hub, open_with, want_control, without}
 use Rattle.world_model.specs.Sends.{Wanted, after_open}
+
+-- the hub that goes on after a give-up, and any other as it is
+abbrev pub resumed : Hub → Hub
+resumed hub = record hub {
+  open_places = if hub.gave_up then map want_control hub.open_places else hub.open_places;
+  gave_up = false;
+}
 
 -- a place that has an identifier
 abbrev pub CanBeNamed : OpenPlace → Type 0

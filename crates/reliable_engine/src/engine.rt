@@ -11,6 +11,7 @@ ghost use Rattle.world_model.specs.Hub.{low, told_place, words_of};
 ghost use Rattle.world_model.specs.Sends.{first_send, next_send, opened};
 ghost use Rattle.reliable_engine.specs.Answers.{HasNothingToSend, IsOpen, IsSendOf, NamesOpenPlace, TellsPlace};
 ghost use Rattle.reliable_engine.specs.Answers.{body_count, hub_next, sent_next, told_first};
+ghost use Rattle.reliable_engine.specs.Steps.{resumed};
 
 use crate::fates::{put_fate, put_time_outs, put_unsent};
 use crate::open_places::{
@@ -94,10 +95,7 @@ impl Engine {
         if let Err(refused) = self.bodies.push(Offered { tag, body }) {
             return Err(refused.value.body);
         }
-        if self.gave_up {
-            want_all(&mut self.open_places);
-            self.gave_up = false;
-        }
+        self.resume();
         Ok(())
     }
 
@@ -199,6 +197,17 @@ impl Engine {
         ensures counted { body_count self.new ≡ body_count self.old }
     {
         self.fates.pop_front()
+    }
+
+    /// Goes on after a give-up: the control packet of each open place is sent again (profile).
+    fn resume(&mut self)
+        ensures hub { self.new ≡ resumed self.old }
+        ensures counted { body_count self.new ≡ body_count self.old }
+    {
+        if self.gave_up {
+            want_all(&mut self.open_places);
+            self.gave_up = false;
+        }
     }
 
     /// Gives up (profile).

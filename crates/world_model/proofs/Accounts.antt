@@ -16,13 +16,13 @@ use Rattle.world_model.specs.declared.moves.WorldMove.{WorldMove}
 use Rattle.world_model.specs.declared.moves.WorldMove.TheVariants.{Offer, Quiet, HubHears, BoardHears}
 use Rattle.world_model.specs.declared.moves.WorldEnd.{WorldEnd}
 use Rattle.world_model.specs.Places.{at_place}
-use Rattle.world_model.specs.Messages.{to_hub}
+use Rattle.world_model.specs.Messages.{ToHub, to_hub}
 use Rattle.world_model.specs.Board.{Board}
 use Rattle.world_model.specs.Hub.{Hub, want_control, offer, goes_before, insert_fate, tag_of, open_with, without}
 use Rattle.world_model.specs.Hub.{settle, recover, take_message, abandoned, time_out, unsent, give_up, hear_quiet}
 use Rattle.world_model.specs.Hub.{places}
 use Rattle.world_model.specs.Sends.{Next, Wanted, after_open, wanted, opened, next_send, pending}
-use Rattle.world_model.specs.World.{World, sent_into, flush, handed_out, with_hub, go_on, step, run_moves, start}
+use Rattle.world_model.specs.World.{World, flush, handed_out, with_hub, go_on, step, run_moves, start}
 use Rattle.world_model.specs.History.{IsMove, IsRun, IsHandedOut, IsAccounted, IsOffered, offers, times, tag_of_offered}
 use Rattle.world_model.specs.History.{tag_of_fate, waited_tags, placed_tags}
 use Rattle.world_model.proofs.Hubs.{places_map}
@@ -275,7 +275,7 @@ balanced_alike tag offered told h os same is = record {
   placed = omega (arith, is.placed, ap (times tag) (same.waited h.sent));
 }
 
-offer_balanced : (tag offered : ℕ) (told : List (ℕ × Fate)) (h : Hub) (o : Offered) → IsBalanced tag offered told h
+pub offer_balanced : (tag offered : ℕ) (told : List (ℕ × Fate)) (h : Hub) (o : Offered) → IsBalanced tag offered told h
     → IsBalanced tag (offered + times tag (o.tag ∷ [])) told (offer h o)
 offer_balanced tag offered told h o is =
     let more = map-append tag_of_offered h.queue (o ∷ []) in
@@ -325,9 +325,9 @@ settle_balanced tag offered told h id words o e is =
     ] in
     by o.waited left
 
-message_balanced : (tag offered : ℕ) (told : List (ℕ × Fate)) (h : Hub) (bytes : List ℕ) → IsBalanced tag offered told h
-    → IsBalanced tag offered told (take_message h (to_hub bytes))
-message_balanced tag offered told h bytes is = message_cases (IsBalanced tag offered told) h (to_hub bytes) is
+pub message_balanced : (tag offered : ℕ) (told : List (ℕ × Fate)) (h : Hub) (m : Option ToHub)
+    → IsBalanced tag offered told h → IsBalanced tag offered told (take_message h m)
+message_balanced tag offered told h m is = message_cases (IsBalanced tag offered told) h m is
     (λ at. balanced_alike tag offered told h (map (recover at) h.open_places)
     (alike_map (recover at) h.open_places (recover_alike at)) is)
     (λ id words o e. settle_balanced tag offered told h id words o e is)
@@ -358,7 +358,7 @@ give_up_balanced tag offered told h is =
       );
     }
 
-quiet_balanced : (tag offered : ℕ) (told : List (ℕ × Fate)) (h : Hub) → IsBalanced tag offered told h
+pub quiet_balanced : (tag offered : ℕ) (told : List (ℕ × Fate)) (h : Hub) → IsBalanced tag offered told h
     → IsBalanced tag offered told (hear_quiet h)
 quiet_balanced tag offered told h is = quiet_cases (IsBalanced tag offered told) h
     (λ _. record { up_to = is.up_to; all = is.all; placed = is.placed })
@@ -391,16 +391,15 @@ first_balanced tag offered told h o later e is =
       placed = omega (arith, is.placed, sent, waited);
     }
 
+pub sends_balanced : (tag offered : ℕ) (told : List (ℕ × Fate)) (h : Hub) → IsBalanced tag offered told h
+    → IfSome (next_send h) (λ (n : Next). IsBalanced tag offered told n.hub)
+sends_balanced tag offered told h is = send_cases (λ (n : Next). IsBalanced tag offered told n.hub) h
+    (record { up_to = is.up_to; all = is.all; placed = is.placed })
+    (λ x e. balanced_alike tag offered told h x.open_places (wanted_is_alike h.first h.open_places x e) is)
+    (λ o later e _. first_balanced tag offered told h o later e is)
+
 abbrev pub IsBalancedWorld : ℕ → ℕ → World → Type 0
 IsBalancedWorld tag offered w = IsBalanced tag offered w.fates w.hub
-
-sends_balanced : (tag offered : ℕ) (w : World) → IsBalancedWorld tag offered w
-    → IfSome (next_send w.hub) (λ (n : Next). IsBalancedWorld tag offered (sent_into w n))
-sends_balanced tag offered w is = send_cases (λ (n : Next). IsBalanced tag offered w.fates n.hub) w.hub
-    (record { up_to = is.up_to; all = is.all; placed = is.placed })
-    (λ x e. balanced_alike tag offered w.fates w.hub x.open_places
-    (wanted_is_alike w.hub.first w.hub.open_places x e) is)
-    (λ o later e _. first_balanced tag offered w.fates w.hub o later e is)
 
 handed_balanced : (tag offered : ℕ) (w : World) → IsBalancedWorld tag offered w
     → IsBalancedWorld tag offered (handed_out w)
@@ -413,7 +412,8 @@ handed_balanced tag offered w is = record {
 go_on_balanced : (tag offered : ℕ) (w : World) (h : Hub) → IsBalanced tag offered w.fates h
     → IsBalancedWorld tag offered (go_on w h)
 go_on_balanced tag offered w h is = handed_balanced tag offered (flush (pending h) (with_hub w h))
-    (flush_keeps (IsBalancedWorld tag offered) (sends_balanced tag offered) (pending h) (with_hub w h) is)
+    (flush_keeps (IsBalancedWorld tag offered) (λ v. sends_balanced tag offered v.fates v.hub) (pending h)
+    (with_hub w h) is)
 
 -- ---- moves
 
@@ -432,7 +432,7 @@ step_balances tag at w m = step_cases (Balances tag (m ∷ []) w) at w m
     (go_on_balanced tag offered w (hear_quiet w.hub) (quiet_balanced tag offered w.fates w.hub is))))
     (λ i bytes e. rw e (λ offered is. none_offered tag offered (go_on w (take_message w.hub (to_hub bytes)))
     (go_on_balanced tag offered w (take_message w.hub (to_hub bytes))
-    (message_balanced tag offered w.fates w.hub bytes is))))
+    (message_balanced tag offered w.fates w.hub (to_hub bytes) is))))
     (λ i bytes e. rw e (λ offered is. record { up_to = is.up_to; all = omega (arith, is.all); placed = is.placed }))
 
 offers_cons : (tag : ℕ) (m : WorldMove) (ms : List WorldMove)

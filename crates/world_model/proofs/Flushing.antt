@@ -17,7 +17,7 @@ use Rattle.world_model.specs.declared.offered.Offered.{Offered}
 use Rattle.world_model.specs.declared.offered.OpenPlace.{OpenPlace}
 use Rattle.world_model.specs.declared.offered.Fate.{Fate}
 use Rattle.world_model.specs.Hub.{Hub, low, offer, open_with, settle, recovered, told_place, take_message, want_status}
-use Rattle.world_model.specs.Hub.{give_up, hear_quiet, is_waiting}
+use Rattle.world_model.specs.Hub.{give_up, hear_quiet, hear_reply, hear_status, is_waiting}
 use Rattle.world_model.specs.Sends.{Next, Wanted, after_open, wanted, opened, first_send, wanted_or_first, next_send}
 use Rattle.world_model.specs.Sends.{pending, wishes}
 use Rattle.world_model.specs.World.{World, sent_into, flush_on, flush, with_hub, go_on, taken, hub_hears, board_hears}
@@ -183,19 +183,27 @@ settled_or_not : (Q : Hub → Type 0) (h : Hub) (id : ℕ) (words : List ℕ) (r
 settled_or_not Q h id words None e same settled = same
 settled_or_not Q h id words (Some o) e same settled = settled o e
 
+pub reply_cases : (Q : Hub → Type 0) (h : Hub) (id : ℕ) (words : List ℕ) → Q h
+    → ((o : OpenPlace) → open_with h.first id h.open_places ≡ Some o → Q (settle h words (Some o)))
+    → Q (hear_reply h id words)
+reply_cases Q h id words same settled = settled_or_not Q h id words (open_with h.first id h.open_places) refl same settled
+
 recovered_or_not : (Q : Hub → Type 0) (h : Hub) (r : Option ℕ) → Q h → ((told : ℕ) → Q (recovered h (Some told)))
     → Q (recovered h r)
 recovered_or_not Q h None same again = same
 recovered_or_not Q h (Some told) same again = again told
 
+pub status_cases : (Q : Hub → Type 0) (h : Hub) (next : ℕ) → Q h → ((told : ℕ) → Q (recovered h (Some told)))
+    → Q (hear_status h next)
+status_cases Q h next same again = either Q (nat_lt 0 h.status_requests) _ _
+    (λ _. recovered_or_not Q h (told_place h next) same again) (λ _. same)
+
 pub message_cases : (Q : Hub → Type 0) (h : Hub) (m : Option ToHub) → Q h → ((told : ℕ) → Q (recovered h (Some told)))
     → ((id : ℕ) (words : List ℕ) (o : OpenPlace) → open_with h.first id h.open_places ≡ Some o
     → Q (settle h words (Some o))) → Q (take_message h m)
 message_cases Q h None same again settled = same
-message_cases Q h (Some (StatusReply mtu buffers next)) same again settled =
-    either Q (nat_lt 0 h.status_requests) _ _ (λ _. recovered_or_not Q h (told_place h next) same again) (λ _. same)
-message_cases Q h (Some (Reply id words)) same again settled =
-    settled_or_not Q h id words (open_with h.first id h.open_places) refl same (settled id words)
+message_cases Q h (Some (StatusReply mtu buffers next)) same again settled = status_cases Q h next same again
+message_cases Q h (Some (Reply id words)) same again settled = reply_cases Q h id words same (settled id words)
 
 pub quiet_cases : (Q : Hub → Type 0) (h : Hub) → (h.status_requests < h.rounds → Q (want_status h))
     → (h.rounds ≤ h.status_requests → Q (give_up h)) → Q (hear_quiet h)

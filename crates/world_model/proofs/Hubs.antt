@@ -1,14 +1,13 @@
 -- The hub's events and sends keep the facts.
-use Rattle.std.proofs.Common.{◌≡◌, ℕ, zero, suc, ◌+◌, ◌-◌, ◌<◌, ◌≤◌, ◌^◌, Bool, true, false, cond, ◌==◌, ◌||◌, List, []}
-use Rattle.std.proofs.Common.{◌∷◌, ◌++◌, length, map, drop, Option, Some, None, refl, sym, ap, ◌∙◌, subst, arith}
-use Rattle.std.proofs.Common.{length-append, add-one, append_assoc, inl, inr, if◌then◌else◌}
+use Rattle.std.proofs.Common.{◌≡◌, ℕ, zero, suc, ◌+◌, ◌-◌, ◌<◌, ◌≤◌, ◌^◌, true, false, cond, ◌==◌, ◌||◌, List, []}
+use Rattle.std.proofs.Common.{◌∷◌, ◌++◌, length, map, Option, Some, None, refl, sym, ap, ◌∙◌, subst, arith}
+use Rattle.std.proofs.Common.{length-append}
 use Rattle.std.specs.Prelude.{nat_lt, nat_le}
-use Rattle.std.proofs.lemmas.Bool.{eqb-true, eq-eqb, cases_lt, leb-true}
+use Rattle.std.proofs.lemmas.Bool.{eqb-true, eq-eqb, leb-true}
 use Rattle.std.proofs.lemmas.List.{length-map, map-append, append-nil}
-use Rattle.std.specs.List.{AllByRecursion, slice_get}
-use Rattle.ipb_base.specs.Lists.{IsPrefix}
-use Rattle.ipb_base.proofs.AllLemmas.{AllByRecursion-append, all-map}
-use Rattle.packet_ids.specs.Identifier.{identifier_at, IsIdentifier}
+use Rattle.std.specs.List.{AllByRecursion}
+use Rattle.ipb_base.proofs.AllLemmas.{AllByRecursion-append}
+use Rattle.packet_ids.specs.Identifier.{identifier_at}
 use Rattle.packet_codec.specs.declared.packet.Order.TheVariants.{Big}
 use Rattle.packet_codec.specs.Packet.{packet_bytes}
 use Rattle.world_model.specs.declared.datagram.Datagram.{Datagram}
@@ -20,22 +19,22 @@ use Rattle.world_model.specs.declared.offered.Fate.TheVariants.{Replied, TimedOu
 use Rattle.world_model.specs.declared.sending.Sending.{Sending}
 use Rattle.world_model.specs.declared.sending.Sending.TheVariants as sends
 use Rattle.world_model.specs.Places.{at_place}
-use Rattle.world_model.specs.Messages.{ToHub, StatusReply, Reply, control_packet, to_board, to_hub}
+use Rattle.world_model.specs.Messages.{control_packet, to_board}
 use Rattle.world_model.specs.Hub.{Hub, low, want_control, offer, goes_before, insert_fate, tag_of, words_of, open_with}
-use Rattle.world_model.specs.Hub.{without, settle, hear_reply, place_with, recover, recovered, told_place, hear_status}
-use Rattle.world_model.specs.Hub.{take_message, abandoned, time_out, unsent, give_up, want_status, hear_quiet, places}
+use Rattle.world_model.specs.Hub.{without, settle, hear_reply, recover, recovered, told_place, hear_status}
+use Rattle.world_model.specs.Hub.{abandoned, time_out, unsent, give_up, want_status, hear_quiet, places}
 use Rattle.world_model.specs.Hub.{place_of, least}
 use Rattle.world_model.specs.Sends.{Next, Wanted, after_open, wanted, opened, first_send, wanted_or_first, next_send}
-use Rattle.world_model.specs.Sends.{packet_to_send, bytes_to_send}
+use Rattle.world_model.specs.Sends.{bytes_to_send}
 use Rattle.world_model.specs.Board.{Board, executed, replies}
 use Rattle.world_model.specs.Air.{LIFETIME}
 use Rattle.world_model.specs.World.{World, sent_into, with_hub}
-use Rattle.world_model.specs.Facts.{IsWindow, IsExecuted, IsBoard, IsDatagram, IsSaidToBoard, IsControlOf, IsReplyOf}
-use Rattle.world_model.specs.Facts.{IsSendable, AreSendable, IsTagged, IsRightFate, AreRight, MOST_OPEN, MOST_HELD}
+use Rattle.world_model.specs.Facts.{IsExecuted, IsDatagram, IsSaidToBoard, IsControlOf, IsReplyOf}
+use Rattle.world_model.specs.Facts.{IsSendable, AreSendable, IsTagged, IsRightFate, AreRight, MOST_OPEN}
 use Rattle.world_model.specs.Facts.{Holds, IsSound, bodies_of, offered_body, has, AreRising}
-use Rattle.world_model.proofs.Lists.{at_front, at_seam, at_from_one, at_within, at_exists, at_map, either, front_length}
+use Rattle.world_model.proofs.Lists.{at_seam, at_from_one, at_within, at_exists, at_map, either, front_length}
 use Rattle.world_model.proofs.Lists.{all_get}
-use Rattle.world_model.proofs.Places.{less, has_from, has_below, rising_end, sent_near, window_push, window_less}
+use Rattle.world_model.proofs.Places.{less, has_from, has_below, rising_end, window_push, window_less}
 use Rattle.world_model.proofs.Places.{executed_push, executed_less, one_place, id_fits}
 use Rattle.world_model.proofs.Readings.{control_read, request_read, resend_read}
 use Rattle.world_model.proofs.Boards.{air_grows, fates_grow, replies_length}
@@ -48,20 +47,109 @@ places_map f [] same = refl
 places_map f (o ∷ os) same = ap (λ (p : ℕ). p ∷ places (map f os)) (same o)
     ∙ ap (λ (ps : List ℕ). o.place ∷ ps) (places_map f os same)
 
+pub places_without : (place : ℕ) (os : List OpenPlace) → places (without place os) ≡ less place (places os)
+places_without place [] = refl
+places_without place (o ∷ os) = elim (o.place == place)
+    as (λ b. places (cond b os (o ∷ without place os)) ≡ cond b (places os) (o.place ∷ less place (places os))) [
+      | true ↦ refl
+      | false ↦ ap (λ (ps : List ℕ). o.place ∷ ps) (places_without place os)
+    ]
+
+pub recover_place : (e : ℕ) (o : OpenPlace) → (recover e o).place ≡ o.place
+recover_place e o = either (λ (x : OpenPlace). x.place ≡ o.place) (nat_lt o.place e) _ _ (λ _. refl) (λ _. refl)
+
+-- ---- what is wanted of open places
+
+-- a re-send request asks for the reply of one of the places
+pub record IsNamed (first : ℕ) (ps : List ℕ) (id : ℕ) : Type 0 where
+  pub place : ℕ
+  pub there : has place ps ≡ true
+  pub identifier : identifier_at first place ≡ id
+
+pub named_fits : (first : ℕ) (ps : List ℕ) (id : ℕ) → IsNamed first ps id → id < 2 ^ 16
+named_fits first ps id is = omega (arith, is.identifier, id_fits first is.place)
+
+abbrev pub IsWish : ℕ → List ℕ → Sending → Type 0
+IsWish first ps sends.Status = Unit {0}
+IsWish first ps (sends.Resend id) = IsNamed first ps id
+IsWish first ps (sends.Control place id) = (has place ps ≡ true) × (id ≡ identifier_at first place)
+
+pub record IsWanted (first : ℕ) (os : List OpenPlace) (w : Wanted) : Type 0 where
+  pub same : places w.open_places ≡ places os
+  pub wish : IsWish first (places os) w.send
+
+abbrev pub IsWantedOr : ℕ → List OpenPlace → Option Wanted → Type 0
+IsWantedOr first os None = Unit {0}
+IsWantedOr first os (Some w) = IsWanted first os w
+
+pub has_later : (place p : ℕ) (ps : List ℕ) → has place ps ≡ true → has place (p ∷ ps) ≡ true
+has_later place p ps there = elim (p == place) as (λ b. (b || has place ps) ≡ true) [ true ↦ refl | false ↦ there ]
+
+pub has_first : (place : ℕ) (ps : List ℕ) → has place (place ∷ ps) ≡ true
+has_first place ps = rw (eq-eqb place place refl) refl
+
+wish_later : (first p : ℕ) (ps : List ℕ) (s : Sending) → IsWish first ps s → IsWish first (p ∷ ps) s
+wish_later first p ps sends.Status is = tt
+wish_later first p ps (sends.Resend id) is =
+    record { place = is.place; there = has_later is.place p ps is.there; identifier = is.identifier }
+wish_later first p ps (sends.Control place id) is = (has_later place p ps is.0, is.1)
+
+wanted_later : (first : ℕ) (o : OpenPlace) (os : List OpenPlace) (r : Option Wanted) → IsWantedOr first os r
+    → IsWantedOr first (o ∷ os) (after_open o r)
+wanted_later first o os None is = tt
+wanted_later first o os (Some w) is = record {
+  same = ap (λ (ps : List ℕ). o.place ∷ ps) is.same;
+  wish = wish_later first o.place (places os) w.send is.wish;
+}
+
+pub wanted_is : (first : ℕ) (os : List OpenPlace) → IsWantedOr first os (wanted first os)
+wanted_is first [] = tt
+wanted_is first (o ∷ os) = either (IsWantedOr first (o ∷ os)) o.resend _ _
+    (λ _. record {
+      same = refl;
+      wish = record { place = o.place; there = has_first o.place (places os); identifier = refl };
+    })
+    (λ _. either (IsWantedOr first (o ∷ os)) o.control _ _
+    (λ _. record { same = refl; wish = (has_first o.place (places os), refl) })
+    (λ _. wanted_later first o os _ (wanted_is first os)))
+
+-- ---- fates
+
+-- the tag of the body at a place that was sent
+pub tagged : (sent : List Offered) (place : ℕ) → 1 ≤ place → place ≤ length sent
+    → IsTagged sent (tag_of (at_place sent place)) place
+tagged sent place one within =
+    let x = at_exists sent place one within in
+    record { offered = x.0; at = x.1; tag_is = ap tag_of (sym x.1) }
+
+pub all_inserted : (P : ℕ × Fate → Type 0) (place : ℕ) (new : ℕ × Fate) (fates : List (ℕ × Fate)) → P new
+    → AllByRecursion P fates → AllByRecursion P (insert_fate place new fates)
+all_inserted P place new [] is all = (is, tt)
+all_inserted P place new (f ∷ fs) is all = either (AllByRecursion P) (goes_before place f.1) _ _
+    (λ _. (is, all))
+    (λ _. (all.0, all_inserted P place new fs is all.1))
+
+-- what holds of each time-out holds after a give-up
+pub all_timed_out : (P : ℕ × Fate → Type 0) (from rounds : ℕ) (sent : List Offered) (os : List OpenPlace)
+    (fates : List (ℕ × Fate))
+    → ((place : ℕ) → 1 ≤ place → place ≤ length sent → P (tag_of (at_place sent place), TimedOut place rounds))
+    → 1 ≤ from → AreRising from (length sent + 1) (places os) → AllByRecursion P fates
+    → AllByRecursion P (time_out rounds sent os fates)
+all_timed_out P from rounds sent [] fates late one rising all = all
+all_timed_out P from rounds sent (o ∷ os) fates late one rising all =
+    let under = rising_end (o.place + 1) (length sent + 1) (places os) rising.1 in
+    let new = late o.place (omega (arith, rising.0)) (omega arith) in
+    all_timed_out P (o.place + 1) rounds sent os _ late (omega arith) rising.1
+    (either (AllByRecursion P) o.waited _ _
+    (λ _. all_inserted P o.place (tag_of (at_place sent o.place), TimedOut o.place rounds) fates new all)
+    (λ _. all))
+
+pub all_unsent : (P : ℕ × Fate → Type 0) (queue : List Offered) → ((tag : ℕ) → P (tag, Unsent))
+    → AllByRecursion P (map unsent queue)
+all_unsent P [] is = tt
+all_unsent P (o ∷ os) is = (is o.tag, all_unsent P os is)
+
 module _ (below : Below) where
-  -- ---- places under the hub's events
-
-  pub places_without : (place : ℕ) (os : List OpenPlace) → places (without place os) ≡ less place (places os)
-  places_without place [] = refl
-  places_without place (o ∷ os) = elim (o.place == place)
-      as (λ b. places (cond b os (o ∷ without place os)) ≡ cond b (places os) (o.place ∷ less place (places os))) [
-        | true ↦ refl
-        | false ↦ ap (λ (ps : List ℕ). o.place ∷ ps) (places_without place os)
-      ]
-
-  pub recover_place : (e : ℕ) (o : OpenPlace) → (recover e o).place ≡ o.place
-  recover_place e o = either (λ (x : OpenPlace). x.place ≡ o.place) (nat_lt o.place e) _ _ (λ _. refl) (λ _. refl)
-
   pub record IsFound (first id : ℕ) (os : List OpenPlace) (o : OpenPlace) : Type 0 where
     pub there : has o.place (places os) ≡ true
     pub named : identifier_at first o.place ≡ id
@@ -84,41 +172,6 @@ module _ (below : Below) where
   open_found first id (o ∷ os) = either (IsFoundOr first id (o ∷ os)) (identifier_at first o.place == id) _ _
       (λ e. record { there = rw (eq-eqb o.place o.place refl) refl; named = eqb-true _ _ e })
       (λ _. found_later first id o os _ (open_found first id os))
-
-  -- ---- fates
-
-  -- the tag of the body at a place that was sent
-  pub tagged : (sent : List Offered) (place : ℕ) → 1 ≤ place → place ≤ length sent
-      → IsTagged sent (tag_of (at_place sent place)) place
-  tagged sent place one within =
-      let x = at_exists sent place one within in
-      record { offered = x.0; at = x.1; tag_is = ap tag_of (sym x.1) }
-
-  fate_inserted : (sent : List Offered) (answers : List (List ℕ)) (place : ℕ) (new : ℕ × Fate) (fates : List (ℕ × Fate))
-      → IsRightFate sent answers new → AreRight sent answers fates → AreRight sent answers (insert_fate place new fates)
-  fate_inserted sent answers place new [] is all = (is, tt)
-  fate_inserted sent answers place new (f ∷ fs) is all = either (AreRight sent answers) (goes_before place f.1) _ _
-      (λ _. (is, all))
-      (λ _. (all.0, fate_inserted sent answers place new fs is all.1))
-
-  timed_out : (from : ℕ) (answers : List (List ℕ)) (rounds : ℕ) (sent : List Offered) (os : List OpenPlace)
-      (fates : List (ℕ × Fate)) → 1 ≤ from → AreRising from (length sent + 1) (places os)
-      → AreRight sent answers fates → AreRight sent answers (time_out rounds sent os fates)
-  timed_out from answers rounds sent [] fates one rising all = all
-  timed_out from answers rounds sent (o ∷ os) fates one rising all =
-      let under = rising_end (o.place + 1) (length sent + 1) (places os) rising.1 in
-      let new : IsRightFate sent answers (tag_of (at_place sent o.place), TimedOut o.place rounds) =
-      tagged sent o.place (omega (arith, rising.0)) (omega arith) in
-      timed_out (o.place + 1) answers rounds sent os _ (omega arith) rising.1
-      (either (AreRight sent answers) o.waited _ _
-      (λ _. fate_inserted sent answers o.place (tag_of (at_place sent o.place), TimedOut o.place rounds) fates new
-      all)
-      (λ _. all))
-
-  unsent_right : (sent : List Offered) (answers : List (List ℕ)) (queue : List Offered)
-      → AreRight sent answers (map unsent queue)
-  unsent_right sent answers [] = tt
-  unsent_right sent answers (o ∷ os) = (tt, unsent_right sent answers os)
 
   -- ---- events that leave the places
 
@@ -150,10 +203,10 @@ module _ (below : Below) where
       (want_status w.hub) (give_up w.hub)
       (λ _. same_places _ _ _ _ _ _ _ _ _ _ _ _ refl is.queued_bodies is.waiting_fates is)
       (λ _. same_places _ _ _ _ _ _ _ _ _ _ _ _ (places_map abandoned w.hub.open_places (λ _. refl)) tt
-      (AllByRecursion-append _ _ _ (timed_out (least (places w.hub.open_places) (length w.hub.sent + 1))
-      (replies w.board) w.hub.rounds w.hub.sent w.hub.open_places w.hub.fates is.hub.from_one is.hub.rising
-      is.waiting_fates)
-      (unsent_right w.hub.sent (replies w.board) w.hub.queue)) is)
+      (AllByRecursion-append _ _ _ (all_timed_out (IsRightFate w.hub.sent (replies w.board))
+      (least (places w.hub.open_places) (length w.hub.sent + 1)) w.hub.rounds w.hub.sent w.hub.open_places
+      w.hub.fates (tagged w.hub.sent) is.hub.from_one is.hub.rising is.waiting_fates)
+      (all_unsent (IsRightFate w.hub.sent (replies w.board)) w.hub.queue (λ _. tt))) is)
 
   recovered_holds : (w : World) (e : Option ℕ) → IsSound w → IsSound (with_hub w (recovered w.hub e))
   recovered_holds w None is = is
@@ -197,7 +250,7 @@ module _ (below : Below) where
         node = is.node;
         said = is.said;
         waiting_fates = either (AreRight w.hub.sent (replies w.board)) o.waited _ _
-            (λ _. fate_inserted w.hub.sent (replies w.board) o.place
+            (λ _. all_inserted (IsRightFate w.hub.sent (replies w.board)) o.place
             (tag, Replied o.place words) w.hub.fates new is.waiting_fates)
             (λ _. is.waiting_fates);
         told_fates = is.told_fates;
@@ -218,44 +271,6 @@ module _ (below : Below) where
       (open_found w.hub.first id w.hub.open_places) alive said
 
   -- ---- sends
-
-  abbrev pub IsWish : ℕ → List ℕ → Sending → Type 0
-  IsWish first ps sends.Status = Unit {0}
-  IsWish first ps (sends.Resend id) = id < 2 ^ 16
-  IsWish first ps (sends.Control place id) = (has place ps ≡ true) × (id ≡ identifier_at first place)
-
-  pub record IsWanted (first : ℕ) (os : List OpenPlace) (w : Wanted) : Type 0 where
-    pub same : places w.open_places ≡ places os
-    pub wish : IsWish first (places os) w.send
-
-  abbrev pub IsWantedOr : ℕ → List OpenPlace → Option Wanted → Type 0
-  IsWantedOr first os None = Unit {0}
-  IsWantedOr first os (Some w) = IsWanted first os w
-
-  wish_later : (first p : ℕ) (ps : List ℕ) (s : Sending) → IsWish first ps s → IsWish first (p ∷ ps) s
-  wish_later first p ps sends.Status is = tt
-  wish_later first p ps (sends.Resend id) is = is
-  wish_later first p ps (sends.Control place id) is = (
-    elim (p == place) as (λ b. (b || has place ps) ≡ true)
-        [ true ↦ refl | false ↦ is.0 ],
-    is.1,
-  )
-
-  wanted_later : (first : ℕ) (o : OpenPlace) (os : List OpenPlace) (r : Option Wanted) → IsWantedOr first os r
-      → IsWantedOr first (o ∷ os) (after_open o r)
-  wanted_later first o os None is = tt
-  wanted_later first o os (Some w) is = record {
-    same = ap (λ (ps : List ℕ). o.place ∷ ps) is.same;
-    wish = wish_later first o.place (places os) w.send is.wish;
-  }
-
-  pub wanted_is : (first : ℕ) (os : List OpenPlace) → IsWantedOr first os (wanted first os)
-  wanted_is first [] = tt
-  wanted_is first (o ∷ os) = either (IsWantedOr first (o ∷ os)) o.resend _ _
-      (λ _. record { same = refl; wish = id_fits first o.place })
-      (λ _. either (IsWantedOr first (o ∷ os)) o.control _ _
-      (λ _. record { same = refl; wish = (rw (eq-eqb o.place o.place refl) refl, refl) })
-      (λ _. wanted_later first o os _ (wanted_is first os)))
 
   abbrev pub IsSendSound : World → Option Next → Type 0
   IsSendSound w None = Unit {0}
@@ -297,7 +312,7 @@ module _ (below : Below) where
   wish_said w sends.Status is wish = subst (IsSaidToBoard w.hub.first (bodies_of w.hub.sent) (length w.hub.sent))
       (sym (request_read below)) tt
   wish_said w (sends.Resend id) is wish = subst (IsSaidToBoard w.hub.first (bodies_of w.hub.sent) (length w.hub.sent))
-      (sym (resend_read below id wish)) tt
+      (sym (resend_read below id (named_fits w.hub.first (places w.hub.open_places) id wish))) tt
   wish_said w (sends.Control place id) is wish =
       let ps = places w.hub.open_places in
       let sent = length w.hub.sent in

@@ -1,17 +1,17 @@
-mod Lists
-mod Places
+pub mod Lists
+pub mod Places
 mod Readings
 mod Replies
 mod Boards
-mod Hubs
+pub mod Hubs
 mod Worlds
 mod Histories
 mod Links
 mod Kept
 mod Grammar
 mod Greetings
-mod Flushing
+pub mod Flushing
 mod Waiting
-mod Accounts
+pub mod Accounts
 mod Patience
 mod Bodies

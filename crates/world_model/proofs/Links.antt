@@ -1,46 +1,42 @@
 -- A hub and a link that tells stay joined.
-use Rattle.std.proofs.Common.{◌≡◌, ℕ, zero, suc, ◌+◌, ◌-◌, ◌<◌, ◌≤◌, ◌^◌, Bool, true, false, cond, ◌==◌, List, [], ◌∷◌}
-use Rattle.std.proofs.Common.{◌++◌, length, map, Option, Some, None, refl, sym, ap, ◌∙◌, subst, arith, length-append}
-use Rattle.std.proofs.Common.{add-one, inl, inr, if◌then◌else◌}
-use Rattle.std.specs.Prelude.{nat_lt, nat_le, min, IfSome}
-use Rattle.std.proofs.lemmas.Bool.{eqb-true, eq-eqb, leb-true}
+use Rattle.std.proofs.Common.{◌≡◌, ℕ, ◌+◌, true, false, ◌==◌, List, [], ◌∷◌}
+use Rattle.std.proofs.Common.{◌++◌, length, Option, Some, None, refl, sym, ap, ◌∙◌, subst, arith}
+use Rattle.std.proofs.Common.{inl, inr, if◌then◌else◌}
+use Rattle.std.specs.Prelude.{nat_le, min, IfSome}
+use Rattle.std.proofs.lemmas.Bool.{eq-eqb, leb-true}
 use Rattle.std.proofs.lemmas.Bool.Decides.{eqb_tells}
-use Rattle.std.proofs.lemmas.List.{length-map, length_push, append-nil}
+use Rattle.std.proofs.lemmas.List.{length_push, append-nil}
 use Rattle.std.specs.List.{AllByRecursion, slice_get}
-use Rattle.packet_ids.specs.Identifier.{identifier_at, IsIdentifier}
-use Rattle.packet_codec.specs.declared.packet.Order.{Order}
+use Rattle.packet_ids.specs.Identifier.{identifier_at}
 use Rattle.packet_codec.specs.declared.packet.Order.TheVariants.{Big}
-use Rattle.packet_codec.specs.declared.packet.Packet.{Packet}
-use Rattle.packet_codec.specs.Packet.{packet_bytes}
 use Rattle.world_model.specs.declared.datagram.Datagram.{Datagram}
 use Rattle.world_model.specs.declared.datagram.Direction.{Direction}
 use Rattle.world_model.specs.declared.datagram.Direction.TheVariants as goes
-use Rattle.world_model.specs.declared.heard.LogEntry.{LogEntry}
 use Rattle.world_model.specs.declared.offered.Offered.{Offered}
 use Rattle.world_model.specs.declared.offered.OpenPlace.{OpenPlace}
 use Rattle.world_model.specs.declared.offered.Fate.{Fate}
 use Rattle.world_model.specs.declared.sending.Sending.{Sending}
 use Rattle.world_model.specs.declared.sending.Sending.TheVariants as sends
 use Rattle.world_model.specs.Places.{at_place}
-use Rattle.world_model.specs.Messages.{ToBoard, ToHub, StatusRequest, ResendRequest, ControlPacket, StatusReply, Reply}
-use Rattle.world_model.specs.Messages.{control_packet, to_board, to_hub}
-use Rattle.world_model.specs.Board.{Board, Hearing, expected, held, with_id, is_too_long, send_again, hear_control}
-use Rattle.world_model.specs.Board.{hear_message, hear, executed, replies}
-use Rattle.world_model.specs.Hub.{Hub, low, words_of, offer, open_with, settle, hear_reply, recovered, told_place}
-use Rattle.world_model.specs.Hub.{hear_status, take_message, want_status, give_up, hear_quiet, new_hub, places, least}
+use Rattle.world_model.specs.Messages.{ToBoard, StatusRequest, ResendRequest, ControlPacket}
+use Rattle.world_model.specs.Messages.{to_board, to_hub}
+use Rattle.world_model.specs.Board.{Board, Hearing, expected, held, with_id, is_too_long, send_again}
+use Rattle.world_model.specs.Board.{hear_message, hear, replies}
+use Rattle.world_model.specs.Hub.{Hub, low, words_of, offer}
+use Rattle.world_model.specs.Hub.{take_message, hear_quiet, new_hub, places, least}
 use Rattle.world_model.specs.Sends.{Next, Wanted, wanted, first_send, wanted_or_first, next_send, bytes_to_send}
-use Rattle.world_model.specs.Air.{LIFETIME, is_alive, goes_to}
-use Rattle.world_model.specs.World.{World, sent_into, with_hub, answered, board_hears}
+use Rattle.world_model.specs.Air.{is_alive, goes_to}
+use Rattle.world_model.specs.World.{World, answered}
 use Rattle.world_model.specs.Facts.{IsSound, Holds, IsSendable, AreSendable, IsStart, IsSaid, IsGreeting, IsGreetingOf}
 use Rattle.world_model.specs.Facts.{AreRight, bodies_of, has}
-use Rattle.world_model.specs.Links.{Told, IsHeard, IsHanded, IsHandedAt, is_first_message, is_first_send}
+use Rattle.world_model.specs.Links.{Told, IsHeard, IsHanded, is_first_message, is_first_send}
 use Rattle.world_model.specs.Links.{first_sends_from, first_sends, birth_of, sent_on, heard_on, heard_by, then_told}
 use Rattle.world_model.specs.Links.{hears_all, together, IsJoined}
 use Rattle.world_model.proofs.Lists.{at_seam, at_exists, either, all_get}
 use Rattle.world_model.proofs.Places.{has_from, has_below, one_place, id_fits}
 use Rattle.world_model.proofs.Readings.{control_read, request_read, resend_read}
-use Rattle.world_model.proofs.Hubs.{offer_holds, quiet_holds, send_holds, IsSendSound, IsWish, IsWanted, IsWantedOr}
-use Rattle.world_model.proofs.Hubs.{wanted_is, sendable_at}
+use Rattle.world_model.proofs.Hubs.{offer_holds, quiet_holds, send_holds, IsSendSound, IsWish, IsWantedOr}
+use Rattle.world_model.proofs.Hubs.{named_fits, wanted_is, sendable_at}
 use Rattle.world_model.proofs.Kept.{message_sent, quiet_sent}
 use Rattle.world_model.proofs.Worlds.{board_goes_on, IsTaken, hub_heard, start_holds, same_way}
 use Rattle.world_model.specs.Below.{Below}
@@ -76,11 +72,11 @@ module _ (below : Below) where
   IsCounted w (Some n) = (if is_first_send w.hub.first (length w.hub.sent) goes.ToBoard
       (bytes_to_send n.hub n.send) then length w.hub.sent + 1 else length w.hub.sent) ≡ length n.hub.sent
 
-  wish_counted : (w : World) (s : Sending) → IsSound w → IsWish below w.hub.first (places w.hub.open_places) s
+  wish_counted : (w : World) (s : Sending) → IsSound w → IsWish w.hub.first (places w.hub.open_places) s
       → is_first_send w.hub.first (length w.hub.sent) goes.ToBoard (bytes_to_send w.hub s) ≡ false
   wish_counted w sends.Status is wish = ap (is_first_message w.hub.first (length w.hub.sent)) (request_read below)
   wish_counted w (sends.Resend id) is wish = ap (is_first_message w.hub.first (length w.hub.sent))
-      (resend_read below id wish)
+      (resend_read below id (named_fits w.hub.first (places w.hub.open_places) id wish))
   wish_counted w (sends.Control place id) is wish =
       let ps = places w.hub.open_places in
       let sent = length w.hub.sent in
@@ -119,7 +115,7 @@ module _ (below : Below) where
   open_bytes h os (sends.Resend id) = refl
   open_bytes h os (sends.Control place id) = refl
 
-  wanted_counted : (w : World) (r : Option Wanted) → IsSound w → IsWantedOr below w.hub.first w.hub.open_places r
+  wanted_counted : (w : World) (r : Option Wanted) → IsSound w → IsWantedOr w.hub.first w.hub.open_places r
       → IsCounted w (wanted_or_first w.hub r)
   wanted_counted w None is want = first_counted w w.hub.queue is.queued_bodies
   wanted_counted w (Some x) is want =
@@ -131,7 +127,7 @@ module _ (below : Below) where
   send_counted w is = either (IsCounted w) w.hub.status_wanted _ _
       (λ _. not_counted w (record { send = sends.Status; hub = record w.hub { status_wanted = false } })
       (wish_counted w sends.Status is tt) refl)
-      (λ _. wanted_counted w (wanted w.hub.first w.hub.open_places) is (wanted_is below w.hub.first w.hub.open_places))
+      (λ _. wanted_counted w (wanted w.hub.first w.hub.open_places) is (wanted_is w.hub.first w.hub.open_places))
 
   -- ---- a receive: the board hears some datagrams
 

@@ -8,7 +8,8 @@ use Rattle.world_model.specs.Hub.{Hub}
 use Rattle.world_model.specs.Sends.{first_send, wanted}
 use Rattle.reliable_engine.specs.Steps.{places_wanted, sending_of}
 use Rattle.reliable_engine.specs.View.{Keeps, hub_of}
-use Rattle.reliable_engine.proofs.Places.{all_named, wanted_is}
+use Rattle.world_model.proofs.Hubs.{wanted_is}
+use Rattle.reliable_engine.proofs.Places.{all_named}
 use Rattle.reliable_engine.proofs.Keeping.{keeps_wanted, places_wanted_length}
 use Rattle.reliable_engine.proofs.Hubs.{not_quiet, nothing, nothing_wanted, sendable}
 use Rattle.reliable_engine.proofs.engine.Engine.next_send.Goals as goal

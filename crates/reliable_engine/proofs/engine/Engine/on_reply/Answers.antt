@@ -1,15 +1,14 @@
-use Rattle.std.proofs.Common.{◌≡◌, ◌∙◌, ◌+◌, ℕ, Bool, List, Some, cond, length, ap, sym, subst, refl, arith}
-use Rattle.world_model.specs.declared.offered.OpenPlace.{OpenPlace}
+use Rattle.std.proofs.Common.{◌≡◌, ◌∙◌, ◌+◌, ℕ, Bool, Some, cond, ap, sym, subst, refl, arith}
 use Rattle.world_model.specs.declared.offered.Offered.{Offered}
 use Rattle.world_model.specs.declared.offered.Fate.TheVariants.{Replied}
 use Rattle.world_model.specs.Places.{at_place}
 use Rattle.world_model.specs.Hub.{Hub, hear_reply, insert_fate, open_with, tag_of, without}
 use Rattle.reliable_engine.specs.Answers.{NamesOpenPlace}
 use Rattle.reliable_engine.specs.Steps.{places_after, waits}
-use Rattle.reliable_engine.specs.View.{Keeps, hub_of}
+use Rattle.reliable_engine.specs.View.{hub_of}
 use Rattle.reliable_engine.proofs.Places.{all_named}
-use Rattle.reliable_engine.proofs.Keeping.{found, keeps_less}
-use Rattle.reliable_engine.proofs.Hubs.{at_front_of, fates_waited, found_sent, names, names_none, settle_is}
+use Rattle.reliable_engine.proofs.Keeping.{found}
+use Rattle.reliable_engine.proofs.Hubs.{at_front_of, fates_waited, found_sent, names, names_none, reply_keeps, settle_is}
 use Rattle.reliable_engine.proofs.engine.Engine.on_reply.Goals as goal
 
 pub take_open-requires : goal.take_open-requires
@@ -56,35 +55,17 @@ put_fate-requires c =
 
 pub invariant_of-self-then-settled : goal.invariant_of-self-then-settled
 invariant_of-self-then-settled c =
-    let i = c.self.inside in
-    let os = i.open_places.items in
-    let o = c.in-Some.settled in
-    let told : open_with i.first c.args.id os ≡ Some o = sym c.take_open.ensures.found ∙ c.in-Some.is in
-    let gone = (found i.first c.args.id os o told).gone in
-    let after : c.take_open.new.places.items ≡ without o.place os =
-    c.take_open.ensures.after ∙ ap (places_after os) c.in-Some.is in
-    subst (λ (ps : List OpenPlace). Keeps i.first i.window i.sent (length i.bodies.items) ps c.take_open.new.places.cap
-    c.put_fate.new.fates.len c.put_fate.new.fates.cap)
-    (sym after)
-    (rw c.take_open.ensures.capacity (keeps_less i.first i.window i.sent (length i.bodies.items) os o
-    i.open_places.cap i.fates.len i.fates.cap c.put_fate.new.fates.len c.put_fate.new.fates.cap c.self.invariant
-    gone (rw c.if-settled.true (omega (arith, c.put_fate.ensures.len))) c.put_fate.ensures.capacity))
+    reply_keeps c.self.inside c.args.id c.in-Some.settled c.take_open.result c.take_open.new.places.items
+    c.take_open.new.places.cap c.put_fate.new.fates.len c.put_fate.new.fates.cap c.self.invariant
+    c.take_open.ensures.found c.in-Some.is c.take_open.ensures.after c.take_open.ensures.capacity
+    (rw c.if-settled.true (omega (arith, c.put_fate.ensures.len))) c.put_fate.ensures.capacity
 
 pub invariant_of-self-else-settled : goal.invariant_of-self-else-settled
 invariant_of-self-else-settled c =
     let i = c.self.inside in
-    let os = i.open_places.items in
-    let o = c.in-Some.settled in
-    let told : open_with i.first c.args.id os ≡ Some o = sym c.take_open.ensures.found ∙ c.in-Some.is in
-    let gone = (found i.first c.args.id os o told).gone in
-    let after : c.take_open.new.places.items ≡ without o.place os =
-    c.take_open.ensures.after ∙ ap (places_after os) c.in-Some.is in
-    subst (λ (ps : List OpenPlace). Keeps i.first i.window i.sent (length i.bodies.items) ps c.take_open.new.places.cap
-    i.fates.len i.fates.cap)
-    (sym after)
-    (rw c.take_open.ensures.capacity (keeps_less i.first i.window i.sent (length i.bodies.items) os o
-    i.open_places.cap i.fates.len i.fates.cap i.fates.len i.fates.cap c.self.invariant gone (omega arith)
-    (omega arith)))
+    reply_keeps i c.args.id c.in-Some.settled c.take_open.result c.take_open.new.places.items
+    c.take_open.new.places.cap i.fates.len i.fates.cap c.self.invariant c.take_open.ensures.found c.in-Some.is
+    c.take_open.ensures.after c.take_open.ensures.capacity (omega arith) (omega arith)
 
 pub returns-then-settled-clause-hub : goal.returns-then-settled-clause-hub
 returns-then-settled-clause-hub c =

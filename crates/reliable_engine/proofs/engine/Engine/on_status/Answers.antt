@@ -3,7 +3,7 @@ use Rattle.std.proofs.lemmas.List.{with_items_is, length-map}
 use Rattle.world_model.specs.declared.offered.OpenPlace.{OpenPlace}
 use Rattle.world_model.specs.Hub.{Hub, recover}
 use Rattle.reliable_engine.specs.View.{Keeps}
-use Rattle.reliable_engine.proofs.Places.{places_map, recover_place}
+use Rattle.world_model.proofs.Hubs.{places_map, recover_place}
 use Rattle.reliable_engine.proofs.Keeping.{keeps_same, waits_map, recover_waits}
 use Rattle.reliable_engine.proofs.Hubs.{tells, tells_none}
 use Rattle.reliable_engine.proofs.engine.Engine.on_status.Goals as goal
@@ -22,7 +22,7 @@ invariant_of-self c =
     (sym (with_items_is i.open_places c.recover_all.new.places len ∙ after))
     (keeps_same i.first i.window i.sent (length i.bodies.items) os (map (recover told) os) i.open_places.cap
     i.fates.len i.fates.cap c.self.invariant (places_map (recover told) os (recover_place told))
-    (waits_map (recover told) os (recover_waits told)))
+    (waits_map (recover told) os (recover_place told) (recover_waits told)))
 
 pub returns-in-Some-clause-taken : goal.returns-in-Some-clause-taken
 returns-in-Some-clause-taken c =
