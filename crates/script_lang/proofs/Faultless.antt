@@ -1,5 +1,5 @@
 -- Arrays whose items have no fault.
-use Rattle.std.proofs.Common.{◌≡◌, ℕ, ◌+◌, [], ◌∷◌, true, refl}
+use Rattle.std.proofs.Common.{◌≡◌, ℕ, ◌+◌, [], true, refl}
 use Rattle.std.specs.List.{AllByRecursion}
 use Rattle.std.specs.Option.{is_some}
 use Rattle.toml.specs.Data.{Items, no_items, item, as_str}

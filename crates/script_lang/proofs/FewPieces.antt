@@ -1,10 +1,11 @@
--- The operations of scripts without faults are cut into few pieces.
-use Rattle.std.proofs.Common.{◌≡◌, inl, inr, ℕ, ◌+◌, ◌≤◌, ◌==◌, Bool, true, false, if◌then◌else◌, List, [], ◌∷◌, ◌++◌, length, sum_by, Option, Some, None, Ok, Err, refl, sym, ap, ◌∙◌, subst, arith}
+-- Scripts without faults have few lines, and their operations are cut into few pieces.
+use Rattle.std.proofs.Common.{◌≡◌, inl, inr, ℕ, ◌+◌, ◌≤◌, ◌==◌, Bool, true, false, if◌then◌else◌, List, [], ◌∷◌, ◌++◌, length, sum_by, Option, Some, None, Ok, Err, refl, sym, ap, ◌∙◌, subst, arith, suc}
 use Rattle.std.specs.List.{AllByRecursion, filter_map, flat_map}
 use Rattle.std.specs.Option.{option_map_or}
 use Rattle.std.proofs.lemmas.Bool.Decides.{nat_tests}
 use Rattle.std.proofs.lemmas.List.{append_assoc, append-nil}
 use Rattle.std.proofs.lemmas.List.Sums.{sum_by-append}
+use Rattle.std.proofs.Math.ListN.{length-append}
 use Rattle.board_node.specs.declared.spec.BoardSpec.{BoardSpec}
 use Rattle.mtu_packer.proofs.Pieces.{pieces-le}
 use Rattle.node_tree.specs.Maps.{RegisterMap}
@@ -20,7 +21,7 @@ use Rattle.script_lang.specs.declared.operation.Step.TheVariants.{Do, Dispatch}
 use Rattle.script_lang.specs.declared.operation.Verb.{Verb}
 use Rattle.script_lang.specs.declared.operation.Verb.TheVariants.{Read, Write, ReadBlock, WriteBlock, RmwBits, RmwSum}
 use Rattle.script_lang.specs.declared.script_refusal.ScriptWhy.{ScriptWhy}
-use Rattle.script_lang.specs.declared.script_refusal.TheConstants.{MAX_OPERATIONS, MAX_BLOCK_WORDS}
+use Rattle.script_lang.specs.declared.script_refusal.TheConstants.{MAX_LINES, MAX_OPERATIONS, MAX_BLOCK_WORDS}
 use Rattle.script_lang.specs.declared.tally.Tally.{Tally}
 use Rattle.script_lang.specs.Lines.{takes, command_of, words}
 use Rattle.script_lang.specs.Operations.{is_full, op_on, write_op, use_rules, by_rules, board_from, register_at, use_at, use_on, as_step, step_of, meaning}
@@ -107,8 +108,22 @@ selection-le (op ∷ ops) (x ∷ all) (inr is) =
 op_more : (op : Op) (ops : List Op) → sum_by op_count (op ∷ ops) ≡ op_count op + sum_by op_count ops
 op_more op ops = omega (arith, sum_by-append op_count (op ∷ []) ops)
 
-within-tally : (tally : Tally) → is_over tally ≡ false → (tally.operations ≤ MAX_OPERATIONS) × (tally.words ≤ MAX_BLOCK_WORDS)
-within-tally tally h = (grind (arith, nat_tests), grind (arith, nat_tests))
+record IsWithin (tally : Tally) : Type 0 where
+  lines : tally.lines ≤ MAX_LINES
+  operations : tally.operations ≤ MAX_OPERATIONS
+  words : tally.words ≤ MAX_BLOCK_WORDS
+
+within-tally : (tally : Tally) → is_over tally ≡ false → IsWithin tally
+within-tally tally h = record { lines = grind (arith, nat_tests); operations = grind (arith, nat_tests); words = grind (arith, nat_tests) }
+
+kept-more : {X Y : Type 0} (f : X → Option Y) (x : X) (xs : List X) (o : Option Y) → f x ≡ o → length (filter_map f xs) ≤ length xs
+    → length (filter_map f (x ∷ xs)) ≤ length (x ∷ xs)
+kept-more f x xs None is rest = rw is (omega (arith, rest))
+kept-more f x xs (Some y) is rest = rw is (omega (arith, rest))
+
+kept-length : {X Y : Type 0} (f : X → Option Y) (xs : List X) → length (filter_map f xs) ≤ length xs
+kept-length f [] = omega arith
+kept-length f (x ∷ xs) = kept-more f x xs (f x) refl (kept-length f xs)
 
 module _ (boards : List BoardSpec) (indexes : List RegisterMap) where
   abbrev steps_in : List ScriptLine → List Step
@@ -189,7 +204,26 @@ module _ (boards : List BoardSpec) (indexes : List RegisterMap) where
         each_few (client + 1) scripts (omega (arith, ops, ops_both)) (omega (arith, words, words_both)),
       )
 
+  within : (scripts : List (List (List ℕ))) → script_faults boards indexes scripts ≡ [] → IsWithin (tally_of boards indexes (all_lines 1 scripts))
+  within scripts none = within-tally (tally_of boards indexes (all_lines 1 scripts)) (all_within [] (all_lines 1 scripts) refl none)
+
   pub few_pieces : (scripts : List (List (List ℕ))) → script_faults boards indexes scripts ≡ [] → AllByRecursion HaveFewPieces (steps_of boards indexes scripts)
-  few_pieces scripts none =
-      let both = within-tally (tally_of boards indexes (all_lines 1 scripts)) (all_within [] (all_lines 1 scripts) refl none) in
-      each_few 1 scripts both.0 both.1
+  few_pieces scripts none = let limits = within scripts none in each_few 1 scripts limits.operations limits.words
+
+  same_length : (client other number : ℕ) (texts : List (List ℕ)) → length (lines_from client number texts) ≡ length (lines_from other number texts)
+  same_length client other number [] = refl
+  same_length client other number (text ∷ texts) = ap suc (same_length client other (number + 1) texts)
+
+  each_short : (client : ℕ) (scripts : List (List (List ℕ))) → length (all_lines client scripts) ≤ MAX_LINES
+      → AllByRecursion (λ steps. length steps ≤ MAX_LINES) (steps_of boards indexes scripts)
+  each_short client [] lines = tt
+  each_short client (script ∷ scripts) lines =
+      let both = length-append (lines_from client 1 script) (all_lines (client + 1) scripts) in
+      let same = same_length client 1 1 script in
+      let kept = kept-length (λ line. step_in boards indexes (line_meaning boards indexes line)) (lines_from 1 1 script) in
+      (omega (arith, lines, both, same, kept), each_short (client + 1) scripts (omega (arith, lines, both)))
+
+  -- no client has more steps than all have lines
+  pub short_steps : (scripts : List (List (List ℕ))) → script_faults boards indexes scripts ≡ []
+      → AllByRecursion (λ steps. length steps ≤ MAX_LINES) (steps_of boards indexes scripts)
+  short_steps scripts none = each_short 1 scripts (within scripts none).lines

@@ -9,6 +9,7 @@ ghost use Rattle.script_lang.specs.Operations as op;
 ghost use Rattle.script_lang.specs.Scripts as spec;
 ghost use Rattle.script_lang.specs.Tallies.{line_run, run_from, run_all, nothing, StopsAs};
 ghost use Rattle.script_lang.specs.declared.refusal.TheConstants.{MAX_BOARDS, MAX_CLIENTS};
+ghost use Rattle.script_lang.specs.declared.script_refusal.TheConstants.{MAX_LINES};
 
 use crate::call::{Call, Command};
 use crate::command::command;
@@ -40,6 +41,7 @@ pub fn compile_scripts(
     // Each operation can be packed, whatever packets its board takes, and those of a client are few enough.
     ensures packed { IfOk result (λ all. AllByRecursion (AllByRecursion CanBePacked) all.items) }
     ensures few { IfOk result (λ all. AllByRecursion HaveFewPieces all.items) }
+    ensures short { IfOk result (λ all. AllByRecursion (λ steps. length steps ≤ MAX_LINES) all.items) }
 {
     let boards = session.boards.as_slice();
     let scripts = session.scripts.as_slice();

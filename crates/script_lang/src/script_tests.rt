@@ -2,7 +2,7 @@
 
 use super::*;
 use crate::tests::{BOARD, RANGES, TABLES};
-use node_tree::{Index, compile};
+use node_tree::compile;
 use std::alloc::Global;
 use std::test::*;
 use transaction_codec::{Op, put_request};
@@ -12,14 +12,12 @@ const PORT: &str = "[[tables.main]]\nid = \"port\"\nmode = \"port\"\n";
 
 /// The steps of one client's script, given as the items of its array.
 fn steps_of(alloc: Global, script: &str) -> Result<Result<Vec<Steps>, ScriptRefusal>, Fail> {
-    let client = format!(in alloc; "[[client]]\nscript = [{script}]\n")?;
-    let text = format!(in alloc; "{TABLES}{PORT}{BOARD}{RANGES}{client}")?;
+    let client = "[[client]]\nscript = [";
+    let parts = [TABLES, PORT, BOARD, RANGES, client, script, "]\n"];
+    let text: String = parts.as_slice().concat(alloc)?;
     let session = read_session(alloc, text.as_bytes())?;
-    let mut indexes: Vec<Index> = Vec::new(alloc);
-    for board in session.boards.as_slice() {
-        indexes.push(compile(alloc, &session.tables, board.table.as_str())?)?;
-    }
-    Ok(compile_scripts(alloc, &session, indexes.as_slice()))
+    let index = compile(alloc, &session.tables, "main")?;
+    Ok(compile_scripts(alloc, &session, [index].as_slice()))
 }
 
 /// Appends the request of an operation.
@@ -134,23 +132,32 @@ fn words_are_counted_through_the_clients(rt: HostRuntime) -> Result<(), Fail> {
     Ok(())
 }
 
+/// Whether a step is the read of the register `a.top`, asked for by a line of this number.
+fn is_top_read(step: &Step, number: u32) -> bool {
+    match step {
+        Step::Do(
+            RegOp {
+                line,
+                verb: Verb::Read,
+                board: 0,
+                name,
+                mask: 0x8000_0000,
+                op: Op::Read { base: 8, count: 1 },
+            },
+        ) => *line == number && name.as_str() == "a.top",
+        _ => false,
+    }
+}
+
 #[test]
 fn the_steps_say_where_they_stand(rt: HostRuntime) -> Result<(), Fail> {
-    let script = "\"#\", \"read b0:a.top\", \"dispatch\"";
-    let clients = steps_of(rt.alloc(), script)??;
-    assert_eq!(rt; clients.len(), 1);
-    let steps = clients[0].as_slice();
-    assert_eq!(rt; steps.len(), 2);
-    match &steps[0] {
-        Step::Do(op) => {
-            assert_eq!(rt; op.line, 2);
-            assert_eq!(rt; op.verb, Verb::Read);
-            assert_eq!(rt; op.board, 0);
-            assert_eq!(rt; op.name.as_str(), "a.top");
-            assert_eq!(rt; op.mask, 0x8000_0000);
+    let clients = steps_of(rt.alloc(), "\"#\", \"read b0:a.top\", \"dispatch\"")??;
+    match clients.first().ok_or("no client")?.as_slice() {
+        [read, last] => {
+            assert!(rt; is_top_read(read, 2));
+            assert!(rt; matches!(last, Step::Dispatch));
         }
-        Step::Dispatch => Err("dispatch")?,
+        _ => Err("other steps")?,
     }
-    assert!(rt; matches!(&steps[1], Step::Dispatch));
     Ok(())
 }

@@ -40,6 +40,29 @@ base = 0x100
 size = 600
 "#;
 
+const UDP: &str = r#"
+board = [{ name = "u", table = "t", link = "udp", address = "10.0.255.1:50001" }]
+"#;
+
+const SIXTEEN_BOARDS: &str = r#"
+board = [
+  { name = "a", table = "t" }, { name = "b", table = "t" }, { name = "c", table = "t" }, { name = "d", table = "t" },
+  { name = "e", table = "t" }, { name = "f", table = "t" }, { name = "g", table = "t" }, { name = "h", table = "t" },
+  { name = "i", table = "t" }, { name = "j", table = "t" }, { name = "k", table = "t" }, { name = "l", table = "t" },
+  { name = "m", table = "t" }, { name = "n", table = "t" }, { name = "o", table = "t" }, { name = "p", table = "t" },
+]
+"#;
+
+const SEVENTEEN_BOARDS: &str = r#"
+board = [
+  { name = "a", table = "t" }, { name = "b", table = "t" }, { name = "c", table = "t" }, { name = "d", table = "t" },
+  { name = "e", table = "t" }, { name = "f", table = "t" }, { name = "g", table = "t" }, { name = "h", table = "t" },
+  { name = "i", table = "t" }, { name = "j", table = "t" }, { name = "k", table = "t" }, { name = "l", table = "t" },
+  { name = "m", table = "t" }, { name = "n", table = "t" }, { name = "o", table = "t" }, { name = "p", table = "t" },
+  { name = "q", table = "t" },
+]
+"#;
+
 const CLIENT: &str = r#"
 [[client]]
 script = ["read b0:sys.id"]
@@ -106,6 +129,18 @@ board = [{ name = "a", table = "" }, { name = "b", table = "" },
   { name = "b", table = "" }, { name = "a", table = "" }]
 "#;
 
+/// A faulty table before another one.
+const FAULTY_TABLES: &str = r#"
+tables.main = [{ id = "x", mask = 0 }]
+tables.a = 1
+board = [{ name = "b", table = "t" }]
+"#;
+
+const FAULTY_NODE: &str = r#"
+tables.main = [{ id = "x", mask = 0 }]
+board = [{ name = "b", table = "t" }]
+"#;
+
 /// Boards of one name, and a faulty table.
 const TWINS_AND_TABLE: &str = r#"
 tables.main = 1
@@ -114,7 +149,8 @@ board = [{ name = "a", table = "main" }, { name = "a", table = "main" }]
 
 /// The first document, with lines of its own at the top, in its board and after it.
 fn document(alloc: Global, top: &str, board: &str, end: &str) -> Result<String, Fail> {
-    Ok(format!(in alloc; "{top}{TABLES}{BOARD}{board}{RANGES}{CLIENT}{end}")?)
+    let parts = [top, TABLES, BOARD, board, RANGES, CLIENT, end];
+    Ok(parts.as_slice().concat(alloc)?)
 }
 
 /// How a refusal is printed, without its first word.
@@ -146,71 +182,102 @@ fn refused(alloc: Global, text: &str) -> Result<String, Fail> {
     }
 }
 
+fn has_settings(session: &Session, rounds: u8, window: u8) -> bool {
+    session.settings.rounds() == rounds && session.settings.window() == window
+}
+
+/// Whether a board has this name and this table.
+fn is_named(board: &BoardSpec, name: &str, table: &str) -> bool {
+    board.name.as_str() == name && board.table.as_str() == table
+}
+
+/// Whether a link has what a board has that says nothing of it.
+fn has_defaults(link: &LinkSpec) -> bool {
+    match link {
+        LinkSpec::Sim {
+            mtu: 1500,
+            buffers: 16,
+            first,
+            ranges: _,
+            fates: Fates::Text(text),
+        } => first.get() == 1 && text.as_str().is_empty(),
+        _ => false,
+    }
+}
+
+/// Whether a link has the two ranges of the first document.
+fn has_two_ranges(link: &LinkSpec) -> bool {
+    let LinkSpec::Sim { ranges, .. } = link else {
+        return false;
+    };
+    match ranges.as_slice() {
+        [low, high] => {
+            low.init.as_slice() == [0, 0, 0, 0, 0xabcd].as_slice()
+                && high.base == 0x100
+                && high.size == 600
+        }
+        _ => false,
+    }
+}
+
+fn has_noise(link: &LinkSpec, number: u64) -> bool {
+    match link {
+        LinkSpec::Sim {
+            buffers: 4,
+            fates: Fates::Noise(noise),
+            ..
+        } => *noise == number,
+        _ => false,
+    }
+}
+
+fn is_udp(link: &LinkSpec) -> bool {
+    match link {
+        LinkSpec::Udp {
+            address: [10, 0, 255, 1],
+            port: 50001,
+            wait: 100,
+        } => true,
+        _ => false,
+    }
+}
+
+/// Whether a line of a script is this.
+fn has_line(scripts: &[Script], client: usize, line: usize, text: &str) -> bool {
+    match scripts.get(client) {
+        Some(script) => match script.as_slice().get(line) {
+            Some(found) => found.as_str() == text,
+            None => false,
+        },
+        None => false,
+    }
+}
+
 #[test]
 fn the_first_document_is_read(rt: HostRuntime) -> Result<(), Fail> {
     let text = document(rt.alloc(), "", "", "")?;
     let session = read_session(rt.alloc(), text.as_bytes())?;
-    assert_eq!(rt; session.settings.rounds(), 8);
-    assert_eq!(rt; session.settings.window(), 16);
+    assert!(rt; has_settings(&session, 8, 16));
     let main = session.tables.get("main").ok_or("no table")?;
     assert_eq!(rt; main.nodes.len(), 3);
     let board = session.boards.as_slice().first().ok_or("no board")?;
-    assert_eq!(rt; board.name.as_str(), "b0");
-    assert_eq!(rt; board.table.as_str(), "main");
-    let LinkSpec::Sim {
-        mtu,
-        buffers,
-        first,
-        ranges,
-        fates,
-    } = &board.link
-    else {
-        return Err("no simulated link")?;
-    };
-    assert_eq!(rt; *mtu, 1500);
-    assert_eq!(rt; *buffers, 16);
-    assert_eq!(rt; first.get(), 1);
-    let ranges = ranges.as_slice();
-    assert_eq!(rt; ranges.len(), 2);
-    assert_eq!(rt; ranges[0].init.as_slice(), [0, 0, 0, 0, 0xabcd].as_slice());
-    assert_eq!(rt; ranges[1].base, 0x100);
-    assert_eq!(rt; ranges[1].size, 600);
-    match fates {
-        Fates::Text(text) => assert_eq!(rt; text.as_str(), ""),
-        Fates::Noise(_) => Err("noise")?,
-    }
-    let scripts = session.scripts.as_slice();
-    assert_eq!(rt; scripts.len(), 1);
-    let lines = scripts[0].as_slice();
-    assert_eq!(rt; lines.len(), 1);
-    assert_eq!(rt; lines[0].as_str(), "read b0:sys.id");
+    assert!(rt; is_named(board, "b0", "main"));
+    assert!(rt; has_defaults(&board.link));
+    assert!(rt; has_two_ranges(&board.link));
+    assert!(rt; has_line(session.scripts.as_slice(), 0, 0, "read b0:sys.id"));
     Ok(())
 }
 
 #[test]
 fn the_realistic_session_is_read(rt: HostRuntime) -> Result<(), Fail> {
     let session = read_session(rt.alloc(), REALISTIC.as_bytes())?;
-    assert_eq!(rt; session.settings.rounds(), 255);
-    assert_eq!(rt; session.settings.window(), 4);
-    let boards = session.boards.as_slice();
-    assert_eq!(rt; boards.len(), 2);
-    assert_eq!(rt; boards[1].name.as_str(), "fe1");
-    match &boards[1].link {
-        LinkSpec::Sim {
-            fates: Fates::Noise(noise),
-            buffers,
-            ..
-        } => {
-            assert_eq!(rt; *noise, 8);
-            assert_eq!(rt; *buffers, 4);
-        }
-        _ => Err("no noise")?,
-    }
+    assert!(rt; has_settings(&session, 255, 4));
+    let board = session.boards.as_slice().get(1).ok_or("no second board")?;
+    assert!(rt; is_named(board, "fe1", "frontend"));
+    assert!(rt; has_noise(&board.link, 8));
     let scripts = session.scripts.as_slice();
-    assert_eq!(rt; scripts.len(), 2);
-    let lines = scripts[0].as_slice();
-    assert_eq!(rt; lines.len(), 7);
-    assert_eq!(rt; lines[4].as_str(), "dispatch");
+    assert!(rt; has_line(scripts, 0, 4, "dispatch"));
+    assert!(rt; has_line(scripts, 1, 1, "read fe1:ch1.ctrl.gain"));
     assert!(rt; session.tables.get("channel").is_some());
     assert!(rt; session.tables.get("none").is_none());
     Ok(())
@@ -218,21 +285,9 @@ fn the_realistic_session_is_read(rt: HostRuntime) -> Result<(), Fail> {
 
 #[test]
 fn a_board_behind_udp_is_read(rt: HostRuntime) -> Result<(), Fail> {
-    let text =
-        "board = [{ name = \"u\", table = \"t\", link = \"udp\", address = \"10.0.255.1:50001\" }]";
-    let session = read_session(rt.alloc(), text.as_bytes())?;
-    match &session.boards.as_slice().first().ok_or("no board")?.link {
-        LinkSpec::Udp {
-            address,
-            port,
-            wait,
-        } => {
-            assert_eq!(rt; *address, [10, 0, 255, 1]);
-            assert_eq!(rt; *port, 50001);
-            assert_eq!(rt; *wait, 100);
-        }
-        LinkSpec::Sim { .. } => Err("simulated")?,
-    }
+    let session = read_session(rt.alloc(), UDP.as_bytes())?;
+    let board = session.boards.as_slice().first().ok_or("no board")?;
+    assert!(rt; is_udp(&board.link));
     Ok(())
 }
 
@@ -298,7 +353,6 @@ fn changes_of_the_first_document_are_refused(rt: HostRuntime) -> Result<(), Fail
 
 #[test]
 fn small_documents_are_refused(rt: HostRuntime) -> Result<(), Fail> {
-    let board = "board = [{ name = \"b\", table = \"t\" }]\n";
     let cases = [
         ("", "document  NoBoards"),
         ("board = []", "document  NoBoards"),
@@ -310,50 +364,45 @@ fn small_documents_are_refused(rt: HostRuntime) -> Result<(), Fail> {
         ("x = 1", "document x Shape"),
         (TWO_NAMES_TWICE, "document board.2.name DuplicateBoard"),
         (TWINS_AND_TABLE, "document board.1.name DuplicateBoard"),
+        (FAULTY_TABLES, "table a [] Shape"),
+        (FAULTY_NODE, "table main [0] BadMask"),
     ];
     for (text, expected) in cases {
         let found = refused(rt.alloc(), text)?;
         assert_eq!(rt; found.as_str(), expected);
     }
-    let tables = format!(in rt.alloc();
-        "{board}tables.main = [{{ id = \"x\", mask = 0 }}]\ntables.a = 1\n"
-    )?;
-    let found = refused(rt.alloc(), tables.as_str())?;
-    assert_eq!(rt; found.as_str(), "table a [] Shape");
-    let tables = format!(in rt.alloc(); "{board}tables.main = [{{ id = \"x\", mask = 0 }}]\n")?;
-    let found = refused(rt.alloc(), tables.as_str())?;
-    assert_eq!(rt; found.as_str(), "table main [0] BadMask");
-    let bytes = [0xff_u8];
-    match read_session(rt.alloc(), bytes.as_slice()) {
+    Ok(())
+}
+
+#[test]
+fn bytes_that_are_no_text_are_refused(rt: HostRuntime) -> Result<(), Fail> {
+    match read_session(rt.alloc(), [0xff_u8].as_slice()) {
         Err(SessionRefusal::Document { path: _, why }) => assert_eq!(rt; why, DocWhy::NotToml),
         _ => Err("read")?,
     }
     Ok(())
 }
 
-/// A document of some boards and clients.
-fn numbered(alloc: Global, boards: u32, clients: u32) -> Result<String, Fail> {
-    let mut text = String::new(alloc);
-    for i in 0..boards {
-        let board = format!(in alloc; "[[board]]\nname = \"b{i}\"\ntable = \"t\"\n")?;
-        text.push_str(board.as_str())?;
-    }
-    for _ in 0..clients {
-        text.push_str("[[client]]\nscript = []\n")?;
-    }
-    Ok(text)
+fn empty_clients(alloc: Global, count: usize) -> Result<String, Fail> {
+    Ok("[[client]]\nscript = []\n".repeat(alloc, count)?)
+}
+
+/// A document of boards, with some clients.
+fn with_clients(alloc: Global, boards: &str, clients: usize) -> Result<String, Fail> {
+    let clients = empty_clients(alloc, clients)?;
+    Ok([boards, clients.as_str()].as_slice().concat(alloc)?)
 }
 
 #[test]
 fn boards_and_clients_are_counted(rt: HostRuntime) -> Result<(), Fail> {
-    let most = numbered(rt.alloc(), 16, 64)?;
+    let most = with_clients(rt.alloc(), SIXTEEN_BOARDS, 64)?;
     let session = read_session(rt.alloc(), most.as_bytes())?;
     assert_eq!(rt; session.boards.as_slice().len(), 16);
     assert_eq!(rt; session.scripts.as_slice().len(), 64);
-    let boards = numbered(rt.alloc(), 17, 65)?;
+    let boards = with_clients(rt.alloc(), SEVENTEEN_BOARDS, 65)?;
     let found = refused(rt.alloc(), boards.as_str())?;
     assert_eq!(rt; found.as_str(), "document  ManyBoards");
-    let clients = numbered(rt.alloc(), 1, 65)?;
+    let clients = with_clients(rt.alloc(), UDP, 65)?;
     let found = refused(rt.alloc(), clients.as_str())?;
     assert_eq!(rt; found.as_str(), "document  ManyClients");
     Ok(())
