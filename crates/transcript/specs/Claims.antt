@@ -7,10 +7,12 @@ use Rattle.transcript.specs.declared.line.OpResult.{OpResult}
 use Rattle.transcript.specs.declared.line.OpResult.TheVariants.{Value, Done, Was}
 use Rattle.transcript.specs.declared.line.OpLine.{OpLine}
 
--- the line is a value, `done` or `was`
+-- the result is a value, `done` or `was`
+abbrev pub IsDoneResult : OpResult → Type 0
+IsDoneResult r = ((words : List ℕ) × (r ≡ Value words)) ⊎ ((r ≡ Done) ⊎ ((word : ℕ) × (r ≡ Was word)))
+
 abbrev pub IsDone : OpLine → Type 0
-IsDone line =
-    ((words : List ℕ) × (line.result ≡ Value words)) ⊎ (line.result ≡ Done) ⊎ ((word : ℕ) × (line.result ≡ Was word))
+IsDone line = IsDoneResult line.result
 
 -- what a board replied are words of 32 bits
 abbrev pub HaveWords : Outcome → Type 0
