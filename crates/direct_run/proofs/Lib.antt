@@ -1,0 +1,2 @@
+mod ReplyWords
+mod Exchanges
