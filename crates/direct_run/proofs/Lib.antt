@@ -1,2 +1,3 @@
 mod ReplyWords
 mod Exchanges
+mod Sending
