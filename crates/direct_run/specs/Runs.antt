@@ -1,7 +1,10 @@
 -- What a run is in which clients go to boards of this process, one client after another. Profile.
-use Rattle.std.specs.Prelude.{◌≡◌, ℕ, ◌+◌, ◌≤◌, ◌^◌, List, [], ◌∷◌, map, None}
+use Rattle.std.specs.Prelude.{◌≡◌, ℕ, ◌+◌, ◌≤◌, ◌^◌, true, List, [], ◌∷◌, length, map, None}
 use Rattle.std.specs.List.{AllByRecursion}
 use Rattle.ipb_base.specs.Numbers.{payload_of}
+use Rattle.packet_codec.specs.declared.packet.Order.TheVariants.{Big}
+use Rattle.world_model.specs.declared.heard.LogEntry.{LogEntry}
+use Rattle.world_model.specs.Board.{Board, executed}
 use Rattle.board_bus.specs.declared.range.Range.{Range}
 use Rattle.board_bus.specs.Cells.{CellMap}
 use Rattle.board_bus.specs.Ranges.{opening_bus, refusal_of}
@@ -16,6 +19,14 @@ use Rattle.transcript.specs.declared.board_run.ClientPart.{ClientPart}
 use Rattle.transcript.specs.declared.board_run.BoardRun.{BoardRun}
 use Rattle.transcript.specs.Plan.{ClientBodies, planned_on}
 use Rattle.board_history.specs.InTurn.{in_turn}
+
+-- a body that was sent big-endian under the identifier of its place
+abbrev pub entry_of : List ℕ → LogEntry
+entry_of body = record { numbered = true; order = Big; body = body }
+
+-- the place of the next body that a board executes
+abbrev pub next_place : Board → ℕ
+next_place board = length (executed board) + 1
 
 -- what each client asked, and what became of it
 abbrev pub parts_with : List ClientBodies → List (List Outcome) → List ClientPart

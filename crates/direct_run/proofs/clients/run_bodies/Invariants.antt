@@ -4,5 +4,4 @@ use Rattle.direct_run.proofs.clients.run_bodies.Given as goal
 
 -- what was told so far, and the bodies that are left
 abbrev pub invariant-loop-body : goal.invariant-loop-body
-invariant-loop-body l =
-    IsSending l.initial.board l.board l.place l.next l.bodies (drop l.body-index l.bodies) l.outcomes.items
+invariant-loop-body l = IsSending l.initial.board l.board l.bodies (drop l.body-index l.bodies) l.outcomes.items
