@@ -1,3 +1,4 @@
 mod Hex
 mod Lookups
 mod LineLemmas
+mod PlanLemmas

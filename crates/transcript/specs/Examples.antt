@@ -3,6 +3,12 @@
 use Rattle.std.specs.Prelude.{ℕ, List, [], ◌∷◌, ◌++◌, codes, replicate, Some, None}
 use Rattle.transaction_codec.specs.declared.request.Op.{Op}
 use Rattle.transaction_codec.specs.declared.request.Op.TheVariants as ops
+use Rattle.address_table.specs.declared.kinds.Permission.{Permission}
+use Rattle.address_table.specs.declared.kinds.Permission.TheVariants.{R, Rw}
+use Rattle.address_table.specs.declared.kinds.Mode.{Mode}
+use Rattle.address_table.specs.declared.kinds.Mode.TheVariants.{Single, Block}
+use Rattle.node_tree.specs.declared.register.Register.{Register}
+use Rattle.node_tree.specs.Maps.{Name}
 use Rattle.script_lang.specs.declared.operation.Verb.{Verb}
 use Rattle.script_lang.specs.declared.operation.Verb.TheVariants as verb
 use Rattle.script_lang.specs.declared.operation.Step.{Step}
@@ -69,3 +75,21 @@ abbrev pub every_outcome : List (List Outcome)
 every_outcome =
     (Replied 1 ((0x20000100 ∷ 0xabcd ∷ 0x20010110 ∷ 0x20020150 ∷ 1 ∷ []) ++ zeros_read 0x20030804 8) ∷ [])
     ∷ (Replied 2 (0x20010100 ∷ 0xabcd ∷ []) ∷ []) ∷ (TimedOut 3 2 ∷ []) ∷ (Unsent ∷ []) ∷ (LinkLost (Some 4) ∷ []) ∷ []
+
+-- ---- registers
+
+abbrev pub register : ℕ → ℕ → Permission → Mode → ℕ → Register
+register address mask permission mode size =
+    record { address = address; mask = mask; permission = permission; mode = mode; size = size }
+
+abbrev pub channel_registers : List (Name × Register)
+channel_registers =
+    (codes "buffer", register 0x10 full_mask Rw Block 16)
+    ∷ (codes "ctrl", register 0 full_mask Rw Single 1)
+    ∷ (codes "ctrl.enable", register 0 1 Rw Single 1)
+    ∷ (codes "ctrl.gain", register 0 0xf0 Rw Single 1)
+    ∷ (codes "status", register 1 full_mask R Single 1)
+    ∷ []
+
+abbrev pub overlapping_registers : List (Name × Register)
+overlapping_registers = (codes "x", register 0 0xff Rw Single 1) ∷ (codes "y", register 0 1 Rw Single 1) ∷ []

@@ -7,3 +7,4 @@ pub mod Text
 pub mod Listing
 pub mod Examples
 pub mod Steps
+pub mod Claims

@@ -70,6 +70,10 @@ lines_behind runs client before (op ∷ ops) =
 abbrev pub client_lines : List BoardRun → ℕ → List Step → List OpLine
 client_lines runs client steps = lines_behind runs client [] (operations steps)
 
+-- the numbers of a client's operations have 32 bits
+abbrev pub AreNumbered : List Step → Type 0
+AreNumbered steps = length steps < 2 ^ 32
+
 -- the lines of the clients from a number on
 abbrev pub lines_from : List BoardRun → ℕ → List (List Step) → List (List OpLine)
 lines_from runs client [] = []

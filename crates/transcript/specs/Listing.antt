@@ -46,7 +46,8 @@ abbrev pub overlap_text : List (Name × Register) → ℕ × ℕ → List ℕ
 overlap_text named (first, second) = overlap_of (slice_get named first) (slice_get named second)
 
 -- each register in byte order of the names, and then each that overlaps an earlier one, with the first such
+abbrev pub named_text : List (Name × Register) → List ℕ
+named_text named = flat_map register_text named ++ flat_map (overlap_text named) (overlapping [] named)
+
 abbrev pub listing_text : RegisterMap → List ℕ
-listing_text registers =
-    flat_map register_text (entries registers)
-    ++ flat_map (overlap_text (entries registers)) (overlapping [] (entries registers))
+listing_text registers = named_text (entries registers)

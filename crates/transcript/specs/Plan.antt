@@ -1,12 +1,13 @@
 -- What a client asks of its boards: the bodies of its scripts' operations, dispatch by dispatch. uHAL: operations are
 -- queued, and sent at a dispatch. Profile.
-use Rattle.std.specs.Prelude.{ℕ, ◌+◌, ◌<◌, ◌^◌, ◌==◌, if◌then◌else◌, List, [], ◌∷◌, ◌++◌, length, map, fold}
+use Rattle.std.specs.Prelude.{ℕ, ◌+◌, ◌<◌, ◌≤◌, ◌^◌, ◌==◌, if◌then◌else◌, List, [], ◌∷◌, ◌++◌, length, map, fold}
 use Rattle.std.specs.List.{AllByRecursion, filter_map}
 use Rattle.std.specs.Prelude.{Option, Some, None}
 use Rattle.transaction_codec.specs.declared.request.Op.{Op}
 use Rattle.transaction_codec.specs.Request.{SpellsRequests}
 use Rattle.mtu_packer.specs.declared.packed.Piece.{Piece}
-use Rattle.mtu_packer.specs.Packed.{Contents, packed}
+use Rattle.mtu_packer.specs.declared.packing.TheConstants.{MIN_PAYLOAD, MAX_PAYLOAD}
+use Rattle.mtu_packer.specs.Packed.{Contents, FitsPackets, packed}
 use Rattle.script_lang.specs.declared.operation.RegOp.{RegOp}
 use Rattle.script_lang.specs.declared.operation.Step.{Step}
 use Rattle.script_lang.specs.declared.operation.Step.TheVariants.{Do, Dispatch}
@@ -50,14 +51,15 @@ bodies_in dispatches = map (λ (c : Contents). c.bodies) dispatches
 
 -- ---- the plan as one list
 
--- All bodies of a client on a board, and where the pieces of each of its operations there stand. The bodies are
--- numbered from 0 through all dispatches.
+-- All bodies of a client on a board, where the pieces of each of its operations there stand, and how many bodies each
+-- dispatch has. The bodies are numbered from 0 through all dispatches.
 pub record ClientBodies : Type 0 where
   pub bodies : List (List ℕ)
   pub pieces : List (List PieceAt)
+  pub counts : List ℕ
 
 abbrev pub no_bodies : ClientBodies
-no_bodies = record { bodies = []; pieces = [] }
+no_bodies = record { bodies = []; pieces = []; counts = [] }
 
 -- a piece in a dispatch that begins with the body of this number
 abbrev pub moved : ℕ → Piece → PieceAt
@@ -68,6 +70,7 @@ abbrev pub with_dispatch : ClientBodies → Contents → ClientBodies
 with_dispatch all dispatch = record {
   bodies = all.bodies ++ dispatch.bodies;
   pieces = all.pieces ++ map (λ pieces. map (moved (length all.bodies)) pieces) dispatch.pieces;
+  counts = all.counts ++ length dispatch.bodies ∷ [];
 }
 
 abbrev pub all_dispatches : List Contents → ClientBodies
@@ -78,6 +81,18 @@ abbrev pub planned_on : ℕ → Greeting → List Step → ClientBodies
 planned_on board (Live payload) steps = all_dispatches (plan payload board steps)
 planned_on board Silent steps = no_bodies
 planned_on board Down steps = no_bodies
+
+-- what a greeting can tell of the packets of a live board
+abbrev pub IsGreeting : Greeting → Type 0
+IsGreeting (Live payload) = (MIN_PAYLOAD ≤ payload) × (payload ≤ MAX_PAYLOAD)
+IsGreeting Silent = Unit {0}
+IsGreeting Down = Unit {0}
+
+-- the packets that a live board takes have room for bodies and for the longest answers to them
+abbrev pub FitGreeting : Greeting → List (List ℕ) → Type 0
+FitGreeting (Live payload) bodies = AllByRecursion (FitsPackets payload) bodies
+FitGreeting Silent bodies = Unit {0}
+FitGreeting Down bodies = Unit {0}
 
 -- ---- what holds of the bodies of every plan
 

@@ -6,6 +6,7 @@ ghost use Rattle.transcript.specs.declared.outcome.Outcome.TheVariants.{Replied,
 ghost use Rattle.transcript.specs.declared.outcome.Greeting.TheVariants.{Silent, Down};
 ghost use Rattle.script_lang.specs.declared.operation.Step.TheVariants.{Dispatch};
 ghost use Rattle.std.specs.List.{flat_map};
+ghost use Rattle.transcript.specs.Listing.{named_text};
 ghost use Rattle.transcript.specs.Lines.{run_status};
 ghost use Rattle.transcript.specs.Session.{transcript};
 ghost use Rattle.transcript.specs.Examples.{
@@ -22,6 +23,8 @@ ghost use Rattle.transcript.specs.Examples.{
   zeros_read,
   every_step,
   every_outcome,
+  channel_registers,
+  overlapping_registers,
 };
 
 /// One read of one word.
@@ -113,4 +116,14 @@ pub fn every_result()
         ++ (codes "8 read b0:sys.id unsent\n9 read b0:sys.id link lost @4.1\n"
         ++ codes "board b0 places 4 replied 2 timeout 1 lost 1\n")))) }
     ensures status { run_status (transcript (every_step ∷ []) (told live every_outcome)).clients ≡ 1 }
+{}
+
+/// The registers of an acquisition channel, and two registers that share a bit of one word.
+pub fn listings()
+    ensures channel { named_text channel_registers
+        ≡ codes "buffer 0x00000010 0xffffffff rw block 16\nctrl 0x00000000 0xffffffff rw single 1\n"
+        ++ (codes "ctrl.enable 0x00000000 0x00000001 rw single 1\nctrl.gain 0x00000000 0x000000f0 rw single 1\n"
+        ++ codes "status 0x00000001 0xffffffff r single 1\n") }
+    ensures overlapping { named_text overlapping_registers
+        ≡ codes "x 0x00000000 0x000000ff rw single 1\ny 0x00000000 0x00000001 rw single 1\noverlap x y\n" }
 {}

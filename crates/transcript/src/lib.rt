@@ -15,7 +15,9 @@ mod lines;
 mod listing;
 mod outcome;
 mod planned;
+mod planning;
 mod results;
+mod status;
 mod text;
 
 pub use board_run::{BoardRun, ClientPart, ClientParts};
@@ -23,8 +25,13 @@ pub use boards::board_lines;
 pub use body_end::{Answers, BodyEnd, Told};
 pub use ipb_base::{NoMemory, Text, Words};
 pub use line::{BoardLine, LinePlaces, OpLine, OpResult};
-pub use lines::client_lines;
+pub use lines::{client_lines, lines_of_clients};
 pub use listing::listing_text;
 pub use outcome::{Greeting, Outcome, Outcomes};
 pub use planned::{OpPieces, PieceAt, Planned};
+pub use planning::plan_on;
+pub use status::all_good;
 pub use text::{line_text, transcript_text};
+
+#[cfg(test)]
+mod tests;

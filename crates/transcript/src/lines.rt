@@ -1,6 +1,7 @@
 //! The lines of a run's operations.
 
 ghost use Rattle.std.specs.Prelude.{◌≡◌, ℕ, ◌+◌, ◌-◌, ◌++◌, ◌^◌, ◌<◌, ◌≤◌, [], IfOk, OnOk, length, map, option_to_list, option_map, slice_get, slice_set, slice_index};
+ghost use Rattle.std.specs.List.{AllByRecursion};
 ghost use Rattle.transcript.specs.declared.board_run.ClientPart.{ClientPart as PartValue};
 ghost use Rattle.transcript.specs.Ends as of_ends;
 ghost use Rattle.transcript.specs.Lines as spec;
@@ -12,7 +13,7 @@ use crate::line::{LinePlaces, OpLine, OpResult};
 use crate::outcome::Greeting;
 use crate::results::{op_places, op_result};
 use ipb_base::{NoMemory, Text};
-use script_lang::{RegOp, Step};
+use script_lang::{RegOp, Step, Steps};
 use std::alloc::Global;
 
 /// How a client's bodies on a board ended.
@@ -162,7 +163,7 @@ pub fn client_lines(
     client: usize,
     steps: &[Step],
 ) -> Result<Vec<OpLine>, NoMemory>
-    requires { length steps.now < 2 ^ 32 }
+    requires { spec.AreNumbered steps.now }
     ensures { IfOk result (λ lines. lines.items ≡ spec.client_lines runs.now client steps.now) }
 {
     let ends = all_ends(alloc, runs, client)?;
@@ -177,4 +178,20 @@ pub fn client_lines(
         }
     }
     Ok(progress.lines)
+}
+
+/// The lines of all clients, client 1 first, by the steps of each.
+pub fn lines_of_clients(
+    alloc: Global,
+    runs: &[BoardRun],
+    scripts: &[Steps],
+) -> Result<Vec<Vec<OpLine>>, NoMemory>
+    requires { AllByRecursion spec.AreNumbered scripts.now }
+    ensures { IfOk result (λ all. map (λ lines. lines.items) all.items ≡ spec.lines_from runs.now 0 scripts.now) }
+{
+    let mut all = Vec::new(alloc);
+    for (client, steps) in scripts.iter().enumerate() {
+        all.push(client_lines(alloc, runs, client, steps.as_slice())?)?;
+    }
+    Ok(all)
 }

@@ -3,7 +3,7 @@
 ghost use Rattle.std.specs.Prelude.{◌≡◌, Some, None, MatchOption, IfSome, slice_get};
 ghost use Rattle.std.specs.List.{AllByRecursion};
 ghost use Rattle.transaction_codec.specs.Request.{SpellsRequests};
-ghost use Rattle.transcript.specs.Plan.{IsWithinBody};
+ghost use Rattle.transcript.specs.Plan.{IsWithinBody, AreSound};
 
 use ipb_base::Words;
 use std::marker::Model;
@@ -48,12 +48,13 @@ impl OpPieces {
     }
 }
 
-/// The bodies of a client on one board, through all its dispatches, and where the pieces of each of its operations
-/// there stand. Contracts see both lists.
+/// The bodies of a client on one board, through all its dispatches, where the pieces of each of its operations there
+/// stand, and how many bodies each dispatch has. Contracts see the three lists.
 #[derive(Debug, Drop)]
 pub struct Planned {
     bodies: Vec<Words>,
     pieces: Vec<OpPieces>,
+    counts: Vec<usize>,
 }
 
 impl Model for Planned {
@@ -61,18 +62,38 @@ impl Model for Planned {
 
     ghost Value = { ClientBodies };
 
-    ghost view = { λ p. record { bodies = p.bodies.items; pieces = p.pieces.items } };
+    ghost view = { λ p. record { bodies = p.bodies.items; pieces = p.pieces.items; counts = p.counts.items } };
 
-    ghost invariant = { λ p. AreSound (record { bodies = p.bodies.items; pieces = p.pieces.items }) };
+    ghost invariant = { λ p.
+        AreSound (record { bodies = p.bodies.items; pieces = p.pieces.items; counts = p.counts.items }) };
 }
 
 impl Planned {
+    /// The bodies, where the pieces of each operation stand in them, and how many each dispatch has. It takes no memory.
+    pub(crate) fn new(bodies: Vec<Words>, pieces: Vec<OpPieces>, counts: Vec<usize>) -> Planned
+        requires { AreSound (record { bodies = bodies.items; pieces = pieces.items; counts = counts.items }) }
+        ensures { result ≡ record { bodies = bodies.items; pieces = pieces.items; counts = counts.items } }
+    {
+        Planned {
+            bodies,
+            pieces,
+            counts,
+        }
+    }
+
     /// The bodies, in order, each without its packet header. Each is the words of requests alone.
     pub fn bodies(&self) -> &[Words]
         ensures bodies { result.now ≡ self.now.bodies }
         ensures spelled { AllByRecursion SpellsRequests result.now }
     {
         self.bodies.as_slice()
+    }
+
+    /// How many of the bodies each dispatch of the client has, in order.
+    pub fn counts(&self) -> &[usize]
+        ensures { result.now ≡ self.now.counts }
+    {
+        self.counts.as_slice()
     }
 
     /// Where the pieces of operation `op`, from 0, of those of the client on the board stand; none where it has fewer.

@@ -1,0 +1,90 @@
+use super::*;
+use script_lang::{RegOp, Step, Verb};
+use std::alloc::Global;
+use std::test::*;
+use transaction_codec::Op;
+
+ghost use Rattle.std.specs.Prelude.{IfOk, ◌≤◌, ◌^◌, ◌∷◌, []};
+ghost use Rattle.script_lang.specs.Packing.{CanBePacked};
+ghost use Rattle.transcript.specs.Plan.{words_asked};
+
+/// `read b0:sys.id`
+fn read_id(alloc: Global) -> Result<Step, NoMemory>
+    ensures packed { IfOk result CanBePacked }
+    ensures few { IfOk result (λ step. words_asked (step ∷ []) ≤ 1) }
+{
+    Ok(Step::Do(RegOp {
+        line: 1,
+        verb: Verb::Read,
+        board: 0,
+        name: Text::copy_of(alloc, "sys.id")?,
+        mask: u32::MAX,
+        op: Op::Read { base: 4, count: 1 },
+    }))
+}
+
+/// `readblock b0:mem 20`
+fn read_mem(alloc: Global) -> Result<Step, NoMemory>
+    ensures packed { IfOk result CanBePacked }
+    ensures few { IfOk result (λ step. words_asked (step ∷ []) ≤ 20) }
+{
+    Ok(Step::Do(RegOp {
+        line: 2,
+        verb: Verb::ReadBlock,
+        board: 0,
+        name: Text::copy_of(alloc, "mem")?,
+        mask: u32::MAX,
+        op: Op::Read {
+            base: 256,
+            count: 20,
+        },
+    }))
+}
+
+/// The run of one client on board `b0`.
+fn run_of(
+    alloc: Global,
+    planned: Planned,
+    outcomes: Vec<Outcome>,
+) -> Result<BoardRun, NoMemory> {
+    let part = ClientPart {
+        planned,
+        outcomes: Outcomes::from_vec(outcomes),
+    };
+    Ok(BoardRun {
+        name: Text::copy_of(alloc, "b0")?,
+        greeting: Greeting::Live { payload: 16 },
+        parts: ClientParts::from_vec(vec![in alloc; part]?),
+    })
+}
+
+/// What is printed of a run of one client.
+fn printed(alloc: Global, run: BoardRun, steps: &[Step]) -> Result<Vec<u8>, NoMemory> {
+    if steps.len() > 1000 {
+        return Err(NoMemory);
+    }
+    let runs = [run];
+    let lines = client_lines(alloc, &runs, 0, steps)?;
+    let boards = board_lines(alloc, &runs)?;
+    let clients = [lines];
+    transcript_text(alloc, &clients, &boards)
+}
+
+#[test]
+fn one_read_is_planned_and_printed(rt: HostRuntime) -> Result<(), Fail> {
+    let alloc = rt.alloc();
+    let steps = [read_id(alloc)?];
+    let planned = plan_on(alloc, &steps, 0, Greeting::Live { payload: 16 })?;
+    let [body] = planned.bodies() else {
+        return Err("not one body")?;
+    };
+    assert_eq!(rt; body.as_slice(), [0x2000_010f, 4].as_slice());
+    assert_eq!(rt; planned.counts(), [1usize].as_slice());
+    let words = Words::from_vec([0x2000_0100, 0xabcd].to_vec(alloc)?);
+    let outcomes = vec![in alloc; Outcome::Replied { place: 1, words }]?;
+    let run = run_of(alloc, planned, outcomes)?;
+    let text = printed(alloc, run, &steps)?;
+    let expected = "client 1\n1 read b0:sys.id = 0x0000abcd @1.1\nboard b0 places 1 replied 1 timeout 0 lost 0\n";
+    assert_eq!(rt; text.as_slice(), expected.as_bytes());
+    Ok(())
+}
