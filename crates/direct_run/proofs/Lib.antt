@@ -1,3 +1,4 @@
 mod ReplyWords
 mod Exchanges
 mod Sending
+mod Running

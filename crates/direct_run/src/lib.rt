@@ -8,4 +8,5 @@ mod clients;
 mod exchange;
 
 
+pub use clients::run_clients;
 pub use ipb_base::NoMemory;
