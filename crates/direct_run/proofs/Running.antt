@@ -5,6 +5,7 @@ use Rattle.board_bus.specs.Cells.{CellMap}
 use Rattle.board_bus.specs.Bodies.{replay}
 use Rattle.world_model.specs.Board.{Board, executed, present_bus}
 use Rattle.board_node.specs.Hearings.{grown}
+use Rattle.transcript.specs.declared.outcome.Outcome.{Outcome}
 use Rattle.transcript.specs.declared.board_run.ClientPart.{ClientPart}
 use Rattle.transcript.specs.Plan.{ClientBodies}
 use Rattle.board_history.specs.InTurn.{outcomes_from}
@@ -37,3 +38,9 @@ client_more start now plans rest plan parts is = record {
     ∙ is.board;
   mtu = is.mtu;
 }
+
+pub same_part : (part : ClientPart) (b : Board) (plan : ClientBodies) → part.planned ≡ plan
+    → part.outcomes ≡ outcomes_from (next_place b) (present_bus b) plan.bodies → part ≡ part_on b plan
+same_part part b plan planned outcomes =
+    ap (λ (p : ClientBodies). record { planned = p; outcomes = part.outcomes }) planned
+    ∙ ap (λ (os : List Outcome). record { planned = plan; outcomes = os }) outcomes

@@ -4,9 +4,11 @@
 //! packet that the board answers. The definitions that contracts cite are in `specs/`.
 #![tactic(auto)]
 
+mod boards;
 mod clients;
 mod exchange;
 
 
+pub use boards::{run_board, run_boards};
 pub use clients::run_clients;
 pub use ipb_base::NoMemory;
