@@ -6,7 +6,7 @@ ghost use Rattle.ipb_base.specs.Numbers.{payload_of};
 ghost use Rattle.status_packet.specs.Range.{IsMtu, IsBufferCount};
 ghost use Rattle.board_bus.specs.Ranges.{opening_bus, refusal_of};
 ghost use Rattle.script_lang.specs.Packing.{CanBePacked, HaveFewPieces};
-ghost use Rattle.direct_run.specs.Runs as spec;
+ghost use Rattle.direct_run.specs.Runs.{CanRun, board_run, runs_from};
 
 use crate::clients::run_clients;
 use board_bus::{Bus, BusRefusal};
@@ -47,10 +47,10 @@ pub fn run_board(
     position: u32,
     scripts: &[Steps],
 ) -> Result<BoardRun, NoMemory>
-    requires here { spec.CanRun spec.now }
+    requires here { CanRun spec.now }
     requires can { AllByRecursion (AllByRecursion CanBePacked) scripts.now }
     requires few { AllByRecursion HaveFewPieces scripts.now }
-    ensures { IfOk result (λ run. run ≡ spec.board_run spec.now position scripts.now) }
+    ensures { IfOk result (λ run. run ≡ board_run spec.now position scripts.now) }
 {
     let LinkSpec::Sim {
         mtu,
@@ -81,10 +81,10 @@ pub fn run_boards(
     scripts: &[Steps],
 ) -> Result<Vec<BoardRun>, NoMemory>
     requires few_boards { length boards.now < 2 ^ 32 }
-    requires here { AllByRecursion spec.CanRun boards.now }
+    requires here { AllByRecursion CanRun boards.now }
     requires can { AllByRecursion (AllByRecursion CanBePacked) scripts.now }
     requires few { AllByRecursion HaveFewPieces scripts.now }
-    ensures { IfOk result (λ runs. runs.items ≡ spec.runs_from 0 boards.now scripts.now) }
+    ensures { IfOk result (λ runs. runs.items ≡ runs_from 0 boards.now scripts.now) }
 {
     let mut runs = Vec::with_capacity(alloc, boards.len())?;
     for (position, spec) in boards.iter().enumerate() {
