@@ -4,3 +4,5 @@
 //! clients that run one after another. This library has no code: it has the laws of these definitions.
 #![tactic(auto)]
 
+pub mod examples;
+pub mod laws;

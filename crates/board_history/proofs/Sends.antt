@@ -1,0 +1,1 @@
+-- The first sends of a board are the bodies of its order.

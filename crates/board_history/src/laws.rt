@@ -1,0 +1,43 @@
+//! Laws of the definitions. These functions do nothing when they run: their clauses are what is proved.
+
+ghost use Rattle.std.specs.Prelude.{◌≡◌, ℕ, List, map, length};
+ghost use Rattle.std.specs.List.{flat_map};
+ghost use Rattle.board_bus.specs.Cells.{CellMap};
+ghost use Rattle.transcript.specs.declared.outcome.Outcome.{Outcome};
+ghost use Rattle.transcript.specs.declared.board_run.BoardRun.{BoardRun};
+ghost use Rattle.transcript.specs.Lines.{is_sent, outcomes_on};
+ghost use Rattle.std.specs.List.{count_by};
+ghost use Rattle.board_history.specs.Order.{bodies_of, order};
+ghost use Rattle.board_history.specs.Parts.{AllReplied, IsExecutedOnce};
+ghost use Rattle.board_history.specs.InTurn.{AreInTurn, in_turn};
+ghost use Rattle.board_history.specs.History.{IsHistory, bodies_by_client, outcomes_by_client};
+
+/// Clients that run one after another make one history. Each body is replied to, and the order of the board is the
+/// bodies of the first client, then those of the second, and so on: what was executed is all of it.
+pub fn clients_in_turn_make_a_history()
+    ensures history { (opening : CellMap) (bodies : List (List (List ℕ))) →
+        IsHistory opening bodies (in_turn 1 opening bodies) }
+    ensures replied { (opening : CellMap) (bodies : List (List (List ℕ))) →
+        AllReplied (in_turn 1 opening bodies) }
+    ensures in_turn { (opening : CellMap) (bodies : List (List (List ℕ))) →
+        AreInTurn bodies (in_turn 1 opening bodies) }
+    ensures order { (opening : CellMap) (bodies : List (List (List ℕ))) →
+        bodies_of (order bodies (in_turn 1 opening bodies)) ≡ flat_map (λ client. client) bodies }
+    ensures executed { (opening : CellMap) (bodies : List (List (List ℕ))) →
+        IsExecutedOnce (order bodies (in_turn 1 opening bodies)) (in_turn 1 opening bodies)
+        (flat_map (λ client. client) bodies) }
+{}
+
+/// A history in which each body was replied to, and the places of each client's bodies stand before those of the next
+/// client's, is the one of clients that run one after another. So these clients have one list of outcomes.
+pub fn a_history_of_clients_in_turn_is_the_only_one()
+    ensures { (opening : CellMap) (bodies : List (List (List ℕ))) (outcomes : List (List Outcome)) →
+        IsHistory opening bodies outcomes → AllReplied outcomes → AreInTurn bodies outcomes →
+        outcomes ≡ in_turn 1 opening bodies }
+{}
+
+/// The first sends that the line of a board tells are as many as its order has bodies.
+pub fn the_first_sends_are_the_order()
+    ensures { (run : BoardRun) → map length (outcomes_by_client run) ≡ map length (bodies_by_client run) →
+        count_by is_sent (outcomes_on run) ≡ length (order (bodies_by_client run) (outcomes_by_client run)) }
+{}
