@@ -1,13 +1,14 @@
-// A library with one function.
+//! Scripts run on boards in this process: clients one after another, without losses.
+//!
+//! Each body goes to its board as a control packet with the identifier of its place, and its reply is read from the
+//! packet that the board answers. The definitions that contracts cite are in `specs/`.
 #![tactic(auto)]
 
-ghost use Rattle.std.specs.Prelude.{◌≡◌};
-ghost use Rattle.direct_run.specs.Echo.{echo_of};
+mod boards;
+mod clients;
+mod exchange;
 
-// The `ensures` clause is the contract: what `echo` returns is `echo_of` of its argument, a definition
-// in `specs/Echo.antt`, which a caller's clause can cite too.
-pub fn echo(x: usize) -> usize
-    ensures { result ≡ echo_of x }
-{
-    x
-}
+
+pub use boards::{run_board, run_boards};
+pub use clients::run_clients;
+pub use ipb_base::NoMemory;

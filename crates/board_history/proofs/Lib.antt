@@ -1,0 +1,4 @@
+pub mod Sorting
+mod Turns
+mod Only
+mod Sends

@@ -1,0 +1,4 @@
+mod ReplyWords
+mod Exchanges
+mod Sending
+mod Running

@@ -1,0 +1,46 @@
+-- Clients one after another.
+use Rattle.std.proofs.Common.{◌≡◌, ℕ, ◌+◌, List, [], ◌∷◌, ◌++◌, length, map, sym, ap, ◌∙◌, append_assoc}
+use Rattle.ipb_base.specs.Numbers.{payload_of}
+use Rattle.board_bus.specs.Cells.{CellMap}
+use Rattle.board_bus.specs.Bodies.{replay}
+use Rattle.world_model.specs.Board.{Board, executed, present_bus}
+use Rattle.board_node.specs.Hearings.{grown}
+use Rattle.transcript.specs.declared.outcome.Outcome.{Outcome}
+use Rattle.transcript.specs.declared.board_run.ClientPart.{ClientPart}
+use Rattle.transcript.specs.Plan.{ClientBodies}
+use Rattle.board_history.specs.InTurn.{outcomes_from}
+use Rattle.direct_run.specs.Runs.{entry_of, next_place, parts_in_turn}
+use Rattle.direct_run.specs.Steps.{IsRunning, all_bodies}
+use Rattle.direct_run.proofs.Sending.{bus_after, executed_more, place_after}
+
+-- what a client asked, and what became of it on this board
+abbrev pub part_on : Board → ClientBodies → ClientPart
+part_on b plan = record { planned = plan; outcomes = outcomes_from (next_place b) (present_bus b) plan.bodies }
+
+abbrev pub board_after : Board → ClientBodies → Board
+board_after b plan = grown b (map entry_of plan.bodies)
+
+pub client_more : (start now : Board) (plans rest : List ClientBodies) (plan : ClientBodies) (parts : List ClientPart)
+    → IsRunning start now plans (plan ∷ rest) parts
+    → IsRunning start (board_after now plan) plans rest (parts ++ part_on now plan ∷ [])
+client_more start now plans rest plan parts is = record {
+  told =
+    append_assoc parts (part_on now plan ∷ [])
+    (parts_in_turn (next_place (board_after now plan)) (present_bus (board_after now plan)) rest)
+    ∙ ap (λ (place : ℕ). parts ++ part_on now plan ∷ parts_in_turn place (present_bus (board_after now plan)) rest)
+    (place_after now plan.bodies)
+    ∙ ap (λ (cells : CellMap). parts ++ part_on now plan
+    ∷ parts_in_turn (next_place now + length plan.bodies) cells rest) (bus_after now plan.bodies)
+    ∙ is.told;
+  board =
+    ap (λ (bodies : List (List ℕ)). bodies ++ all_bodies rest) (executed_more now plan.bodies)
+    ∙ append_assoc (executed now) plan.bodies (all_bodies rest)
+    ∙ is.board;
+  mtu = is.mtu;
+}
+
+pub same_part : (part : ClientPart) (b : Board) (plan : ClientBodies) → part.planned ≡ plan
+    → part.outcomes ≡ outcomes_from (next_place b) (present_bus b) plan.bodies → part ≡ part_on b plan
+same_part part b plan planned outcomes =
+    ap (λ (p : ClientBodies). record { planned = p; outcomes = part.outcomes }) planned
+    ∙ ap (λ (os : List Outcome). record { planned = plan; outcomes = os }) outcomes
