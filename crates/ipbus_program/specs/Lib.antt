@@ -3,3 +3,5 @@ pub mod Commands
 pub mod Runs
 pub mod Owed
 pub mod Outputs
+pub mod Below
+pub mod Steps

@@ -3,6 +3,7 @@
 #![tactic(auto)]
 
 mod answer;
+mod below;
 mod command;
 mod edges;
 pub mod laws;

@@ -21,6 +21,7 @@ ghost use Rattle.ipbus_program.specs.Owed.{WroteOwedPart};
 ghost use Rattle.ipbus_program.specs.Runs.{breaks_in};
 
 use crate::answer::{NO_MEMORY, READ_FAULT, USAGE, WRITE_FAULT};
+use crate::below::input_laws;
 use crate::command::{Command, command_of};
 use crate::running::{Answer, answer_to, refused};
 use ipb_base::NoMemory;
@@ -150,6 +151,7 @@ pub fn control<S: Source, O: Sink>(
     ensures unfaulted_output { result ≢ write_fault_status → O.faults out.new ≡ O.faults out.old }
     ensures ended_kept { O.ended out.new ≡ O.ended out.old }
 {
+    input_laws();
     let command = match command_of(alloc, words) {
         Ok(Some(command)) => command,
         Ok(None) => return deliver(out, USAGE_LINE.as_bytes(), USAGE),

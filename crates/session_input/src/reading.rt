@@ -4,7 +4,8 @@ ghost use Rattle.std.specs.Prelude.{◌≡◌, ◌≤◌, ℕ, List, [], IfOk, I
 ghost use Rattle.std.specs.List.{AllByRecursion};
 ghost use Rattle.script_lang.specs.Document.{IsRefusal, StandsFor};
 ghost use Rattle.script_lang.specs.Limits.{IsWithin};
-ghost use Rattle.script_lang.specs.Packing.{CanBePacked};
+ghost use Rattle.script_lang.specs.Packing.{CanBePacked, HaveFewPieces};
+ghost use Rattle.script_lang.specs.declared.script_refusal.TheConstants.{MAX_LINES};
 ghost use Rattle.script_lang.specs.Scripts.{script_faults, steps_of as meant_steps};
 ghost use Rattle.session_input.specs.Deserved as spec;
 ghost use Rattle.session_input.specs.Numbers.{document_bytes};
@@ -28,8 +29,11 @@ pub struct Runnable {
 pub fn read_for_run(alloc: Global, bytes: &[u8]) -> Result<Runnable, Unread>
     ensures runnable { IfOk result (λ read. spec.IsRunnable bytes.now read.session read.steps.items) }
     ensures refused { IfErr result (spec.Tells (spec.Deserves spec.BreaksInRun bytes.now)) }
-    // Each operation of the steps can be packed, whatever packets its board takes.
+    ensures within { IfOk result (λ read. IsWithin read.session) }
+    // Each operation of the steps can be packed, whatever packets its board takes, and no client has too many.
     ensures packed { IfOk result (λ read. AllByRecursion (AllByRecursion CanBePacked) read.steps.items) }
+    ensures few { IfOk result (λ read. AllByRecursion HaveFewPieces read.steps.items) }
+    ensures short { IfOk result (λ read. AllByRecursion (λ steps. length steps ≤ MAX_LINES) read.steps.items) }
 {
     let session = read(alloc, bytes)?;
     let steps = steps_of(alloc, &session)?;
@@ -86,6 +90,8 @@ fn steps_of(alloc: Global, session: &Session) -> Result<Vec<Steps>, Unread>
     ensures runs { IfOk result (λ steps. spec.CanRun session.now steps.items) }
     ensures refused { IfErr result (spec.Tells (spec.BreaksInRun session.now)) }
     ensures packed { IfOk result (λ steps. AllByRecursion (AllByRecursion CanBePacked) steps.items) }
+    ensures few { IfOk result (λ steps. AllByRecursion HaveFewPieces steps.items) }
+    ensures short { IfOk result (λ all. AllByRecursion (λ steps. length steps ≤ MAX_LINES) all.items) }
 {
     let boards = session.boards.as_slice();
     let indexes = indexes_of(alloc, &session.tables, boards)?;
@@ -107,6 +113,8 @@ fn compiled(alloc: Global, session: &Session, indexes: &[Index]) -> Result<Vec<S
     ensures refused { IfErr result
         (spec.Tells (spec.TellsLine (script_faults session.now.boards indexes.now session.now.scripts))) }
     ensures packed { IfOk result (λ steps. AllByRecursion (AllByRecursion CanBePacked) steps.items) }
+    ensures few { IfOk result (λ steps. AllByRecursion HaveFewPieces steps.items) }
+    ensures short { IfOk result (λ all. AllByRecursion (λ steps. length steps ≤ MAX_LINES) all.items) }
 {
     match compile_scripts(alloc, session, indexes) {
         Ok(steps) => Ok(steps),
