@@ -1,6 +1,7 @@
--- The bytes of a session document, TOML in UTF-8, the session that they stand for, and the first fault of those that stand
--- for none. Profile.
-use Rattle.std.specs.Prelude.{◌≡◌, ℕ, ◌+◌, nat_lt, ◌==◌, List, [], ◌∷◌, ◌++◌, length, map, codes, Option, Some, None, if◌then◌else◌}
+-- The bytes of a session document, TOML in UTF-8, the session that they stand for, and the first fault of those that
+-- stand for none. Profile.
+use Rattle.std.specs.Prelude.{◌≡◌, ℕ, ◌+◌, nat_lt, ◌==◌, List, [], ◌∷◌, ◌++◌, length, map, codes, Option, Some, None}
+use Rattle.std.specs.Prelude.{if◌then◌else◌}
 use Rattle.std.specs.List.{slice_get, list_any}
 use Rattle.std.specs.Option.{option_map_or}
 use Rattle.std.specs.FinMap.{get}
@@ -15,7 +16,8 @@ use Rattle.address_table.specs.declared.refusal.TableRefusal.TheVariants as tabl
 use Rattle.board_node.specs.declared.spec.BoardSpec.{BoardSpec}
 use Rattle.node_tree.specs.Maps.{Name}
 use Rattle.script_lang.specs.declared.refusal.DocWhy.{DocWhy}
-use Rattle.script_lang.specs.declared.refusal.DocWhy.TheVariants.{NotToml, Shape, NoBoards, ManyBoards, ManyClients, DuplicateBoard}
+use Rattle.script_lang.specs.declared.refusal.DocWhy.TheVariants.{NotToml, Shape, NoBoards, ManyBoards, ManyClients}
+use Rattle.script_lang.specs.declared.refusal.DocWhy.TheVariants.{DuplicateBoard}
 use Rattle.script_lang.specs.declared.refusal.SessionRefusal.{SessionRefusal}
 use Rattle.script_lang.specs.declared.refusal.SessionRefusal.TheVariants as refusal
 use Rattle.script_lang.specs.declared.refusal.TheConstants.{MAX_BOARDS, MAX_CLIENTS}
@@ -48,7 +50,8 @@ count_faults boards clients =
     ++ (if nat_lt MAX_CLIENTS clients then breaks ManyClients else [])
 
 abbrev pub size_faults : Members → List Fault
-size_faults document = count_faults (length (items_at (codes "board") document)) (length (items_at (codes "client") document))
+size_faults document =
+    count_faults (length (items_at (codes "board") document)) (length (items_at (codes "client") document))
 
 -- the name of the board at a position is that of an earlier one
 abbrev pub duplicate_at : ℕ → Fault
@@ -64,10 +67,11 @@ duplicates earlier i (board ∷ boards) =
 -- the first fault of each table that has one, in byte order of the names
 abbrev pub tables_faults : Members → List Fault
 tables_faults no_members = []
-tables_faults (member name value ms) = option_map_or (λ fault. in_table name fault.0 fault.1 ∷ []) (table_fault value) [] ++ tables_faults ms
+tables_faults (member name value ms) =
+    option_map_or (λ fault. in_table name fault.0 fault.1 ∷ []) (table_fault value) [] ++ tables_faults ms
 
--- What is wrong with a document, in the order in which it is told. The list counts up to its first fault: behind a value that is
--- not what it should be, the rest is read as if that value were left out.
+-- What is wrong with a document, in the order in which it is told. The list counts up to its first fault: behind a
+-- value that is not what it should be, the rest is read as if that value were left out.
 abbrev pub faults : Members → List Fault
 faults document =
     misfits document

@@ -11,7 +11,8 @@ use Rattle.script_lang.specs.Texts.{checked}
 
 -- the number that keeps the rule of its key, or the default
 abbrev pub ruled_number : Option Kind → Option Data → ℕ
-ruled_number (Some (Number least most default)) value = unwrap_or (checked (is_between least most) (option_and_then number value)) default
+ruled_number (Some (Number least most default)) value =
+    unwrap_or (checked (is_between least most) (option_and_then number value)) default
 ruled_number _ value = 0
 
 -- the number under a key of a table

@@ -1,5 +1,5 @@
--- The keys that the tables of a session document may have: what stands under each, whether it has to be there, and what a
--- number is where it is left out. The needed keys of a table stand in byte order. Profile.
+-- The keys that the tables of a session document may have: what stands under each, whether it has to be there, and what
+-- a number is where it is left out. The needed keys of a table stand in byte order. Profile.
 use Rattle.std.specs.Prelude.{ℕ, Bool, true, false, if◌then◌else◌, List, [], ◌∷◌, codes, Option, Some, None}
 use Rattle.std.specs.Str.{bytes_eq}
 use Rattle.std.specs.Option.{option_and_then}

@@ -1,4 +1,5 @@
--- What every session keeps: how many boards and clients it has, its settings, and the numbers and the fates of its boards. Profile.
+-- What every session keeps: how many boards and clients it has, its settings, and the numbers and the fates of its
+-- boards. Profile.
 use Rattle.std.specs.Prelude.{◌≡◌, ℕ, ◌^◌, ◌≤◌, ◌<◌, true, length}
 use Rattle.std.specs.List.{AllByRecursion, list_all}
 use Rattle.board_node.specs.declared.spec.BoardSpec.{BoardSpec}

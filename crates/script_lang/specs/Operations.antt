@@ -1,5 +1,7 @@
--- What a line of a script means: the rules that it keeps, and the operation on the bus. uHAL; the limits are the profile's.
-use Rattle.std.specs.Prelude.{ℕ, ◌+◌, Bool, true, false, not, ◌&&◌, ◌||◌, ◌==◌, nat_le, bit_and, if◌then◌else◌, List, [], ◌∷◌, length, slice_index, Option, Some, None, Result, Ok, Err}
+-- What a line of a script means: the rules that it keeps, and the operation on the bus. uHAL; the limits are the
+-- profile's.
+use Rattle.std.specs.Prelude.{ℕ, ◌+◌, Bool, true, false, not, ◌&&◌, ◌||◌, ◌==◌, nat_le, bit_and, if◌then◌else◌, List}
+use Rattle.std.specs.Prelude.{[], ◌∷◌, length, slice_index, Option, Some, None, Result, Ok, Err}
 use Rattle.std.specs.Int.{w32, bit_not}
 use Rattle.std.specs.List.{slice_get}
 use Rattle.std.specs.Option.{option_and_then}
@@ -25,7 +27,9 @@ use Rattle.script_lang.specs.declared.operation.Step.TheVariants.{Do, Dispatch}
 use Rattle.script_lang.specs.declared.operation.Verb.{Verb}
 use Rattle.script_lang.specs.declared.operation.Verb.TheVariants.{Read, Write, ReadBlock, WriteBlock, RmwBits, RmwSum}
 use Rattle.script_lang.specs.declared.script_refusal.ScriptWhy.{ScriptWhy}
-use Rattle.script_lang.specs.declared.script_refusal.ScriptWhy.TheVariants.{BadLine, UnknownBoard, UnknownName, NoPermission, WrongMode, PastSize, BitsOutside, NotWhole}
+use Rattle.script_lang.specs.declared.script_refusal.ScriptWhy.TheVariants.{BadLine, UnknownBoard, UnknownName}
+use Rattle.script_lang.specs.declared.script_refusal.ScriptWhy.TheVariants.{NoPermission, WrongMode, PastSize}
+use Rattle.script_lang.specs.declared.script_refusal.ScriptWhy.TheVariants.{BitsOutside, NotWhole}
 use Rattle.script_lang.specs.Lines.{words, command_of}
 
 abbrev pub may_read : Permission → Bool
@@ -99,7 +103,8 @@ masked_write base mask value = ops.RmwBits base (bit_not w32 mask) (shifted mask
 
 -- a single value is written as it is under the full mask
 abbrev pub write_op : Register → List ℕ → Op
-write_op r numbers = if is_full r.mask then ops.Write r.address numbers else masked_write r.address r.mask (slice_index numbers 0)
+write_op r numbers =
+    if is_full r.mask then ops.Write r.address numbers else masked_write r.address r.mask (slice_index numbers 0)
 
 -- blocks go on from address to address, but on ports
 abbrev pub read_block_op : Register → ℕ → Op

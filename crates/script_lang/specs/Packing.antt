@@ -26,7 +26,8 @@ IsSelection [] xs = Unit {0}
 IsSelection (y ∷ ys) [] = ⊥
 IsSelection (y ∷ ys) (x ∷ xs) = ((y ≡ x) × IsSelection ys xs) ⊎ IsSelection (y ∷ ys) xs
 
--- The operations of a client, or any of them, are cut into no more pieces than packing takes, whatever packets their board takes.
+-- The operations of a client, or any of them, are cut into no more pieces than packing takes, whatever packets their
+-- board takes.
 abbrev pub HaveFewPieces : List Step → Type 0
 HaveFewPieces steps =
     (ops : List Op) (payload : ℕ) → IsSelection ops (operations steps) → MIN_PAYLOAD ≤ payload

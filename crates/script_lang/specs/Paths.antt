@@ -1,4 +1,5 @@
--- How the way to a place in a document is written: keys as they stand and positions in decimal digits, joined by dots. Profile.
+-- How the way to a place in a document is written: keys as they stand and positions in decimal digits, joined by dots.
+-- Profile.
 use Rattle.std.specs.Prelude.{ℕ, List, [], ◌∷◌, ◌++◌, codes}
 use Rattle.std.specs.List.{flat_map}
 use Rattle.std.specs.Fmt.{decimal}

@@ -1,5 +1,6 @@
 -- The scripts of a session as steps, and the first faulty line of those that have one. Profile.
-use Rattle.std.specs.Prelude.{◌≡◌, ℕ, ◌+◌, nat_lt, Bool, true, false, ◌||◌, if◌then◌else◌, List, [], ◌∷◌, ◌++◌, length, map, sum_by, Option, Some, None, Result, Ok, Err}
+use Rattle.std.specs.Prelude.{◌≡◌, ℕ, ◌+◌, nat_lt, Bool, true, false, ◌||◌, if◌then◌else◌, List, [], ◌∷◌, ◌++◌, length}
+use Rattle.std.specs.Prelude.{map, sum_by, Option, Some, None, Result, Ok, Err}
 use Rattle.std.specs.List.{filter_map}
 use Rattle.std.specs.Option.{option_map_or}
 use Rattle.board_node.specs.declared.spec.BoardSpec.{BoardSpec}
@@ -26,7 +27,8 @@ pub record ScriptLine : Type 0 where
 -- the lines of a client, from a number on
 abbrev pub lines_from : ℕ → ℕ → List (List ℕ) → List ScriptLine
 lines_from client number [] = []
-lines_from client number (text ∷ texts) = record { client = client; number = number; text = text } ∷ lines_from client (number + 1) texts
+lines_from client number (text ∷ texts) =
+    record { client = client; number = number; text = text } ∷ lines_from client (number + 1) texts
 
 -- the lines of all clients from a number on, in order
 abbrev pub all_lines : ℕ → List (List (List ℕ)) → List ScriptLine
@@ -63,7 +65,8 @@ count_in count (Err why) = 0
 
 -- more lines, operations or words in block operations than a session may have
 abbrev pub is_over : Tally → Bool
-is_over tally = (nat_lt MAX_LINES tally.lines || nat_lt MAX_OPERATIONS tally.operations) || nat_lt MAX_BLOCK_WORDS tally.words
+is_over tally =
+    (nat_lt MAX_LINES tally.lines || nat_lt MAX_OPERATIONS tally.operations) || nat_lt MAX_BLOCK_WORDS tally.words
 
 module _ (boards : List BoardSpec) (indexes : List RegisterMap) where
   abbrev pub line_meaning : ScriptLine → Meaning
@@ -74,7 +77,8 @@ module _ (boards : List BoardSpec) (indexes : List RegisterMap) where
 
   -- how much some lines are together
   abbrev pub tally_of : List ScriptLine → Tally
-  tally_of lines = record { lines = length lines; operations = count_of operations_in lines; words = count_of block_words_in lines }
+  tally_of lines =
+      record { lines = length lines; operations = count_of operations_in lines; words = count_of block_words_in lines }
 
   -- the first rule that the last of some lines breaks
   abbrev pub broken_by : List ScriptLine → Meaning → Option ScriptWhy
@@ -85,7 +89,10 @@ module _ (boards : List BoardSpec) (indexes : List RegisterMap) where
   abbrev pub faults_after : List ScriptLine → List ScriptLine → List LineFault
   faults_after earlier [] = []
   faults_after earlier (line ∷ lines) =
-      option_map_or (λ why. (line.client, line.number, why) ∷ []) (broken_by (earlier ++ line ∷ []) (line_meaning line)) []
+      option_map_or
+      (λ why. (line.client, line.number, why) ∷ [])
+      (broken_by (earlier ++ line ∷ []) (line_meaning line))
+      []
       ++ faults_after (earlier ++ line ∷ []) lines
 
   -- all faults of some scripts

@@ -1,5 +1,6 @@
 -- How the code counts line by line. No public clause speaks of it.
-use Rattle.std.specs.Prelude.{◌≡◌, ℕ, ◌+◌, if◌then◌else◌, List, [], ◌∷◌, ◌++◌, Option, Some, None, option_to_list, Result, Ok, Err}
+use Rattle.std.specs.Prelude.{◌≡◌, ℕ, ◌+◌, if◌then◌else◌, List, [], ◌∷◌, ◌++◌, Option, Some, None, option_to_list}
+use Rattle.std.specs.Prelude.{Result, Ok, Err}
 use Rattle.board_node.specs.declared.spec.BoardSpec.{BoardSpec}
 use Rattle.node_tree.specs.Maps.{RegisterMap}
 use Rattle.script_lang.specs.declared.script_refusal.ScriptWhy.TheVariants.{TooMany}
@@ -57,12 +58,15 @@ module _ (boards : List BoardSpec) (indexes : List RegisterMap) where
   abbrev pub run_from : ℕ → Tally → ℕ → List (List ℕ) → Run
   run_from client tally number [] = Ok ([], tally)
   run_from client tally number (text ∷ texts) =
-      then_run (line_run client number tally (meaning boards indexes number text)) (λ next. run_from client next (number + 1) texts)
+      then_run
+      (line_run client number tally (meaning boards indexes number text))
+      (λ next. run_from client next (number + 1) texts)
 
   -- all clients from a number on
   abbrev pub run_all : ℕ → Tally → List (List (List ℕ)) → Result (List (List Step)) LineFault
   run_all client tally [] = Ok []
-  run_all client tally (script ∷ scripts) = then_all (run_from client tally 1 script) (λ next. run_all (client + 1) next scripts)
+  run_all client tally (script ∷ scripts) =
+      then_all (run_from client tally 1 script) (λ next. run_all (client + 1) next scripts)
 
 -- a refusal tells where a run stops, want of memory aside
 abbrev pub StopsAs : {X : Type 0} → Result X LineFault → ScriptRefusal → Type 0

@@ -1,5 +1,6 @@
 -- The rules that the texts of a session document keep. Profile.
-use Rattle.std.specs.Prelude.{ℕ, Bool, true, false, ◌&&◌, ◌||◌, ◌==◌, not, if◌then◌else◌, List, [], ◌∷◌, length, codes, Option, Some, None, is_some, option_map}
+use Rattle.std.specs.Prelude.{ℕ, Bool, true, false, ◌&&◌, ◌||◌, ◌==◌, not, if◌then◌else◌, List, [], ◌∷◌, length, codes}
+use Rattle.std.specs.Prelude.{Option, Some, None, is_some, option_map}
 use Rattle.std.specs.List.{list_all}
 use Rattle.address_table.specs.Kinds.{is_one_of}
 use Rattle.address_table.specs.Numbers.{is_between, number_in_text}
@@ -29,12 +30,14 @@ is_decimal (byte ∷ rest) = (is_digit byte && list_all is_digit rest) && (not (
 
 -- the number from `least` to `most` that such digits write
 abbrev pub decimal_between : ℕ → ℕ → List ℕ → Option ℕ
-decimal_between least most text = if is_decimal text then checked (is_between least most) (number_in_text text) else None
+decimal_between least most text =
+    if is_decimal text then checked (is_between least most) (number_in_text text) else None
 
 -- what stands before and after the first such byte
 abbrev pub cut_at : ℕ → List ℕ → Option (List ℕ × List ℕ)
 cut_at cut [] = None
-cut_at cut (byte ∷ rest) = if byte == cut then Some ([], rest) else option_map (λ parts. (byte ∷ parts.0, parts.1)) (cut_at cut rest)
+cut_at cut (byte ∷ rest) =
+    if byte == cut then Some ([], rest) else option_map (λ parts. (byte ∷ parts.0, parts.1)) (cut_at cut rest)
 
 infixl 10 ◌>>=◌
 abbrev pub ◌>>=◌ : {A B : Type 0} → Option A → (A → Option B) → Option B

@@ -1,7 +1,8 @@
--- What is wrong with the values of a session document: the ways to all faulty places, in the order of one walk. The keys of
--- a table stand in byte order in its members; items go by position; keys that are missing come after those that are there,
--- in byte order. Profile.
-use Rattle.std.specs.Prelude.{ℕ, ◌+◌, Bool, not, ◌&&◌, if◌then◌else◌, List, [], ◌∷◌, ◌++◌, map, Option, Some, None, is_some}
+-- What is wrong with the values of a session document: the ways to all faulty places, in the order of one walk. The
+-- keys of a table stand in byte order in its members; items go by position; keys that are missing come after those that
+-- are there, in byte order. Profile.
+use Rattle.std.specs.Prelude.{ℕ, ◌+◌, Bool, not, ◌&&◌, if◌then◌else◌, List, [], ◌∷◌, ◌++◌, map, Option, Some, None}
+use Rattle.std.specs.Prelude.{is_some}
 use Rattle.toml.specs.Data.{Data, array, table, Items, no_items, item, Members, no_members, member, as_str}
 use Rattle.address_table.specs.Numbers.{is_between, number}
 use Rattle.address_table.specs.Rules.{is_id, has_key, holds_of}
@@ -70,7 +71,8 @@ abbrev mutual
   -- the keys that are there
   pub keys_faults : List KeyRule → Members → List Way
   keys_faults keys no_members = []
-  keys_faults keys (member name value ms) = below (Key name) (value_faults (kind_at keys name) value) ++ keys_faults keys ms
+  keys_faults keys (member name value ms) =
+      below (Key name) (value_faults (kind_at keys name) value) ++ keys_faults keys ms
 
 -- a table with these keys
 abbrev pub table_faults : List KeyRule → Members → List Way

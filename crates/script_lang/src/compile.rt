@@ -24,8 +24,8 @@ use node_tree::{Index, Register};
 use std::alloc::Global;
 
 /// Compiles the scripts of a session (uHAL; the limits are the profile's), by one index for each board, in the boards'
-/// order: the steps of each client, or the first faulty line and the first rule that it breaks. A board without an index
-/// knows no register.
+/// order: the steps of each client, or the first faulty line and the first rule that it breaks. A board without an
+/// index knows no register.
 pub fn compile_scripts(
     alloc: Global,
     session: &Session,

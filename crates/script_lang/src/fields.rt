@@ -54,7 +54,8 @@ pub(crate) fn is_udp(members: &Table) -> bool
 
 /// The table under a key.
 pub(crate) fn table_at<'a>(members: &'a Table, name: &str) -> Option<&'a Table>
-    ensures { option_map (λ t. table_view t.now) result ≡ option_and_then as_table (get_member name.now (table_view members.now)) }
+    ensures { option_map (λ t. table_view t.now) result
+        ≡ option_and_then as_table (get_member name.now (table_view members.now)) }
 {
     value_at(members, name)?.as_table()
 }
@@ -72,7 +73,8 @@ pub(crate) fn items_at<'a>(members: &'a Table, name: &str) -> &'a [Value]
 
 /// The array under a key.
 fn some_array<'a>(members: &'a Table, name: &str) -> Option<&'a Array>
-    ensures { option_map (λ items. array_view items.now) result ≡ option_and_then as_array (get_member name.now (table_view members.now)) }
+    ensures { option_map (λ items. array_view items.now) result
+        ≡ option_and_then as_array (get_member name.now (table_view members.now)) }
 {
     value_at(members, name)?.as_array()
 }

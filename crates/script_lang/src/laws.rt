@@ -30,7 +30,8 @@ pub fn a_read_document_is_not_refused()
 /// Bytes have at most one first fault, and bytes that are no TOML have none.
 #[tactic(auto, using(crate::proofs::OneAnswer::one_fault))]
 pub fn a_first_fault_is_the_only_one()
-    ensures one { (bytes : List ℕ) (f g : spec.Fault) → spec.HasFirstFault bytes f → spec.HasFirstFault bytes g → f ≡ g }
+    ensures one { (bytes : List ℕ) (f g : spec.Fault)
+        → spec.HasFirstFault bytes f → spec.HasFirstFault bytes g → f ≡ g }
     ensures of_toml { (bytes : List ℕ) (f : spec.Fault) → spec.HasFirstFault bytes f → ¬ spec.IsNotToml bytes }
 {}
 

@@ -33,16 +33,16 @@ pub enum ScriptWhy {
     BitsOutside,
     /// A block operation, `rmwbits` or `rmwsum` on a register whose mask leaves out a bit.
     NotWhole,
-    /// With this line the session has more than `MAX_LINES` lines, `MAX_OPERATIONS` operations or `MAX_BLOCK_WORDS` words
-    /// in block operations.
+    /// With this line the session has more than `MAX_LINES` lines, `MAX_OPERATIONS` operations or `MAX_BLOCK_WORDS`
+    /// words in block operations.
     TooMany,
 }
 
 /// Why scripts were not compiled.
 #[derive(Clone, Copy, Debug, PartialEq, Eq)]
 pub enum ScriptRefusal {
-    /// The first faulty line, by the numbers from 1 of its client and of itself in the client's script, and the first rule
-    /// that it breaks.
+    /// The first faulty line, by the numbers from 1 of its client and of itself in the client's script, and the first
+    /// rule that it breaks.
     At {
         client: u32,
         line: u32,

@@ -45,7 +45,8 @@ fn each_table(alloc: Global, members: &Table) -> Result<Tables, SessionRefusal>
 
 /// A refusal of the table of a name.
 fn refused_table(alloc: Global, name: &str, refusal: TableRefusal) -> SessionRefusal
-    ensures { (fault : Option (List ℕ × Why)) → IsFault fault refusal → TellsFault (table_fault_list name.now fault) result }
+    ensures { (fault : Option (List ℕ × Why))
+        → IsFault fault refusal → TellsFault (table_fault_list name.now fault) result }
 {
     match refusal {
         TableRefusal::At { path, why } => match Text::copy_of(alloc, name) {
