@@ -6,10 +6,13 @@ use Rattle.board_bus.specs.Bodies.{replay}
 use Rattle.world_model.specs.Board.{Board, executed, present_bus}
 use Rattle.board_node.specs.Hearings.{grown}
 use Rattle.transcript.specs.declared.outcome.Outcome.{Outcome}
+use Rattle.board_node.specs.declared.spec.BoardSpec.{BoardSpec}
+use Rattle.script_lang.specs.declared.operation.Step.{Step}
+use Rattle.transcript.specs.declared.board_run.BoardRun.{BoardRun}
 use Rattle.transcript.specs.declared.board_run.ClientPart.{ClientPart}
 use Rattle.transcript.specs.Plan.{ClientBodies}
 use Rattle.board_history.specs.InTurn.{outcomes_from}
-use Rattle.direct_run.specs.Runs.{entry_of, next_place, parts_in_turn}
+use Rattle.direct_run.specs.Runs.{entry_of, next_place, parts_in_turn, board_run, runs_from}
 use Rattle.direct_run.specs.Steps.{IsRunning, all_bodies}
 use Rattle.direct_run.proofs.Sending.{bus_after, executed_more, place_after}
 
@@ -44,3 +47,12 @@ pub same_part : (part : ClientPart) (b : Board) (plan : ClientBodies) → part.p
 same_part part b plan planned outcomes =
     ap (λ (p : ClientBodies). record { planned = p; outcomes = part.outcomes }) planned
     ∙ ap (λ (os : List Outcome). record { planned = plan; outcomes = os }) outcomes
+
+-- ---- boards
+
+pub board_more : (boards : List BoardSpec) (scripts : List (List Step)) (k : ℕ) (spec : BoardSpec) (left rest : List BoardSpec) (runs : List BoardRun)
+    → left ≡ spec ∷ rest → runs ++ runs_from k left scripts ≡ runs_from 0 boards scripts
+    → (runs ++ board_run spec k scripts ∷ []) ++ runs_from (k + 1) rest scripts ≡ runs_from 0 boards scripts
+board_more boards scripts k spec left rest runs begins told =
+    append_assoc runs (board_run spec k scripts ∷ []) (runs_from (k + 1) rest scripts)
+    ∙ sym (ap (λ (specs : List BoardSpec). runs ++ runs_from k specs scripts) begins) ∙ told

@@ -72,10 +72,10 @@ pub fn run_clients(
     requires can { AllByRecursion (AllByRecursion CanBePacked) scripts.now }
     requires few { AllByRecursion HaveFewPieces scripts.now }
     ensures parts { IfOk result (λ parts. parts
-        ≡ parts_in_turn (next_place board.old) (present_bus board.old) (plans_on position payload scripts.now)) }
+        ≡ parts_in_turn (next_place board.old) (present_bus board.old) (plans_on position (Live payload) scripts.now)) }
     // The board executed the clients' bodies, client by client, and each once.
     ensures executed { OnOk result (executed board.new ≡ executed board.old
-        ++ flat_map (λ (plan : ClientBodies). plan.bodies) (plans_on position payload scripts.now)) }
+        ++ flat_map (λ (plan : ClientBodies). plan.bodies) (plans_on position (Live payload) scripts.now)) }
 {
     let mut parts = Vec::with_capacity(alloc, scripts.len())?;
     for steps in scripts {
