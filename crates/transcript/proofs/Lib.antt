@@ -6,3 +6,5 @@ mod Counts
 mod StatusLemmas
 mod DispatchLemmas
 mod Skipping
+mod Reading
+mod Rising
