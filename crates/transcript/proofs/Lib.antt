@@ -2,3 +2,9 @@ mod Hex
 mod Lookups
 mod LineLemmas
 mod PlanLemmas
+mod Counts
+mod StatusLemmas
+mod DispatchLemmas
+mod Skipping
+mod Reading
+mod Rising

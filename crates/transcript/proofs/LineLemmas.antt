@@ -1,7 +1,7 @@
 -- The lines of a client, operation by operation.
-use Rattle.std.proofs.Common.{◌≡◌, ◌≢◌, ℕ, zero, suc, ◌+◌, ◌≤◌, ◌<◌, ◌==◌, cond, Bool, true, false, length, get_or, take, drop, set, List, [], ◌∷◌, ◌++◌}
-use Rattle.std.proofs.Common.{Option, Some, None, refl, sym, ap, subst, ◌∙◌, inl, inr, arith, zero-add, append_assoc, append-nil, add-one, drop-cons, length-append, length-set, length-take}
-use Rattle.std.specs.List.{slice_get, filter_map, count_by}
+use Rattle.std.proofs.Common.{◌≡◌, ℕ, suc, ◌+◌, ◌≤◌, ◌<◌, ◌==◌, cond, Bool, length, get_or, take, drop, List, [], ◌∷◌, ◌++◌}
+use Rattle.std.proofs.Common.{sym, ap, ◌∙◌, inl, inr, arith, zero-add, append_assoc, append-nil, add-one, drop-cons, length-append, length-set, length-take}
+use Rattle.std.specs.List.{slice_get, count_by}
 use Rattle.std.specs.Option.{option_map}
 use Rattle.std.specs.Prelude.{option_to_list, slice_index}
 use Rattle.std.proofs.lemmas.Bool.{cases_eq}
@@ -17,8 +17,8 @@ use Rattle.script_lang.specs.declared.operation.Step.TheVariants.{Do, Dispatch}
 use Rattle.transcript.specs.declared.board_run.BoardRun.{BoardRun}
 use Rattle.transcript.specs.declared.line.OpLine.{OpLine}
 use Rattle.transcript.specs.Plan.{operation_in, operations}
-use Rattle.transcript.specs.Lines.{line_of, lines_behind, client_lines, count_on}
-use Rattle.transcript.specs.Steps.{line_on, bumped, AreBelow, IsProgress}
+use Rattle.transcript.specs.Lines.{line_of, count_on}
+use Rattle.transcript.specs.Steps.{line_on, bumped, IsProgress}
 
 -- what is counted of two lists
 pub count_by-append : {A : Type 0} (p : A → Bool) (xs ys : List A) → count_by p (xs ++ ys) ≡ count_by p xs + count_by p ys
@@ -90,15 +90,19 @@ module _ (runs : List BoardRun) (client : ℕ) (steps : List Step) (i : ℕ) (ma
       left steps i step within is ∙ ap (λ s. operations (s ∷ []) ++ operations (drop (i + 1) steps)) asks in
       record {
         lines =
-            rw (same_line runs client number (slice_index counts op.board) (operations (take i steps)) op so_far.operations'
-            (so_far.counts' op.board), before, append_assoc) (rw rest at so_far.lines);
+            rw (
+              same_line runs client number (slice_index counts op.board) (operations (take i steps)) op so_far.operations'
+                  (so_far.counts' op.board),
+              before,
+              append_assoc,
+            ) (rw rest at so_far.lines);
         operations' = rw (before, length-append) (omega (arith, so_far.operations'));
         boards = length-set counts _ _ ∙ so_far.boards;
         counts' = λ b there. rw before (
-          bumped_at counts op.board b (omega (arith, so_far.boards)) ∙ (ap (λ n. n + cond (op.board == b) 1 0) (so_far.counts' b there)
-          ∙ (ap (λ n. count_on b (operations (take i steps)) + n) (sym (zero-add (cond (op.board == b) 1 0)))
-          ∙ sym (count_by-append (λ (o : RegOp). o.board == b) (operations (take i steps)) (op ∷ []))))
-        );
+            bumped_at counts op.board b (omega (arith, so_far.boards)) ∙ (ap (λ n. n + cond (op.board == b) 1 0) (so_far.counts' b there)
+            ∙ (ap (λ n. count_on b (operations (take i steps)) + n) (sym (zero-add (cond (op.board == b) 1 0)))
+            ∙ sym (count_by-append (λ (o : RegOp). o.board == b) (operations (take i steps)) (op ∷ []))))
+            );
       }
 
   pub few_so_far : number ≤ i

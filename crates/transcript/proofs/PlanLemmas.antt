@@ -1,6 +1,6 @@
 -- Planning, step by step, and what holds of the bodies of a plan.
-use Rattle.std.proofs.Common.{◌≡◌, ℕ, zero, suc, ◌+◌, ◌≤◌, ◌<◌, ◌^◌, ◌==◌, Bool, true, false, length, get_or, take, drop, map, List, [], ◌∷◌, ◌++◌}
-use Rattle.std.proofs.Common.{refl, sym, ap, subst, ◌∙◌, inl, inr, arith, append_assoc, append-nil, add-one, add-zero, drop-cons}
+use Rattle.std.proofs.Common.{◌≡◌, ℕ, zero, suc, ◌+◌, ◌≤◌, ◌<◌, ◌^◌, ◌==◌, length, get_or, drop, map, List, [], ◌∷◌, ◌++◌}
+use Rattle.std.proofs.Common.{refl, sym, ap, subst, ◌∙◌, inl, inr, arith, append_assoc, append-nil, add-one, drop-cons}
 use Rattle.std.specs.List.{AllByRecursion, All, flat_map, fold, range_with_len}
 use Rattle.std.proofs.lemmas.Bool.{cases_Bool}
 use Rattle.std.proofs.lemmas.List.Elements.{All-nil, All-cons, All-append}
@@ -17,8 +17,7 @@ use Rattle.mtu_packer.specs.declared.packing.TheConstants.{MIN_PAYLOAD}
 use Rattle.script_lang.specs.declared.operation.RegOp.{RegOp}
 use Rattle.script_lang.specs.declared.operation.Step.{Step}
 use Rattle.script_lang.specs.declared.operation.Step.TheVariants.{Do, Dispatch}
-use Rattle.transcript.specs.declared.planned.PieceAt.{PieceAt}
-use Rattle.transcript.specs.Plan.{ClientBodies, no_bodies, AreSound, IsWithinBody, moved, begun, dispatches, ops_on, plan, with_dispatch, all_dispatches, operations}
+use Rattle.transcript.specs.Plan.{ClientBodies, no_bodies, AreSound, IsWithinBody, moved, begun, dispatches, ops_on, with_dispatch}
 use Rattle.transcript.specs.Steps.{continued, HaveFewBehind, IsPlanning}
 
 -- ---- indices

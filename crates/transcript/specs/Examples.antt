@@ -1,6 +1,6 @@
 -- Sessions worked by hand: what each line of a transcript looks like. One board with an MTU of 1500, unless it is said
 -- otherwise. Profile.
-use Rattle.std.specs.Prelude.{ℕ, List, [], ◌∷◌, ◌++◌, codes, replicate, Some, None}
+use Rattle.std.specs.Prelude.{ℕ, List, [], ◌∷◌, ◌++◌, codes, replicate, Some}
 use Rattle.transaction_codec.specs.declared.request.Op.{Op}
 use Rattle.transaction_codec.specs.declared.request.Op.TheVariants as ops
 use Rattle.address_table.specs.declared.kinds.Permission.{Permission}
@@ -16,7 +16,7 @@ use Rattle.script_lang.specs.declared.operation.Step.TheVariants.{Do, Dispatch}
 use Rattle.transcript.specs.declared.outcome.Outcome.{Outcome}
 use Rattle.transcript.specs.declared.outcome.Outcome.TheVariants.{Replied, TimedOut, Unsent, LinkLost}
 use Rattle.transcript.specs.declared.outcome.Greeting.{Greeting}
-use Rattle.transcript.specs.declared.outcome.Greeting.TheVariants.{Live, Silent, Down}
+use Rattle.transcript.specs.declared.outcome.Greeting.TheVariants.{Live}
 use Rattle.transcript.specs.Session.{BoardFate, transcript}
 use Rattle.transcript.specs.Text.{transcript_text}
 

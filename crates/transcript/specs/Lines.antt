@@ -1,12 +1,11 @@
 -- The lines of a run: a function of each client's steps, and of what became of each board. Profile.
-use Rattle.std.specs.Prelude.{ℕ, ◌+◌, ◌^◌, ◌<◌, ◌==◌, Bool, true, false, ◌&&◌, if◌then◌else◌, List, [], ◌∷◌, ◌++◌, length, map, count_by, slice_get}
+use Rattle.std.specs.Prelude.{ℕ, ◌+◌, ◌^◌, ◌<◌, ◌==◌, Bool, true, false, if◌then◌else◌, List, [], ◌∷◌, ◌++◌, length, map, count_by, slice_get}
 use Rattle.std.specs.Prelude.{Option, Some, None, option_to_list, option_map}
 use Rattle.std.specs.List.{flat_map, list_all}
 use Rattle.script_lang.specs.declared.operation.RegOp.{RegOp}
 use Rattle.script_lang.specs.declared.operation.Step.{Step}
 use Rattle.transcript.specs.declared.outcome.Outcome.{Outcome}
 use Rattle.transcript.specs.declared.outcome.Outcome.TheVariants.{Replied, TimedOut, Unsent, LinkLost}
-use Rattle.transcript.specs.declared.outcome.Greeting.{Greeting}
 use Rattle.transcript.specs.declared.outcome.Greeting.TheVariants as greeting
 use Rattle.transcript.specs.declared.planned.PieceAt.{PieceAt}
 use Rattle.transcript.specs.declared.board_run.ClientPart.{ClientPart}
@@ -17,7 +16,7 @@ use Rattle.transcript.specs.declared.line.OpLine.{OpLine}
 use Rattle.transcript.specs.declared.line.BoardLine.{BoardLine}
 use Rattle.transcript.specs.declared.line.BoardLine.TheVariants as board_lines
 use Rattle.transcript.specs.Plan.{operations}
-use Rattle.transcript.specs.Ends.{ends_of, place_of}
+use Rattle.transcript.specs.Ends.{ends_of}
 use Rattle.transcript.specs.Results.{op_result, op_places, is_good}
 
 -- ---- operations
@@ -44,7 +43,7 @@ showing run client k op = elim run.greeting as (λ _. Showing) [
   | greeting.Live payload ↦ in_part (slice_get run.parts client) k op
   | greeting.Silent ↦ never_sent
   | greeting.Down ↦ (result.LinkLost, [])
-  ]
+]
 
 -- how many of these operations are on a board
 abbrev pub count_on : ℕ → List RegOp → ℕ
@@ -129,7 +128,7 @@ board_line run = elim run.greeting as (λ _. BoardLine) [
   | greeting.Live payload ↦ live_line run.name (outcomes_on run)
   | greeting.Silent ↦ board_lines.Silent run.name
   | greeting.Down ↦ board_lines.Down run.name
-  ]
+]
 
 -- ---- the whole
 

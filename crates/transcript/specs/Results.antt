@@ -1,5 +1,5 @@
 -- What an operation came to, by what its pieces came to. Profile; uHAL for masked reads.
-use Rattle.std.specs.Prelude.{ℕ, Bool, true, false, if◌then◌else◌, List, [], ◌∷◌, map, Option, Some, None, slice_get, unwrap_or}
+use Rattle.std.specs.Prelude.{ℕ, Bool, true, false, if◌then◌else◌, List, [], ◌∷◌, map, Option, Some, None, unwrap_or}
 use Rattle.std.specs.List.{flat_map}
 use Rattle.masked_fields.specs.Field.{field}
 use Rattle.script_lang.specs.declared.operation.Verb.{Verb}

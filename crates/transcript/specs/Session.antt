@@ -1,6 +1,6 @@
 -- The transcript of a session: a function of the clients' steps, and of what became of each board, where outcomes stand
 -- in the shape of the plan. Profile.
-use Rattle.std.specs.Prelude.{ℕ, ◌+◌, List, [], ◌∷◌, ◌++◌}
+use Rattle.std.specs.Prelude.{ℕ, ◌+◌, List, [], ◌∷◌}
 use Rattle.std.specs.List.{flat_map}
 use Rattle.script_lang.specs.declared.operation.Step.{Step}
 use Rattle.transcript.specs.declared.outcome.Outcome.{Outcome}

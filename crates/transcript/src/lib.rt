@@ -10,6 +10,7 @@ mod board_run;
 mod boards;
 mod body_end;
 pub mod examples;
+pub mod laws;
 mod line;
 mod lines;
 mod listing;

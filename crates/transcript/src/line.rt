@@ -96,7 +96,11 @@ pub enum BoardLine {
         lost: u64,
     },
     /// The board did not answer the greeting.
-    Silent { name: Text },
+    Silent {
+        name: Text,
+    },
     /// The link failed in the greeting.
-    Down { name: Text },
+    Down {
+        name: Text,
+    },
 }

@@ -27,11 +27,7 @@ fn ends_on(alloc: Global, run: &BoardRun, client: usize) -> Result<Vec<BodyEnd>,
 }
 
 /// The same of every board.
-fn all_ends(
-    alloc: Global,
-    runs: &[BoardRun],
-    client: usize,
-) -> Result<Vec<Vec<BodyEnd>>, NoMemory>
+fn all_ends(alloc: Global, runs: &[BoardRun], client: usize) -> Result<Vec<Vec<BodyEnd>>, NoMemory>
     ensures { IfOk result (λ all. map (λ ends. ends.items) all.items ≡ map (ends_on client) runs.now) }
 {
     let mut all = Vec::new(alloc);
@@ -149,7 +145,15 @@ fn add_line(
         return Ok(());
     };
     let k = progress.counts[board];
-    let line = line_on(alloc, run, client, ends[board].as_slice(), progress.number, k, op)?;
+    let line = line_on(
+        alloc,
+        run,
+        client,
+        ends[board].as_slice(),
+        progress.number,
+        k,
+        op,
+    )?;
     progress.lines.push(line)?;
     progress.counts[board] = k + 1;
     Ok(())

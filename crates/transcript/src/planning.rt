@@ -114,12 +114,7 @@ struct Planning {
 }
 
 /// An operation on the board waits for the next dispatch.
-fn queue(
-    alloc: Global,
-    queued: &mut Vec<Op>,
-    op: &RegOp,
-    board: u32,
-) -> Result<(), NoMemory>
+fn queue(alloc: Global, queued: &mut Vec<Op>, op: &RegOp, board: u32) -> Result<(), NoMemory>
     ensures { OnOk result (queued.new.items ≡ queued.old.items ++ spec.ops_on board (op.now ∷ [])) }
 {
     if op.board == board {

@@ -131,10 +131,10 @@ fn push_place(
     requires { IsWithinBody piece }
     ensures { OnOk result (places.new.items ≡ places.old.items ++ piece_place ends.now piece) }
 {
-    let Some(end) = ends.get(piece.body) else {
+    let Some(found) = ends.get(piece.body) else {
         return Ok(());
     };
-    match end.place {
+    match found.place {
         Some(place) => Ok(places.push((place, piece.index + 1))?),
         None => Ok(()),
     }

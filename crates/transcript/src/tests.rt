@@ -1,12 +1,12 @@
+ghost use Rattle.std.specs.Prelude.{IfOk, ◌≤◌, ◌^◌, ◌∷◌, []};
+ghost use Rattle.script_lang.specs.Packing.{CanBePacked};
+ghost use Rattle.transcript.specs.Plan.{words_asked};
+
 use super::*;
 use script_lang::{RegOp, Step, Verb};
 use std::alloc::Global;
 use std::test::*;
 use transaction_codec::Op;
-
-ghost use Rattle.std.specs.Prelude.{IfOk, ◌≤◌, ◌^◌, ◌∷◌, []};
-ghost use Rattle.script_lang.specs.Packing.{CanBePacked};
-ghost use Rattle.transcript.specs.Plan.{words_asked};
 
 /// `read b0:sys.id`
 fn read_id(alloc: Global) -> Result<Step, NoMemory>
@@ -42,11 +42,7 @@ fn read_mem(alloc: Global) -> Result<Step, NoMemory>
 }
 
 /// The run of one client on board `b0`.
-fn run_of(
-    alloc: Global,
-    planned: Planned,
-    outcomes: Vec<Outcome>,
-) -> Result<BoardRun, NoMemory> {
+fn run_of(alloc: Global, planned: Planned, outcomes: Vec<Outcome>) -> Result<BoardRun, NoMemory> {
     let part = ClientPart {
         planned,
         outcomes: Outcomes::from_vec(outcomes),
@@ -84,7 +80,8 @@ fn one_read_is_planned_and_printed(rt: HostRuntime) -> Result<(), Fail> {
     let outcomes = vec![in alloc; Outcome::Replied { place: 1, words }]?;
     let run = run_of(alloc, planned, outcomes)?;
     let text = printed(alloc, run, &steps)?;
-    let expected = "client 1\n1 read b0:sys.id = 0x0000abcd @1.1\nboard b0 places 1 replied 1 timeout 0 lost 0\n";
+    let expected =
+        "client 1\n1 read b0:sys.id = 0x0000abcd @1.1\nboard b0 places 1 replied 1 timeout 0 lost 0\n";
     assert_eq!(rt; text.as_slice(), expected.as_bytes());
     Ok(())
 }

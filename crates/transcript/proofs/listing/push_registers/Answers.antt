@@ -1,4 +1,4 @@
-use Rattle.std.proofs.Common.{◌≡◌, ◌≤◌, ◌++◌, ◌∙◌, [], length, drop, string_bytes, arith, append_assoc, append-nil, ap, sym}
+use Rattle.std.proofs.Common.{◌≤◌, ◌++◌, ◌∙◌, length, string_bytes, arith, append_assoc, append-nil, ap, sym}
 use Rattle.std.proofs.Math.ListN.{drop_of_length-le}
 use Rattle.std.specs.FinMap.{entries, len-entries}
 use Rattle.std.specs.List.{flat_map}

@@ -9,13 +9,13 @@ use Rattle.transcript.proofs.planning.dispatch.Goals as goal
 pub returns-clause-sound : goal.returns-clause-sound
 returns-clause-sound c = record {
   spelled = rw (c.in_ok-push_bodies.ensures, c.into_parts-bodies.ensures.bodies) (
-    AllByRecursion-append SpellsRequests _ _ c.requires.sound.spelled
-    (c.packed_bodies_spell_requests.ensures _ c.args.payload _ c.in_ok-packed.ensures.packed)
-  );
+      AllByRecursion-append SpellsRequests _ _ c.requires.sound.spelled
+      (c.packed_bodies_spell_requests.ensures _ c.args.payload _ c.in_ok-packed.ensures.packed)
+      );
   within = rw c.in_ok-push_pieces.ensures (
-    AllByRecursion-append (AllByRecursion IsWithinBody) _ _ c.requires.sound.within
-    (all_moved c.len-first.result _ (pieces_small _ c.args.payload _ c.in_ok-packed.ensures.packed))
-  );
+      AllByRecursion-append (AllByRecursion IsWithinBody) _ _ c.requires.sound.within
+      (all_moved c.len-first.result _ (pieces_small _ c.args.payload _ c.in_ok-packed.ensures.packed))
+      );
 }
 
 pub returns-clause-room : goal.returns-clause-room

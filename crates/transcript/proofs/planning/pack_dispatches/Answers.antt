@@ -1,4 +1,4 @@
-use Rattle.std.proofs.Common.{◌≡◌, ◌+◌, ◌∙◌, drop, sym, ap, subst}
+use Rattle.std.proofs.Common.{◌+◌, drop, sym, subst}
 use Rattle.transcript.specs.declared.planning.Planning.{Planning}
 use Rattle.std.specs.List.{AllByRecursion}
 use Rattle.mtu_packer.specs.Packed.{FitsPackets}
@@ -19,15 +19,15 @@ loop-step-preserved c =
     λ p. IsPlanning c.args.payload c.args.board c.args.steps.now (c.loop-step.step-index + 1) (so_far p) p.queued.items in
     elim c.match-step.branch [
       | in-Do+in_ok-queue-in-Do w ↦ subst Holds (sym w.planning-is) (
-        rw w.in_ok-queue-in-Do.ensures
-        (after_operation c.args.payload c.args.board c.args.steps.now c.loop-step.step-index _ _ c.step-item.result
-        c.loop-step.invariant c.loop-step-test.true c.step-item.is w.in-Do.op w.in-Do.is))
+          rw w.in_ok-queue-in-Do.ensures
+          (after_operation c.args.payload c.args.board c.args.steps.now c.loop-step.step-index _ _ c.step-item.result
+          c.loop-step.invariant c.loop-step-test.true c.step-item.is w.in-Do.op w.in-Do.is))
       | in-Dispatch+in_ok-dispatch-in-Dispatch w ↦ subst Holds (sym w.planning-is) (
-        let e = w.in_ok-dispatch-in-Dispatch.ensures in
-        rw (e.planned, e.emptied)
-        (after_dispatch c.args.payload c.args.board c.args.steps.now c.loop-step.step-index _ _ c.step-item.result
-        c.loop-step.invariant c.loop-step-test.true c.step-item.is w.in-Dispatch.is (subst AreSound e.planned e.sound)
-        (subst (λ (all : ClientBodies). AllByRecursion (FitsPackets c.args.payload) all.bodies) e.planned e.room)))
+          let e = w.in_ok-dispatch-in-Dispatch.ensures in
+          rw (e.planned, e.emptied)
+          (after_dispatch c.args.payload c.args.board c.args.steps.now c.loop-step.step-index _ _ c.step-item.result
+          c.loop-step.invariant c.loop-step-test.true c.step-item.is w.in-Dispatch.is (subst AreSound e.planned e.sound)
+          (subst (λ (all : ClientBodies). AllByRecursion (FitsPackets c.args.payload) all.bodies) e.planned e.room)))
     ]
 
 pub dispatch-requires-clause-few : goal.dispatch-requires-clause-few

@@ -1,4 +1,4 @@
-use Rattle.std.proofs.Common.{◌++◌, append_assoc, ap, map}
+use Rattle.std.proofs.Common.{append_assoc, ap, map}
 use Rattle.transcript.specs.Plan as spec
 use Rattle.transcript.proofs.Lookups.{drop_at}
 use Rattle.transcript.proofs.planning.push_pieces.Goals as goal

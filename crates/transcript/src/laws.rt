@@ -1,0 +1,72 @@
+//! Laws of the definitions. These functions do nothing when they run: their clauses are what is proved.
+
+ghost use Rattle.std.specs.Prelude.{◌≡◌, ◌↔◌, ℕ, ◌+◌, ◌<◌, List, [], ◌∷◌, ◌++◌, length, count_by, Some};
+ghost use Rattle.std.specs.List.{AllByRecursion, filter_map, flat_map};
+ghost use Rattle.ipb_base.specs.Word.{AreWords};
+ghost use Rattle.mtu_packer.specs.Packed.{Contents, deal};
+ghost use Rattle.script_lang.specs.declared.operation.Step.{Step};
+ghost use Rattle.transcript.specs.declared.outcome.Outcome.{Outcome as OutcomeValue};
+ghost use Rattle.transcript.specs.declared.line.OpLine.{OpLine as OpLineValue};
+ghost use Rattle.transcript.specs.declared.line.OpResult.TheVariants.{Skipped, Error};
+ghost use Rattle.transcript.specs.declared.planned.PieceAt.{PieceAt as PieceValue};
+ghost use Rattle.transcript.specs.declared.body_end.BodyEnd.{BodyEnd as BodyEndValue};
+ghost use Rattle.transcript.specs.Plan.{bodies_in, all_dispatches, plan};
+ghost use Rattle.transcript.specs.Ends.{place_of, told_of, told_at};
+ghost use Rattle.transcript.specs.Results.{op_places};
+ghost use Rattle.transcript.specs.Text.{line_text};
+ghost use Rattle.transcript.specs.Lines.{is_sent, is_replied, is_timed_out, is_lost, run_status, client_lines};
+ghost use Rattle.transcript.specs.Claims.{IsDone, HaveWords, IsPrintedLine, IsBefore, Rises, IsOther, HaveOwnPlaces};
+
+use reply_join::laws::{joining_is_a_function, skipped_stands_behind_a_fault};
+
+/// The first sends of a board's line are the bodies that have a place, and each of them was replied to, timed out, or
+/// was lost with the link.
+pub fn a_board_line_counts_each_first_send_once()
+    ensures places { (outcomes : List OutcomeValue) →
+        count_by is_sent outcomes ≡ length (filter_map place_of outcomes) }
+    ensures sum { (outcomes : List OutcomeValue) → count_by is_sent outcomes
+        ≡ (count_by is_replied outcomes + count_by is_timed_out outcomes) + count_by is_lost outcomes }
+{}
+
+/// The status of a run is 0 exactly where every line is a value, `done` or `was`, and it is 0 or 1.
+pub fn the_status_tells_whether_all_was_done()
+    ensures done { (clients : List (List OpLineValue)) →
+        ((run_status clients ≡ 0) ↔ AllByRecursion (AllByRecursion IsDone) clients) }
+    ensures other { (clients : List (List OpLineValue)) → run_status clients < 2 }
+{}
+
+/// The bodies of a client on a board are those of its plan, one dispatch behind the other, and `counts` cuts them into
+/// the plan's dispatches again.
+pub fn bodies_stand_dispatch_by_dispatch()
+    ensures bodies { (plan : List Contents) →
+        (all_dispatches plan).bodies ≡ flat_map (λ bodies. bodies) (bodies_in plan) }
+    ensures counts { (plan : List Contents) →
+        deal (all_dispatches plan).counts (all_dispatches plan).bodies ≡ bodies_in plan }
+{}
+
+/// A transaction is told as skipped only where one before it in the same body failed: so a body without a failure has
+/// no skipped line.
+pub fn skipped_stands_behind_an_error()
+    ensures { (body : List ℕ) (outcome : OutcomeValue) (index : ℕ) → AreWords body → HaveWords outcome →
+        told_at (told_of body outcome) index ≡ Skipped → (earlier code after : ℕ) × (earlier < index)
+        × (told_at (told_of body outcome) earlier ≡ Error code after) }
+{
+    joining_is_a_function();
+    skipped_stands_behind_a_fault();
+}
+
+/// The pieces of an operation stand one behind the other, in rising bodies and, within a body, with rising numbers.
+/// So where no two bodies have one place, no two pieces of an operation have one.
+pub fn pieces_of_an_operation_have_their_own_places()
+    ensures pieces { (payload board : ℕ) (steps : List Step) →
+        AllByRecursion (Rises IsBefore) (all_dispatches (plan payload board steps)).pieces }
+    ensures places { (ends : List BodyEndValue) (pieces : List PieceValue) → HaveOwnPlaces ends → Rises IsBefore pieces →
+        Rises IsOther (op_places ends pieces) }
+{}
+
+/// Two lines of one text are one line: so the text tells the number, the verb, the names, what the operation came to
+/// and its places.
+pub fn a_text_is_that_of_one_line()
+    ensures { (line other : OpLineValue) → IsPrintedLine line → IsPrintedLine other →
+        line_text line ≡ line_text other → line ≡ other }
+{}
