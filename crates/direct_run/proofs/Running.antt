@@ -28,17 +28,17 @@ pub client_more : (start now : Board) (plans rest : List ClientBodies) (plan : C
     → IsRunning start (board_after now plan) plans rest (parts ++ part_on now plan ∷ [])
 client_more start now plans rest plan parts is = record {
   told =
-    append_assoc parts (part_on now plan ∷ [])
-    (parts_in_turn (next_place (board_after now plan)) (present_bus (board_after now plan)) rest)
-    ∙ ap (λ (place : ℕ). parts ++ part_on now plan ∷ parts_in_turn place (present_bus (board_after now plan)) rest)
-    (place_after now plan.bodies)
-    ∙ ap (λ (cells : CellMap). parts ++ part_on now plan
-    ∷ parts_in_turn (next_place now + length plan.bodies) cells rest) (bus_after now plan.bodies)
-    ∙ is.told;
+      append_assoc parts (part_on now plan ∷ [])
+      (parts_in_turn (next_place (board_after now plan)) (present_bus (board_after now plan)) rest)
+      ∙ ap (λ (place : ℕ). parts ++ part_on now plan ∷ parts_in_turn place (present_bus (board_after now plan)) rest)
+      (place_after now plan.bodies)
+      ∙ ap (λ (cells : CellMap). parts ++ part_on now plan
+      ∷ parts_in_turn (next_place now + length plan.bodies) cells rest) (bus_after now plan.bodies)
+      ∙ is.told;
   board =
-    ap (λ (bodies : List (List ℕ)). bodies ++ all_bodies rest) (executed_more now plan.bodies)
-    ∙ append_assoc (executed now) plan.bodies (all_bodies rest)
-    ∙ is.board;
+      ap (λ (bodies : List (List ℕ)). bodies ++ all_bodies rest) (executed_more now plan.bodies)
+      ∙ append_assoc (executed now) plan.bodies (all_bodies rest)
+      ∙ is.board;
   mtu = is.mtu;
 }
 

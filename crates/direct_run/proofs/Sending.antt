@@ -53,13 +53,13 @@ module _ (start now : Board) (bodies : List (List ℕ)) (outcomes : List Outcome
       → IsSending start (grown now (entry_of body ∷ [])) bodies rest (outcomes ++ Replied (next_place now) (run_body (present_bus now) body).reply ∷ [])
   one_more body rest is = record {
     told =
-      append_assoc outcomes (Replied (next_place now) (run_body (present_bus now) body).reply ∷ [])
-      (outcomes_from (next_place (grown now (entry_of body ∷ []))) (present_bus (grown now (entry_of body ∷ []))) rest)
-      ∙ ap (λ (place : ℕ). outcomes ++ Replied (next_place now) (run_body (present_bus now) body).reply
-      ∷ outcomes_from place (present_bus (grown now (entry_of body ∷ []))) rest) (place_after now (body ∷ []))
-      ∙ ap (λ (cells : CellMap). outcomes ++ Replied (next_place now) (run_body (present_bus now) body).reply
-      ∷ outcomes_from (next_place now + 1) cells rest) (bus_after now (body ∷ []))
-      ∙ is.told;
+        append_assoc outcomes (Replied (next_place now) (run_body (present_bus now) body).reply ∷ [])
+        (outcomes_from (next_place (grown now (entry_of body ∷ []))) (present_bus (grown now (entry_of body ∷ []))) rest)
+        ∙ ap (λ (place : ℕ). outcomes ++ Replied (next_place now) (run_body (present_bus now) body).reply
+        ∷ outcomes_from place (present_bus (grown now (entry_of body ∷ []))) rest) (place_after now (body ∷ []))
+        ∙ ap (λ (cells : CellMap). outcomes ++ Replied (next_place now) (run_body (present_bus now) body).reply
+        ∷ outcomes_from (next_place now + 1) cells rest) (bus_after now (body ∷ []))
+        ∙ is.told;
     board = grown_on now (entry_of body ∷ []) (map entry_of rest) ∙ is.board;
     fit = is.fit.1;
   }

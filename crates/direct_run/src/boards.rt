@@ -1,32 +1,35 @@
 //! Boards of a session, one after another.
 
-ghost use Rattle.std.specs.Prelude.{◌≡◌, ◌+◌, ◌^◌, ◌≤◌, ◌<◌, [], length, IfOk, None};
+ghost use Rattle.std.specs.Prelude.{◌≡◌, ◌^◌, ◌<◌, length, IfOk, None};
 ghost use Rattle.std.specs.List.{AllByRecursion};
 ghost use Rattle.ipb_base.specs.Numbers.{payload_of};
-ghost use Rattle.status_packet.specs.Range.{IsMtu, IsBufferCount};
+ghost use Rattle.status_packet.specs.Range.{IsMtu};
 ghost use Rattle.board_bus.specs.Ranges.{opening_bus, refusal_of};
 ghost use Rattle.script_lang.specs.Packing.{CanBePacked, HaveFewPieces};
 ghost use Rattle.transcript.specs.Lines.{IsCountable};
 ghost use Rattle.direct_run.specs.Runs.{CanRun, board_run, runs_from};
 
 use crate::clients::run_clients;
-use board_bus::{Bus, BusRefusal};
+use board_bus::{Bus, BusRefusal, Range};
 use board_node::{Board, BoardSpec, LinkSpec};
 use ipb_base::{NoMemory, Text};
 use script_lang::Steps;
 use std::alloc::Global;
 use transcript::{BoardRun, Greeting};
 
-/// The words of the longest packet that a board with this MTU takes.
+/// The bytes of the headers of IPv4 and UDP, which an MTU counts (RFC 791, RFC 768).
+const IP_UDP_BYTES: u32 = 28;
+
+/// The words of the longest packet that a board with this MTU takes, the packet header included (profile).
 fn payload_of(mtu: u32) -> u32
     requires { IsMtu mtu }
     ensures { result ≡ payload_of mtu }
 {
-    (mtu - 28) / 4
+    (mtu - IP_UDP_BYTES) / 4
 }
 
 /// The bus that ranges open which break no rule.
-fn open_bus(alloc: Global, ranges: &[board_bus::Range]) -> Result<Bus, NoMemory>
+fn open_bus(alloc: Global, ranges: &[Range]) -> Result<Bus, NoMemory>
     requires { refusal_of ranges.now ≡ None }
     ensures { IfOk result (λ bus. bus ≡ opening_bus ranges.now) }
 {

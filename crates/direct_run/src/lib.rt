@@ -9,7 +9,6 @@ mod clients;
 mod exchange;
 pub mod laws;
 
-
 pub use boards::{run_board, run_boards};
 pub use clients::run_clients;
 pub use ipb_base::NoMemory;

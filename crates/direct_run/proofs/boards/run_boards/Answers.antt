@@ -17,10 +17,10 @@ loop-position-preserved c =
     left boards k c.index-boards-position.result c.loop-position-test.true c.index-boards-position.is in
     record {
       told = rw (c.in_ok-push.ensures.items, c.in_ok-run_board.ensures.run)
-        (board_more boards c.args.scripts.now k c.index-boards-position.result (drop k boards) (drop (k + 1) boards) c.loop-position.runs.items
-        begins c.loop-position.invariant.told);
+          (board_more boards c.args.scripts.now k c.index-boards-position.result (drop k boards) (drop (k + 1) boards) c.loop-position.runs.items
+          begins c.loop-position.invariant.told);
       countable = subst (AllByRecursion IsCountable) (sym c.in_ok-push.ensures.items)
-        (AllByRecursion-append IsCountable c.loop-position.runs.items (c.in_ok-run_board.field-0 ∷ []) c.loop-position.invariant.countable
-        (c.in_ok-run_board.ensures.countable, tt));
+          (AllByRecursion-append IsCountable c.loop-position.runs.items (c.in_ok-run_board.field-0 ∷ []) c.loop-position.invariant.countable
+          (c.in_ok-run_board.ensures.countable, tt));
       here = (subst (AllByRecursion CanRun) begins c.loop-position.invariant.here).1;
     }

@@ -31,8 +31,8 @@ loop-steps-preserved c =
     let parts = c.in_ok-push.ensures.items ∙ ap (λ (p : ClientPart). c.loop-steps.parts.items ++ p ∷ []) part in
     record {
       running = subst (λ (parts : List ClientPart). IsRunning start c.run_client.new.board plans (plans_on c.args.position (Live c.args.payload) rest) parts)
-      (sym parts) (subst (λ (b : Board). IsRunning start b plans (plans_on c.args.position (Live c.args.payload) rest) (c.loop-steps.parts.items ++ part_on now plan ∷ []))
-      (sym c.in_ok-run_client.ensures.board) more);
+          (sym parts) (subst (λ (b : Board). IsRunning start b plans (plans_on c.args.position (Live c.args.payload) rest) (c.loop-steps.parts.items ++ part_on now plan ∷ []))
+          (sym c.in_ok-run_client.ensures.board) more);
       can = (subst (AllByRecursion (AllByRecursion CanBePacked)) begins c.loop-steps.invariant.can).1;
       few = (subst (AllByRecursion HaveFewPieces) begins c.loop-steps.invariant.few).1;
     }

@@ -32,7 +32,7 @@ returns-clause-packet c =
     record {
       id = packet.id;
       body = answer_words c.args.body.now (run_body (present_bus c.args.board.now) c.args.body.now).reply (subst (λ (cells : CellMap). CanAnswer c.args.body.now (run_body cells c.args.body.now).reply)
-        c.bus.ensures (c.answers_bodies.ensures.reply c.args.body.now packet.body));
+          c.bus.ensures (c.answers_bodies.ensures.reply c.args.body.now packet.body));
       length = omega (arith, c.requires.reply, c.keeps_its_ranges.ensures.mtu.1, c.a_reply_has_room.ensures (present_bus c.args.board.now) c.args.body.now);
       order = λ _. refl;
     }
