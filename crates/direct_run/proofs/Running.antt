@@ -12,8 +12,8 @@ use Rattle.transcript.specs.declared.board_run.BoardRun.{BoardRun}
 use Rattle.transcript.specs.declared.board_run.ClientPart.{ClientPart}
 use Rattle.transcript.specs.Plan.{ClientBodies}
 use Rattle.board_history.specs.InTurn.{outcomes_from}
-use Rattle.direct_run.specs.Runs.{entry_of, next_place, parts_in_turn, board_run, runs_from}
-use Rattle.direct_run.specs.Steps.{IsRunning, all_bodies}
+use Rattle.direct_run.specs.Runs.{next_place, parts_in_turn, board_run, runs_from}
+use Rattle.direct_run.specs.Steps.{entry_of, IsRunning, all_bodies}
 use Rattle.direct_run.proofs.Sending.{bus_after, executed_more, place_after}
 
 -- what a client asked, and what became of it on this board

@@ -13,8 +13,8 @@ use Rattle.board_node.specs.Hearings.{grown}
 use Rattle.transcript.specs.declared.outcome.Outcome.{Outcome}
 use Rattle.transcript.specs.declared.outcome.Outcome.TheVariants.{Replied}
 use Rattle.board_history.specs.InTurn.{outcomes_from}
-use Rattle.direct_run.specs.Runs.{entry_of, next_place}
-use Rattle.direct_run.specs.Steps.{IsSending}
+use Rattle.direct_run.specs.Runs.{next_place}
+use Rattle.direct_run.specs.Steps.{entry_of, IsSending}
 
 -- what is left begins with the next item
 pub left : {A : Type 0} (xs : List A) (i : ℕ) (x : A) → i < length xs → x ≡ get_or xs i x → drop i xs ≡ x ∷ drop (i + 1) xs

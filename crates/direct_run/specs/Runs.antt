@@ -1,9 +1,7 @@
 -- What a run is in which clients go to boards of this process, one client after another. Profile.
-use Rattle.std.specs.Prelude.{◌≡◌, ℕ, ◌+◌, ◌≤◌, ◌^◌, true, List, [], ◌∷◌, length, map, None}
+use Rattle.std.specs.Prelude.{◌≡◌, ℕ, ◌+◌, List, [], ◌∷◌, length, map, None}
 use Rattle.std.specs.List.{AllByRecursion}
 use Rattle.ipb_base.specs.Numbers.{payload_of}
-use Rattle.packet_codec.specs.declared.packet.Order.TheVariants.{Big}
-use Rattle.world_model.specs.declared.heard.LogEntry.{LogEntry}
 use Rattle.world_model.specs.Board.{Board, executed}
 use Rattle.board_bus.specs.declared.range.Range.{Range}
 use Rattle.board_bus.specs.Cells.{CellMap}
@@ -22,10 +20,6 @@ use Rattle.transcript.specs.Plan.{ClientBodies, planned_on}
 use Rattle.board_history.specs.Parts.{AllReplied}
 use Rattle.board_history.specs.InTurn.{in_turn, AreInTurn}
 use Rattle.board_history.specs.History.{ShowsHistory, bodies_by_client, outcomes_by_client}
-
--- a body that was sent big-endian under the identifier of its place
-abbrev pub entry_of : List ℕ → LogEntry
-entry_of body = record { numbered = true; order = Big; body = body }
 
 -- the place of the next body that a board executes
 abbrev pub next_place : Board → ℕ

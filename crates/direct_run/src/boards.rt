@@ -69,9 +69,9 @@ pub fn run_board(
         unreachable!()
     };
     let bus = open_bus(alloc, ranges.as_slice())?;
-    let mut board = Board::new(alloc, bus, *mtu, *buffers, *first)?;
+    let board = Board::new(alloc, bus, *mtu, *buffers, *first)?;
     let payload = payload_of(*mtu);
-    let parts = run_clients(alloc, &mut board, position, payload, scripts)?;
+    let (board, parts) = run_clients(alloc, board, position, payload, scripts)?;
     let _executed = board.executed_len();
     Ok(BoardRun {
         name: Text::copy_of(alloc, spec.name.as_str())?,

@@ -12,10 +12,10 @@ pub returns-clause-countable : goal.returns-clause-countable
 returns-clause-countable c =
     let opened = c.in_ok-board.board in
     let plans = plans_on c.args.position (Live c.payload_of-payload.result) c.args.scripts.now in
-    let few : length (executed c.run_clients.new.board) < 2 ^ 64 = omega (arith, c.executed_len-executed.ensures, c.executed_len-executed.type_inv) in
+    let few : length (executed c.in_ok-board-2.board) < 2 ^ 64 = omega (arith, c.executed_len-executed.ensures, c.executed_len-executed.type_inv) in
     let parts : length (outcomes_in c.in_ok-parts.parts) ≡ length (all_bodies plans) =
     ap (λ (ps : List ClientPart). length (outcomes_in ps)) c.in_ok-parts.ensures.parts
     ∙ as_many (next_place opened) (present_bus opened) plans in
-    let whole : length (executed c.run_clients.new.board) ≡ length (executed opened ++ all_bodies plans) =
+    let whole : length (executed c.in_ok-board-2.board) ≡ length (executed opened ++ all_bodies plans) =
     ap (λ (bodies : List (List ℕ)). length bodies) c.in_ok-parts.ensures.executed in
     omega (arith, few, parts, whole, length-append (executed opened) (all_bodies plans))

@@ -14,7 +14,7 @@ use Rattle.direct_run.proofs.clients.run_clients.Goals as goal
 
 pub loop-steps-preserved : goal.loop-steps-preserved
 loop-steps-preserved c =
-    let start = c.args.board.now in
+    let start = c.args.board in
     let now = c.loop-steps.board in
     let scripts = c.args.scripts.now in
     let rest = drop (c.loop-steps.steps-index + 1) scripts in

@@ -7,7 +7,7 @@ use Rattle.packet_codec.specs.Reading.{packet_of}
 use Rattle.world_model.specs.Messages.{control_packet}
 use Rattle.world_model.specs.Board.{Hearing, expected, execute, hear, present_bus}
 use Rattle.board_node.specs.Answers.{answer_bytes}
-use Rattle.direct_run.specs.Runs.{entry_of}
+use Rattle.direct_run.specs.Steps.{entry_of}
 use Rattle.direct_run.proofs.ReplyWords.{answer_words}
 use Rattle.direct_run.proofs.Exchanges.{heard_next}
 use Rattle.direct_run.proofs.exchange.deliver.Goals as goal
