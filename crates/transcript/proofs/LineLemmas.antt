@@ -24,12 +24,6 @@ use Rattle.transcript.specs.Steps.{line_on, bumped, IsProgress}
 pub count_by-append : {A : Type 0} (p : A → Bool) (xs ys : List A) → count_by p (xs ++ ys) ≡ count_by p xs + count_by p ys
 count_by-append p xs ys = sum_by-append (λ x. cond (p x) 1 0) xs ys
 
--- there are no more operations than steps
-pub few_operations : (steps : List Step) → length (operations steps) ≤ length steps
-few_operations [] = omega arith
-few_operations (Do op ∷ steps) = omega (arith, few_operations steps)
-few_operations (Dispatch ∷ steps) = omega (arith, few_operations steps)
-
 -- the count at a place that is raised, and at the others
 bumped_at : (counts : List ℕ) (at b : ℕ) → b < length counts
     → slice_index (bumped at counts) b ≡ slice_index counts b + cond (at == b) 1 0
@@ -104,7 +98,3 @@ module _ (runs : List BoardRun) (client : ℕ) (steps : List Step) (i : ℕ) (ma
             ∙ sym (count_by-append (λ (o : RegOp). o.board == b) (operations (take i steps)) (op ∷ []))))
             );
       }
-
-  pub few_so_far : number ≤ i
-  few_so_far =
-      omega (arith, so_far.operations', few_operations (take i steps), length-take i steps)

@@ -19,7 +19,7 @@ pub struct PieceAt {
 
 /// Where the pieces of one operation stand, in order. Contracts see that list.
 #[derive(Debug, Drop)]
-pub struct OpPieces {
+pub(crate) struct OpPieces {
     items: Vec<PieceAt>,
 }
 
@@ -41,7 +41,7 @@ impl OpPieces {
     }
 
     /// The pieces, in order.
-    pub fn as_slice(&self) -> &[PieceAt]
+    pub(crate) fn as_slice(&self) -> &[PieceAt]
         ensures { result.now ≡ self.now }
     {
         self.items.as_slice()
