@@ -1,5 +1,5 @@
 -- Few words are few pieces.
-use Rattle.std.proofs.Common.{◌≡◌, ℕ, ◌+◌, ◌≤◌, ◌^◌, length, sum_by, List, [], ◌∷◌, refl, ap, sym, inl, inr, arith}
+use Rattle.std.proofs.Common.{◌≡◌, ℕ, ◌≤◌, ◌^◌, length, sum_by, List, [], ◌∷◌, ap, inl, inr, arith}
 use Rattle.std.specs.List.{flat_map}
 use Rattle.std.proofs.lemmas.List.Sums.{sum_by-cons}
 use Rattle.transaction_codec.specs.declared.request.Op.{Op}
@@ -21,7 +21,8 @@ selected_words (op ∷ ops) (first ∷ all) (inr is) =
 
 -- what mtu_packer promises
 abbrev pub NoMorePieces : Type 0
-NoMorePieces = (ops : List Op) (payload : ℕ) → MIN_PAYLOAD ≤ payload → length (flat_map (cut payload) ops) ≤ sum_by op_count ops
+NoMorePieces = (ops : List Op) (payload : ℕ) → MIN_PAYLOAD ≤ payload
+    → length (flat_map (cut payload) ops) ≤ sum_by op_count ops
 
 pub few_pieces : NoMorePieces → (steps : List Step) → sum_by op_count (operations steps) ≤ 2 ^ 31 → HaveFewPieces steps
 few_pieces law steps few ops payload is low =

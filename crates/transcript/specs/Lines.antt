@@ -1,5 +1,6 @@
 -- The lines of a run: a function of each client's steps, and of what became of each board. Profile.
-use Rattle.std.specs.Prelude.{ℕ, ◌+◌, ◌^◌, ◌<◌, ◌==◌, Bool, true, false, if◌then◌else◌, List, [], ◌∷◌, ◌++◌, length, map, count_by, slice_get}
+use Rattle.std.specs.Prelude.{ℕ, ◌+◌, ◌==◌, Bool, true, false, if◌then◌else◌, List, [], ◌∷◌, ◌++◌, length}
+use Rattle.std.specs.Prelude.{map, count_by, slice_get}
 use Rattle.std.specs.Prelude.{Option, Some, None, option_to_list, option_map}
 use Rattle.std.specs.List.{flat_map, list_all}
 use Rattle.script_lang.specs.declared.operation.RegOp.{RegOp}

@@ -1,6 +1,7 @@
 //! Laws of the definitions. These functions do nothing when they run: their clauses are what is proved.
 
-ghost use Rattle.std.specs.Prelude.{◌≡◌, ◌↔◌, ℕ, ◌+◌, ◌<◌, ◌≤◌, ◌^◌, sum_by, List, [], ◌∷◌, ◌++◌, length, count_by, Some};
+ghost use Rattle.std.specs.Prelude.{◌≡◌, ◌↔◌, ℕ, ◌+◌, ◌<◌, ◌≤◌, ◌^◌, sum_by, List, [], ◌∷◌, ◌++◌, length, count_by};
+ghost use Rattle.std.specs.Prelude.{Some};
 ghost use Rattle.std.specs.List.{AllByRecursion, filter_map, flat_map};
 ghost use Rattle.ipb_base.specs.Word.{AreWords};
 ghost use Rattle.transaction_codec.specs.Request.{op_count};
@@ -63,8 +64,8 @@ pub fn skipped_stands_behind_an_error()
 pub fn pieces_of_an_operation_have_their_own_places()
     ensures pieces { (payload board : ℕ) (steps : List Step) →
         AllByRecursion (Rises IsBefore) (all_dispatches (plan payload board steps)).pieces }
-    ensures places { (ends : List BodyEndValue) (pieces : List PieceValue) → HaveOwnPlaces ends → Rises IsBefore pieces →
-        Rises IsOther (op_places ends pieces) }
+    ensures places { (ends : List BodyEndValue) (pieces : List PieceValue) → HaveOwnPlaces ends →
+        Rises IsBefore pieces → Rises IsOther (op_places ends pieces) }
 {}
 
 /// Two lines of one text are one line: so the text tells the number, the verb, the names, what the operation came to

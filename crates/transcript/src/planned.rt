@@ -69,7 +69,8 @@ impl Model for Planned {
 }
 
 impl Planned {
-    /// The bodies, where the pieces of each operation stand in them, and how many each dispatch has. It takes no memory.
+    /// The bodies, where the pieces of each operation stand in them, and how many each dispatch has. It takes no
+    /// memory.
     pub(crate) fn new(bodies: Vec<Words>, pieces: Vec<OpPieces>, counts: Vec<usize>) -> Planned
         requires { AreSound (record { bodies = bodies.items; pieces = pieces.items; counts = counts.items }) }
         ensures { result ≡ record { bodies = bodies.items; pieces = pieces.items; counts = counts.items } }

@@ -17,11 +17,13 @@ line_on-requires c =
 
 pub overflow_add-k : goal.overflow_add-k
 overflow_add-k c =
-    let within : c.args.op.now.board < length c.args.progress.now.counts.items = omega (arith, c.in-Some-get.ensures.lookup.3.0) in
+    let within : c.args.op.now.board < length c.args.progress.now.counts.items = omega
+    (arith, c.in-Some-get.ensures.lookup.3.0) in
     omega (
       arith,
       c.requires.below c.args.op.now.board,
-      c.index-k.ensures ∙ get_or_default c.args.progress.now.counts.items c.args.op.now.board c.index-k.result.now 0 within,
+      c.index-k.ensures ∙ get_or_default c.args.progress.now.counts.items c.args.op.now.board c.index-k.result.now 0
+          within,
     )
 
 pub returns-clause-lines : goal.returns-clause-lines
