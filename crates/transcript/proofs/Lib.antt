@@ -8,3 +8,4 @@ mod DispatchLemmas
 mod Skipping
 mod Reading
 mod Rising
+mod FewWords

@@ -1,20 +1,23 @@
 -- A line's text tells the line.
-use Rattle.std.proofs.Common.{◌≡◌, ◌≢◌, ◌⊎◌, ℕ, zero, suc, ◌+◌, ◌-◌, ◌<◌, ◌^◌, ◌==◌, nat_lt, not, cond, Bool, true, false, length, get_or, drop, replicate, List, [], ◌∷◌, ◌++◌}
+use Rattle.std.proofs.Common.{◌≡◌, ◌⊎◌, ℕ, zero, suc, ◌-◌, ◌<◌, ◌^◌, nat_lt, not, Bool, true}
+use Rattle.std.proofs.Common.{false, length, get_or, drop, replicate, List, [], ◌∷◌, ◌++◌}
 use Rattle.std.proofs.Common.{refl, sym, ap, subst, ◌∙◌, inl, inr, arith, append_assoc, codes}
 use Rattle.std.specs.Char.{digit_value}
 use Rattle.std.specs.Fmt.{decimal, digits}
 use Rattle.std.specs.List.{list_all, AllByRecursion}
-use Rattle.std.specs.Str.Parse.{AllDigits, digits_value, digits_value_after}
+use Rattle.std.specs.Str.Parse.{AllDigits, digits_value}
 use Rattle.std.proofs.lemmas.Bool.{cases_Bool}
 use Rattle.std.proofs.lemmas.Bool.Decides.{nat_tests}
 use Rattle.std.proofs.lemmas.Fmt.{decimal_is_IsNumeral, decimal_injective, digits_is_IsNumeral}
-use Rattle.ipb_base.specs.Word.{IsWord, AreWords}
+use Rattle.ipb_base.specs.Word.{AreWords}
 use Rattle.script_lang.specs.declared.operation.Verb.{Verb}
 use Rattle.script_lang.specs.declared.operation.Verb.TheVariants.{Read, Write, ReadBlock, WriteBlock, RmwBits, RmwSum}
 use Rattle.transcript.specs.declared.line.OpResult.{OpResult}
-use Rattle.transcript.specs.declared.line.OpResult.TheVariants.{Value, Done, Was, Error, Skipped, TimedOut, Unsent, LinkLost, Garbled}
+use Rattle.transcript.specs.declared.line.OpResult.TheVariants.{Value, Done, Was, Error, Skipped, TimedOut, Unsent}
+use Rattle.transcript.specs.declared.line.OpResult.TheVariants.{LinkLost, Garbled}
 use Rattle.transcript.specs.declared.line.OpLine.{OpLine}
-use Rattle.transcript.specs.Text.{hex_text, word_text, words_text, verb_text, error_text, timeout_text, result_text, place_text, more_places, places_text, asked_text, line_text}
+use Rattle.transcript.specs.Text.{hex_text, words_text, verb_text, error_text, timeout_text, result_text}
+use Rattle.transcript.specs.Text.{place_text, more_places, places_text, line_text}
 use Rattle.transcript.specs.Claims.{IsByte, IsPrinted, IsPrintedPlace, IsPrintedLine, is_no_colon, is_no_space}
 
 -- ---- a front whose bytes pass a test, up to one that does not
@@ -66,10 +69,12 @@ decimal_cut : (m n : ℕ) (rest more : List ℕ) → m < 2 ^ 64 → n < 2 ^ 64 �
     → stops (is_digit 10) more ≡ true → decimal m ++ rest ≡ decimal n ++ more → (m ≡ n) × (rest ≡ more)
 decimal_cut m n rest more fits fit s t e =
     let parts = cut (is_digit 10) (decimal m) (decimal n) rest more
-    (digits_pass 10 (decimal m) (decimal_is_IsNumeral m fits).0.1) (digits_pass 10 (decimal n) (decimal_is_IsNumeral n fit).0.1) s t e in
+    (digits_pass 10 (decimal m) (decimal_is_IsNumeral m fits).0.1)
+    (digits_pass 10 (decimal n) (decimal_is_IsNumeral n fit).0.1) s t e in
     (decimal_injective m n fits fit parts.0, parts.1)
 
-zeros_pass : (k : ℕ) (ds : List ℕ) → list_all (is_digit 16) ds ≡ true → list_all (is_digit 16) (replicate k 48 ++ ds) ≡ true
+zeros_pass : (k : ℕ) (ds : List ℕ) → list_all (is_digit 16) ds ≡ true
+    → list_all (is_digit 16) (replicate k 48 ++ ds) ≡ true
 unfolding is_digit
 zeros_pass zero ds all = all
 zeros_pass (suc k) ds all = zeros_pass k ds all
@@ -88,7 +93,8 @@ hex_passes w fits =
 
 hex_value : (w : ℕ) → w < 2 ^ 32 → digits_value 16 (hex_text w) ≡ w
 hex_value w fits =
-    zeros_value (8 - length (digits 16 false w)) (digits 16 false w) ∙ (digits_is_IsNumeral 16 false (omega arith) (omega arith) w (wide w fits)).1
+    zeros_value (8 - length (digits 16 false w)) (digits 16 false w)
+    ∙ (digits_is_IsNumeral 16 false (omega arith) (omega arith) w (wide w fits)).1
 
 hex_cut : (w v : ℕ) (rest more : List ℕ) → w < 2 ^ 32 → v < 2 ^ 32 → stops (is_digit 16) rest ≡ true
     → stops (is_digit 16) more ≡ true → hex_text w ++ rest ≡ hex_text v ++ more → (w ≡ v) × (rest ≡ more)
@@ -118,8 +124,10 @@ decimal_stops s (inr (rest, is)) = rw is
 
 not_a_word : (s rest : List ℕ) → Tail s → s ≡ 32 ∷ 48 ∷ rest → ⊥
 unfolding Tail
-not_a_word s rest (inl (more, is)) e = let heads : ◌≡◌ {A = ℕ} 10 32 = ap (λ l. get_or l 0 0) (sym is ∙ e) in omega arith
-not_a_word s rest (inr (more, is)) e = let heads : ◌≡◌ {A = ℕ} 64 48 = ap (λ l. get_or l 1 0) (sym is ∙ e) in omega arith
+not_a_word s rest (inl (more, is)) e = let heads : ◌≡◌ {A = ℕ} 10 32 = ap (λ l. get_or l 0 0) (sym is ∙ e) in omega
+    arith
+not_a_word s rest (inr (more, is)) e = let heads : ◌≡◌ {A = ℕ} 64 48 = ap (λ l. get_or l 1 0) (sym is ∙ e) in omega
+    arith
 
 words_stop : (ws s : List ℕ) → Tail s → stops (is_digit 16) (words_text ws ++ s) ≡ true
 unfolding stops is_digit
@@ -134,7 +142,8 @@ words_cut (w ∷ ws) [] s t a b p q e = absurd (not_a_word t _ q (sym e))
 words_cut (w ∷ ws) (v ∷ vs) s t a b p q e =
     let hexes : hex_text w ++ (words_text ws ++ s) ≡ hex_text v ++ (words_text vs ++ t) =
     sym (append_assoc (hex_text w) (words_text ws) s) ∙ (ap (drop 3) e ∙ append_assoc (hex_text v) (words_text vs) t) in
-    let one = hex_cut w v (words_text ws ++ s) (words_text vs ++ t) a.0 b.0 (words_stop ws s p) (words_stop vs t q) hexes in
+    let one = hex_cut w v (words_text ws ++ s) (words_text vs ++ t) a.0 b.0 (words_stop ws s p) (words_stop vs t q)
+    hexes in
     let more = words_cut ws vs s t a.1 b.1 p q one.1 in
     (ap (λ x. x ∷ ws) one.0 ∙ ap (λ xs. v ∷ xs) more.0, more.1)
 
@@ -147,23 +156,28 @@ error_cut : (c a d b : ℕ) (s t : List ℕ) → IsByte c → IsByte a → IsByt
     → error_text c a ++ s ≡ error_text d b ++ t → (Error c a ≡ Error d b) × (s ≡ t)
 unfolding stops is_digit
 error_cut c a d b s t fc fa fd fb p q e =
-    let first = decimal_cut c d ((codes " after " ++ decimal a) ++ s) ((codes " after " ++ decimal b) ++ t) (few_bits c fc) (few_bits d fd) refl refl
-    (sym (append_assoc (decimal c) (codes " after " ++ decimal a) s) ∙ (ap (drop 6) e ∙ append_assoc (decimal d) (codes " after " ++ decimal b) t)) in
-    let second = decimal_cut a b s t (few_bits a fa) (few_bits b fb) (decimal_stops s p) (decimal_stops t q) (ap (drop 7) first.1) in
+    let first = decimal_cut c d ((codes " after " ++ decimal a) ++ s) ((codes " after " ++ decimal b) ++ t)
+    (few_bits c fc) (few_bits d fd) refl refl
+    (sym (append_assoc (decimal c) (codes " after " ++ decimal a) s)
+    ∙ (ap (drop 6) e ∙ append_assoc (decimal d) (codes " after " ++ decimal b) t)) in
+    let second = decimal_cut a b s t (few_bits a fa) (few_bits b fb) (decimal_stops s p) (decimal_stops t q)
+    (ap (drop 7) first.1) in
     (ap (λ n. Error n a) first.0 ∙ ap (λ n. Error d n) second.0, second.1)
 
 timeout_cut : (r u : ℕ) (s t : List ℕ) → IsByte r → IsByte u → timeout_text r ++ s ≡ timeout_text u ++ t
     → (TimedOut r ≡ TimedOut u) × (s ≡ t)
 unfolding stops is_digit
 timeout_cut r u s t fr fu e =
-    let parts = decimal_cut r u (codes " rounds, execution unknown" ++ s) (codes " rounds, execution unknown" ++ t) (few_bits r fr) (few_bits u fu) refl refl
+    let parts = decimal_cut r u (codes " rounds, execution unknown" ++ s) (codes " rounds, execution unknown" ++ t)
+    (few_bits r fr) (few_bits u fu) refl refl
     (sym (append_assoc (decimal r) (codes " rounds, execution unknown") s)
     ∙ (ap (drop 14) e ∙ append_assoc (decimal u) (codes " rounds, execution unknown") t)) in
     (ap TimedOut parts.0, ap (drop 26) parts.1)
 
 result_cut : (a b : OpResult) (s t : List ℕ) → IsPrinted a → IsPrinted b → Tail s → Tail t
     → result_text a ++ s ≡ result_text b ++ t → (a ≡ b) × (s ≡ t)
-result_cut (Value ws) (Value vs) s t x y p q e = let c = words_cut ws vs s t x y p q (ap (drop 1) e) in (ap Value c.0, c.1)
+result_cut (Value ws) (Value vs) s t x y p q e = let c = words_cut ws vs s t x y p q (ap (drop 1) e) in
+    (ap Value c.0, c.1)
 result_cut Done Done s t x y p q e = (refl, ap (drop 4) e)
 result_cut (Was w) (Was v) s t x y p q e =
     let c = hex_cut w v s t x y (hex_stops s p) (hex_stops t q) (ap (drop 6) e) in (ap Was c.0, c.1)
@@ -174,7 +188,8 @@ result_cut Unsent Unsent s t x y p q e = (refl, ap (drop 6) e)
 result_cut LinkLost LinkLost s t x y p q e = (refl, ap (drop 9) e)
 result_cut Garbled Garbled s t x y p q e = (refl, ap (drop 7) e)
 result_cut a b s t x y p q e =
-    let heads : get_or (result_text a ++ s) 0 0 ≡ get_or (result_text b ++ t) 0 0 = ap (λ l. get_or l 0 0) e in absurd (omega arith)
+    let heads : get_or (result_text a ++ s) 0 0 ≡ get_or (result_text b ++ t) 0 0 = ap (λ l. get_or l 0 0) e in absurd
+    (omega arith)
 
 -- ---- places
 
@@ -182,9 +197,12 @@ place_cut : (p q : ℕ × ℕ) (s t : List ℕ) → IsPrintedPlace p → IsPrint
     → stops (is_digit 10) t ≡ true → place_text p ++ s ≡ place_text q ++ t → (p ≡ q) × (s ≡ t)
 unfolding stops is_digit
 place_cut (place, number) (other, also) s t fits fit stop ends e =
-    let first = decimal_cut place other ((codes "." ++ decimal number) ++ s) ((codes "." ++ decimal also) ++ t) fits.0 fit.0 refl refl
-    (sym (append_assoc (decimal place) (codes "." ++ decimal number) s) ∙ (e ∙ append_assoc (decimal other) (codes "." ++ decimal also) t)) in
-    let second = decimal_cut number also s t (omega (arith, fits.1)) (omega (arith, fit.1)) stop ends (ap (drop 1) first.1) in
+    let first = decimal_cut place other ((codes "." ++ decimal number) ++ s) ((codes "." ++ decimal also) ++ t) fits.0
+    fit.0 refl refl
+    (sym (append_assoc (decimal place) (codes "." ++ decimal number) s)
+    ∙ (e ∙ append_assoc (decimal other) (codes "." ++ decimal also) t)) in
+    let second = decimal_cut number also s t (omega (arith, fits.1)) (omega (arith, fit.1)) stop ends
+    (ap (drop 1) first.1) in
     (ap (λ n. (n, number)) first.0 ∙ ap (λ n. (other, n)) second.0, second.1)
 
 places_stop : (ps : List (ℕ × ℕ)) → stops (is_digit 10) (more_places ps ++ codes "\n") ≡ true
@@ -192,12 +210,15 @@ unfolding stops is_digit
 places_stop [] = refl
 places_stop (p ∷ ps) = refl
 
-first_cut : (p q : ℕ × ℕ) (ps qs : List (ℕ × ℕ)) → AllByRecursion IsPrintedPlace (p ∷ ps) → AllByRecursion IsPrintedPlace (q ∷ qs)
+first_cut : (p q : ℕ × ℕ) (ps qs : List (ℕ × ℕ)) → AllByRecursion IsPrintedPlace (p ∷ ps)
+    → AllByRecursion IsPrintedPlace (q ∷ qs)
     → (place_text p ++ more_places ps) ++ codes "\n" ≡ (place_text q ++ more_places qs) ++ codes "\n"
     → (p ≡ q) × (more_places ps ++ codes "\n" ≡ more_places qs ++ codes "\n")
 first_cut p q ps qs a b e =
-    place_cut p q (more_places ps ++ codes "\n") (more_places qs ++ codes "\n") a.0 b.0 (places_stop ps) (places_stop qs)
-    (sym (append_assoc (place_text p) (more_places ps) (codes "\n")) ∙ (e ∙ append_assoc (place_text q) (more_places qs) (codes "\n")))
+    place_cut p q (more_places ps ++ codes "\n") (more_places qs ++ codes "\n") a.0 b.0 (places_stop ps)
+    (places_stop qs)
+    (sym (append_assoc (place_text p) (more_places ps) (codes "\n"))
+    ∙ (e ∙ append_assoc (place_text q) (more_places qs) (codes "\n")))
 
 more_cut : (ps qs : List (ℕ × ℕ)) → AllByRecursion IsPrintedPlace ps → AllByRecursion IsPrintedPlace qs
     → more_places ps ++ codes "\n" ≡ more_places qs ++ codes "\n" → ps ≡ qs
@@ -262,14 +283,18 @@ one_line a b fits fit e =
     ((codes " " ++ (av ++ (codes " " ++ (a.board ++ (codes ":" ++ (a.name ++ codes " ")))))) ++ R)
     ((codes " " ++ (bv ++ (codes " " ++ (b.board ++ (codes ":" ++ (b.name ++ codes " ")))))) ++ S)
     (omega (arith, fits.number')) (omega (arith, fit.number')) refl refl
-    (sym (append_assoc (decimal a.number) (codes " " ++ (av ++ (codes " " ++ (a.board ++ (codes ":" ++ (a.name ++ codes " ")))))) R)
-    ∙ (e ∙ append_assoc (decimal b.number) (codes " " ++ (bv ++ (codes " " ++ (b.board ++ (codes ":" ++ (b.name ++ codes " ")))))) S)) in
+    (sym (append_assoc (decimal a.number) (codes " "
+    ++ (av ++ (codes " " ++ (a.board ++ (codes ":" ++ (a.name ++ codes " ")))))) R)
+    ∙ (e ∙ append_assoc (decimal b.number) (codes " "
+    ++ (bv ++ (codes " " ++ (b.board ++ (codes ":" ++ (b.name ++ codes " ")))))) S)) in
     let verb = cut is_no_space av bv
-    ((codes " " ++ (a.board ++ (codes ":" ++ (a.name ++ codes " ")))) ++ R) ((codes " " ++ (b.board ++ (codes ":" ++ (b.name ++ codes " ")))) ++ S)
+    ((codes " " ++ (a.board ++ (codes ":" ++ (a.name ++ codes " ")))) ++ R)
+    ((codes " " ++ (b.board ++ (codes ":" ++ (b.name ++ codes " ")))) ++ S)
     (verb_passes a.verb) (verb_passes b.verb) refl refl
     (sym (append_assoc av (codes " " ++ (a.board ++ (codes ":" ++ (a.name ++ codes " ")))) R)
     ∙ (ap (drop 1) number.1 ∙ append_assoc bv (codes " " ++ (b.board ++ (codes ":" ++ (b.name ++ codes " ")))) S)) in
-    let board = cut is_no_colon a.board b.board ((codes ":" ++ (a.name ++ codes " ")) ++ R) ((codes ":" ++ (b.name ++ codes " ")) ++ S)
+    let board = cut is_no_colon a.board b.board ((codes ":" ++ (a.name ++ codes " ")) ++ R)
+    ((codes ":" ++ (b.name ++ codes " ")) ++ S)
     fits.board' fit.board' refl refl
     (sym (append_assoc a.board (codes ":" ++ (a.name ++ codes " ")) R)
     ∙ (ap (drop 1) verb.1 ∙ append_assoc b.board (codes ":" ++ (b.name ++ codes " ")) S)) in

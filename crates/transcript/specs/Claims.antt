@@ -5,7 +5,8 @@ use Rattle.ipb_base.specs.Word.{IsWord, AreWords}
 use Rattle.transcript.specs.declared.outcome.Outcome.{Outcome}
 use Rattle.transcript.specs.declared.outcome.Outcome.TheVariants as became
 use Rattle.transcript.specs.declared.line.OpResult.{OpResult}
-use Rattle.transcript.specs.declared.line.OpResult.TheVariants.{Value, Done, Was, Error, Skipped, TimedOut, Unsent, LinkLost, Garbled}
+use Rattle.transcript.specs.declared.line.OpResult.TheVariants.{Value, Done, Was, Error, Skipped, TimedOut, Unsent}
+use Rattle.transcript.specs.declared.line.OpResult.TheVariants.{LinkLost, Garbled}
 use Rattle.transcript.specs.declared.line.OpLine.{OpLine}
 use Rattle.transcript.specs.declared.planned.PieceAt.{PieceAt}
 use Rattle.transcript.specs.declared.body_end.BodyEnd.{BodyEnd}
