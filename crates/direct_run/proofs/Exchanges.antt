@@ -12,7 +12,7 @@ use Rattle.packet_codec.specs.Reading.{packet_of}
 use Rattle.packet_ids.specs.Identifier.{identifier_at}
 use Rattle.world_model.specs.Messages.{ToBoard, ControlPacket, control_packet, packet_to_board, to_board}
 use Rattle.world_model.specs.Board.{Board, Hearing, execute, expected, hear, hear_message, is_too_long, numbered}
-use Rattle.direct_run.specs.Runs.{entry_of}
+use Rattle.direct_run.specs.Steps.{entry_of}
 
 said : (bytes : List ℕ) (id : ℕ) (body : List ℕ) → packet_of bytes ≡ Ok (control_packet Big id body)
     → to_board bytes ≡ Some (ControlPacket Big id body)

@@ -2,3 +2,4 @@ mod ReplyWords
 mod Exchanges
 mod Sending
 mod Running
+mod Shown

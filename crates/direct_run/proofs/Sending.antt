@@ -13,8 +13,8 @@ use Rattle.board_node.specs.Hearings.{grown}
 use Rattle.transcript.specs.declared.outcome.Outcome.{Outcome}
 use Rattle.transcript.specs.declared.outcome.Outcome.TheVariants.{Replied}
 use Rattle.board_history.specs.InTurn.{outcomes_from}
-use Rattle.direct_run.specs.Runs.{entry_of, next_place}
-use Rattle.direct_run.specs.Steps.{IsSending}
+use Rattle.direct_run.specs.Runs.{next_place}
+use Rattle.direct_run.specs.Steps.{entry_of, IsSending}
 
 -- what is left begins with the next item
 pub left : {A : Type 0} (xs : List A) (i : ℕ) (x : A) → i < length xs → x ≡ get_or xs i x → drop i xs ≡ x ∷ drop (i + 1) xs
@@ -53,13 +53,13 @@ module _ (start now : Board) (bodies : List (List ℕ)) (outcomes : List Outcome
       → IsSending start (grown now (entry_of body ∷ [])) bodies rest (outcomes ++ Replied (next_place now) (run_body (present_bus now) body).reply ∷ [])
   one_more body rest is = record {
     told =
-      append_assoc outcomes (Replied (next_place now) (run_body (present_bus now) body).reply ∷ [])
-      (outcomes_from (next_place (grown now (entry_of body ∷ []))) (present_bus (grown now (entry_of body ∷ []))) rest)
-      ∙ ap (λ (place : ℕ). outcomes ++ Replied (next_place now) (run_body (present_bus now) body).reply
-      ∷ outcomes_from place (present_bus (grown now (entry_of body ∷ []))) rest) (place_after now (body ∷ []))
-      ∙ ap (λ (cells : CellMap). outcomes ++ Replied (next_place now) (run_body (present_bus now) body).reply
-      ∷ outcomes_from (next_place now + 1) cells rest) (bus_after now (body ∷ []))
-      ∙ is.told;
+        append_assoc outcomes (Replied (next_place now) (run_body (present_bus now) body).reply ∷ [])
+        (outcomes_from (next_place (grown now (entry_of body ∷ []))) (present_bus (grown now (entry_of body ∷ []))) rest)
+        ∙ ap (λ (place : ℕ). outcomes ++ Replied (next_place now) (run_body (present_bus now) body).reply
+        ∷ outcomes_from place (present_bus (grown now (entry_of body ∷ []))) rest) (place_after now (body ∷ []))
+        ∙ ap (λ (cells : CellMap). outcomes ++ Replied (next_place now) (run_body (present_bus now) body).reply
+        ∷ outcomes_from (next_place now + 1) cells rest) (bus_after now (body ∷ []))
+        ∙ is.told;
     board = grown_on now (entry_of body ∷ []) (map entry_of rest) ∙ is.board;
     fit = is.fit.1;
   }

@@ -1,9 +1,7 @@
 -- What a run is in which clients go to boards of this process, one client after another. Profile.
-use Rattle.std.specs.Prelude.{◌≡◌, ℕ, ◌+◌, ◌≤◌, ◌^◌, true, List, [], ◌∷◌, length, map, None}
+use Rattle.std.specs.Prelude.{◌≡◌, ℕ, ◌+◌, List, [], ◌∷◌, length, map, None}
 use Rattle.std.specs.List.{AllByRecursion}
 use Rattle.ipb_base.specs.Numbers.{payload_of}
-use Rattle.packet_codec.specs.declared.packet.Order.TheVariants.{Big}
-use Rattle.world_model.specs.declared.heard.LogEntry.{LogEntry}
 use Rattle.world_model.specs.Board.{Board, executed}
 use Rattle.board_bus.specs.declared.range.Range.{Range}
 use Rattle.board_bus.specs.Cells.{CellMap}
@@ -14,15 +12,14 @@ use Rattle.board_node.specs.declared.spec.LinkSpec.TheVariants.{Sim, Udp}
 use Rattle.script_lang.specs.declared.operation.Step.{Step}
 use Rattle.script_lang.specs.Limits.{IsSimulated}
 use Rattle.transcript.specs.declared.outcome.Outcome.{Outcome}
+use Rattle.transcript.specs.declared.outcome.Greeting.{Greeting}
 use Rattle.transcript.specs.declared.outcome.Greeting.TheVariants.{Live, Down}
 use Rattle.transcript.specs.declared.board_run.ClientPart.{ClientPart}
 use Rattle.transcript.specs.declared.board_run.BoardRun.{BoardRun}
 use Rattle.transcript.specs.Plan.{ClientBodies, planned_on}
-use Rattle.board_history.specs.InTurn.{in_turn}
-
--- a body that was sent big-endian under the identifier of its place
-abbrev pub entry_of : List ℕ → LogEntry
-entry_of body = record { numbered = true; order = Big; body = body }
+use Rattle.board_history.specs.Parts.{AllReplied}
+use Rattle.board_history.specs.InTurn.{in_turn, AreInTurn}
+use Rattle.board_history.specs.History.{ShowsHistory, bodies_by_client, outcomes_by_client}
 
 -- the place of the next body that a board executes
 abbrev pub next_place : Board → ℕ
@@ -39,26 +36,27 @@ parts_with (planned ∷ later) (outcomes ∷ others) =
 abbrev pub parts_in_turn : ℕ → CellMap → List ClientBodies → List ClientPart
 parts_in_turn place cells planned = parts_with planned (in_turn place cells (map (λ (p : ClientBodies). p.bodies) planned))
 
--- what the clients ask of a board that takes packets of `payload` words
-abbrev pub plans_on : ℕ → ℕ → List (List Step) → List ClientBodies
-plans_on board payload scripts = map (planned_on board (Live payload)) scripts
-
--- A live board that opens with these ranges: the clients run one after another from place 1 on.
-abbrev pub live_run : List ℕ → ℕ → List Range → ℕ → List (List Step) → BoardRun
-live_run name mtu ranges board scripts = record {
-  name = name;
-  greeting = Live (payload_of mtu);
-  parts = parts_in_turn 1 (opening_bus ranges) (plans_on board (payload_of mtu) scripts);
-}
+-- what the clients ask of a board that told this greeting
+abbrev pub plans_on : ℕ → Greeting → List (List Step) → List ClientBodies
+plans_on board told scripts = map (planned_on board told) scripts
 
 -- a board in this process is live; one behind a port is not reached
-abbrev pub link_run : List ℕ → LinkSpec → ℕ → List (List Step) → BoardRun
-link_run name (Sim mtu buffers first ranges fates) board scripts = live_run name mtu ranges board scripts
-link_run name (Udp address port wait) board scripts = record { name = name; greeting = Down; parts = [] }
+abbrev pub greeting_of : LinkSpec → Greeting
+greeting_of (Sim mtu buffers first ranges fates) = Live (payload_of mtu)
+greeting_of (Udp address port wait) = Down
 
--- what becomes of the board at a position, from 0, of a session
+-- the bus that it opens with
+abbrev pub opening_of : LinkSpec → CellMap
+opening_of (Sim mtu buffers first ranges fates) = opening_bus ranges
+opening_of (Udp address port wait) = []
+
+-- What becomes of the board at a position, from 0, of a session: the clients run one after another from place 1 on.
 abbrev pub board_run : BoardSpec → ℕ → List (List Step) → BoardRun
-board_run spec board scripts = link_run spec.name spec.link board scripts
+board_run spec board scripts = record {
+  name = spec.name;
+  greeting = greeting_of spec.link;
+  parts = parts_in_turn 1 (opening_of spec.link) (plans_on board (greeting_of spec.link) scripts);
+}
 
 -- the boards, the first of which has this position
 abbrev pub runs_from : ℕ → List BoardSpec → List (List Step) → List BoardRun
@@ -72,3 +70,26 @@ RunsHere (Udp address port wait) = ⊥
 
 abbrev pub CanRun : BoardSpec → Type 0
 CanRun spec = RunsHere spec.link
+
+-- ---- the same as a relation
+
+-- What a run shows of the board at a position of a session, where clients run one after another and nothing is lost.
+pub record IsRun (spec : BoardSpec) (board : ℕ) (scripts : List (List Step)) (run : BoardRun) : Type 0 where
+  pub name : run.name ≡ spec.name
+  pub greeting : run.greeting ≡ greeting_of spec.link
+  -- each client asked for the bodies of its script
+  pub plans : map (λ (part : ClientPart). part.planned) run.parts ≡ plans_on board run.greeting scripts
+  -- the outcomes are one history of the board that opened with its ranges
+  pub history : ShowsHistory (opening_of spec.link) run
+  -- each body was replied to
+  pub replied : AllReplied (outcomes_by_client run)
+  -- the bodies of a client stand before those of the next one
+  pub in_turn : AreInTurn (bodies_by_client run) (outcomes_by_client run)
+
+-- the same of all boards, the first of which has this position
+abbrev pub AreRuns : ℕ → List BoardSpec → List (List Step) → List BoardRun → Type 0
+AreRuns board [] scripts [] = Unit {0}
+AreRuns board [] scripts (run ∷ runs) = ⊥
+AreRuns board (spec ∷ specs) scripts [] = ⊥
+AreRuns board (spec ∷ specs) scripts (run ∷ runs) =
+    IsRun spec board scripts run × AreRuns (board + 1) specs scripts runs

@@ -1,15 +1,21 @@
 -- How the steps of a run work together: what private functions promise one another. No public clause speaks of these.
-use Rattle.std.specs.Prelude.{◌≡◌, ℕ, ◌+◌, List, [], ◌∷◌, ◌++◌, map}
+use Rattle.std.specs.Prelude.{◌≡◌, true, ℕ, List, [], ◌∷◌, ◌++◌, map}
 use Rattle.std.specs.List.{AllByRecursion, flat_map}
 use Rattle.ipb_base.specs.Numbers.{payload_of}
 use Rattle.mtu_packer.specs.Packed.{FitsPackets}
+use Rattle.packet_codec.specs.declared.packet.Order.TheVariants.{Big}
+use Rattle.world_model.specs.declared.heard.LogEntry.{LogEntry}
 use Rattle.world_model.specs.Board.{Board, executed, present_bus}
 use Rattle.board_node.specs.Hearings.{grown}
 use Rattle.transcript.specs.declared.outcome.Outcome.{Outcome}
 use Rattle.board_history.specs.InTurn.{outcomes_from}
 use Rattle.transcript.specs.declared.board_run.ClientPart.{ClientPart}
 use Rattle.transcript.specs.Plan.{ClientBodies}
-use Rattle.direct_run.specs.Runs.{entry_of, next_place, parts_in_turn}
+use Rattle.direct_run.specs.Runs.{next_place, parts_in_turn}
+
+-- a body that was sent big-endian under the identifier of its place
+abbrev pub entry_of : List ℕ → LogEntry
+entry_of body = record { numbered = true; order = Big; body = body }
 
 -- where bodies were sent, but for the rest of them
 pub record IsSending (start now : Board) (bodies rest : List (List ℕ)) (outcomes : List Outcome) : Type 0 where

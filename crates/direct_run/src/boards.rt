@@ -1,31 +1,35 @@
 //! Boards of a session, one after another.
 
-ghost use Rattle.std.specs.Prelude.{◌≡◌, ◌+◌, ◌^◌, ◌≤◌, ◌<◌, [], length, IfOk, None};
+ghost use Rattle.std.specs.Prelude.{◌≡◌, ◌^◌, ◌<◌, length, IfOk, None};
 ghost use Rattle.std.specs.List.{AllByRecursion};
 ghost use Rattle.ipb_base.specs.Numbers.{payload_of};
-ghost use Rattle.status_packet.specs.Range.{IsMtu, IsBufferCount};
+ghost use Rattle.status_packet.specs.Range.{IsMtu};
 ghost use Rattle.board_bus.specs.Ranges.{opening_bus, refusal_of};
 ghost use Rattle.script_lang.specs.Packing.{CanBePacked, HaveFewPieces};
+ghost use Rattle.transcript.specs.Lines.{IsCountable};
 ghost use Rattle.direct_run.specs.Runs.{CanRun, board_run, runs_from};
 
 use crate::clients::run_clients;
-use board_bus::{Bus, BusRefusal};
+use board_bus::{Bus, BusRefusal, Range};
 use board_node::{Board, BoardSpec, LinkSpec};
 use ipb_base::{NoMemory, Text};
 use script_lang::Steps;
 use std::alloc::Global;
 use transcript::{BoardRun, Greeting};
 
-/// The words of the longest packet that a board with this MTU takes.
+/// The bytes of the headers of IPv4 and UDP, which an MTU counts (RFC 791, RFC 768).
+const IP_UDP_BYTES: u32 = 28;
+
+/// The words of the longest packet that a board with this MTU takes, the packet header included (profile).
 fn payload_of(mtu: u32) -> u32
     requires { IsMtu mtu }
     ensures { result ≡ payload_of mtu }
 {
-    (mtu - 28) / 4
+    (mtu - IP_UDP_BYTES) / 4
 }
 
 /// The bus that ranges open which break no rule.
-fn open_bus(alloc: Global, ranges: &[board_bus::Range]) -> Result<Bus, NoMemory>
+fn open_bus(alloc: Global, ranges: &[Range]) -> Result<Bus, NoMemory>
     requires { refusal_of ranges.now ≡ None }
     ensures { IfOk result (λ bus. bus ≡ opening_bus ranges.now) }
 {
@@ -50,7 +54,9 @@ pub fn run_board(
     requires here { CanRun spec.now }
     requires can { AllByRecursion (AllByRecursion CanBePacked) scripts.now }
     requires few { AllByRecursion HaveFewPieces scripts.now }
-    ensures { IfOk result (λ run. run ≡ board_run spec.now position scripts.now) }
+    ensures run { IfOk result (λ run. run ≡ board_run spec.now position scripts.now) }
+    // The board executed so many bodies that 64 bits count them.
+    ensures countable { IfOk result IsCountable }
 {
     let LinkSpec::Sim {
         mtu,
@@ -63,9 +69,10 @@ pub fn run_board(
         unreachable!()
     };
     let bus = open_bus(alloc, ranges.as_slice())?;
-    let mut board = Board::new(alloc, bus, *mtu, *buffers, *first)?;
+    let board = Board::new(alloc, bus, *mtu, *buffers, *first)?;
     let payload = payload_of(*mtu);
-    let parts = run_clients(alloc, &mut board, position, payload, scripts)?;
+    let (board, parts) = run_clients(alloc, board, position, payload, scripts)?;
+    let _executed = board.executed_len();
     Ok(BoardRun {
         name: Text::copy_of(alloc, spec.name.as_str())?,
         greeting: Greeting::Live { payload },
@@ -84,7 +91,8 @@ pub fn run_boards(
     requires here { AllByRecursion CanRun boards.now }
     requires can { AllByRecursion (AllByRecursion CanBePacked) scripts.now }
     requires few { AllByRecursion HaveFewPieces scripts.now }
-    ensures { IfOk result (λ runs. runs.items ≡ runs_from 0 boards.now scripts.now) }
+    ensures runs { IfOk result (λ runs. runs.items ≡ runs_from 0 boards.now scripts.now) }
+    ensures countable { IfOk result (λ runs. AllByRecursion IsCountable runs.items) }
 {
     let mut runs = Vec::with_capacity(alloc, boards.len())?;
     for (position, spec) in boards.iter().enumerate() {

@@ -10,7 +10,8 @@ ghost use Rattle.board_node.specs.Hearings.{grown};
 ghost use Rattle.script_lang.specs.Packing.{CanBePacked, HaveFewPieces};
 ghost use Rattle.transcript.specs.declared.outcome.Greeting.TheVariants.{Live};
 ghost use Rattle.transcript.specs.Plan.{ClientBodies, planned_on};
-ghost use Rattle.direct_run.specs.Runs.{entry_of, next_place, parts_in_turn, plans_on};
+ghost use Rattle.direct_run.specs.Runs.{next_place, parts_in_turn, plans_on};
+ghost use Rattle.direct_run.specs.Steps.{entry_of};
 
 use crate::exchange::exchange;
 use board_node::Board;
@@ -60,26 +61,26 @@ fn run_client(
 
 /// Runs clients on the board at a position of the session, from 0, one after another: all bodies of client 1, then those
 /// of client 2, and so on. `payload` is the words of the longest packet that the board takes. Each operation can be
-/// packed, and each client's are cut into few enough pieces.
+/// packed, and each client's are cut into few enough pieces. `NoMemory` where memory ran out: the board is let go then.
 pub fn run_clients(
     alloc: Global,
-    board: &mut Board,
+    mut board: Board,
     position: u32,
     payload: u32,
     scripts: &[Steps],
-) -> Result<ClientParts, NoMemory>
-    requires payload { payload ≡ payload_of board.old.mtu }
+) -> Result<(Board, ClientParts), NoMemory>
+    requires payload { payload ≡ payload_of board.mtu }
     requires can { AllByRecursion (AllByRecursion CanBePacked) scripts.now }
     requires few { AllByRecursion HaveFewPieces scripts.now }
-    ensures parts { IfOk result (λ parts. parts
-        ≡ parts_in_turn (next_place board.old) (present_bus board.old) (plans_on position payload scripts.now)) }
+    ensures parts { IfOk result (λ ran. ran.1
+        ≡ parts_in_turn (next_place board) (present_bus board) (plans_on position (Live payload) scripts.now)) }
     // The board executed the clients' bodies, client by client, and each once.
-    ensures executed { OnOk result (executed board.new ≡ executed board.old
-        ++ flat_map (λ (plan : ClientBodies). plan.bodies) (plans_on position payload scripts.now)) }
+    ensures executed { IfOk result (λ ran. executed ran.0 ≡ executed board
+        ++ flat_map (λ (plan : ClientBodies). plan.bodies) (plans_on position (Live payload) scripts.now)) }
 {
     let mut parts = Vec::with_capacity(alloc, scripts.len())?;
     for steps in scripts {
-        parts.push(run_client(alloc, board, position, payload, steps.as_slice())?)?;
+        parts.push(run_client(alloc, &mut board, position, payload, steps.as_slice())?)?;
     }
-    Ok(ClientParts::from_vec(parts))
+    Ok((board, ClientParts::from_vec(parts)))
 }

@@ -9,7 +9,7 @@ ghost use Rattle.packet_codec.specs.declared.packet.Order.TheVariants.{Big};
 ghost use Rattle.world_model.specs.Messages.{control_packet};
 ghost use Rattle.world_model.specs.Board.{expected, execute, hear, present_bus};
 ghost use Rattle.board_node.specs.Hearings.{grown};
-ghost use Rattle.direct_run.specs.Runs.{entry_of};
+ghost use Rattle.direct_run.specs.Steps.{entry_of};
 
 use board_bus::laws::a_reply_has_room;
 use board_node::Board;

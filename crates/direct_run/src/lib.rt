@@ -7,7 +7,7 @@
 mod boards;
 mod clients;
 mod exchange;
-
+pub mod laws;
 
 pub use boards::{run_board, run_boards};
 pub use clients::run_clients;

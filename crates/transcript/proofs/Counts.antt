@@ -7,11 +7,13 @@ use Rattle.transcript.specs.declared.outcome.Outcome.TheVariants.{Replied, Timed
 use Rattle.transcript.specs.Ends.{place_of}
 use Rattle.transcript.specs.Lines.{is_sent, is_replied, is_timed_out, is_lost}
 
-count-cons : (p : Outcome → Bool) (o : Outcome) (os : List Outcome) → count_by p (o ∷ os) ≡ cond (p o) 1 0 + count_by p os
+count-cons : (p : Outcome → Bool) (o : Outcome) (os : List Outcome)
+    → count_by p (o ∷ os) ≡ cond (p o) 1 0 + count_by p os
 count-cons p o os = sum_by-cons (λ o. cond (p o) 1 0) o os
 
 -- each outcome is counted at most once, and where it has a place
-one_of_three : (o : Outcome) → cond (is_sent o) 1 0 ≡ (cond (is_replied o) 1 0 + cond (is_timed_out o) 1 0) + cond (is_lost o) 1 0
+one_of_three : (o : Outcome) → cond (is_sent o) 1 0
+    ≡ (cond (is_replied o) 1 0 + cond (is_timed_out o) 1 0) + cond (is_lost o) 1 0
 one_of_three (Replied place words) = refl
 one_of_three (TimedOut place rounds) = refl
 one_of_three Unsent = refl
@@ -34,8 +36,10 @@ sent_is_sum (o ∷ os) =
 
 pub sent_have_places : (os : List Outcome) → count_by is_sent os ≡ length (filter_map place_of os)
 sent_have_places [] = refl
-sent_have_places (Replied place words ∷ os) = omega (arith, count-cons is_sent (Replied place words) os, sent_have_places os)
-sent_have_places (TimedOut place rounds ∷ os) = omega (arith, count-cons is_sent (TimedOut place rounds) os, sent_have_places os)
+sent_have_places (Replied place words ∷ os) = omega
+    (arith, count-cons is_sent (Replied place words) os, sent_have_places os)
+sent_have_places (TimedOut place rounds ∷ os) = omega
+    (arith, count-cons is_sent (TimedOut place rounds) os, sent_have_places os)
 sent_have_places (Unsent ∷ os) = omega (arith, count-cons is_sent Unsent os, sent_have_places os)
 sent_have_places (LinkLost None ∷ os) = omega (arith, count-cons is_sent (LinkLost None) os, sent_have_places os)
 sent_have_places (LinkLost (Some place) ∷ os) =

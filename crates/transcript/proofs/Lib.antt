@@ -6,3 +6,6 @@ mod Counts
 mod StatusLemmas
 mod DispatchLemmas
 mod Skipping
+mod Reading
+mod Rising
+mod FewWords

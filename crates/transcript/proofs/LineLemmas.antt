@@ -1,6 +1,8 @@
 -- The lines of a client, operation by operation.
-use Rattle.std.proofs.Common.{◌≡◌, ℕ, suc, ◌+◌, ◌≤◌, ◌<◌, ◌==◌, cond, Bool, length, get_or, take, drop, List, [], ◌∷◌, ◌++◌}
-use Rattle.std.proofs.Common.{sym, ap, ◌∙◌, inl, inr, arith, zero-add, append_assoc, append-nil, add-one, drop-cons, length-append, length-set, length-take}
+use Rattle.std.proofs.Common.{◌≡◌, ℕ, suc, ◌+◌, ◌<◌, ◌==◌, cond, Bool, length, get_or, take, drop, List, [], ◌∷◌}
+use Rattle.std.proofs.Common.{◌++◌}
+use Rattle.std.proofs.Common.{sym, ap, ◌∙◌, inl, inr, arith, zero-add, append_assoc, append-nil, add-one, drop-cons}
+use Rattle.std.proofs.Common.{length-append, length-set}
 use Rattle.std.specs.List.{slice_get, count_by}
 use Rattle.std.specs.Option.{option_map}
 use Rattle.std.specs.Prelude.{option_to_list, slice_index}
@@ -21,14 +23,9 @@ use Rattle.transcript.specs.Lines.{line_of, count_on}
 use Rattle.transcript.specs.Steps.{line_on, bumped, IsProgress}
 
 -- what is counted of two lists
-pub count_by-append : {A : Type 0} (p : A → Bool) (xs ys : List A) → count_by p (xs ++ ys) ≡ count_by p xs + count_by p ys
+pub count_by-append : {A : Type 0} (p : A → Bool) (xs ys : List A)
+    → count_by p (xs ++ ys) ≡ count_by p xs + count_by p ys
 count_by-append p xs ys = sum_by-append (λ x. cond (p x) 1 0) xs ys
-
--- there are no more operations than steps
-pub few_operations : (steps : List Step) → length (operations steps) ≤ length steps
-few_operations [] = omega arith
-few_operations (Do op ∷ steps) = omega (arith, few_operations steps)
-few_operations (Dispatch ∷ steps) = omega (arith, few_operations steps)
 
 -- the count at a place that is raised, and at the others
 bumped_at : (counts : List ℕ) (at b : ℕ) → b < length counts
@@ -42,7 +39,8 @@ bumped_at counts at b within =
 module _ (steps : List Step) (i : ℕ) (step : Step) (within : i < length steps) (is : step ≡ get_or steps i step) where
   taken : operations (take (i + 1) steps) ≡ operations (take i steps) ++ operations (step ∷ [])
   taken =
-      ap operations (take_more steps i step within) ∙ (filter_map-append operation_in (take i steps) (get_or steps i step ∷ [])
+      ap operations (take_more steps i step within)
+      ∙ (filter_map-append operation_in (take i steps) (get_or steps i step ∷ [])
       ∙ ap (λ s. operations (take i steps) ++ operations (s ∷ [])) (sym is))
 
   left : operations (drop i steps) ≡ operations (step ∷ []) ++ operations (drop (i + 1) steps)
@@ -62,7 +60,8 @@ same_line runs client number k before op same count =
     ]
 
 module _ (runs : List BoardRun) (client : ℕ) (steps : List Step) (i : ℕ) (made : List OpLine) (number : ℕ)
-    (counts : List ℕ) (step : Step) (so_far : IsProgress runs client steps i made number counts) (within : i < length steps)
+    (counts : List ℕ) (step : Step) (so_far : IsProgress runs client steps i made number counts)
+    (within : i < length steps)
     (is : step ≡ get_or steps i step) where
   -- a dispatch is no operation
   pub after_dispatch : step ≡ Dispatch → IsProgress runs client steps (i + 1) made number counts
@@ -81,7 +80,8 @@ module _ (runs : List BoardRun) (client : ℕ) (steps : List Step) (i : ℕ) (ma
   -- an operation has the next line
   pub after_operation : (op : RegOp) → step ≡ Do op
       → IsProgress runs client steps (i + 1)
-      (made ++ option_to_list (option_map (line_on client (number + 1) (slice_index counts op.board) op) (slice_get runs op.board)))
+      (made ++ option_to_list (option_map (line_on client (number + 1) (slice_index counts op.board) op)
+      (slice_get runs op.board)))
       (number + 1) (bumped op.board counts)
   after_operation op asks =
       let before : operations (take (i + 1) steps) ≡ operations (take i steps) ++ op ∷ [] =
@@ -91,7 +91,8 @@ module _ (runs : List BoardRun) (client : ℕ) (steps : List Step) (i : ℕ) (ma
       record {
         lines =
             rw (
-              same_line runs client number (slice_index counts op.board) (operations (take i steps)) op so_far.operations'
+              same_line runs client number (slice_index counts op.board) (operations (take i steps)) op
+                  so_far.operations'
                   (so_far.counts' op.board),
               before,
               append_assoc,
@@ -99,12 +100,9 @@ module _ (runs : List BoardRun) (client : ℕ) (steps : List Step) (i : ℕ) (ma
         operations' = rw (before, length-append) (omega (arith, so_far.operations'));
         boards = length-set counts _ _ ∙ so_far.boards;
         counts' = λ b there. rw before (
-            bumped_at counts op.board b (omega (arith, so_far.boards)) ∙ (ap (λ n. n + cond (op.board == b) 1 0) (so_far.counts' b there)
+            bumped_at counts op.board b (omega (arith, so_far.boards))
+            ∙ (ap (λ n. n + cond (op.board == b) 1 0) (so_far.counts' b there)
             ∙ (ap (λ n. count_on b (operations (take i steps)) + n) (sym (zero-add (cond (op.board == b) 1 0)))
             ∙ sym (count_by-append (λ (o : RegOp). o.board == b) (operations (take i steps)) (op ∷ []))))
             );
       }
-
-  pub few_so_far : number ≤ i
-  few_so_far =
-      omega (arith, so_far.operations', few_operations (take i steps), length-take i steps)

@@ -32,7 +32,8 @@ abbrev pub IsBehindError : List ℕ → Outcome → ℕ → Type 0
 IsBehindError body outcome index =
     (earlier code after : ℕ) × (earlier < index) × (told_at (told_of body outcome) earlier ≡ Error code after)
 
-behind : Joins → Skips → (body words : List ℕ) (index : ℕ) (found : Option (List Answer)) → AreWords body → AreWords words
+behind : Joins → Skips → (body words : List ℕ) (index : ℕ) (found : Option (List Answer)) → AreWords body
+    → AreWords words
     → answers body words ≡ found → told_at (told_by found) index ≡ Skipped
     → (earlier code after : ℕ) × (earlier < index) × (told_at (told_by found) earlier ≡ Error code after)
 behind joins skips body words index None fits fit none skipped = cc

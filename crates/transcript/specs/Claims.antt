@@ -1,11 +1,15 @@
 -- What the laws say of lines and outcomes.
-use Rattle.std.specs.Prelude.{◌≡◌, ◌⊎◌, ℕ, List}
-use Rattle.ipb_base.specs.Word.{AreWords}
+use Rattle.std.specs.Prelude.{◌≡◌, ◌≢◌, ◌⊎◌, ℕ, ◌<◌, ◌^◌, ◌==◌, Bool, true, not, List, [], ◌∷◌, Some}
+use Rattle.std.specs.List.{AllByRecursion, list_all, slice_get}
+use Rattle.ipb_base.specs.Word.{IsWord, AreWords}
 use Rattle.transcript.specs.declared.outcome.Outcome.{Outcome}
-use Rattle.transcript.specs.declared.outcome.Outcome.TheVariants.{Replied, TimedOut, Unsent, LinkLost}
+use Rattle.transcript.specs.declared.outcome.Outcome.TheVariants as became
 use Rattle.transcript.specs.declared.line.OpResult.{OpResult}
-use Rattle.transcript.specs.declared.line.OpResult.TheVariants.{Value, Done, Was}
+use Rattle.transcript.specs.declared.line.OpResult.TheVariants.{Value, Done, Was, Error, Skipped, TimedOut, Unsent}
+use Rattle.transcript.specs.declared.line.OpResult.TheVariants.{LinkLost, Garbled}
 use Rattle.transcript.specs.declared.line.OpLine.{OpLine}
+use Rattle.transcript.specs.declared.planned.PieceAt.{PieceAt}
+use Rattle.transcript.specs.declared.body_end.BodyEnd.{BodyEnd}
 
 -- the result is a value, `done` or `was`
 abbrev pub IsDoneResult : OpResult → Type 0
@@ -16,7 +20,62 @@ IsDone line = IsDoneResult line.result
 
 -- what a board replied are words of 32 bits
 abbrev pub HaveWords : Outcome → Type 0
-HaveWords (Replied place words) = AreWords words
-HaveWords (TimedOut place rounds) = Unit {0}
-HaveWords Unsent = Unit {0}
-HaveWords (LinkLost place) = Unit {0}
+HaveWords (became.Replied place words) = AreWords words
+HaveWords (became.TimedOut place rounds) = Unit {0}
+HaveWords became.Unsent = Unit {0}
+HaveWords (became.LinkLost place) = Unit {0}
+
+-- ---- what is printed
+
+abbrev pub IsByte : ℕ → Type 0
+IsByte n = n < 2 ^ 8
+
+-- what a result shows has its range
+abbrev pub IsPrinted : OpResult → Type 0
+IsPrinted (Value words) = AreWords words
+IsPrinted Done = Unit {0}
+IsPrinted (Was word) = IsWord word
+IsPrinted (Error code after) = IsByte code × IsByte after
+IsPrinted Skipped = Unit {0}
+IsPrinted (TimedOut rounds) = IsByte rounds
+IsPrinted Unsent = Unit {0}
+IsPrinted LinkLost = Unit {0}
+IsPrinted Garbled = Unit {0}
+
+abbrev pub IsPrintedPlace : ℕ × ℕ → Type 0
+IsPrintedPlace place = (place.0 < 2 ^ 64) × (place.1 < 2 ^ 16)
+
+abbrev pub is_no_colon : ℕ → Bool
+is_no_colon byte = not (byte == 58)
+
+abbrev pub is_no_space : ℕ → Bool
+is_no_space byte = not (byte == 32)
+
+-- The line has numbers of its fields' ranges, a board's name without a colon and a register's name without a space, as
+-- every id and every dotted name is.
+pub record IsPrintedLine (line : OpLine) : Type 0 where
+  pub number' : line.number < 2 ^ 32
+  pub board' : list_all is_no_colon line.board ≡ true
+  pub name' : list_all is_no_space line.name ≡ true
+  pub result' : IsPrinted line.result
+  pub places' : AllByRecursion IsPrintedPlace line.places
+
+-- ---- the order of pieces
+
+-- a piece in an earlier body, or before the other in the same one
+abbrev pub IsBefore : PieceAt → PieceAt → Type 0
+IsBefore p q = (p.body < q.body) ⊎ ((p.body ≡ q.body) × (p.index < q.index))
+
+-- each item of a list stands so to each later one
+abbrev pub Rises : {T : Type 0} → (T → T → Type 0) → List T → Type 0
+Rises R [] = Unit {0}
+Rises R (x ∷ xs) = AllByRecursion (R x) xs × Rises R xs
+
+abbrev pub IsOther : ℕ × ℕ → ℕ × ℕ → Type 0
+IsOther place other = place ≢ other
+
+-- no two bodies have one place
+abbrev pub HaveOwnPlaces : List BodyEnd → Type 0
+HaveOwnPlaces ends =
+    (i j : ℕ) (one other : BodyEnd) (place : ℕ) → slice_get ends i ≡ Some one → slice_get ends j ≡ Some other
+    → one.place ≡ Some place → other.place ≡ Some place → i ≡ j

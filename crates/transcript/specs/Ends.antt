@@ -12,7 +12,8 @@ use Rattle.transcript.specs.declared.body_end.Told.TheVariants as told
 use Rattle.transcript.specs.declared.body_end.BodyEnd.{BodyEnd}
 use Rattle.transcript.specs.declared.board_run.ClientPart.{ClientPart}
 use Rattle.transcript.specs.declared.line.OpResult.{OpResult}
-use Rattle.transcript.specs.declared.line.OpResult.TheVariants.{Value, Done, Error, Skipped, TimedOut, Unsent, LinkLost, Garbled}
+use Rattle.transcript.specs.declared.line.OpResult.TheVariants.{Value, Done, Error, Skipped, TimedOut, Unsent, LinkLost}
+use Rattle.transcript.specs.declared.line.OpResult.TheVariants.{Garbled}
 
 -- the place of a body that has one
 abbrev pub place_of : Outcome → Option ℕ

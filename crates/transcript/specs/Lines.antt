@@ -1,5 +1,6 @@
 -- The lines of a run: a function of each client's steps, and of what became of each board. Profile.
-use Rattle.std.specs.Prelude.{ℕ, ◌+◌, ◌^◌, ◌<◌, ◌==◌, Bool, true, false, if◌then◌else◌, List, [], ◌∷◌, ◌++◌, length, map, count_by, slice_get}
+use Rattle.std.specs.Prelude.{ℕ, ◌+◌, ◌==◌, Bool, true, false, if◌then◌else◌, List, [], ◌∷◌, ◌++◌, length}
+use Rattle.std.specs.Prelude.{map, count_by, slice_get}
 use Rattle.std.specs.Prelude.{Option, Some, None, option_to_list, option_map}
 use Rattle.std.specs.List.{flat_map, list_all}
 use Rattle.script_lang.specs.declared.operation.RegOp.{RegOp}
@@ -69,10 +70,6 @@ lines_behind runs client before (op ∷ ops) =
 abbrev pub client_lines : List BoardRun → ℕ → List Step → List OpLine
 client_lines runs client steps = lines_behind runs client [] (operations steps)
 
--- the numbers of a client's operations have 32 bits
-abbrev pub AreNumbered : List Step → Type 0
-AreNumbered steps = length steps < 2 ^ 32
-
 -- the lines of the clients from a number on
 abbrev pub lines_from : List BoardRun → ℕ → List (List Step) → List (List OpLine)
 lines_from runs client [] = []
@@ -113,10 +110,6 @@ outcomes_in parts = flat_map (λ (part : ClientPart). part.outcomes) parts
 
 abbrev pub outcomes_on : BoardRun → List Outcome
 outcomes_on run = outcomes_in run.parts
-
--- they are so few that 64 bits count them
-abbrev pub IsCountable : BoardRun → Type 0
-IsCountable run = length (outcomes_on run) < 2 ^ 64
 
 abbrev pub live_line : List ℕ → List Outcome → BoardLine
 live_line name outcomes =

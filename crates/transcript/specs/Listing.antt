@@ -26,7 +26,8 @@ mode_text Hierarchical = codes "hierarchical"
 -- how a register may be used, and its words
 abbrev pub kinds_text : Register → List ℕ
 kinds_text register =
-    permission_text register.permission ++ (codes " " ++ (mode_text register.mode ++ (codes " " ++ (decimal register.size
+    permission_text register.permission ++ (codes " "
+    ++ (mode_text register.mode ++ (codes " " ++ (decimal register.size
     ++ codes "\n"))))
 
 -- the line of a register

@@ -8,7 +8,8 @@ use Rattle.script_lang.specs.declared.operation.RegOp.{RegOp}
 use Rattle.transcript.specs.declared.planned.PieceAt.{PieceAt}
 use Rattle.transcript.specs.declared.body_end.BodyEnd.{BodyEnd}
 use Rattle.transcript.specs.declared.line.OpResult.{OpResult}
-use Rattle.transcript.specs.declared.line.OpResult.TheVariants.{Value, Done, Was, Error, Skipped, TimedOut, Unsent, LinkLost, Garbled}
+use Rattle.transcript.specs.declared.line.OpResult.TheVariants.{Value, Done, Was, Error, Skipped, TimedOut, Unsent}
+use Rattle.transcript.specs.declared.line.OpResult.TheVariants.{LinkLost, Garbled}
 use Rattle.transcript.specs.Ends.{piece_result, piece_place}
 
 -- it was executed without a fault

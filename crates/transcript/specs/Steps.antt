@@ -1,6 +1,7 @@
 -- How the steps of the calls work together: what private functions promise one another. No public clause speaks of
 -- these.
-use Rattle.std.specs.Prelude.{◌≡◌, ℕ, ◌+◌, ◌≤◌, ◌<◌, ◌^◌, Bool, if◌then◌else◌, List, [], ◌∷◌, ◌++◌, length, map, take, drop, slice_get, slice_set, slice_index}
+use Rattle.std.specs.Prelude.{◌≡◌, ℕ, ◌+◌, ◌≤◌, ◌<◌, ◌^◌, Bool, if◌then◌else◌, List, [], ◌∷◌, ◌++◌, length, map, take}
+use Rattle.std.specs.Prelude.{drop, slice_get, slice_set, slice_index}
 use Rattle.std.specs.Prelude.{Option, Some, None}
 use Rattle.std.specs.Option.{option_map_or}
 use Rattle.script_lang.specs.declared.operation.RegOp.{RegOp}
@@ -20,10 +21,12 @@ use Rattle.mtu_packer.specs.Packed.{Contents, FitsPackets, packed}
 use Rattle.script_lang.specs.Packing.{CanBePacked, IsSelection}
 use Rattle.script_lang.specs.Packing as script
 use Rattle.transcript.specs.declared.planning.Planning.{Planning}
-use Rattle.transcript.specs.Plan.{ClientBodies, AreSound, operations, dispatches, ops_on, plan, with_dispatch, all_dispatches}
+use Rattle.transcript.specs.Plan.{ClientBodies, AreSound, operations, dispatches, ops_on, plan, with_dispatch}
+use Rattle.transcript.specs.Plan.{all_dispatches}
 use Rattle.transcript.specs.Ends.{ends_of}
 use Rattle.transcript.specs.Results.{is_good}
-use Rattle.transcript.specs.Lines.{showing, line_with, lines_behind, client_lines, count_on, is_sent, is_replied, is_timed_out, is_lost}
+use Rattle.transcript.specs.Lines.{showing, line_with, lines_behind, client_lines, count_on, is_sent, is_replied}
+use Rattle.transcript.specs.Lines.{is_timed_out, is_lost}
 
 -- what a piece came to, where it failed
 abbrev pub fault_in : OpResult → Option OpResult
@@ -45,8 +48,10 @@ abbrev pub AreBelow : ℕ → List ℕ → Type 0
 AreBelow most counts = (b : ℕ) → slice_index counts b ≤ most
 
 -- where a client's first `i` steps have these lines, so many operations, and so many on each board
-pub record IsProgress (runs : List BoardRun) (client : ℕ) (steps : List Step) (i : ℕ) (made : List OpLine) (number : ℕ) (counts : List ℕ) : Type 0 where
-  pub lines : made ++ lines_behind runs client (operations (take i steps)) (operations (drop i steps)) ≡ client_lines runs client steps
+pub record IsProgress (runs : List BoardRun) (client : ℕ) (steps : List Step) (i : ℕ) (made : List OpLine) (number : ℕ)
+    (counts : List ℕ) : Type 0 where
+  pub lines : made ++ lines_behind runs client (operations (take i steps)) (operations (drop i steps))
+      ≡ client_lines runs client steps
   pub operations' : number ≡ length (operations (take i steps))
   pub boards : length counts ≡ length runs
   pub counts' : (b : ℕ) → b < length runs → slice_index counts b ≡ count_on b (operations (take i steps))
@@ -71,14 +76,17 @@ continued payload board queued (dispatch ∷ later) =
 -- selections of operations, behind these, are cut into no more pieces than packing takes
 abbrev pub HaveFewBehind : ℕ → List Op → List Step → Type 0
 HaveFewBehind payload queued steps =
-    (ops : List Op) → IsSelection ops (script.operations steps) → length (flat_map (cut payload) (queued ++ ops)) ≤ 2 ^ 31
+    (ops : List Op) → IsSelection ops (script.operations steps)
+    → length (flat_map (cut payload) (queued ++ ops)) ≤ 2 ^ 31
 
 -- where the first `i` steps are planned, but for what waits for the next dispatch
-pub record IsPlanning (payload board : ℕ) (steps : List Step) (i : ℕ) (all : ClientBodies) (queued : List Op) : Type 0 where
-  pub planned : fold with_dispatch all (continued payload board queued (dispatches (drop i steps))) ≡ all_dispatches (plan payload board steps)
-  pub sound : AreSound all
-  pub room : AllByRecursion (FitsPackets payload) all.bodies
-  pub can : All CanBeCut queued
-  pub can_later : AllByRecursion CanBePacked (drop i steps)
-  pub few : HaveFewBehind payload queued (drop i steps)
-  pub few_later : HaveFewBehind payload [] (drop i steps)
+pub record IsPlanning (payload board : ℕ) (steps : List Step) (i : ℕ) (all : ClientBodies) (queued : List Op) : Type 0
+  where
+    pub planned : fold with_dispatch all (continued payload board queued (dispatches (drop i steps)))
+        ≡ all_dispatches (plan payload board steps)
+    pub sound : AreSound all
+    pub room : AllByRecursion (FitsPackets payload) all.bodies
+    pub can : All CanBeCut queued
+    pub can_later : AllByRecursion CanBePacked (drop i steps)
+    pub few : HaveFewBehind payload queued (drop i steps)
+    pub few_later : HaveFewBehind payload [] (drop i steps)

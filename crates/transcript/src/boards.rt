@@ -1,7 +1,6 @@
 //! The lines of a run's boards.
 
-ghost use Rattle.std.specs.Prelude.{◌≡◌, ◌+◌, ◌^◌, ◌<◌, IfOk, length, map, count_by};
-ghost use Rattle.std.specs.List.{AllByRecursion, flat_map};
+ghost use Rattle.std.specs.Prelude.{◌≡◌, IfOk, map, count_by};
 ghost use Rattle.transcript.specs.Lines as spec;
 ghost use Rattle.transcript.specs.Steps.{is_of};
 
@@ -52,20 +51,22 @@ fn count_in(outcomes: &[Outcome], kind: Kind) -> usize
 }
 
 /// How many bodies of the clients on a board are of a kind.
-fn count(parts: &[ClientPart], kind: Kind) -> u64
-    requires { length (spec.outcomes_in parts.now) < 2 ^ 64 }
-    ensures { result ≡ count_by (is_of kind) (spec.outcomes_in parts.now) }
+fn count(parts: &[ClientPart], kind: Kind) -> Result<u64, NoMemory>
+    ensures { IfOk result (λ total. total ≡ count_by (is_of kind) (spec.outcomes_in parts.now)) }
 {
-    let mut total = 0;
+    let mut total = 0u64;
     for part in parts {
-        total += count_in(part.outcomes.as_slice(), kind) as u64;
+        let more = count_in(part.outcomes.as_slice(), kind) as u64;
+        let Some(sum) = total.checked_add(more) else {
+            return Err(NoMemory);
+        };
+        total = sum;
     }
-    total
+    Ok(total)
 }
 
 /// The line of a board.
 fn board_line(alloc: Global, run: &BoardRun) -> Result<BoardLine, NoMemory>
-    requires { spec.IsCountable run.now }
     ensures { IfOk result (λ line. line ≡ spec.board_line run.now) }
 {
     let name = Text::copy_of(alloc, run.name.as_str())?;
@@ -73,20 +74,19 @@ fn board_line(alloc: Global, run: &BoardRun) -> Result<BoardLine, NoMemory>
     match run.greeting {
         Greeting::Live { .. } => Ok(BoardLine::Live {
             name,
-            sent: count(parts, Kind::Sent),
-            replied: count(parts, Kind::Replied),
-            timed_out: count(parts, Kind::TimedOut),
-            lost: count(parts, Kind::Lost),
+            sent: count(parts, Kind::Sent)?,
+            replied: count(parts, Kind::Replied)?,
+            timed_out: count(parts, Kind::TimedOut)?,
+            lost: count(parts, Kind::Lost)?,
         }),
         Greeting::Silent => Ok(BoardLine::Silent { name }),
         Greeting::Down => Ok(BoardLine::Down { name }),
     }
 }
 
-/// The lines of the boards, in their order: for each live one the first sends, and what became of them. The bodies of
-/// a board are so few that 64 bits count them.
+/// The lines of the boards, in their order: for each live one the first sends, and what became of them. More bodies of
+/// a board than 64 bits count are answered by `NoMemory` too.
 pub fn board_lines(alloc: Global, runs: &[BoardRun]) -> Result<Vec<BoardLine>, NoMemory>
-    requires { AllByRecursion spec.IsCountable runs.now }
     ensures { IfOk result (λ lines. lines.items ≡ map spec.board_line runs.now) }
 {
     let mut lines = Vec::new(alloc);

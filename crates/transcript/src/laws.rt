@@ -1,18 +1,26 @@
 //! Laws of the definitions. These functions do nothing when they run: their clauses are what is proved.
 
-ghost use Rattle.std.specs.Prelude.{◌≡◌, ◌↔◌, ℕ, ◌+◌, ◌<◌, List, [], ◌∷◌, ◌++◌, length, count_by, Some};
+ghost use Rattle.std.specs.Prelude.{◌≡◌, ◌↔◌, ℕ, ◌+◌, ◌<◌, ◌≤◌, ◌^◌, sum_by, List, [], ◌∷◌, ◌++◌, length, count_by};
+ghost use Rattle.std.specs.Prelude.{Some};
 ghost use Rattle.std.specs.List.{AllByRecursion, filter_map, flat_map};
 ghost use Rattle.ipb_base.specs.Word.{AreWords};
+ghost use Rattle.transaction_codec.specs.Request.{op_count};
 ghost use Rattle.mtu_packer.specs.Packed.{Contents, deal};
+ghost use Rattle.script_lang.specs.Packing.{operations, HaveFewPieces};
 ghost use Rattle.script_lang.specs.declared.operation.Step.{Step};
 ghost use Rattle.transcript.specs.declared.outcome.Outcome.{Outcome as OutcomeValue};
 ghost use Rattle.transcript.specs.declared.line.OpLine.{OpLine as OpLineValue};
 ghost use Rattle.transcript.specs.declared.line.OpResult.TheVariants.{Skipped, Error};
-ghost use Rattle.transcript.specs.Plan.{bodies_in, all_dispatches};
+ghost use Rattle.transcript.specs.declared.planned.PieceAt.{PieceAt as PieceValue};
+ghost use Rattle.transcript.specs.declared.body_end.BodyEnd.{BodyEnd as BodyEndValue};
+ghost use Rattle.transcript.specs.Plan.{bodies_in, all_dispatches, plan};
 ghost use Rattle.transcript.specs.Ends.{place_of, told_of, told_at};
+ghost use Rattle.transcript.specs.Results.{op_places};
+ghost use Rattle.transcript.specs.Text.{line_text};
 ghost use Rattle.transcript.specs.Lines.{is_sent, is_replied, is_timed_out, is_lost, run_status, client_lines};
-ghost use Rattle.transcript.specs.Claims.{IsDone, HaveWords};
+ghost use Rattle.transcript.specs.Claims.{IsDone, HaveWords, IsPrintedLine, IsBefore, Rises, IsOther, HaveOwnPlaces};
 
+use mtu_packer::laws::pieces_are_no_more_than_words;
 use reply_join::laws::{joining_is_a_function, skipped_stands_behind_a_fault};
 
 /// The first sends of a board's line are the bodies that have a place, and each of them was replied to, timed out, or
@@ -49,4 +57,27 @@ pub fn skipped_stands_behind_an_error()
 {
     joining_is_a_function();
     skipped_stands_behind_a_fault();
+}
+
+/// The pieces of an operation stand one behind the other, in rising bodies and, within a body, with rising numbers.
+/// So where no two bodies have one place, no two pieces of an operation have one.
+pub fn pieces_of_an_operation_have_their_own_places()
+    ensures pieces { (payload board : ℕ) (steps : List Step) →
+        AllByRecursion (Rises IsBefore) (all_dispatches (plan payload board steps)).pieces }
+    ensures places { (ends : List BodyEndValue) (pieces : List PieceValue) → HaveOwnPlaces ends →
+        Rises IsBefore pieces → Rises IsOther (op_places ends pieces) }
+{}
+
+/// Two lines of one text are one line: so the text tells the number, the verb, the names, what the operation came to
+/// and its places.
+pub fn a_text_is_that_of_one_line()
+    ensures { (line other : OpLineValue) → IsPrintedLine line → IsPrintedLine other →
+        line_text line ≡ line_text other → line ≡ other }
+{}
+
+/// Operations that read and write at most 2^31 words together are cut into few enough pieces for packing.
+pub fn few_words_are_few_pieces()
+    ensures { (steps : List Step) → sum_by op_count (operations steps) ≤ 2 ^ 31 → HaveFewPieces steps }
+{
+    pieces_are_no_more_than_words();
 }

@@ -29,7 +29,7 @@ pub use line::{BoardLine, LinePlaces, OpLine, OpResult};
 pub use lines::{client_lines, lines_of_clients};
 pub use listing::listing_text;
 pub use outcome::{Greeting, Outcome, Outcomes};
-pub use planned::{OpPieces, PieceAt, Planned};
+pub use planned::{PieceAt, Planned};
 pub use planning::plan_on;
 pub use status::all_good;
 pub use text::{line_text, transcript_text};

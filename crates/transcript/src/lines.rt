@@ -1,7 +1,7 @@
 //! The lines of a run's operations.
 
-ghost use Rattle.std.specs.Prelude.{◌≡◌, ℕ, ◌+◌, ◌-◌, ◌++◌, ◌^◌, ◌<◌, ◌≤◌, [], IfOk, OnOk, length, map, option_to_list, option_map, slice_get, slice_set, slice_index};
-ghost use Rattle.std.specs.List.{AllByRecursion};
+ghost use Rattle.std.specs.Prelude.{◌≡◌, ℕ, ◌+◌, ◌-◌, ◌++◌, ◌^◌, ◌<◌, ◌≤◌, [], IfOk, OnOk, length, map, option_to_list};
+ghost use Rattle.std.specs.Prelude.{option_map, slice_get, slice_set, slice_index};
 ghost use Rattle.transcript.specs.declared.board_run.ClientPart.{ClientPart as PartValue};
 ghost use Rattle.transcript.specs.Ends as of_ends;
 ghost use Rattle.transcript.specs.Lines as spec;
@@ -131,7 +131,6 @@ fn add_line(
     requires ends { map (λ e. e.items) ends.now ≡ map (ends_on client) runs.now }
     requires boards { length progress.old.counts.items ≡ length runs.now }
     requires below { AreBelow progress.old.number progress.old.counts.items }
-    requires few { progress.old.number + 1 < 2 ^ 32 }
     ensures number { OnOk result (progress.new.number ≡ progress.old.number + 1) }
     ensures counts { OnOk result (progress.new.counts.items ≡ bumped op.now.board progress.old.counts.items) }
     ensures lines { let number = progress.old.number + 1 in
@@ -139,35 +138,30 @@ fn add_line(
         OnOk result (progress.new.lines.items ≡ progress.old.lines.items
         ++ option_to_list (option_map (line_on client number k op.now) (slice_get runs.now op.now.board))) }
 {
-    progress.number += 1;
+    let Some(number) = progress.number.checked_add(1) else {
+        return Err(NoMemory);
+    };
+    progress.number = number;
     let board = op.board as usize;
     let Some(run) = runs.get(board) else {
         return Ok(());
     };
     let k = progress.counts[board];
-    let line = line_on(
-        alloc,
-        run,
-        client,
-        ends[board].as_slice(),
-        progress.number,
-        k,
-        op,
-    )?;
+    let ends = ends[board].as_slice();
+    let line = line_on(alloc, run, client, ends, number, k, op)?;
     progress.lines.push(line)?;
     progress.counts[board] = k + 1;
     Ok(())
 }
 
 /// The lines of a client, counted from 0, in the order of its operations: by its steps, and by what became of each
-/// board. Each reply is joined to its body once.
+/// board. Each reply is joined to its body once. More than 2^32 - 1 operations are answered by `NoMemory` too.
 pub fn client_lines(
     alloc: Global,
     runs: &[BoardRun],
     client: usize,
     steps: &[Step],
 ) -> Result<Vec<OpLine>, NoMemory>
-    requires { spec.AreNumbered steps.now }
     ensures { IfOk result (λ lines. lines.items ≡ spec.client_lines runs.now client steps.now) }
 {
     let ends = all_ends(alloc, runs, client)?;
@@ -190,7 +184,6 @@ pub fn lines_of_clients(
     runs: &[BoardRun],
     scripts: &[Steps],
 ) -> Result<Vec<Vec<OpLine>>, NoMemory>
-    requires { AllByRecursion spec.AreNumbered scripts.now }
     ensures { IfOk result (λ all. map (λ lines. lines.items) all.items ≡ spec.lines_from runs.now 0 scripts.now) }
 {
     let mut all = Vec::new(alloc);

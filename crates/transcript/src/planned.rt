@@ -19,7 +19,7 @@ pub struct PieceAt {
 
 /// Where the pieces of one operation stand, in order. Contracts see that list.
 #[derive(Debug, Drop)]
-pub struct OpPieces {
+pub(crate) struct OpPieces {
     items: Vec<PieceAt>,
 }
 
@@ -41,7 +41,7 @@ impl OpPieces {
     }
 
     /// The pieces, in order.
-    pub fn as_slice(&self) -> &[PieceAt]
+    pub(crate) fn as_slice(&self) -> &[PieceAt]
         ensures { result.now ≡ self.now }
     {
         self.items.as_slice()
@@ -69,7 +69,8 @@ impl Model for Planned {
 }
 
 impl Planned {
-    /// The bodies, where the pieces of each operation stand in them, and how many each dispatch has. It takes no memory.
+    /// The bodies, where the pieces of each operation stand in them, and how many each dispatch has. It takes no
+    /// memory.
     pub(crate) fn new(bodies: Vec<Words>, pieces: Vec<OpPieces>, counts: Vec<usize>) -> Planned
         requires { AreSound (record { bodies = bodies.items; pieces = pieces.items; counts = counts.items }) }
         ensures { result ≡ record { bodies = bodies.items; pieces = pieces.items; counts = counts.items } }

@@ -196,8 +196,8 @@ fn nothing(alloc: Global) -> Planned
 }
 
 /// The bodies of a client's steps on the board at a position from 0, and where the pieces of each operation stand in
-/// them. Each dispatch is packed on its own, for the packets that the board takes (profile); a board that is not live is
-/// asked nothing.
+/// them. Each dispatch is packed on its own, for the packets that the board takes (profile); a board that is not live
+/// is asked nothing.
 ///
 /// The operations can be packed and cut into few enough pieces, as those of compiled scripts can. A live board takes
 /// packets of `MIN_PAYLOAD` to `MAX_PAYLOAD` words.

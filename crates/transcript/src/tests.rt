@@ -1,7 +1,8 @@
-ghost use Rattle.std.specs.Prelude.{IfOk, ◌≤◌, ◌^◌, ◌∷◌, []};
-ghost use Rattle.script_lang.specs.Packing.{CanBePacked};
-ghost use Rattle.transcript.specs.Plan.{words_asked};
+ghost use Rattle.std.specs.Prelude.{IfOk, ◌≤◌, ◌∷◌, [], sum_by};
+ghost use Rattle.transaction_codec.specs.Request.{op_count};
+ghost use Rattle.script_lang.specs.Packing.{CanBePacked, operations};
 
+use super::laws::few_words_are_few_pieces;
 use super::*;
 use script_lang::{RegOp, Step, Verb};
 use std::alloc::Global;
@@ -11,7 +12,7 @@ use transaction_codec::Op;
 /// `read b0:sys.id`
 fn read_id(alloc: Global) -> Result<Step, NoMemory>
     ensures packed { IfOk result CanBePacked }
-    ensures few { IfOk result (λ step. words_asked (step ∷ []) ≤ 1) }
+    ensures few { IfOk result (λ step. sum_by op_count (operations (step ∷ [])) ≤ 1) }
 {
     Ok(Step::Do(RegOp {
         line: 1,
@@ -20,24 +21,6 @@ fn read_id(alloc: Global) -> Result<Step, NoMemory>
         name: Text::copy_of(alloc, "sys.id")?,
         mask: u32::MAX,
         op: Op::Read { base: 4, count: 1 },
-    }))
-}
-
-/// `readblock b0:mem 20`
-fn read_mem(alloc: Global) -> Result<Step, NoMemory>
-    ensures packed { IfOk result CanBePacked }
-    ensures few { IfOk result (λ step. words_asked (step ∷ []) ≤ 20) }
-{
-    Ok(Step::Do(RegOp {
-        line: 2,
-        verb: Verb::ReadBlock,
-        board: 0,
-        name: Text::copy_of(alloc, "mem")?,
-        mask: u32::MAX,
-        op: Op::Read {
-            base: 256,
-            count: 20,
-        },
     }))
 }
 
@@ -56,9 +39,6 @@ fn run_of(alloc: Global, planned: Planned, outcomes: Vec<Outcome>) -> Result<Boa
 
 /// What is printed of a run of one client.
 fn printed(alloc: Global, run: BoardRun, steps: &[Step]) -> Result<Vec<u8>, NoMemory> {
-    if steps.len() > 1000 {
-        return Err(NoMemory);
-    }
     let runs = [run];
     let lines = client_lines(alloc, &runs, 0, steps)?;
     let boards = board_lines(alloc, &runs)?;
@@ -68,6 +48,7 @@ fn printed(alloc: Global, run: BoardRun, steps: &[Step]) -> Result<Vec<u8>, NoMe
 
 #[test]
 fn one_read_is_planned_and_printed(rt: HostRuntime) -> Result<(), Fail> {
+    few_words_are_few_pieces();
     let alloc = rt.alloc();
     let steps = [read_id(alloc)?];
     let planned = plan_on(alloc, &steps, 0, Greeting::Live { payload: 16 })?;

@@ -7,7 +7,7 @@ use Rattle.packet_codec.specs.Reading.{packet_of}
 use Rattle.world_model.specs.Messages.{control_packet}
 use Rattle.world_model.specs.Board.{Hearing, expected, execute, hear, present_bus}
 use Rattle.board_node.specs.Answers.{answer_bytes}
-use Rattle.direct_run.specs.Runs.{entry_of}
+use Rattle.direct_run.specs.Steps.{entry_of}
 use Rattle.direct_run.proofs.ReplyWords.{answer_words}
 use Rattle.direct_run.proofs.Exchanges.{heard_next}
 use Rattle.direct_run.proofs.exchange.deliver.Goals as goal
@@ -32,7 +32,7 @@ returns-clause-packet c =
     record {
       id = packet.id;
       body = answer_words c.args.body.now (run_body (present_bus c.args.board.now) c.args.body.now).reply (subst (λ (cells : CellMap). CanAnswer c.args.body.now (run_body cells c.args.body.now).reply)
-        c.bus.ensures (c.answers_bodies.ensures.reply c.args.body.now packet.body));
+          c.bus.ensures (c.answers_bodies.ensures.reply c.args.body.now packet.body));
       length = omega (arith, c.requires.reply, c.keeps_its_ranges.ensures.mtu.1, c.a_reply_has_room.ensures (present_bus c.args.board.now) c.args.body.now);
       order = λ _. refl;
     }

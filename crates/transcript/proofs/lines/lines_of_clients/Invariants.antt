@@ -1,11 +1,9 @@
 use Rattle.std.proofs.Common.{◌≡◌, ◌++◌, drop, map}
-use Rattle.std.specs.List.{AllByRecursion}
 use Rattle.transcript.specs.Lines as spec
 use Rattle.transcript.proofs.lines.lines_of_clients.Given as goal
 
 -- the lines so far, and the clients that are left
 abbrev pub invariant-loop-client : goal.invariant-loop-client
-invariant-loop-client l = record {
-  lines : map (λ lines. lines.items) l.all.items ++ spec.lines_from l.runs l.client (drop l.client l.scripts) ≡ spec.lines_from l.runs 0 l.scripts;
-  numbered : AllByRecursion spec.AreNumbered (drop l.client l.scripts);
-}
+invariant-loop-client l =
+    map (λ lines. lines.items) l.all.items ++ spec.lines_from l.runs l.client (drop l.client l.scripts)
+    ≡ spec.lines_from l.runs 0 l.scripts

@@ -6,7 +6,8 @@ use Rattle.transcript.specs.Plan.{AreSound, ClientBodies}
 use Rattle.transcript.specs.Steps.{IsPlanning, so_far}
 use Rattle.transcript.proofs.PlanLemmas.{after_dispatch, after_operation, at_start, few_waiting}
 use Rattle.transcript.proofs.planning.pack_dispatches.Goals as goal
-use Rattle.transcript.proofs.planning.pack_dispatches.Goals.{in-Do+in_ok-queue-in-Do, in-Dispatch+in_ok-dispatch-in-Dispatch}
+use Rattle.transcript.proofs.planning.pack_dispatches.Goals.{in-Do+in_ok-queue-in-Do}
+use Rattle.transcript.proofs.planning.pack_dispatches.Goals.{in-Dispatch+in_ok-dispatch-in-Dispatch}
 
 pub loop-step-init : goal.loop-step-init
 loop-step-init c =
@@ -16,7 +17,8 @@ loop-step-init c =
 pub loop-step-preserved : goal.loop-step-preserved
 loop-step-preserved c =
     let Holds : Planning → Type 0 =
-    λ p. IsPlanning c.args.payload c.args.board c.args.steps.now (c.loop-step.step-index + 1) (so_far p) p.queued.items in
+    λ p. IsPlanning c.args.payload c.args.board c.args.steps.now (c.loop-step.step-index + 1) (so_far p) p.queued.items
+    in
     elim c.match-step.branch [
       | in-Do+in_ok-queue-in-Do w ↦ subst Holds (sym w.planning-is) (
           rw w.in_ok-queue-in-Do.ensures

@@ -1,0 +1,46 @@
+//! Laws of runs. These functions do nothing when they run: their clauses are what is proved.
+
+ghost use Rattle.std.specs.Prelude.{◌≡◌, ℕ, List};
+ghost use Rattle.std.specs.List.{flat_map};
+ghost use Rattle.board_node.specs.declared.spec.BoardSpec.{BoardSpec};
+ghost use Rattle.script_lang.specs.declared.operation.Step.{Step};
+ghost use Rattle.transcript.specs.declared.board_run.BoardRun.{BoardRun};
+ghost use Rattle.board_history.specs.Order.{bodies_of, order};
+ghost use Rattle.board_history.specs.History.{bodies_by_client, outcomes_by_client};
+ghost use Rattle.direct_run.specs.Runs.{AreRuns, IsRun, board_run, runs_from};
+
+use board_history::laws::{
+    a_history_of_clients_in_turn_is_the_only_one, clients_in_turn_make_a_history,
+};
+
+/// What becomes of a board is a run of it: each client asked for the bodies of its script, the outcomes are one history
+/// of the board, each body was replied to, and the clients stand one after another. So it is for each board of a
+/// session.
+pub fn clients_in_turn_are_a_run()
+    ensures one { (spec : BoardSpec) (board : ℕ) (scripts : List (List Step)) →
+        IsRun spec board scripts (board_run spec board scripts) }
+    ensures all { (specs : List BoardSpec) (scripts : List (List Step)) →
+        AreRuns 0 specs scripts (runs_from 0 specs scripts) }
+{
+    clients_in_turn_make_a_history();
+}
+
+/// A board has one such run, and a session one list of runs: so what it prints is determined.
+pub fn a_session_has_one_run()
+    ensures one { (spec : BoardSpec) (board : ℕ) (scripts : List (List Step)) (run : BoardRun) →
+        IsRun spec board scripts run → run ≡ board_run spec board scripts }
+    ensures all { (specs : List BoardSpec) (scripts : List (List Step)) (runs : List BoardRun) →
+        AreRuns 0 specs scripts runs → runs ≡ runs_from 0 specs scripts }
+{
+    a_history_of_clients_in_turn_is_the_only_one();
+}
+
+/// The order of a board in a run is the bodies of client 1, then those of client 2, and so on.
+pub fn the_order_is_client_by_client()
+    ensures { (spec : BoardSpec) (board : ℕ) (scripts : List (List Step)) (run : BoardRun) →
+        IsRun spec board scripts run → bodies_of (order (bodies_by_client run) (outcomes_by_client run))
+        ≡ flat_map (λ client. client) (bodies_by_client run) }
+{
+    a_history_of_clients_in_turn_is_the_only_one();
+    clients_in_turn_make_a_history();
+}
