@@ -1,5 +1,5 @@
 -- The words of the program's command line, behind its name. Profile.
-use Rattle.std.specs.Prelude.{◌≡◌, ℕ, Bool, false, not, ◌&&◌, ◌==◌, if◌then◌else◌, List, [], ◌∷◌, codes, Option, Some, None}
+use Rattle.std.specs.Prelude.{ℕ, Bool, false, not, ◌&&◌, ◌==◌, if◌then◌else◌, List, [], ◌∷◌, codes, Option, Some, None}
 use Rattle.std.specs.Str.{bytes_eq}
 use Rattle.ipbus_program.specs.declared.command.Command.{Command}
 use Rattle.ipbus_program.specs.declared.command.Command.TheVariants.{Run, Check}
@@ -22,10 +22,6 @@ command_of [] = None
 command_of (word ∷ []) = command_of_one word
 command_of (word ∷ (table ∷ [])) = command_of_two word table
 command_of (word ∷ (table ∷ (other ∷ others))) = None
-
--- the words are some command
-abbrev pub AreSome : List (List ℕ) → Type 0
-AreSome words = (command : Command) × (command_of words ≡ Some command)
 
 -- the line for words that are no command
 abbrev pub usage_text : List ℕ

@@ -1,6 +1,6 @@
 -- What the program owes to its words and its input. `before` and `now` are the bytes that the input had left at first
 -- and in the end, where it tells them. Profile.
-use Rattle.std.specs.Prelude.{◌≡◌, ◌⊎◌, ℕ, ◌+◌, List, length, map, Option, Some, None, string_bytes, String}
+use Rattle.std.specs.Prelude.{◌≡◌, ◌⊎◌, ◌≤◌, ℕ, ◌+◌, List, length, map, true, Option, Some, None, is_some, string_bytes, String}
 use Rattle.std.specs.declared.alloc.Global.{Global}
 use Rattle.std.specs.Io.KnownBytes.{prepend_known, append_known, IsAtEnd}
 use Rattle.ipb_outside.specs.Told.{AppendsPart}
@@ -18,7 +18,7 @@ abbrev pub AreCommand : List (String Global) → Command → Type 0
 AreCommand words command = command_of (map string_bytes words) ≡ Some command
 
 abbrev pub AreSomeCommand : List (String Global) → Type 0
-AreSomeCommand words = (command : Command) × AreCommand words command
+AreSomeCommand words = is_some (command_of (map string_bytes words)) ≡ true
 
 abbrev pub AreNoCommand : List (String Global) → Type 0
 AreNoCommand words = command_of (map string_bytes words) ≡ None
@@ -31,6 +31,7 @@ pub record IsReadToEnd (before now : Option (List ℕ)) (bytes : List ℕ) : Typ
 -- these bytes were read: all that the input had, or one more than a document may have
 pub record IsRead (before now : Option (List ℕ)) (bytes : List ℕ) : Type 0 where
   pub taken : before ≡ prepend_known bytes now
+  pub most : length bytes ≤ document_bytes + 1
   pub stopped : IsAtEnd now ⊎ (length bytes ≡ document_bytes + 1)
 
 -- the bytes of the whole input break no rule of the command, and this status and this text are what it makes of them

@@ -1,7 +1,6 @@
 //! The words of a command line.
 
-ghost use Rattle.std.specs.Prelude.{◌≡◌, Some, IfOk, OnErr, map, string_bytes};
-ghost use Rattle.ipbus_program.specs.declared.command.Command.TheVariants.{Check};
+ghost use Rattle.std.specs.Prelude.{◌≡◌, true, is_some, IfOk, OnErr, map, string_bytes};
 ghost use Rattle.ipbus_program.specs.Commands as spec;
 
 use ipb_base::{NoMemory, Text};
@@ -20,7 +19,7 @@ pub enum Command {
 pub fn command_of(alloc: Global, words: &[String]) -> Result<Option<Command>, NoMemory>
     ensures command { IfOk result (λ command. command ≡ spec.command_of (map string_bytes words.now)) }
     // Memory may run out only where the words are a command.
-    ensures no_memory { OnErr result (spec.AreSome (map string_bytes words.now)) }
+    ensures no_memory { OnErr result (is_some (spec.command_of (map string_bytes words.now)) ≡ true) }
 {
     match words {
         [word] => Ok(single(word.as_str())),
@@ -37,7 +36,7 @@ fn single(word: &str) -> Option<Command>
 
 fn pair(alloc: Global, word: &str, table: &str) -> Result<Option<Command>, NoMemory>
     ensures command { IfOk result (λ command. command ≡ spec.command_of_two word.now table.now) }
-    ensures no_memory { OnErr result (spec.command_of_two word.now table.now ≡ Some (Check table.now)) }
+    ensures no_memory { OnErr result (is_some (spec.command_of_two word.now table.now) ≡ true) }
 {
     if word == "check" && !is_option(table.as_bytes()) {
         Ok(Some(Command::Check {
