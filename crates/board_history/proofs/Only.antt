@@ -73,10 +73,10 @@ client_only before after cells (b ∷ bs) (Replied place words ∷ os) later e a
     let moved : length (before ++ reply ∷ []) + 1 + length bs ≡ length before + 1 + suc (length bs) = omega (arith, length-append before (reply ∷ [])) in
     record {
       outcomes' =
-        ap (λ (k : ℕ). Replied k words ∷ os) c.0
-        ∙ ap (λ (ws : List ℕ). Replied (length before + 1) ws ∷ os) same
-        ∙ ap (λ (zs : List Outcome). Replied (length before + 1) reply ∷ zs)
-        (rest.outcomes' ∙ ap (λ (k : ℕ). outcomes_from k next bs) (sym (one_later before reply)));
+          ap (λ (k : ℕ). Replied k words ∷ os) c.0
+          ∙ ap (λ (ws : List ℕ). Replied (length before + 1) ws ∷ os) same
+          ∙ ap (λ (zs : List Outcome). Replied (length before + 1) reply ∷ zs)
+          (rest.outcomes' ∙ ap (λ (k : ℕ). outcomes_from k next bs) (sym (one_later before reply)));
       places = subst (λ (k : ℕ). CountsFrom k (places_of later)) moved rest.places;
     }
 client_only before after cells (b ∷ bs) (TimedOut place rounds ∷ os) later e all c r = absurd all.0

@@ -107,13 +107,12 @@ client_replies before after cells [] = tt
 client_replies before after cells (body ∷ bodies) =
     let reply = (run_body cells body).reply in
     let next = (run_body cells body).cells in
-    let later = client_replies (before ++ reply ∷ []) after next bodies in
-    (
+    let later = client_replies (before ++ reply ∷ []) after next bodies in (
       reply_at before ((replay next bodies).replies ++ after) reply,
       subst (λ (place : ℕ). AllByRecursion (IsReplyOf (before ++ (reply ∷ ((replay next bodies).replies ++ after)))) (outcomes_from place next bodies))
-        (sym (one_later before reply))
-        (subst (λ (replies : List (List ℕ)). AllByRecursion (IsReplyOf replies) (outcomes_from (length (before ++ reply ∷ []) + 1) next bodies))
-        (append_assoc before (reply ∷ []) ((replay next bodies).replies ++ after)) later),
+          (sym (one_later before reply))
+          (subst (λ (replies : List (List ℕ)). AllByRecursion (IsReplyOf replies) (outcomes_from (length (before ++ reply ∷ []) + 1) next bodies))
+          (append_assoc before (reply ∷ []) ((replay next bodies).replies ++ after)) later),
     )
 
 -- the replies before the next client's
@@ -133,14 +132,13 @@ pub all_replies : (before : List (List ℕ)) (cells : CellMap) (clients : List (
 all_replies before cells [] = tt
 all_replies before cells (bodies ∷ later) =
     let next = (replay cells bodies).cells in
-    let rest = (replay next (all_of later)).replies in
-    (
+    let rest = (replay next (all_of later)).replies in (
       subst (λ (replies : List (List ℕ)). AllByRecursion (IsReplyOf (before ++ replies)) (outcomes_from (length before + 1) cells bodies))
-        (sym (replay-append-replies cells bodies (all_of later))) (client_replies before rest cells bodies),
+          (sym (replay-append-replies cells bodies (all_of later))) (client_replies before rest cells bodies),
       subst (λ (place : ℕ). AllByRecursion (AllByRecursion (IsReplyOf (before ++ (replay cells (bodies ++ all_of later)).replies))) (in_turn place next later))
-        (behind before cells bodies)
-        (subst (λ (replies : List (List ℕ)). AllByRecursion (AllByRecursion (IsReplyOf replies)) (in_turn (length (before ++ (replay cells bodies).replies) + 1) next later))
-        (sym (replies_on before cells bodies (all_of later))) (all_replies (before ++ (replay cells bodies).replies) next later)),
+          (behind before cells bodies)
+          (subst (λ (replies : List (List ℕ)). AllByRecursion (AllByRecursion (IsReplyOf replies)) (in_turn (length (before ++ (replay cells bodies).replies) + 1) next later))
+          (sym (replies_on before cells bodies (all_of later))) (all_replies (before ++ (replay cells bodies).replies) next later)),
     )
 
 -- ---- what was executed
@@ -155,8 +153,7 @@ pub all_executed : (count place : ℕ) (cells : CellMap) (clients : List (List (
     → AllByRecursion (AllByRecursion (IsExecuted count)) (in_turn place cells clients)
 all_executed count place cells [] h = tt
 all_executed count place cells (bodies ∷ later) h =
-    let whole = length-append bodies (all_of later) in
-    (
+    let whole = length-append bodies (all_of later) in (
       client_executed count place cells bodies (omega arith),
       all_executed count (place + length bodies) (replay cells bodies).cells later (omega arith),
     )

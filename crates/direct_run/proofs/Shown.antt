@@ -1,7 +1,7 @@
 -- What a run shows of a board.
-use Rattle.std.proofs.Common.{◌≡◌, ℕ, suc, ◌+◌, List, [], ◌∷◌, ◌++◌, length, map, refl, sym, ap, ◌∙◌, subst, arith, length-append}
+use Rattle.std.proofs.Common.{◌≡◌, ℕ, ◌+◌, List, [], ◌∷◌, length, map, refl, sym, ap, ◌∙◌, subst}
 use Rattle.board_bus.specs.Cells.{CellMap}
-use Rattle.board_bus.specs.Bodies.{replay, run_body}
+use Rattle.board_bus.specs.Bodies.{replay}
 use Rattle.board_node.specs.declared.spec.BoardSpec.{BoardSpec}
 use Rattle.script_lang.specs.declared.operation.Step.{Step}
 use Rattle.transcript.specs.declared.outcome.Outcome.{Outcome}
@@ -9,12 +9,10 @@ use Rattle.transcript.specs.declared.outcome.Greeting.{Greeting}
 use Rattle.transcript.specs.declared.board_run.ClientPart.{ClientPart}
 use Rattle.transcript.specs.declared.board_run.BoardRun.{BoardRun}
 use Rattle.transcript.specs.Plan.{ClientBodies}
-use Rattle.transcript.specs.Lines.{outcomes_in}
 use Rattle.board_history.specs.Parts.{AllReplied}
 use Rattle.board_history.specs.InTurn.{outcomes_from, in_turn, AreInTurn}
 use Rattle.board_history.specs.History.{IsHistory, bodies_by_client, outcomes_by_client}
 use Rattle.direct_run.specs.Runs.{parts_with, parts_in_turn, plans_on, greeting_of, opening_of, board_run, runs_from, IsRun, AreRuns}
-use Rattle.direct_run.specs.Steps.{all_bodies}
 
 abbrev pub bodies_in : List ClientBodies → List (List (List ℕ))
 bodies_in plans = map (λ (p : ClientBodies). p.bodies) plans
@@ -39,24 +37,6 @@ outcomes_shown place cells [] = refl
 outcomes_shown place cells (plan ∷ plans) =
     ap (λ (os : List (List Outcome)). outcomes_from place cells plan.bodies ∷ os)
     (outcomes_shown (place + length plan.bodies) (replay cells plan.bodies).cells plans)
-
--- there are as many outcomes as bodies
-outcomes_length : (place : ℕ) (cells : CellMap) (bodies : List (List ℕ)) → length (outcomes_from place cells bodies) ≡ length bodies
-outcomes_length place cells [] = refl
-outcomes_length place cells (body ∷ bodies) = ap suc (outcomes_length (place + 1) (run_body cells body).cells bodies)
-
-pub as_many : (place : ℕ) (cells : CellMap) (plans : List ClientBodies)
-    → length (outcomes_in (parts_in_turn place cells plans)) ≡ length (all_bodies plans)
-as_many place cells [] = refl
-as_many place cells (plan ∷ plans) =
-    let next = parts_in_turn (place + length plan.bodies) (replay cells plan.bodies).cells plans in
-    omega (
-      arith,
-      length-append (outcomes_from place cells plan.bodies) (outcomes_in next),
-      length-append plan.bodies (all_bodies plans),
-      outcomes_length place cells plan.bodies,
-      as_many (place + length plan.bodies) (replay cells plan.bodies).cells plans,
-    )
 
 -- what holds of clients in turn holds of the parts that show them
 shown : (P : List (List (List ℕ)) → List (List Outcome) → Type 0) (cells : CellMap) (plans : List ClientBodies)

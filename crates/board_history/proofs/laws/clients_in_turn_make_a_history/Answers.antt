@@ -13,7 +13,7 @@ returns-clause-history c = λ opening bodies. record {
   one_order = subst (λ (ps : List Placed). CountsFrom 1 (places_of ps)) (sym (order_is 1 opening bodies)) (places_count 1 opening bodies);
   script_order = scripts_kept 1 opening bodies (omega arith);
   replies = subst (λ (all : List (List ℕ)). AllByRecursion (AllByRecursion (IsReplyOf (replay opening all).replies)) (in_turn 1 opening bodies))
-    (sym (order_bodies 1 opening bodies)) (all_replies [] opening bodies);
+      (sym (order_bodies 1 opening bodies)) (all_replies [] opening bodies);
 }
 
 pub returns-clause-replied : goal.returns-clause-replied
