@@ -1,5 +1,5 @@
 -- A history of clients one after another is the only one.
-use Rattle.std.proofs.Common.{◌≡◌, ℕ, suc, ◌+◌, ◌<◌, ◌≤◌, List, [], ◌∷◌, ◌++◌, length, map, Some, refl, sym, ap, ◌∙◌, subst, arith, append_assoc, length-append}
+use Rattle.std.proofs.Common.{◌≡◌, ℕ, suc, ◌+◌, List, [], ◌∷◌, ◌++◌, length, map, Some, refl, sym, ap, ◌∙◌, subst, arith, append_assoc, length-append}
 use Rattle.std.specs.List.{AllByRecursion}
 use Rattle.std.proofs.lemmas.List.{map-append}
 use Rattle.board_bus.specs.Cells.{CellMap}
@@ -8,7 +8,7 @@ use Rattle.board_bus.proofs.Bodies.{replay-append-replies}
 use Rattle.transcript.specs.declared.outcome.Outcome.{Outcome}
 use Rattle.transcript.specs.declared.outcome.Outcome.TheVariants.{Replied, TimedOut, Unsent, LinkLost}
 use Rattle.board_history.specs.Order.{Placed, placed, all_placed, order, places_of, bodies_of, CountsFrom}
-use Rattle.board_history.specs.Parts.{at_place, IsReplyOf, IsReplied, AllReplied, AreRepliesOf}
+use Rattle.board_history.specs.Parts.{at_place, IsReplyOf, IsReplied, AllReplied}
 use Rattle.board_history.specs.InTurn.{outcomes_from, in_turn, AreInTurn}
 use Rattle.board_history.specs.History.{IsHistory}
 use Rattle.board_history.proofs.Sorting.{sorted_again}

@@ -1,11 +1,10 @@
 -- Clients that run one after another.
-use Rattle.std.proofs.Common.{◌≡◌, ℕ, suc, ◌+◌, ◌<◌, ◌≤◌, List, [], ◌∷◌, ◌++◌, length, map, Some, refl, sym, ap, ◌∙◌, subst, arith, append_assoc, append-nil, length-append}
+use Rattle.std.proofs.Common.{◌≡◌, ℕ, suc, ◌+◌, ◌≤◌, List, [], ◌∷◌, ◌++◌, length, map, Some, refl, sym, ap, ◌∙◌, subst, arith, append_assoc, length-append}
 use Rattle.std.specs.List.{AllByRecursion, slice_get, flat_map}
 use Rattle.std.proofs.lemmas.List.{map-append}
 use Rattle.board_bus.specs.Cells.{CellMap}
 use Rattle.board_bus.specs.Bodies.{run_body, replay}
 use Rattle.board_bus.proofs.Bodies.{replay-append-replies, replay-length}
-use Rattle.transcript.specs.declared.outcome.Outcome.{Outcome}
 use Rattle.board_history.specs.Order.{Placed, placed, all_placed, order, places_of, bodies_of, CountsFrom, RisesFrom}
 use Rattle.board_history.specs.Parts.{at_place, KeepsScripts, IsReplyOf, IsExecuted, IsReplied, AllReplied}
 use Rattle.board_history.specs.InTurn.{outcomes_from, in_turn}

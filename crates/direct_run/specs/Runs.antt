@@ -1,9 +1,7 @@
 -- What a run is in which clients go to boards of this process, one client after another. Profile.
 use Rattle.std.specs.Prelude.{◌≡◌, ℕ, ◌+◌, List, [], ◌∷◌, length, map, None}
-use Rattle.std.specs.List.{AllByRecursion}
 use Rattle.ipb_base.specs.Numbers.{payload_of}
 use Rattle.world_model.specs.Board.{Board, executed}
-use Rattle.board_bus.specs.declared.range.Range.{Range}
 use Rattle.board_bus.specs.Cells.{CellMap}
 use Rattle.board_bus.specs.Ranges.{opening_bus, refusal_of}
 use Rattle.board_node.specs.declared.spec.BoardSpec.{BoardSpec}

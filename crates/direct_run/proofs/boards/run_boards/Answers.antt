@@ -1,8 +1,6 @@
-use Rattle.std.proofs.Common.{◌≡◌, ◌+◌, ◌∙◌, List, ◌∷◌, ◌++◌, [], drop, subst, sym, ap, append_assoc}
+use Rattle.std.proofs.Common.{◌≡◌, ◌+◌, ◌∷◌, drop, subst}
 use Rattle.std.specs.List.{AllByRecursion}
-use Rattle.board_node.specs.declared.spec.BoardSpec.{BoardSpec}
-use Rattle.transcript.specs.declared.board_run.BoardRun.{BoardRun}
-use Rattle.direct_run.specs.Runs.{CanRun, board_run, runs_from}
+use Rattle.direct_run.specs.Runs.{CanRun}
 use Rattle.direct_run.proofs.Sending.{left}
 use Rattle.direct_run.proofs.Running.{board_more}
 use Rattle.direct_run.proofs.boards.run_boards.Goals as goal

@@ -1,4 +1,4 @@
-use Rattle.std.proofs.Common.{◌≡◌, ◌+◌, ◌∙◌, List, ◌∷◌, ◌++◌, [], drop, map, subst, sym, ap}
+use Rattle.std.proofs.Common.{◌≡◌, ◌+◌, ◌∙◌, List, ◌∷◌, ◌++◌, [], drop, subst, sym, ap}
 use Rattle.std.specs.List.{AllByRecursion}
 use Rattle.world_model.specs.Board.{Board}
 use Rattle.script_lang.specs.declared.operation.Step.{Step}
@@ -9,7 +9,7 @@ use Rattle.transcript.specs.Plan.{planned_on}
 use Rattle.direct_run.specs.Runs.{plans_on}
 use Rattle.direct_run.specs.Steps.{IsRunning}
 use Rattle.direct_run.proofs.Sending.{left}
-use Rattle.direct_run.proofs.Running.{board_after, part_on, client_more, same_part}
+use Rattle.direct_run.proofs.Running.{part_on, client_more, same_part}
 use Rattle.direct_run.proofs.clients.run_clients.Goals as goal
 
 pub loop-steps-preserved : goal.loop-steps-preserved

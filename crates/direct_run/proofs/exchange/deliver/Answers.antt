@@ -1,4 +1,4 @@
-use Rattle.std.proofs.Common.{◌≡◌, ◌∙◌, ap, refl, subst, ◌+◌, ◌≤◌, ℕ, length, arith}
+use Rattle.std.proofs.Common.{◌≡◌, ◌∙◌, ap, refl, subst, arith}
 use Rattle.board_bus.specs.Bodies.{run_body}
 use Rattle.board_bus.specs.Cells.{CellMap}
 use Rattle.transaction_codec.specs.Answer.{CanAnswer}
