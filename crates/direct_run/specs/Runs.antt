@@ -32,7 +32,8 @@ parts_with (planned ∷ later) (outcomes ∷ others) =
 
 -- the parts of clients that run one after another from a place on, on this bus
 abbrev pub parts_in_turn : ℕ → CellMap → List ClientBodies → List ClientPart
-parts_in_turn place cells planned = parts_with planned (in_turn place cells (map (λ (p : ClientBodies). p.bodies) planned))
+parts_in_turn place cells planned = parts_with planned
+    (in_turn place cells (map (λ (p : ClientBodies). p.bodies) planned))
 
 -- what the clients ask of a board that told this greeting
 abbrev pub plans_on : ℕ → Greeting → List (List Step) → List ClientBodies

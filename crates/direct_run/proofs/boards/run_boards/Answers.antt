@@ -13,7 +13,8 @@ loop-position-preserved c =
     left boards k c.index-boards-position.result c.loop-position-test.true c.index-boards-position.is in
     record {
       told = rw (c.in_ok-push.ensures.items, c.in_ok-run_board.ensures)
-          (board_more boards c.args.scripts.now k c.index-boards-position.result (drop k boards) (drop (k + 1) boards) c.loop-position.runs.items
+          (board_more boards c.args.scripts.now k c.index-boards-position.result (drop k boards)
+          (drop (k + 1) boards) c.loop-position.runs.items
           begins c.loop-position.invariant.told);
       here = (subst (AllByRecursion CanRun) begins c.loop-position.invariant.here).1;
     }
