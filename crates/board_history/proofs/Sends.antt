@@ -1,5 +1,5 @@
 -- The first sends of a board are the bodies of its order.
-use Rattle.std.proofs.Common.{◌≡◌, ℕ, ◌+◌, List, [], ◌∷◌, ◌++◌, length, map, Option, Some, None, cond, refl, ◌∙◌, ap, arith, length-append}
+use Rattle.std.proofs.Common.{◌≡◌, ℕ, List, [], ◌∷◌, length, map, Some, None, cond, refl, arith, length-append}
 use Rattle.std.specs.List.{count_by, flat_map}
 use Rattle.std.proofs.lemmas.List.Sums.{sum_by-append, sum_by-cons}
 use Rattle.transcript.specs.declared.outcome.Outcome.{Outcome}
@@ -31,15 +31,18 @@ client_sent (b ∷ bs) (o ∷ os) e =
     omega (arith, here, later, one_sent b o, length-append (with_place b (place_of o)) (placed bs os))
 
 parts_sent : (parts : List ClientPart)
-    → map length (map (λ (p : ClientPart). p.outcomes) parts) ≡ map length (map (λ (p : ClientPart). p.planned.bodies) parts)
+    → map length (map (λ (p : ClientPart). p.outcomes) parts) ≡ map length
+    (map (λ (p : ClientPart). p.planned.bodies) parts)
     → count_by is_sent (flat_map (λ (p : ClientPart). p.outcomes) parts)
-    ≡ length (all_placed (map (λ (p : ClientPart). p.planned.bodies) parts) (map (λ (p : ClientPart). p.outcomes) parts))
+    ≡ length (all_placed (map (λ (p : ClientPart). p.planned.bodies) parts)
+    (map (λ (p : ClientPart). p.outcomes) parts))
 parts_sent [] e = refl
 parts_sent (part ∷ parts) e =
     let bodies = map (λ (p : ClientPart). p.planned.bodies) parts in
     let outcomes = map (λ (p : ClientPart). p.outcomes) parts in
     let lengths = one_by_one part.planned.bodies bodies part.outcomes outcomes e in
-    let both = sum_by-append (λ (x : Outcome). cond (is_sent x) 1 0) part.outcomes (flat_map (λ (p : ClientPart). p.outcomes) parts) in
+    let both = sum_by-append (λ (x : Outcome). cond (is_sent x) 1 0) part.outcomes
+    (flat_map (λ (p : ClientPart). p.outcomes) parts) in
     omega (
       arith,
       both,

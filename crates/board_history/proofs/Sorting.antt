@@ -1,5 +1,6 @@
 -- Bodies that stand by place.
-use Rattle.std.proofs.Common.{◌≡◌, ℕ, suc, ◌+◌, ◌<◌, ◌≤◌, Bool, true, false, cond, List, [], ◌∷◌, length, refl, ap, ◌∙◌, arith}
+use Rattle.std.proofs.Common.{◌≡◌, ℕ, suc, ◌+◌, ◌<◌, Bool, true, false, cond, List, [], ◌∷◌, length, refl, ap, ◌∙◌}
+use Rattle.std.proofs.Common.{arith}
 use Rattle.std.specs.Prelude.{nat_le}
 use Rattle.std.specs.List.{AllByRecursion}
 use Rattle.std.proofs.lemmas.Bool.Decides.{nat_tests}
@@ -18,7 +19,8 @@ AreAbove k ps = AllByRecursion (IsAbove k) ps
 -- the lowest comes first
 pub insert_low : (x : Placed) (ys : List Placed) → AreAbove x.place ys → insert x ys ≡ x ∷ ys
 insert_low x [] all = refl
-insert_low x (y ∷ ys) all = either (λ (r : List Placed). r ≡ x ∷ (y ∷ ys)) (nat_le x.place y.place) (x ∷ (y ∷ ys)) (y ∷ insert x ys)
+insert_low x (y ∷ ys) all = either (λ (r : List Placed). r ≡ x ∷ (y ∷ ys)) (nat_le x.place y.place) (x ∷ (y ∷ ys))
+    (y ∷ insert x ys)
     (λ _. refl)
     (λ e. absurd (grind (arith, nat_tests)))
 
@@ -35,7 +37,8 @@ sorted_again k (p ∷ ps) c =
 
 insert_length : (x : Placed) (ys : List Placed) → length (insert x ys) ≡ suc (length ys)
 insert_length x [] = refl
-insert_length x (y ∷ ys) = either (λ (r : List Placed). length r ≡ suc (length (y ∷ ys))) (nat_le x.place y.place) (x ∷ (y ∷ ys)) (y ∷ insert x ys)
+insert_length x (y ∷ ys) = either (λ (r : List Placed). length r ≡ suc (length (y ∷ ys))) (nat_le x.place y.place)
+    (x ∷ (y ∷ ys)) (y ∷ insert x ys)
     (λ _. refl)
     (λ _. ap suc (insert_length x ys))
 

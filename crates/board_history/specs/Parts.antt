@@ -45,7 +45,8 @@ IsExecuted executed Unsent = Unit {0}
 IsExecuted executed (LinkLost place) = Unit {0}
 
 -- What a board executed is a front of the order, so each body of it once, and each body that was replied to is in it.
-pub record IsExecutedOnce (order : List Placed) (outcomes : List (List Outcome)) (executed : List (List ℕ)) : Type 0 where
+pub record IsExecutedOnce (order : List Placed) (outcomes : List (List Outcome))
+    (executed : List (List ℕ)) : Type 0 where
   pub front : IsPrefix executed (bodies_of order)
   pub replied : AllByRecursion (AllByRecursion (IsExecuted (length executed))) outcomes
 

@@ -8,8 +8,8 @@ ghost use Rattle.transcript.specs.declared.outcome.Outcome.TheVariants.{Replied}
 ghost use Rattle.board_history.specs.Order.{order};
 ghost use Rattle.board_history.specs.InTurn.{in_turn};
 
-/// Client 1 writes 5 to the register at address 0 and then reads it; client 2 adds 1 to it. Client 2's place is 3, and
-/// it is answered the word before.
+/// Client 1 writes 5 to the register at address 0 and then reads it; client 2 adds 1 to it. In turn client 2's body has
+/// place 3, and is answered the word before. Had it come first, the order would begin with it.
 #[tactic(auto, unfolding(transaction_codec::specs::Request::request_at))]
 pub fn two_clients_and_one_register()
     ensures outcomes { in_turn 1 (opening_bus (record { base = 0; size = 1; kind = Rw; init = [] } ∷ []))
@@ -18,7 +18,8 @@ pub fn two_clients_and_one_register()
         ∷ (Replied 3 (0x20000150 ∷ 5 ∷ []) ∷ []) ∷ [] }
     ensures order { order
         (((0x2000011f ∷ 0 ∷ 5 ∷ []) ∷ (0x2000010f ∷ 0 ∷ []) ∷ []) ∷ ((0x2000015f ∷ 0 ∷ 1 ∷ []) ∷ []) ∷ [])
-        ((Replied 2 (0x20000110 ∷ []) ∷ Replied 3 (0x20000100 ∷ 5 ∷ []) ∷ []) ∷ (Replied 1 (0x20000150 ∷ 0 ∷ []) ∷ []) ∷ [])
+        ((Replied 2 (0x20000110 ∷ []) ∷ Replied 3 (0x20000100 ∷ 5 ∷ []) ∷ [])
+        ∷ (Replied 1 (0x20000150 ∷ 0 ∷ []) ∷ []) ∷ [])
         ≡ record { place = 1; body = 0x2000015f ∷ 0 ∷ 1 ∷ [] }
         ∷ record { place = 2; body = 0x2000011f ∷ 0 ∷ 5 ∷ [] }
         ∷ record { place = 3; body = 0x2000010f ∷ 0 ∷ [] } ∷ [] }

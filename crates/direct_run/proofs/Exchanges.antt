@@ -1,5 +1,5 @@
 -- A board that hears the control packet that it expects next.
-use Rattle.std.proofs.Common.{◌≡◌, ℕ, ◌+◌, ◌≤◌, ◌<◌, ◌==◌, ◌||◌, Bool, true, false, List, [], ◌∷◌, length, Some, Ok, refl, sym, ap, ◌∙◌, arith}
+use Rattle.std.proofs.Common.{◌≡◌, ℕ, ◌+◌, ◌==◌, false, List, length, Some, Ok, refl, ap, ◌∙◌, arith}
 use Rattle.std.specs.Prelude.{nat_lt}
 use Rattle.std.proofs.lemmas.Bool.{eq-eqb}
 use Rattle.std.proofs.lemmas.Bool.Decides.{nat_tests}
@@ -7,11 +7,10 @@ use Rattle.ipb_base.specs.Numbers.{payload_of}
 use Rattle.transaction_codec.specs.Answer.{reply_room}
 use Rattle.mtu_packer.specs.Packed.{FitsPackets}
 use Rattle.packet_codec.specs.declared.packet.Order.TheVariants.{Big}
-use Rattle.packet_codec.specs.Packet.{packet_bytes}
 use Rattle.packet_codec.specs.Reading.{packet_of}
 use Rattle.packet_ids.specs.Identifier.{identifier_at}
-use Rattle.world_model.specs.Messages.{ToBoard, ControlPacket, control_packet, packet_to_board, to_board}
-use Rattle.world_model.specs.Board.{Board, Hearing, execute, expected, hear, hear_message, is_too_long, numbered}
+use Rattle.world_model.specs.Messages.{ControlPacket, control_packet, packet_to_board, to_board}
+use Rattle.world_model.specs.Board.{Board, execute, expected, hear, hear_message, is_too_long, numbered}
 use Rattle.direct_run.specs.Steps.{entry_of}
 
 said : (bytes : List ℕ) (id : ℕ) (body : List ℕ) → packet_of bytes ≡ Ok (control_packet Big id body)

@@ -1,5 +1,5 @@
 -- What a board can answer is words.
-use Rattle.std.proofs.Common.{◌≡◌, ℕ, ◌<◌, ◌^◌, List, [], ◌∷◌, length, sym, subst, inl, inr, arith}
+use Rattle.std.proofs.Common.{ℕ, ◌<◌, ◌^◌, List, [], ◌∷◌, length, sym, subst, inl, inr, arith}
 use Rattle.ipb_base.specs.Word.{AreWords}
 use Rattle.ipb_base.proofs.WordLemmas.{AreWords-append}
 use Rattle.transaction_codec.specs.declared.reply.Reply.{Reply}

@@ -2,7 +2,6 @@
 use Rattle.std.proofs.Common.{◌≡◌, ℕ, ◌+◌, List, [], ◌∷◌, ◌++◌, length, map, sym, ap, ◌∙◌, append_assoc}
 use Rattle.ipb_base.specs.Numbers.{payload_of}
 use Rattle.board_bus.specs.Cells.{CellMap}
-use Rattle.board_bus.specs.Bodies.{replay}
 use Rattle.world_model.specs.Board.{Board, executed, present_bus}
 use Rattle.board_node.specs.Hearings.{grown}
 use Rattle.transcript.specs.declared.outcome.Outcome.{Outcome}
@@ -56,7 +55,8 @@ same_part part b plan planned outcomes =
 
 -- ---- boards
 
-pub board_more : (boards : List BoardSpec) (scripts : List (List Step)) (k : ℕ) (spec : BoardSpec) (left rest : List BoardSpec) (runs : List BoardRun)
+pub board_more : (boards : List BoardSpec) (scripts : List (List Step)) (k : ℕ) (spec : BoardSpec)
+    (left rest : List BoardSpec) (runs : List BoardRun)
     → left ≡ spec ∷ rest → runs ++ runs_from k left scripts ≡ runs_from 0 boards scripts
     → (runs ++ board_run spec k scripts ∷ []) ++ runs_from (k + 1) rest scripts ≡ runs_from 0 boards scripts
 board_more boards scripts k spec left rest runs begins told =
@@ -64,8 +64,10 @@ board_more boards scripts k spec left rest runs begins told =
     ∙ sym (ap (λ (specs : List BoardSpec). runs ++ runs_from k specs scripts) begins) ∙ told
 
 -- the run of a board that was opened for it
-pub opened_run : (spec : BoardSpec) (board : ℕ) (scripts : List (List Step)) (mtu buffers first payload : ℕ) (ranges : List Range) (fates : Fates)
-    (name : List ℕ) (opened : Board) (parts : List ClientPart) → spec.link ≡ Sim mtu buffers first ranges fates → name ≡ spec.name → payload ≡ payload_of mtu
+pub opened_run : (spec : BoardSpec) (board : ℕ) (scripts : List (List Step)) (mtu buffers first payload : ℕ)
+    (ranges : List Range) (fates : Fates)
+    (name : List ℕ) (opened : Board) (parts : List ClientPart) → spec.link ≡ Sim mtu buffers first ranges fates
+    → name ≡ spec.name → payload ≡ payload_of mtu
     → opened ≡ record { opening = opening_bus ranges; mtu = mtu; buffers = buffers; first = first; log = [] }
     → parts ≡ parts_in_turn (next_place opened) (present_bus opened) (plans_on board (Live payload) scripts)
     → record { name = name; greeting = Live payload; parts = parts } ≡ board_run spec board scripts

@@ -1,7 +1,7 @@
 -- Bodies sent one after another.
-use Rattle.std.proofs.Common.{◌≡◌, ℕ, suc, ◌+◌, ◌<◌, List, [], ◌∷◌, ◌++◌, length, map, drop, refl, sym, ap, ◌∙◌, subst, arith, append_assoc, append-nil, add-one, drop-cons, get_or}
-use Rattle.std.specs.List.{AllByRecursion}
-use Rattle.std.proofs.lemmas.List.{map-append, length-append, length-map}
+use Rattle.std.proofs.Common.{◌≡◌, ℕ, suc, ◌+◌, ◌<◌, List, [], ◌∷◌, ◌++◌, length, map, drop, refl, sym, ap, ◌∙◌, subst}
+use Rattle.std.proofs.Common.{arith, append_assoc, append-nil, add-one, drop-cons, get_or}
+use Rattle.std.proofs.lemmas.List.{map-append, length-append}
 use Rattle.ipb_base.specs.Numbers.{payload_of}
 use Rattle.board_bus.specs.Cells.{CellMap}
 use Rattle.board_bus.specs.Bodies.{run_body, replay}
@@ -17,7 +17,8 @@ use Rattle.direct_run.specs.Runs.{next_place}
 use Rattle.direct_run.specs.Steps.{entry_of, IsSending}
 
 -- what is left begins with the next item
-pub left : {A : Type 0} (xs : List A) (i : ℕ) (x : A) → i < length xs → x ≡ get_or xs i x → drop i xs ≡ x ∷ drop (i + 1) xs
+pub left : {A : Type 0} (xs : List A) (i : ℕ) (x : A) → i < length xs → x ≡ get_or xs i x
+    → drop i xs ≡ x ∷ drop (i + 1) xs
 left xs i x within is = drop-cons xs i x within ∙ (ap (λ y. y ∷ drop (suc i) xs) (sym is) ∙ rw add-one refl)
 
 -- ---- a board that executed bodies more
@@ -26,16 +27,19 @@ bodies_of_entries : (bodies : List (List ℕ)) → map body_of (map entry_of bod
 bodies_of_entries [] = refl
 bodies_of_entries (body ∷ bodies) = ap (λ later. body ∷ later) (bodies_of_entries bodies)
 
-pub executed_more : (b : Board) (bodies : List (List ℕ)) → executed (grown b (map entry_of bodies)) ≡ executed b ++ bodies
+pub executed_more : (b : Board) (bodies : List (List ℕ))
+    → executed (grown b (map entry_of bodies)) ≡ executed b ++ bodies
 executed_more b bodies =
     map-append body_of b.log (map entry_of bodies) ∙ ap (λ later. executed b ++ later) (bodies_of_entries bodies)
 
-pub bus_after : (b : Board) (bodies : List (List ℕ)) → present_bus (grown b (map entry_of bodies)) ≡ (replay (present_bus b) bodies).cells
+pub bus_after : (b : Board) (bodies : List (List ℕ))
+    → present_bus (grown b (map entry_of bodies)) ≡ (replay (present_bus b) bodies).cells
 bus_after b bodies =
     ap (λ (all : List (List ℕ)). (replay b.opening all).cells) (executed_more b bodies)
     ∙ replay-append-cells b.opening (executed b) bodies
 
-pub place_after : (b : Board) (bodies : List (List ℕ)) → next_place (grown b (map entry_of bodies)) ≡ next_place b + length bodies
+pub place_after : (b : Board) (bodies : List (List ℕ))
+    → next_place (grown b (map entry_of bodies)) ≡ next_place b + length bodies
 place_after b bodies =
     let more = ap (λ (all : List (List ℕ)). length all) (executed_more b bodies) in
     omega (arith, more, length-append (executed b) bodies)
@@ -50,11 +54,13 @@ grown_none b = ap (λ (log : List LogEntry). record b { log = log }) (append-nil
 
 module _ (start now : Board) (bodies : List (List ℕ)) (outcomes : List Outcome) where
   pub one_more : (body : List ℕ) (rest : List (List ℕ)) → IsSending start now bodies (body ∷ rest) outcomes
-      → IsSending start (grown now (entry_of body ∷ [])) bodies rest (outcomes ++ Replied (next_place now) (run_body (present_bus now) body).reply ∷ [])
+      → IsSending start (grown now (entry_of body ∷ [])) bodies rest
+      (outcomes ++ Replied (next_place now) (run_body (present_bus now) body).reply ∷ [])
   one_more body rest is = record {
     told =
         append_assoc outcomes (Replied (next_place now) (run_body (present_bus now) body).reply ∷ [])
-        (outcomes_from (next_place (grown now (entry_of body ∷ []))) (present_bus (grown now (entry_of body ∷ []))) rest)
+        (outcomes_from (next_place (grown now (entry_of body ∷ [])))
+        (present_bus (grown now (entry_of body ∷ []))) rest)
         ∙ ap (λ (place : ℕ). outcomes ++ Replied (next_place now) (run_body (present_bus now) body).reply
         ∷ outcomes_from place (present_bus (grown now (entry_of body ∷ []))) rest) (place_after now (body ∷ []))
         ∙ ap (λ (cells : CellMap). outcomes ++ Replied (next_place now) (run_body (present_bus now) body).reply

@@ -1,9 +1,7 @@
 -- What a run is in which clients go to boards of this process, one client after another. Profile.
 use Rattle.std.specs.Prelude.{◌≡◌, ℕ, ◌+◌, List, [], ◌∷◌, length, map, None}
-use Rattle.std.specs.List.{AllByRecursion}
 use Rattle.ipb_base.specs.Numbers.{payload_of}
 use Rattle.world_model.specs.Board.{Board, executed}
-use Rattle.board_bus.specs.declared.range.Range.{Range}
 use Rattle.board_bus.specs.Cells.{CellMap}
 use Rattle.board_bus.specs.Ranges.{opening_bus, refusal_of}
 use Rattle.board_node.specs.declared.spec.BoardSpec.{BoardSpec}
@@ -34,7 +32,8 @@ parts_with (planned ∷ later) (outcomes ∷ others) =
 
 -- the parts of clients that run one after another from a place on, on this bus
 abbrev pub parts_in_turn : ℕ → CellMap → List ClientBodies → List ClientPart
-parts_in_turn place cells planned = parts_with planned (in_turn place cells (map (λ (p : ClientBodies). p.bodies) planned))
+parts_in_turn place cells planned = parts_with planned
+    (in_turn place cells (map (λ (p : ClientBodies). p.bodies) planned))
 
 -- what the clients ask of a board that told this greeting
 abbrev pub plans_on : ℕ → Greeting → List (List Step) → List ClientBodies

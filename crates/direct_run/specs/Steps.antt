@@ -1,5 +1,5 @@
 -- How the steps of a run work together: what private functions promise one another. No public clause speaks of these.
-use Rattle.std.specs.Prelude.{◌≡◌, true, ℕ, List, [], ◌∷◌, ◌++◌, map}
+use Rattle.std.specs.Prelude.{◌≡◌, true, ℕ, List, ◌++◌, map}
 use Rattle.std.specs.List.{AllByRecursion, flat_map}
 use Rattle.ipb_base.specs.Numbers.{payload_of}
 use Rattle.mtu_packer.specs.Packed.{FitsPackets}

@@ -6,7 +6,6 @@ ghost use Rattle.ipb_base.specs.Numbers.{payload_of};
 ghost use Rattle.status_packet.specs.Range.{IsMtu};
 ghost use Rattle.board_bus.specs.Ranges.{opening_bus, refusal_of};
 ghost use Rattle.script_lang.specs.Packing.{CanBePacked, HaveFewPieces};
-ghost use Rattle.transcript.specs.Lines.{IsCountable};
 ghost use Rattle.direct_run.specs.Runs.{CanRun, board_run, runs_from};
 
 use crate::clients::run_clients;
@@ -54,9 +53,7 @@ pub fn run_board(
     requires here { CanRun spec.now }
     requires can { AllByRecursion (AllByRecursion CanBePacked) scripts.now }
     requires few { AllByRecursion HaveFewPieces scripts.now }
-    ensures run { IfOk result (λ run. run ≡ board_run spec.now position scripts.now) }
-    // The board executed so many bodies that 64 bits count them.
-    ensures countable { IfOk result IsCountable }
+    ensures { IfOk result (λ run. run ≡ board_run spec.now position scripts.now) }
 {
     let LinkSpec::Sim {
         mtu,
@@ -71,8 +68,7 @@ pub fn run_board(
     let bus = open_bus(alloc, ranges.as_slice())?;
     let board = Board::new(alloc, bus, *mtu, *buffers, *first)?;
     let payload = payload_of(*mtu);
-    let (board, parts) = run_clients(alloc, board, position, payload, scripts)?;
-    let _executed = board.executed_len();
+    let (_, parts) = run_clients(alloc, board, position, payload, scripts)?;
     Ok(BoardRun {
         name: Text::copy_of(alloc, spec.name.as_str())?,
         greeting: Greeting::Live { payload },
@@ -91,8 +87,7 @@ pub fn run_boards(
     requires here { AllByRecursion CanRun boards.now }
     requires can { AllByRecursion (AllByRecursion CanBePacked) scripts.now }
     requires few { AllByRecursion HaveFewPieces scripts.now }
-    ensures runs { IfOk result (λ runs. runs.items ≡ runs_from 0 boards.now scripts.now) }
-    ensures countable { IfOk result (λ runs. AllByRecursion IsCountable runs.items) }
+    ensures { IfOk result (λ runs. runs.items ≡ runs_from 0 boards.now scripts.now) }
 {
     let mut runs = Vec::with_capacity(alloc, boards.len())?;
     for (position, spec) in boards.iter().enumerate() {

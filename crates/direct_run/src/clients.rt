@@ -49,7 +49,8 @@ fn run_client(
     requires few { HaveFewPieces steps.now }
     ensures planned { IfOk result (λ part. part.planned ≡ planned_on position (Live payload) steps.now) }
     ensures outcomes { IfOk result (λ part. part.outcomes
-        ≡ outcomes_from (next_place board.old) (present_bus board.old) (planned_on position (Live payload) steps.now).bodies) }
+        ≡ outcomes_from (next_place board.old) (present_bus board.old)
+        (planned_on position (Live payload) steps.now).bodies) }
     ensures board { OnOk result (board.new
         ≡ grown board.old (map entry_of (planned_on position (Live payload) steps.now).bodies)) }
 {
@@ -59,9 +60,10 @@ fn run_client(
     Ok(ClientPart { planned, outcomes })
 }
 
-/// Runs clients on the board at a position of the session, from 0, one after another: all bodies of client 1, then those
-/// of client 2, and so on. `payload` is the words of the longest packet that the board takes. Each operation can be
-/// packed, and each client's are cut into few enough pieces. `NoMemory` where memory ran out: the board is let go then.
+/// Runs clients on the board at a position of the session, from 0, one after another: all bodies of client 1, then
+/// those of client 2, and so on. `payload` is the words of the longest packet that the board takes. Each operation can
+/// be packed, and each client's are cut into few enough pieces. `NoMemory` where memory ran out: the board is let go
+/// then.
 pub fn run_clients(
     alloc: Global,
     mut board: Board,

@@ -1,19 +1,22 @@
-use Rattle.std.proofs.Common.{◌≡◌, ℕ, ◌+◌, ◌≤◌, List, [], ◌++◌, length, map, sym, ◌∙◌, ap, subst, arith, append-nil}
+use Rattle.std.proofs.Common.{ℕ, List, [], length, sym, ◌∙◌, subst, arith, append-nil}
 use Rattle.std.specs.List.{AllByRecursion}
 use Rattle.board_bus.specs.Bodies.{replay}
-use Rattle.board_history.specs.Order.{Placed, bodies_of, order, places_of, CountsFrom}
+use Rattle.board_history.specs.Order.{Placed, places_of, CountsFrom}
 use Rattle.board_history.specs.Parts.{IsReplyOf}
 use Rattle.board_history.specs.InTurn.{in_turn}
-use Rattle.board_history.proofs.Turns.{all_of, same_shape, all_replied, places_count, order_is, scripts_kept, order_bodies, all_replies, all_executed}
+use Rattle.board_history.proofs.Turns.{all_of, same_shape, all_replied, places_count, order_is, scripts_kept}
+use Rattle.board_history.proofs.Turns.{order_bodies, all_replies, all_executed}
 use Rattle.board_history.proofs.laws.clients_in_turn_make_a_history.Goals as goal
 
 pub returns-clause-history : goal.returns-clause-history
 returns-clause-history c = λ opening bodies. record {
   shape = same_shape 1 opening bodies;
-  one_order = subst (λ (ps : List Placed). CountsFrom 1 (places_of ps)) (sym (order_is 1 opening bodies)) (places_count 1 opening bodies);
+  one_order = subst (λ (ps : List Placed). CountsFrom 1 (places_of ps)) (sym (order_is 1 opening bodies))
+      (places_count 1 opening bodies);
   script_order = scripts_kept 1 opening bodies (omega arith);
-  replies = subst (λ (all : List (List ℕ)). AllByRecursion (AllByRecursion (IsReplyOf (replay opening all).replies)) (in_turn 1 opening bodies))
-    (sym (order_bodies 1 opening bodies)) (all_replies [] opening bodies);
+  replies = subst (λ (all : List (List ℕ)). AllByRecursion (AllByRecursion (IsReplyOf (replay opening all).replies))
+      (in_turn 1 opening bodies))
+      (sym (order_bodies 1 opening bodies)) (all_replies [] opening bodies);
 }
 
 pub returns-clause-replied : goal.returns-clause-replied

@@ -1,10 +1,6 @@
-use Rattle.std.proofs.Common.{◌≡◌, ◌+◌, ◌∙◌, List, ◌∷◌, ◌++◌, [], drop, subst, sym, ap, append_assoc}
+use Rattle.std.proofs.Common.{◌≡◌, ◌+◌, ◌∷◌, drop, subst}
 use Rattle.std.specs.List.{AllByRecursion}
-use Rattle.ipb_base.proofs.AllLemmas.{AllByRecursion-append}
-use Rattle.transcript.specs.Lines.{IsCountable}
-use Rattle.board_node.specs.declared.spec.BoardSpec.{BoardSpec}
-use Rattle.transcript.specs.declared.board_run.BoardRun.{BoardRun}
-use Rattle.direct_run.specs.Runs.{CanRun, board_run, runs_from}
+use Rattle.direct_run.specs.Runs.{CanRun}
 use Rattle.direct_run.proofs.Sending.{left}
 use Rattle.direct_run.proofs.Running.{board_more}
 use Rattle.direct_run.proofs.boards.run_boards.Goals as goal
@@ -16,11 +12,9 @@ loop-position-preserved c =
     let begins : drop k boards ≡ c.index-boards-position.result ∷ drop (k + 1) boards =
     left boards k c.index-boards-position.result c.loop-position-test.true c.index-boards-position.is in
     record {
-      told = rw (c.in_ok-push.ensures.items, c.in_ok-run_board.ensures.run)
-          (board_more boards c.args.scripts.now k c.index-boards-position.result (drop k boards) (drop (k + 1) boards) c.loop-position.runs.items
+      told = rw (c.in_ok-push.ensures.items, c.in_ok-run_board.ensures)
+          (board_more boards c.args.scripts.now k c.index-boards-position.result (drop k boards)
+          (drop (k + 1) boards) c.loop-position.runs.items
           begins c.loop-position.invariant.told);
-      countable = subst (AllByRecursion IsCountable) (sym c.in_ok-push.ensures.items)
-          (AllByRecursion-append IsCountable c.loop-position.runs.items (c.in_ok-run_board.field-0 ∷ []) c.loop-position.invariant.countable
-          (c.in_ok-run_board.ensures.countable, tt));
       here = (subst (AllByRecursion CanRun) begins c.loop-position.invariant.here).1;
     }

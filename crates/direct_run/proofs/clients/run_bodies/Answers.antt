@@ -13,7 +13,9 @@ loop-body-preserved c =
     let body = c.body-item.result in
     let so_far = subst (λ (rest : List (List ℕ)). IsSending c.args.board.now now bodies rest c.loop-body.outcomes.items)
     (left bodies i body c.loop-body-test.true c.body-item.is) c.loop-body.invariant in
-    let executed_now = c.executed_len-place.ensures ∙ ap (λ (b : Board). length (executed b)) c.in_ok-words.ensures.board in
-    let place : c.executed_len-place.result ≡ next_place now = omega (arith, executed_now, place_after now (body ∷ [])) in
+    let executed_now = c.executed_len-place.ensures
+    ∙ ap (λ (b : Board). length (executed b)) c.in_ok-words.ensures.board in
+    let place : c.executed_len-place.result ≡ next_place now = omega
+    (arith, executed_now, place_after now (body ∷ [])) in
     rw (c.in_ok-push.ensures.items, c.in_ok-words.ensures.board, c.in_ok-words.ensures.reply, place)
     (one_more c.args.board.now now bodies c.loop-body.outcomes.items body (drop (i + 1) bodies) so_far)

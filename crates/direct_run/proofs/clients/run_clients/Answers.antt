@@ -1,4 +1,4 @@
-use Rattle.std.proofs.Common.{◌≡◌, ◌+◌, ◌∙◌, List, ◌∷◌, ◌++◌, [], drop, map, subst, sym, ap}
+use Rattle.std.proofs.Common.{◌≡◌, ◌+◌, ◌∙◌, List, ◌∷◌, ◌++◌, [], drop, subst, sym, ap}
 use Rattle.std.specs.List.{AllByRecursion}
 use Rattle.world_model.specs.Board.{Board}
 use Rattle.script_lang.specs.declared.operation.Step.{Step}
@@ -9,7 +9,7 @@ use Rattle.transcript.specs.Plan.{planned_on}
 use Rattle.direct_run.specs.Runs.{plans_on}
 use Rattle.direct_run.specs.Steps.{IsRunning}
 use Rattle.direct_run.proofs.Sending.{left}
-use Rattle.direct_run.proofs.Running.{board_after, part_on, client_more, same_part}
+use Rattle.direct_run.proofs.Running.{part_on, client_more, same_part}
 use Rattle.direct_run.proofs.clients.run_clients.Goals as goal
 
 pub loop-steps-preserved : goal.loop-steps-preserved
@@ -23,15 +23,20 @@ loop-steps-preserved c =
     let begins : drop c.loop-steps.steps-index scripts ≡ c.as_slice.result.now ∷ rest =
     left scripts c.loop-steps.steps-index c.steps-item.result c.loop-steps-test.true c.steps-item.is
     ∙ ap (λ (steps : List Step). steps ∷ rest) (sym c.as_slice.ensures) in
-    let so_far = subst (λ (left : List (List Step)). IsRunning start now plans (plans_on c.args.position (Live c.args.payload) left) c.loop-steps.parts.items)
+    let so_far = subst (λ (left : List (List Step)). IsRunning start now plans
+    (plans_on c.args.position (Live c.args.payload) left) c.loop-steps.parts.items)
     begins c.loop-steps.invariant.running in
+    let ran = c.in_ok-run_client.ensures in
     let part : c.in_ok-run_client.field-0 ≡ part_on now plan =
-    same_part c.in_ok-run_client.field-0 now plan c.in_ok-run_client.ensures.planned c.in_ok-run_client.ensures.outcomes in
-    let more = client_more start now plans (plans_on c.args.position (Live c.args.payload) rest) plan c.loop-steps.parts.items so_far in
+    same_part c.in_ok-run_client.field-0 now plan ran.planned ran.outcomes in
+    let more = client_more start now plans
+    (plans_on c.args.position (Live c.args.payload) rest) plan c.loop-steps.parts.items so_far in
     let parts = c.in_ok-push.ensures.items ∙ ap (λ (p : ClientPart). c.loop-steps.parts.items ++ p ∷ []) part in
     record {
-      running = subst (λ (parts : List ClientPart). IsRunning start c.run_client.new.board plans (plans_on c.args.position (Live c.args.payload) rest) parts)
-          (sym parts) (subst (λ (b : Board). IsRunning start b plans (plans_on c.args.position (Live c.args.payload) rest) (c.loop-steps.parts.items ++ part_on now plan ∷ []))
+      running = subst (λ (parts : List ClientPart). IsRunning start c.run_client.new.board plans
+          (plans_on c.args.position (Live c.args.payload) rest) parts)
+          (sym parts) (subst (λ (b : Board). IsRunning start b plans
+          (plans_on c.args.position (Live c.args.payload) rest) (c.loop-steps.parts.items ++ part_on now plan ∷ []))
           (sym c.in_ok-run_client.ensures.board) more);
       can = (subst (AllByRecursion (AllByRecursion CanBePacked)) begins c.loop-steps.invariant.can).1;
       few = (subst (AllByRecursion HaveFewPieces) begins c.loop-steps.invariant.few).1;

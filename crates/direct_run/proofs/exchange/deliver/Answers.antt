@@ -1,4 +1,4 @@
-use Rattle.std.proofs.Common.{◌≡◌, ◌∙◌, ap, refl, subst, ◌+◌, ◌≤◌, ℕ, length, arith}
+use Rattle.std.proofs.Common.{◌≡◌, ◌∙◌, ap, refl, subst, arith}
 use Rattle.board_bus.specs.Bodies.{run_body}
 use Rattle.board_bus.specs.Cells.{CellMap}
 use Rattle.transaction_codec.specs.Answer.{CanAnswer}
@@ -17,7 +17,8 @@ heard : (c : goal.After-drop-datagram-2) → hear c.args.board.now c.as_slice.re
 heard c =
     heard_next c.args.board.now c.args.body.now c.as_slice.result.now
     (ap packet_of (c.as_slice.ensures.value ∙ c.in_ok-datagram.ensures.bytes)
-    ∙ c.reading_is_the_grammar.ensures.again (control_packet Big (expected c.args.board.now) c.args.body.now) c.in_ok-datagram.ensures.packet)
+    ∙ c.reading_is_the_grammar.ensures.again
+    (control_packet Big (expected c.args.board.now) c.args.body.now) c.in_ok-datagram.ensures.packet)
     (record { request = c.requires.request; reply = c.requires.reply })
 
 pub returns-clause-board : goal.returns-clause-board
@@ -31,8 +32,15 @@ returns-clause-packet c =
     let packet = c.in_ok-datagram.ensures.packet in
     record {
       id = packet.id;
-      body = answer_words c.args.body.now (run_body (present_bus c.args.board.now) c.args.body.now).reply (subst (λ (cells : CellMap). CanAnswer c.args.body.now (run_body cells c.args.body.now).reply)
+      body = answer_words c.args.body.now (run_body (present_bus c.args.board.now) c.args.body.now).reply
+          (subst (λ (cells : CellMap). CanAnswer c.args.body.now (run_body cells c.args.body.now).reply)
           c.bus.ensures (c.answers_bodies.ensures.reply c.args.body.now packet.body));
-      length = omega (arith, c.requires.reply, c.keeps_its_ranges.ensures.mtu.1, c.a_reply_has_room.ensures (present_bus c.args.board.now) c.args.body.now);
+      length = omega (
+        arith,
+        c.requires.reply,
+        c.keeps_its_ranges.ensures.mtu.1,
+        c.a_reply_has_room.ensures
+            (present_bus c.args.board.now) c.args.body.now,
+      );
       order = λ _. refl;
     }

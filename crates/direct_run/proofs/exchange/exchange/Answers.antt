@@ -1,4 +1,4 @@
-use Rattle.std.proofs.Common.{◌≡◌, ◌∙◌, sym, ap}
+use Rattle.std.proofs.Common.{◌∙◌, ap}
 use Rattle.packet_codec.specs.declared.packet.Packet.{Packet}
 use Rattle.packet_codec.specs.declared.packet.Order.TheVariants.{Big}
 use Rattle.board_bus.specs.Bodies.{run_body}
@@ -9,6 +9,7 @@ use Rattle.direct_run.proofs.exchange.exchange.Goals as goal
 pub returns-in-Ok-clause-reply : goal.returns-in-Ok-clause-reply
 returns-in-Ok-clause-reply c =
     ap (λ (p : Packet). p.body)
-    (c.in-Ok.ensures.only (control_packet Big (expected c.args.board.now) (run_body (present_bus c.args.board.now) c.args.body.now).reply)
+    (c.in-Ok.ensures.only (control_packet Big (expected c.args.board.now)
+    (run_body (present_bus c.args.board.now) c.args.body.now).reply)
     c.in_ok-deliver.ensures.packet
     (c.as_slice.ensures.value ∙ c.in_ok-deliver.ensures.answer))

@@ -1,4 +1,4 @@
-use Rattle.std.proofs.Common.{◌≡◌, ◌∙◌, ap, List}
+use Rattle.std.proofs.Common.{◌∙◌, ap, List}
 use Rattle.transcript.specs.declared.outcome.Outcome.{Outcome}
 use Rattle.board_history.specs.Order.{bodies_of, order}
 use Rattle.board_history.specs.History.{bodies_by_client}
