@@ -9,3 +9,4 @@ mod Skipping
 mod Reading
 mod Rising
 mod FewWords
+mod Covering

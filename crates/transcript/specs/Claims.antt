@@ -2,6 +2,11 @@
 use Rattle.std.specs.Prelude.{◌≡◌, ◌≢◌, ◌⊎◌, ℕ, ◌<◌, ◌^◌, ◌==◌, Bool, true, not, List, [], ◌∷◌, Some}
 use Rattle.std.specs.List.{AllByRecursion, list_all, slice_get}
 use Rattle.ipb_base.specs.Word.{IsWord, AreWords}
+use Rattle.std.specs.Prelude.{length}
+use Rattle.script_lang.specs.declared.operation.RegOp.{RegOp}
+use Rattle.script_lang.specs.declared.operation.Step.{Step}
+use Rattle.transcript.specs.declared.board_run.BoardRun.{BoardRun}
+use Rattle.transcript.specs.Plan.{ClientBodies, operations}
 use Rattle.transcript.specs.declared.outcome.Outcome.{Outcome}
 use Rattle.transcript.specs.declared.outcome.Outcome.TheVariants as became
 use Rattle.transcript.specs.declared.line.OpResult.{OpResult}
@@ -79,3 +84,16 @@ abbrev pub HaveOwnPlaces : List BodyEnd → Type 0
 HaveOwnPlaces ends =
     (i j : ℕ) (one other : BodyEnd) (place : ℕ) → slice_get ends i ≡ Some one → slice_get ends j ≡ Some other
     → one.place ≡ Some place → other.place ≡ Some place → i ≡ j
+
+-- ---- every operation
+
+abbrev pub IsOnBoard : List BoardRun → RegOp → Type 0
+IsOnBoard runs op = op.board < length runs
+
+-- each operation is on a board of the run
+abbrev pub AreOnBoards : List BoardRun → List Step → Type 0
+AreOnBoards runs steps = AllByRecursion (IsOnBoard runs) (operations steps)
+
+-- each piece stands in a body that is there
+abbrev pub HaveBodies : ClientBodies → Type 0
+HaveBodies all = AllByRecursion (AllByRecursion (λ (piece : PieceAt). piece.body < length all.bodies)) all.pieces
