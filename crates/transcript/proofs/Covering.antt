@@ -35,7 +35,8 @@ numbers_behind runs client before (op ∷ ops) all =
       | inl (run, within, at, again) ↦ rw at (
           let long : length (before ++ op ∷ []) ≡ length before + 1 = omega (arith, length-append before (op ∷ [])) in
           ap (λ numbers. (length before + 1) ∷ numbers)
-          (numbers_behind runs client (before ++ op ∷ []) ops all.1 ∙ ap (λ n. range_with_len (n + 1) (length ops)) long)
+          (numbers_behind runs client (before ++ op ∷ []) ops all.1
+          ∙ ap (λ n. range_with_len (n + 1) (length ops)) long)
           )
       | inr (past, none) ↦ absurd (omega (arith, all.0))
     ]
