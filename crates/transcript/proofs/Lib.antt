@@ -10,3 +10,4 @@ mod Reading
 mod Rising
 mod FewWords
 mod Covering
+mod Printed

@@ -22,7 +22,7 @@ ghost use Rattle.transcript.specs.Text.{line_text};
 ghost use Rattle.transcript.specs.Lines.{is_sent, is_replied, is_timed_out, is_lost, run_status, client_lines};
 ghost use Rattle.transcript.specs.Lines.{count_on};
 ghost use Rattle.transcript.specs.Claims.{IsDone, HaveWords, IsPrintedLine, IsBefore, Rises, IsOther, HaveOwnPlaces};
-ghost use Rattle.transcript.specs.Claims.{AreOnBoards, HaveBodies};
+ghost use Rattle.transcript.specs.Claims.{AreOnBoards, HaveBodies, IsRunInRange, IsSpaceless};
 
 use mtu_packer::laws::pieces_are_no_more_than_words;
 use reply_join::laws::{joining_is_a_function, skipped_stands_behind_a_fault};
@@ -93,6 +93,16 @@ pub fn a_text_is_that_of_one_line()
     ensures { (line other : OpLineValue) → IsPrintedLine line → IsPrintedLine other →
         line_text line ≡ line_text other → line ≡ other }
 {}
+
+/// The lines of a client are such lines, where its outcomes and bodies have numbers of their fields' ranges and names
+/// follow their rules: so its text tells every one of them.
+pub fn the_lines_of_a_client_can_be_told()
+    ensures { (runs : List BoardRunValue) (client : ℕ) (steps : List Step) → AllByRecursion IsRunInRange runs →
+        AllByRecursion IsSpaceless (in_order.operations steps) → length (in_order.operations steps) < 2 ^ 32 →
+        AllByRecursion IsPrintedLine (client_lines runs client steps) }
+{
+    joining_is_a_function();
+}
 
 /// Operations that read and write at most 2^31 words together are cut into few enough pieces for packing.
 pub fn few_words_are_few_pieces()
