@@ -1,0 +1,3 @@
+mod Sends
+mod Hearing
+mod Moves
