@@ -5,6 +5,7 @@
 //! theorem: whatever the moves, each body is executed once at most and in order, and a reply is that of its place.
 #![tactic(auto)]
 
+mod link;
 mod message;
 mod run;
 mod sending;
@@ -12,6 +13,7 @@ mod world;
 
 pub use board_node::Board;
 pub use ipb_base::{NoMemory, Words};
+pub use link::{Link, LinkFault, MAX_DATAGRAM, Received};
 pub use message::{Message, read_for_hub};
 pub use reliable_engine::{Engine, Fate, Sending, Settings};
 pub use sending::write_sending;
