@@ -1,3 +1,4 @@
 mod Sends
 mod Hearing
 mod Moves
+mod States

@@ -2,3 +2,4 @@ pub mod Messages
 pub mod Steps
 pub mod Runs
 pub mod Telling
+pub mod States

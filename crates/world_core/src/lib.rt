@@ -5,6 +5,7 @@
 //! theorem: whatever the moves, each body is executed once at most and in order, and a reply is that of its place.
 #![tactic(auto)]
 
+pub mod laws;
 mod link;
 mod message;
 mod run;

@@ -1,0 +1,69 @@
+//! Laws of a hub over a link that tells. These functions do nothing when they run: their clauses are what is proved.
+
+ghost use Rattle.std.specs.Prelude.{◌≡◌, ℕ, List, [], min, true, Some, None};
+ghost use Rattle.ipb_base.specs.Lists.{IsPrefix};
+ghost use Rattle.world_model.specs.declared.datagram.Datagram.{Datagram};
+ghost use Rattle.world_model.specs.declared.offered.Offered.{Offered};
+ghost use Rattle.world_model.specs.Board.{Board, executed, replies};
+ghost use Rattle.world_model.specs.Messages.{to_hub};
+ghost use Rattle.world_model.specs.Hub.{Hub, hear_quiet, is_waiting, new_hub, offer, take_message};
+ghost use Rattle.world_model.specs.Sends.{Next, bytes_to_send, next_send};
+ghost use Rattle.world_model.specs.World.{World, start};
+ghost use Rattle.world_model.specs.Facts.{AreRight, IsSendable, IsStart, bodies_of};
+ghost use Rattle.world_model.specs.History.{IsTrueHistory};
+ghost use Rattle.world_model.specs.Lanes.{caught_up};
+ghost use Rattle.world_model.specs.Links.{IsHanded, IsHeard, Told, sent_on};
+ghost use Rattle.world_core.specs.States.{IsReached, world_of_both};
+
+use reliable_engine::laws::a_give_up_ends_all_waiting;
+use world_model::laws::history::each_body_is_executed_once;
+use world_model::laws::lanes::waiting_sends_change_no_run;
+use world_model::laws::links::{
+    a_greeting_joins, each_event_keeps_them_joined, joined_ones_tell_the_truth,
+};
+use world_model::laws::sends::sends_go_one_by_one;
+
+/// A hub and a link that tells begin at a state of a run, and each thing that they do leads to one: an offer, a send
+/// that the link carried, whatever the board heard in one receive, a datagram that was handed out, a quiet receive, and
+/// the handing out of fates. The hub receives when nothing is left to send and no fate to hand out.
+pub fn each_event_leads_to_a_state_of_a_run()
+    ensures begins { (window rounds : ℕ) (board : Board) (air : List Datagram) → IsStart window board air
+        → IsReached (start window rounds board air) (new_hub board.first (min window board.buffers) rounds)
+        (record { board = board; air = air }) }
+    ensures offered { (begin : World) (hub : Hub) (told : Told) (offered : Offered) → IsReached begin hub told
+        → IsSendable offered.body → hub.fates ≡ [] → IsReached begin (offer hub offered) told }
+    ensures sent { (begin : World) (hub : Hub) (told : Told) (next : Next) → IsReached begin hub told
+        → next_send hub ≡ Some next
+        → IsReached begin next.hub (sent_on told (bytes_to_send next.hub next.send)) }
+    ensures heard { (begin : World) (hub : Hub) (old new : Told) → IsReached begin hub old → next_send hub ≡ None
+        → hub.fates ≡ [] → IsHeard old new → IsReached begin hub new }
+    ensures handed { (begin : World) (hub : Hub) (told : Told) (bytes : List ℕ) → IsReached begin hub told
+        → next_send hub ≡ None → hub.fates ≡ [] → IsHanded told bytes
+        → IsReached begin (take_message hub (to_hub bytes)) told }
+    ensures quiet { (begin : World) (hub : Hub) (told : Told) → IsReached begin hub told → next_send hub ≡ None
+        → hub.fates ≡ [] → is_waiting hub ≡ true → IsReached begin (hear_quiet hub) told }
+    ensures handed_out { (begin : World) (hub : Hub) (told : Told) → IsReached begin hub told
+        → IsReached begin (record hub { fates = [] }) told }
+{
+    a_give_up_ends_all_waiting();
+    a_greeting_joins();
+    each_event_keeps_them_joined();
+    waiting_sends_change_no_run();
+    sends_go_one_by_one();
+}
+
+/// What such a state tells. The executed bodies are the front of those that were sent first, in order; each fate that
+/// waits to be handed out is that of its place; and with what was handed out and the sends that wait, it is a true
+/// history.
+pub fn a_state_of_a_run_tells_the_truth()
+    ensures executed { (begin : World) (hub : Hub) (told : Told) → IsReached begin hub told
+        → IsPrefix (executed told.board) (bodies_of hub.sent) }
+    ensures fates { (begin : World) (hub : Hub) (told : Told) → IsReached begin hub told
+        → AreRight hub.sent (replies told.board) hub.fates }
+    ensures history { (window rounds : ℕ) (board : Board) (air : List Datagram) (hub : Hub) (told : Told)
+        → IsStart window board air → (is : IsReached (start window rounds board air) hub told)
+        → IsTrueHistory (caught_up (world_of_both hub told is.fates)) }
+{
+    joined_ones_tell_the_truth();
+    each_body_is_executed_once();
+}
