@@ -1,4 +1,5 @@
 mod Sends
 mod Hearing
 mod Moves
+mod Refusals
 mod States

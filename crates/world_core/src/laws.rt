@@ -1,18 +1,21 @@
 //! Laws of a hub over a link that tells. These functions do nothing when they run: their clauses are what is proved.
 
-ghost use Rattle.std.specs.Prelude.{◌≡◌, ℕ, List, [], min, true, Some, None};
+ghost use Rattle.std.specs.Prelude.{◌≡◌, ℕ, List, [], min, true, Some, None, Err, ◌↔◌};
 ghost use Rattle.ipb_base.specs.Lists.{IsPrefix};
 ghost use Rattle.world_model.specs.declared.datagram.Datagram.{Datagram};
+ghost use Rattle.world_model.specs.declared.moves.WorldEnd.TheVariants.{NotThere, TooOld};
+ghost use Rattle.world_model.specs.declared.moves.WorldMove.{WorldMove};
 ghost use Rattle.world_model.specs.declared.offered.Offered.{Offered};
 ghost use Rattle.world_model.specs.Board.{Board, executed, replies};
 ghost use Rattle.world_model.specs.Messages.{to_hub};
 ghost use Rattle.world_model.specs.Hub.{Hub, hear_quiet, is_waiting, new_hub, offer, take_message};
 ghost use Rattle.world_model.specs.Sends.{Next, bytes_to_send, next_send};
-ghost use Rattle.world_model.specs.World.{World, start};
+ghost use Rattle.world_model.specs.World.{World, run_moves, start};
 ghost use Rattle.world_model.specs.Facts.{AreRight, IsSendable, IsStart, bodies_of};
 ghost use Rattle.world_model.specs.History.{IsTrueHistory};
 ghost use Rattle.world_model.specs.Lanes.{caught_up};
 ghost use Rattle.world_model.specs.Links.{IsHanded, IsHeard, Told, sent_on};
+ghost use Rattle.world_core.specs.Runs.{IsNotThere, IsTooOld, StopsAt};
 ghost use Rattle.world_core.specs.States.{IsReached, world_of_both};
 
 use reliable_engine::laws::a_give_up_ends_all_waiting;
@@ -22,6 +25,15 @@ use world_model::laws::links::{
     a_greeting_joins, each_event_keeps_them_joined, joined_ones_tell_the_truth,
 };
 use world_model::laws::sends::sends_go_one_by_one;
+
+/// A run stops exactly at the first move that is not allowed: where no datagram for that side is at the place that the
+/// move names, or nobody notices that a receive is quiet; or where the datagram was sent too many first sends ago.
+pub fn a_run_stops_at_the_first_move_that_is_not_allowed()
+    ensures not_there { (begin : World) (moves : List WorldMove) (at : ℕ)
+        → (run_moves 0 begin moves ≡ Err (NotThere at)) ↔ StopsAt begin moves at IsNotThere }
+    ensures too_old { (begin : World) (moves : List WorldMove) (at : ℕ)
+        → (run_moves 0 begin moves ≡ Err (TooOld at)) ↔ StopsAt begin moves at IsTooOld }
+{}
 
 /// A hub and a link that tells begin at a state of a run, and each thing that they do leads to one: an offer, a send
 /// that the link carried, whatever the board heard in one receive, a datagram that was handed out, a quiet receive, and

@@ -3,14 +3,15 @@
 ghost use Rattle.std.specs.Prelude.{◌≡◌, ◌≢◌, ◌↔◌, ◌≤◌, ◌^◌, ℕ, List, [], length, IfOk, IfErr, OnOk, IsTrue, Ok, Err};
 ghost use Rattle.std.specs.List.{AllByRecursion};
 ghost use Rattle.reliable_engine.specs.Answers.{body_count};
-ghost use Rattle.world_model.specs.declared.moves.WorldEnd.TheVariants.{NoMemory as no_memory};
+ghost use Rattle.world_model.specs.declared.moves.WorldEnd.TheVariants.{NotThere, TooOld, NoMemory as no_memory};
 ghost use Rattle.world_model.specs.declared.offered.Fate.TheVariants.{Replied, TimedOut};
 ghost use Rattle.world_model.specs.Board.{executed, expected};
 ghost use Rattle.world_model.specs.World.{run_moves, start};
-ghost use Rattle.world_model.specs.History.{IsExecutedAtMostOnce, IsExecutedThere, IsHandedOut, IsTrueHistory};
-ghost use Rattle.world_core.specs.Runs.{IsShortMove};
+ghost use Rattle.world_model.specs.History.{IsExecutedAtMostOnce, IsExecutedThere, IsHandedOut, IsRun, IsTrueHistory};
+ghost use Rattle.world_core.specs.Runs.{IsNotThere, IsShortMove, IsTooOld, StopsAt};
 ghost use Rattle.world_core.specs.Steps.{HasSpellings, world_of};
 
+use crate::laws::a_run_stops_at_the_first_move_that_is_not_allowed;
 use crate::run::Run;
 use board_node::Board;
 use ipb_base::NoMemory;
@@ -80,7 +81,8 @@ pub fn are_short(moves: &[WorldMove]) -> bool
 
 /// Runs moves from a board that has executed nothing, a hub that has sent nothing, and an empty air. The hub knows the
 /// board, and its window is the smaller one of the board's buffers and the session's window (profile). The moves choose
-/// what the path does to each datagram, so what is said of all lists of moves is said of any path. At most 2^61 moves.
+/// what the path does to each datagram, so what is said of all lists of moves is said of any path. At most 2^61 moves,
+/// each offered body at most 2242 words long.
 pub fn run_world(
     alloc: Global,
     settings: Settings,
@@ -93,9 +95,14 @@ pub fn run_world(
     // The world after all the moves.
     ensures moved { IfOk result (λ w.
         run_moves 0 (start settings.window settings.rounds board []) moves.now ≡ Ok w) }
-    // The first move that is not allowed, and why.
+    // No end but by a move that is not allowed, unless memory ran out.
     ensures refused { IfErr result (λ end. end ≢ no_memory
         → run_moves 0 (start settings.window settings.rounds board []) moves.now ≡ Err end) }
+    // The first such move, and why it is not allowed.
+    ensures not_there { (at : ℕ) → result ≡ Err (NotThere at)
+        → StopsAt (start settings.window settings.rounds board []) moves.now at IsNotThere }
+    ensures too_old { (at : ℕ) → result ≡ Err (TooOld at)
+        → StopsAt (start settings.window settings.rounds board []) moves.now at IsTooOld }
     // The executed bodies are the front of those that were sent first, in order, and each reply that was handed out is
     // the one that a bus with a single thread gives at its place.
     ensures history { IfOk result IsTrueHistory }
@@ -108,6 +115,26 @@ pub fn run_world(
 {
     each_body_is_executed_once();
     a_fate_is_that_of_its_place();
+    a_run_stops_at_the_first_move_that_is_not_allowed();
+    run(alloc, settings, board, moves)
+}
+
+/// Runs moves one by one.
+fn run(
+    alloc: Global,
+    settings: Settings,
+    board: Board,
+    moves: &[WorldMove],
+) -> Result<World, WorldEnd>
+    requires fresh { executed board ≡ [] }
+    requires short { AllByRecursion IsShortMove moves.now }
+    requires few { length moves.now ≤ 2 ^ 61 }
+    ensures ran { IfOk result (IsRun settings.window settings.rounds board [] moves.now) }
+    ensures moved { IfOk result (λ w.
+        run_moves 0 (start settings.window settings.rounds board []) moves.now ≡ Ok w) }
+    ensures refused { IfErr result (λ end. end ≢ no_memory
+        → run_moves 0 (start settings.window settings.rounds board []) moves.now ≡ Err end) }
+{
     board.keeps_its_ranges();
     let _window = settings.window();
     let mut run = begin(alloc, settings, board)?;
