@@ -9,6 +9,7 @@ use Rattle.packet_codec.specs.declared.packet.Packet.{Packet}
 use Rattle.packet_ids.specs.Identifier.{IsIdentifier, identifier_at}
 use Rattle.status_packet.specs.Range.{IsMtu, IsBufferCount}
 use Rattle.status_packet.specs.StatusBytes.{IsStatusReply}
+use Rattle.std.specs.List.{slice_get}
 use Rattle.std.proofs.Common.{length, true, false, ◌++◌, ◌==◌, append-nil}
 use Rattle.packet_codec.specs.Packet.{in_order, packet_words}
 use Rattle.packet_codec.specs.Reading.{packet_of, start_of}
@@ -17,7 +18,7 @@ use Rattle.status_packet.specs.Packets.{status_reply, status_request}
 use Rattle.board_bus.specs.Bodies.{run_body}
 use Rattle.board_node.specs.Answers.{answer_bytes}
 use Rattle.world_model.specs.declared.datagram.Datagram.{Datagram}
-use Rattle.world_model.specs.declared.datagram.Direction.TheVariants.{ToHub as to_the_hub}
+use Rattle.world_model.specs.declared.datagram.Direction.TheVariants.{ToBoard as to_the_board, ToHub as to_the_hub}
 use Rattle.world_model.specs.declared.offered.OpenPlace.{OpenPlace}
 use Rattle.world_model.specs.Messages.{ToHub, StatusReply, Reply as ReplyTo, control_packet, to_hub}
 use Rattle.world_model.specs.Messages.{ToBoard, StatusRequest, ResendRequest, ControlPacket, to_board}
@@ -25,6 +26,10 @@ use Rattle.world_model.specs.Board.{Board, Hearing, expected, hear, hear_message
 use Rattle.world_model.specs.Board.{present_bus, tell_status, with_id}
 use Rattle.world_model.specs.Hub.{Hub, open_with, settle, take_message}
 use Rattle.world_model.specs.World.{World, answered, with_hub}
+use Rattle.world_model.specs.Links.{IsHeard, Told, then_told}
+use Rattle.world_model.specs.Links.{first_sends, first_sends_from, heard_by, heard_on}
+use Rattle.world_core.specs.Airs.{IsHeardAt, answers_of, may_hear}
+use Rattle.world_core.proofs.Airs.{board_hears, count_more}
 use Rattle.world_core.specs.Steps.{board_told, hub_told}
 use Rattle.world_core.specs.declared.message.Message.{Message}
 use Rattle.world_core.specs.declared.message.Message.TheVariants.{Reply, Status, Other}
@@ -181,6 +186,62 @@ answered_with : (birth : ℕ) (answer : Option (List ℕ)) → (answer_bytes ans
     → answered birth answer ≡ record { direction = to_the_hub; bytes = answer_bytes answer; birth = birth } ∷ []
 answered_with birth None some = absurd (some refl)
 answered_with birth (Some bytes) some = refl
+
+-- ---- a board hears a datagram of an air
+
+answered_of : (birth : ℕ) (answer : Option (List ℕ)) → HasBytes answer
+    → answers_of birth (answer_bytes answer) ≡ answered birth answer
+answered_of birth None has = refl
+answered_of birth (Some []) has = absurd has
+answered_of birth (Some (byte ∷ bytes)) has = refl
+
+-- the air after a datagram was heard
+heard_air : (told : Told) (place : ℕ) (board : Board) (air : List Datagram)
+    → (is : IsHeardAt (first_sends told) place told.board told.air board air)
+    → record { board = board; air = air } ≡ heard_on told is.datagram.bytes
+heard_air told place board air is =
+    let hearing = hear told.board is.datagram.bytes in
+    let same : air ≡ told.air ++ answered (first_sends told) hearing.answer = is.answer
+    ∙ ap (λ (more : List Datagram). told.air ++ more)
+    (answered_of (first_sends told) hearing.answer (answer_has_bytes told.board is.datagram.bytes)) in
+    let one : Told = record { board = board; air = air } in
+    let two : Told = record { board = hearing.board; air = air } in
+    let now : one ≡ two = ap (λ (b : Board). record { board = b; air = air }) is.board in
+    now ∙ ap (λ (a : List Datagram). record { board = hearing.board; air = a }) same
+
+pub heard_now : (told : Told) (place sent : ℕ) (board : Board) (air : List Datagram) → sent ≡ first_sends told
+    → may_hear to_the_board sent (slice_get told.air place) ≡ true
+    → IsHeardAt sent place told.board told.air board air
+    → heard_by told (slice_get told.air place) ≡ Some (record { board = board; air = air })
+heard_now told place sent board air counted may heard =
+    let is = subst (λ (n : ℕ). IsHeardAt n place told.board told.air board air) counted heard in
+    board_hears told place sent is.datagram counted is.there may
+    ∙ ap (λ (t : Told). Some t) (sym (heard_air told place board air is))
+
+uncounted : (first count birth : ℕ) (air : List Datagram) (out : List ℕ)
+    → first_sends_from first count (air ++ answers_of birth out) ≡ first_sends_from first count air
+uncounted first count birth air [] = ap (first_sends_from first count) (append-nil air)
+uncounted first count birth air (byte ∷ bytes) =
+    count_more first count air (record { direction = to_the_hub; bytes = byte ∷ bytes; birth = birth })
+
+-- an answer is no first send
+pub heard_count : (told : Told) (birth place : ℕ) (board : Board) (air : List Datagram) → board.first ≡ told.board.first
+    → IsHeardAt birth place told.board told.air board air
+    → first_sends told ≡ first_sends (record { board = board; air = air })
+heard_count told birth place board air same is = sym (ap (first_sends_from board.first 0) is.answer
+    ∙ (uncounted board.first 0 birth told.air (answer_bytes (hear told.board is.datagram.bytes).answer)
+    ∙ ap (λ (f : ℕ). first_sends_from f 0 told.air) same))
+
+-- a board expects the same first identifier as before
+pub same_first : (told new : Told) (place : ℕ)
+    → ((old after : Told) → IsHeard old after → record after.board { log = old.board.log } ≡ old.board)
+    → heard_by told (slice_get told.air place) ≡ Some new → new.board.first ≡ told.board.first
+same_first told new place law heard = ap (λ (b : Board). b.first) (law told new (record {
+  places = place ∷ [];
+  heard = ap (λ (r : Option Told). then_told r (λ after. Some after)) heard;
+}))
+
+-- ---- a board hears a datagram of a run
 
 -- a board that answers nothing
 pub silent : (w : World) (datagram : Datagram) (r : Option Datagram) (board : Board) (out : List ℕ)

@@ -1,3 +1,4 @@
+mod Airs
 mod Sends
 mod Hearing
 mod Moves

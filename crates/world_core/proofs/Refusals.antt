@@ -13,6 +13,7 @@ use Rattle.world_model.specs.declared.moves.WorldMove.TheVariants.{Offer, Quiet,
 use Rattle.world_model.specs.Hub.{hear_quiet, is_waiting}
 use Rattle.world_model.specs.Air.{LIFETIME, goes_to, is_alive}
 use Rattle.world_model.specs.World.{World, board_hears, go_on, hub_hears, moves_on, run_moves, step, taken, when_taken}
+use Rattle.world_core.proofs.Airs.{goes_self, same_way}
 use Rattle.world_core.specs.Runs.{IsNotThere, IsThere, IsTooOld, IsTooOldThere, StopsAt}
 
 -- ---- the move at which a run stops
@@ -93,16 +94,6 @@ stops n begin (move ∷ moves) (suc k) end is = stops_by n begin move moves k is
     }))
 
 -- ---- why it is not allowed
-
-goes_self : (hearer : Direction) → goes_to hearer hearer ≡ true
-goes_self ToBoard = refl
-goes_self ToHub = refl
-
-same_way : (hearer direction : Direction) → goes_to hearer direction ≡ true → direction ≡ hearer
-same_way ToBoard ToBoard way = refl
-same_way ToBoard ToHub way = absurd cc
-same_way ToHub ToBoard way = absurd cc
-same_way ToHub ToHub way = refl
 
 -- a datagram that goes the other way is not there
 abbrev pub heard_if : ℕ → Bool → Bool → List ℕ → (List ℕ → World) → Result World WorldEnd

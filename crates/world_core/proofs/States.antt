@@ -1,6 +1,6 @@
 -- States of runs: what each event makes of them.
 use Rattle.std.proofs.Common.{◌≡◌, ℕ, ◌+◌, Bool, true, false, cond, List, [], ◌∷◌, ◌++◌, length, Option}
-use Rattle.std.proofs.Common.{Some, None, Result, Ok, Err, refl, sym, ap, ◌∙◌, subst, arith, if◌then◌else◌, ◌==◌, nat_lt}
+use Rattle.std.proofs.Common.{Some, None, Result, Ok, Err, refl, sym, ap, ◌∙◌, subst, arith, ◌==◌, nat_lt}
 use Rattle.std.specs.Prelude.{nat_le, min, ◌||◌}
 use Rattle.std.specs.List.{AllByRecursion, slice_get}
 use Rattle.std.proofs.lemmas.List.{append-nil}
@@ -28,14 +28,10 @@ use Rattle.world_model.specs.World.{World, answered, board_hears, flush, go_on, 
 use Rattle.world_model.specs.World.{run_moves, sent_into, start, step, taken, when_taken, with_hub}
 use Rattle.world_model.specs.History.{IsMove}
 use Rattle.world_model.specs.Lanes.{IsLaneState, IsState, caught_up}
-use Rattle.world_model.specs.Links.{IsHanded, IsHeard, IsJoined, Told, birth_of, first_sends, first_sends_from, heard_by}
-use Rattle.world_model.specs.Links.{heard_on, hears_all, is_first_send, sent_on, then_told}
+use Rattle.world_model.specs.Links.{IsHanded, IsHeard, IsJoined, Told, birth_of, first_sends, heard_by}
+use Rattle.world_model.specs.Links.{heard_on, hears_all, sent_on, then_told}
 use Rattle.world_core.specs.States.{IsReached, world_of_both}
-
--- a choice, case by case
-either : {X : Type 0} (P : X → Type 0) (b : Bool) (x y : X) → (b ≡ true → P x) → (b ≡ false → P y) → P (cond b x y)
-either P true x y one other = one refl
-either P false x y one other = other refl
+use Rattle.world_core.proofs.Airs.{count_more, either}
 
 -- ---- at rest nothing is pending
 
@@ -191,14 +187,6 @@ offered_reached begin hub told offered is joined state =
     record { joined = joined; rest = λ e. absurd cc; fates = is.fates; state = state }
 
 -- ---- sends
-
-count_more : (first count : ℕ) (air : List Datagram) (datagram : Datagram)
-    → first_sends_from first count (air ++ datagram ∷ [])
-    ≡ (if is_first_send first (first_sends_from first count air) datagram.direction datagram.bytes
-    then first_sends_from first count air + 1 else first_sends_from first count air)
-count_more first count [] datagram = refl
-count_more first count (d ∷ air) datagram =
-    count_more first (if is_first_send first count d.direction d.bytes then count + 1 else count) air datagram
 
 -- the link gives a datagram the birth that the hub does
 born_alike : (hub : Hub) (told : Told) (bytes : List ℕ) → IsJoined hub (sent_on told bytes)

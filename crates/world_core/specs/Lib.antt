@@ -3,3 +3,4 @@ pub mod Steps
 pub mod Runs
 pub mod Telling
 pub mod States
+pub mod Airs

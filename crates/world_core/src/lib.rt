@@ -5,6 +5,7 @@
 //! theorem: whatever the moves, each body is executed once at most and in order, and a reply is that of its place.
 #![tactic(auto)]
 
+mod air;
 pub mod laws;
 mod link;
 mod message;
@@ -12,6 +13,7 @@ mod run;
 mod sending;
 mod world;
 
+pub use air::{Air, LIFETIME};
 pub use board_node::Board;
 pub use ipb_base::{NoMemory, Words};
 pub use link::{Link, LinkFault, MAX_DATAGRAM, Received};

@@ -1,11 +1,10 @@
 //! A world while it runs.
 
-ghost use Rattle.std.specs.Prelude.{◌≡◌, ◌≢◌, ◌≤◌, ◌<◌, ◌+◌, ◌^◌, ℕ, length, [], true, ◌↔◌, IsTrue, IfOk, OnOk, IfErr, Ok, Err};
+ghost use Rattle.std.specs.Prelude.{◌≡◌, ◌≢◌, ◌≤◌, ◌<◌, ◌+◌, ◌^◌, ℕ, length, true, IfOk, OnOk, IfErr, Ok, Err};
 ghost use Rattle.std.specs.List.{slice_get};
 ghost use Rattle.reliable_engine.specs.Answers.{body_count};
 ghost use Rattle.world_model.specs.declared.moves.WorldEnd.TheVariants.{NoMemory as no_memory};
 ghost use Rattle.packet_codec.specs.declared.packet.TheConstants.{MAX_BODY_WORDS};
-ghost use Rattle.world_model.specs.Air.{goes_to};
 ghost use Rattle.world_model.specs.Hub.{hear_quiet, is_waiting, offer};
 ghost use Rattle.world_model.specs.Sends.{pending};
 ghost use Rattle.world_model.specs.Facts.{IsSendable};
@@ -14,6 +13,7 @@ ghost use Rattle.world_model.specs.World.{flush, go_on, handed_out, step, taken}
 ghost use Rattle.world_core.specs.Runs.{IsShortMove};
 ghost use Rattle.world_core.specs.Steps.{board_told, end_of, HasSpellings, hub_told, IsWritable, put_into, world_of};
 
+use crate::air::{goes_to, is_alive, is_silent};
 use crate::message::{Message, read_for_hub};
 use crate::sending::{copy_words, write_sending};
 use board_node::Board;
@@ -22,9 +22,6 @@ use reliable_engine::{Engine, Fate, Sending};
 use std::alloc::Global;
 use world_model::laws::sends::{only_an_offer_makes_more_bodies, sends_go_one_by_one};
 use world_model::{Bytes, Datagram, Direction, WorldEnd, WorldMove};
-
-/// The most further first sends to the board after which a datagram may still be heard (profile).
-const LIFETIME: u64 = 32_768;
 
 /// A board, the hub of it, the air between them, and the fates that were handed out.
 #[derive(Drop)]
@@ -102,7 +99,7 @@ impl Run {
         if !goes_to(hearer, datagram.direction) {
             return Err(WorldEnd::NotThere { at });
         }
-        if self.hub.sent().saturating_sub(datagram.birth) > LIFETIME {
+        if !is_alive(self.hub.sent(), datagram) {
             return Err(WorldEnd::TooOld { at });
         }
         Ok(())
@@ -150,23 +147,6 @@ impl Run {
             birth,
         })?;
         Ok(())
-    }
-}
-
-/// Whether nothing was answered.
-fn is_silent(answer: &Vec<u8>) -> bool
-    ensures { IsTrue result ↔ (answer.now.items ≡ []) }
-{
-    answer.is_empty()
-}
-
-/// Whether a datagram of this direction is for this hearer.
-fn goes_to(hearer: Direction, direction: Direction) -> bool
-    ensures { result ≡ goes_to hearer direction }
-{
-    match hearer {
-        Direction::ToBoard => direction == Direction::ToBoard,
-        Direction::ToHub => direction == Direction::ToHub,
     }
 }
 
