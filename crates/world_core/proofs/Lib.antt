@@ -4,3 +4,4 @@ mod Hearing
 mod Moves
 mod Refusals
 mod States
+mod Receives

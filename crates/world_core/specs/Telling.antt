@@ -80,3 +80,7 @@ abbrev pub gots_after : Result Received LinkFault → ℕ → ℕ
 gots_after (Ok Got) count = one_more count
 gots_after (Ok Quiet) count = count
 gots_after (Err fault) count = count
+
+-- but for this one place, what was still to be heard is so
+abbrev pub KeepsBut : ℕ → List ℕ → List ℕ → Type 0
+KeepsBut place old new = (other : ℕ) → Contains old other → (place ≡ other) ⊎ Contains new other

@@ -1,6 +1,8 @@
 //! Laws of a hub over a link that tells. These functions do nothing when they run: their clauses are what is proved.
 
-ghost use Rattle.std.specs.Prelude.{◌≡◌, ℕ, List, [], min, true, Some, None, Err, ◌↔◌};
+ghost use Rattle.std.specs.Prelude.{◌≡◌, ◌↔◌, ◌≤◌, ◌<◌, ℕ, List, [], ◌∷◌, ◌++◌, length, min, true, Some, None, Err};
+ghost use Rattle.std.specs.List.{Contains, slice_get};
+ghost use Rattle.ipb_base.specs.Faults.{Rose};
 ghost use Rattle.ipb_base.specs.Lists.{IsPrefix};
 ghost use Rattle.world_model.specs.declared.datagram.Datagram.{Datagram};
 ghost use Rattle.world_model.specs.declared.moves.WorldEnd.TheVariants.{NotThere, TooOld};
@@ -14,9 +16,10 @@ ghost use Rattle.world_model.specs.World.{World, run_moves, start};
 ghost use Rattle.world_model.specs.Facts.{AreRight, IsSendable, IsStart, bodies_of};
 ghost use Rattle.world_model.specs.History.{IsTrueHistory};
 ghost use Rattle.world_model.specs.Lanes.{caught_up};
-ghost use Rattle.world_model.specs.Links.{IsHanded, IsHeard, Told, sent_on};
+ghost use Rattle.world_model.specs.Links.{heard_by, IsHanded, IsHandedAt, IsHeard, Told, sent_on};
 ghost use Rattle.world_core.specs.Runs.{IsNotThere, IsTooOld, StopsAt};
 ghost use Rattle.world_core.specs.States.{IsReached, world_of_both};
+ghost use Rattle.world_core.specs.Telling.{IsGot, IsReceived, KeepsBut, Telling};
 
 use reliable_engine::laws::a_give_up_ends_all_waiting;
 use world_model::laws::history::each_body_is_executed_once;
@@ -79,3 +82,23 @@ pub fn a_state_of_a_run_tells_the_truth()
     joined_ones_tell_the_truth();
     each_body_is_executed_once();
 }
+
+/// A receive of a link that tells may be put together of steps: nothing at all; a datagram that the board hears, whose
+/// answer, if any, is still to be heard; a datagram that is given up and counts as held; a datagram that is handed out;
+/// and one step after another, where the last one alone hands out.
+pub fn a_receive_goes_step_by_step()
+    ensures nothing { (held : ℕ) (telling : Telling) → IsReceived [] held held telling telling }
+    ensures heard { (held place : ℕ) (old new : Telling)
+        → heard_by old.told (slice_get old.told.air place) ≡ Some new.told → new.handed ≡ old.handed
+        → KeepsBut place old.due new.due
+        → (length old.told.air < length new.told.air → Contains new.due (length old.told.air))
+        → IsReceived [] held held old new }
+    ensures given_up { (before now place : ℕ) (old new : Telling) → new.told ≡ old.told → new.handed ≡ old.handed
+        → KeepsBut place old.due new.due → Rose before now → IsReceived [] before now old new }
+    ensures handed_out { (held place : ℕ) (bytes : List ℕ) (old new : Telling) → new.told ≡ old.told
+        → new.handed ≡ old.handed ++ place ∷ [] → KeepsBut place old.due new.due
+        → IsHandedAt new.told bytes place → IsGot bytes held held old new }
+    ensures then { (by_hub : List ℕ) (first mid last : ℕ) (old between new : Telling) → first ≤ mid → mid ≤ last
+        → IsReceived [] first mid old between → IsReceived by_hub mid last between new
+        → IsReceived by_hub first last old new }
+{}
