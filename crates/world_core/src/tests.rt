@@ -1,7 +1,10 @@
 ghost use Rattle.std.specs.Prelude.{◌≤◌};
 
+mod mem_link;
+
 use super::*;
 use board_node::{Bus, Range, RangeKind};
+use mem_link::MemLink;
 use packet_ids::Id;
 use std::alloc::Global;
 use std::process::Abort;
@@ -188,5 +191,25 @@ fn a_packet_that_old_is_dropped(rt: HostRuntime) -> Result<(), Fail> {
     assert_eq!(rt; world.board().executed_len(), 32_769);
     assert_eq!(rt; world.fates().len(), 32_769);
     is_replied(&rt, &world.fates()[32_768], 7, 32_769, &FOUR_READ);
+    Ok(())
+}
+
+#[test]
+fn a_link_carries_a_packet_and_its_reply(rt: HostRuntime) -> Result<(), Fail> {
+    let alloc = rt.alloc();
+    let board = board(alloc, 1)?;
+    if board.executed_len() != 0 {
+        return Err("a board that executed something".into());
+    }
+    let mut link = MemLink::new(alloc, board);
+    let request: [u8; 12] = [0x20, 0, 1, 0xf0, 0x20, 0, 1, 0x0f, 0, 0, 0, 4];
+    let reply: [u8; 12] = [0x20, 0, 1, 0xf0, 0x20, 0, 1, 0, 0, 0, 0xab, 0xcd];
+    let mut into = Vec::new(alloc);
+    assert!(rt; link.send(&request) == Ok(()));
+    assert!(rt; link.receive(&mut into) == Ok(Received::Got));
+    assert_eq!(rt; into.as_slice(), reply.as_slice());
+    assert!(rt; link.receive(&mut into) == Ok(Received::Quiet));
+    assert_eq!(rt; into.len(), 0);
+    assert_eq!(rt; link.board().executed_len(), 1);
     Ok(())
 }
