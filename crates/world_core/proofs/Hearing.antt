@@ -170,23 +170,6 @@ message_has_bytes board (Some (ControlPacket order id body)) =
 answer_has_bytes : (board : Board) (bytes : List ℕ) → HasBytes (hear board bytes).answer
 answer_has_bytes board bytes = message_has_bytes board (to_board bytes)
 
-abbrev pub with_board : World → Board → World
-with_board w board = record w { board = board }
-
-abbrev pub answers : World → Board → List Datagram → World
-answers w board more = record w { board = board; air = w.air ++ more }
-
-answered_by : (birth : ℕ) (answer : Option (List ℕ)) → HasBytes answer → answer_bytes answer ≡ []
-    → answered birth answer ≡ []
-answered_by birth None has none = refl
-answered_by birth (Some []) has none = absurd has
-answered_by birth (Some (byte ∷ bytes)) has none = absurd cc
-
-answered_with : (birth : ℕ) (answer : Option (List ℕ)) → (answer_bytes answer ≡ [] → ⊥)
-    → answered birth answer ≡ record { direction = to_the_hub; bytes = answer_bytes answer; birth = birth } ∷ []
-answered_with birth None some = absurd (some refl)
-answered_with birth (Some bytes) some = refl
-
 -- ---- a board hears a datagram of an air
 
 answered_of : (birth : ℕ) (answer : Option (List ℕ)) → HasBytes answer
@@ -243,30 +226,18 @@ same_first told new place law heard = ap (λ (b : Board). b.first) (law told new
 
 -- ---- a board hears a datagram of a run
 
--- a board that answers nothing
-pub silent : (w : World) (datagram : Datagram) (r : Option Datagram) (board : Board) (out : List ℕ)
-    → r ≡ Some datagram → board ≡ (hear w.board datagram.bytes).board
-    → out ≡ answer_bytes (hear w.board datagram.bytes).answer → out ≡ [] → with_board w board ≡ board_told w r
-silent w datagram r board out is now told none =
-    let hearing = hear w.board datagram.bytes in
-    ap (with_board w) now
-    ∙ (ap (λ (air : List Datagram). record w { board = hearing.board; air = air }) (sym (append-nil w.air))
-    ∙ (ap (answers w hearing.board) (sym (answered_by (length w.hub.sent) hearing.answer
-    (answer_has_bytes w.board datagram.bytes) (sym told ∙ none)))
-    ∙ sym (ap (board_told w) is)))
-
--- a board that answers
-pub spoken : (w : World) (datagram : Datagram) (r : Option Datagram) (board : Board) (out : List ℕ)
-    → r ≡ Some datagram → board ≡ (hear w.board datagram.bytes).board
-    → out ≡ answer_bytes (hear w.board datagram.bytes).answer → (out ≡ [] → ⊥)
-    → answers w board (record { direction = to_the_hub; bytes = out; birth = length w.hub.sent } ∷ []) ≡ board_told w r
-spoken w datagram r board out is now told some =
-    let hearing = hear w.board datagram.bytes in
-    ap (λ (b : Board). answers w b (record { direction = to_the_hub; bytes = out; birth = length w.hub.sent } ∷ [])) now
-    ∙ (ap (λ (bytes : List ℕ). answers w hearing.board
-    (record { direction = to_the_hub; bytes = bytes; birth = length w.hub.sent } ∷ [])) told
-    ∙ (ap (answers w hearing.board) (sym (answered_with (length w.hub.sent) hearing.answer (λ e. some (told ∙ e))))
-    ∙ sym (ap (board_told w) is)))
+pub board_heard : (w : World) (sent place : ℕ) (board : Board) (air : List Datagram) → sent ≡ length w.hub.sent
+    → IsHeardAt sent place w.board w.air board air
+    → record w { board = board; air = air } ≡ board_told w (slice_get w.air place)
+board_heard w sent place board air counted is =
+    let hearing = hear w.board is.datagram.bytes in
+    let same : air ≡ w.air ++ answered (length w.hub.sent) hearing.answer = is.answer
+    ∙ (ap (λ (birth : ℕ). w.air ++ answers_of birth (answer_bytes hearing.answer)) counted
+    ∙ ap (λ (more : List Datagram). w.air ++ more)
+    (answered_of (length w.hub.sent) hearing.answer (answer_has_bytes w.board is.datagram.bytes))) in
+    ap (λ (b : Board). record w { board = b; air = air }) is.board
+    ∙ (ap (λ (a : List Datagram). record w { board = hearing.board; air = a }) same
+    ∙ sym (ap (board_told w) is.there))
 
 -- ---- a board is asked for its status
 

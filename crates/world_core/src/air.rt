@@ -195,7 +195,7 @@ fn is_next(packet: &Packet, first: Id, count: u64) -> bool
 }
 
 /// The board hears the datagram at a place, and its answer is put at the end.
-fn hear_at(
+pub(crate) fn hear_at(
     alloc: Global,
     board: &mut Board,
     air: &mut Vec<Datagram>,
@@ -230,7 +230,7 @@ fn put_answer(air: &mut Vec<Datagram>, birth: u64, answer: Vec<u8>)
 }
 
 /// Whether nothing was answered.
-pub(crate) fn is_silent(answer: &Vec<u8>) -> bool
+fn is_silent(answer: &Vec<u8>) -> bool
     ensures { IsTrue result ↔ (answer.now.items ≡ []) }
 {
     answer.is_empty()

@@ -13,7 +13,7 @@ ghost use Rattle.world_model.specs.World.{flush, go_on, handed_out, step, taken}
 ghost use Rattle.world_core.specs.Runs.{IsShortMove};
 ghost use Rattle.world_core.specs.Steps.{board_told, end_of, HasSpellings, hub_told, IsWritable, put_into, world_of};
 
-use crate::air::{goes_to, is_alive, is_silent};
+use crate::air::{goes_to, hear_at, is_alive};
 use crate::message::{Message, read_for_hub};
 use crate::sending::{copy_words, write_sending};
 use board_node::Board;
@@ -133,20 +133,8 @@ impl Run {
         ensures { OnOk result (world_of self.new
             ≡ board_told (world_of self.old) (slice_get self.old.air.items place)) }
     {
-        let mut answer = Vec::new(alloc);
-        self.board
-            .hear(self.air[place].bytes.as_slice(), &mut answer)?;
-        if is_silent(&answer) {
-            return Ok(());
-        }
-        let bytes = Bytes::from_vec(answer);
-        let birth = self.hub.sent();
-        self.air.push(Datagram {
-            direction: Direction::ToHub,
-            bytes,
-            birth,
-        })?;
-        Ok(())
+        let sent = self.hub.sent();
+        hear_at(alloc, &mut self.board, &mut self.air, sent, place)
     }
 }
 
