@@ -12,7 +12,8 @@ use Rattle.world_model.specs.Hub.{Hub, words_of}
 use Rattle.world_model.specs.Sends.{Next, next_send, pending}
 use Rattle.world_model.specs.World.{World, flush, sent_into, with_hub}
 use Rattle.world_model.specs.Facts.{AreSendable, HasBodies}
-use Rattle.world_core.specs.Steps.{HasSpellings, IsWritable, put_into}
+use Rattle.world_core.specs.Messages.{IsWritable}
+use Rattle.world_core.specs.Steps.{HasSpellings, put_into}
 
 -- what the laws of world_model say of sends
 abbrev pub OneByOne : Type 0
@@ -93,7 +94,7 @@ short_there : (sent : List Offered) (place : ℕ) → AreSendable sent
 short_there sent zero are = omega arith
 short_there sent (suc k) are = short_at sent k are
 
-pub writable : (hub : Hub) (send : Sending) → IsSendOf hub send → HasSpellings hub → IsWritable hub send
+pub writable : (hub : Hub) (send : Sending) → IsSendOf hub send → AreSendable hub.sent → IsWritable hub send
 writable hub sends.Status is spelled = tt
 writable hub (sends.Resend id) is spelled = tt
-writable hub (sends.Control place id) is spelled = (is, short_there hub.sent place spelled.sent)
+writable hub (sends.Control place id) is spelled = (is, short_there hub.sent place spelled)

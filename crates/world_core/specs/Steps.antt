@@ -1,29 +1,18 @@
--- What the code of a world keeps while it runs, and what each step of it does. No public clause but that of
--- `write_sending` speaks of these.
-use Rattle.std.specs.Prelude.{◌≡◌, ℕ, ◌≤◌, List, length, take, drop, Option, Some, None, Result, Ok, Err}
+-- What the code of a world keeps while it runs, and what each step of it does. No public contract speaks of these.
+use Rattle.std.specs.Prelude.{◌≡◌, ℕ, ◌≤◌, List, take, drop, Option, Some, None, Result, Ok, Err}
 use Rattle.std.specs.List.{AllByRecursion}
-use Rattle.packet_codec.specs.declared.packet.TheConstants.{MAX_BODY_WORDS}
-use Rattle.reliable_engine.specs.Answers.{IsOpen, body_count}
+use Rattle.reliable_engine.specs.Answers.{body_count}
 use Rattle.world_model.specs.declared.datagram.Datagram.{Datagram}
 use Rattle.world_model.specs.declared.moves.WorldEnd.{WorldEnd}
 use Rattle.world_model.specs.declared.sending.Sending.{Sending}
-use Rattle.world_model.specs.declared.sending.Sending.TheVariants as sends
-use Rattle.world_model.specs.Places.{at_place}
 use Rattle.world_model.specs.Messages.{to_hub}
-use Rattle.world_model.specs.Hub.{Hub, take_message, words_of}
+use Rattle.world_model.specs.Hub.{Hub, take_message}
 use Rattle.world_model.specs.World.{World, board_hears, flush, run_moves, sent_into, with_hub}
 use Rattle.world_model.specs.Sends.{pending}
 use Rattle.world_model.specs.History.{IsMove}
 use Rattle.world_model.specs.declared.moves.WorldMove.{WorldMove}
 use Rattle.world_model.specs.Facts.{AreSendable}
 use Rattle.world_core.specs.declared.run.Run.{Run}
-
--- a send can be written: a control packet is that of an open place, and its body is not too long
-abbrev pub IsWritable : Hub → Sending → Type 0
-IsWritable hub sends.Status = Unit {0}
-IsWritable hub (sends.Resend id) = Unit {0}
-IsWritable hub (sends.Control place id) =
-    IsOpen hub place × (length (words_of (at_place hub.sent place)) ≤ MAX_BODY_WORDS)
 
 -- each body of a hub has a spelling as a control packet
 pub record HasSpellings (hub : Hub) : Type 0 where

@@ -7,20 +7,27 @@ ghost use Rattle.ipb_base.specs.Lists.{IsPrefix};
 ghost use Rattle.world_model.specs.declared.datagram.Datagram.{Datagram};
 ghost use Rattle.world_model.specs.declared.moves.WorldEnd.TheVariants.{NotThere, TooOld};
 ghost use Rattle.world_model.specs.declared.moves.WorldMove.{WorldMove};
+ghost use Rattle.world_model.specs.declared.sending.Sending.{Sending};
+ghost use Rattle.world_model.specs.Air.{LIFETIME as most_further_sends};
+ghost use Rattle.ipb_base.specs.Numbers.{greatest_mtu};
+ghost use Rattle.reliable_engine.specs.Answers.{IsSendOf};
 ghost use Rattle.world_model.specs.declared.offered.Offered.{Offered};
 ghost use Rattle.world_model.specs.Board.{Board, executed, replies};
 ghost use Rattle.world_model.specs.Messages.{to_hub};
 ghost use Rattle.world_model.specs.Hub.{Hub, hear_quiet, is_waiting, new_hub, offer, take_message};
 ghost use Rattle.world_model.specs.Sends.{Next, bytes_to_send, next_send};
 ghost use Rattle.world_model.specs.World.{World, run_moves, start};
-ghost use Rattle.world_model.specs.Facts.{AreRight, IsSendable, IsStart, bodies_of};
+ghost use Rattle.world_model.specs.Facts.{AreRight, AreSendable, IsSendable, IsStart, bodies_of};
 ghost use Rattle.world_model.specs.History.{IsTrueHistory};
 ghost use Rattle.world_model.specs.Lanes.{caught_up};
 ghost use Rattle.world_model.specs.Links.{heard_by, IsHanded, IsHandedAt, IsHeard, Told, sent_on};
+ghost use Rattle.world_core.specs.Messages.{IsWritable};
 ghost use Rattle.world_core.specs.Runs.{IsNotThere, IsTooOld, StopsAt};
 ghost use Rattle.world_core.specs.States.{IsReached, world_of_both};
 ghost use Rattle.world_core.specs.Telling.{IsGot, IsReceived, KeepsBut, Telling};
 
+use crate::air::LIFETIME;
+use crate::link::MAX_DATAGRAM;
 use reliable_engine::laws::a_give_up_ends_all_waiting;
 use world_model::laws::history::each_body_is_executed_once;
 use world_model::laws::lanes::waiting_sends_change_no_run;
@@ -28,6 +35,17 @@ use world_model::laws::links::{
     a_greeting_joins, each_event_keeps_them_joined, joined_ones_tell_the_truth,
 };
 use world_model::laws::sends::sends_go_one_by_one;
+
+/// The lifetime of a datagram and the longest datagram.
+pub fn the_numbers_of_a_link()
+    ensures lifetime { LIFETIME ≡ most_further_sends }
+    ensures datagram { MAX_DATAGRAM ≡ greatest_mtu }
+{}
+
+/// What a hub wants to send can be written, where the bodies that it sent are words and not too long.
+pub fn what_is_wanted_can_be_written()
+    ensures { (hub : Hub) (send : Sending) → IsSendOf hub send → AreSendable hub.sent → IsWritable hub send }
+{}
 
 /// A run stops exactly at the first move that is not allowed: where no datagram for that side is at the place that the
 /// move names, or nobody notices that a receive is quiet; or where the datagram was sent too many first sends ago.

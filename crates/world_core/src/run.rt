@@ -11,7 +11,8 @@ ghost use Rattle.world_model.specs.Facts.{IsSendable};
 ghost use Rattle.world_model.specs.History.{IsMove};
 ghost use Rattle.world_model.specs.World.{flush, go_on, handed_out, step, taken};
 ghost use Rattle.world_core.specs.Runs.{IsShortMove};
-ghost use Rattle.world_core.specs.Steps.{board_told, end_of, HasSpellings, hub_told, IsWritable, put_into, world_of};
+ghost use Rattle.world_core.specs.Messages.{IsWritable};
+ghost use Rattle.world_core.specs.Steps.{board_told, end_of, HasSpellings, hub_told, put_into, world_of};
 
 use crate::air::{goes_to, hear_at, is_alive};
 use crate::message::{Message, read_for_hub};

@@ -2,7 +2,7 @@
 
 ghost use Rattle.std.specs.Prelude.{◌≡◌, IfOk};
 ghost use Rattle.world_model.specs.Sends.{bytes_to_send};
-ghost use Rattle.world_core.specs.Steps.{IsWritable};
+ghost use Rattle.world_core.specs.Messages.{IsWritable};
 
 use ipb_base::{NoMemory, Words};
 use packet_codec::{Order, Packet, PacketKind, write_packet};

@@ -7,9 +7,10 @@ use Rattle.world_core.proofs.Sends.{all_flushed, put_flushed, put_smaller, sent_
 use Rattle.world_core.proofs.run.Run.flush.Goals as goal
 
 pub put-requires : goal.put-requires
-put-requires c = writable c.next_send.new.self c.in-Some.send c.in-Some.ensures.open_place
-    (sent_spelled c.only_an_offer_makes_more_bodies.ensures.sent c.loop-send.self.hub c.next_send.new.self
-    c.next_send.ensures.hub c.loop-send.invariant.spellings)
+put-requires c =
+    let spelled = sent_spelled c.only_an_offer_makes_more_bodies.ensures.sent c.loop-send.self.hub c.next_send.new.self
+    c.next_send.ensures.hub c.loop-send.invariant.spellings in
+    writable c.next_send.new.self c.in-Some.send c.in-Some.ensures.open_place spelled.sent
 
 pub loop-send-smaller : goal.loop-send-smaller
 loop-send-smaller c =
