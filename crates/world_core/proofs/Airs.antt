@@ -12,7 +12,8 @@ use Rattle.packet_codec.specs.Reading.{packet_of}
 use Rattle.world_model.specs.declared.datagram.Datagram.{Datagram}
 use Rattle.world_model.specs.declared.datagram.Direction.{Direction}
 use Rattle.world_model.specs.declared.datagram.Direction.TheVariants.{ToBoard, ToHub}
-use Rattle.world_model.specs.Messages.{ToBoard as MessageToBoard, StatusRequest, ResendRequest, packet_to_board, said_to_board}
+use Rattle.world_model.specs.Messages.{ToBoard as MessageToBoard, StatusRequest, ResendRequest, packet_to_board}
+use Rattle.world_model.specs.Messages.{said_to_board}
 use Rattle.world_model.specs.Messages.{to_board}
 use Rattle.world_model.specs.Air.{goes_to, is_alive}
 use Rattle.world_model.specs.Links.{IsHandedAt, Told, first_sends, first_sends_from, heard_by, heard_on}

@@ -14,7 +14,8 @@ use Rattle.world_model.specs.declared.datagram.Direction.TheVariants.{ToBoard}
 use Rattle.world_model.specs.Board.{hear}
 use Rattle.world_model.specs.Air.{goes_to, is_alive}
 use Rattle.world_model.specs.World.{answered}
-use Rattle.world_model.specs.Links.{IsHandedAt, IsHeard, Told, first_sends, heard_by, heard_on, hears_all, then_told, sent_on}
+use Rattle.world_model.specs.Links.{IsHandedAt, IsHeard, Told, first_sends, heard_by, heard_on, hears_all}
+use Rattle.world_model.specs.Links.{then_told, sent_on}
 use Rattle.world_core.specs.Telling.{IsSent, IsGot, IsReceived, IsSettled, KeepsBut, Telling}
 
 -- ---- lists of places
@@ -203,7 +204,8 @@ still_there front back more other is = elim (Contains-append_cases front back ot
 
 pub sent_in_memory : (bytes : List ℕ) (held : ℕ) (told new : Told) (to_board to_hub longer handed : List ℕ)
     → new ≡ sent_on told bytes → longer ≡ to_board ++ length told.air ∷ []
-    → IsSent bytes held held (telling_with told (to_board ++ to_hub) handed) (telling_with new (longer ++ to_hub) handed)
+    → IsSent bytes held held (telling_with told (to_board ++ to_hub) handed)
+    (telling_with new (longer ++ to_hub) handed)
 sent_in_memory bytes held told new to_board to_hub longer handed sent due = record {
   told = sent;
   joins = inl (Contains-append_left longer to_hub (length told.air)

@@ -33,7 +33,13 @@ stop_now : (n : ℕ) (begin : World) (move : WorldMove) (moves : List WorldMove)
     → step n begin move ≡ Err end → Stop n begin (move ∷ moves) end
 stop_now n begin move moves end refused = record {
   at = 0;
-  is = record { before = begin; led = refl; move = move; there = refl; refused = subst (λ (m : ℕ). step m begin move ≡ Err end) (omega arith) refused };
+  is = record {
+    before = begin;
+    led = refl;
+    move = move;
+    there = refl;
+    refused = subst (λ (m : ℕ). step m begin move ≡ Err end) (omega arith) refused;
+  };
 }
 
 stop_later : (n : ℕ) (begin after : World) (move : WorldMove) (moves : List WorldMove) (end : WorldEnd)
@@ -84,7 +90,8 @@ stops n begin (move ∷ moves) zero end is =
     ap (λ (r : Result World WorldEnd). moves_on r (λ after. run_moves (n + 1) after moves))
     (ap (λ (w : World). step n w move) same ∙ (ap (step n is.before) first
     ∙ subst (λ (m : ℕ). step m is.before is.move ≡ Err end) (omega arith) is.refused))
-stops n begin (move ∷ moves) (suc k) end is = stops_by n begin move moves k is.before end (step n begin move) refl is.led
+stops n begin (move ∷ moves) (suc k) end is =
+    stops_by n begin move moves k is.before end (step n begin move) refl is.led
     (λ after later. stops (n + 1) after moves k end (record {
       before = is.before;
       led = later;
@@ -235,7 +242,8 @@ stops_at begin moves at end reason why ran =
 
 pub stops_not_there : (begin : World) (moves : List WorldMove) (at : ℕ) → run_moves 0 begin moves ≡ Err (NotThere at)
     → StopsAt begin moves at IsNotThere
-stops_not_there begin moves at = stops_at begin moves at (NotThere at) IsNotThere (λ m w move. why_not_there m at w move)
+stops_not_there begin moves at =
+    stops_at begin moves at (NotThere at) IsNotThere (λ m w move. why_not_there m at w move)
 
 pub stops_too_old : (begin : World) (moves : List WorldMove) (at : ℕ) → run_moves 0 begin moves ≡ Err (TooOld at)
     → StopsAt begin moves at IsTooOld

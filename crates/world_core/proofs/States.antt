@@ -49,7 +49,8 @@ rest_pending hub is =
 
 -- ---- at rest a message keeps the rest
 
-quiet_without : (place : ℕ) (os : List OpenPlace) → AllByRecursion IsQuiet os → AllByRecursion IsQuiet (without place os)
+quiet_without : (place : ℕ) (os : List OpenPlace) → AllByRecursion IsQuiet os
+    → AllByRecursion IsQuiet (without place os)
 quiet_without place [] quiet = tt
 quiet_without place (o ∷ os) quiet = either (AllByRecursion IsQuiet) (o.place == place) os (o ∷ without place os)
     (λ _. quiet.1) (λ _. (quiet.0, quiet_without place os quiet.1))
@@ -225,7 +226,8 @@ sent_reached law begin hub told next is send joined state =
       joined = joined;
       rest = no_send_at_rest law hub next send is.rest;
       fates = is.fates;
-      state = subst (IsLaneState begin) (ap (air_with (world_of_both hub told is.fates) next.hub bytes) (sym birth)) state;
+      state = subst (IsLaneState begin)
+          (ap (air_with (world_of_both hub told is.fates) next.hub bytes) (sym birth)) state;
     }
 
 -- ---- what is heard
@@ -287,7 +289,8 @@ one_heard move join begin hub told new place is none out heard = record {
 }
 
 then_heard : (begin : World) (hub : Hub) (new : Told) (r : Option Told) (later : Told → Option Told)
-    → then_told r later ≡ Some new → ((after : Told) → r ≡ Some after → later after ≡ Some new → IsReached begin hub new)
+    → then_told r later ≡ Some new
+    → ((after : Told) → r ≡ Some after → later after ≡ Some new → IsReached begin hub new)
     → IsReached begin hub new
 then_heard begin hub new None later heard go = absurd cc
 then_heard begin hub new (Some after) later heard go = go after refl heard

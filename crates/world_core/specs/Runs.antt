@@ -43,7 +43,8 @@ IsTooOld w (HubHears place) = IsTooOldThere ToHub w place
 IsTooOld w (BoardHears place) = IsTooOldThere ToBoard w place
 
 -- the moves before this one are allowed and lead to a world where this one is not, for this reason
-pub record StopsAt (begin : World) (moves : List WorldMove) (at : ℕ) (reason : World → WorldMove → Type 0) : Type 0 where
+pub record StopsAt (begin : World) (moves : List WorldMove) (at : ℕ) (reason : World → WorldMove → Type 0)
+    : Type 0 where
   pub before : World
   pub led : run_moves 0 begin (take at moves) ≡ Ok before
   pub move : WorldMove

@@ -1,5 +1,5 @@
--- States of runs, as a hub and a link that tells reach them: a hub that sends what it wants before it next receives, and
--- a board that may hear several datagrams in one receive. Profile.
+-- States of runs, as a hub and a link that tells reach them: the hub sends what it wants before it next receives, and
+-- the board may hear several datagrams in one receive. Profile.
 use Rattle.std.specs.Prelude.{◌≡◌, ℕ, true, List}
 use Rattle.reliable_engine.specs.Events.{IsAtRest}
 use Rattle.world_model.specs.declared.offered.Fate.{Fate}

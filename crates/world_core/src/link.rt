@@ -41,12 +41,13 @@ pub enum Received {
 /// A link to one board (profile). It may lose datagrams, repeat them, delay them and change their order.
 ///
 /// Contracts see four counts, none of which falls: its faults, the receives that were quiet and those that got a
-/// datagram, and the datagrams that it lost, delayed or dropped for age. A link may tell what it carries, as a simulated
-/// one does: then contracts see its board and all datagrams ever sent too. Whether it tells never changes.
+/// datagram, and the datagrams that it lost, delayed or dropped for age. A count stands still at 2^64 - 1. A link may
+/// tell what it carries, as a simulated one does: then contracts see its board and all datagrams ever sent too. Whether
+/// it tells never changes.
 pub trait Link {
-    /// What it tells, where it tells: its board and its air, what is still to be heard, and what was handed out. A first
-    /// send is a control packet with the identifier of the place after the last first send, and places are counted from
-    /// the board's first identifier.
+    /// What it tells, where it tells: its board and its air, what is still to be heard, and what was handed out. A
+    /// first send is a control packet with the identifier of the place after the last first send, and places are
+    /// counted from the board's first identifier.
     ghost telling: { Self → Option Telling };
 
     /// How often the network failed.

@@ -9,8 +9,8 @@ returns-clause-history c = IfOk-weaker c.run.result _ _
 
 pub returns-clause-replied : goal.returns-clause-replied
 returns-clause-replied c = IfOk-weaker c.run.result _ _
-    (λ w ran tag place words. c.a_fate_is_that_of_its_place.ensures.replied c.args.settings.window c.args.settings.rounds
-    c.args.board [] c.args.moves.now w tag place words ran) c.run.ensures.ran
+    (λ w ran tag place words. c.a_fate_is_that_of_its_place.ensures.replied c.args.settings.window
+    c.args.settings.rounds c.args.board [] c.args.moves.now w tag place words ran) c.run.ensures.ran
 
 pub returns-clause-timed_out : goal.returns-clause-timed_out
 returns-clause-timed_out c = IfOk-weaker c.run.result _ _

@@ -15,7 +15,8 @@ unreachable-requires c =
 
 pub returns-clause-board : goal.returns-clause-board
 returns-clause-board c = c.in_ok-hear.ensures.board
-    ∙ ap (λ (h : Hearing). h.board) (status_told c.args.board.now c.write_status_request.result c.write_status_request.ensures)
+    ∙ ap (λ (h : Hearing). h.board)
+    (status_told c.args.board.now c.write_status_request.result c.write_status_request.ensures)
 
 pub returns-clause-buffers : goal.returns-clause-buffers
 returns-clause-buffers c =
