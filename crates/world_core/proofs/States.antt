@@ -105,24 +105,28 @@ message_gave_up hub (Some (StatusReply mtu buffers next)) = either (λ (h : Hub)
     (λ _. recovered_gave_up hub (told_place hub next)) (λ _. refl)
 message_gave_up hub (Some (Reply id words)) = settle_gave_up hub words (open_with hub.first id hub.open_places)
 
--- ---- nor does a send
+-- ---- a send leaves that as it was, and the fates
 
-abbrev pub KeepsGivingUp : Hub → Option Next → Type 0
-KeepsGivingUp hub None = Unit {0}
-KeepsGivingUp hub (Some next) = next.hub.gave_up ≡ hub.gave_up
+abbrev pub Leaves : Hub → Option Next → Type 0
+Leaves hub None = Unit {0}
+Leaves hub (Some next) = (next.hub.gave_up ≡ hub.gave_up) × (next.hub.fates ≡ hub.fates)
 
-first_gave_up : (hub : Hub) (queue : List Offered) → KeepsGivingUp hub (first_send hub queue)
-first_gave_up hub [] = tt
-first_gave_up hub (o ∷ later) = either (KeepsGivingUp hub)
-    (nat_le (length hub.sent + 1 + 1) (hub.window + low hub)) _ _ (λ _. refl) (λ _. tt)
+first_leaves : (hub : Hub) (queue : List Offered) → Leaves hub (first_send hub queue)
+first_leaves hub [] = tt
+first_leaves hub (o ∷ later) = either (Leaves hub)
+    (nat_le (length hub.sent + 1 + 1) (hub.window + low hub)) _ _ (λ _. (refl, refl)) (λ _. tt)
 
-wanted_gave_up : (hub : Hub) (r : Option Wanted) → KeepsGivingUp hub (wanted_or_first hub r)
-wanted_gave_up hub None = first_gave_up hub hub.queue
-wanted_gave_up hub (Some w) = refl
+wanted_leaves : (hub : Hub) (r : Option Wanted) → Leaves hub (wanted_or_first hub r)
+wanted_leaves hub None = first_leaves hub hub.queue
+wanted_leaves hub (Some w) = (refl, refl)
 
-send_gave_up : (hub : Hub) → KeepsGivingUp hub (next_send hub)
-send_gave_up hub = either (KeepsGivingUp hub) hub.status_wanted _ _ (λ _. refl)
-    (λ _. wanted_gave_up hub (wanted hub.first hub.open_places))
+send_leaves : (hub : Hub) → Leaves hub (next_send hub)
+send_leaves hub = either (Leaves hub) hub.status_wanted _ _ (λ _. (refl, refl))
+    (λ _. wanted_leaves hub (wanted hub.first hub.open_places))
+
+pub one_leaves : (hub : Hub) (next : Next) → next_send hub ≡ Some next
+    → (next.hub.gave_up ≡ hub.gave_up) × (next.hub.fates ≡ hub.fates)
+one_leaves hub next is = subst (Leaves hub) is (send_leaves hub)
 
 -- ---- moves
 
@@ -210,7 +214,7 @@ NothingToSend = (hub : Hub) → IsAtRest hub → next_send hub ≡ None
 no_send_at_rest : NothingToSend → (hub : Hub) (next : Next) → next_send hub ≡ Some next
     → (hub.gave_up ≡ true → IsAtRest hub) → next.hub.gave_up ≡ true → IsAtRest next.hub
 no_send_at_rest law hub next is rest gave_up =
-    let kept : next.hub.gave_up ≡ hub.gave_up = subst (KeepsGivingUp hub) is (send_gave_up hub) in
+    let kept : next.hub.gave_up ≡ hub.gave_up = (one_leaves hub next is).0 in
     let none = law hub (rest (sym kept ∙ gave_up)) in
     absurd cc
 

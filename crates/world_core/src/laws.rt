@@ -47,6 +47,12 @@ pub fn what_is_wanted_can_be_written()
     ensures { (hub : Hub) (send : Sending) → IsSendOf hub send → AreSendable hub.sent → IsWritable hub send }
 {}
 
+/// A send leaves the fates as they were, and whether the hub gave up.
+pub fn a_send_leaves_the_fates()
+    ensures fates { (hub : Hub) (next : Next) → next_send hub ≡ Some next → next.hub.fates ≡ hub.fates }
+    ensures gave_up { (hub : Hub) (next : Next) → next_send hub ≡ Some next → next.hub.gave_up ≡ hub.gave_up }
+{}
+
 /// A run stops exactly at the first move that is not allowed: where no datagram for that side is at the place that the
 /// move names, or nobody notices that a receive is quiet; or where the datagram was sent too many first sends ago.
 pub fn a_run_stops_at_the_first_move_that_is_not_allowed()

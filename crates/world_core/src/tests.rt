@@ -213,3 +213,29 @@ fn a_link_carries_a_packet_and_its_reply(rt: HostRuntime) -> Result<(), Fail> {
     assert_eq!(rt; link.board().executed_len(), 1);
     Ok(())
 }
+
+#[test]
+fn an_air_keeps_what_was_sent_and_answered(rt: HostRuntime) -> Result<(), Fail> {
+    let alloc = rt.alloc();
+    let board = board(alloc, 1)?;
+    if board.executed_len() != 0 {
+        return Err("a board that executed something".into());
+    }
+    let mut air = Air::new(alloc, board);
+    let request: [u8; 12] = [0x20, 0, 1, 0xf0, 0x20, 0, 1, 0x0f, 0, 0, 0, 4];
+    let reply: [u8; 12] = [0x20, 0, 1, 0xf0, 0x20, 0, 1, 0, 0, 0, 0xab, 0xcd];
+    air.send(&request)?;
+    assert_eq!(rt; air.sent(), 1);
+    assert!(rt; air.for_hub(0).is_none());
+    assert!(rt; air.hear(0)?);
+    assert_eq!(rt; air.len(), 2);
+    assert!(rt; !air.hear(1)?);
+    assert!(rt;
+        air.for_hub(1)
+            .is_some_and(|bytes| bytes == reply.as_slice())
+    );
+    air.send(&request)?;
+    assert_eq!(rt; air.sent(), 1);
+    assert_eq!(rt; air.into_board().executed_len(), 1);
+    Ok(())
+}
