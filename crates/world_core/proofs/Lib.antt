@@ -5,3 +5,4 @@ mod Moves
 mod Refusals
 mod States
 mod Receives
+mod Calls

@@ -1,6 +1,12 @@
 -- Sends one by one, and the bodies that a hub can write.
 use Rattle.std.proofs.Common.{◌≡◌, ℕ, zero, suc, ◌<◌, ◌≤◌, List, [], ◌∷◌, length, Option, Some, None}
 use Rattle.std.proofs.Common.{refl, sym, ap, ◌∙◌, subst, arith}
+use Rattle.std.proofs.Common.{◌*◌, length-append}
+use Rattle.packet_codec.specs.declared.packet.Order.{Order}
+use Rattle.packet_codec.specs.declared.packet.Order.TheVariants.{Big, Little}
+use Rattle.packet_codec.specs.Packet.{in_order, packet_bytes, packet_words, word_in_order}
+use Rattle.packet_codec.specs.declared.packet.Packet.{Packet}
+use Rattle.world_core.specs.declared.link.TheConstants.{MAX_DATAGRAM}
 use Rattle.std.specs.List.{slice_get}
 use Rattle.packet_codec.specs.declared.packet.TheConstants.{MAX_BODY_WORDS}
 use Rattle.reliable_engine.specs.Answers.{IsSendOf, body_count, hub_next, sent_next}
@@ -37,6 +43,10 @@ taken_by old new (Some next) send told after = record {
   is = ap (λ (h : Hub). Some (record { send = next.send; hub = h })) (sym after)
       ∙ ap (λ (s : Sending). Some (record { send = s; hub = new })) cc;
 }
+
+pub next_is : (old new : Hub) (send : Sending) → Some send ≡ sent_next (next_send old)
+    → new ≡ hub_next old (next_send old) → next_send old ≡ Some (record { send = send; hub = new })
+next_is old new send told after = (taken_by old new (next_send old) send told after).is
 
 none_by : (r : Option Next) → None ≡ sent_next r → r ≡ None
 none_by None told = refl
@@ -98,3 +108,19 @@ pub writable : (hub : Hub) (send : Sending) → IsSendOf hub send → AreSendabl
 writable hub sends.Status is spelled = tt
 writable hub (sends.Resend id) is spelled = tt
 writable hub (sends.Control place id) is spelled = (is, short_there hub.sent place spelled)
+
+-- ---- how long a send is
+
+four_bytes : (order : Order) (word : ℕ) → length (word_in_order order word) ≡ 4
+four_bytes Big word = refl
+four_bytes Little word = refl
+
+bytes_of_words : (order : Order) (words : List ℕ) → length (in_order order words) ≡ 4 * length words
+bytes_of_words order [] = refl
+bytes_of_words order (word ∷ words) =
+    let total = length-append (word_in_order order word) (in_order order words) in
+    omega (arith, total, four_bytes order word, bytes_of_words order words)
+
+pub short_packet : (packet : Packet) → length packet.body ≤ MAX_BODY_WORDS
+    → length (packet_bytes packet) ≤ MAX_DATAGRAM
+short_packet packet few = omega (arith, few, bytes_of_words packet.order (packet_words packet))

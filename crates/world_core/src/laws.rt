@@ -1,6 +1,7 @@
 //! Laws of a hub over a link that tells. These functions do nothing when they run: their clauses are what is proved.
 
-ghost use Rattle.std.specs.Prelude.{◌≡◌, ◌↔◌, ◌≤◌, ◌<◌, ℕ, List, [], ◌∷◌, ◌++◌, length, min, true, Some, None, Err};
+ghost use Rattle.std.specs.Prelude.{◌≡◌, ◌↔◌, ◌≤◌, ◌<◌, ℕ, List, [], ◌∷◌, ◌++◌, length, min, true};
+ghost use Rattle.std.specs.Prelude.{Option, Some, None, Err, IfSome};
 ghost use Rattle.std.specs.List.{Contains, slice_get};
 ghost use Rattle.ipb_base.specs.Faults.{Rose};
 ghost use Rattle.ipb_base.specs.Lists.{IsPrefix};
@@ -24,7 +25,7 @@ ghost use Rattle.world_model.specs.Links.{heard_by, IsHanded, IsHandedAt, IsHear
 ghost use Rattle.world_core.specs.Messages.{IsWritable};
 ghost use Rattle.world_core.specs.Runs.{IsNotThere, IsTooOld, StopsAt};
 ghost use Rattle.world_core.specs.States.{IsReached, world_of_both};
-ghost use Rattle.world_core.specs.Telling.{IsGot, IsReceived, KeepsBut, Telling};
+ghost use Rattle.world_core.specs.Telling.{IfTelling, IsGot, IsQuiet, IsReceived, IsSent, KeepsBut, Telling};
 
 use crate::air::LIFETIME;
 use crate::link::MAX_DATAGRAM;
@@ -89,6 +90,29 @@ pub fn each_event_leads_to_a_state_of_a_run()
     each_event_keeps_them_joined();
     waiting_sends_change_no_run();
     sends_go_one_by_one();
+}
+
+/// The same of the calls of a link that may tell: an accepted send, a receive that got a datagram, one that was quiet
+/// while somebody waited, and any other one.
+pub fn each_call_leads_to_a_state_of_a_run()
+    ensures sent { (begin : World) (hub : Hub) (next : Next) (before now : ℕ) (old new : Option Telling)
+        → IfSome old (λ t. IsReached begin hub t.told) → next_send hub ≡ Some next
+        → IfTelling old new (IsSent (bytes_to_send next.hub next.send) before now)
+        → IfSome new (λ t. IsReached begin next.hub t.told) }
+    ensures got { (begin : World) (hub : Hub) (bytes : List ℕ) (before now : ℕ) (old new : Option Telling)
+        → IfSome old (λ t. IsReached begin hub t.told) → next_send hub ≡ None → hub.fates ≡ []
+        → IfTelling old new (IsGot bytes before now)
+        → IfSome new (λ t. IsReached begin (take_message hub (to_hub bytes)) t.told) }
+    ensures quiet { (begin : World) (hub : Hub) (before now : ℕ) (old new : Option Telling)
+        → IfSome old (λ t. IsReached begin hub t.told) → next_send hub ≡ None → hub.fates ≡ []
+        → is_waiting hub ≡ true → IfTelling old new (IsQuiet before now)
+        → IfSome new (λ t. IsReached begin (hear_quiet hub) t.told) }
+    ensures other { (begin : World) (hub : Hub) (by_hub : List ℕ) (before now : ℕ) (old new : Option Telling)
+        → IfSome old (λ t. IsReached begin hub t.told) → next_send hub ≡ None → hub.fates ≡ []
+        → IfTelling old new (IsReceived by_hub before now)
+        → IfSome new (λ t. IsReached begin hub t.told) }
+{
+    each_event_leads_to_a_state_of_a_run();
 }
 
 /// What such a state tells. The executed bodies are the front of those that were sent first, in order; each fate that

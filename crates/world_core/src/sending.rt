@@ -1,6 +1,7 @@
 //! The datagram of a send.
 
-ghost use Rattle.std.specs.Prelude.{◌≡◌, IfOk};
+ghost use Rattle.std.specs.Prelude.{◌≡◌, ◌≤◌, length, IfOk};
+ghost use Rattle.world_core.specs.declared.link.TheConstants.{MAX_DATAGRAM};
 ghost use Rattle.world_model.specs.Sends.{bytes_to_send};
 ghost use Rattle.world_core.specs.Messages.{IsWritable};
 
@@ -13,7 +14,9 @@ use std::alloc::Global;
 /// The bytes of a send that the hub wants, big-endian (profile). `NoMemory` where memory for them ran out.
 pub fn write_sending(alloc: Global, hub: &Engine, send: Sending) -> Result<Vec<u8>, NoMemory>
     requires { IsWritable hub.now send }
-    ensures { IfOk result (λ bytes. bytes.items ≡ bytes_to_send hub.now send) }
+    ensures bytes { IfOk result (λ bytes. bytes.items ≡ bytes_to_send hub.now send) }
+    // So a link takes it.
+    ensures short { IfOk result (λ bytes. length bytes.items ≤ MAX_DATAGRAM) }
 {
     match send {
         Sending::Status => Ok(Vec::from_slice(alloc, &write_status_request())?),

@@ -1,11 +1,13 @@
 ghost use Rattle.std.specs.Prelude.{◌≤◌};
 
 mod mem_link;
+mod pumping;
 
 use super::*;
 use board_node::{Bus, Range, RangeKind};
 use mem_link::MemLink;
 use packet_ids::Id;
+use pumping::send_all;
 use std::alloc::Global;
 use std::process::Abort;
 use std::test::*;
