@@ -7,7 +7,7 @@ use super::*;
 use board_node::{Bus, Range, RangeKind};
 use mem_link::MemLink;
 use packet_ids::Id;
-use pumping::send_all;
+use pumping::{hub_with, send_all};
 use std::alloc::Global;
 use std::process::Abort;
 use std::test::*;
@@ -199,11 +199,7 @@ fn a_packet_that_old_is_dropped(rt: HostRuntime) -> Result<(), Fail> {
 #[test]
 fn a_link_carries_a_packet_and_its_reply(rt: HostRuntime) -> Result<(), Fail> {
     let alloc = rt.alloc();
-    let board = board(alloc, 1)?;
-    if board.executed_len() != 0 {
-        return Err("a board that executed something".into());
-    }
-    let mut link = MemLink::new(alloc, board);
+    let mut link = link(alloc)?;
     let request: [u8; 12] = [0x20, 0, 1, 0xf0, 0x20, 0, 1, 0x0f, 0, 0, 0, 4];
     let reply: [u8; 12] = [0x20, 0, 1, 0xf0, 0x20, 0, 1, 0, 0, 0, 0xab, 0xcd];
     let mut into = Vec::new(alloc);
@@ -239,5 +235,34 @@ fn an_air_keeps_what_was_sent_and_answered(rt: HostRuntime) -> Result<(), Fail> 
     air.send(&request)?;
     assert_eq!(rt; air.sent(), 1);
     assert_eq!(rt; air.into_board().executed_len(), 1);
+    Ok(())
+}
+
+/// A link to a fresh board.
+fn link(alloc: Global) -> Result<MemLink, Fail> {
+    let board = board(alloc, 1)?;
+    if board.executed_len() != 0 {
+        return Err("a board that executed something".into());
+    }
+    Ok(MemLink::new(alloc, board))
+}
+
+#[test]
+fn a_hub_sends_over_a_link_and_hears_the_reply(rt: HostRuntime) -> Result<(), Fail> {
+    let alloc = rt.alloc();
+    let mut link = link(alloc)?;
+    let mut hub = hub_with(alloc, &READ_FOUR)?;
+    let mut into = Vec::new(alloc);
+    assert!(rt; send_all(alloc, &mut hub, &mut link) == Ok(()));
+    assert!(rt; link.receive(&mut into) == Ok(Received::Got));
+    match read_for_hub(alloc, &into)? {
+        Message::Reply { id, words } => {
+            assert_eq!(rt; id.get(), 1);
+            assert_eq!(rt; words.as_slice(), FOUR_READ.as_slice());
+            assert!(rt; hub.on_reply(id, words));
+        }
+        _ => assert!(rt; false, "no reply"),
+    }
+    assert!(rt; !hub.waiting());
     Ok(())
 }
