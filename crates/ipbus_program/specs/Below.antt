@@ -1,16 +1,14 @@
 -- What laws of the crates below say of documents and of boards: no public clause speaks of it.
 use Rattle.std.specs.Prelude.{◌≡◌, ℕ, List}
-use Rattle.board_bus.specs.Cells.{CellMap}
-use Rattle.board_history.specs.History.{IsHistory}
-use Rattle.board_history.specs.InTurn.{AreInTurn, in_turn}
-use Rattle.board_history.specs.Parts.{AllReplied}
+use Rattle.board_node.specs.declared.spec.BoardSpec.{BoardSpec}
+use Rattle.direct_run.specs.Runs.{AreRuns, runs_from}
 use Rattle.node_tree.specs.Maps.{RegisterMap}
 use Rattle.script_lang.specs.declared.operation.Step.{Step}
 use Rattle.script_lang.specs.declared.session.Session.{Session}
 use Rattle.script_lang.specs.Document.{SameSession}
 use Rattle.session_input.specs.declared.refusal.Refusal.{Refusal}
+use Rattle.transcript.specs.declared.board_run.BoardRun.{BoardRun}
 use Rattle.session_input.specs.Deserved.{BreaksInRun, BreaksInCheck, Deserves, IsRunnable, IsListed}
-use Rattle.transcript.specs.declared.outcome.Outcome.{Outcome}
 
 -- bytes have one answer to a command
 pub record InputLaws : Type 0 where
@@ -27,11 +25,8 @@ pub record InputLaws : Type 0 where
   pub list_apart : (bytes root : List ℕ) (index : RegisterMap) (refusal : Refusal)
       → IsListed bytes root index → ¬ Deserves (BreaksInCheck root) bytes refusal
 
--- clients that run one after another make one history, and no other
+-- clients that run one after another make one run
 pub record TurnLaws : Type 0 where
-  pub history : (opening : CellMap) (bodies : List (List (List ℕ))) → IsHistory opening bodies (in_turn 1 opening bodies)
-  pub replied : (opening : CellMap) (bodies : List (List (List ℕ))) → AllReplied (in_turn 1 opening bodies)
-  pub turns : (opening : CellMap) (bodies : List (List (List ℕ))) → AreInTurn bodies (in_turn 1 opening bodies)
-  pub only : (opening : CellMap) (bodies : List (List (List ℕ))) (outcomes : List (List Outcome))
-      → IsHistory opening bodies outcomes → AllReplied outcomes → AreInTurn bodies outcomes
-      → outcomes ≡ in_turn 1 opening bodies
+  pub there : (specs : List BoardSpec) (scripts : List (List Step)) → AreRuns 0 specs scripts (runs_from 0 specs scripts)
+  pub only : (specs : List BoardSpec) (scripts : List (List Step)) (runs : List BoardRun)
+      → AreRuns 0 specs scripts runs → runs ≡ runs_from 0 specs scripts

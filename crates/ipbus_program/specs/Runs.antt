@@ -1,60 +1,23 @@
 -- What a command owes to the bytes of a document: a status and a text. Profile.
-use Rattle.std.specs.Prelude.{◌≡◌, ◌⊎◌, ℕ, ◌+◌, ◌==◌, if◌then◌else◌, List, [], ◌∷◌, length, map}
+use Rattle.std.specs.Prelude.{◌≡◌, ◌⊎◌, ℕ, ◌==◌, if◌then◌else◌, List, [], length}
 use Rattle.std.specs.FinMap.{entries}
-use Rattle.ipb_base.specs.Numbers.{payload_of}
-use Rattle.board_bus.specs.Ranges.{opening_bus}
-use Rattle.board_history.specs.History.{ShowsHistory, bodies_by_client, outcomes_by_client}
-use Rattle.board_history.specs.InTurn.{AreInTurn}
-use Rattle.board_history.specs.Parts.{AllReplied}
-use Rattle.board_node.specs.declared.spec.BoardSpec.{BoardSpec}
-use Rattle.board_node.specs.declared.spec.LinkSpec.{LinkSpec}
-use Rattle.board_node.specs.declared.spec.LinkSpec.TheVariants.{Sim, Udp}
+use Rattle.direct_run.specs.Runs.{AreRuns}
 use Rattle.node_tree.specs.Maps.{RegisterMap}
 use Rattle.node_tree.specs.Overlaps.{overlapping}
 use Rattle.script_lang.specs.declared.operation.Step.{Step}
 use Rattle.script_lang.specs.declared.session.Session.{Session}
 use Rattle.session_input.specs.declared.refusal.Refusal.{Refusal}
-use Rattle.session_input.specs.Deserved.{BreaksInRun, BreaksInCheck, Deserves, IsRunnable, IsListed, ranges_of}
+use Rattle.session_input.specs.Deserved.{BreaksInRun, BreaksInCheck, Deserves, IsRunnable, IsListed}
 use Rattle.session_input.specs.Lines.{refusal_line}
 use Rattle.transcript.specs.declared.board_run.BoardRun.{BoardRun}
-use Rattle.transcript.specs.declared.board_run.ClientPart.{ClientPart}
-use Rattle.transcript.specs.declared.outcome.Greeting.{Greeting}
-use Rattle.transcript.specs.declared.outcome.Greeting.TheVariants.{Live, Down}
 use Rattle.transcript.specs.Lines.{transcript_of, run_status}
 use Rattle.transcript.specs.Listing.{listing_text}
-use Rattle.transcript.specs.Plan.{planned_on}
 use Rattle.transcript.specs.Text.{transcript_text}
 use Rattle.ipbus_program.specs.declared.command.Command.{Command}
 use Rattle.ipbus_program.specs.declared.command.Command.TheVariants.{Run, Check}
 use Rattle.ipbus_program.specs.Numbers.{done_status, not_all_done_status, refused_status}
 
 -- ---- run
-
--- what greeting a simulated board tells: the words of its longest packet
-abbrev pub greeting_of : LinkSpec → Greeting
-greeting_of (Sim mtu buffers first ranges fates) = Live (payload_of mtu)
-greeting_of (Udp address port wait) = Down
-
--- What became of the board at a position, from 0, of a session.
-pub record IsBoardRun (position : ℕ) (scripts : List (List Step)) (spec : BoardSpec) (run : BoardRun) : Type 0 where
-  pub name : run.name ≡ spec.name
-  pub greeting : run.greeting ≡ greeting_of spec.link
-  -- each client asked what its script asks of this board
-  pub plan : map (λ (part : ClientPart). part.planned) run.parts ≡ map (planned_on position run.greeting) scripts
-  -- one order of all bodies, each client's in the order of its script, each reply that of one bus with a single thread
-  pub history : ShowsHistory (opening_bus (ranges_of spec.link)) run
-  -- the board replied to every body
-  pub replied : AllReplied (outcomes_by_client run)
-  -- the clients ran one after another
-  pub in_turn : AreInTurn (bodies_by_client run) (outcomes_by_client run)
-
--- each board, the first of which has this position
-abbrev pub AreBoardRuns : ℕ → List (List Step) → List BoardSpec → List BoardRun → Type 0
-AreBoardRuns position scripts [] [] = Unit {0}
-AreBoardRuns position scripts [] (run ∷ runs) = ⊥
-AreBoardRuns position scripts (spec ∷ specs) [] = ⊥
-AreBoardRuns position scripts (spec ∷ specs) (run ∷ runs) =
-    IsBoardRun position scripts spec run × AreBoardRuns (position + 1) scripts specs runs
 
 -- The text is the transcript of the session that the bytes stand for, for some outcomes that are one history on each
 -- board; the status tells whether every line of an operation is a value, done or was.
@@ -63,7 +26,8 @@ pub record IsTranscriptOf (bytes : List ℕ) (status : ℕ) (text : List ℕ) : 
   pub steps : List (List Step)
   pub runnable : IsRunnable bytes session steps
   pub runs : List BoardRun
-  pub boards : AreBoardRuns 0 steps session.boards runs
+  -- the bodies of each client's script, and outcomes that are one history on each board
+  pub boards : AreRuns 0 session.boards steps runs
   pub spelled : text ≡ transcript_text (transcript_of steps runs)
   pub told : status ≡ run_status (transcript_of steps runs).clients
 

@@ -2,9 +2,7 @@
 
 ghost use Rattle.ipbus_program.specs.Below.{InputLaws, TurnLaws};
 
-use board_history::laws::{
-    a_history_of_clients_in_turn_is_the_only_one, clients_in_turn_make_a_history,
-};
+use direct_run::laws::{a_session_has_one_run, clients_in_turn_are_a_run};
 use session_input::laws::{bytes_have_one_answer_to_check, bytes_have_one_answer_to_run};
 
 /// Bytes have one answer to a command.
@@ -15,10 +13,10 @@ pub(crate) fn input_laws()
     bytes_have_one_answer_to_check();
 }
 
-/// Clients that run one after another make one history, and no other.
+/// Clients that run one after another make one run.
 pub(crate) fn runs_in_turn()
     ensures { TurnLaws }
 {
-    clients_in_turn_make_a_history();
-    a_history_of_clients_in_turn_is_the_only_one();
+    clients_in_turn_are_a_run();
+    a_session_has_one_run();
 }

@@ -6,16 +6,20 @@ ghost use Rattle.transcript.specs.Lines as lines;
 ghost use Rattle.transcript.specs.Listing.{listing_text as listed};
 ghost use Rattle.ipbus_program.specs.declared.command.Command.TheVariants.{Run, Check};
 ghost use Rattle.ipbus_program.specs.Runs as spec;
+ghost use Rattle.ipbus_program.specs.Steps.{MayRun, Prints};
 ghost use Rattle.ipbus_program.specs.Numbers.{refused_status};
 
 use crate::answer::{DONE, NOT_ALL_DONE, REFUSED};
 use crate::command::Command;
+use crate::below::runs_in_turn;
+use direct_run::run_boards;
 use ipb_base::NoMemory;
 use node_tree::Index;
+use script_lang::{Session, Steps};
 use session_input::{Refusal, Unread, read_for_check, read_for_run};
 use std::alloc::Global;
 use transcript::{
-    OpLine, all_good, listing_text,
+    OpLine, all_good, board_lines, lines_of_clients, listing_text, transcript_text,
 };
 
 /// A status, and the text that goes with it.
@@ -89,10 +93,24 @@ fn run(alloc: Global, bytes: &[u8]) -> Result<Answer, NoMemory>
     ensures { IfOk result (λ answer. spec.Owes Run bytes.now answer.status answer.text.items) }
 {
     match read_for_run(alloc, bytes) {
-        Ok(_read) => Err(NoMemory),
+        Ok(read) => transcript(alloc, &read.session, &read.steps),
         Err(Unread::Refused(refusal)) => refused(alloc, &refusal),
         Err(Unread::NoMemory) => Err(NoMemory),
     }
+}
+
+/// The transcript of a session, and the status that goes with it.
+fn transcript(alloc: Global, session: &Session, steps: &[Steps]) -> Result<Answer, NoMemory>
+    requires { MayRun session.now steps.now }
+    ensures { IfOk result (λ answer. Prints session.now steps.now answer.status answer.text.items) }
+{
+    runs_in_turn();
+    let runs = run_boards(alloc, session.boards.as_slice(), steps)?;
+    let clients = lines_of_clients(alloc, &runs, steps)?;
+    let boards = board_lines(alloc, &runs)?;
+    let text = transcript_text(alloc, &clients, &boards)?;
+    let status = run_status(&clients);
+    Ok(Answer { status, text })
 }
 
 /// 0 where every line is a value, `done` or `was`.

@@ -182,6 +182,13 @@ impl Engine {
         self.first_send()
     }
 
+    /// How many bodies were sent: the place of the last first send.
+    pub fn sent(&self) -> u64
+        ensures { result ≡ length self.now.sent }
+    {
+        self.sent as u64
+    }
+
     /// The body at an open place.
     pub fn body_at(&self, place: u64) -> &[u32]
         requires { IsOpen self.now place }

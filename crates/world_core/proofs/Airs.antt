@@ -1,0 +1,162 @@
+-- Airs: what counts as a first send, what may be heard, and what an answer adds.
+use Rattle.std.proofs.Common.{◌≡◌, ℕ, ◌+◌, ◌≤◌, Bool, true, false, cond, List, [], ◌∷◌, ◌++◌, length, Option}
+use Rattle.std.proofs.Common.{Some, None, Result, Ok, Err, refl, sym, ap, ◌∙◌, arith, if◌then◌else◌}
+use Rattle.std.proofs.Common.{◌==◌, ◌&&◌}
+use Rattle.std.specs.List.{slice_get}
+use Rattle.packet_codec.specs.declared.packet.BadPacket.{BadPacket}
+use Rattle.packet_codec.specs.declared.packet.Packet.{Packet}
+use Rattle.packet_codec.specs.declared.packet.Order.{Order}
+use Rattle.packet_codec.specs.declared.packet.PacketKind.{PacketKind}
+use Rattle.packet_codec.specs.declared.packet.PacketKind.TheVariants as kinds
+use Rattle.packet_codec.specs.Reading.{packet_of}
+use Rattle.world_model.specs.declared.datagram.Datagram.{Datagram}
+use Rattle.world_model.specs.declared.datagram.Direction.{Direction}
+use Rattle.world_model.specs.declared.datagram.Direction.TheVariants.{ToBoard, ToHub}
+use Rattle.world_model.specs.Messages.{ToBoard as MessageToBoard, StatusRequest, ResendRequest, packet_to_board}
+use Rattle.world_model.specs.Messages.{said_to_board}
+use Rattle.world_model.specs.Messages.{to_board}
+use Rattle.world_model.specs.Air.{goes_to, is_alive}
+use Rattle.world_model.specs.Links.{IsHandedAt, Told, first_sends, first_sends_from, heard_by, heard_on}
+use Rattle.world_model.specs.Links.{is_first_message, is_first_send}
+use Rattle.world_core.specs.Airs.{birth_after, may_hear}
+
+-- a choice, case by case
+pub either : {X : Type 0} (P : X → Type 0) (b : Bool) (x y : X) → (b ≡ true → P x) → (b ≡ false → P y) → P (cond b x y)
+either P true x y one other = one refl
+either P false x y one other = other refl
+
+-- ---- directions
+
+pub goes_self : (hearer : Direction) → goes_to hearer hearer ≡ true
+goes_self ToBoard = refl
+goes_self ToHub = refl
+
+pub same_way : (hearer direction : Direction) → goes_to hearer direction ≡ true → direction ≡ hearer
+same_way ToBoard ToBoard way = refl
+same_way ToBoard ToHub way = absurd cc
+same_way ToHub ToBoard way = absurd cc
+same_way ToHub ToHub way = refl
+
+-- ---- first sends
+
+pub count_more : (first count : ℕ) (air : List Datagram) (datagram : Datagram)
+    → first_sends_from first count (air ++ datagram ∷ [])
+    ≡ (if is_first_send first (first_sends_from first count air) datagram.direction datagram.bytes
+    then first_sends_from first count air + 1 else first_sends_from first count air)
+count_more first count [] datagram = refl
+count_more first count (d ∷ air) datagram =
+    count_more first (if is_first_send first count d.direction d.bytes then count + 1 else count) air datagram
+
+one_at_most : (b : Bool) (count : ℕ) → (if b then count + 1 else count) ≤ count + 1
+one_at_most true count = omega arith
+one_at_most false count = omega arith
+
+few_from : (first count : ℕ) (air : List Datagram) → first_sends_from first count air ≤ count + length air
+few_from first count [] = omega arith
+few_from first count (d ∷ air) =
+    let b = is_first_send first count d.direction d.bytes in
+    omega (arith, few_from first (if b then count + 1 else count) air, one_at_most b count)
+
+-- no more datagrams are first sends than there are datagrams
+pub few_sends : (told : Told) → first_sends told ≤ length told.air
+few_sends told = omega (arith, few_from told.board.first 0 told.air)
+
+no_first_kind : (first count : ℕ) (kind : PacketKind) (order : Order) (id : ℕ) (body : List ℕ)
+    → (kind ≡ kinds.Control → ⊥) → is_first_message first count (said_to_board kind order id body) ≡ false
+no_first_kind first count kinds.Control order id body other = absurd (other refl)
+no_first_kind first count kinds.Status order id body other =
+    either (λ (m : Option MessageToBoard). is_first_message first count m ≡ false) ((id == 0) && (length body == 15))
+    (Some StatusRequest) None (λ _. refl) (λ _. refl)
+no_first_kind first count kinds.Resend order id body other =
+    either (λ (m : Option MessageToBoard). is_first_message first count m ≡ false) (length body == 0)
+    (Some (ResendRequest id)) None (λ _. refl) (λ _. refl)
+
+-- what is no control packet is no first send
+pub no_first_send : (first count : ℕ) (packet : Packet) → (packet.kind ≡ kinds.Control → ⊥)
+    → is_first_message first count (packet_to_board (Ok packet)) ≡ false
+no_first_send first count packet other = no_first_kind first count packet.kind packet.order packet.id packet.body other
+
+by_packet : (bytes : List ℕ) (read : Result Packet BadPacket) → packet_of bytes ≡ read
+    → to_board bytes ≡ packet_to_board read
+unfolding to_board
+by_packet bytes read is = ap packet_to_board is
+
+pub first_by_packet : (first count : ℕ) (bytes : List ℕ) (packet : Packet) → packet_of bytes ≡ Ok packet
+    → is_first_message first count (packet_to_board (Ok packet)) ≡ is_first_send first count ToBoard bytes
+first_by_packet first count bytes packet is = sym (ap (is_first_message first count) (by_packet bytes (Ok packet) is))
+
+none_by : (first count : ℕ) (bytes : List ℕ) (read : Result Packet BadPacket) → packet_of bytes ≡ read
+    → ((packet : Packet) → packet_of bytes ≡ Ok packet → ⊥) → false ≡ is_first_send first count ToBoard bytes
+none_by first count bytes (Ok packet) is not = absurd (not packet is)
+none_by first count bytes (Err fault) is not = sym (ap (is_first_message first count) (by_packet bytes (Err fault) is))
+
+pub first_by_none : (first count : ℕ) (bytes : List ℕ) → ((packet : Packet) → packet_of bytes ≡ Ok packet → ⊥)
+    → false ≡ is_first_send first count ToBoard bytes
+first_by_none first count bytes not = none_by first count bytes (packet_of bytes) refl not
+
+-- the count after a send is that of the air
+pub sent_count : (told : Told) (first count sent : ℕ) (bytes : List ℕ) (air : List Datagram) → first ≡ told.board.first
+    → count ≡ first_sends told → sent ≡ birth_after first count bytes
+    → air ≡ told.air ++ record { direction = ToBoard; bytes = bytes; birth = birth_after first count bytes } ∷ []
+    → sent ≡ first_sends (record { board = told.board; air = air })
+sent_count told first count sent bytes air same counted after put =
+    let datagram : Datagram =
+    record { direction = ToBoard; bytes = bytes; birth = birth_after first count bytes } in
+    after ∙ (ap (λ (f : ℕ). birth_after f count bytes) same
+    ∙ (ap (λ (c : ℕ). birth_after told.board.first c bytes) counted
+    ∙ (sym (count_more told.board.first 0 told.air datagram)
+    ∙ ap (first_sends_from told.board.first 0) (sym put))))
+
+-- ---- what may be heard
+
+both : (a b : Bool) → (if a then b else false) ≡ true → (a ≡ true) × (b ≡ true)
+both true b e = (refl, e)
+both false b e = absurd cc
+
+record MayHear (hearer : Direction) (sent : ℕ) (r : Option Datagram) : Type 0 where
+  datagram : Datagram
+  there : r ≡ Some datagram
+  way : goes_to hearer datagram.direction ≡ true
+  alive : is_alive sent datagram ≡ true
+
+heard_there : (hearer : Direction) (sent : ℕ) (r : Option Datagram) → may_hear hearer sent r ≡ true
+    → MayHear hearer sent r
+heard_there hearer sent None may = absurd cc
+heard_there hearer sent (Some d) may =
+    let is = both (goes_to hearer d.direction) (is_alive sent d) may in
+    record { datagram = d; there = refl; way = is.0; alive = is.1 }
+
+-- a datagram that the hub may hear
+pub handed_at : (told : Told) (place sent : ℕ) (datagram : Datagram) → sent ≡ first_sends told
+    → slice_get told.air place ≡ Some datagram → may_hear ToHub sent (slice_get told.air place) ≡ true
+    → IsHandedAt told datagram.bytes place
+handed_at told place sent datagram counted there may =
+    let is = heard_there ToHub sent (slice_get told.air place) may in
+    let same : is.datagram ≡ datagram = (let other = is.there in cc) in
+    let way : datagram.direction ≡ ToHub = same_way ToHub datagram.direction
+    (ap (λ (d : Datagram). goes_to ToHub d.direction) (sym same) ∙ is.way) in
+    let alive : is_alive (first_sends told) datagram ≡ true =
+    ap (λ (n : ℕ). is_alive n datagram) (sym counted)
+    ∙ (ap (is_alive sent) (sym same) ∙ is.alive) in
+    record {
+      birth = datagram.birth;
+      there = there
+          ∙ ap (λ (w : Direction). Some (record { direction = w; bytes = datagram.bytes; birth = datagram.birth })) way;
+      alive = alive;
+    }
+
+-- a datagram that the board may hear
+pub board_hears : (told : Told) (place sent : ℕ) (datagram : Datagram) → sent ≡ first_sends told
+    → slice_get told.air place ≡ Some datagram → may_hear ToBoard sent (slice_get told.air place) ≡ true
+    → heard_by told (slice_get told.air place) ≡ Some (heard_on told datagram.bytes)
+board_hears told place sent datagram counted there may =
+    let is = heard_there ToBoard sent (slice_get told.air place) may in
+    let same : is.datagram ≡ datagram = (let other = is.there in cc) in
+    let way : goes_to ToBoard datagram.direction ≡ true =
+    ap (λ (d : Datagram). goes_to ToBoard d.direction) (sym same) ∙ is.way in
+    let alive : is_alive (first_sends told) datagram ≡ true =
+    ap (λ (n : ℕ). is_alive n datagram) (sym counted) ∙ (ap (is_alive sent) (sym same) ∙ is.alive) in
+    ap (heard_by told) there
+    ∙ (ap (λ (b : Bool). cond b (cond (is_alive (first_sends told) datagram) (Some (heard_on told datagram.bytes)) None)
+    None) way
+    ∙ ap (λ (b : Bool). cond b (Some (heard_on told datagram.bytes)) None) alive)

@@ -1,0 +1,126 @@
+-- Sends one by one, and the bodies that a hub can write.
+use Rattle.std.proofs.Common.{◌≡◌, ℕ, zero, suc, ◌<◌, ◌≤◌, List, [], ◌∷◌, length, Option, Some, None}
+use Rattle.std.proofs.Common.{refl, sym, ap, ◌∙◌, subst, arith}
+use Rattle.std.proofs.Common.{◌*◌, length-append}
+use Rattle.packet_codec.specs.declared.packet.Order.{Order}
+use Rattle.packet_codec.specs.declared.packet.Order.TheVariants.{Big, Little}
+use Rattle.packet_codec.specs.Packet.{in_order, packet_bytes, packet_words, word_in_order}
+use Rattle.packet_codec.specs.declared.packet.Packet.{Packet}
+use Rattle.world_core.specs.declared.link.TheConstants.{MAX_DATAGRAM}
+use Rattle.std.specs.List.{slice_get}
+use Rattle.packet_codec.specs.declared.packet.TheConstants.{MAX_BODY_WORDS}
+use Rattle.reliable_engine.specs.Answers.{IsSendOf, body_count, hub_next, sent_next}
+use Rattle.world_model.specs.declared.offered.Offered.{Offered}
+use Rattle.world_model.specs.declared.sending.Sending.{Sending}
+use Rattle.world_model.specs.declared.sending.Sending.TheVariants as sends
+use Rattle.world_model.specs.Places.{at_place}
+use Rattle.world_model.specs.Hub.{Hub, words_of}
+use Rattle.world_model.specs.Sends.{Next, next_send, pending}
+use Rattle.world_model.specs.World.{World, flush, sent_into, with_hub}
+use Rattle.world_model.specs.Facts.{AreSendable, HasBodies}
+use Rattle.world_core.specs.Messages.{IsWritable}
+use Rattle.world_core.specs.Steps.{HasSpellings, put_into}
+
+-- what the laws of world_model say of sends
+abbrev pub OneByOne : Type 0
+OneByOne = (w : World) (next : Next) → next_send w.hub ≡ Some next
+    → flush (pending w.hub) w ≡ flush (pending next.hub) (sent_into w next)
+
+abbrev pub EndsThere : Type 0
+EndsThere = (w : World) → next_send w.hub ≡ None → flush (pending w.hub) w ≡ w
+
+abbrev pub Fewer : Type 0
+Fewer = (hub : Hub) (next : Next) → next_send hub ≡ Some next → pending next.hub < pending hub
+
+-- a send that was taken, and the hub after it
+record Taken (r : Option Next) (send : Sending) (hub : Hub) : Type 0 where
+  is : r ≡ Some (record { send = send; hub = hub })
+
+taken_by : (old new : Hub) (r : Option Next) (send : Sending) → Some send ≡ sent_next r → new ≡ hub_next old r
+    → Taken r send new
+taken_by old new None send told after = absurd cc
+taken_by old new (Some next) send told after = record {
+  is = ap (λ (h : Hub). Some (record { send = next.send; hub = h })) (sym after)
+      ∙ ap (λ (s : Sending). Some (record { send = s; hub = new })) cc;
+}
+
+pub next_is : (old new : Hub) (send : Sending) → Some send ≡ sent_next (next_send old)
+    → new ≡ hub_next old (next_send old) → next_send old ≡ Some (record { send = send; hub = new })
+next_is old new send told after = (taken_by old new (next_send old) send told after).is
+
+none_by : (r : Option Next) → None ≡ sent_next r → r ≡ None
+none_by None told = refl
+none_by (Some next) told = absurd cc
+
+pub put_flushed : OneByOne → (w : World) (hub : Hub) (send : Sending) → Some send ≡ sent_next (next_send w.hub)
+    → hub ≡ hub_next w.hub (next_send w.hub)
+    → flush (pending hub) (put_into (with_hub w hub) send) ≡ flush (pending w.hub) w
+put_flushed law w hub send told after =
+    sym (law w (record { send = send; hub = hub }) (taken_by w.hub hub (next_send w.hub) send told after).is)
+
+pub put_smaller : Fewer → (old new : Hub) (send : Sending) → Some send ≡ sent_next (next_send old)
+    → new ≡ hub_next old (next_send old) → pending new < pending old
+put_smaller law old new send told after =
+    law old (record { send = send; hub = new }) (taken_by old new (next_send old) send told after).is
+
+pub all_flushed : EndsThere → (w : World) (hub : Hub) → None ≡ sent_next (next_send w.hub)
+    → hub ≡ hub_next w.hub (next_send w.hub) → with_hub w hub ≡ flush (pending w.hub) w
+all_flushed law w hub told after =
+    let none = none_by (next_send w.hub) told in
+    ap (with_hub w) (after ∙ ap (hub_next w.hub) none) ∙ sym (law w none)
+
+-- ---- bodies that can be written
+
+-- what a law says of the bodies of a hub before and after an event
+abbrev pub KeepsBodies : Hub → Hub → Type 0
+KeepsBodies old new = (most : ℕ) → HasBodies most old → HasBodies most new
+
+pub still_spelled : (old new : Hub) → KeepsBodies old new → HasSpellings old → HasSpellings new
+still_spelled old new law is =
+    let after = law (body_count old) (record { few = omega arith; sent = is.sent; queue = is.queue }) in
+    record { sent = after.sent; queue = after.queue }
+
+abbrev pub SendKeepsBodies : Type 0
+SendKeepsBodies = (most : ℕ) (hub : Hub) (next : Next) → next_send hub ≡ Some next → HasBodies most hub
+    → HasBodies most next.hub
+
+spelled_by : SendKeepsBodies → (old new : Hub) (r : Option Next) → next_send old ≡ r → new ≡ hub_next old r
+    → HasSpellings old → HasSpellings new
+spelled_by law old new None is after spelled = subst HasSpellings (sym after) spelled
+spelled_by law old new (Some next) is after spelled =
+    subst HasSpellings (sym after) (still_spelled old next.hub (λ most. law most old next is) spelled)
+
+pub sent_spelled : SendKeepsBodies → (old new : Hub) → new ≡ hub_next old (next_send old) → HasSpellings old
+    → HasSpellings new
+sent_spelled law old new after spelled = spelled_by law old new (next_send old) refl after spelled
+
+short_at : (sent : List Offered) (i : ℕ) → AreSendable sent → length (words_of (slice_get sent i)) ≤ MAX_BODY_WORDS
+short_at [] i are = omega arith
+short_at (o ∷ os) zero are = are.0.short
+short_at (o ∷ os) (suc i) are = short_at os i are.1
+
+short_there : (sent : List Offered) (place : ℕ) → AreSendable sent
+    → length (words_of (at_place sent place)) ≤ MAX_BODY_WORDS
+short_there sent zero are = omega arith
+short_there sent (suc k) are = short_at sent k are
+
+pub writable : (hub : Hub) (send : Sending) → IsSendOf hub send → AreSendable hub.sent → IsWritable hub send
+writable hub sends.Status is spelled = tt
+writable hub (sends.Resend id) is spelled = tt
+writable hub (sends.Control place id) is spelled = (is, short_there hub.sent place spelled)
+
+-- ---- how long a send is
+
+four_bytes : (order : Order) (word : ℕ) → length (word_in_order order word) ≡ 4
+four_bytes Big word = refl
+four_bytes Little word = refl
+
+bytes_of_words : (order : Order) (words : List ℕ) → length (in_order order words) ≡ 4 * length words
+bytes_of_words order [] = refl
+bytes_of_words order (word ∷ words) =
+    let total = length-append (word_in_order order word) (in_order order words) in
+    omega (arith, total, four_bytes order word, bytes_of_words order words)
+
+pub short_packet : (packet : Packet) → length packet.body ≤ MAX_BODY_WORDS
+    → length (packet_bytes packet) ≤ MAX_DATAGRAM
+short_packet packet few = omega (arith, few, bytes_of_words packet.order (packet_words packet))

@@ -1,0 +1,8 @@
+use Rattle.world_core.proofs.States.{one_leaves}
+use Rattle.world_core.proofs.laws.a_send_leaves_the_fates.Goals as goal
+
+pub returns-clause-fates : goal.returns-clause-fates
+returns-clause-fates c = λ hub next is. (one_leaves hub next is).1
+
+pub returns-clause-gave_up : goal.returns-clause-gave_up
+returns-clause-gave_up c = λ hub next is. (one_leaves hub next is).0

@@ -1,0 +1,6 @@
+pub mod Messages
+pub mod Steps
+pub mod Runs
+pub mod Telling
+pub mod States
+pub mod Airs

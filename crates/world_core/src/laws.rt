@@ -1,0 +1,152 @@
+//! Laws of a hub over a link that tells. These functions do nothing when they run: their clauses are what is proved.
+
+ghost use Rattle.std.specs.Prelude.{◌≡◌, ◌↔◌, ◌≤◌, ◌<◌, ℕ, List, [], ◌∷◌, ◌++◌, length, min, true};
+ghost use Rattle.std.specs.Prelude.{Option, Some, None, Err, IfSome};
+ghost use Rattle.std.specs.List.{Contains, slice_get};
+ghost use Rattle.ipb_base.specs.Faults.{Rose};
+ghost use Rattle.ipb_base.specs.Lists.{IsPrefix};
+ghost use Rattle.world_model.specs.declared.datagram.Datagram.{Datagram};
+ghost use Rattle.world_model.specs.declared.moves.WorldEnd.TheVariants.{NotThere, TooOld};
+ghost use Rattle.world_model.specs.declared.moves.WorldMove.{WorldMove};
+ghost use Rattle.world_model.specs.declared.sending.Sending.{Sending};
+ghost use Rattle.world_model.specs.Air.{LIFETIME as most_further_sends};
+ghost use Rattle.ipb_base.specs.Numbers.{greatest_mtu};
+ghost use Rattle.reliable_engine.specs.Answers.{IsSendOf};
+ghost use Rattle.world_model.specs.declared.offered.Offered.{Offered};
+ghost use Rattle.world_model.specs.Board.{Board, executed, replies};
+ghost use Rattle.world_model.specs.Messages.{to_hub};
+ghost use Rattle.world_model.specs.Hub.{Hub, hear_quiet, is_waiting, new_hub, offer, take_message};
+ghost use Rattle.world_model.specs.Sends.{Next, bytes_to_send, next_send};
+ghost use Rattle.world_model.specs.World.{World, run_moves, start};
+ghost use Rattle.world_model.specs.Facts.{AreRight, AreSendable, IsSendable, IsStart, bodies_of};
+ghost use Rattle.world_model.specs.History.{IsTrueHistory};
+ghost use Rattle.world_model.specs.Lanes.{caught_up};
+ghost use Rattle.world_model.specs.Links.{heard_by, IsHanded, IsHandedAt, IsHeard, Told, sent_on};
+ghost use Rattle.world_core.specs.Messages.{IsWritable};
+ghost use Rattle.world_core.specs.Runs.{IsNotThere, IsTooOld, StopsAt};
+ghost use Rattle.world_core.specs.States.{IsReached, world_of_both};
+ghost use Rattle.world_core.specs.Telling.{IfTelling, IsGot, IsQuiet, IsReceived, IsSent, KeepsBut, Telling};
+
+use crate::air::LIFETIME;
+use crate::link::MAX_DATAGRAM;
+use reliable_engine::laws::a_give_up_ends_all_waiting;
+use world_model::laws::history::each_body_is_executed_once;
+use world_model::laws::lanes::waiting_sends_change_no_run;
+use world_model::laws::links::{
+    a_greeting_joins, each_event_keeps_them_joined, joined_ones_tell_the_truth,
+};
+use world_model::laws::sends::sends_go_one_by_one;
+
+/// The lifetime of a datagram and the longest datagram.
+pub fn the_numbers_of_a_link()
+    ensures lifetime { LIFETIME ≡ most_further_sends }
+    ensures datagram { MAX_DATAGRAM ≡ greatest_mtu }
+{}
+
+/// What a hub wants to send can be written, where the bodies that it sent are words and not too long.
+pub fn what_is_wanted_can_be_written()
+    ensures { (hub : Hub) (send : Sending) → IsSendOf hub send → AreSendable hub.sent → IsWritable hub send }
+{}
+
+/// A send leaves the fates as they were, and whether the hub gave up.
+pub fn a_send_leaves_the_fates()
+    ensures fates { (hub : Hub) (next : Next) → next_send hub ≡ Some next → next.hub.fates ≡ hub.fates }
+    ensures gave_up { (hub : Hub) (next : Next) → next_send hub ≡ Some next → next.hub.gave_up ≡ hub.gave_up }
+{}
+
+/// A run stops exactly at the first move that is not allowed: where no datagram for that side is at the place that the
+/// move names, or nobody notices that a receive is quiet; or where the datagram was sent too many first sends ago.
+pub fn a_run_stops_at_the_first_move_that_is_not_allowed()
+    ensures not_there { (begin : World) (moves : List WorldMove) (at : ℕ)
+        → (run_moves 0 begin moves ≡ Err (NotThere at)) ↔ StopsAt begin moves at IsNotThere }
+    ensures too_old { (begin : World) (moves : List WorldMove) (at : ℕ)
+        → (run_moves 0 begin moves ≡ Err (TooOld at)) ↔ StopsAt begin moves at IsTooOld }
+{}
+
+/// A hub and a link that tells begin at a state of a run, and each thing that they do leads to one: an offer, a send
+/// that the link carried, whatever the board heard in one receive, a datagram that was handed out, a quiet receive, and
+/// the handing out of fates. The hub receives when nothing is left to send and no fate to hand out.
+pub fn each_event_leads_to_a_state_of_a_run()
+    ensures begins { (window rounds : ℕ) (board : Board) (air : List Datagram) → IsStart window board air
+        → IsReached (start window rounds board air) (new_hub board.first (min window board.buffers) rounds)
+        (record { board = board; air = air }) }
+    ensures offered { (begin : World) (hub : Hub) (told : Told) (offered : Offered) → IsReached begin hub told
+        → IsSendable offered.body → hub.fates ≡ [] → IsReached begin (offer hub offered) told }
+    ensures sent { (begin : World) (hub : Hub) (told : Told) (next : Next) → IsReached begin hub told
+        → next_send hub ≡ Some next
+        → IsReached begin next.hub (sent_on told (bytes_to_send next.hub next.send)) }
+    ensures heard { (begin : World) (hub : Hub) (old new : Told) → IsReached begin hub old → next_send hub ≡ None
+        → hub.fates ≡ [] → IsHeard old new → IsReached begin hub new }
+    ensures handed { (begin : World) (hub : Hub) (told : Told) (bytes : List ℕ) → IsReached begin hub told
+        → next_send hub ≡ None → hub.fates ≡ [] → IsHanded told bytes
+        → IsReached begin (take_message hub (to_hub bytes)) told }
+    ensures quiet { (begin : World) (hub : Hub) (told : Told) → IsReached begin hub told → next_send hub ≡ None
+        → hub.fates ≡ [] → is_waiting hub ≡ true → IsReached begin (hear_quiet hub) told }
+    ensures handed_out { (begin : World) (hub : Hub) (told : Told) → IsReached begin hub told
+        → IsReached begin (record hub { fates = [] }) told }
+{
+    a_give_up_ends_all_waiting();
+    a_greeting_joins();
+    each_event_keeps_them_joined();
+    waiting_sends_change_no_run();
+    sends_go_one_by_one();
+}
+
+/// The same of the calls of a link that may tell: an accepted send, a receive that got a datagram, one that was quiet
+/// while somebody waited, and any other one.
+pub fn each_call_leads_to_a_state_of_a_run()
+    ensures sent { (begin : World) (hub : Hub) (next : Next) (before now : ℕ) (old new : Option Telling)
+        → IfSome old (λ t. IsReached begin hub t.told) → next_send hub ≡ Some next
+        → IfTelling old new (IsSent (bytes_to_send next.hub next.send) before now)
+        → IfSome new (λ t. IsReached begin next.hub t.told) }
+    ensures got { (begin : World) (hub : Hub) (bytes : List ℕ) (before now : ℕ) (old new : Option Telling)
+        → IfSome old (λ t. IsReached begin hub t.told) → next_send hub ≡ None → hub.fates ≡ []
+        → IfTelling old new (IsGot bytes before now)
+        → IfSome new (λ t. IsReached begin (take_message hub (to_hub bytes)) t.told) }
+    ensures quiet { (begin : World) (hub : Hub) (before now : ℕ) (old new : Option Telling)
+        → IfSome old (λ t. IsReached begin hub t.told) → next_send hub ≡ None → hub.fates ≡ []
+        → is_waiting hub ≡ true → IfTelling old new (IsQuiet before now)
+        → IfSome new (λ t. IsReached begin (hear_quiet hub) t.told) }
+    ensures other { (begin : World) (hub : Hub) (by_hub : List ℕ) (before now : ℕ) (old new : Option Telling)
+        → IfSome old (λ t. IsReached begin hub t.told) → next_send hub ≡ None → hub.fates ≡ []
+        → IfTelling old new (IsReceived by_hub before now)
+        → IfSome new (λ t. IsReached begin hub t.told) }
+{
+    each_event_leads_to_a_state_of_a_run();
+}
+
+/// What such a state tells. The executed bodies are the front of those that were sent first, in order; each fate that
+/// waits to be handed out is that of its place; and with what was handed out and the sends that wait, it is a true
+/// history.
+pub fn a_state_of_a_run_tells_the_truth()
+    ensures executed { (begin : World) (hub : Hub) (told : Told) → IsReached begin hub told
+        → IsPrefix (executed told.board) (bodies_of hub.sent) }
+    ensures fates { (begin : World) (hub : Hub) (told : Told) → IsReached begin hub told
+        → AreRight hub.sent (replies told.board) hub.fates }
+    ensures history { (window rounds : ℕ) (board : Board) (air : List Datagram) (hub : Hub) (told : Told)
+        → IsStart window board air → (is : IsReached (start window rounds board air) hub told)
+        → IsTrueHistory (caught_up (world_of_both hub told is.fates)) }
+{
+    joined_ones_tell_the_truth();
+    each_body_is_executed_once();
+}
+
+/// A receive of a link that tells may be put together of steps: nothing at all; a datagram that the board hears, whose
+/// answer, if any, is still to be heard; a datagram that is given up and counts as held; a datagram that is handed out;
+/// and one step after another, where the last one alone hands out.
+pub fn a_receive_goes_step_by_step()
+    ensures nothing { (held : ℕ) (telling : Telling) → IsReceived [] held held telling telling }
+    ensures heard { (held place : ℕ) (old new : Telling)
+        → heard_by old.told (slice_get old.told.air place) ≡ Some new.told → new.handed ≡ old.handed
+        → KeepsBut place old.due new.due
+        → (length old.told.air < length new.told.air → Contains new.due (length old.told.air))
+        → IsReceived [] held held old new }
+    ensures given_up { (before now place : ℕ) (old new : Telling) → new.told ≡ old.told → new.handed ≡ old.handed
+        → KeepsBut place old.due new.due → Rose before now → IsReceived [] before now old new }
+    ensures handed_out { (held place : ℕ) (bytes : List ℕ) (old new : Telling) → new.told ≡ old.told
+        → new.handed ≡ old.handed ++ place ∷ [] → KeepsBut place old.due new.due
+        → IsHandedAt new.told bytes place → IsGot bytes held held old new }
+    ensures then { (by_hub : List ℕ) (first mid last : ℕ) (old between new : Telling) → first ≤ mid → mid ≤ last
+        → IsReceived [] first mid old between → IsReceived by_hub mid last between new
+        → IsReceived by_hub first last old new }
+{}

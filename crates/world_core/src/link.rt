@@ -1,0 +1,88 @@
+//! What a hub knows of a network: a link to one board.
+
+ghost use Rattle.std.specs.Prelude.{◌≡◌, ◌≤◌, ℕ, Option, length, OnOk, OnErr, Err};
+ghost use Rattle.ipb_base.specs.Faults.{Rose};
+ghost use Rattle.world_core.specs.Telling.{gots_after, IfTelling, IsCarried, IsSent, quiets_after, Receives, Telling};
+
+use ipb_base::NoMemory;
+
+/// The most bytes of a datagram: as many as the greatest MTU (profile).
+pub const MAX_DATAGRAM: usize = 9000;
+
+/// Why a link did not do what it was asked.
+#[derive(Clone, Copy, Debug, PartialEq, Eq)]
+pub enum LinkFault {
+    /// The network failed. The link counted it.
+    Failed,
+    /// Memory ran out.
+    NoMemory,
+}
+
+impl From<NoMemory> for LinkFault {
+    ghost use Rattle.std.specs.Prelude.{◌≡◌};
+    ghost use Rattle.world_core.specs.declared.link.LinkFault.TheVariants.{NoMemory as no_memory};
+
+    ghost from_gives = { λ _ fault. fault ≡ no_memory };
+
+    fn from(_error: NoMemory) -> LinkFault {
+        LinkFault::NoMemory
+    }
+}
+
+/// What a receive came to.
+#[derive(Clone, Copy, Debug, PartialEq, Eq)]
+pub enum Received {
+    /// A datagram is in the buffer.
+    Got,
+    /// None came in the time that the link waits.
+    Quiet,
+}
+
+/// A link to one board (profile). It may lose datagrams, repeat them, delay them and change their order.
+///
+/// Contracts see four counts, none of which falls: its faults, the receives that were quiet and those that got a
+/// datagram, and the datagrams that it lost, delayed or dropped for age. A count stands still at 2^64 - 1. A link may
+/// tell what it carries, as a simulated one does: then contracts see its board and all datagrams ever sent too. Whether
+/// it tells never changes.
+pub trait Link {
+    /// What it tells, where it tells: its board and its air, what is still to be heard, and what was handed out. A
+    /// first send is a control packet with the identifier of the place after the last first send, and places are
+    /// counted from the board's first identifier.
+    ghost telling: { Self → Option Telling };
+
+    /// How often the network failed.
+    ghost faults: { Self → ℕ };
+
+    /// How many receives were quiet.
+    ghost quiets: { Self → ℕ };
+
+    /// How many receives got a datagram.
+    ghost gots: { Self → ℕ };
+
+    /// How many datagrams were lost, delayed or dropped for age.
+    ghost held: { Self → ℕ };
+
+    /// Sends a datagram to the board. A refused one changes nothing that the link tells.
+    fn send(&mut self, bytes: &[u8]) -> Result<(), LinkFault>
+        requires { length bytes.now ≤ MAX_DATAGRAM }
+        ensures sent { OnOk result (IfTelling (telling self.old) (telling self.new)
+            (IsSent bytes.now (held self.old) (held self.new))) }
+        ensures refused { OnErr result (telling self.new ≡ telling self.old) }
+        ensures failed { result ≡ Err LinkFault.Failed → Rose (faults self.old) (faults self.new) }
+        ensures faults { faults self.old ≤ faults self.new }
+        ensures quiets { quiets self.new ≡ quiets self.old }
+        ensures gots { gots self.new ≡ gots self.old }
+        ensures held { held self.old ≤ held self.new };
+
+    /// Waits for a datagram from the board, and puts it into `into` in place of what stood there. `into` is empty where
+    /// none came.
+    fn receive(&mut self, into: &mut Vec<u8>) -> Result<Received, LinkFault>
+        ensures datagram { IsCarried result into.new.items }
+        ensures received { IfTelling (telling self.old) (telling self.new)
+            (Receives result into.new.items (held self.old) (held self.new)) }
+        ensures failed { result ≡ Err LinkFault.Failed → Rose (faults self.old) (faults self.new) }
+        ensures faults { faults self.old ≤ faults self.new }
+        ensures quiets { quiets self.new ≡ quiets_after result (quiets self.old) }
+        ensures gots { gots self.new ≡ gots_after result (gots self.old) }
+        ensures held { held self.old ≤ held self.new };
+}

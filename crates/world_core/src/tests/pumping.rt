@@ -1,0 +1,72 @@
+//! A hub over any link.
+
+ghost use Rattle.std.specs.Prelude.{◌≡◌, ◌≤◌, length, None, IfSome, IfOk, OnOk};
+ghost use Rattle.reliable_engine.specs.Answers.{body_count};
+ghost use Rattle.world_model.specs.Sends.{next_send};
+ghost use Rattle.world_model.specs.World.{World};
+ghost use Rattle.world_core.specs.States.{IsReached};
+ghost use Rattle.world_core.specs.Steps.{HasSpellings};
+ghost use Rattle.packet_codec.specs.declared.packet.TheConstants.{MAX_BODY_WORDS};
+
+use crate::laws::{
+    a_send_leaves_the_fates, each_call_leads_to_a_state_of_a_run, what_is_wanted_can_be_written,
+};
+use crate::sending::copy_words;
+use crate::{Engine, Link, LinkFault, Settings, Status, write_sending};
+use packet_ids::Id;
+use std::alloc::Global;
+use std::test::*;
+use world_model::laws::sends::{only_an_offer_makes_more_bodies, sends_go_one_by_one};
+
+/// Sends all that waits.
+pub fn send_all<L: Link>(alloc: Global, hub: &mut Engine, link: &mut L) -> Result<(), LinkFault>
+    requires { HasSpellings hub.old }
+    ensures reached { OnOk result ((begin : World)
+        → IfSome (L.telling link.old) (λ t. IsReached begin hub.old t.told)
+        → IfSome (L.telling link.new) (λ t. IsReached begin hub.new t.told)) }
+    ensures none { OnOk result (next_send hub.new ≡ None) }
+    ensures fates { OnOk result (hub.new.fates ≡ hub.old.fates) }
+{
+    a_send_leaves_the_fates();
+    each_call_leads_to_a_state_of_a_run();
+    what_is_wanted_can_be_written();
+    only_an_offer_makes_more_bodies();
+    sends_go_one_by_one();
+    while let Some(send) = hub.next_send() {
+        let bytes = write_sending(alloc, hub, send)?;
+        link.send(&bytes)?;
+    }
+    Ok(())
+}
+
+/// The hub of a board that expects the identifier 1, with one body that waits.
+pub fn hub_with(alloc: Global, body: &[u32]) -> Result<Engine, Fail>
+    requires { length body.now ≤ MAX_BODY_WORDS }
+    ensures { IfOk result HasSpellings }
+{
+    let settings = Settings::new(8, 16).ok_or("no such settings")?;
+    let next = Id::new(1).ok_or("0 is no identifier")?;
+    let status = Status {
+        mtu: 1500,
+        buffers: 16,
+        next,
+    };
+    let mut hub = Engine::new(alloc, settings, status)?;
+    offer(alloc, &mut hub, body)?;
+    Ok(hub)
+}
+
+/// Offers a body to a hub that was offered none.
+fn offer(alloc: Global, hub: &mut Engine, body: &[u32]) -> Result<(), Fail>
+    requires none { body_count hub.old ≡ 0 }
+    requires spellings { HasSpellings hub.old }
+    requires short { length body.now ≤ MAX_BODY_WORDS }
+    ensures { OnOk result (HasSpellings hub.new) }
+{
+    only_an_offer_makes_more_bodies();
+    let copied = copy_words(alloc, body)?;
+    if hub.offer(7, copied).is_err() {
+        return Err("no memory".into());
+    }
+    Ok(())
+}
