@@ -1,3 +1,4 @@
 pub mod Causes
 pub mod Deserved
 pub mod Refusing
+pub mod Ready
