@@ -1,6 +1,5 @@
-use Rattle.std.proofs.Common.{◌≡◌, ◌+◌, ◌∙◌, List, ◌∷◌, ◌++◌, [], drop, subst, sym, ap}
+use Rattle.std.proofs.Common.{◌≡◌, ◌+◌, ◌∙◌, List, ◌∷◌, drop, subst, sym, ap}
 use Rattle.std.specs.List.{AllByRecursion}
-use Rattle.world_model.specs.Board.{Board}
 use Rattle.script_lang.specs.declared.operation.Step.{Step}
 use Rattle.script_lang.specs.Packing.{CanBePacked, HaveFewPieces}
 use Rattle.transcript.specs.declared.outcome.Greeting.TheVariants.{Live}
@@ -9,7 +8,7 @@ use Rattle.transcript.specs.Plan.{planned_on}
 use Rattle.direct_run.specs.Runs.{plans_on}
 use Rattle.direct_run.specs.Steps.{IsRunning}
 use Rattle.direct_run.proofs.Sending.{left}
-use Rattle.direct_run.proofs.Running.{part_on, client_more, same_part}
+use Rattle.direct_run.proofs.Running.{board_after, part_on, client_more, same_part}
 use Rattle.direct_run.proofs.clients.run_clients.Goals as goal
 
 pub loop-steps-preserved : goal.loop-steps-preserved
@@ -31,13 +30,12 @@ loop-steps-preserved c =
     same_part c.in_ok-run_client.field-0 now plan ran.planned ran.outcomes in
     let more = client_more start now plans
     (plans_on c.args.position (Live c.args.payload) rest) plan c.loop-steps.parts.items so_far in
-    let parts = c.in_ok-push.ensures.items ∙ ap (λ (p : ClientPart). c.loop-steps.parts.items ++ p ∷ []) part in
+    let now_told : List ClientPart → Type 0 =
+    λ parts. IsRunning start (board_after now plan) plans (plans_on c.args.position (Live c.args.payload) rest) parts in
+    let told : now_told c.push.new.self.items =
+    rw (c.in_ok-push.ensures.items, part) more in
     record {
-      running = subst (λ (parts : List ClientPart). IsRunning start c.run_client.new.board plans
-          (plans_on c.args.position (Live c.args.payload) rest) parts)
-          (sym parts) (subst (λ (b : Board). IsRunning start b plans
-          (plans_on c.args.position (Live c.args.payload) rest) (c.loop-steps.parts.items ++ part_on now plan ∷ []))
-          (sym c.in_ok-run_client.ensures.board) more);
+      running = rw c.in_ok-run_client.ensures.board told;
       can = (subst (AllByRecursion (AllByRecursion CanBePacked)) begins c.loop-steps.invariant.can).1;
       few = (subst (AllByRecursion HaveFewPieces) begins c.loop-steps.invariant.few).1;
     }
