@@ -1,7 +1,6 @@
 -- A session that can be run is one that the boards of this process can run.
-use Rattle.std.proofs.Common.{◌≡◌, ℕ, ◌<◌, ◌^◌, ◌&&◌, Bool, true, false, List, [], ◌∷◌, length, arith, subst, sym, Result, Ok, Err, IfOk, inl}
+use Rattle.std.proofs.Common.{◌≡◌, ℕ, ◌<◌, ◌^◌, ◌&&◌, Bool, true, false, List, [], ◌∷◌, length, arith, refl, Result, Ok, Err, IfOk, inl}
 use Rattle.std.specs.List.{AllByRecursion, list_all}
-use Rattle.std.proofs.lemmas.Bool.{and_parts}
 use Rattle.board_node.specs.declared.spec.BoardSpec.{BoardSpec}
 use Rattle.board_node.specs.declared.spec.LinkSpec.{LinkSpec}
 use Rattle.board_node.specs.declared.spec.LinkSpec.TheVariants.{Sim, Udp}
@@ -23,8 +22,8 @@ link_here (Sim mtu buffers first ranges fates) kept bus delivers = (kept, bus)
 link_here (Udp address port wait) kept bus delivers = cc
 
 both : (a b : Bool) → (a && b) ≡ true → (a ≡ true) × (b ≡ true)
-both true b h = cc
-both false b h = cc
+both true b h = (refl, h)
+both false b h = let never : ⊥ = cc in absurd never
 
 all_here : (bs : List BoardSpec) → AllByRecursion KeepsRules bs → AllByRecursion HasBus bs → list_all (λ board. delivers_all board.link) bs ≡ true
     → AllByRecursion CanRun bs
