@@ -9,3 +9,5 @@ mod Skipping
 mod Reading
 mod Rising
 mod FewWords
+mod Covering
+mod Printed

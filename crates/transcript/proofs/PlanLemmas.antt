@@ -69,7 +69,7 @@ all_moved first (some ∷ more) all = (one_moved first some all.0, all_moved fir
 -- ---- dispatches
 
 -- the operations on a board of one operation and of more
-one_and_more : (board : ℕ) (op : RegOp) (ops : List RegOp)
+pub one_and_more : (board : ℕ) (op : RegOp) (ops : List RegOp)
     → ops_on board (op ∷ ops) ≡ ops_on board (op ∷ []) ++ ops_on board ops
 one_and_more board op ops =
     elim (cases_Bool (op.board == board)) [

@@ -1,7 +1,13 @@
 -- What the laws say of lines and outcomes.
-use Rattle.std.specs.Prelude.{◌≡◌, ◌≢◌, ◌⊎◌, ℕ, ◌<◌, ◌^◌, ◌==◌, Bool, true, not, List, [], ◌∷◌, Some}
+use Rattle.std.specs.Prelude.{◌≡◌, ◌≢◌, ◌⊎◌, ℕ, ◌<◌, ◌^◌, ◌==◌, Bool, true, not, List, [], ◌∷◌, Some, None}
 use Rattle.std.specs.List.{AllByRecursion, list_all, slice_get}
 use Rattle.ipb_base.specs.Word.{IsWord, AreWords}
+use Rattle.std.specs.Prelude.{length}
+use Rattle.script_lang.specs.declared.operation.RegOp.{RegOp}
+use Rattle.script_lang.specs.declared.operation.Step.{Step}
+use Rattle.transcript.specs.declared.board_run.BoardRun.{BoardRun}
+use Rattle.transcript.specs.declared.board_run.ClientPart.{ClientPart}
+use Rattle.transcript.specs.Plan.{ClientBodies, IsWithinBody, operations}
 use Rattle.transcript.specs.declared.outcome.Outcome.{Outcome}
 use Rattle.transcript.specs.declared.outcome.Outcome.TheVariants as became
 use Rattle.transcript.specs.declared.line.OpResult.{OpResult}
@@ -79,3 +85,39 @@ abbrev pub HaveOwnPlaces : List BodyEnd → Type 0
 HaveOwnPlaces ends =
     (i j : ℕ) (one other : BodyEnd) (place : ℕ) → slice_get ends i ≡ Some one → slice_get ends j ≡ Some other
     → one.place ≡ Some place → other.place ≡ Some place → i ≡ j
+
+-- ---- every operation
+
+abbrev pub IsOnBoard : List BoardRun → RegOp → Type 0
+IsOnBoard runs op = op.board < length runs
+
+-- each operation is on a board of the run
+abbrev pub AreOnBoards : List BoardRun → List Step → Type 0
+AreOnBoards runs steps = AllByRecursion (IsOnBoard runs) (operations steps)
+
+-- each piece stands in a body that is there
+abbrev pub HaveBodies : ClientBodies → Type 0
+HaveBodies all = AllByRecursion (AllByRecursion (λ (piece : PieceAt). piece.body < length all.bodies)) all.pieces
+
+-- ---- runs whose numbers have the ranges of their fields
+
+abbrev pub IsInRange : Outcome → Type 0
+IsInRange (became.Replied place words) = (place < 2 ^ 64) × AreWords words
+IsInRange (became.TimedOut place rounds) = (place < 2 ^ 64) × IsByte rounds
+IsInRange became.Unsent = Unit {0}
+IsInRange (became.LinkLost None) = Unit {0}
+IsInRange (became.LinkLost (Some place)) = place < 2 ^ 64
+
+pub record IsPartInRange (part : ClientPart) : Type 0 where
+  pub bodies' : AllByRecursion AreWords part.planned.bodies
+  pub within' : AllByRecursion (AllByRecursion IsWithinBody) part.planned.pieces
+  pub outcomes' : AllByRecursion IsInRange part.outcomes
+
+-- and whose board's name has no colon
+pub record IsRunInRange (run : BoardRun) : Type 0 where
+  pub name' : list_all is_no_colon run.name ≡ true
+  pub parts' : AllByRecursion IsPartInRange run.parts
+
+-- the register's name has no space
+abbrev pub IsSpaceless : RegOp → Type 0
+IsSpaceless op = list_all is_no_space op.name ≡ true

@@ -1,8 +1,8 @@
 //! Laws of the definitions. These functions do nothing when they run: their clauses are what is proved.
 
 ghost use Rattle.std.specs.Prelude.{◌≡◌, ◌↔◌, ℕ, ◌+◌, ◌<◌, ◌≤◌, ◌^◌, sum_by, List, [], ◌∷◌, ◌++◌, length, count_by};
-ghost use Rattle.std.specs.Prelude.{Some};
-ghost use Rattle.std.specs.List.{AllByRecursion, filter_map, flat_map};
+ghost use Rattle.std.specs.Prelude.{Some, map};
+ghost use Rattle.std.specs.List.{AllByRecursion, filter_map, flat_map, range_with_len};
 ghost use Rattle.ipb_base.specs.Word.{AreWords};
 ghost use Rattle.transaction_codec.specs.Request.{op_count};
 ghost use Rattle.mtu_packer.specs.Packed.{Contents, deal};
@@ -13,12 +13,16 @@ ghost use Rattle.transcript.specs.declared.line.OpLine.{OpLine as OpLineValue};
 ghost use Rattle.transcript.specs.declared.line.OpResult.TheVariants.{Skipped, Error};
 ghost use Rattle.transcript.specs.declared.planned.PieceAt.{PieceAt as PieceValue};
 ghost use Rattle.transcript.specs.declared.body_end.BodyEnd.{BodyEnd as BodyEndValue};
+ghost use Rattle.transcript.specs.declared.board_run.BoardRun.{BoardRun as BoardRunValue};
+ghost use Rattle.transcript.specs.Plan as in_order;
 ghost use Rattle.transcript.specs.Plan.{bodies_in, all_dispatches, plan};
 ghost use Rattle.transcript.specs.Ends.{place_of, told_of, told_at};
 ghost use Rattle.transcript.specs.Results.{op_places};
 ghost use Rattle.transcript.specs.Text.{line_text};
 ghost use Rattle.transcript.specs.Lines.{is_sent, is_replied, is_timed_out, is_lost, run_status, client_lines};
+ghost use Rattle.transcript.specs.Lines.{count_on};
 ghost use Rattle.transcript.specs.Claims.{IsDone, HaveWords, IsPrintedLine, IsBefore, Rises, IsOther, HaveOwnPlaces};
+ghost use Rattle.transcript.specs.Claims.{AreOnBoards, HaveBodies, IsRunInRange, IsSpaceless};
 
 use mtu_packer::laws::pieces_are_no_more_than_words;
 use reply_join::laws::{joining_is_a_function, skipped_stands_behind_a_fault};
@@ -48,6 +52,21 @@ pub fn bodies_stand_dispatch_by_dispatch()
         deal (all_dispatches plan).counts (all_dispatches plan).bodies ≡ bodies_in plan }
 {}
 
+/// Every operation of a client has its line, in order, and the lines are numbered from 1.
+pub fn every_operation_has_its_line()
+    ensures { (runs : List BoardRunValue) (client : ℕ) (steps : List Step) → AreOnBoards runs steps →
+        map (λ (line : OpLineValue). line.number) (client_lines runs client steps)
+        ≡ range_with_len 1 (length (in_order.operations steps)) }
+{}
+
+/// A plan has pieces for every operation on the board, and each piece stands in a body of the plan: so none is told as
+/// unsent for want of a piece or a body.
+pub fn every_operation_has_its_pieces()
+    ensures pieces { (payload board : ℕ) (steps : List Step) →
+        length (all_dispatches (plan payload board steps)).pieces ≡ count_on board (in_order.operations steps) }
+    ensures bodies { (payload board : ℕ) (steps : List Step) → HaveBodies (all_dispatches (plan payload board steps)) }
+{}
+
 /// A transaction is told as skipped only where one before it in the same body failed: so a body without a failure has
 /// no skipped line.
 pub fn skipped_stands_behind_an_error()
@@ -74,6 +93,16 @@ pub fn a_text_is_that_of_one_line()
     ensures { (line other : OpLineValue) → IsPrintedLine line → IsPrintedLine other →
         line_text line ≡ line_text other → line ≡ other }
 {}
+
+/// The lines of a client are such lines, where its outcomes and bodies have numbers of their fields' ranges and names
+/// follow their rules: so its text tells every one of them.
+pub fn the_lines_of_a_client_can_be_told()
+    ensures { (runs : List BoardRunValue) (client : ℕ) (steps : List Step) → AllByRecursion IsRunInRange runs →
+        AllByRecursion IsSpaceless (in_order.operations steps) → length (in_order.operations steps) < 2 ^ 32 →
+        AllByRecursion IsPrintedLine (client_lines runs client steps) }
+{
+    joining_is_a_function();
+}
 
 /// Operations that read and write at most 2^31 words together are cut into few enough pieces for packing.
 pub fn few_words_are_few_pieces()

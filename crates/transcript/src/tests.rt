@@ -4,7 +4,9 @@ ghost use Rattle.script_lang.specs.Packing.{CanBePacked, operations};
 
 use super::laws::few_words_are_few_pieces;
 use super::*;
-use script_lang::{RegOp, Step, Verb};
+use address_table::Table;
+use node_tree::{Tables, compile};
+use script_lang::{RegOp, Step, Steps, Verb};
 use std::alloc::Global;
 use std::test::*;
 use transaction_codec::Op;
@@ -38,11 +40,11 @@ fn run_of(alloc: Global, planned: Planned, outcomes: Vec<Outcome>) -> Result<Boa
 }
 
 /// What is printed of a run of one client.
-fn printed(alloc: Global, run: BoardRun, steps: &[Step]) -> Result<Vec<u8>, NoMemory> {
+fn printed(alloc: Global, run: BoardRun, steps: Steps) -> Result<Vec<u8>, NoMemory> {
     let runs = [run];
-    let lines = client_lines(alloc, &runs, 0, steps)?;
+    let scripts = [steps];
+    let clients = lines_of_clients(alloc, &runs, &scripts)?;
     let boards = board_lines(alloc, &runs)?;
-    let clients = [lines];
     transcript_text(alloc, &clients, &boards)
 }
 
@@ -60,9 +62,45 @@ fn one_read_is_planned_and_printed(rt: HostRuntime) -> Result<(), Fail> {
     let words = Words::from_vec([0x2000_0100, 0xabcd].to_vec(alloc)?);
     let outcomes = vec![in alloc; Outcome::Replied { place: 1, words }]?;
     let run = run_of(alloc, planned, outcomes)?;
-    let text = printed(alloc, run, &steps)?;
+    let again = Steps::from_vec(vec![in alloc; read_id(alloc)?]?);
+    let text = printed(alloc, run, again)?;
     let expected =
         "client 1\n1 read b0:sys.id = 0x0000abcd @1.1\nboard b0 places 1 replied 1 timeout 0 lost 0\n";
     assert_eq!(rt; text.as_slice(), expected.as_bytes());
+    Ok(())
+}
+
+#[test]
+fn a_sum_is_printed_with_the_word_before(rt: HostRuntime) -> Result<(), Fail> {
+    let alloc = rt.alloc();
+    let line = OpLine {
+        number: 12,
+        verb: Verb::RmwSum,
+        board: Text::copy_of(alloc, "b0")?,
+        name: Text::copy_of(alloc, "a")?,
+        result: OpResult::Was(u32::MAX),
+        places: LinePlaces::from_vec([(1u64, 2u16), (3, 1)].to_vec(alloc)?),
+    };
+    let text = line_text(alloc, &line)?;
+    assert_eq!(rt;
+        text.as_slice(),
+        "12 rmwsum b0:a was 0xffffffff @1.2,3.1\n".as_bytes()
+    );
+    let clients = [vec![in alloc; line]?];
+    assert!(rt; all_good(&clients));
+    Ok(())
+}
+
+#[test]
+fn a_table_without_nodes_has_an_empty_listing(rt: HostRuntime) -> Result<(), Fail> {
+    let alloc = rt.alloc();
+    let mut tables = Tables::new(alloc);
+    let table = Table {
+        nodes: Vec::new(alloc),
+    };
+    tables.put("main", table)?;
+    let index = compile(alloc, &tables, "main")?;
+    let text = listing_text(alloc, &index)?;
+    assert!(rt; text.is_empty());
     Ok(())
 }
