@@ -76,8 +76,8 @@ pub fn run_board(
     })
 }
 
-/// Runs the clients of a session on each of its boards, board by board. What is asked of a board is what `run_board`
-/// asks. `NoMemory` where memory ran out.
+/// Runs the clients of a session on each of its boards, board by board. There are fewer than 2^32 boards; what is asked
+/// of each, and of the scripts, is what `run_board` asks. `NoMemory` where memory ran out.
 pub fn run_boards(
     alloc: Global,
     boards: &[BoardSpec],
