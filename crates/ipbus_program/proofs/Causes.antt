@@ -38,11 +38,14 @@ pub input_answered : (command : Command) (before now : Option (List ℕ)) (bytes
     → AnswersInput command before now status text
 input_answered command before now bytes status text within read (inl done) = inl (record { bytes = bytes; read = read; done = done })
 input_answered command before now bytes status text within read (inr refused) =
-    inr (refused.0, record {
-      bytes = bytes;
-      read = record { taken = read.all; most = omega (arith, within); stopped = inl read.at_end };
-      refused = refused.1;
-    })
+    inr (
+      refused.0,
+      record {
+        bytes = bytes;
+        read = record { taken = read.all; most = omega (arith, within); stopped = inl read.at_end };
+        refused = refused.1;
+      },
+    )
 
 -- one that is too long is refused so
 pub long_answered : (command : Command) (before now : Option (List ℕ)) (status : ℕ) (text : List ℕ)
@@ -50,11 +53,14 @@ pub long_answered : (command : Command) (before now : Option (List ℕ)) (status
     → AnswersInput command before now status text
 long_answered command before now status text took is line =
     let long : document_bytes < length took.0 = let n = took.1 in omega arith in
-    inr (is, record {
-      bytes = took.0;
-      read = record { taken = took.2; most = let n = took.1 in omega arith; stopped = inr took.1 };
-      refused = record { refusal = TooLong; deserved = inl long; line = line };
-    })
+    inr (
+      is,
+      record {
+        bytes = took.0;
+        read = record { taken = took.2; most = let n = took.1 in omega arith; stopped = inr took.1 };
+        refused = record { refusal = TooLong; deserved = inl long; line = line };
+      },
+    )
 
 not_that : (result s : ℕ) → result ≡ s → 2 ≤ s → (s ≡ refused_status → ⊥) → (s ≡ write_fault_status → ⊥)
     → (result ≤ 1) ⊎ ((result ≡ refused_status) ⊎ (result ≡ write_fault_status)) → ⊥

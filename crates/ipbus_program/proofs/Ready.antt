@@ -46,6 +46,12 @@ pub printed : {E : Type 0} (bytes : List ℕ) (session : Session) (steps : List 
     → IfOk result (λ answer. Owes Run bytes answer.status answer.text.items)
 printed bytes session steps (Ok answer) runs prints =
     inl (record {
-      session = session; steps = steps; runnable = runs; runs = prints.runs; boards = prints.boards; spelled = prints.spelled; told = prints.told;
+      session = session;
+      steps = steps;
+      runnable = runs;
+      runs = prints.runs;
+      boards = prints.boards;
+      spelled = prints.spelled;
+      told = prints.told;
     })
 printed bytes session steps (Err why) runs prints = tt

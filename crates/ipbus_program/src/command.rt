@@ -31,7 +31,11 @@ pub fn command_of(alloc: Global, words: &[String]) -> Result<Option<Command>, No
 fn single(word: &str) -> Option<Command>
     ensures { result ≡ spec.command_of_one word.now }
 {
-    if word == "run" { Some(Command::Run) } else { None }
+    if word == "run" {
+        Some(Command::Run)
+    } else {
+        None
+    }
 }
 
 fn pair(alloc: Global, word: &str, table: &str) -> Result<Option<Command>, NoMemory>

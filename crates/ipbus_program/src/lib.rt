@@ -10,9 +10,7 @@ pub mod laws;
 mod program;
 mod running;
 
-pub use answer::{
-    DONE, NO_MEMORY, NOT_ALL_DONE, READ_FAULT, REFUSED, USAGE, WRITE_FAULT,
-};
+pub use answer::{DONE, NO_MEMORY, NOT_ALL_DONE, READ_FAULT, REFUSED, USAGE, WRITE_FAULT};
 pub use command::Command;
 pub use edges::{ReaderSource, WriterSink};
 pub use program::control;

@@ -10,17 +10,15 @@ ghost use Rattle.ipbus_program.specs.Steps.{MayRun, Prints};
 ghost use Rattle.ipbus_program.specs.Numbers.{refused_status};
 
 use crate::answer::{DONE, NOT_ALL_DONE, REFUSED};
-use crate::command::Command;
 use crate::below::runs_in_turn;
+use crate::command::Command;
 use direct_run::run_boards;
 use ipb_base::NoMemory;
 use node_tree::Index;
 use script_lang::{Session, Steps};
 use session_input::{Refusal, Unread, read_for_check, read_for_run};
 use std::alloc::Global;
-use transcript::{
-    OpLine, all_good, board_lines, lines_of_clients, listing_text, transcript_text,
-};
+use transcript::{OpLine, all_good, board_lines, lines_of_clients, listing_text, transcript_text};
 
 /// A status, and the text that goes with it.
 #[derive(Drop)]
@@ -30,11 +28,7 @@ pub(crate) struct Answer {
 }
 
 /// What a command answers to the bytes of a document.
-pub(crate) fn answer_to(
-    alloc: Global,
-    command: &Command,
-    bytes: &[u8],
-) -> Result<Answer, NoMemory>
+pub(crate) fn answer_to(alloc: Global, command: &Command, bytes: &[u8]) -> Result<Answer, NoMemory>
     ensures { IfOk result (λ answer. spec.Owes command.now bytes.now answer.status answer.text.items) }
 {
     match command {
@@ -117,5 +111,9 @@ fn transcript(alloc: Global, session: &Session, steps: &[Steps]) -> Result<Answe
 fn run_status(clients: &[Vec<OpLine>]) -> u8
     ensures { result ≡ lines.run_status (map (λ client. client.items) clients.now) }
 {
-    if all_good(clients) { DONE } else { NOT_ALL_DONE }
+    if all_good(clients) {
+        DONE
+    } else {
+        NOT_ALL_DONE
+    }
 }

@@ -76,12 +76,7 @@ fn document_line(alloc: Global, path: &str, rule: &str) -> Result<String, NoMemo
     Ok(format!(in alloc; "refused: document {path} {rule}\n")?)
 }
 
-fn table_line(
-    alloc: Global,
-    table: &str,
-    path: &[u64],
-    rule: &str,
-) -> Result<String, NoMemory>
+fn table_line(alloc: Global, table: &str, path: &[u64], rule: &str) -> Result<String, NoMemory>
     ensures { IfOk result (λ text. string_bytes text
         ≡ codes "refused: table " ++ (table.now ++ (codes " " ++ (spec.shown (spec.positions path.now)
         ++ (codes " " ++ (rule.now ++ codes "\n")))))) }
@@ -98,12 +93,7 @@ fn node_line(alloc: Global, table: &str, path: &str, rule: &str) -> Result<Strin
     Ok(format!(in alloc; "refused: table {table} {path} {rule}\n")?)
 }
 
-fn compile_line(
-    alloc: Global,
-    table: &str,
-    path: &str,
-    rule: &str,
-) -> Result<String, NoMemory>
+fn compile_line(alloc: Global, table: &str, path: &str, rule: &str) -> Result<String, NoMemory>
     ensures { IfOk result (λ text. string_bytes text
         ≡ codes "refused: compile " ++ (table.now ++ (codes " " ++ (path.now
         ++ (codes " " ++ (rule.now ++ codes "\n")))))) }

@@ -19,7 +19,10 @@ pub enum Refusal {
     TooLong,
     /// The document breaks a rule outside its tables. The path leads from the document to the place: keys and positions
     /// from 0 with dots between them. It is empty where the document as a whole is at fault.
-    Document { path: Text, why: DocWhy },
+    Document {
+        path: Text,
+        why: DocWhy,
+    },
     /// The table of this name has a faulty node.
     Table {
         table: Text,
@@ -33,7 +36,10 @@ pub enum Refusal {
         why: CompileWhy,
     },
     /// The ranges of the board of this name are no bus.
-    Board { name: Text, why: BusRefusal },
+    Board {
+        name: Text,
+        why: BusRefusal,
+    },
     /// A line of a script, by the numbers from 1 of its client and of itself, breaks a rule.
     Script {
         client: u32,

@@ -19,7 +19,7 @@ loop-board-preserved c =
     let right : HasBus board = search rules in
     record {
       right = λ later. c.loop-board.invariant.right
-      (right_later HasBus c.args.boards.now c.loop-board.board-index board c.loop-board-test.true c.board-item.is right later);
+          (right_later HasBus c.args.boards.now c.loop-board.board-index board c.loop-board-test.true c.board-item.is right later);
       first = λ r later. c.loop-board.invariant.first r
-      (told_later HasBus (λ b. TellsBus b r) c.args.boards.now c.loop-board.board-index board c.loop-board-test.true c.board-item.is right later);
+          (told_later HasBus (λ b. TellsBus b r) c.args.boards.now c.loop-board.board-index board c.loop-board-test.true c.board-item.is right later);
     }

@@ -23,10 +23,10 @@ loop-board-preserved c =
     let index : HasIndex tables board c.in_ok-index_of.field-0 = search rules in
     record {
       compile = λ later. c.loop-board.invariant.compile
-      (right_later (Compiles tables) c.args.boards.now c.loop-board.board-index board c.loop-board-test.true c.board-item.is right later);
+          (right_later (Compiles tables) c.args.boards.now c.loop-board.board-index board c.loop-board-test.true c.board-item.is right later);
       indexes = rw c.in_ok-push.ensures.items
-      (zip_more (HasIndex tables) c.args.boards.now c.loop-board.indexes.items c.loop-board.board-index board c.in_ok-index_of.field-0
-      c.loop-board-test.true c.board-item.is c.loop-board.invariant.indexes index);
+          (zip_more (HasIndex tables) c.args.boards.now c.loop-board.indexes.items c.loop-board.board-index board c.in_ok-index_of.field-0
+          c.loop-board-test.true c.board-item.is c.loop-board.invariant.indexes index);
       first = λ r later. c.loop-board.invariant.first r
-      (told_later (Compiles tables) (λ b. TellsCompile tables b.table r) c.args.boards.now c.loop-board.board-index board c.loop-board-test.true c.board-item.is right later);
+          (told_later (Compiles tables) (λ b. TellsCompile tables b.table r) c.args.boards.now c.loop-board.board-index board c.loop-board-test.true c.board-item.is right later);
     }
