@@ -1,6 +1,6 @@
 //! Laws of the form. These functions do nothing when they run: their clauses are what is proved.
 
-ghost use Rattle.std.specs.Prelude.{◌≡◌, [], ◌∷◌};
+ghost use Rattle.std.specs.Prelude.{◌≡◌, List, [], ◌∷◌};
 ghost use Rattle.std.specs.List.{AllZip};
 ghost use Rattle.std.specs.declared.alloc.Global.{Global};
 ghost use Rattle.toml.specs.Data.{Members};
@@ -11,8 +11,18 @@ ghost use Rattle.script_lang.specs.Document.{IsSession};
 ghost use Rattle.script_lang.specs.Scripts.{script_faults, steps_of};
 ghost use Rattle.first_form.specs.FirstForm.{IsFirstForm};
 ghost use Rattle.first_form.specs.Session.{Session};
+ghost use Rattle.script_lang.specs.declared.operation.Step.{Step};
+ghost use Rattle.transcript.specs.Lines.{transcript_of, run_status};
+ghost use Rattle.transcript.specs.Text.{transcript_text};
+ghost use Rattle.direct_run.specs.Runs.{runs_from};
 ghost use Rattle.first_form.specs.FirstSteps.{read_steps};
+ghost use Rattle.first_form.specs.FirstTranscript.{first_text};
 ghost use Rattle.first_form.specs.WholeSession.{IsRegisterNode, whole_session};
+
+use board_bus::laws::a_bus_opens_with_its_ranges;
+use masked_fields::laws::the_full_mask_is_the_word;
+use reply_join::laws::joining_is_a_function;
+use transaction_codec::laws::written_is_read_again;
 
 /// A document of the first form is a whole session document too, and stands there for the session of its table, its
 /// board and its script: one table, whose nodes are whole words that may be read and written; one simulated board, of
@@ -43,3 +53,29 @@ pub fn each_line_reads_its_register()
         (whole_session form.table_name table session).scripts
         ≡ [] }
 {}
+
+/// A document of the first form prints the words that its board opens with, each in its line's place, and its status
+/// is 0: whatever the steps of its script are on the index of its table, and however its table is spelled.
+pub fn the_first_form_prints_opening_words()
+    ensures text { (document : Members) (session : Session) (form : IsFirstForm document session) (table : Table)
+        → AllZip IsRegisterNode form.registers table.nodes.items → (index : RegisterMap)
+        → IsIndexOf (whole_session form.table_name table session).tables form.table_name index
+        → (steps : List (List Step))
+        → steps ≡ steps_of (whole_session form.table_name table session).boards (index ∷ [])
+        (whole_session form.table_name table session).scripts
+        → transcript_text (transcript_of steps
+        (runs_from 0 (whole_session form.table_name table session).boards steps)) ≡ first_text session }
+    ensures status { (document : Members) (session : Session) (form : IsFirstForm document session) (table : Table)
+        → AllZip IsRegisterNode form.registers table.nodes.items → (index : RegisterMap)
+        → IsIndexOf (whole_session form.table_name table session).tables form.table_name index
+        → (steps : List (List Step))
+        → steps ≡ steps_of (whole_session form.table_name table session).boards (index ∷ [])
+        (whole_session form.table_name table session).scripts
+        → run_status (transcript_of steps
+        (runs_from 0 (whole_session form.table_name table session).boards steps)).clients ≡ 0 }
+{
+    written_is_read_again();
+    joining_is_a_function();
+    the_full_mask_is_the_word();
+    a_bus_opens_with_its_ranges();
+}
