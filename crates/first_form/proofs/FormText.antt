@@ -1,5 +1,6 @@
 -- What a document of the first form prints.
-use Rattle.std.proofs.Common.{◌≡◌, ℕ, ◌+◌, ◌-◌, ◌^◌, ◌<◌, ◌≤◌, ◌↔◌, zero, suc, List, [], ◌∷◌, ◌++◌, length, Some, None, Ok, refl, sym, subst, ◌∙◌}
+use Rattle.std.proofs.Common.{◌≡◌, ℕ, ◌+◌, ◌-◌, ◌^◌, ◌<◌, ◌≤◌, ◌↔◌, zero, suc, List, [], ◌∷◌, ◌++◌, length, Some}
+use Rattle.std.proofs.Common.{None, Ok, refl, sym, subst, ◌∙◌}
 use Rattle.std.proofs.Common.{arith, slice_index}
 use Rattle.std.specs.List.{AllByRecursion, AllZip, Contains, slice_index_or}
 use Rattle.std.proofs.lemmas.Bool.Decides.{nat_tests}
@@ -66,7 +67,7 @@ all_inside size values registers (register ∷ script) are named = (
   all_inside size values registers script are named.1,
 )
 
-number_words : (values : List Data) (init : List ℕ) → AllZip IsNumber values init → AreWords init
+pub number_words : (values : List Data) (init : List ℕ) → AllZip IsNumber values init → AreWords init
 number_words [] [] are = tt
 number_words [] (word ∷ init) are = absurd are
 number_words (value ∷ values) [] are = absurd are
@@ -74,7 +75,7 @@ number_words (value ∷ values) (word ∷ init) are = (are.0.word, number_words 
 
 module _ (laws : LawsBelow) (board : BoardSpec) (some : 1 ≤ board.size) (small : board.size ≤ 65536)
     (short : length board.init ≤ board.size) (words : AreWords board.init) where
-  is_allowed : refusal_of (board_range board ∷ []) ≡ None
+  pub is_allowed : refusal_of (board_range board ∷ []) ≡ None
   is_allowed = grind (arith, nat_tests)
 
   word_fits : (register : Register) → IsWord (opening_word board register)
@@ -124,7 +125,7 @@ module _ (laws : LawsBelow) (board : BoardSpec) (some : 1 ≤ board.size) (small
       )
 
 module _ (laws : LawsBelow) (document : Members) (session : Session) (form : IsFirstForm document session) where
-  range : IsRange form.is_board.range session.board.size session.board.init
+  pub range : IsRange form.is_board.range session.board.size session.board.init
   range = form.is_board.is_range
 
   some_lines : 1 ≤ length session.script
@@ -140,7 +141,7 @@ module _ (laws : LawsBelow) (document : Members) (session : Session) (form : IsF
       × (run_status (transcript_of steps (runs_from 0 (whole_board form.table_name session.board ∷ []) steps)).clients
       ≡ 0)
 
-  reads_printed : HasText (read_steps 1 session.script ∷ [])
+  pub reads_printed : HasText (read_steps 1 session.script ∷ [])
   reads_printed =
       let fits = range.fits in
       let long = as_long IsNumber (values range.numbers) session.board.init range.words in

@@ -12,3 +12,6 @@ pub mod OneReply
 pub mod OneRun
 pub mod OneText
 pub mod FormText
+pub mod TableIndex
+pub mod TableRules
+pub mod FormRun
