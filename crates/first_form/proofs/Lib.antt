@@ -7,3 +7,11 @@ pub mod LineWords
 pub mod LineRegisters
 pub mod ScriptSteps
 pub mod FormSteps
+pub mod OneBody
+pub mod OneReply
+pub mod OneRun
+pub mod OneText
+pub mod FormText
+pub mod TableIndex
+pub mod TableRules
+pub mod FormRun

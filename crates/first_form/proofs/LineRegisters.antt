@@ -1,9 +1,8 @@
 -- The registers of the form's table are in its index, under their ids, and their ids follow the rule.
-use Rattle.std.proofs.Common.{◌≡◌, ℕ, ◌+◌, ◌<◌, zero, suc, List, [], ◌∷◌, length, true, Some, refl, sym, ap, subst, ◌∙◌, arith}
+use Rattle.std.proofs.Common.{◌≡◌, ℕ, ◌+◌, ◌<◌, zero, suc, List, [], ◌∷◌, length, true, Some, refl, sym, subst}
+use Rattle.std.proofs.Common.{arith}
 use Rattle.std.specs.FinMap.{get, insert, empty, get-insert}
 use Rattle.std.specs.List.{AllZip, Contains, slice_index_or}
-use Rattle.std.specs.Ordering.{eq_by_cmp, nat_cmp}
-use Rattle.std.specs.Cmp.Lexicographic.{slice_cmp}
 use Rattle.std.proofs.lemmas.Cmp.{nat_list_cmp_total, eq_by_cmp_equiv}
 use Rattle.toml.specs.Data.{Data}
 use Rattle.address_table.specs.Rules.{is_id}
@@ -23,12 +22,12 @@ abbrev pub whole_register : Register → Indexed
 whole_register register =
     record { address = register.address; mask = 0xffffffff; permission = Rw; mode = Single; size = 1 }
 
-node_register : (register : Register) (n : Node) → IsRegisterNode register n → register_of 0 n ≡ whole_register register
+pub node_register : (register : Register) (n : Node) → IsRegisterNode register n → register_of 0 n ≡ whole_register register
 node_register register n is =
     let address : 0 + (out-Node n).address ≡ register.address = omega (arith, is.address) in
     rw (address, is.mask, is.permission, is.mode, is.size) refl
 
-node_names : (tables : TableMap) (register : Register) (n : Node) (ns : List Node) → IsRegisterNode register n
+pub node_names : (tables : TableMap) (register : Register) (n : Node) (ns : List Node) → IsRegisterNode register n
     → Names tables (n ∷ ns) [] 0 register.id (whole_register register)
 node_names tables register n ns is =
     subst (λ r. Names tables (n ∷ ns) [] 0 register.id r) (node_register register n is)
@@ -45,7 +44,7 @@ named_in tables (r ∷ rs) (n ∷ ns) register zero same below is =
 named_in tables (r ∷ rs) (n ∷ ns) register (suc k) same below is =
     later n ns [] 0 register.id (whole_register register) (named_in tables rs ns register k same.1 (omega arith) is)
 
-one_table : (name : Name) (table : Table) → nodes_of (insert empty name table) name ≡ table.nodes.items
+pub one_table : (name : Name) (table : Table) → nodes_of (insert empty name table) name ≡ table.nodes.items
 one_table name table =
     rw (get-insert nat_list_cmp_total empty name table name, (eq_by_cmp_equiv nat_list_cmp_total).refl name) refl
 

@@ -1,8 +1,9 @@
 -- The steps of the form's script: each line reads its register, and none is faulty.
-use Rattle.std.proofs.Common.{◌≡◌, ℕ, suc, ◌+◌, ◌≤◌, ◌<◌, ◌||◌, nat_lt, sum_by, List, [], ◌∷◌, ◌++◌, codes, length, map, true, false, Some, None}
-use Rattle.std.proofs.Common.{Ok, refl, sym, ap, subst, ◌∙◌, arith, append-nil, length-append}
+use Rattle.std.proofs.Common.{◌≡◌, ℕ, suc, ◌+◌, ◌≤◌, ◌||◌, nat_lt, List, [], ◌∷◌, ◌++◌, codes, length, map, true}
+use Rattle.std.proofs.Common.{false, Some, None}
+use Rattle.std.proofs.Common.{Ok, refl, ap, ◌∙◌, arith, append-nil, length-append}
 use Rattle.std.specs.FinMap.{get}
-use Rattle.std.specs.List.{AllByRecursion, AllZip, filter_map}
+use Rattle.std.specs.List.{AllByRecursion}
 use Rattle.std.specs.Str.{bytes_eq}
 use Rattle.std.proofs.lemmas.Slice.Eq.{bytes_eq-Decides}
 use Rattle.std.proofs.lemmas.Bool.Decides.{nat_tests}
@@ -15,7 +16,9 @@ use Rattle.node_tree.specs.Maps.{RegisterMap}
 use Rattle.script_lang.specs.declared.operation.Step.TheVariants.{Do}
 use Rattle.script_lang.specs.declared.script_refusal.TheConstants.{MAX_LINES, MAX_OPERATIONS, MAX_BLOCK_WORDS}
 use Rattle.script_lang.specs.Operations.{meaning}
-use Rattle.script_lang.specs.Scripts.{ScriptLine, lines_from, all_lines, operations_in, block_words_in, line_meaning, count_in, count_of, tally_of, is_over, broken_by, faults_after, script_faults, step_in, steps_from, steps_of}
+use Rattle.script_lang.specs.Scripts.{ScriptLine, lines_from, operations_in, block_words_in, line_meaning, count_in}
+use Rattle.script_lang.specs.Scripts.{count_of, tally_of, is_over, broken_by, faults_after, script_faults}
+use Rattle.script_lang.specs.Scripts.{steps_from, steps_of}
 use Rattle.first_form.specs.Session.{Register, BoardSpec}
 use Rattle.first_form.specs.FirstSteps.{read_of, read_steps}
 use Rattle.first_form.specs.WholeSession.{whole_board, read_line}

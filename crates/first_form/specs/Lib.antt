@@ -4,3 +4,4 @@ pub mod Session
 pub mod FirstForm
 pub mod WholeSession
 pub mod FirstSteps
+pub mod FirstTranscript

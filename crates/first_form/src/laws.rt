@@ -1,18 +1,34 @@
 //! Laws of the form. These functions do nothing when they run: their clauses are what is proved.
 
-ghost use Rattle.std.specs.Prelude.{◌≡◌, [], ◌∷◌};
+ghost use Rattle.std.specs.Prelude.{◌≡◌, ◌≤◌, ℕ, List, [], ◌∷◌, length};
 ghost use Rattle.std.specs.List.{AllZip};
 ghost use Rattle.std.specs.declared.alloc.Global.{Global};
 ghost use Rattle.toml.specs.Data.{Members};
 ghost use Rattle.address_table.specs.declared.nodes.Table.{Table};
 ghost use Rattle.node_tree.specs.Maps.{RegisterMap};
 ghost use Rattle.node_tree.specs.Names.{IsIndexOf};
-ghost use Rattle.script_lang.specs.Document.{IsSession};
+ghost use Rattle.script_lang.specs.Document.{IsSession, IsToml};
 ghost use Rattle.script_lang.specs.Scripts.{script_faults, steps_of};
 ghost use Rattle.first_form.specs.FirstForm.{IsFirstForm};
 ghost use Rattle.first_form.specs.Session.{Session};
+ghost use Rattle.script_lang.specs.declared.operation.Step.{Step};
+ghost use Rattle.transcript.specs.Lines.{transcript_of, run_status};
+ghost use Rattle.transcript.specs.Text.{transcript_text};
+ghost use Rattle.direct_run.specs.Runs.{runs_from};
+ghost use Rattle.session_input.specs.Numbers.{document_bytes};
+ghost use Rattle.ipbus_program.specs.declared.command.Command.TheVariants.{Run};
+ghost use Rattle.ipbus_program.specs.Numbers.{done_status};
+ghost use Rattle.ipbus_program.specs.Runs.{Owes};
 ghost use Rattle.first_form.specs.FirstSteps.{read_steps};
+ghost use Rattle.first_form.specs.FirstTranscript.{first_text};
 ghost use Rattle.first_form.specs.WholeSession.{IsRegisterNode, whole_session};
+
+use board_bus::laws::a_bus_opens_with_its_ranges;
+use direct_run::laws::clients_in_turn_are_a_run;
+use ipbus_program::laws::one_answer_is_owed;
+use masked_fields::laws::the_full_mask_is_the_word;
+use reply_join::laws::joining_is_a_function;
+use transaction_codec::laws::written_is_read_again;
 
 /// A document of the first form is a whole session document too, and stands there for the session of its table, its
 /// board and its script: one table, whose nodes are whole words that may be read and written; one simulated board, of
@@ -43,3 +59,48 @@ pub fn each_line_reads_its_register()
         (whole_session form.table_name table session).scripts
         ≡ [] }
 {}
+
+/// A document of the first form prints the words that its board opens with, each in its line's place, and its status
+/// is 0: whatever the steps of its script are on the index of its table, and however its table is spelled.
+pub fn the_first_form_prints_opening_words()
+    ensures text { (document : Members) (session : Session) (form : IsFirstForm document session) (table : Table)
+        → AllZip IsRegisterNode form.registers table.nodes.items → (index : RegisterMap)
+        → IsIndexOf (whole_session form.table_name table session).tables form.table_name index
+        → (steps : List (List Step))
+        → steps ≡ steps_of (whole_session form.table_name table session).boards (index ∷ [])
+        (whole_session form.table_name table session).scripts
+        → transcript_text (transcript_of steps
+        (runs_from 0 (whole_session form.table_name table session).boards steps)) ≡ first_text session }
+    ensures status { (document : Members) (session : Session) (form : IsFirstForm document session) (table : Table)
+        → AllZip IsRegisterNode form.registers table.nodes.items → (index : RegisterMap)
+        → IsIndexOf (whole_session form.table_name table session).tables form.table_name index
+        → (steps : List (List Step))
+        → steps ≡ steps_of (whole_session form.table_name table session).boards (index ∷ [])
+        (whole_session form.table_name table session).scripts
+        → run_status (transcript_of steps
+        (runs_from 0 (whole_session form.table_name table session).boards steps)).clients ≡ 0 }
+{
+    written_is_read_again();
+    joining_is_a_function();
+    the_full_mask_is_the_word();
+    a_bus_opens_with_its_ranges();
+}
+
+/// Bytes of a document of the first form, no more than a document may have, break no rule of the command `run`: it owes
+/// status 0 and the words that the board opens with, each in its line's place, and nothing else.
+pub fn a_document_of_the_first_form_runs()
+    ensures owed { (alloc : Global) (bytes : List ℕ) (document : Members) (session : Session)
+        → length bytes ≤ document_bytes → IsToml bytes document → IsFirstForm document session
+        → Owes Run bytes done_status (first_text session) }
+    ensures only { (alloc : Global) (bytes : List ℕ) (document : Members) (session : Session)
+        → length bytes ≤ document_bytes → IsToml bytes document → IsFirstForm document session
+        → (status : ℕ) (text : List ℕ) → Owes Run bytes status text
+        → (status ≡ done_status) × (text ≡ first_text session) }
+{
+    written_is_read_again();
+    joining_is_a_function();
+    the_full_mask_is_the_word();
+    a_bus_opens_with_its_ranges();
+    clients_in_turn_are_a_run();
+    one_answer_is_owed();
+}
