@@ -1,7 +1,8 @@
 //! A hub over any link.
 
-ghost use Rattle.std.specs.Prelude.{◌≡◌, ◌≤◌, length, None, IfSome, IfOk, OnOk};
+ghost use Rattle.std.specs.Prelude.{◌≡◌, ◌≤◌, ℕ, List, length, None, IfSome, IfOk, OnOk};
 ghost use Rattle.reliable_engine.specs.Answers.{body_count};
+ghost use Rattle.world_model.specs.declared.offered.Fate.{Fate};
 ghost use Rattle.world_model.specs.Sends.{next_send};
 ghost use Rattle.world_model.specs.World.{World};
 ghost use Rattle.world_core.specs.States.{IsReached};
@@ -21,9 +22,9 @@ use world_model::laws::sends::{only_an_offer_makes_more_bodies, sends_go_one_by_
 /// Sends all that waits.
 pub fn send_all<L: Link>(alloc: Global, hub: &mut Engine, link: &mut L) -> Result<(), LinkFault>
     requires { HasSpellings hub.old }
-    ensures reached { OnOk result ((begin : World)
-        → IfSome (L.telling link.old) (λ t. IsReached begin hub.old t.told)
-        → IfSome (L.telling link.new) (λ t. IsReached begin hub.new t.told)) }
+    ensures reached { OnOk result ((begin : World) (fates : List (ℕ × Fate))
+        → IfSome (L.telling link.old) (λ t. IsReached begin fates hub.old t.told)
+        → IfSome (L.telling link.new) (λ t. IsReached begin fates hub.new t.told)) }
     ensures none { OnOk result (next_send hub.new ≡ None) }
     ensures fates { OnOk result (hub.new.fates ≡ hub.old.fates) }
 {
