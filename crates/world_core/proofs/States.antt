@@ -197,7 +197,7 @@ nothing_handed w none =
     (append-nil w.fates)
     ∙ ap (λ (fates : List (ℕ × Fate)). record w { hub = record w.hub { fates = fates } }) (sym none))
 
-caught_up_here : SendsEnd → (w : World) → next_send w.hub ≡ None → w.hub.fates ≡ [] → caught_up w ≡ w
+pub caught_up_here : SendsEnd → (w : World) → next_send w.hub ≡ None → w.hub.fates ≡ [] → caught_up w ≡ w
 caught_up_here law w none told = ap handed_out (law w none) ∙ nothing_handed w told
 
 state_here : SendsEnd → (begin w : World) → next_send w.hub ≡ None → w.hub.fates ≡ [] → IsLaneState begin w

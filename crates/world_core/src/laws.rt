@@ -130,7 +130,8 @@ pub fn each_call_leads_to_a_state_of_a_run()
 /// What such a state tells. The executed bodies are the front of those that were sent first, in order, and each fate
 /// that waits to be handed out is that of its place. Of the fates that were handed out and those that wait it tells, as
 /// the board is and once the sends that wait are in the air, that they are a true history: a body that was replied was
-/// sent and executed at the place of that reply, and one that timed out was executed at its place or not at all.
+/// sent and executed at the place of that reply, and one that timed out was executed at its place or not at all. Where
+/// no send and no fate waits, this is told of the state itself.
 pub fn a_state_of_a_run_tells_the_truth()
     ensures executed { (begin : World) (fates : List (ℕ × Fate)) (hub : Hub) (told : Told)
         → IsReached begin fates hub told → IsPrefix (executed told.board) (bodies_of hub.sent) }
@@ -140,6 +141,8 @@ pub fn a_state_of_a_run_tells_the_truth()
         → (caught_up (world_of_both hub told fates)).fates ≡ fates ++ hub.fates }
     ensures same_board { (hub : Hub) (told : Told) (fates : List (ℕ × Fate))
         → (caught_up (world_of_both hub told fates)).board ≡ told.board }
+    ensures nothing_waits { (hub : Hub) (told : Told) (fates : List (ℕ × Fate)) → next_send hub ≡ None
+        → hub.fates ≡ [] → caught_up (world_of_both hub told fates) ≡ world_of_both hub told fates }
     ensures history { (window rounds : ℕ) (board : Board) (air : List Datagram) (fates : List (ℕ × Fate))
         (hub : Hub) (told : Told) → IsStart window board air
         → IsReached (start window rounds board air) fates hub told
@@ -158,6 +161,7 @@ pub fn a_state_of_a_run_tells_the_truth()
     joined_ones_tell_the_truth();
     each_body_is_executed_once();
     a_fate_is_that_of_its_place();
+    sends_go_one_by_one();
 }
 
 /// A receive of a link that tells may be put together of steps: nothing at all; a datagram that the board hears, whose

@@ -1,5 +1,5 @@
 use Rattle.world_core.specs.States.{world_of_both}
-use Rattle.world_core.proofs.States.{all_fates, run_of, same_board}
+use Rattle.world_core.proofs.States.{all_fates, caught_up_here, run_of, same_board}
 use Rattle.world_core.proofs.laws.a_state_of_a_run_tells_the_truth.Goals as goal
 
 pub returns-clause-all_fates : goal.returns-clause-all_fates
@@ -7,6 +7,10 @@ returns-clause-all_fates c = λ hub told fates. all_fates (world_of_both hub tol
 
 pub returns-clause-same_board : goal.returns-clause-same_board
 returns-clause-same_board c = λ hub told fates. same_board (world_of_both hub told fates)
+
+pub returns-clause-nothing_waits : goal.returns-clause-nothing_waits
+returns-clause-nothing_waits c = λ hub told fates none out.
+    caught_up_here c.sends_go_one_by_one.ensures.end (world_of_both hub told fates) none out
 
 pub returns-clause-history : goal.returns-clause-history
 returns-clause-history c = λ window rounds board air fates hub told begins is.
