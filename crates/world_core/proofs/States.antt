@@ -1,6 +1,6 @@
 -- States of runs: what each event makes of them.
-use Rattle.std.proofs.Common.{◌≡◌, ℕ, ◌+◌, Bool, true, false, cond, List, [], ◌∷◌, ◌++◌, length, Option}
-use Rattle.std.proofs.Common.{Some, None, Result, Ok, Err, refl, sym, ap, ◌∙◌, subst, arith, ◌==◌, nat_lt}
+use Rattle.std.proofs.Common.{◌≡◌, ℕ, zero, suc, ◌+◌, Bool, true, false, cond, List, [], ◌∷◌, ◌++◌, length}
+use Rattle.std.proofs.Common.{Option, Some, None, Result, Ok, Err, refl, sym, ap, ◌∙◌, subst, arith, ◌==◌, nat_lt}
 use Rattle.std.specs.Prelude.{nat_le, min, ◌||◌}
 use Rattle.std.specs.List.{AllByRecursion, slice_get}
 use Rattle.std.proofs.lemmas.List.{append-nil}
@@ -24,9 +24,10 @@ use Rattle.world_model.specs.Hub.{recovered, settle, some_waited, take_message, 
 use Rattle.world_model.specs.Sends.{Next, Wanted, bytes_to_send, first_send, next_send, pending, wanted}
 use Rattle.world_model.specs.Sends.{wanted_or_first, wishes}
 use Rattle.world_model.specs.Air.{goes_to, is_alive}
-use Rattle.world_model.specs.World.{World, answered, board_hears, flush, go_on, handed_out, hub_hears, moves_on}
-use Rattle.world_model.specs.World.{run_moves, sent_into, start, step, taken, when_taken, with_hub}
-use Rattle.world_model.specs.History.{IsMove}
+use Rattle.world_model.specs.World.{World, answered, board_hears, flush, flush_on, go_on, handed_out, hub_hears}
+use Rattle.world_model.specs.World.{moves_on, run_moves, sent_into, start, step, taken, when_taken, with_hub}
+use Rattle.world_model.specs.Facts.{IsStart}
+use Rattle.world_model.specs.History.{IsMove, IsRun}
 use Rattle.world_model.specs.Lanes.{IsLaneState, IsState, caught_up}
 use Rattle.world_model.specs.Links.{IsHanded, IsHeard, IsJoined, Told, birth_of, first_sends, heard_by}
 use Rattle.world_model.specs.Links.{heard_on, hears_all, sent_on, then_told}
@@ -128,6 +129,35 @@ pub one_leaves : (hub : Hub) (next : Next) → next_send hub ≡ Some next
     → (next.hub.gave_up ≡ hub.gave_up) × (next.hub.fates ≡ hub.fates)
 one_leaves hub next is = subst (Leaves hub) is (send_leaves hub)
 
+-- ---- what the sends that wait leave as it was
+
+pub record SameTold (old new : World) : Type 0 where
+  pub board : new.board ≡ old.board
+  pub fates : new.fates ≡ old.fates
+  pub waiting : new.hub.fates ≡ old.hub.fates
+
+flush_case : (most : ℕ) (w : World) (r : Option Next) → Leaves w.hub r
+    → ((next : Next) → SameTold (sent_into w next) (flush most (sent_into w next)))
+    → SameTold w (flush_on r (λ next. flush most (sent_into w next)) w)
+flush_case most w None leaves later = record { board = refl; fates = refl; waiting = refl }
+flush_case most w (Some next) leaves later =
+    let is = later next in
+    record { board = is.board; fates = is.fates; waiting = is.waiting ∙ leaves.1 }
+
+flush_same : (most : ℕ) (w : World) → SameTold w (flush most w)
+flush_same zero w = record { board = refl; fates = refl; waiting = refl }
+flush_same (suc most) w =
+    flush_case most w (next_send w.hub) (send_leaves w.hub) (λ next. flush_same most (sent_into w next))
+
+pub all_fates : (w : World) → (caught_up w).fates ≡ w.fates ++ w.hub.fates
+all_fates w =
+    let same = flush_same (pending w.hub) w in
+    ap (λ (fates : List (ℕ × Fate)). fates ++ (flush (pending w.hub) w).hub.fates) same.fates
+    ∙ ap (λ (fates : List (ℕ × Fate)). w.fates ++ fates) same.waiting
+
+pub same_board : (w : World) → (caught_up w).board ≡ w.board
+same_board w = (flush_same (pending w.hub) w).board
+
 -- ---- moves
 
 later_moves : (r : Result World WorldEnd) (one two : World → Result World WorldEnd) (w new : World)
@@ -167,7 +197,7 @@ nothing_handed w none =
     (append-nil w.fates)
     ∙ ap (λ (fates : List (ℕ × Fate)). record w { hub = record w.hub { fates = fates } }) (sym none))
 
-caught_up_here : SendsEnd → (w : World) → next_send w.hub ≡ None → w.hub.fates ≡ [] → caught_up w ≡ w
+pub caught_up_here : SendsEnd → (w : World) → next_send w.hub ≡ None → w.hub.fates ≡ [] → caught_up w ≡ w
 caught_up_here law w none told = ap handed_out (law w none) ∙ nothing_handed w told
 
 state_here : SendsEnd → (begin w : World) → next_send w.hub ≡ None → w.hub.fates ≡ [] → IsLaneState begin w
@@ -179,17 +209,18 @@ state_here law begin w none told is = subst (IsState begin) (caught_up_here law 
 pub begins_reached : (window rounds : ℕ) (board : Board) (air : List Datagram)
     → IsJoined (new_hub board.first (min window board.buffers) rounds) (record { board = board; air = air })
     → IsLaneState (start window rounds board air) (start window rounds board air)
-    → IsReached (start window rounds board air) (new_hub board.first (min window board.buffers) rounds)
+    → IsReached (start window rounds board air) [] (new_hub board.first (min window board.buffers) rounds)
     (record { board = board; air = air })
 begins_reached window rounds board air joined state =
-    record { joined = joined; rest = λ e. absurd cc; fates = []; state = state }
+    record { joined = joined; rest = λ e. absurd cc; state = state }
 
-pub offered_reached : (begin : World) (hub : Hub) (told : Told) (offered : Offered) → (is : IsReached begin hub told)
+pub offered_reached : (begin : World) (fates : List (ℕ × Fate)) (hub : Hub) (told : Told) (offered : Offered)
+    → (is : IsReached begin fates hub told)
     → IsJoined (offer hub offered) told
-    → IsLaneState begin (with_hub (world_of_both hub told is.fates) (offer hub offered))
-    → IsReached begin (offer hub offered) told
-offered_reached begin hub told offered is joined state =
-    record { joined = joined; rest = λ e. absurd cc; fates = is.fates; state = state }
+    → IsLaneState begin (with_hub (world_of_both hub told fates) (offer hub offered))
+    → IsReached begin fates (offer hub offered) told
+offered_reached begin fates hub told offered is joined state =
+    record { joined = joined; rest = λ e. absurd cc; state = state }
 
 -- ---- sends
 
@@ -218,20 +249,19 @@ no_send_at_rest law hub next is rest gave_up =
     let none = law hub (rest (sym kept ∙ gave_up)) in
     absurd cc
 
-pub sent_reached : NothingToSend → (begin : World) (hub : Hub) (told : Told) (next : Next)
-    → (is : IsReached begin hub told) → next_send hub ≡ Some next
+pub sent_reached : NothingToSend → (begin : World) (fates : List (ℕ × Fate)) (hub : Hub) (told : Told) (next : Next)
+    → (is : IsReached begin fates hub told) → next_send hub ≡ Some next
     → IsJoined next.hub (sent_on told (bytes_to_send next.hub next.send))
-    → IsLaneState begin (sent_into (world_of_both hub told is.fates) next)
-    → IsReached begin next.hub (sent_on told (bytes_to_send next.hub next.send))
-sent_reached law begin hub told next is send joined state =
+    → IsLaneState begin (sent_into (world_of_both hub told fates) next)
+    → IsReached begin fates next.hub (sent_on told (bytes_to_send next.hub next.send))
+sent_reached law begin fates hub told next is send joined state =
     let bytes = bytes_to_send next.hub next.send in
     let birth = born_alike next.hub told bytes joined in
     record {
       joined = joined;
       rest = no_send_at_rest law hub next send is.rest;
-      fates = is.fates;
       state = subst (IsLaneState begin)
-          (ap (air_with (world_of_both hub told is.fates) next.hub bytes) (sym birth)) state;
+          (ap (air_with (world_of_both hub told fates) next.hub bytes) (sym birth)) state;
     }
 
 -- ---- what is heard
@@ -280,68 +310,71 @@ MoveLaw = (begin w new : World) (at : ℕ) (move : WorldMove) → IsMove move �
 abbrev pub HeardLaw : Type 0
 HeardLaw = (hub : Hub) (old new : Told) → IsJoined hub old → IsHeard old new → IsJoined hub new
 
-one_heard : MoveLaw → HeardLaw → (begin : World) (hub : Hub) (told new : Told) (place : ℕ) → IsReached begin hub told
-    → next_send hub ≡ None → hub.fates ≡ [] → heard_by told (slice_get told.air place) ≡ Some new
-    → IsReached begin hub new
-one_heard move join begin hub told new place is none out heard = record {
+one_heard : MoveLaw → HeardLaw → (begin : World) (fates : List (ℕ × Fate)) (hub : Hub) (told new : Told)
+    (place : ℕ)
+    → IsReached begin fates hub told → next_send hub ≡ None → hub.fates ≡ []
+    → heard_by told (slice_get told.air place) ≡ Some new → IsReached begin fates hub new
+one_heard move join begin fates hub told new place is none out heard = record {
   joined = join hub told new is.joined
       (record { places = place ∷ []; heard = ap (λ (r : Option Told). then_told r (λ after. Some after)) heard });
   rest = is.rest;
-  fates = is.fates;
-  state = move begin (world_of_both hub told is.fates) (world_of_both hub new is.fates) 0 (BoardHears place) tt is.state
-      none out (heard_step 0 place hub told new is.fates (slice_get told.air place) is.joined refl heard);
+  state = move begin (world_of_both hub told fates) (world_of_both hub new fates) 0 (BoardHears place) tt is.state
+      none out (heard_step 0 place hub told new fates (slice_get told.air place) is.joined refl heard);
 }
 
-then_heard : (begin : World) (hub : Hub) (new : Told) (r : Option Told) (later : Told → Option Told)
+then_heard : (begin : World) (fates : List (ℕ × Fate)) (hub : Hub) (new : Told) (r : Option Told)
+    (later : Told → Option Told)
     → then_told r later ≡ Some new
-    → ((after : Told) → r ≡ Some after → later after ≡ Some new → IsReached begin hub new)
-    → IsReached begin hub new
-then_heard begin hub new None later heard go = absurd cc
-then_heard begin hub new (Some after) later heard go = go after refl heard
+    → ((after : Told) → r ≡ Some after → later after ≡ Some new → IsReached begin fates hub new)
+    → IsReached begin fates hub new
+then_heard begin fates hub new None later heard go = absurd cc
+then_heard begin fates hub new (Some after) later heard go = go after refl heard
 
-all_heard : MoveLaw → HeardLaw → (begin : World) (hub : Hub) (told new : Told) (places : List ℕ)
-    → IsReached begin hub told → next_send hub ≡ None → hub.fates ≡ [] → hears_all told places ≡ Some new
-    → IsReached begin hub new
-all_heard move join begin hub told new [] is none out heard =
+all_heard : MoveLaw → HeardLaw → (begin : World) (fates : List (ℕ × Fate)) (hub : Hub) (told new : Told)
+    (places : List ℕ)
+    → IsReached begin fates hub told → next_send hub ≡ None → hub.fates ≡ [] → hears_all told places ≡ Some new
+    → IsReached begin fates hub new
+all_heard move join begin fates hub told new [] is none out heard =
     let same : told ≡ new = cc in
-    subst (IsReached begin hub) same is
-all_heard move join begin hub told new (place ∷ places) is none out heard =
-    then_heard begin hub new (heard_by told (slice_get told.air place)) (λ after. hears_all after places) heard
-    (λ after one later. all_heard move join begin hub after new places
-    (one_heard move join begin hub told after place is none out one) none out later)
+    subst (IsReached begin fates hub) same is
+all_heard move join begin fates hub told new (place ∷ places) is none out heard =
+    then_heard begin fates hub new (heard_by told (slice_get told.air place)) (λ after. hears_all after places) heard
+    (λ after one later. all_heard move join begin fates hub after new places
+    (one_heard move join begin fates hub told after place is none out one) none out later)
 
-pub heard_reached : MoveLaw → HeardLaw → (begin : World) (hub : Hub) (old new : Told) → IsReached begin hub old
-    → next_send hub ≡ None → hub.fates ≡ [] → IsHeard old new → IsReached begin hub new
-heard_reached move join begin hub old new is none out heard =
-    all_heard move join begin hub old new heard.places is none out heard.heard
+pub heard_reached : MoveLaw → HeardLaw → (begin : World) (fates : List (ℕ × Fate)) (hub : Hub) (old new : Told)
+    → IsReached begin fates hub old → next_send hub ≡ None → hub.fates ≡ [] → IsHeard old new
+    → IsReached begin fates hub new
+heard_reached move join begin fates hub old new is none out heard =
+    all_heard move join begin fates hub old new heard.places is none out heard.heard
 
 -- ---- the hub
 
 -- a hub after a move of a run
-hub_reached : SendsEnd → (begin : World) (hub after : Hub) (told : Told) (move : WorldMove)
-    → (is : IsReached begin hub told) → next_send hub ≡ None → hub.fates ≡ [] → IsMove move
+hub_reached : SendsEnd → (begin : World) (fates : List (ℕ × Fate)) (hub after : Hub) (told : Told) (move : WorldMove)
+    → (is : IsReached begin fates hub told) → next_send hub ≡ None → hub.fates ≡ [] → IsMove move
     → IsJoined after told → (after.gave_up ≡ true → IsAtRest after)
-    → ((n : ℕ) → step n (world_of_both hub told is.fates) move ≡ Ok (go_on (world_of_both hub told is.fates) after))
-    → IsReached begin after told
-hub_reached law begin hub after told move is none out can joined rest leads =
-    let w = world_of_both hub told is.fates in
+    → ((n : ℕ) → step n (world_of_both hub told fates) move ≡ Ok (go_on (world_of_both hub told fates) after))
+    → IsReached begin fates after told
+hub_reached law begin fates hub after told move is none out can joined rest leads =
+    let w = world_of_both hub told fates in
     record {
       joined = joined;
       rest = rest;
-      fates = is.fates;
       state = record {
         given_up = λ e. rest_pending after (rest e);
         state = moved_on begin w (go_on w after) move can (state_here law begin w none out is.state) leads;
       };
     }
 
-pub handed_reached : SendsEnd → (begin : World) (hub : Hub) (told : Told) (bytes : List ℕ) → IsReached begin hub told
+pub handed_reached : SendsEnd → (begin : World) (fates : List (ℕ × Fate)) (hub : Hub) (told : Told)
+    (bytes : List ℕ) → IsReached begin fates hub told
     → next_send hub ≡ None → hub.fates ≡ [] → IsHanded told bytes → IsJoined (take_message hub (to_hub bytes)) told
-    → IsReached begin (take_message hub (to_hub bytes)) told
-handed_reached law begin hub told bytes is none out handed joined =
+    → IsReached begin fates (take_message hub (to_hub bytes)) told
+handed_reached law begin fates hub told bytes is none out handed joined =
     let datagram : Datagram = record { direction = ToHub; bytes = bytes; birth = handed.at.birth } in
-    let w = world_of_both hub told is.fates in
-    hub_reached law begin hub (take_message hub (to_hub bytes)) told (HubHears handed.place) is none out tt joined
+    let w = world_of_both hub told fates in
+    hub_reached law begin fates hub (take_message hub (to_hub bytes)) told (HubHears handed.place) is none out tt joined
     (λ e. message_rests hub (to_hub bytes) (is.rest (sym (message_gave_up hub (to_hub bytes)) ∙ e)))
     (λ n. ap (λ (r : Result (List ℕ) WorldEnd). when_taken r (hub_hears w))
     (taken_ok n (length hub.sent) ToHub _ datagram handed.at.there refl
@@ -360,12 +393,12 @@ quiet_rests at_once nobody hub rest waiting = either (λ (h : Hub). h.gave_up �
     (λ _ e. absurd (let none = nobody hub (rest e) in cc))
     (λ _ _. at_once hub)
 
-pub quiet_reached : SendsEnd → RestAtOnce → NobodyWaits → (begin : World) (hub : Hub) (told : Told)
-    → IsReached begin hub told → next_send hub ≡ None → hub.fates ≡ [] → is_waiting hub ≡ true
-    → IsJoined (hear_quiet hub) told → IsReached begin (hear_quiet hub) told
-quiet_reached law at_once nobody begin hub told is none out waiting joined =
-    let w = world_of_both hub told is.fates in
-    hub_reached law begin hub (hear_quiet hub) told Quiet is none out tt joined
+pub quiet_reached : SendsEnd → RestAtOnce → NobodyWaits → (begin : World) (fates : List (ℕ × Fate)) (hub : Hub)
+    (told : Told) → IsReached begin fates hub told → next_send hub ≡ None → hub.fates ≡ [] → is_waiting hub ≡ true
+    → IsJoined (hear_quiet hub) told → IsReached begin fates (hear_quiet hub) told
+quiet_reached law at_once nobody begin fates hub told is none out waiting joined =
+    let w = world_of_both hub told fates in
+    hub_reached law begin fates hub (hear_quiet hub) told Quiet is none out tt joined
     (quiet_rests at_once nobody hub is.rest waiting)
     (λ n. ap (λ (b : Bool). cond b (Ok (go_on w (hear_quiet hub))) (Err (NotThere n))) waiting)
 
@@ -382,10 +415,10 @@ out_joined law hub told [] is joined =
 out_joined law hub told (fate ∷ fates) is joined =
     out_joined law (record hub { fates = fates }) told fates refl (law hub told fate fates joined is)
 
-pub out_reached : FateLaw → (begin : World) (hub : Hub) (told : Told) → (is : IsReached begin hub told)
-    → IsLaneState begin (handed_out (world_of_both hub told is.fates))
-    → IsReached begin (record hub { fates = [] }) told
-out_reached law begin hub told is state = record {
+pub out_reached : FateLaw → (begin : World) (fates : List (ℕ × Fate)) (hub : Hub) (told : Told)
+    → (is : IsReached begin fates hub told) → IsLaneState begin (handed_out (world_of_both hub told fates))
+    → IsReached begin (fates ++ hub.fates) (record hub { fates = [] }) told
+out_reached law begin fates hub told is state = record {
   joined = out_joined law hub told hub.fates refl is.joined;
   rest = λ e. let rest = is.rest e in record {
     queue = rest.queue;
@@ -394,6 +427,16 @@ out_reached law begin hub told is state = record {
     status = rest.status;
     quiet = rest.quiet;
   };
-  fates = is.fates ++ hub.fates;
   state = state;
 }
+
+-- ---- the run of a state
+
+pub run_of : (window rounds : ℕ) (board : Board) (air : List Datagram) (fates : List (ℕ × Fate)) (hub : Hub)
+    (told : Told) → IsStart window board air → IsReached (start window rounds board air) fates hub told
+    → (moves : List WorldMove) × IsRun window rounds board air moves (caught_up (world_of_both hub told fates))
+run_of window rounds board air fates hub told begins is =
+    let state = is.state.state in (
+      state.moves,
+      record { begins = begins; leads = record { sendable = state.sendable; at = 0; ran = state.ran } },
+    )

@@ -12,10 +12,9 @@ use Rattle.world_model.specs.Links.{IsJoined, Told}
 abbrev pub world_of_both : Hub → Told → List (ℕ × Fate) → World
 world_of_both hub told fates = record { board = told.board; hub = hub; air = told.air; fates = fates }
 
--- This hub, this board and this air are a state of a run that begins there: once the sends that wait are in the air,
--- some moves lead to it. What was handed out on the way stands in `fates`.
-pub record IsReached (begin : World) (hub : Hub) (told : Told) : Type 0 where
+-- This hub, this board and this air are a state of a run that begins there, after these fates were handed out: once the
+-- sends that wait are in the air, some moves lead to it.
+pub record IsReached (begin : World) (fates : List (ℕ × Fate)) (hub : Hub) (told : Told) : Type 0 where
   pub joined : IsJoined hub told
   pub rest : hub.gave_up ≡ true → IsAtRest hub
-  pub fates : List (ℕ × Fate)
   pub state : IsLaneState begin (world_of_both hub told fates)

@@ -12,6 +12,8 @@ ghost use Rattle.world_model.specs.declared.sending.Sending.{Sending};
 ghost use Rattle.world_model.specs.Air.{LIFETIME as most_further_sends};
 ghost use Rattle.ipb_base.specs.Numbers.{greatest_mtu};
 ghost use Rattle.reliable_engine.specs.Answers.{IsSendOf};
+ghost use Rattle.world_model.specs.declared.offered.Fate.{Fate};
+ghost use Rattle.world_model.specs.declared.offered.Fate.TheVariants.{Replied, TimedOut};
 ghost use Rattle.world_model.specs.declared.offered.Offered.{Offered};
 ghost use Rattle.world_model.specs.Board.{Board, executed, replies};
 ghost use Rattle.world_model.specs.Messages.{to_hub};
@@ -19,7 +21,7 @@ ghost use Rattle.world_model.specs.Hub.{Hub, hear_quiet, is_waiting, new_hub, of
 ghost use Rattle.world_model.specs.Sends.{Next, bytes_to_send, next_send};
 ghost use Rattle.world_model.specs.World.{World, run_moves, start};
 ghost use Rattle.world_model.specs.Facts.{AreRight, AreSendable, IsSendable, IsStart, bodies_of};
-ghost use Rattle.world_model.specs.History.{IsTrueHistory};
+ghost use Rattle.world_model.specs.History.{IsExecutedAtMostOnce, IsExecutedThere, IsHandedOut, IsTrueHistory};
 ghost use Rattle.world_model.specs.Lanes.{caught_up};
 ghost use Rattle.world_model.specs.Links.{heard_by, IsHanded, IsHandedAt, IsHeard, Told, sent_on};
 ghost use Rattle.world_core.specs.Messages.{IsWritable};
@@ -30,7 +32,7 @@ ghost use Rattle.world_core.specs.Telling.{IfTelling, IsGot, IsQuiet, IsReceived
 use crate::air::LIFETIME;
 use crate::link::MAX_DATAGRAM;
 use reliable_engine::laws::a_give_up_ends_all_waiting;
-use world_model::laws::history::each_body_is_executed_once;
+use world_model::laws::history::{a_fate_is_that_of_its_place, each_body_is_executed_once};
 use world_model::laws::lanes::waiting_sends_change_no_run;
 use world_model::laws::links::{
     a_greeting_joins, each_event_keeps_them_joined, joined_ones_tell_the_truth,
@@ -65,25 +67,32 @@ pub fn a_run_stops_at_the_first_move_that_is_not_allowed()
 
 /// A hub and a link that tells begin at a state of a run, and each thing that they do leads to one: an offer, a send
 /// that the link carried, whatever the board heard in one receive, a datagram that was handed out, a quiet receive, and
-/// the handing out of fates. The hub receives when nothing is left to send and no fate to hand out.
+/// the handing out of the fates that wait, which join those that were handed out before. The hub receives when nothing
+/// is left to send and no fate to hand out.
 pub fn each_event_leads_to_a_state_of_a_run()
     ensures begins { (window rounds : ℕ) (board : Board) (air : List Datagram) → IsStart window board air
-        → IsReached (start window rounds board air) (new_hub board.first (min window board.buffers) rounds)
+        → IsReached (start window rounds board air) [] (new_hub board.first (min window board.buffers) rounds)
         (record { board = board; air = air }) }
-    ensures offered { (begin : World) (hub : Hub) (told : Told) (offered : Offered) → IsReached begin hub told
-        → IsSendable offered.body → hub.fates ≡ [] → IsReached begin (offer hub offered) told }
-    ensures sent { (begin : World) (hub : Hub) (told : Told) (next : Next) → IsReached begin hub told
+    ensures offered { (begin : World) (fates : List (ℕ × Fate)) (hub : Hub) (told : Told) (offered : Offered)
+        → IsReached begin fates hub told
+        → IsSendable offered.body → hub.fates ≡ [] → IsReached begin fates (offer hub offered) told }
+    ensures sent { (begin : World) (fates : List (ℕ × Fate)) (hub : Hub) (told : Told) (next : Next)
+        → IsReached begin fates hub told
         → next_send hub ≡ Some next
-        → IsReached begin next.hub (sent_on told (bytes_to_send next.hub next.send)) }
-    ensures heard { (begin : World) (hub : Hub) (old new : Told) → IsReached begin hub old → next_send hub ≡ None
-        → hub.fates ≡ [] → IsHeard old new → IsReached begin hub new }
-    ensures handed { (begin : World) (hub : Hub) (told : Told) (bytes : List ℕ) → IsReached begin hub told
+        → IsReached begin fates next.hub (sent_on told (bytes_to_send next.hub next.send)) }
+    ensures heard { (begin : World) (fates : List (ℕ × Fate)) (hub : Hub) (old new : Told)
+        → IsReached begin fates hub old → next_send hub ≡ None
+        → hub.fates ≡ [] → IsHeard old new → IsReached begin fates hub new }
+    ensures handed { (begin : World) (fates : List (ℕ × Fate)) (hub : Hub) (told : Told) (bytes : List ℕ)
+        → IsReached begin fates hub told
         → next_send hub ≡ None → hub.fates ≡ [] → IsHanded told bytes
-        → IsReached begin (take_message hub (to_hub bytes)) told }
-    ensures quiet { (begin : World) (hub : Hub) (told : Told) → IsReached begin hub told → next_send hub ≡ None
-        → hub.fates ≡ [] → is_waiting hub ≡ true → IsReached begin (hear_quiet hub) told }
-    ensures handed_out { (begin : World) (hub : Hub) (told : Told) → IsReached begin hub told
-        → IsReached begin (record hub { fates = [] }) told }
+        → IsReached begin fates (take_message hub (to_hub bytes)) told }
+    ensures quiet { (begin : World) (fates : List (ℕ × Fate)) (hub : Hub) (told : Told)
+        → IsReached begin fates hub told → next_send hub ≡ None
+        → hub.fates ≡ [] → is_waiting hub ≡ true → IsReached begin fates (hear_quiet hub) told }
+    ensures handed_out { (begin : World) (fates : List (ℕ × Fate)) (hub : Hub) (told : Told)
+        → IsReached begin fates hub told
+        → IsReached begin (fates ++ hub.fates) (record hub { fates = [] }) told }
 {
     a_give_up_ends_all_waiting();
     a_greeting_joins();
@@ -95,40 +104,64 @@ pub fn each_event_leads_to_a_state_of_a_run()
 /// The same of the calls of a link that may tell: an accepted send, a receive that got a datagram, one that was quiet
 /// while somebody waited, and any other one.
 pub fn each_call_leads_to_a_state_of_a_run()
-    ensures sent { (begin : World) (hub : Hub) (next : Next) (before now : ℕ) (old new : Option Telling)
-        → IfSome old (λ t. IsReached begin hub t.told) → next_send hub ≡ Some next
+    ensures sent { (begin : World) (fates : List (ℕ × Fate)) (hub : Hub) (next : Next)
+        (before now : ℕ) (old new : Option Telling)
+        → IfSome old (λ t. IsReached begin fates hub t.told) → next_send hub ≡ Some next
         → IfTelling old new (IsSent (bytes_to_send next.hub next.send) before now)
-        → IfSome new (λ t. IsReached begin next.hub t.told) }
-    ensures got { (begin : World) (hub : Hub) (bytes : List ℕ) (before now : ℕ) (old new : Option Telling)
-        → IfSome old (λ t. IsReached begin hub t.told) → next_send hub ≡ None → hub.fates ≡ []
+        → IfSome new (λ t. IsReached begin fates next.hub t.told) }
+    ensures got { (begin : World) (fates : List (ℕ × Fate)) (hub : Hub) (bytes : List ℕ)
+        (before now : ℕ) (old new : Option Telling)
+        → IfSome old (λ t. IsReached begin fates hub t.told) → next_send hub ≡ None → hub.fates ≡ []
         → IfTelling old new (IsGot bytes before now)
-        → IfSome new (λ t. IsReached begin (take_message hub (to_hub bytes)) t.told) }
-    ensures quiet { (begin : World) (hub : Hub) (before now : ℕ) (old new : Option Telling)
-        → IfSome old (λ t. IsReached begin hub t.told) → next_send hub ≡ None → hub.fates ≡ []
+        → IfSome new (λ t. IsReached begin fates (take_message hub (to_hub bytes)) t.told) }
+    ensures quiet { (begin : World) (fates : List (ℕ × Fate)) (hub : Hub) (before now : ℕ) (old new : Option Telling)
+        → IfSome old (λ t. IsReached begin fates hub t.told) → next_send hub ≡ None → hub.fates ≡ []
         → is_waiting hub ≡ true → IfTelling old new (IsQuiet before now)
-        → IfSome new (λ t. IsReached begin (hear_quiet hub) t.told) }
-    ensures other { (begin : World) (hub : Hub) (by_hub : List ℕ) (before now : ℕ) (old new : Option Telling)
-        → IfSome old (λ t. IsReached begin hub t.told) → next_send hub ≡ None → hub.fates ≡ []
+        → IfSome new (λ t. IsReached begin fates (hear_quiet hub) t.told) }
+    ensures other { (begin : World) (fates : List (ℕ × Fate)) (hub : Hub) (by_hub : List ℕ)
+        (before now : ℕ) (old new : Option Telling)
+        → IfSome old (λ t. IsReached begin fates hub t.told) → next_send hub ≡ None → hub.fates ≡ []
         → IfTelling old new (IsReceived by_hub before now)
-        → IfSome new (λ t. IsReached begin hub t.told) }
+        → IfSome new (λ t. IsReached begin fates hub t.told) }
 {
     each_event_leads_to_a_state_of_a_run();
 }
 
-/// What such a state tells. The executed bodies are the front of those that were sent first, in order; each fate that
-/// waits to be handed out is that of its place; and with what was handed out and the sends that wait, it is a true
-/// history.
+/// What such a state tells. The executed bodies are the front of those that were sent first, in order, and each fate
+/// that waits to be handed out is that of its place. Of the fates that were handed out and those that wait it tells, as
+/// the board is and once the sends that wait are in the air, that they are a true history: a body that was replied was
+/// sent and executed at the place of that reply, and one that timed out was executed at its place or not at all. Where
+/// no send and no fate waits, this is told of the state itself.
 pub fn a_state_of_a_run_tells_the_truth()
-    ensures executed { (begin : World) (hub : Hub) (told : Told) → IsReached begin hub told
-        → IsPrefix (executed told.board) (bodies_of hub.sent) }
-    ensures fates { (begin : World) (hub : Hub) (told : Told) → IsReached begin hub told
-        → AreRight hub.sent (replies told.board) hub.fates }
-    ensures history { (window rounds : ℕ) (board : Board) (air : List Datagram) (hub : Hub) (told : Told)
-        → IsStart window board air → (is : IsReached (start window rounds board air) hub told)
-        → IsTrueHistory (caught_up (world_of_both hub told is.fates)) }
+    ensures executed { (begin : World) (fates : List (ℕ × Fate)) (hub : Hub) (told : Told)
+        → IsReached begin fates hub told → IsPrefix (executed told.board) (bodies_of hub.sent) }
+    ensures fates { (begin : World) (fates : List (ℕ × Fate)) (hub : Hub) (told : Told)
+        → IsReached begin fates hub told → AreRight hub.sent (replies told.board) hub.fates }
+    ensures all_fates { (hub : Hub) (told : Told) (fates : List (ℕ × Fate))
+        → (caught_up (world_of_both hub told fates)).fates ≡ fates ++ hub.fates }
+    ensures same_board { (hub : Hub) (told : Told) (fates : List (ℕ × Fate))
+        → (caught_up (world_of_both hub told fates)).board ≡ told.board }
+    ensures nothing_waits { (hub : Hub) (told : Told) (fates : List (ℕ × Fate)) → next_send hub ≡ None
+        → hub.fates ≡ [] → caught_up (world_of_both hub told fates) ≡ world_of_both hub told fates }
+    ensures history { (window rounds : ℕ) (board : Board) (air : List Datagram) (fates : List (ℕ × Fate))
+        (hub : Hub) (told : Told) → IsStart window board air
+        → IsReached (start window rounds board air) fates hub told
+        → IsTrueHistory (caught_up (world_of_both hub told fates)) }
+    ensures replied { (window rounds : ℕ) (board : Board) (air : List Datagram) (fates : List (ℕ × Fate))
+        (hub : Hub) (told : Told) (tag place : ℕ) (words : List ℕ) → IsStart window board air
+        → IsReached (start window rounds board air) fates hub told
+        → IsHandedOut (caught_up (world_of_both hub told fates)) tag (Replied place words)
+        → IsExecutedThere (caught_up (world_of_both hub told fates)) tag place }
+    ensures timed_out { (window rounds : ℕ) (board : Board) (air : List Datagram) (fates : List (ℕ × Fate))
+        (hub : Hub) (told : Told) (tag place after : ℕ) → IsStart window board air
+        → IsReached (start window rounds board air) fates hub told
+        → IsHandedOut (caught_up (world_of_both hub told fates)) tag (TimedOut place after)
+        → IsExecutedAtMostOnce (caught_up (world_of_both hub told fates)) tag place }
 {
     joined_ones_tell_the_truth();
     each_body_is_executed_once();
+    a_fate_is_that_of_its_place();
+    sends_go_one_by_one();
 }
 
 /// A receive of a link that tells may be put together of steps: nothing at all; a datagram that the board hears, whose

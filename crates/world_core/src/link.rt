@@ -83,6 +83,8 @@ pub trait Link {
         ensures failed { result ≡ Err LinkFault.Failed → Rose (faults self.old) (faults self.new) }
         ensures faults { faults self.old ≤ faults self.new }
         ensures quiets { quiets self.new ≡ quiets_after result (quiets self.old) }
+        ensures quiets_rise { quiets self.old ≤ quiets self.new }
         ensures gots { gots self.new ≡ gots_after result (gots self.old) }
+        ensures gots_rise { gots self.old ≤ gots self.new }
         ensures held { held self.old ≤ held self.new };
 }

@@ -7,7 +7,7 @@ use super::*;
 use board_node::{Bus, Range, RangeKind};
 use mem_link::MemLink;
 use packet_ids::Id;
-use pumping::{hub_with, send_all};
+use pumping::{hub_with, send_all, send_and_receive};
 use std::alloc::Global;
 use std::process::Abort;
 use std::test::*;
@@ -203,8 +203,7 @@ fn a_link_carries_a_packet_and_its_reply(rt: HostRuntime) -> Result<(), Fail> {
     let request: [u8; 12] = [0x20, 0, 1, 0xf0, 0x20, 0, 1, 0x0f, 0, 0, 0, 4];
     let reply: [u8; 12] = [0x20, 0, 1, 0xf0, 0x20, 0, 1, 0, 0, 0, 0xab, 0xcd];
     let mut into = Vec::new(alloc);
-    assert!(rt; link.send(&request) == Ok(()));
-    assert!(rt; link.receive(&mut into) == Ok(Received::Got));
+    assert!(rt; send_and_receive(&mut link, &request, &mut into) == Ok(Received::Got));
     assert_eq!(rt; into.as_slice(), reply.as_slice());
     assert!(rt; link.receive(&mut into) == Ok(Received::Quiet));
     assert_eq!(rt; into.len(), 0);

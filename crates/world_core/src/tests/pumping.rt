@@ -1,9 +1,11 @@
-//! A hub over any link.
+//! A hub over any link, and what any link does.
 
-ghost use Rattle.std.specs.Prelude.{◌≡◌, ◌≤◌, length, None, IfSome, IfOk, OnOk};
+ghost use Rattle.std.specs.Prelude.{◌≡◌, ◌≤◌, ℕ, List, length, None, IfSome, IfOk, OnOk};
 ghost use Rattle.reliable_engine.specs.Answers.{body_count};
+ghost use Rattle.world_model.specs.declared.offered.Fate.{Fate};
 ghost use Rattle.world_model.specs.Sends.{next_send};
 ghost use Rattle.world_model.specs.World.{World};
+ghost use Rattle.world_core.specs.declared.link.TheConstants.{MAX_DATAGRAM};
 ghost use Rattle.world_core.specs.States.{IsReached};
 ghost use Rattle.world_core.specs.Steps.{HasSpellings};
 ghost use Rattle.packet_codec.specs.declared.packet.TheConstants.{MAX_BODY_WORDS};
@@ -12,7 +14,7 @@ use crate::laws::{
     a_send_leaves_the_fates, each_call_leads_to_a_state_of_a_run, what_is_wanted_can_be_written,
 };
 use crate::sending::copy_words;
-use crate::{Engine, Link, LinkFault, Settings, Status, write_sending};
+use crate::{Engine, Link, LinkFault, Received, Settings, Status, write_sending};
 use packet_ids::Id;
 use std::alloc::Global;
 use std::test::*;
@@ -21,9 +23,9 @@ use world_model::laws::sends::{only_an_offer_makes_more_bodies, sends_go_one_by_
 /// Sends all that waits.
 pub fn send_all<L: Link>(alloc: Global, hub: &mut Engine, link: &mut L) -> Result<(), LinkFault>
     requires { HasSpellings hub.old }
-    ensures reached { OnOk result ((begin : World)
-        → IfSome (L.telling link.old) (λ t. IsReached begin hub.old t.told)
-        → IfSome (L.telling link.new) (λ t. IsReached begin hub.new t.told)) }
+    ensures reached { OnOk result ((begin : World) (fates : List (ℕ × Fate))
+        → IfSome (L.telling link.old) (λ t. IsReached begin fates hub.old t.told)
+        → IfSome (L.telling link.new) (λ t. IsReached begin fates hub.new t.told)) }
     ensures none { OnOk result (next_send hub.new ≡ None) }
     ensures fates { OnOk result (hub.new.fates ≡ hub.old.fates) }
 {
@@ -37,6 +39,22 @@ pub fn send_all<L: Link>(alloc: Global, hub: &mut Engine, link: &mut L) -> Resul
         link.send(&bytes)?;
     }
     Ok(())
+}
+
+/// Sends a datagram and waits for one. Whatever becomes of them, no count of the link falls.
+pub fn send_and_receive<L: Link>(
+    link: &mut L,
+    bytes: &[u8],
+    into: &mut Vec<u8>,
+) -> Result<Received, LinkFault>
+    requires { length bytes.now ≤ MAX_DATAGRAM }
+    ensures faults { L.faults link.old ≤ L.faults link.new }
+    ensures quiets { L.quiets link.old ≤ L.quiets link.new }
+    ensures gots { L.gots link.old ≤ L.gots link.new }
+    ensures held { L.held link.old ≤ L.held link.new }
+{
+    link.send(bytes)?;
+    link.receive(into)
 }
 
 /// The hub of a board that expects the identifier 1, with one body that waits.

@@ -15,9 +15,10 @@ loop-send-preserved g c =
     let call = subst (λ (bytes : List ℕ). IfTelling (telling before.link) (telling c.send.new.self)
     (IsSent bytes (held before.link) (held c.send.new.self))) (c.deref.ensures.value ∙ c.in_ok-bytes.ensures.bytes)
     c.in_ok-send.ensures.sent in (
-      λ begin reached. c.each_call_leads_to_a_state_of_a_run.ensures.sent begin old (record { send = send; hub = new })
-          (held before.link) (held c.send.new.self) (telling before.link) (telling c.send.new.self)
-          (before.invariant.0 begin reached) is call,
+      λ begin fates reached. c.each_call_leads_to_a_state_of_a_run.ensures.sent begin fates old
+          (record { send = send; hub = new }) (held before.link) (held c.send.new.self)
+          (telling before.link) (telling c.send.new.self)
+          (before.invariant.0 begin fates reached) is call,
       sent_spelled c.only_an_offer_makes_more_bodies.ensures.sent old new c.next_send.ensures.hub before.invariant.1,
       c.a_send_leaves_the_fates.ensures.fates old (record { send = send; hub = new }) is ∙ before.invariant.2,
     )
