@@ -2,3 +2,4 @@ pub mod Sorting
 mod Turns
 mod Only
 mod Sends
+mod OwnPlaces

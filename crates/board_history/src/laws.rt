@@ -6,9 +6,12 @@ ghost use Rattle.board_bus.specs.Cells.{CellMap};
 ghost use Rattle.transcript.specs.declared.outcome.Outcome.{Outcome};
 ghost use Rattle.transcript.specs.declared.board_run.BoardRun.{BoardRun};
 ghost use Rattle.transcript.specs.Lines.{is_sent, outcomes_on};
-ghost use Rattle.std.specs.List.{count_by};
+ghost use Rattle.transcript.specs.declared.board_run.ClientPart.{ClientPart};
+ghost use Rattle.transcript.specs.Ends.{ends_of};
+ghost use Rattle.transcript.specs.Claims.{HaveOwnPlaces};
+ghost use Rattle.std.specs.List.{AllByRecursion, count_by};
 ghost use Rattle.board_history.specs.Order.{bodies_of, order};
-ghost use Rattle.board_history.specs.Parts.{AllReplied, IsExecutedOnce};
+ghost use Rattle.board_history.specs.Parts.{AllReplied, HasOneOrder, IsExecutedOnce};
 ghost use Rattle.board_history.specs.InTurn.{AreInTurn, in_turn};
 ghost use Rattle.board_history.specs.History.{IsHistory, bodies_by_client, outcomes_by_client};
 
@@ -40,4 +43,11 @@ pub fn a_history_of_clients_in_turn_is_the_only_one()
 pub fn the_first_sends_are_the_order()
     ensures { (run : BoardRun) → map length (outcomes_by_client run) ≡ map length (bodies_by_client run) →
         count_by is_sent (outcomes_on run) ≡ length (order (bodies_by_client run) (outcomes_by_client run)) }
+{}
+
+/// Where a board has one order, no two bodies of a client have one place there. So neither have two pieces of an
+/// operation.
+pub fn each_body_has_its_own_place()
+    ensures { (run : BoardRun) → HasOneOrder (bodies_by_client run) (outcomes_by_client run) →
+        AllByRecursion (λ (part : ClientPart). HaveOwnPlaces (ends_of part)) run.parts }
 {}

@@ -3,3 +3,4 @@ mod Exchanges
 mod Sending
 mod Running
 mod Shown
+mod Answering

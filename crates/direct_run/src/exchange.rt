@@ -15,7 +15,7 @@ use board_bus::laws::a_reply_has_room;
 use board_node::Board;
 use ipb_base::{NoMemory, Words};
 use packet_codec::laws::reading_is_the_grammar;
-use packet_codec::{Order, Packet, PacketKind, read_packet, write_packet};
+use packet_codec::{BadPacket, Order, Packet, PacketKind, read_packet, write_packet};
 use std::alloc::Global;
 
 /// The datagram of a body: a big-endian control packet with the identifier that the board expects next.
@@ -69,6 +69,7 @@ pub(crate) fn exchange(alloc: Global, board: &mut Board, body: &Words) -> Result
     deliver(alloc, board, body, &mut out)?;
     match read_packet(alloc, out.as_slice()) {
         Ok(packet) => Ok(packet.body),
-        Err(_) => Err(NoMemory),
+        Err(BadPacket::NoMemory) => Err(NoMemory),
+        Err(_) => unreachable!(),
     }
 }

@@ -1,17 +1,20 @@
 //! Laws of runs. These functions do nothing when they run: their clauses are what is proved.
 
 ghost use Rattle.std.specs.Prelude.{◌≡◌, ℕ, List};
-ghost use Rattle.std.specs.List.{flat_map};
+ghost use Rattle.std.specs.List.{AllByRecursion, flat_map};
 ghost use Rattle.board_node.specs.declared.spec.BoardSpec.{BoardSpec};
 ghost use Rattle.script_lang.specs.declared.operation.Step.{Step};
 ghost use Rattle.transcript.specs.declared.board_run.BoardRun.{BoardRun};
 ghost use Rattle.board_history.specs.Order.{bodies_of, order};
 ghost use Rattle.board_history.specs.History.{bodies_by_client, outcomes_by_client};
 ghost use Rattle.direct_run.specs.Runs.{AreRuns, IsRun, board_run, runs_from};
+ghost use Rattle.direct_run.specs.Answering.{AreAnswered, AskRequests, OpensWithWords};
 
+use board_bus::laws::{a_reply_answers_its_body, words_stay_words};
 use board_history::laws::{
     a_history_of_clients_in_turn_is_the_only_one, clients_in_turn_make_a_history,
 };
+use reply_join::laws::joining_is_a_function;
 
 /// What becomes of a board is a run of it: each client asked for the bodies of its script, the outcomes are one history
 /// of the board, each body was replied to, and the clients stand one after another. So it is for each board of a
@@ -43,4 +46,17 @@ pub fn the_order_is_client_by_client()
 {
     a_history_of_clients_in_turn_is_the_only_one();
     clients_in_turn_make_a_history();
+}
+
+/// Where nothing is lost, the board told the answer to each transaction: no body is garbled, timed out, unsent or lost.
+/// So what fails of its transactions failed by a code of the bus, or stands behind one that did.
+pub fn each_body_is_answered()
+    ensures { (spec : BoardSpec) (board : ℕ) (scripts : List (List Step)) (run : BoardRun) →
+        IsRun spec board scripts run → OpensWithWords spec → AskRequests run →
+        AllByRecursion AreAnswered run.parts }
+{
+    a_history_of_clients_in_turn_is_the_only_one();
+    a_reply_answers_its_body();
+    words_stay_words();
+    joining_is_a_function();
 }

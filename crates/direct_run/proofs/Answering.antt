@@ -1,0 +1,112 @@
+-- Where nothing is lost, each body is answered.
+use Rattle.std.proofs.Common.{◌≡◌, ◌↔◌, ℕ, ◌+◌, ◌<◌, ◌^◌, List, [], ◌∷◌, length, map, Option, Some, None, refl, sym, subst, arith}
+use Rattle.std.specs.List.{AllByRecursion, zip}
+use Rattle.ipb_base.specs.Word.{AreWords}
+use Rattle.ipb_base.proofs.WordLemmas.{AreWords-append}
+use Rattle.ipb_base.proofs.AllLemmas.{all-map}
+use Rattle.transaction_codec.specs.declared.request.Op.{Op}
+use Rattle.transaction_codec.specs.declared.request.Op.TheVariants.{Read, ReadPort, Write, WritePort, RmwBits, RmwSum}
+use Rattle.transaction_codec.specs.declared.request.Request.{Request}
+use Rattle.transaction_codec.specs.Request.{AreRequests, IsRequest, SpellsRequests, op_kind, request_words, requests_words}
+use Rattle.transaction_codec.specs.Answer.{CanAnswer, IsReplyTo}
+use Rattle.reply_join.specs.declared.answer.Answer.{Answer}
+use Rattle.reply_join.specs.ByWords.{answers}
+use Rattle.board_bus.specs.Cells.{CellMap, HoldsWords}
+use Rattle.board_bus.specs.Bodies.{run_body, replay}
+use Rattle.board_node.specs.declared.spec.BoardSpec.{BoardSpec}
+use Rattle.script_lang.specs.declared.operation.Step.{Step}
+use Rattle.transcript.specs.declared.board_run.BoardRun.{BoardRun}
+use Rattle.transcript.specs.Plan.{ClientBodies, AreSpelled}
+use Rattle.transcript.specs.Ends.{end_of, told_by}
+use Rattle.board_history.specs.InTurn.{outcomes_from}
+use Rattle.direct_run.specs.Runs.{parts_in_turn, plans_on, greeting_of, opening_of, board_run}
+use Rattle.direct_run.specs.Answering.{IsAnswered, AreAnswered, AsksRequests, AskRequests, OpensWithWords}
+use Rattle.direct_run.proofs.ReplyWords.{answer_words}
+
+-- ---- requests are words
+
+small_type : (op : Op) → op_kind op < 2 ^ 4
+small_type (Read base count) = omega arith
+small_type (ReadPort base count) = omega arith
+small_type (Write base words) = omega arith
+small_type (WritePort base words) = omega arith
+small_type (RmwBits base and_term or_term) = omega arith
+small_type (RmwSum base addend) = omega arith
+
+one_request : (r : Request) → IsRequest r → AreWords (request_words r)
+one_request r is = (omega (arith, is.tid, is.count, small_type r.op), is.words)
+
+request_are_words : (rs : List Request) → AreRequests rs → AreWords (requests_words rs)
+request_are_words [] is = tt
+request_are_words (r ∷ rs) is =
+    AreWords-append (request_words r) (requests_words rs) (one_request r is.0) (request_are_words rs is.1)
+
+spelled_words : (body : List ℕ) → SpellsRequests body → AreWords body
+spelled_words body is = subst AreWords (sym is.2) (request_are_words is.0 is.1)
+
+-- ---- what the bus and joining promise
+
+abbrev pub Answering : Type 0
+Answering = (cells : CellMap) (requests : List Request) → HoldsWords cells → AreRequests requests
+    → IsReplyTo (requests_words requests) (run_body cells (requests_words requests)).reply
+
+abbrev pub AnsweringAny : Type 0
+AnsweringAny = (cells : CellMap) (body : List ℕ) → HoldsWords cells → AreWords body
+    → CanAnswer body (run_body cells body).reply
+
+abbrev pub Keeping : Type 0
+Keeping = (cells : CellMap) (body : List ℕ) → HoldsWords cells → AreWords body → HoldsWords (run_body cells body).cells
+
+abbrev pub KeepingAll : Type 0
+KeepingAll = (cells : CellMap) (bodies : List (List ℕ)) → HoldsWords cells → AllByRecursion AreWords bodies
+    → HoldsWords (replay cells bodies).cells
+
+abbrev pub Garbling : Type 0
+Garbling = (body reply : List ℕ) → AreWords body → AreWords reply → ((answers body reply ≡ None) ↔ ¬ IsReplyTo body reply)
+
+module _ (answering : Answering) (any : AnsweringAny) (keeping : Keeping) (keeping_all : KeepingAll)
+    (garbling : Garbling) where
+  told_there : (place : ℕ) (body reply : List ℕ) (found : Option (List Answer)) → answers body reply ≡ found
+      → AreWords body
+      → AreWords reply → IsReplyTo body reply
+      → IsAnswered (record { place = Some place; told = told_by found })
+  told_there place body reply None is asked words answered = absurd ((garbling body reply asked words).0 is answered)
+  told_there place body reply (Some list) is asked words answered =
+      record { place' = place; placed = refl; answers = list; answered = refl }
+
+  body_answered : (place : ℕ) (cells : CellMap) (body : List ℕ) → HoldsWords cells → SpellsRequests body
+      → IsAnswered (record { place = Some place; told = told_by (answers body (run_body cells body).reply) })
+  body_answered place cells body holds spelled =
+      let asked = spelled_words body spelled in
+      let reply = (run_body cells body).reply in
+      told_there place body reply (answers body reply) refl asked
+      (answer_words body reply (any cells body holds asked))
+      (subst (λ (b : List ℕ). IsReplyTo b (run_body cells b).reply) (sym spelled.2)
+      (answering cells spelled.0 holds spelled.1))
+
+  client_answered : (place : ℕ) (cells : CellMap) (bodies : List (List ℕ)) → HoldsWords cells → AreSpelled bodies
+      → AllByRecursion IsAnswered (map end_of (zip bodies (outcomes_from place cells bodies)))
+  client_answered place cells [] holds spelled = tt
+  client_answered place cells (body ∷ bodies) holds spelled = (
+    body_answered place cells body holds spelled.0,
+    client_answered (place + 1) (run_body cells body).cells bodies
+        (keeping cells body holds (spelled_words body spelled.0)) spelled.1,
+  )
+
+  parts_answered : (place : ℕ) (cells : CellMap) (plans : List ClientBodies) → HoldsWords cells
+      → AllByRecursion AsksRequests (parts_in_turn place cells plans)
+      → AllByRecursion AreAnswered (parts_in_turn place cells plans)
+  parts_answered place cells [] holds spelled = tt
+  parts_answered place cells (plan ∷ plans) holds spelled = (
+    client_answered place cells plan.bodies holds spelled.0,
+    parts_answered (place + length plan.bodies) (replay cells plan.bodies).cells plans
+        (keeping_all cells plan.bodies holds
+        (all-map SpellsRequests AreWords plan.bodies spelled_words spelled.0)) spelled.1,
+  )
+
+  pub run_answered : (spec : BoardSpec) (board : ℕ) (scripts : List (List Step)) (run : BoardRun)
+      → run ≡ board_run spec board scripts → OpensWithWords spec → AskRequests run
+      → AllByRecursion AreAnswered run.parts
+  run_answered spec board scripts run is opens =
+      subst (λ (r : BoardRun). AskRequests r → AllByRecursion AreAnswered r.parts) (sym is)
+      (parts_answered 1 (opening_of spec.link) (plans_on board (greeting_of spec.link) scripts) opens)
