@@ -3,3 +3,7 @@ pub mod WholeNodes
 pub mod WholeBoards
 pub mod WholeForm
 pub mod WholeTable
+pub mod LineWords
+pub mod LineRegisters
+pub mod ScriptSteps
+pub mod FormSteps

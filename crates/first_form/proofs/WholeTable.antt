@@ -15,7 +15,7 @@ use Rattle.first_form.specs.FirstForm.{IsNode, IsFirstForm}
 use Rattle.first_form.specs.WholeSession.{IsRegisterNode}
 use Rattle.toml.specs.Data.{Members}
 
-as_long : {A B : Type 0} (R : A → B → Type 0) (xs : List A) (ys : List B) → AllZip R xs ys → length xs ≡ length ys
+pub as_long : {A B : Type 0} (R : A → B → Type 0) (xs : List A) (ys : List B) → AllZip R xs ys → length xs ≡ length ys
 as_long R [] [] are = refl
 as_long R [] (y ∷ ys) are = absurd are
 as_long R (x ∷ xs) [] are = absurd are

@@ -3,3 +3,4 @@ pub mod Fields
 pub mod Session
 pub mod FirstForm
 pub mod WholeSession
+pub mod FirstSteps

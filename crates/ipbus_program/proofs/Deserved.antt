@@ -46,7 +46,7 @@ module _ (laws : InputLaws) where
   one_refusal Run bytes r q one other = laws.one_run_refusal bytes r q one other
   one_refusal (Check table) bytes r q one other = laws.one_list_refusal bytes table r q one other
 
-  done_apart : (command : Command) (bytes : List ℕ) (status : ℕ) (text : List ℕ) (r : Refusal)
+  pub done_apart : (command : Command) (bytes : List ℕ) (status : ℕ) (text : List ℕ) (r : Refusal)
       → IsDoneOf command bytes status text → Deserves (breaks_in command) bytes r → ⊥
   done_apart Run bytes status text r done deserved = laws.run_apart bytes done.session done.steps r done.runnable deserved
   done_apart (Check table) bytes status text r done deserved = laws.list_apart bytes table done.registers r done.listed deserved

@@ -5,3 +5,4 @@ pub mod Owed
 pub mod Outputs
 pub mod Below
 pub mod Steps
+pub mod Examples

@@ -1,10 +1,14 @@
 //! Laws of the definitions. These functions do nothing when they run: their clauses are what is proved.
 
-ghost use Rattle.std.specs.Prelude.{◌≡◌};
+ghost use Rattle.std.specs.Prelude.{◌≡◌, ℕ, List};
 ghost use Rattle.ipbus_program.specs.declared.answer.TheConstants.{DONE, NOT_ALL_DONE, USAGE, REFUSED, READ_FAULT};
 ghost use Rattle.ipbus_program.specs.declared.answer.TheConstants.{WRITE_FAULT, NO_MEMORY};
 ghost use Rattle.ipbus_program.specs.Numbers.{done_status, not_all_done_status, usage_status, refused_status};
 ghost use Rattle.ipbus_program.specs.Numbers.{read_fault_status, write_fault_status, no_memory_status};
+ghost use Rattle.ipbus_program.specs.declared.command.Command.{Command as CommandValue};
+ghost use Rattle.ipbus_program.specs.Runs.{Owes};
+
+use crate::below::{input_laws, runs_in_turn};
 
 /// The numbers that a user sees are those of the definitions.
 pub fn the_numbers_of_the_program()
@@ -16,3 +20,12 @@ pub fn the_numbers_of_the_program()
     ensures write_fault { WRITE_FAULT ≡ write_fault_status }
     ensures no_memory { NO_MEMORY ≡ no_memory_status }
 {}
+
+/// A command owes one status and one text to the bytes of a document: so a session has one transcript.
+pub fn one_answer_is_owed()
+    ensures { (command : CommandValue) (bytes : List ℕ) (s t : ℕ) (a b : List ℕ) →
+        Owes command bytes s a → Owes command bytes t b → (s ≡ t) × (a ≡ b) }
+{
+    input_laws();
+    runs_in_turn();
+}

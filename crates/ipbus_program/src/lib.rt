@@ -6,6 +6,7 @@ mod answer;
 mod below;
 mod command;
 mod edges;
+pub mod examples;
 pub mod laws;
 mod program;
 mod running;

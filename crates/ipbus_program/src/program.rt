@@ -125,6 +125,12 @@ pub fn control<S: Source, O: Sink>(
     ensures other_words { AreNoCommand words.now → (result ≡ usage_status) ⊎ (result ≡ write_fault_status) }
     // Of an input that tells its bytes, where neither count of faults rose: a document that breaks no rule of the
     // command is done whole, and any other is refused as it deserves, want of memory aside.
+    ensures unbroken { (command : Asked) (bytes : List ℕ)
+        → AreCommand words.now command → S.left input.old ≡ Some bytes
+        → ((refusal : WhyRefused) → ¬ Deserves (breaks_in command) bytes refusal)
+        → ¬ Rose (S.faults input.old) (S.faults input.new) → ¬ Rose (O.faults out.old) (O.faults out.new)
+        → IsWhole result }
+    // So it is done whole where it stands for a session that can be run, or lists the registers of its table.
     ensures runnable { (bytes : List ℕ) (session : Session) (steps : List (List Step))
         → AreCommand words.now Run → S.left input.old ≡ Some bytes → IsRunnable bytes session steps
         → ¬ Rose (S.faults input.old) (S.faults input.new) → ¬ Rose (O.faults out.old) (O.faults out.new)

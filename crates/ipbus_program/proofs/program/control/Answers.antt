@@ -74,6 +74,15 @@ returns-in-Ok-clause-no_other g c =
     c.in-Ok.answer.status c.in-Ok.answer.text.items c.as_slice.result.now c.as_slice.ensures.value _ _ _ _ c.deliver-in-Ok.result
     c.in-Ok.ensures.answer c.deliver-in-Ok.ensures.delivers
 
+pub returns-in-Ok-clause-unbroken : goal.returns-in-Ok-clause-unbroken
+returns-in-Ok-clause-unbroken g c command bytes asked told unbroken calm unfaulted =
+    let are : AreCommand c.args.words.now c.in-Ok-Some.command = search rules in
+    let same = one_command c.args.words.now command c.in-Ok-Some.command asked are in
+    accepted_whole c.input_laws.ensures c.in-Ok-Some.command (g.S.Source.left c.args.input.now) (g.S.Source.left c.answer_input.new.input) bytes told
+    c.in-Ok.answer.status c.in-Ok.answer.text.items c.as_slice.result.now c.as_slice.ensures.value _ _ _ _ c.deliver-in-Ok.result
+    (subst (λ command. (r : Refusal) → Deserves (breaks_in command) bytes r → ⊥) same unbroken)
+    c.in-Ok.ensures.answer c.deliver-in-Ok.ensures.delivers unfaulted
+
 pub returns-in-Ok-clause-runnable : goal.returns-in-Ok-clause-runnable
 returns-in-Ok-clause-runnable g c bytes session steps run told runs calm unfaulted =
     let are : AreCommand c.args.words.now c.in-Ok-Some.command = search rules in
