@@ -1,5 +1,6 @@
-//! `ipbus`: reads a session document from standard input, runs its script on its board, and prints what the board
-//! answered. The exit status is that of `control`; beside some of them a line on standard error says what happened.
+//! `ipbus`: reads a session document from standard input, and either runs its scripts on its boards and prints what
+//! they answered, or lists the registers of one of its tables. The exit status is that of `control`; beside some of
+//! them a line on standard error says what happened.
 #![tactic(auto)]
 
 use ipbus_program::{NO_MEMORY, READ_FAULT, ReaderSource, USAGE, WRITE_FAULT, WriterSink, control};
