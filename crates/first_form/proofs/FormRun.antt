@@ -4,8 +4,7 @@ use Rattle.std.specs.Global.{Global}
 use Rattle.std.specs.List.{AllByRecursion, AllZip}
 use Rattle.toml.specs.Data.{Data, Members}
 use Rattle.address_table.specs.declared.nodes.Table.{Table}
-use Rattle.board_node.specs.declared.spec.BoardSpec.{BoardSpec as WholeBoard}
-use Rattle.direct_run.specs.Runs.{AreRuns, runs_from}
+use Rattle.direct_run.specs.Runs.{runs_from}
 use Rattle.script_lang.specs.declared.operation.Step.{Step}
 use Rattle.script_lang.specs.declared.session.Session.{Session as WholeSession}
 use Rattle.script_lang.specs.Document.{IsToml}
@@ -14,6 +13,7 @@ use Rattle.session_input.specs.Numbers.{document_bytes}
 use Rattle.ipbus_program.specs.declared.command.Command.TheVariants.{Run}
 use Rattle.ipbus_program.specs.Numbers.{done_status}
 use Rattle.ipbus_program.specs.Runs.{Owes}
+use Rattle.first_form.specs.Below.{LawsBelow}
 use Rattle.first_form.specs.Session.{Register, Session}
 use Rattle.first_form.specs.Fields.{values}
 use Rattle.first_form.specs.FirstForm.{IsFirstForm, IsNode, IsNumber, IsRange}
@@ -21,7 +21,7 @@ use Rattle.first_form.specs.FirstSteps.{read_steps}
 use Rattle.first_form.specs.FirstTranscript.{first_text}
 use Rattle.first_form.specs.WholeSession.{IsRegisterNode, whole_session}
 use Rattle.first_form.proofs.FormSteps.{steps, faultless}
-use Rattle.first_form.proofs.FormText.{LawsBelow, is_allowed, number_words, range, reads_printed}
+use Rattle.first_form.proofs.FormText.{is_allowed, number_words, range, reads_printed}
 use Rattle.first_form.proofs.TableIndex.{index_of, has_index}
 use Rattle.first_form.proofs.TableRules.{IsLow, keeps_rules}
 use Rattle.first_form.proofs.WholeForm.{stands}
@@ -34,9 +34,7 @@ all_low size [] (register ∷ registers) small are = absurd are
 all_low size (value ∷ values) (register ∷ registers) small are =
     (omega (arith, are.0.below_size, small), all_low size values registers small are.1)
 
-module _ (laws : LawsBelow)
-    (turns : (specs : List WholeBoard) (scripts : List (List Step)) → AreRuns 0 specs scripts (runs_from 0 specs scripts))
-    (document : Members) (session : Session) (form : IsFirstForm document session) where
+module _ (laws : LawsBelow) (document : Members) (session : Session) (form : IsFirstForm document session) where
   abbrev read_script : List (List Step)
   read_script = read_steps 1 session.script ∷ []
 
@@ -91,7 +89,7 @@ module _ (laws : LawsBelow)
       steps = read_script;
       runnable = runnable bytes fits toml;
       runs = runs_from 0 whole.boards read_script;
-      boards = turns whole.boards read_script;
+      boards = laws.turns whole.boards read_script;
       spelled = sym (reads_printed laws document session form).0;
       told = sym (reads_printed laws document session form).1;
     })

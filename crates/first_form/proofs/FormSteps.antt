@@ -26,11 +26,13 @@ named_registers board registers (register ∷ script) (line ∷ lines) read =
 module _ (document : Members) (session : Session) (form : IsFirstForm document session) where
   pub script_named : AllByRecursion (Contains form.registers) session.script
   script_named =
-      named_registers session.board.name form.registers session.script (values form.is_client.lines) form.is_client.reads
+      named_registers session.board.name form.registers session.script (values form.is_client.lines)
+      form.is_client.reads
 
   pub script_few : length session.script ≤ 100
   script_few =
-      let long = as_long (IsRead session.board.name form.registers) (values form.is_client.lines) session.script form.is_client.reads in
+      let long = as_long (IsRead session.board.name form.registers) (values form.is_client.lines) session.script
+      form.is_client.reads in
       omega (arith, long, form.is_client.listed.1)
 
   module _ (table : Table) (same : AllZip IsRegisterNode form.registers table.nodes.items) (index : RegisterMap)
@@ -40,7 +42,8 @@ module _ (document : Members) (session : Session) (form : IsFirstForm document s
     known [] named = tt
     known (register ∷ script) named = (
       (
-        id_kept session.board.size (values form.nodes) form.registers register named.0.0 form.each_node named.0.1 named.0.2,
+        id_kept session.board.size (values form.nodes) form.registers register named.0.0 form.each_node named.0.1
+            named.0.2,
         indexed form.table_name table form.registers index register same is named.0,
       ),
       known script named.1,

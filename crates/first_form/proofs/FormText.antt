@@ -1,29 +1,24 @@
 -- What a document of the first form prints.
-use Rattle.std.proofs.Common.{◌≡◌, ℕ, ◌+◌, ◌-◌, ◌^◌, ◌<◌, ◌≤◌, ◌↔◌, zero, suc, List, [], ◌∷◌, ◌++◌, length, Some}
+use Rattle.std.proofs.Common.{◌≡◌, ℕ, ◌+◌, ◌-◌, ◌<◌, ◌≤◌, zero, suc, List, [], ◌∷◌, length}
 use Rattle.std.proofs.Common.{None, Ok, refl, sym, subst, ◌∙◌}
-use Rattle.std.proofs.Common.{arith, slice_index}
+use Rattle.std.proofs.Common.{arith}
 use Rattle.std.specs.List.{AllByRecursion, AllZip, Contains, slice_index_or}
 use Rattle.std.proofs.lemmas.Bool.Decides.{nat_tests}
 use Rattle.ipb_base.specs.Word.{IsWord, AreWords}
 use Rattle.ipb_base.proofs.WordLemmas.{AreWords-append, AreWords-zeros, word_at}
 use Rattle.toml.specs.Data.{Data, Members}
-use Rattle.transaction_codec.specs.declared.request.Request.{Request}
-use Rattle.transaction_codec.specs.Request.{IsRequest, request_at, request_words}
 use Rattle.address_table.specs.declared.nodes.Table.{Table}
-use Rattle.board_bus.specs.declared.range.Range.{Range}
-use Rattle.board_bus.specs.Cells.{read_fault, read_word, unless}
+use Rattle.board_bus.specs.Cells.{read_word}
 use Rattle.board_bus.specs.Ranges.{opening_words, opening_bus, refusal_of}
 use Rattle.masked_fields.specs.Field.{field}
 use Rattle.node_tree.specs.Maps.{RegisterMap}
 use Rattle.node_tree.specs.Names.{IsIndexOf}
-use Rattle.reply_join.specs.declared.answer.Answer.{Answer}
-use Rattle.reply_join.specs.Joining.{IsJoined}
-use Rattle.reply_join.specs.ByWords.{answers}
 use Rattle.script_lang.specs.declared.operation.Step.{Step}
 use Rattle.script_lang.specs.Scripts.{steps_of}
 use Rattle.transcript.specs.Lines.{transcript_of, run_status}
 use Rattle.transcript.specs.Text.{transcript_text}
 use Rattle.direct_run.specs.Runs.{runs_from}
+use Rattle.first_form.specs.Below.{LawsBelow}
 use Rattle.first_form.specs.Session.{Register, BoardSpec, Session}
 use Rattle.first_form.specs.Fields.{values}
 use Rattle.first_form.specs.FirstForm.{IsFirstForm, IsNode, IsNumber, IsRange, IsRead}
@@ -34,18 +29,6 @@ use Rattle.first_form.proofs.FormSteps.{script_named, script_few, steps}
 use Rattle.first_form.proofs.OneReply.{HasAddress, values_of}
 use Rattle.first_form.proofs.OneText.{text_is, status_is}
 use Rattle.first_form.proofs.WholeTable.{as_long}
-
--- what is rested on: requests are read again, answers are joined, the full mask is the word, and a bus opens with its
--- range
-pub record LawsBelow : Type 0 where
-  pub again : (request : Request) (rest : List ℕ) → IsRequest request
-      → request_at (request_words request ++ rest) ≡ Ok (request, rest)
-  pub joins : (body reply : List ℕ) (list : List Answer) → AreWords body → AreWords reply
-      → (IsJoined body reply list ↔ (answers body reply ≡ Some list))
-  pub full : (word : ℕ) → word < 2 ^ 32 → field word 0xffffffff ≡ word
-  pub opening : (front back : List Range) (range : Range) (place : ℕ) → refusal_of (front ++ range ∷ back) ≡ None
-      → place < range.size → read_word (opening_bus (front ++ range ∷ back)) (range.base + place)
-      ≡ unless (read_fault range.kind) (slice_index (opening_words range) place)
 
 abbrev IsInside : ℕ → Register → Type 0
 IsInside size register = register.address < size

@@ -22,7 +22,8 @@ abbrev pub whole_register : Register → Indexed
 whole_register register =
     record { address = register.address; mask = 0xffffffff; permission = Rw; mode = Single; size = 1 }
 
-pub node_register : (register : Register) (n : Node) → IsRegisterNode register n → register_of 0 n ≡ whole_register register
+pub node_register : (register : Register) (n : Node) → IsRegisterNode register n
+    → register_of 0 n ≡ whole_register register
 node_register register n is =
     let address : 0 + (out-Node n).address ≡ register.address = omega (arith, is.address) in
     rw (address, is.mask, is.permission, is.mode, is.size) refl

@@ -33,7 +33,8 @@ reads number (register ∷ script) = read_of number register ∷ reads (number +
 
 pub operations_are : (number : ℕ) (script : List Register) → operations (read_steps number script) ≡ reads number script
 operations_are number [] = refl
-operations_are number (register ∷ script) = ap (λ rest. read_of number register ∷ rest) (operations_are (number + 1) script)
+operations_are number (register ∷ script) =
+    ap (λ rest. read_of number register ∷ rest) (operations_are (number + 1) script)
 
 one_dispatch : (number : ℕ) (script : List Register) → dispatches (read_steps number script) ≡ reads number script ∷ []
 one_dispatch number [] = refl
@@ -111,7 +112,8 @@ dealt : (k : ℕ) (script : List Register)
 dealt k [] = refl
 dealt k (register ∷ script) = ap (λ rest. at_index k ∷ rest) (dealt (k + 1) script)
 
-still : (indices : List ℕ) → map (λ (pieces : List Piece). map (moved 0) pieces) (map at_index indices) ≡ map piece_of indices
+still : (indices : List ℕ)
+    → map (λ (pieces : List Piece). map (moved 0) pieces) (map at_index indices) ≡ map piece_of indices
 still [] = refl
 still (index ∷ indices) = ap (λ rest. piece_of index ∷ rest) (still indices)
 
@@ -140,7 +142,10 @@ packed_in_one register script few =
     append-nil (places_in 0 (length (bus_reads all)))
     ∙ ap (λ n. map (λ index. record { body = 0; index = index }) (range_with_len 0 n)) long in
     let parted : List (List Op) → Contents = λ parts.
-    record { bodies = map body_words parts; pieces = deal (map (piece_count 368) (bus_reads all)) (places_from 0 parts) } in
+    record {
+      bodies = map body_words parts;
+      pieces = deal (map (piece_count 368) (bus_reads all)) (places_from 0 parts);
+    } in
     ap parted (one_part register script few)
     ∙ ap (λ found. with_pieces all (deal (map (piece_count 368) (bus_reads all)) found)) places
     ∙ ap (with_pieces all) (dealt 0 all)

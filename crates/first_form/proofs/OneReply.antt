@@ -1,4 +1,5 @@
--- The body of a script on a bus that gives a word at each register: the reply has these words, and the answers show them.
+-- The body of a script on a bus that gives a word at each register: the reply has these words, and the answers show
+-- them.
 use Rattle.std.proofs.Common.{◌≡◌, ℕ, zero, suc, ◌+◌, ◌-◌, ◌^◌, ◌≤◌, ◌↔◌, List, [], ◌∷◌, ◌++◌, length, map}
 use Rattle.std.proofs.Common.{replicate, lit<}
 use Rattle.std.proofs.Common.{Result, Some, Ok, refl, sym, ap, ◌∙◌, arith, inl, append-nil}
@@ -139,7 +140,8 @@ module _ (word_of : Register → ℕ) where
     read_request tid register = record { tid = tid; op = ops.Read register.address 1 }
 
     transact_read : (tid : ℕ) (register : Register) → Gives register
-        → transact cells (read_request tid register) ≡ record { cells = cells; reply = word_reply tid (word_of register) }
+        → transact cells (read_request tid register)
+        ≡ record { cells = cells; reply = word_reply tid (word_of register) }
     transact_read tid register gives = rw gives refl
 
     run_script : (tid : ℕ) (script : List Register) (most : ℕ) → tid + length script ≤ 2 ^ 12

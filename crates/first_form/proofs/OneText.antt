@@ -88,7 +88,8 @@ module _ (board : BoardSpec) (script : List Register) (few : length script ≤ 1
         ≡ reads_text board number later
     lines_text_is number [] = refl
     lines_text_is number (register ∷ later) =
-        ap (λ line. line ++ lines_text (lines_shown (opening_word board) board.name script reply joined whole (number + 1) later))
+        ap (λ line. line
+        ++ lines_text (lines_shown (opening_word board) board.name script reply joined whole (number + 1) later))
         (line_is number register)
         ∙ ap (λ rest. read_text board number register ++ rest) (lines_text_is (number + 1) later)
 
@@ -114,7 +115,8 @@ module _ (board : BoardSpec) (script : List Register) (few : length script ≤ 1
         (runs_from 0 (whole_board table_name board ∷ []) (read_steps 1 script ∷ [])))
         ≡ first_text (record { board = board; script = script })
     text_is table_name register later split =
-        ap (λ runs. transcript_text (transcript_of (read_steps 1 script ∷ []) runs)) (run_is table_name register later split)
+        ap (λ runs. transcript_text (transcript_of (read_steps 1 script ∷ []) runs))
+        (run_is table_name register later split)
         ∙ ap (λ ops. text_of (lines_behind (first_run ∷ []) 0 [] ops)) (operations_are 1 script)
         ∙ ap text_of client_is
         ∙ joined_text (lines_shown (opening_word board) board.name script reply joined whole 1 script)
@@ -124,7 +126,8 @@ module _ (board : BoardSpec) (script : List Register) (few : length script ≤ 1
         → run_status (transcript_of (read_steps 1 script ∷ [])
         (runs_from 0 (whole_board table_name board ∷ []) (read_steps 1 script ∷ []))).clients ≡ 0
     status_is table_name register later split =
-        ap (λ runs. run_status (transcript_of (read_steps 1 script ∷ []) runs).clients) (run_is table_name register later split)
+        ap (λ runs. run_status (transcript_of (read_steps 1 script ∷ []) runs).clients)
+        (run_is table_name register later split)
         ∙ ap (λ ops. run_status (lines_behind (first_run ∷ []) 0 [] ops ∷ [])) (operations_are 1 script)
         ∙ ap (λ lines. run_status (lines ∷ [])) client_is
         ∙ rw (all_good (opening_word board) board.name script reply joined whole 1 script) refl

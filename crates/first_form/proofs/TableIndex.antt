@@ -83,7 +83,8 @@ listed_get (x ∷ xs) apart name r (inr listed) =
 
 -- ---- what the nodes name
 
-pub childless : (tables : TableMap) (register : Register) (n : Node) → IsRegisterNode register n → children_of tables n ≡ []
+pub childless : (tables : TableMap) (register : Register) (n : Node) → IsRegisterNode register n
+    → children_of tables n ≡ []
 childless tables register n is =
     ap (λ m. option_map_or (nodes_of tables) m (out-Node n).nodes.items) is.no_module ∙ is.no_nodes
 
@@ -100,9 +101,9 @@ opened tables ms above base name r (itself n ns above' base') = inl (refl, refl)
 opened tables ms above base name r (child n ns above' base' name' r' named) = inr (inl named)
 opened tables ms above base name r (later n ns above' base' name' r' named) = inr (inr named)
 
-mutual_none : (tables : TableMap) (ns : List Node) (above : Name) (base : ℕ) (name : Name) (r : Indexed) → ns ≡ []
+nothing_named : (tables : TableMap) (ns : List Node) (above : Name) (base : ℕ) (name : Name) (r : Indexed) → ns ≡ []
     → Names tables ns above base name r → ⊥
-mutual_none tables ns above base name r none named =
+nothing_named tables ns above base name r none named =
     opened tables [] above base name r (subst (λ ms. Names tables ms above base name r) none named)
 
 names_listed : (tables : TableMap) (registers : List Register) (ns : List Node) → AllZip IsRegisterNode registers ns
@@ -113,7 +114,7 @@ names_listed tables (x ∷ xs) [] same name r one = absurd same
 names_listed tables (x ∷ xs) (n ∷ ns) same name r (inl (id, reg)) =
     inl (sym same.0.id ∙ id, sym (node_register x n same.0) ∙ reg)
 names_listed tables (x ∷ xs) (n ∷ ns) same name r (inr (inl named)) =
-    absurd (mutual_none tables (children_of tables n) _ _ name r (childless tables x n same.0) named)
+    absurd (nothing_named tables (children_of tables n) _ _ name r (childless tables x n same.0) named)
 names_listed tables (x ∷ xs) (n ∷ ns) same name r (inr (inr named)) =
     inr (names_listed tables xs ns same.1 name r (opened tables ns [] 0 name r named))
 

@@ -37,7 +37,8 @@ parts_of ns m (modules.itself n others name is) = inl is
 parts_of ns m (modules.child n others name mention) = inr (inl mention)
 parts_of ns m (modules.later n others name mention) = inr (inr mention)
 
-no_module : (registers : List Register) (ns : List Node) → AllZip IsRegisterNode registers ns → (m : Name) → Parts ns m → ⊥
+no_module : (registers : List Register) (ns : List Node) → AllZip IsRegisterNode registers ns → (m : Name) → Parts ns m
+    → ⊥
 no_module [] [] same m parts = parts
 no_module [] (n ∷ ns) same m parts = absurd same
 no_module (x ∷ xs) [] same m parts = absurd same
@@ -135,7 +136,8 @@ module _ (root : Name) (table : Table) (registers : List Register)
   tables = insert empty root table
 
   table_found : get tables root ≡ Some table
-  table_found = rw (get-insert nat_list_cmp_total empty root table root, (eq_by_cmp_equiv nat_list_cmp_total).refl root) refl
+  table_found =
+      rw (get-insert nat_list_cmp_total empty root table root, (eq_by_cmp_equiv nat_list_cmp_total).refl root) refl
 
   by_found : (name m : Name) (b : Bool)
       → Mentions (option_map_or (λ (t : Table). t.nodes.items) (cond b (Some table) None) []) m → ⊥
@@ -151,7 +153,8 @@ module _ (root : Name) (table : Table) (registers : List Register)
   no_mention : (name m : Name) → Mentions (nodes_of tables name) m → ⊥
   no_mention name m mention =
       by_found name m (eq_by_cmp (slice_cmp nat_cmp) name root)
-      (subst (λ (o : Option Table). Mentions (option_map_or (λ (t : Table). t.nodes.items) o []) m) (found_at name) mention)
+      (subst (λ (o : Option Table). Mentions (option_map_or (λ (t : Table). t.nodes.items) o []) m) (found_at name)
+      mention)
 
   no_reach : (a b : Name) → Reaches tables a b → ⊥
   no_reach a b (direct a' b' mention) = no_mention a' b' mention

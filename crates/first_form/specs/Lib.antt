@@ -5,3 +5,4 @@ pub mod FirstForm
 pub mod WholeSession
 pub mod FirstSteps
 pub mod FirstTranscript
+pub mod Below

@@ -23,12 +23,8 @@ ghost use Rattle.first_form.specs.FirstSteps.{read_steps};
 ghost use Rattle.first_form.specs.FirstTranscript.{first_text};
 ghost use Rattle.first_form.specs.WholeSession.{IsRegisterNode, whole_session};
 
-use board_bus::laws::a_bus_opens_with_its_ranges;
-use direct_run::laws::clients_in_turn_are_a_run;
+use crate::below::laws_below;
 use ipbus_program::laws::one_answer_is_owed;
-use masked_fields::laws::the_full_mask_is_the_word;
-use reply_join::laws::joining_is_a_function;
-use transaction_codec::laws::written_is_read_again;
 
 /// A document of the first form is a whole session document too, and stands there for the session of its table, its
 /// board and its script: one table, whose nodes are whole words that may be read and written; one simulated board, of
@@ -60,8 +56,8 @@ pub fn each_line_reads_its_register()
         ≡ [] }
 {}
 
-/// A document of the first form prints the words that its board opens with, each in its line's place, and its status
-/// is 0: whatever the steps of its script are on the index of its table, and however its table is spelled.
+/// A document of the first form prints the words that its board opens with, one for each line of its script and all of
+/// one body at place 1, and its status is 0.
 pub fn the_first_form_prints_opening_words()
     ensures text { (document : Members) (session : Session) (form : IsFirstForm document session) (table : Table)
         → AllZip IsRegisterNode form.registers table.nodes.items → (index : RegisterMap)
@@ -80,10 +76,7 @@ pub fn the_first_form_prints_opening_words()
         → run_status (transcript_of steps
         (runs_from 0 (whole_session form.table_name table session).boards steps)).clients ≡ 0 }
 {
-    written_is_read_again();
-    joining_is_a_function();
-    the_full_mask_is_the_word();
-    a_bus_opens_with_its_ranges();
+    laws_below();
 }
 
 /// Bytes of a document of the first form, no more than a document may have, break no rule of the command `run`: it owes
@@ -97,10 +90,6 @@ pub fn a_document_of_the_first_form_runs()
         → (status : ℕ) (text : List ℕ) → Owes Run bytes status text
         → (status ≡ done_status) × (text ≡ first_text session) }
 {
-    written_is_read_again();
-    joining_is_a_function();
-    the_full_mask_is_the_word();
-    a_bus_opens_with_its_ranges();
-    clients_in_turn_are_a_run();
+    laws_below();
     one_answer_is_owed();
 }

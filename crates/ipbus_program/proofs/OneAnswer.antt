@@ -17,7 +17,8 @@ abbrev Same : ℕ → ℕ → List ℕ → List ℕ → Type 0
 Same s t a b = (s ≡ t) × (a ≡ b)
 
 module _ (laws : InputLaws) (turns : TurnLaws) where
-  one_transcript : (bytes : List ℕ) (s t : ℕ) (a b : List ℕ) → IsTranscriptOf bytes s a → IsTranscriptOf bytes t b → Same s t a b
+  one_transcript : (bytes : List ℕ) (s t : ℕ) (a b : List ℕ) → IsTranscriptOf bytes s a → IsTranscriptOf bytes t b
+      → Same s t a b
   one_transcript bytes s t a b one other =
       let same = laws.one_run bytes one.session other.session one.steps other.steps one.runnable other.runnable in
       let mine : one.runs ≡ runs_from 0 one.session.boards one.steps =

@@ -1,0 +1,29 @@
+-- What laws of the crates below say of requests, answers, masks, buses and runs: no public clause speaks of it.
+use Rattle.std.specs.Prelude.{◌≡◌, ◌↔◌, ℕ, ◌+◌, ◌^◌, ◌<◌, List, ◌∷◌, ◌++◌, slice_index, Some, None, Ok}
+use Rattle.ipb_base.specs.Word.{AreWords}
+use Rattle.transaction_codec.specs.declared.request.Request.{Request}
+use Rattle.transaction_codec.specs.Request.{IsRequest, request_at, request_words}
+use Rattle.board_bus.specs.declared.range.Range.{Range}
+use Rattle.board_bus.specs.Cells.{read_fault, read_word, unless}
+use Rattle.board_bus.specs.Ranges.{opening_words, opening_bus, refusal_of}
+use Rattle.board_node.specs.declared.spec.BoardSpec.{BoardSpec}
+use Rattle.masked_fields.specs.Field.{field}
+use Rattle.reply_join.specs.declared.answer.Answer.{Answer}
+use Rattle.reply_join.specs.Joining.{IsJoined}
+use Rattle.reply_join.specs.ByWords.{answers}
+use Rattle.script_lang.specs.declared.operation.Step.{Step}
+use Rattle.direct_run.specs.Runs.{AreRuns, runs_from}
+
+-- requests are read again, answers are joined, the field of the full mask is the word, a bus opens with its ranges, and
+-- clients one after another make a run
+pub record LawsBelow : Type 0 where
+  pub again : (request : Request) (rest : List ℕ) → IsRequest request
+      → request_at (request_words request ++ rest) ≡ Ok (request, rest)
+  pub joins : (body reply : List ℕ) (list : List Answer) → AreWords body → AreWords reply
+      → (IsJoined body reply list ↔ (answers body reply ≡ Some list))
+  pub full : (word : ℕ) → word < 2 ^ 32 → field word 0xffffffff ≡ word
+  pub opening : (front back : List Range) (range : Range) (place : ℕ) → refusal_of (front ++ range ∷ back) ≡ None
+      → place < range.size → read_word (opening_bus (front ++ range ∷ back)) (range.base + place)
+      ≡ unless (read_fault range.kind) (slice_index (opening_words range) place)
+  pub turns : (specs : List BoardSpec) (scripts : List (List Step))
+      → AreRuns 0 specs scripts (runs_from 0 specs scripts)
