@@ -4,3 +4,4 @@ mod Sending
 mod Running
 mod Shown
 mod Answering
+mod Shaped

@@ -9,12 +9,14 @@ ghost use Rattle.board_history.specs.Order.{bodies_of, order};
 ghost use Rattle.board_history.specs.History.{bodies_by_client, outcomes_by_client};
 ghost use Rattle.direct_run.specs.Runs.{AreRuns, IsRun, board_run, runs_from};
 ghost use Rattle.direct_run.specs.Answering.{AreAnswered, AskRequests, OpensWithWords};
+ghost use Rattle.direct_run.specs.Shape.{HaveFates};
 
 use board_bus::laws::{a_reply_answers_its_body, words_stay_words};
 use board_history::laws::{
     a_history_of_clients_in_turn_is_the_only_one, clients_in_turn_make_a_history,
 };
 use reply_join::laws::joining_is_a_function;
+use transcript::laws::bodies_stand_dispatch_by_dispatch;
 
 /// What becomes of a board is a run of it: each client asked for the bodies of its script, the outcomes are one history
 /// of the board, each body was replied to, and the clients stand one after another. So it is for each board of a
@@ -59,4 +61,13 @@ pub fn each_body_is_answered()
     a_reply_answers_its_body();
     words_stay_words();
     joining_is_a_function();
+}
+
+/// The runs of a session show what became of its boards, outcome by outcome in the shape of the plan: for each board
+/// and client each dispatch has one outcome for each of its bodies. So their transcript is that of a session.
+pub fn runs_have_the_shape_of_the_plan()
+    ensures { (specs : List BoardSpec) (scripts : List (List Step)) (runs : List BoardRun) →
+        AreRuns 0 specs scripts runs → HaveFates 0 scripts runs }
+{
+    bodies_stand_dispatch_by_dispatch();
 }
