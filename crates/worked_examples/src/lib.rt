@@ -10,3 +10,5 @@ mod packets;
 mod program;
 #[cfg(test)]
 mod recovery;
+#[cfg(test)]
+mod sessions;

@@ -23,12 +23,20 @@ script = ["read b0:id"]
 const TRANSCRIPT: &str =
     "client 1\n1 read b0:id = 0x0000abcd @1.1\nboard b0 places 1 replied 1 timeout 0 lost 0\n";
 
+const USAGE_LINE: &str = "usage: ipbus run | check TABLE\n";
+
 const LONGEST: usize = 16_777_216;
 
-fn run_word(alloc: Global) -> Result<Vec<String>, AllocError> {
+fn words_of(alloc: Global, texts: &[&str]) -> Result<Vec<String>, AllocError> {
     let mut words = Vec::new(alloc);
-    words.push(String::from_str(alloc, "run")?)?;
+    for text in texts {
+        words.push(String::from_str(alloc, text)?)?;
+    }
     Ok(words)
+}
+
+fn run_word(alloc: Global) -> Result<Vec<String>, AllocError> {
+    words_of(alloc, &["run"])
 }
 
 fn calm(alloc: Global, text: &str) -> Result<CalmSource, AllocError> {
@@ -46,11 +54,16 @@ fn first_session(rt: HostRuntime) -> Result<(), Fail> {
     Ok(())
 }
 
-/// The status and the text of the first session, or want of memory where it is set up.
-fn first_answer(alloc: Global) -> Result<(u8, Vec<u8>), NoMemory> {
-    let mut input = calm(alloc, FIRST)?;
+/// The status and the text that words get for a document, or want of memory where they are set up.
+pub(crate) fn answer(
+    alloc: Global,
+    words: &[&str],
+    document: &str,
+) -> Result<(u8, Vec<u8>), NoMemory> {
+    let words = words_of(alloc, words)?;
+    let mut input = calm(alloc, document)?;
     let mut out = MemSink::new(alloc, 1000, Vec::new(alloc))?;
-    let status = control(alloc, &run_word(alloc)?, &mut input, &mut out);
+    let status = control(alloc, &words, &mut input, &mut out);
     Ok((status, Vec::from_slice(alloc, out.bytes())?))
 }
 
@@ -58,7 +71,7 @@ fn first_answer(alloc: Global) -> Result<(u8, Vec<u8>), NoMemory> {
 /// makes the Nth one fail.
 #[test]
 fn first_session_with_any_memory(rt: HostRuntime) -> Result<(), Fail> {
-    match first_answer(rt.alloc()) {
+    match answer(rt.alloc(), &["run"], FIRST) {
         Ok((NO_MEMORY, text)) => assert_eq!(rt; text.as_slice(), b"".as_slice()),
         Ok((status, text)) => {
             assert_eq!(rt; status, DONE);
@@ -149,30 +162,24 @@ fn an_input_too_long(rt: HostRuntime) -> Result<(), Fail> {
     Ok(())
 }
 
+/// Whether words get the usage line.
+fn is_usage(alloc: Global, words: &[&str]) -> Result<bool, NoMemory> {
+    let (status, text) = answer(alloc, words, FIRST)?;
+    Ok(status == USAGE && text.as_slice() == USAGE_LINE.as_bytes())
+}
+
 #[test]
-fn a_key_that_is_not_of_the_form(rt: HostRuntime) -> Result<(), Fail> {
-    let alloc = rt.alloc();
-    let text = FIRST.replace(
-        alloc,
-        "table = \"main\"\n",
-        "table = \"main\"\nmtu = 1500\n",
-    )?;
-    let mut input = calm(alloc, text.as_str())?;
-    let mut out = MemSink::new(alloc, 1000, Vec::new(alloc))?;
-    let status = control(alloc, &run_word(alloc)?, &mut input, &mut out);
-    assert_eq!(rt; status, REFUSED);
-    assert_eq!(rt; out.bytes(), b"refused: document - NotBuilt\n".as_slice());
+fn words_that_are_no_command(rt: HostRuntime) -> Result<(), Fail> {
+    assert!(rt; is_usage(rt.alloc(), &[])?);
+    assert!(rt; is_usage(rt.alloc(), &["check"])?);
+    assert!(rt; is_usage(rt.alloc(), &["run", "main"])?);
     Ok(())
 }
 
 #[test]
-fn no_words(rt: HostRuntime) -> Result<(), Fail> {
-    let alloc = rt.alloc();
-    let mut input = calm(alloc, FIRST)?;
-    let mut out = MemSink::new(alloc, 1000, Vec::new(alloc))?;
-    let status = control(alloc, &[], &mut input, &mut out);
-    assert_eq!(rt; status, USAGE);
-    assert_eq!(rt; out.bytes(), b"usage: ipbus run\n".as_slice());
+fn words_that_are_options(rt: HostRuntime) -> Result<(), Fail> {
+    assert!(rt; is_usage(rt.alloc(), &["-v"])?);
+    assert!(rt; is_usage(rt.alloc(), &["check", "-main"])?);
     Ok(())
 }
 
