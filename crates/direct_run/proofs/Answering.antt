@@ -41,7 +41,7 @@ request_are_words [] is = tt
 request_are_words (r ∷ rs) is =
     AreWords-append (request_words r) (requests_words rs) (one_request r is.0) (request_are_words rs is.1)
 
-spelled_words : (body : List ℕ) → SpellsRequests body → AreWords body
+pub spelled_words : (body : List ℕ) → SpellsRequests body → AreWords body
 spelled_words body is = subst AreWords (sym is.2) (request_are_words is.0 is.1)
 
 -- ---- what the bus and joining promise

@@ -5,3 +5,6 @@ mod Running
 mod Shown
 mod Answering
 mod Shaped
+mod Asking
+mod BusResults
+mod BusLines

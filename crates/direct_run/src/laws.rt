@@ -10,12 +10,17 @@ ghost use Rattle.board_history.specs.History.{bodies_by_client, outcomes_by_clie
 ghost use Rattle.direct_run.specs.Runs.{AreRuns, IsRun, board_run, runs_from};
 ghost use Rattle.direct_run.specs.Answering.{AreAnswered, AskRequests, OpensWithWords};
 ghost use Rattle.direct_run.specs.Shape.{HaveFates};
+ghost use Rattle.transcript.specs.Lines.{transcript_of};
+ghost use Rattle.direct_run.specs.Lines.{AreReady, IsBusLine, KeepVerbs};
 
 use board_bus::laws::{a_reply_answers_its_body, words_stay_words};
 use board_history::laws::{
     a_history_of_clients_in_turn_is_the_only_one, clients_in_turn_make_a_history,
 };
-use reply_join::laws::joining_is_a_function;
+use reply_join::laws::{
+    each_answer_is_that_of_its_request, each_request_has_one_answer, joining_is_a_function,
+};
+use transaction_codec::laws::one_list_for_words;
 use transcript::laws::bodies_stand_dispatch_by_dispatch;
 
 /// What becomes of a board is a run of it: each client asked for the bodies of its script, the outcomes are one history
@@ -70,4 +75,21 @@ pub fn runs_have_the_shape_of_the_plan()
         AreRuns 0 specs scripts runs → HaveFates 0 scripts runs }
 {
     bodies_stand_dispatch_by_dispatch();
+}
+
+/// Where nothing is lost, each line of a session is a value, `done`, `was`, a code of the bus or skipped: none is
+/// garbled, timed out, unsent or lost with its link. So status 1 comes from codes of the bus alone.
+pub fn lines_fail_by_codes_of_the_bus_alone()
+    ensures { (specs : List BoardSpec) (scripts : List (List Step)) (runs : List BoardRun) →
+        AreRuns 0 specs scripts runs → AreReady 0 specs scripts → AllByRecursion AskRequests runs →
+        AllByRecursion KeepVerbs scripts →
+        AllByRecursion (AllByRecursion IsBusLine) (transcript_of scripts runs).clients }
+{
+    a_history_of_clients_in_turn_is_the_only_one();
+    a_reply_answers_its_body();
+    words_stay_words();
+    joining_is_a_function();
+    each_request_has_one_answer();
+    each_answer_is_that_of_its_request();
+    one_list_for_words();
 }
