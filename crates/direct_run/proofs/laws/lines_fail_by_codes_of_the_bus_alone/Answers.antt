@@ -4,8 +4,9 @@ use Rattle.transcript.specs.declared.board_run.BoardRun.{BoardRun}
 use Rattle.direct_run.specs.Runs.{opening_of, plans_on, greeting_of}
 use Rattle.direct_run.specs.Answering.{AskRequests}
 use Rattle.direct_run.proofs.Shown.{only_run}
-use Rattle.direct_run.proofs.BusResults.{parts_told, pieces_fit}
-use Rattle.direct_run.proofs.BusLines.{ToldPart, Telling, session_bus}
+use Rattle.direct_run.proofs.Answering.{ToldPart, parts_told}
+use Rattle.direct_run.proofs.BusResults.{pieces_fit}
+use Rattle.direct_run.proofs.BusLines.{Telling, session_bus}
 use Rattle.direct_run.proofs.laws.lines_fail_by_codes_of_the_bus_alone.Goals as goal
 
 telling : goal.After-one_list_for_words → Telling
