@@ -1,5 +1,6 @@
 -- Where nothing is lost, each body is answered.
-use Rattle.std.proofs.Common.{◌≡◌, ◌↔◌, ℕ, ◌+◌, ◌<◌, ◌^◌, List, [], ◌∷◌, length, map, Option, Some, None, refl, sym, ap, subst, arith}
+use Rattle.std.proofs.Common.{◌≡◌, ◌↔◌, ℕ, ◌+◌, ◌<◌, ◌^◌, List, [], ◌∷◌, length, map, Option, Some, None}
+use Rattle.std.proofs.Common.{refl, sym, ap, subst, arith}
 use Rattle.std.specs.List.{AllByRecursion, zip}
 use Rattle.ipb_base.specs.Word.{AreWords}
 use Rattle.ipb_base.proofs.WordLemmas.{AreWords-append}
@@ -7,7 +8,8 @@ use Rattle.ipb_base.proofs.AllLemmas.{all-map}
 use Rattle.transaction_codec.specs.declared.request.Op.{Op}
 use Rattle.transaction_codec.specs.declared.request.Op.TheVariants.{Read, ReadPort, Write, WritePort, RmwBits, RmwSum}
 use Rattle.transaction_codec.specs.declared.request.Request.{Request}
-use Rattle.transaction_codec.specs.Request.{AreRequests, IsRequest, SpellsRequests, op_kind, request_words, requests_words}
+use Rattle.transaction_codec.specs.Request.{AreRequests, IsRequest, SpellsRequests, op_kind}
+use Rattle.transaction_codec.specs.Request.{request_words, requests_words}
 use Rattle.transaction_codec.specs.Answer.{CanAnswer, IsReplyTo}
 use Rattle.reply_join.specs.declared.answer.Answer.{Answer}
 use Rattle.reply_join.specs.Joining.{IsJoined}
@@ -67,7 +69,8 @@ KeepingAll = (cells : CellMap) (bodies : List (List ℕ)) → HoldsWords cells �
     → HoldsWords (replay cells bodies).cells
 
 abbrev pub Garbling : Type 0
-Garbling = (body reply : List ℕ) → AreWords body → AreWords reply → ((answers body reply ≡ None) ↔ ¬ IsReplyTo body reply)
+Garbling = (body reply : List ℕ) → AreWords body → AreWords reply
+    → ((answers body reply ≡ None) ↔ ¬ IsReplyTo body reply)
 
 -- a body that was told its answers
 pub record IsTold (body : List ℕ) (outcome : Outcome) : Type 0 where

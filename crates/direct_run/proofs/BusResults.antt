@@ -103,7 +103,11 @@ module _ (one_each : OneEach) (each_is : EachIsThat) (one_list : OneList) where
             (answer_fits op request one rmw (each_is (requests_words requests) words list requests index request one
             joined ranges refl at there))
         | inr (past, none) ↦
-            absurd (omega (arith, joined_length requests words list ranges joined, slice_get_within requests index request at))
+            absurd (omega (
+              arith,
+              joined_length requests words list ranges joined,
+              slice_get_within requests index request at,
+            ))
       ]
 
   piece_fits : (bodies : List (List ℕ)) (outcomes : List Outcome) (op : Op) (body index : ℕ)
