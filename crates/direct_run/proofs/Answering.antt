@@ -1,5 +1,6 @@
 -- Where nothing is lost, each body is answered.
-use Rattle.std.proofs.Common.{◌≡◌, ◌↔◌, ℕ, ◌+◌, ◌<◌, ◌^◌, List, [], ◌∷◌, length, map, Option, Some, None, refl, sym, subst, arith}
+use Rattle.std.proofs.Common.{◌≡◌, ◌↔◌, ℕ, ◌+◌, ◌<◌, ◌^◌, List, [], ◌∷◌, length, map, Option, Some, None}
+use Rattle.std.proofs.Common.{refl, sym, ap, subst, arith}
 use Rattle.std.specs.List.{AllByRecursion, zip}
 use Rattle.ipb_base.specs.Word.{AreWords}
 use Rattle.ipb_base.proofs.WordLemmas.{AreWords-append}
@@ -7,21 +8,27 @@ use Rattle.ipb_base.proofs.AllLemmas.{all-map}
 use Rattle.transaction_codec.specs.declared.request.Op.{Op}
 use Rattle.transaction_codec.specs.declared.request.Op.TheVariants.{Read, ReadPort, Write, WritePort, RmwBits, RmwSum}
 use Rattle.transaction_codec.specs.declared.request.Request.{Request}
-use Rattle.transaction_codec.specs.Request.{AreRequests, IsRequest, SpellsRequests, op_kind, request_words, requests_words}
+use Rattle.transaction_codec.specs.Request.{AreRequests, IsRequest, SpellsRequests, op_kind}
+use Rattle.transaction_codec.specs.Request.{request_words, requests_words}
 use Rattle.transaction_codec.specs.Answer.{CanAnswer, IsReplyTo}
 use Rattle.reply_join.specs.declared.answer.Answer.{Answer}
+use Rattle.reply_join.specs.Joining.{IsJoined}
 use Rattle.reply_join.specs.ByWords.{answers}
 use Rattle.board_bus.specs.Cells.{CellMap, HoldsWords}
 use Rattle.board_bus.specs.Bodies.{run_body, replay}
 use Rattle.board_node.specs.declared.spec.BoardSpec.{BoardSpec}
 use Rattle.script_lang.specs.declared.operation.Step.{Step}
+use Rattle.transcript.specs.declared.outcome.Outcome.{Outcome}
+use Rattle.transcript.specs.declared.outcome.Outcome.TheVariants.{Replied}
+use Rattle.transcript.specs.declared.board_run.ClientPart.{ClientPart}
 use Rattle.transcript.specs.declared.board_run.BoardRun.{BoardRun}
 use Rattle.transcript.specs.Plan.{ClientBodies, AreSpelled}
-use Rattle.transcript.specs.Ends.{end_of, told_by}
+use Rattle.transcript.specs.Ends.{place_of, told_of, end_of, told_by}
 use Rattle.board_history.specs.InTurn.{outcomes_from}
 use Rattle.direct_run.specs.Runs.{parts_in_turn, plans_on, greeting_of, opening_of, board_run}
 use Rattle.direct_run.specs.Answering.{IsAnswered, AreAnswered, AsksRequests, AskRequests, OpensWithWords}
 use Rattle.direct_run.proofs.ReplyWords.{answer_words}
+use Rattle.direct_run.proofs.Asking.{Both}
 
 -- ---- requests are words
 
@@ -62,21 +69,55 @@ KeepingAll = (cells : CellMap) (bodies : List (List ℕ)) → HoldsWords cells �
     → HoldsWords (replay cells bodies).cells
 
 abbrev pub Garbling : Type 0
-Garbling = (body reply : List ℕ) → AreWords body → AreWords reply → ((answers body reply ≡ None) ↔ ¬ IsReplyTo body reply)
+Garbling = (body reply : List ℕ) → AreWords body → AreWords reply
+    → ((answers body reply ≡ None) ↔ ¬ IsReplyTo body reply)
+
+-- a body that was told its answers
+pub record IsTold (body : List ℕ) (outcome : Outcome) : Type 0 where
+  pub place' : ℕ
+  pub words : List ℕ
+  pub list : List Answer
+  pub is : outcome ≡ Replied place' words
+  pub joined : IsJoined body words list
+  pub found : answers body words ≡ Some list
+
+abbrev pub Joins : Type 0
+Joins = (body reply : List ℕ) (list : List Answer) → AreWords body → AreWords reply
+    → (IsJoined body reply list ↔ (answers body reply ≡ Some list))
+
+abbrev pub ToldPart : ClientPart → Type 0
+ToldPart p = Both IsTold p.planned.bodies p.outcomes
+
+end_answered : (body : List ℕ) (outcome : Outcome) → IsTold body outcome → IsAnswered (end_of (body, outcome))
+end_answered body outcome is =
+    subst (λ (o : Outcome). IsAnswered (record { place = place_of o; told = told_of body o })) (sym is.is)
+    (record { place' = is.place'; placed = refl; answers = is.list; answered = ap told_by is.found })
+
+ends_answered : (bodies : List (List ℕ)) (outcomes : List Outcome) → Both IsTold bodies outcomes
+    → AllByRecursion IsAnswered (map end_of (zip bodies outcomes))
+ends_answered [] outcomes both = tt
+ends_answered (b ∷ bs) [] both = absurd both
+ends_answered (b ∷ bs) (o ∷ os) both = (end_answered b o both.0, ends_answered bs os both.1)
 
 module _ (answering : Answering) (any : AnsweringAny) (keeping : Keeping) (keeping_all : KeepingAll)
-    (garbling : Garbling) where
+    (garbling : Garbling) (joins : Joins) where
   told_there : (place : ℕ) (body reply : List ℕ) (found : Option (List Answer)) → answers body reply ≡ found
       → AreWords body
-      → AreWords reply → IsReplyTo body reply
-      → IsAnswered (record { place = Some place; told = told_by found })
+      → AreWords reply → IsReplyTo body reply → IsTold body (Replied place reply)
   told_there place body reply None is asked words answered = absurd ((garbling body reply asked words).0 is answered)
   told_there place body reply (Some list) is asked words answered =
-      record { place' = place; placed = refl; answers = list; answered = refl }
+      record {
+        place' = place;
+        words = reply;
+        list = list;
+        is = refl;
+        joined = (joins body reply list asked words).1 is;
+        found = is;
+      }
 
-  body_answered : (place : ℕ) (cells : CellMap) (body : List ℕ) → HoldsWords cells → SpellsRequests body
-      → IsAnswered (record { place = Some place; told = told_by (answers body (run_body cells body).reply) })
-  body_answered place cells body holds spelled =
+  body_told : (place : ℕ) (cells : CellMap) (body : List ℕ) → HoldsWords cells → SpellsRequests body
+      → IsTold body (Replied place (run_body cells body).reply)
+  body_told place cells body holds spelled =
       let asked = spelled_words body spelled in
       let reply = (run_body cells body).reply in
       told_there place body reply (answers body reply) refl asked
@@ -84,22 +125,22 @@ module _ (answering : Answering) (any : AnsweringAny) (keeping : Keeping) (keepi
       (subst (λ (b : List ℕ). IsReplyTo b (run_body cells b).reply) (sym spelled.2)
       (answering cells spelled.0 holds spelled.1))
 
-  client_answered : (place : ℕ) (cells : CellMap) (bodies : List (List ℕ)) → HoldsWords cells → AreSpelled bodies
-      → AllByRecursion IsAnswered (map end_of (zip bodies (outcomes_from place cells bodies)))
-  client_answered place cells [] holds spelled = tt
-  client_answered place cells (body ∷ bodies) holds spelled = (
-    body_answered place cells body holds spelled.0,
-    client_answered (place + 1) (run_body cells body).cells bodies
+  client_told : (place : ℕ) (cells : CellMap) (bodies : List (List ℕ)) → HoldsWords cells → AreSpelled bodies
+      → Both IsTold bodies (outcomes_from place cells bodies)
+  client_told place cells [] holds spelled = tt
+  client_told place cells (body ∷ bodies) holds spelled = (
+    body_told place cells body holds spelled.0,
+    client_told (place + 1) (run_body cells body).cells bodies
         (keeping cells body holds (spelled_words body spelled.0)) spelled.1,
   )
 
-  parts_answered : (place : ℕ) (cells : CellMap) (plans : List ClientBodies) → HoldsWords cells
+  pub parts_told : (place : ℕ) (cells : CellMap) (plans : List ClientBodies) → HoldsWords cells
       → AllByRecursion AsksRequests (parts_in_turn place cells plans)
-      → AllByRecursion AreAnswered (parts_in_turn place cells plans)
-  parts_answered place cells [] holds spelled = tt
-  parts_answered place cells (plan ∷ plans) holds spelled = (
-    client_answered place cells plan.bodies holds spelled.0,
-    parts_answered (place + length plan.bodies) (replay cells plan.bodies).cells plans
+      → AllByRecursion (λ (p : ClientPart). Both IsTold p.planned.bodies p.outcomes) (parts_in_turn place cells plans)
+  parts_told place cells [] holds spelled = tt
+  parts_told place cells (plan ∷ plans) holds spelled = (
+    client_told place cells plan.bodies holds spelled.0,
+    parts_told (place + length plan.bodies) (replay cells plan.bodies).cells plans
         (keeping_all cells plan.bodies holds
         (all-map SpellsRequests AreWords plan.bodies spelled_words spelled.0)) spelled.1,
   )
@@ -109,4 +150,6 @@ module _ (answering : Answering) (any : AnsweringAny) (keeping : Keeping) (keepi
       → AllByRecursion AreAnswered run.parts
   run_answered spec board scripts run is opens =
       subst (λ (r : BoardRun). AskRequests r → AllByRecursion AreAnswered r.parts) (sym is)
-      (parts_answered 1 (opening_of spec.link) (plans_on board (greeting_of spec.link) scripts) opens)
+      (λ asks. all-map ToldPart AreAnswered (board_run spec board scripts).parts
+      (λ p. ends_answered p.planned.bodies p.outcomes)
+      (parts_told 1 (opening_of spec.link) (plans_on board (greeting_of spec.link) scripts) opens asks))

@@ -124,11 +124,11 @@ asked_in parts readable body index op one rmw (Some part) is here =
       rmw = rmw;
     }
 
-record Heads {A : Type 0} (x y : A) (xs ys : List A) : Type 0 where
-  head : x ≡ y
-  tail : xs ≡ ys
+pub record Heads {A : Type 0} (x y : A) (xs ys : List A) : Type 0 where
+  pub head : x ≡ y
+  pub tail : xs ≡ ys
 
-heads : {A : Type 0} (x y : A) (xs ys : List A) → x ∷ xs ≡ y ∷ ys → Heads x y xs ys
+pub heads : {A : Type 0} (x y : A) (xs ys : List A) → x ∷ xs ≡ y ∷ ys → Heads x y xs ys
 heads x y xs ys e = record { head = cc; tail = cc }
 
 each_asked : (parts : List (List Op)) → AreReadable parts → (op : Op) (ones : List Op) (places : List Piece)

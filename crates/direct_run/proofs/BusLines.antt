@@ -24,13 +24,11 @@ use Rattle.direct_run.specs.Runs.{RunsHere, IsRun, AreRuns, greeting_of, plans_o
 use Rattle.direct_run.specs.Answering.{AskRequests}
 use Rattle.direct_run.specs.Lines.{IsBusResult, IsBusLine, KeepsVerb, KeepVerbs, ArePacked, ArePackedFor, IsReady}
 use Rattle.direct_run.specs.Lines.{AreReady}
-use Rattle.direct_run.proofs.Asking.{Both, both_at, all_at, AreAsked, plan_asked, op_at}
-use Rattle.direct_run.proofs.BusResults.{IsTold, Fits, combined_bus}
+use Rattle.direct_run.proofs.Asking.{both_at, all_at, AreAsked, plan_asked, op_at}
+use Rattle.direct_run.proofs.Answering.{ToldPart}
+use Rattle.direct_run.proofs.BusResults.{Fits, combined_bus}
 
 -- ---- a run
-
-abbrev pub ToldPart : ClientPart → Type 0
-ToldPart p = Both IsTold p.planned.bodies p.outcomes
 
 pub record Shows (board payload : ℕ) (scripts : List (List Step)) (run : BoardRun) : Type 0 where
   pub live : run.greeting ≡ Live payload

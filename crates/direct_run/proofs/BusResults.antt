@@ -1,102 +1,31 @@
 -- Where nothing is lost, what a piece came to is a code of the bus at worst.
-use Rattle.std.proofs.Common.{◌≡◌, ◌↔◌, ℕ, zero, suc, ◌+◌, ◌<◌, true, List, [], ◌∷◌, length, map, Option, Some}
+use Rattle.std.proofs.Common.{◌≡◌, ℕ, zero, suc, ◌<◌, true, List, [], ◌∷◌, length, map, Option, Some}
 use Rattle.std.proofs.Common.{None, refl, sym, ap, ◌∙◌, subst, inl, inr, arith, length-append}
 use Rattle.std.specs.Prelude.{unwrap_or}
 use Rattle.std.specs.List.{AllByRecursion, slice_get, flat_map, zip}
 use Rattle.std.proofs.lemmas.Bool.{cases_Bool}
 use Rattle.std.proofs.lemmas.Option.{same_Some, slice_get_cases, slice_get_within}
-use Rattle.ipb_base.specs.Word.{AreWords}
-use Rattle.ipb_base.proofs.AllLemmas.{all-map}
 use Rattle.transaction_codec.specs.declared.request.Op.{Op}
 use Rattle.transaction_codec.specs.declared.request.Op.TheVariants as ops
 use Rattle.transaction_codec.specs.declared.request.Request.{Request}
 use Rattle.transaction_codec.specs.Header.{is_write}
-use Rattle.transaction_codec.specs.Request.{AreRequests, SpellsRequests, op_kind, op_count, requests_words}
+use Rattle.transaction_codec.specs.Request.{AreRequests, op_kind, op_count, requests_words}
 use Rattle.transaction_codec.specs.Answer.{IsReplyTo}
 use Rattle.reply_join.specs.declared.answer.Answer.{Answer}
 use Rattle.reply_join.specs.declared.answer.Answer.TheVariants as answer
 use Rattle.reply_join.specs.Joining.{IsJoined, IsAnswerTo, answers_to}
-use Rattle.reply_join.specs.ByWords.{answers}
-use Rattle.board_bus.specs.Cells.{CellMap, HoldsWords}
-use Rattle.board_bus.specs.Bodies.{run_body, replay}
 use Rattle.script_lang.specs.declared.operation.Verb.{Verb}
 use Rattle.script_lang.specs.declared.operation.Verb.TheVariants as verb
 use Rattle.transcript.specs.declared.planned.PieceAt.{PieceAt}
 use Rattle.transcript.specs.declared.body_end.BodyEnd.{BodyEnd}
 use Rattle.transcript.specs.declared.outcome.Outcome.{Outcome}
-use Rattle.transcript.specs.declared.outcome.Outcome.TheVariants.{Replied}
 use Rattle.transcript.specs.declared.board_run.ClientPart.{ClientPart}
 use Rattle.transcript.specs.declared.line.OpResult.{OpResult}
-use Rattle.transcript.specs.Plan.{ClientBodies, AreSpelled}
 use Rattle.transcript.specs.Ends.{end_of, ends_of, told_by, told_of, told_at, answered, result_in, piece_result}
 use Rattle.transcript.specs.Results.{is_good, first_fault, values_in, word_before, shown, combined}
-use Rattle.board_history.specs.InTurn.{outcomes_from}
-use Rattle.direct_run.specs.Runs.{parts_in_turn}
-use Rattle.direct_run.specs.Answering.{AsksRequests}
 use Rattle.direct_run.specs.Lines.{IsBusResult, IsRmw, FitsVerb}
-use Rattle.direct_run.proofs.ReplyWords.{answer_words}
-use Rattle.direct_run.proofs.Answering.{Answering, AnsweringAny, Keeping, KeepingAll, Garbling, spelled_words}
+use Rattle.direct_run.proofs.Answering.{IsTold}
 use Rattle.direct_run.proofs.Asking.{Both, both_at, IsAsked}
-
--- ---- a body that was told
-
-pub record IsTold (body : List ℕ) (outcome : Outcome) : Type 0 where
-  pub place' : ℕ
-  pub words : List ℕ
-  pub list : List Answer
-  pub is : outcome ≡ Replied place' words
-  pub joined : IsJoined body words list
-  pub found : answers body words ≡ Some list
-
-abbrev pub Joins : Type 0
-Joins = (body reply : List ℕ) (list : List Answer) → AreWords body → AreWords reply
-    → (IsJoined body reply list ↔ (answers body reply ≡ Some list))
-
-module _ (answering : Answering) (any : AnsweringAny) (keeping : Keeping) (keeping_all : KeepingAll)
-    (garbling : Garbling) (joins : Joins) where
-  told_there : (place : ℕ) (body reply : List ℕ) (found : Option (List Answer)) → answers body reply ≡ found
-      → AreWords body
-      → AreWords reply → IsReplyTo body reply → IsTold body (Replied place reply)
-  told_there place body reply None is asked words answered = absurd ((garbling body reply asked words).0 is answered)
-  told_there place body reply (Some list) is asked words answered =
-      record {
-        place' = place;
-        words = reply;
-        list = list;
-        is = refl;
-        joined = (joins body reply list asked words).1 is;
-        found = is;
-      }
-
-  body_told : (place : ℕ) (cells : CellMap) (body : List ℕ) → HoldsWords cells → SpellsRequests body
-      → IsTold body (Replied place (run_body cells body).reply)
-  body_told place cells body holds spelled =
-      let asked = spelled_words body spelled in
-      let reply = (run_body cells body).reply in
-      told_there place body reply (answers body reply) refl asked
-      (answer_words body reply (any cells body holds asked))
-      (subst (λ (b : List ℕ). IsReplyTo b (run_body cells b).reply) (sym spelled.2)
-      (answering cells spelled.0 holds spelled.1))
-
-  client_told : (place : ℕ) (cells : CellMap) (bodies : List (List ℕ)) → HoldsWords cells → AreSpelled bodies
-      → Both IsTold bodies (outcomes_from place cells bodies)
-  client_told place cells [] holds spelled = tt
-  client_told place cells (body ∷ bodies) holds spelled = (
-    body_told place cells body holds spelled.0,
-    client_told (place + 1) (run_body cells body).cells bodies
-        (keeping cells body holds (spelled_words body spelled.0)) spelled.1,
-  )
-
-  pub parts_told : (place : ℕ) (cells : CellMap) (plans : List ClientBodies) → HoldsWords cells
-      → AllByRecursion AsksRequests (parts_in_turn place cells plans)
-      → AllByRecursion (λ (p : ClientPart). Both IsTold p.planned.bodies p.outcomes) (parts_in_turn place cells plans)
-  parts_told place cells [] holds spelled = tt
-  parts_told place cells (plan ∷ plans) holds spelled = (
-    client_told place cells plan.bodies holds spelled.0,
-    parts_told (place + length plan.bodies) (replay cells plan.bodies).cells plans
-        (keeping_all cells plan.bodies holds
-        (all-map SpellsRequests AreWords plan.bodies spelled_words spelled.0)) spelled.1,
-  )
 
 -- ---- a piece
 
@@ -174,7 +103,11 @@ module _ (one_each : OneEach) (each_is : EachIsThat) (one_list : OneList) where
             (answer_fits op request one rmw (each_is (requests_words requests) words list requests index request one
             joined ranges refl at there))
         | inr (past, none) ↦
-            absurd (omega (arith, joined_length requests words list ranges joined, slice_get_within requests index request at))
+            absurd (omega (
+              arith,
+              joined_length requests words list ranges joined,
+              slice_get_within requests index request at,
+            ))
       ]
 
   piece_fits : (bodies : List (List ℕ)) (outcomes : List Outcome) (op : Op) (body index : ℕ)

@@ -8,3 +8,4 @@ mod Shaped
 mod Asking
 mod BusResults
 mod BusLines
+mod Spelled

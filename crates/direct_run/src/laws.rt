@@ -17,6 +17,7 @@ use board_bus::laws::{a_reply_answers_its_body, words_stay_words};
 use board_history::laws::{
     a_history_of_clients_in_turn_is_the_only_one, clients_in_turn_make_a_history,
 };
+use mtu_packer::laws::packed_bodies_spell_requests;
 use reply_join::laws::{
     each_answer_is_that_of_its_request, each_request_has_one_answer, joining_is_a_function,
 };
@@ -81,8 +82,7 @@ pub fn runs_have_the_shape_of_the_plan()
 /// garbled, timed out, unsent or lost with its link. So status 1 comes from codes of the bus alone.
 pub fn lines_fail_by_codes_of_the_bus_alone()
     ensures { (specs : List BoardSpec) (scripts : List (List Step)) (runs : List BoardRun) →
-        AreRuns 0 specs scripts runs → AreReady 0 specs scripts → AllByRecursion AskRequests runs →
-        AllByRecursion KeepVerbs scripts →
+        AreRuns 0 specs scripts runs → AreReady 0 specs scripts → AllByRecursion KeepVerbs scripts →
         AllByRecursion (AllByRecursion IsBusLine) (transcript_of scripts runs).clients }
 {
     a_history_of_clients_in_turn_is_the_only_one();
@@ -92,4 +92,5 @@ pub fn lines_fail_by_codes_of_the_bus_alone()
     each_request_has_one_answer();
     each_answer_is_that_of_its_request();
     one_list_for_words();
+    packed_bodies_spell_requests();
 }
