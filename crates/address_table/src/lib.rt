@@ -20,6 +20,3 @@ pub use nodes::{Node, Table};
 pub use numbers::{number, number_in_text};
 pub use read::read_table;
 pub use refusal::{Path, TableRefusal, TableWhy};
-
-#[cfg(test)]
-mod tests;

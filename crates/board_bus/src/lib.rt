@@ -19,6 +19,3 @@ pub use fault::BusFault;
 pub use ipb_base::{NoMemory, Words};
 pub use kind::RangeKind;
 pub use range::{BusRefusal, MAX_WORDS, Range, check_ranges};
-
-#[cfg(test)]
-mod tests;

@@ -19,6 +19,3 @@ pub use packet_ids::Id;
 pub use ranges::Ranges;
 pub use spec::{BoardSpec, Fates, LinkSpec};
 pub use world_model::{DropCause, Heard};
-
-#[cfg(test)]
-mod tests;

@@ -12,6 +12,3 @@ pub mod laws;
 pub use boards::{run_board, run_boards};
 pub use clients::run_clients;
 pub use ipb_base::NoMemory;
-
-#[cfg(test)]
-mod tests;

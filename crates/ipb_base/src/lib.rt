@@ -15,6 +15,3 @@ pub use no_memory::NoMemory;
 pub use text::Text;
 pub use version::VERSION;
 pub use words::Words;
-
-#[cfg(test)]
-mod tests;

@@ -25,6 +25,3 @@ pub use reading::{ReadEnd, read_all};
 pub use sink::Sink;
 pub use source::Source;
 pub use writing::write_whole;
-
-#[cfg(test)]
-mod tests;

@@ -9,6 +9,3 @@ mod fields;
 pub mod laws;
 
 pub use fields::{BitsOutside, extract, shift_of, terms};
-
-#[cfg(test)]
-mod tests;

@@ -12,6 +12,3 @@ mod packing;
 
 pub use packed::{Packed, Piece, Places};
 pub use packing::{MAX_PAYLOAD, MIN_PAYLOAD, pack};
-
-#[cfg(test)]
-mod tests;

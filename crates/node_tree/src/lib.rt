@@ -23,6 +23,3 @@ pub use overlapping::overlap;
 pub use refusal::{CompileRefusal, CompileWhy};
 pub use register::Register;
 pub use tables::Tables;
-
-#[cfg(test)]
-mod tests;

@@ -12,6 +12,3 @@ pub use ipb_base::{NoMemory, Words};
 pub use packet::{BadPacket, MAX_BODY_WORDS, MAX_PACKET_WORDS, Order, Packet, PacketKind};
 pub use reading::read_packet;
 pub use writing::write_packet;
-
-#[cfg(test)]
-mod tests;

@@ -10,6 +10,3 @@ mod places;
 
 pub use id::Id;
 pub use places::{IDENTIFIERS, id_at, place_of};
-
-#[cfg(test)]
-mod tests;

@@ -17,6 +17,3 @@ pub use packet_ids::Id;
 pub use settings::{MAX_WINDOW, Settings};
 pub use status_packet::Status;
 pub use world_model::{Fate, Offered, OpenPlace, Sending};
-
-#[cfg(test)]
-mod tests;

@@ -13,6 +13,3 @@ mod refusal;
 pub use answer::Answer;
 pub use joining::join_reply;
 pub use refusal::JoinRefusal;
-
-#[cfg(test)]
-mod tests;

@@ -13,6 +13,3 @@ mod refusal;
 pub use ipb_base::{NoMemory, Text};
 pub use reading::{Runnable, read_for_check, read_for_run};
 pub use refusal::{MAX_DOCUMENT, Refusal, Unread};
-
-#[cfg(test)]
-mod tests;

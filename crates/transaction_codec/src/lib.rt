@@ -27,6 +27,3 @@ pub use reply::Reply;
 pub use request::{Op, Request};
 pub use room::{LONGEST_BODY, reply_room};
 pub use writing::{put_request, write_replies, write_requests};
-
-#[cfg(test)]
-mod tests;

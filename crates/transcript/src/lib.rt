@@ -33,6 +33,3 @@ pub use planned::{PieceAt, Planned};
 pub use planning::plan_on;
 pub use status::all_good;
 pub use text::{line_text, transcript_text};
-
-#[cfg(test)]
-mod tests;

@@ -23,6 +23,3 @@ pub use sending::write_sending;
 pub use status_packet::Status;
 pub use world::{World, are_short, run_world};
 pub use world_model::{WorldEnd, WorldMove};
-
-#[cfg(test)]
-mod tests;
