@@ -1,6 +1,6 @@
 -- What a lane keeps of its give-ups. Profile.
-use Rattle.std.specs.Prelude.{◌≡◌, ℕ, ◌+◌, ◌*◌, ◌-◌, ◌^◌, ◌≤◌, ◌<◌, min, Bool, true, false, List, Option, Some, None, IfSome}
-use Rattle.std.specs.List.{AllByRecursion, AllZip, count_by}
+use Rattle.std.specs.Prelude.{◌≡◌, ℕ, ◌+◌, ◌*◌, ◌-◌, ◌^◌, ◌≤◌, ◌<◌, min, Bool, true, false, List, Option, Some, None, IfSome, [], ◌∷◌, if◌then◌else◌}
+use Rattle.std.specs.List.{AllByRecursion, AllZip}
 use Rattle.lane_record.specs.declared.outcome.Outcome.{Outcome}
 use Rattle.lane_record.specs.declared.outcome.Outcome.TheVariants.{Replied, TimedOut, Unsent, LinkLost}
 use Rattle.lane_record.specs.declared.item.Item.{Item}
@@ -23,7 +23,8 @@ has_timed_out (Some outcome) = is_timed_out outcome
 
 -- how many bodies were timed out
 abbrev pub timeouts : List (Option Outcome) → ℕ
-timeouts outcomes = count_by has_timed_out outcomes
+timeouts [] = 0
+timeouts (o ∷ os) = if has_timed_out o then 1 + timeouts os else timeouts os
 
 -- a body is lost with the link only where this holds
 abbrev pub IsLostOnlyIf : Type 0 → Outcome → Type 0

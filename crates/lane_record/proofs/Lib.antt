@@ -1,0 +1,6 @@
+pub mod Sequences
+pub mod Lookups
+pub mod Asks
+pub mod Legality
+pub mod NextEntries
+pub mod Finished
