@@ -4,3 +4,5 @@ pub mod Asks
 pub mod Legality
 pub mod NextEntries
 pub mod Finished
+pub mod Offers
+pub mod Events
