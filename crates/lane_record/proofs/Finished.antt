@@ -1,10 +1,10 @@
 -- Lemmas on finished records: what was taken is what became of the bodies, and the places count.
-use Rattle.std.proofs.Common.{◌≡◌, ℕ, zero, suc, ◌+◌, ◌<◌, ◌≤◌, Bool, true, false, cond, ◌==◌, List, [], ◌∷◌, ◌++◌, length, map, Option, Some, None}
+use Rattle.std.proofs.Common.{◌≡◌, ℕ, zero, suc, ◌+◌, ◌≤◌, Bool, true, ◌==◌, List, [], ◌∷◌, ◌++◌, length, map, Option, Some, None}
 use Rattle.std.proofs.Common.{refl, sym, ap, ◌∙◌, subst, arith, append_assoc, inl, inr, if◌then◌else◌}
 use Rattle.std.proofs.lemmas.Bool.{eqb-true}
 use Rattle.std.proofs.lemmas.List.{append-nil, length-map}
 use Rattle.std.specs.List.{slice_get, AllByRecursion}
-use Rattle.std.specs.Option.{option_or, unwrap_or}
+use Rattle.std.specs.Option.{unwrap_or}
 use Rattle.std.specs.Prelude.{is_some}
 use Rattle.ipb_base.proofs.AllLemmas.{AllByRecursion-append}
 use Rattle.world_model.proofs.Lists.{all_get, get_seam}
@@ -17,13 +17,13 @@ use Rattle.lane_record.specs.declared.item.Item.{Item}
 use Rattle.lane_record.specs.declared.item.What.{What}
 use Rattle.lane_record.specs.declared.item.What.TheVariants.{Plan, Seal, Ask, Took}
 use Rattle.lane_record.specs.Outcomes.{place_of, is_sent}
-use Rattle.lane_record.specs.Items.{found, plan_in, ask_in, took_in, is_of}
+use Rattle.lane_record.specs.Items.{found, plan_in, ask_in, took_in, is_of, asked, planned}
 use Rattle.lane_record.specs.Claims.{Claim, claims, claims_behind, claim_in, IsAskOf, outcome_taken, taken, IsTaken, IsFinished}
 use Rattle.lane_record.specs.Lists.{EachBehind, CountsFrom}
-use Rattle.lane_record.specs.FirstSends.{PlacesCount, HavePlacesAfter, HasPlaceAfter, may_have_place, Sent, sent_at, sent_as, sent_of, first_sends, places_of, bodies_sent, IsOfAsk}
+use Rattle.lane_record.specs.FirstSends.{HavePlacesAfter, HasPlaceAfter, may_have_place, Sent, sent_at, sent_as, sent_of, first_sends, places_of, bodies_sent, IsOfAsk}
 use Rattle.lane_record.specs.Offers.{Agrees, offers_from, unsettled_from, awaited, tags}
 use Rattle.lane_record.specs.Legal.{IsLegal, IsPlanned, HasPlan, IsTookOf, MayTake}
-use Rattle.lane_record.proofs.Lookups.{first_or, if_some, and_true, found_front}
+use Rattle.lane_record.proofs.Lookups.{first_or, if_some, and_true, found_front, found_below, found_within}
 use Rattle.lane_record.proofs.Asks.{ask_front, one_ask}
 
 -- ---- what was taken is what became of the body
@@ -266,3 +266,39 @@ finished_hub items outcomes sent queue open_places is all agrees =
       bodies = ap bodies_of (sym (append-nil sent) ∙ (ap (λ (q : List Offered). sent ++ q) (sym none) ∙ (agrees.offered ∙ ap (offers_from 0 (claims items)) same)))
         ∙ same_bodies 0 (claims items) (taken items) some (length-map (claims items) (outcome_taken items));
     }
+
+-- ---- no more Asks than Plans
+
+plan_of_asked : (front items : List Item) (x : Item) (what : What) (client seq g : ℕ) → x.client ≡ client → x.seq ≡ seq → ask_in what ≡ Some g → HasPlan front x what
+    → (body : List ℕ) × (found plan_in client seq (front ++ items) ≡ Some body)
+plan_of_asked front items x (Plan body) client seq g c s e is = absurd (cc)
+plan_of_asked front items x Seal client seq g c s e is = absurd (cc)
+plan_of_asked front items x (Took outcome n) client seq g c s e is = absurd (cc)
+plan_of_asked front items x (Ask n) client seq g c s e is =
+    (is.0, found_front plan_in client seq front items is.0
+      (subst (λ (d : ℕ). found plan_in d seq front ≡ Some is.0) c (subst (λ (t : ℕ). found plan_in x.client t front ≡ Some is.0) s is.1)))
+
+plan_behind : (front items : List Item) (client seq g : ℕ) → EachBehind IsPlanned front items → found ask_in client seq items ≡ Some g
+    → (body : List ℕ) × (found plan_in client seq (front ++ items) ≡ Some body)
+plan_behind front [] client seq g is e = absurd (cc)
+plan_behind front (x ∷ items) client seq g is e =
+    elim (first_or (if is_of client seq x then ask_in x.what else None) (found ask_in client seq items) g e) [
+      | inl h ↦
+          let r = if_some (is_of client seq x) (ask_in x.what) g h in
+          let same = and_true (x.client == client) (x.seq == seq) r.0 in
+          plan_of_asked front (x ∷ items) x x.what client seq g (eqb-true x.client client same.0) (eqb-true x.seq seq same.1) r.1 is.0
+      | inr h ↦ subst (λ (l : List Item). (body : List ℕ) × (found plan_in client seq l ≡ Some body)) (append_assoc front (x ∷ []) items) (plan_behind (front ++ x ∷ []) items client seq g is.1 h)
+    ]
+
+last_planned : (items : List Item) (outcomes : List (Option Outcome)) (client many : ℕ) → asked client items ≡ suc many → IsLegal items outcomes → suc many ≤ planned client items
+last_planned items outcomes client many e is =
+    let ask = found_below ask_in client many items is.asks_follow_plans.count (omega (arith, e)) in
+    let plan = plan_behind [] items client many ask.0 is.asks_follow_plans.planned ask.1 in
+    let within = found_within plan_in client many items plan.0 is.plans_count.count plan.1 in
+    omega (arith, within)
+
+pub asked_few : (items : List Item) (outcomes : List (Option Outcome)) (client : ℕ) → IsLegal items outcomes → asked client items ≤ planned client items
+asked_few items outcomes client is = elim (asked client items) as (λ n. asked client items ≡ n → n ≤ planned client items) [
+    | zero ↦ λ e. omega arith
+    | suc many ↦ λ e. last_planned items outcomes client many e is
+  ] refl

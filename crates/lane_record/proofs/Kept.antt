@@ -4,7 +4,6 @@ use Rattle.std.proofs.Common.{refl, sym, ap, ◌∙◌, subst, arith, append_ass
 use Rattle.std.proofs.lemmas.List.{append-nil}
 use Rattle.std.proofs.Math.Nat.{mul-add}
 use Rattle.std.specs.List.{AllByRecursion, slice_get}
-use Rattle.std.specs.Option.{unwrap_or}
 use Rattle.ipb_base.proofs.AllLemmas.{AllByRecursion-append, all-map}
 use Rattle.world_model.specs.declared.offered.Fate.{Fate}
 use Rattle.world_model.specs.declared.offered.Fate.TheVariants as fate
@@ -18,14 +17,14 @@ use Rattle.lane_record.specs.Outcomes.{is_given_up, is_timed_out, is_replied, is
 use Rattle.lane_record.specs.Items.{ask_in, give_ups_in, give_ups, and_number, is_sealed}
 use Rattle.lane_record.specs.Claims.{Claim, claims, claims_behind, claim_in}
 use Rattle.lane_record.specs.FirstSends.{PlacesCount, HasPlaceAfter, places_given}
-use Rattle.lane_record.specs.Bounds.{AreWithin, AreGivenUpBefore, IsKept, timeouts, has_timed_out, AreLostOnlyIf}
-use Rattle.lane_record.specs.Offers.{KeepsOutcomes, AddsOnly, WasHandedOut, IsToldBy, AreToldBy, put, put_all, outcome_of, lost_after, all_lost}
+use Rattle.lane_record.specs.Bounds.{AreWithin, AreGivenUpBefore, IsKept, timeouts, has_timed_out}
+use Rattle.lane_record.specs.Offers.{KeepsOutcomes, AddsOnly, WasHandedOut, IsToldBy, AreToldBy, put, put_all, outcome_of, all_lost}
 use Rattle.lane_record.specs.NextEntry.{MayPlan, MayAsk, MayTook, plan_of, ask_of, took_of, the_seal}
 use Rattle.lane_record.proofs.Lookups.{give_ups_append, claims_push}
 use Rattle.lane_record.proofs.Asks.{get_split}
 use Rattle.lane_record.proofs.Legality.{legal_goes}
 use Rattle.lane_record.proofs.NextEntries.{may_plan, may_seal, may_ask, may_took}
-use Rattle.lane_record.proofs.Offers.{adds_lost, keeps_lost, adds_put}
+use Rattle.lane_record.proofs.Offers.{adds_lost}
 
 -- ---- numbers within
 
@@ -265,3 +264,6 @@ told_ask_lost fates outs is k o e = elim (get_split outs (Some (LinkLost None)) 
     | inl h ↦ is k o h
     | inr h ↦ let x = h.1 in let same : o ≡ LinkLost None = cc in subst (IsToldBy fates k) (sym same) tt
   ]
+
+pub lost_alone : NotGivenUp (Some (LinkLost None))
+lost_alone outcome e = let same : LinkLost None ≡ outcome = cc in subst (λ (o : Outcome). is_given_up o ≡ false) same refl

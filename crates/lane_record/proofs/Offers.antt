@@ -1,5 +1,5 @@
 -- Lemmas on the outcomes of Asks and the bodies that were offered: one more Ask, and an outcome that comes.
-use Rattle.std.proofs.Common.{◌≡◌, ℕ, zero, suc, ◌+◌, ◌<◌, ◌≤◌, Bool, true, false, cond, List, [], ◌∷◌, ◌++◌, length, map, Option, Some, None}
+use Rattle.std.proofs.Common.{◌≡◌, ℕ, zero, suc, ◌+◌, ◌≤◌, Bool, true, false, cond, List, [], ◌∷◌, ◌++◌, length, Option, Some, None}
 use Rattle.std.proofs.Common.{refl, sym, ap, ◌∙◌, subst, arith, inl, inr, ◌⊎◌, if◌then◌else◌}
 use Rattle.std.specs.Prelude.{nat_lt}
 use Rattle.std.specs.List.{slice_get}
@@ -7,7 +7,7 @@ use Rattle.std.proofs.lemmas.Bool.{ltb-true, ltb-false}
 use Rattle.world_model.specs.declared.offered.Offered.{Offered}
 use Rattle.world_model.proofs.Lists.{either}
 use Rattle.lane_record.specs.declared.outcome.Outcome.{Outcome}
-use Rattle.lane_record.specs.declared.outcome.Outcome.TheVariants.{Replied, TimedOut, Unsent, LinkLost}
+use Rattle.lane_record.specs.declared.outcome.Outcome.TheVariants.{Unsent, LinkLost}
 use Rattle.lane_record.specs.Outcomes.{place_of, is_sent, is_lost, is_timed_out}
 use Rattle.lane_record.specs.Claims.{Claim}
 use Rattle.lane_record.specs.FirstSends.{may_have_place, HasPlaceAfter, HavePlacesAfter}
