@@ -2,7 +2,7 @@
 use Rattle.std.proofs.Common.{◌≡◌, ℕ, zero, suc, ◌+◌, ◌<◌, ◌≤◌, Bool, true, false, cond, List, [], ◌∷◌, ◌++◌, length, map}
 use Rattle.std.proofs.Common.{Option, Some, None, refl, sym, ap, ◌∙◌, subst, arith, if◌then◌else◌}
 use Rattle.std.specs.Prelude.{is_some, IfSome}
-use Rattle.std.specs.List.{AllByRecursion}
+use Rattle.std.specs.List.{AllByRecursion, slice_get}
 use Rattle.std.proofs.lemmas.List.{map-append}
 use Rattle.ipb_base.specs.Lists.{IsPrefix}
 use Rattle.ipb_base.proofs.AllLemmas.{AllByRecursion-append, all-map}
@@ -24,7 +24,7 @@ use Rattle.board_history.specs.Order.{Placed, with_place, order, bodies_of}
 use Rattle.board_history.specs.Parts.{IsReplyOf, IsExecuted, IsExecutedOnce, AreRepliesOf}
 use Rattle.lane_history.specs.Lanes.{bodies_offered, IsTrueOf}
 use Rattle.lane_history.proofs.Steps.{Step, step_for, steps_of, steps, body_in, outcome_in, of, all_of, AreStepsOf, AreOf}
-use Rattle.lane_history.proofs.Steps.{AreStepsOfAll}
+use Rattle.lane_history.proofs.Steps.{AreStepsOfAll, all_at}
 use Rattle.lane_history.proofs.Orders.{sent, AreInOrder, order_is}
 
 -- ---- what holds of what became of each Ask holds of each outcome
@@ -59,12 +59,18 @@ pub each_outcome : (P : Outcome → Type 0) (bodies : List (List (List ℕ))) (o
     → AllByRecursion (AllByRecursion P) outcomes
 each_outcome P bodies outcomes ss are all = clients_outcomes P 1 bodies outcomes ss are.clients all
 
+if_there : (P : Outcome → Type 0) (o : Option Outcome) → ((p : Outcome) → o ≡ Some p → P p) → IfSome o P
+if_there P None f = tt
+if_there P (Some o) f = f o refl
+
 -- of a record that is finished
 pub became_outcomes : (P : Outcome → Type 0) (items : List Item) (became : List (Option Outcome))
-    → IsLegal items became → IsFinished items → AllByRecursion (λ (o : Option Outcome). IfSome o P) became
+    → IsLegal items became → IsFinished items
+    → ((k : ℕ) (o : Outcome) → slice_get became k ≡ Some (Some o) → P o)
     → AllByRecursion (λ (s : Step). P s.outcome) (steps items)
 became_outcomes P items became legal done all = steps_outcomes P (claims items) (taken items)
-    (subst (AllByRecursion (λ (o : Option Outcome). IfSome o P)) (outcomes_taken items became legal done) all)
+    (subst (AllByRecursion (λ (o : Option Outcome). IfSome o P)) (outcomes_taken items became legal done)
+      (all_at (λ (o : Option Outcome). IfSome o P) became (λ k o e. if_there P o (λ p same. all k p (e ∙ ap (λ z. Some z) same)))))
 
 -- ---- what may have been sent was sent
 

@@ -123,7 +123,7 @@ seq_first client front x later (Some n) = elim (x.client == client) as
     | false ↦ refl
   ]
 
-claims_seqs : (client : ℕ) (front xs : List Item) → seqs_of client (claims_behind front xs) ≡ numbers ask_in client xs
+pub claims_seqs : (client : ℕ) (front xs : List Item) → seqs_of client (claims_behind front xs) ≡ numbers ask_in client xs
 claims_seqs client front [] = refl
 claims_seqs client front (x ∷ xs) =
     seq_first client front x (claims_behind (front ++ x ∷ []) xs) (ask_in x.what)
@@ -285,7 +285,7 @@ finished bodies outcomes items became is legal =
 
 -- ---- the steps of each client
 
-step_planned : (items : List Item) (became : List (Option Outcome)) → IsLegal items became
+pub step_planned : (items : List Item) (became : List (Option Outcome)) → IsLegal items became
     → AllByRecursion (λ (c : Claim). found plan_in c.client c.seq items ≡ Some c.body) (claims items)
 step_planned items became legal =
     all_at (λ (c : Claim). found plan_in c.client c.seq items ≡ Some c.body) (claims items) (λ k c e.

@@ -1,10 +1,10 @@
 -- Who gave up has waited.
-use Rattle.std.proofs.Common.{◌≡◌, ℕ, zero, suc, ◌+◌, ◌*◌, ◌-◌, ◌^◌, ◌<◌, ◌≤◌, Bool, true, false, cond, ◌==◌, ◌||◌, List, []}
-use Rattle.std.proofs.Common.{◌∷◌, ◌++◌, length, map, min, Option, Some, None, refl, sym, ap, ◌∙◌, subst, arith}
-use Rattle.std.proofs.Common.{append_assoc, append-nil, length-append, if◌then◌else◌}
+use Rattle.std.proofs.Common.{◌≡◌, ℕ, zero, suc, ◌+◌, ◌*◌, ◌-◌, ◌^◌, ◌<◌, ◌≤◌, Bool, true, false, cond, ◌==◌, ◌&&◌, ◌||◌}
+use Rattle.std.proofs.Common.{List, [], ◌∷◌, ◌++◌, length, map, min, Option, Some, None, refl, sym, ap, ◌∙◌, subst, arith}
+use Rattle.std.proofs.Common.{append_assoc, append-nil, length-append, if◌then◌else◌, inl, inr}
 use Rattle.std.specs.Prelude.{IfSome}
 use Rattle.std.specs.List.{AllByRecursion, count_by, flat_map, list_any, slice_get}
-use Rattle.std.specs.Option.{option_or}
+use Rattle.std.specs.Option.{option_or, unwrap_or}
 use Rattle.std.proofs.lemmas.Bool.{eqb-true}
 use Rattle.std.proofs.lemmas.Bool.Decides.{nat_tests}
 use Rattle.std.proofs.lemmas.List.{length-map, map-append}
@@ -16,11 +16,12 @@ use Rattle.lane_record.specs.declared.item.What.{What}
 use Rattle.lane_record.specs.declared.item.What.TheVariants.{Plan, Seal, Ask, Took}
 use Rattle.lane_record.specs.Outcomes.{is_given_up, is_timed_out}
 use Rattle.lane_record.specs.Lists.{EachBehind, NeverFalls}
-use Rattle.lane_record.specs.Items.{ask_in, found, give_ups}
-use Rattle.lane_record.specs.Claims.{Claim, claims, taken, outcome_taken, IsFinished}
+use Rattle.lane_record.specs.Items.{plan_in, ask_in, found, is_of, give_ups}
+use Rattle.lane_record.specs.Claims.{Claim, claims, claims_behind, claim_in, taken, outcome_taken, IsFinished}
 use Rattle.lane_record.specs.Legal.{IsLegal, IsLate, IsLateEnough}
 use Rattle.lane_record.specs.Bounds.{IsKept, HasReached, has_timed_out, timeouts}
-use Rattle.lane_record.proofs.Lookups.{found_append, found_other, give_ups_append}
+use Rattle.lane_record.proofs.Lookups.{found_append, found_other, first_or, if_some, and_true}
+use Rattle.lane_record.proofs.Sequences.{each_then}
 use Rattle.lane_record.proofs.Finished.{outcomes_taken}
 use Rattle.board_history.specs.Patience.{joined, time_outs, was_given_up, times_given_up, IsExact, IsPatient}
 use Rattle.lane_history.specs.Records.{entries_by, plans_from, IsClientsRecord}
@@ -117,20 +118,21 @@ same_count p bodies outcomes ss are =
     ap (count_by p) (joined_from 1 bodies outcomes ss are.clients)
     ∙ all_counted p 1 (length bodies) ss are.nobody_else
 
+one_more : (b : Bool) (m n : ℕ) → m ≡ n → cond b 1 0 + m ≡ (if b then 1 + n else n)
+one_more true m n e = omega (arith, e)
+one_more false m n e = omega (arith, e)
+
 steps_timed_out : (cs : List Claim) (os : List (Option Outcome)) → length os ≡ length cs
     → count_by is_timed_out (map outcome_in (steps_of cs os)) ≡ timeouts os
 steps_timed_out [] [] e = refl
 steps_timed_out [] (o ∷ os) e = absurd (omega (arith, e))
 steps_timed_out (c ∷ cs) [] e = absurd (omega (arith, e))
 steps_timed_out (c ∷ cs) (None ∷ os) e =
-    let later = steps_timed_out cs os (omega (arith, e)) in
-    let whole = count_cons has_timed_out None os in
-    omega (arith, later, whole)
+    steps_timed_out cs os (omega (arith, e))
 steps_timed_out (c ∷ cs) (Some o ∷ os) e =
-    let later = steps_timed_out cs os (omega (arith, e)) in
-    let whole = count_cons has_timed_out (Some o) os in
-    let first = count_cons is_timed_out o (map outcome_in (steps_of cs os)) in
-    omega (arith, later, whole, first)
+    count_cons is_timed_out o (map outcome_in (steps_of cs os))
+    ∙ one_more (is_timed_out o) (count_by is_timed_out (map outcome_in (steps_of cs os))) (timeouts os)
+    (steps_timed_out cs os (omega (arith, e)))
 
 time_outs_are : (bodies : List (List (List ℕ))) (outcomes : List (List (List Outcome))) (items : List Item)
     (became : List (Option Outcome)) → IsClientsRecord bodies outcomes items → IsLegal items became
@@ -174,6 +176,57 @@ ran_numbers client seq (r ∷ rs) =
     (took_numbers client seq r.took later
       ∙ ap (λ (zs : List ℕ). map number_took r.took ++ zs) (ran_numbers client (seq + length r.took) rs))
 
+-- ---- an Ask that is found
+
+-- the Ask of a client and number, among those of these entries
+pub record IsAskFound (client seq number : ℕ) (cs : List Claim) : Type 0 where
+  pub k : ℕ
+  pub claim : Claim
+  pub there : slice_get cs k ≡ Some claim
+  pub same_client : claim.client ≡ client
+  pub same_seq : claim.seq ≡ seq
+  pub same_number : claim.give_ups ≡ number
+
+get_past : {A : Type 0} (xs ys : List A) (k : ℕ) → slice_get (xs ++ ys) (length xs + k) ≡ slice_get ys k
+get_past [] ys k = let same : 0 + k ≡ k = omega arith in ap (slice_get ys) same
+get_past (x ∷ xs) ys k =
+    let up : suc (length xs) + k ≡ suc (length xs + k) = omega arith in
+    ap (slice_get (x ∷ (xs ++ ys))) up ∙ get_past xs ys k
+
+found_here : (client seq number : ℕ) (front : List Item) (x : Item) (later : List Claim) (o : Option ℕ)
+    → x.client ≡ client → x.seq ≡ seq → o ≡ Some number → IsAskFound client seq number (claim_in front x o ++ later)
+found_here client seq number front x later None c s e = absurd cc
+found_here client seq number front x later (Some n) c s e = record {
+  k = 0;
+  claim = record {
+    client = x.client; seq = x.seq; give_ups = n;
+    body = unwrap_or (found plan_in x.client x.seq front) [];
+  };
+  there = refl; same_client = c; same_seq = s;
+  same_number = let same : n ≡ number = cc in same;
+}
+
+pub ask_found : (client seq number : ℕ) (front xs : List Item) → found ask_in client seq xs ≡ Some number
+    → IsAskFound client seq number (claims_behind front xs)
+ask_found client seq number front [] e = absurd cc
+ask_found client seq number front (x ∷ xs) e =
+    let here = claim_in front x (ask_in x.what) in
+    let rest = claims_behind (front ++ x ∷ []) xs in
+    elim (first_or (if is_of client seq x then ask_in x.what else None) (found ask_in client seq xs) number e) [
+      | inl h ↦
+          let is = if_some (is_of client seq x) (ask_in x.what) number h in
+          let same = and_true (x.client == client) (x.seq == seq) is.0 in
+          found_here client seq number front x rest (ask_in x.what) (eqb-true x.client client same.0)
+          (eqb-true x.seq seq same.1) is.1
+      | inr h ↦
+          let later = ask_found client seq number (front ++ x ∷ []) xs h in
+          record {
+            k = length here + later.k; claim = later.claim;
+            there = get_past here rest later.k ∙ later.there;
+            same_client = later.same_client; same_seq = later.same_seq; same_number = later.same_number;
+          }
+    ]
+
 -- ---- a give-up was taken at a greater number than that of its Ask
 
 abbrev pub AreLater : List ℕ → List Taking → Type 0
@@ -197,8 +250,34 @@ each_before : {A : Type 0} (P : List A → A → Type 0) (front xs ys : List A) 
 each_before P front [] ys is = tt
 each_before P front (x ∷ xs) ys is = (is.0, each_before P (front ++ x ∷ []) xs ys is.1)
 
-late_own : (client : ℕ) (front : List Item) (x : Item) (what : What) → x.client ≡ client → IsLateEnough front x what
-    → IsLateEnough (entries_by client front) x what
+-- the same, where the Ask is looked up
+abbrev pub IsFoundLate : List Item → Item → What → Type 0
+IsFoundLate front x (Plan body) = Unit {0}
+IsFoundLate front x Seal = Unit {0}
+IsFoundLate front x (Ask n) = Unit {0}
+IsFoundLate front x (Took o n) =
+    is_given_up o ≡ true → IfSome (found ask_in x.client x.seq front) (λ asked. asked < n)
+
+abbrev pub HasLate : List Item → Item → Type 0
+HasLate front x = IsFoundLate front x x.what
+
+found_late : (front : List Item) (x : Item) (what : What) → IsLateEnough front x what → IsFoundLate front x what
+found_late front x (Plan body) late = tt
+found_late front x Seal late = tt
+found_late front x (Ask n) late = tt
+found_late front x (Took o n) late = λ given.
+    elim (found ask_in x.client x.seq front) as (λ z. found ask_in x.client x.seq front ≡ z
+      → IfSome z (λ asked. asked < n)) [
+      | None ↦ λ _. tt
+      | Some m ↦ λ e.
+          let ask = ask_found x.client x.seq m [] front e in
+          let less = late given ask.k ask.claim
+          (record { there = ask.there; same_client = ask.same_client; same_seq = ask.same_seq }) in
+          omega (arith, less, ask.same_number)
+    ] refl
+
+late_own : (client : ℕ) (front : List Item) (x : Item) (what : What) → x.client ≡ client → IsFoundLate front x what
+    → IsFoundLate (entries_by client front) x what
 late_own client front x (Plan body) e late = tt
 late_own client front x Seal e late = tt
 late_own client front x (Ask n) e late = tt
@@ -206,26 +285,26 @@ late_own client front x (Took o n) e late = λ given. subst (λ (z : Option ℕ)
     (subst (λ (c : ℕ). found ask_in x.client x.seq front ≡ found ask_in x.client x.seq (entries_by c front)) e
       (own_found ask_in x.client x.seq front)) (late given)
 
-own_late : (client : ℕ) (front xs : List Item) → EachBehind IsLate front xs
-    → EachBehind IsLate (entries_by client front) (entries_by client xs)
+own_late : (client : ℕ) (front xs : List Item) → EachBehind HasLate front xs
+    → EachBehind HasLate (entries_by client front) (entries_by client xs)
 own_late client front [] late = tt
 own_late client front (x ∷ xs) late =
     let rest = own_late client (front ++ x ∷ []) xs late.1 in
     let split = by_append client front (x ∷ []) in
-    let moved : EachBehind IsLate (entries_by client front ++ entries_by client (x ∷ [])) (entries_by client xs) =
-        subst (λ (zs : List Item). EachBehind IsLate zs (entries_by client xs)) split rest in
+    let moved : EachBehind HasLate (entries_by client front ++ entries_by client (x ∷ [])) (entries_by client xs) =
+        subst (λ (zs : List Item). EachBehind HasLate zs (entries_by client xs)) split rest in
     elim (x.client == client) as (λ b. (x.client == client) ≡ b
-      → EachBehind IsLate (entries_by client front ++ (if b then x ∷ [] else [])) (entries_by client xs)
-      → EachBehind IsLate (entries_by client front) (if b then x ∷ entries_by client xs else entries_by client xs)) [
+      → EachBehind HasLate (entries_by client front ++ (if b then x ∷ [] else [])) (entries_by client xs)
+      → EachBehind HasLate (entries_by client front) (if b then x ∷ entries_by client xs else entries_by client xs)) [
       | true ↦ λ e m. (late_own client front x x.what (eqb-true x.client client e) late.0, m)
-      | false ↦ λ e m. subst (λ (zs : List Item). EachBehind IsLate zs (entries_by client xs))
+      | false ↦ λ e m. subst (λ (zs : List Item). EachBehind HasLate zs (entries_by client xs))
           (append-nil (entries_by client front)) m
     ] refl moved
 
 -- one dispatch's Tooks, behind its Asks
 tooks_late : (client seq : ℕ) (ns : List ℕ) (ts : List Taking) (front : List Item)
     → ((j : ℕ) → found ask_in client (seq + j) front ≡ slice_get ns j)
-    → EachBehind IsLate front (took_items client seq ts) → AreLater ns ts
+    → EachBehind HasLate front (took_items client seq ts) → AreLater ns ts
 tooks_late client seq [] ts front at late = tt
 tooks_late client seq (n ∷ ns) [] front at late = tt
 tooks_late client seq (n ∷ ns) (t ∷ ts) front at late =
@@ -249,13 +328,13 @@ past_end (x ∷ xs) (suc j) le = past_end xs j (omega (arith, le))
 
 rans_late : (client seq : ℕ) (rs : List Ran) (front : List Item) → AreWhole rs
     → ((j : ℕ) → found ask_in client (seq + j) front ≡ None)
-    → EachBehind IsLate front (ran_items client seq rs) → AllLater rs
+    → EachBehind HasLate front (ran_items client seq rs) → AllLater rs
 rans_late client seq [] front whole none late = tt
 rans_late client seq (r ∷ rs) front whole none late =
     let asks = ask_items client seq r.asked in
     let tooks = took_items client seq r.took in
     let later = ran_items client (seq + length r.took) rs in
-    let behind = each_behind IsLate front asks (tooks ++ later) late in
+    let behind = each_behind HasLate front asks (tooks ++ later) late in
     let at : (j : ℕ) → found ask_in client (seq + j) (front ++ asks) ≡ slice_get r.asked j =
         λ j. found_append ask_in client (seq + j) front asks
         ∙ ap (λ (z : Option ℕ). option_or z (found ask_in client (seq + j) asks)) (none j)
@@ -270,9 +349,9 @@ rans_late client seq (r ∷ rs) front whole none late =
         (tooks_are_not ask_in client seq r.took (λ o n. refl)) in
     (
       tooks_late client seq r.asked r.took (front ++ asks) at
-      (each_before IsLate (front ++ asks) tooks later behind),
+      (each_before HasLate (front ++ asks) tooks later behind),
       rans_late client (seq + length r.took) rs ((front ++ asks) ++ tooks) whole.1 next
-      (each_behind IsLate (front ++ asks) tooks later behind),
+      (each_behind HasLate (front ++ asks) tooks later behind),
     )
 
 -- ---- one dispatch that was given up
@@ -339,7 +418,7 @@ times_at_most : (a b c : ℕ) → a ≤ b → c * a ≤ c * b
 times_at_most a b c h = grind arith
 
 client_gave_up : (client given_up : ℕ) (bodies : List (List ℕ)) (dispatches : List (List Outcome)) (items : List Item)
-    → Climbs 0 given_up (give_ups items) → EachBehind IsLate [] items → ClientRan client bodies dispatches items
+    → Climbs 0 given_up (give_ups items) → EachBehind HasLate [] items → ClientRan client bodies dispatches items
     → times_given_up dispatches ≤ given_up
 client_gave_up client given_up bodies dispatches items climbs late ran =
     let plans = plans_from client 0 bodies in
@@ -348,9 +427,9 @@ client_gave_up client given_up bodies dispatches items climbs late ran =
         ap give_ups ran.entries ∙ plan_numbers client 0 bodies runs ∙ ran_numbers client 0 ran.rans in
     let own : Climbs 0 given_up (numbers_ran ran.rans) =
         subst (Climbs 0 given_up) numbers (own_climbs client 0 given_up items climbs) in
-    let behind : EachBehind IsLate plans runs =
-        each_behind IsLate [] plans runs
-        (subst (EachBehind IsLate []) ran.entries (own_late client [] items late)) in
+    let behind : EachBehind HasLate plans runs =
+        each_behind HasLate [] plans runs
+        (subst (EachBehind HasLate []) ran.entries (own_late client [] items late)) in
     let later : AllLater ran.rans = rans_late client 0 ran.rans plans ran.whole
         (λ j. none_found ask_in client (0 + j) plans (plans_are_not ask_in client 0 bodies (λ body. refl))) behind in
     let few = given_up_at_most 0 given_up ran.rans ran.whole later own in
@@ -360,7 +439,7 @@ client_gave_up client given_up bodies dispatches items climbs late ran =
 
 clients_gave_up : (cost paid given_up client : ℕ) (bodies : List (List (List ℕ)))
     (outcomes : List (List (List Outcome))) (items : List Item) → cost * given_up ≤ paid
-    → Climbs 0 given_up (give_ups items) → EachBehind IsLate [] items → AllRan client bodies outcomes items
+    → Climbs 0 given_up (give_ups items) → EachBehind HasLate [] items → AllRan client bodies outcomes items
     → AllByRecursion (λ (dispatches : List (List Outcome)). cost * times_given_up dispatches ≤ paid) outcomes
 clients_gave_up cost paid given_up client [] [] items enough climbs late all = tt
 clients_gave_up cost paid given_up client [] (os ∷ others) items enough climbs late all = absurd all
@@ -392,11 +471,13 @@ pub has_waited : (window cost paid given_up : ℕ) (bodies : List (List (List �
     → IsPatient window cost paid outcomes
 has_waited window cost paid given_up bodies outcomes items became is kept has =
     let climbs = climbs_of 0 given_up (give_ups items) (omega arith) kept.legal.give_ups_rise.rise kept.within in
+    let late : EachBehind HasLate [] items = each_then IsLate HasLate [] items
+        (λ before x after _ l. found_late before x x.what l) kept.legal.give_ups_rise.later in
     record {
       bodies = λ exact. subst (λ (n : ℕ). cost * n ≤ window * paid)
       (sym (time_outs_are bodies outcomes items became is kept.legal))
       (bodies_at_most window cost paid (timeouts became) given_up kept.few (reached (cost * given_up) paid has exact));
       dispatches = λ exact. clients_gave_up cost paid given_up 1 bodies outcomes items
-      (reached (cost * given_up) paid has exact) climbs kept.legal.give_ups_rise.later
+      (reached (cost * given_up) paid has exact) climbs late
       (each_ran bodies outcomes items is);
     }

@@ -1,7 +1,6 @@
--- What the lane of a board keeps at every exit of its calls, of its record, what became of the Asks so far, and its link.
--- Profile.
-use Rattle.std.specs.Prelude.{◌≡◌, ℕ, ◌+◌, ◌*◌, List, map, Option, IfSome}
-use Rattle.std.specs.List.{AllByRecursion}
+-- What the lane of a board keeps at every exit of its calls: of its record, of what became of the Asks so far, and of
+-- its link. Profile.
+use Rattle.std.specs.Prelude.{◌≡◌, ℕ, ◌+◌, ◌*◌, List, map, slice_get, Option, Some, IfSome}
 use Rattle.ipb_base.specs.Lists.{IsPrefix}
 use Rattle.board_bus.specs.Cells.{CellMap}
 use Rattle.board_bus.specs.Bodies.{replay}
@@ -23,10 +22,10 @@ bodies_offered claims outcomes = map (λ (o : Offered). o.body) (offers_from 0 c
 -- What the board executed is a front of the bodies offered, and each reply is the one that a bus with a single thread
 -- gives at its place when it executes this front.
 pub record IsTrueOf (opening : CellMap) (claims : List Claim) (outcomes : List (Option Outcome))
-    (executed' : List (List ℕ)) : Type 0 where
-  pub front : IsPrefix executed' (bodies_offered claims outcomes)
-  pub replies : AllByRecursion
-      (λ (o : Option Outcome). IfSome o (IsReplyOf (replay opening executed').replies)) outcomes
+    (done : List (List ℕ)) : Type 0 where
+  pub front : IsPrefix done (bodies_offered claims outcomes)
+  pub replies : (k : ℕ) (outcome : Outcome) → slice_get outcomes k ≡ Some (Some outcome)
+      → IsReplyOf (replay opening done).replies outcome
 
 -- A lane that gave up so many times, whose board opened with this bus.
 pub record IsSoundLane (settings : Limits) (opening : CellMap) (link : LinkReport) (items : List Item)

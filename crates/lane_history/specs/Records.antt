@@ -93,6 +93,10 @@ pub record IsClientsRecord (bodies : List (List (List ℕ))) (outcomes : List (L
   pub each : DidDispatches 1 outcomes past
   pub nobody_else : AllByRecursion (IsOfClient (length bodies)) past
 
+-- whose the entries are, in order
+abbrev pub makers : List Item → List ℕ
+makers items = map (λ (x : Item). x.client) items
+
 -- ---- a part of it
 
 -- the bodies that a client planned, in order

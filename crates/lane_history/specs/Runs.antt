@@ -10,7 +10,6 @@ use Rattle.board_node.specs.declared.spec.LinkSpec.TheVariants.{Sim, Udp}
 use Rattle.world_model.specs.Board.{Board, executed}
 use Rattle.reliable_engine.specs.Settings.{Limits}
 use Rattle.script_lang.specs.declared.operation.Step.{Step}
-use Rattle.lane_record.specs.Bounds.{IsLostOnlyIf}
 use Rattle.transcript.specs.declared.greeting.Greeting.{Greeting}
 use Rattle.transcript.specs.declared.greeting.Greeting.TheVariants.{Live, Silent, Down}
 use Rattle.transcript.specs.declared.board_run.ClientPart.{ClientPart}
@@ -22,7 +21,7 @@ use Rattle.board_history.specs.History.{bodies_by_client, outcomes_by_client, di
 use Rattle.board_history.specs.Patience.{IsPatient}
 use Rattle.board_history.specs.Merges.{IsMergeOfSome}
 use Rattle.direct_run.specs.Runs.{plans_on, opening_of}
-use Rattle.lane_history.specs.Links.{LinkReport, HasFailed, IsUntouched}
+use Rattle.lane_history.specs.Links.{LinkReport, HasFailed, IsLostOnlyIfFailed, IsUntouched}
 
 -- ---- what the scripts ask
 
@@ -60,7 +59,7 @@ pub record IsLiveRun (settings : Limits) (spec : BoardSpec) (payload : ℕ) (run
   -- the hub gave up only after the rounds of the settings, each of which ended with a quiet receive
   pub rounds : IsPatient settings.window (settings.rounds + 1) link.quiets (dispatches_by_client run)
   -- a body was lost with the link only where the link failed
-  pub lost : AllByRecursion (AllByRecursion (IsLostOnlyIf (HasFailed link))) (outcomes_by_client run)
+  pub lost : AllByRecursion (AllByRecursion (IsLostOnlyIfFailed link)) (outcomes_by_client run)
   pub told : IfSome link.board (IsTrueRun settings (opening_of spec.link) run link.held)
 
 -- ---- the others

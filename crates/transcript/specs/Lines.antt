@@ -6,7 +6,7 @@ use Rattle.script_lang.specs.declared.operation.RegOp.{RegOp}
 use Rattle.script_lang.specs.declared.operation.Step.{Step}
 use Rattle.lane_record.specs.declared.outcome.Outcome.{Outcome}
 use Rattle.lane_record.specs.declared.outcome.Outcome.TheVariants.{Replied, TimedOut, Unsent, LinkLost}
-use Rattle.lane_record.specs.Outcomes.{is_sent, is_timed_out}
+use Rattle.lane_record.specs.Outcomes.{is_sent, is_replied, is_timed_out}
 use Rattle.transcript.specs.declared.greeting.Greeting.TheVariants as greeting
 use Rattle.transcript.specs.declared.planned.PieceAt.{PieceAt}
 use Rattle.transcript.specs.declared.board_run.ClientPart.{ClientPart}
@@ -76,12 +76,6 @@ lines_from runs client [] = []
 lines_from runs client (steps ∷ scripts) = client_lines runs client steps ∷ lines_from runs (client + 1) scripts
 
 -- ---- boards
-
-abbrev pub is_replied : Outcome → Bool
-is_replied (Replied place words) = true
-is_replied (TimedOut place rounds) = false
-is_replied Unsent = false
-is_replied (LinkLost place) = false
 
 -- it was sent, and lost with the link
 abbrev pub is_lost : Outcome → Bool

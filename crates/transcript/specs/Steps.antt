@@ -24,9 +24,8 @@ use Rattle.transcript.specs.Plan.{ClientBodies, AreSound, operations, dispatches
 use Rattle.transcript.specs.Plan.{all_dispatches}
 use Rattle.transcript.specs.Ends.{ends_of}
 use Rattle.transcript.specs.Results.{is_good}
-use Rattle.lane_record.specs.Outcomes.{is_sent}
-use Rattle.transcript.specs.Lines.{showing, line_with, lines_behind, client_lines, count_on, is_replied}
-use Rattle.lane_record.specs.Outcomes.{is_timed_out}
+use Rattle.lane_record.specs.Outcomes.{is_sent, is_replied, is_timed_out}
+use Rattle.transcript.specs.Lines.{showing, line_with, lines_behind, client_lines, count_on}
 use Rattle.transcript.specs.Lines.{is_lost}
 
 -- what a piece came to, where it failed

@@ -16,12 +16,11 @@ ghost use Rattle.transcript.specs.declared.body_end.BodyEnd.{BodyEnd as BodyEndV
 ghost use Rattle.transcript.specs.declared.board_run.BoardRun.{BoardRun as BoardRunValue};
 ghost use Rattle.transcript.specs.Plan as in_order;
 ghost use Rattle.transcript.specs.Plan.{bodies_in, all_dispatches, plan};
-ghost use Rattle.lane_record.specs.Outcomes.{place_of};
+ghost use Rattle.lane_record.specs.Outcomes.{place_of, is_sent, is_replied, is_timed_out};
 ghost use Rattle.transcript.specs.Ends.{told_of, told_at};
 ghost use Rattle.transcript.specs.Results.{op_places};
 ghost use Rattle.transcript.specs.Text.{line_text};
-ghost use Rattle.lane_record.specs.Outcomes.{is_sent, is_timed_out};
-ghost use Rattle.transcript.specs.Lines.{is_replied, is_lost, run_status, client_lines, count_on};
+ghost use Rattle.transcript.specs.Lines.{is_lost, run_status, client_lines, count_on};
 ghost use Rattle.transcript.specs.Claims.{IsDone, HaveWords, IsPrintedLine, IsBefore, Rises, IsOther, HaveOwnPlaces};
 ghost use Rattle.transcript.specs.Claims.{AreOnBoards, HaveBodies, IsRunInRange, IsSpaceless};
 
