@@ -3,9 +3,9 @@ mod Exchanges
 mod Sending
 mod Running
 mod Shown
-mod Answering
-mod Shaped
-mod Asking
+pub mod Answering
+pub mod Shaped
+pub mod Asking
 mod BusResults
 mod BusLines
 mod Spelled
