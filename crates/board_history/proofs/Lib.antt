@@ -3,3 +3,4 @@ mod Turns
 mod Only
 mod Sends
 mod OwnPlaces
+mod PlacesShown

@@ -25,7 +25,7 @@ both : (a b : Bool) → (a && b) ≡ true → (a ≡ true) × (b ≡ true)
 both true b h = (refl, h)
 both false b h = let never : ⊥ = cc in absurd never
 
-all_here : (bs : List BoardSpec) → AllByRecursion KeepsRules bs → AllByRecursion HasBus bs → list_all (λ board. delivers_all board.link) bs ≡ true
+pub all_here : (bs : List BoardSpec) → AllByRecursion KeepsRules bs → AllByRecursion HasBus bs → list_all (λ board. delivers_all board.link) bs ≡ true
     → AllByRecursion CanRun bs
 all_here [] kept buses links = tt
 all_here (b ∷ bs) kept buses links =

@@ -16,6 +16,7 @@ mod lines;
 mod listing;
 mod outcome;
 mod planned;
+pub mod place_laws;
 mod planning;
 mod results;
 mod status;
