@@ -1,6 +1,6 @@
 -- What the scripts of a session ask can be packed, has 32 bits, and is what its verb asks for.
-use Rattle.std.proofs.Common.{◌≡◌, ℕ, zero, suc, ◌+◌, ◌^◌, ◌<◌, ◌≤◌, List, [], ◌∷◌, Bool, true, false, slice_index, map}
-use Rattle.std.proofs.Common.{Option, Some, None, Result, Ok, Err, if◌then◌else◌, refl, sym, ap, ◌∙◌, subst, arith}
+use Rattle.std.proofs.Common.{◌≡◌, ℕ, zero, suc, ◌+◌, List, [], ◌∷◌, Bool, true, false, slice_index}
+use Rattle.std.proofs.Common.{Option, Some, None, Ok, Err, refl, sym, subst, arith}
 use Rattle.std.specs.Prelude.{bit_and}
 use Rattle.std.specs.List.{AllByRecursion, AllZip, cons_option, slice_get}
 use Rattle.std.specs.Option.{option_and_then}
@@ -20,19 +20,17 @@ use Rattle.node_tree.specs.declared.register.Register.{Register}
 use Rattle.script_lang.specs.declared.call.Call.{Call}
 use Rattle.script_lang.specs.declared.call.Command.{Command}
 use Rattle.script_lang.specs.declared.call.Command.TheVariants as says
-use Rattle.script_lang.specs.declared.operation.RegOp.{RegOp}
 use Rattle.script_lang.specs.declared.operation.Step.{Step}
-use Rattle.script_lang.specs.declared.operation.Step.TheVariants.{Do, Dispatch}
 use Rattle.script_lang.specs.declared.operation.Verb.{Verb}
 use Rattle.script_lang.specs.declared.operation.Verb.TheVariants.{Read, Write, ReadBlock, WriteBlock, RmwBits, RmwSum}
 use Rattle.script_lang.specs.declared.script_refusal.ScriptWhy.{ScriptWhy}
 use Rattle.script_lang.specs.declared.session.Session.{Session}
 use Rattle.script_lang.specs.Document.{StandsFor}
-use Rattle.script_lang.specs.Executable.{FitsVerb, CanBeAsked, CanBeDone, AreExecutable}
+use Rattle.script_lang.specs.Executable.{FitsVerb, CanBeDone, AreExecutable}
 use Rattle.script_lang.specs.Lines.{command_of, takes, words}
-use Rattle.script_lang.specs.Operations.{use_rules, is_full, is_port, fits_mask, fits_field, masked_write, write_op}
-use Rattle.script_lang.specs.Operations.{read_block_op, write_block_op, op_on, by_rules, use_of, use_at, use_on, as_step}
-use Rattle.script_lang.specs.Operations.{asked, step_of, board_from, register_at, meaning}
+use Rattle.script_lang.specs.Operations.{use_rules, is_full, is_port, fits_mask, fits_field, write_op}
+use Rattle.script_lang.specs.Operations.{read_block_op, write_block_op, op_on, by_rules, use_at, use_on, as_step}
+use Rattle.script_lang.specs.Operations.{step_of, board_from, register_at, meaning}
 use Rattle.script_lang.specs.Scripts.{Meaning, step_in, steps_from, steps_of}
 use Rattle.script_lang.proofs.Asking.{takes_asked}
 use Rattle.script_lang.proofs.MaskedValues.{field_kept}
@@ -146,44 +144,44 @@ use_well line board call (Some r) asking sound =
     rules_well line board call r (first_broken (use_rules r call)) refl asking (sound r refl)
 
 module _ (boards : List BoardSpec) (indexes : List RegisterMap) (sound : AllByRecursion AreSoundRegisters indexes)
-    where
-  on_board : (line : ℕ) (call : Call) (found : Option ℕ) → IsAsking call
-      → MeansWell (as_step (use_on indexes line call found))
-  on_board line call None asking = tt
-  on_board line call (Some board) asking =
-      use_well line board call (register_at indexes board call.name) asking
-      (λ r there. register_sound indexes board call.name (slice_get indexes board) r sound refl there)
+  where
+    on_board : (line : ℕ) (call : Call) (found : Option ℕ) → IsAsking call
+        → MeansWell (as_step (use_on indexes line call found))
+    on_board line call None asking = tt
+    on_board line call (Some board) asking =
+        use_well line board call (register_at indexes board call.name) asking
+        (λ r there. register_sound indexes board call.name (slice_get indexes board) r sound refl there)
 
-  command_well : (line : ℕ) (command : Option Command) → ((call : Call) → command ≡ Some (says.Ask call) → IsAsking call)
-      → MeansWell (step_of boards indexes line command)
-  command_well line None asking = tt
-  command_well line (Some says.Nothing) asking = tt
-  command_well line (Some says.Dispatch) asking = tt
-  command_well line (Some (says.Ask call)) asking =
-      on_board line call (board_from 0 call.board boards) (asking call refl)
+    command_well : (line : ℕ) (command : Option Command) → ((call : Call) → command ≡ Some (says.Ask call) → IsAsking call)
+        → MeansWell (step_of boards indexes line command)
+    command_well line None asking = tt
+    command_well line (Some says.Nothing) asking = tt
+    command_well line (Some says.Dispatch) asking = tt
+    command_well line (Some (says.Ask call)) asking =
+        on_board line call (board_from 0 call.board boards) (asking call refl)
 
-  line_well : (line : ℕ) (text : List ℕ) → MeansWell (meaning boards indexes line text)
-  line_well line text =
-      command_well line (command_of (words text)) (λ call is. record {
-        taken = takes_asked (words text) call (sym is);
-        numbers = numbers_asked (words text) call is;
-      })
+    line_well : (line : ℕ) (text : List ℕ) → MeansWell (meaning boards indexes line text)
+    line_well line text =
+        command_well line (command_of (words text)) (λ call is. record {
+          taken = takes_asked (words text) call (sym is);
+          numbers = numbers_asked (words text) call is;
+        })
 
-  one_step : (m : Meaning) (steps : List Step) → MeansWell m → AreExecutable steps
-      → AreExecutable (cons_option (step_in boards indexes m) steps)
-  one_step (Ok (Some step)) steps well are = (well, are)
-  one_step (Ok None) steps well are = are
-  one_step (Err why) steps well are = are
+    one_step : (m : Meaning) (steps : List Step) → MeansWell m → AreExecutable steps
+        → AreExecutable (cons_option (step_in boards indexes m) steps)
+    one_step (Ok (Some step)) steps well are = (well, are)
+    one_step (Ok None) steps well are = are
+    one_step (Err why) steps well are = are
 
-  script_well : (number : ℕ) (script : List (List ℕ)) → AreExecutable (steps_from boards indexes number script)
-  script_well number [] = tt
-  script_well number (text ∷ script) =
-      one_step (meaning boards indexes number text) (steps_from boards indexes (number + 1) script)
-      (line_well number text) (script_well (number + 1) script)
+    script_well : (number : ℕ) (script : List (List ℕ)) → AreExecutable (steps_from boards indexes number script)
+    script_well number [] = tt
+    script_well number (text ∷ script) =
+        one_step (meaning boards indexes number text) (steps_from boards indexes (number + 1) script)
+        (line_well number text) (script_well (number + 1) script)
 
-  scripts_well : (scripts : List (List (List ℕ))) → AllByRecursion AreExecutable (steps_of boards indexes scripts)
-  scripts_well [] = tt
-  scripts_well (script ∷ scripts) = (script_well 1 script, scripts_well scripts)
+    scripts_well : (scripts : List (List (List ℕ))) → AllByRecursion AreExecutable (steps_of boards indexes scripts)
+    scripts_well [] = tt
+    scripts_well (script ∷ scripts) = (script_well 1 script, scripts_well scripts)
 
 pub session_executable : (bytes : List ℕ) (session : Session) (indexes : List RegisterMap) → StandsFor bytes session
     → AllByRecursion (λ (b : BoardSpec). KeepsRules session.tables b.table) session.boards

@@ -1,6 +1,6 @@
 -- The boards of a document without faults have names of their own.
 use Rattle.std.proofs.Common.{◌≡◌, ◌≢◌, ℕ, zero, suc, ◌+◌, ◌<◌, List, [], ◌∷◌, ◌++◌, length, get_or, Bool, true, false}
-use Rattle.std.proofs.Common.{if◌then◌else◌, refl, sym, ap, subst, arith}
+use Rattle.std.proofs.Common.{if◌then◌else◌, sym, subst, arith}
 use Rattle.std.specs.List.{Any, list_any}
 use Rattle.std.specs.Str.{bytes_eq}
 use Rattle.std.proofs.lemmas.List.Folds.{list_any-from_Any}

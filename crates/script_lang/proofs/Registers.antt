@@ -1,17 +1,15 @@
 -- The registers that the tables of a document name keep the rules of registers, and their masks have 32 bits.
-use Rattle.std.proofs.Common.{◌≡◌, ◌⊎◌, inl, inr, ℕ, ◌+◌, ◌^◌, ◌<◌, ◌≤◌, List, [], ◌∷◌, Bool, true, false, not, Option}
-use Rattle.std.proofs.Common.{Some, None, codes, nat_lt, nat_le, refl, sym, subst, arith}
+use Rattle.std.proofs.Common.{◌≡◌, inl, inr, ℕ, ◌+◌, ◌^◌, ◌<◌, ◌≤◌, List, [], ◌∷◌, Bool, true, false, not, Option}
+use Rattle.std.proofs.Common.{Some, None, codes, nat_lt, nat_le, refl, subst, arith}
 use Rattle.std.specs.List.{AllByRecursion, AllZip}
 use Rattle.std.specs.Option.{option_map_or}
 use Rattle.std.specs.FinMap.{get}
 use Rattle.std.proofs.lemmas.Bool.{ltb-true, leb-true}
 use Rattle.ipb_base.specs.Word.{IsWord}
-use Rattle.toml.specs.Data.{Data, Items, no_items, Members, array, get_member}
-use Rattle.address_table.specs.Keys.{mask_at}
+use Rattle.toml.specs.Data.{Data, Items, no_items, array, get_member}
 use Rattle.address_table.specs.Numbers.{number}
 use Rattle.address_table.specs.Rules.{first_broken}
 use Rattle.address_table.specs.Tables.{IsTable, IsNode, node, AreNodes, none, more, children}
-use Rattle.address_table.specs.Valid.{IsValid}
 use Rattle.address_table.specs.declared.nodes.Node.{Node, out-Node}
 use Rattle.address_table.specs.declared.nodes.Table.{Table}
 use Rattle.address_table.proofs.ValidNodes.{nodes-valid}

@@ -1,16 +1,14 @@
 -- The numbers of documents and of scripts have 32 bits.
-use Rattle.std.proofs.Common.{◌≡◌, ℕ, ◌^◌, ◌<◌, ltb, List, [], ◌∷◌, Bool, true, false, if◌then◌else◌, length, drop, codes}
-use Rattle.std.proofs.Common.{Option, Some, None, refl, sym, subst, arith, ℤ, pos, negsuc, nat_eq}
-use Rattle.std.specs.List.{AllByRecursion, filter_map, cons_option, starts_with}
-use Rattle.std.specs.Option.{option_map, option_and_then, unwrap_or}
+use Rattle.std.proofs.Common.{◌≡◌, ℕ, ◌^◌, ltb, List, [], ◌∷◌, Bool, true, false, if◌then◌else◌, length, drop, codes}
+use Rattle.std.proofs.Common.{Option, Some, None, refl, sym, subst, ℤ, pos, negsuc, nat_eq}
+use Rattle.std.specs.List.{AllByRecursion, cons_option, starts_with}
+use Rattle.std.specs.Option.{option_map}
 use Rattle.std.specs.Str.{bytes_eq}
 use Rattle.std.proofs.lemmas.Bool.{ltb-true}
-use Rattle.std.proofs.lemmas.Option.{same_Some}
 use Rattle.ipb_base.specs.Word.{IsWord, AreWords}
 use Rattle.toml.specs.Data.{Data, integer, string, Members, as_table}
 use Rattle.address_table.specs.Numbers.{number, number_in_text, number_of_integer, digits_number, digits_in_base, word}
 use Rattle.address_table.specs.Numbers.{are_digits, is_between, value_of_digits}
-use Rattle.board_node.specs.declared.spec.BoardSpec.{BoardSpec}
 use Rattle.script_lang.specs.declared.call.Call.{Call}
 use Rattle.script_lang.specs.declared.call.Command.{Command}
 use Rattle.script_lang.specs.declared.call.Command.TheVariants.{Nothing, Dispatch, Ask}
@@ -21,7 +19,7 @@ use Rattle.script_lang.specs.Executable.{NamesWords, LinkNamesWords, OpensOnWord
 use Rattle.script_lang.specs.Fields.{items_at, numbers_in, tables_in}
 use Rattle.script_lang.specs.Keys.{is_udp}
 use Rattle.script_lang.specs.Lines.{takes, call_of, command_of, dispatch_of, numbers_of, is_comment, verb_named}
-use Rattle.script_lang.specs.Sessions.{board_of, boards_of, link_of, sim_of, udp_of, range_of}
+use Rattle.script_lang.specs.Sessions.{board_of, sim_of, udp_of, range_of}
 use Rattle.script_lang.specs.Texts.{◌>>=◌, cut_at}
 
 -- ---- numbers
