@@ -163,14 +163,14 @@ module _ (P : OpLine → Type 0) (runs : List BoardRun) (client : ℕ) where
         elim (cases_Bool (op.board == board)) [
           | inl here ↦
               let same : op.board ≡ board = grind (arith, nat_tests) in
-              let one : cond (op.board == board) 1 0 ≡ 1 = ap (λ b. cond b 1 0) here in
+              let one : cond {A = ℕ} (op.board == board) 1 0 ≡ 1 = ap (λ b. cond {A = ℕ} b 1 0) here in
               line_there before op ops k n same count holds
               (λ j is.
               let next : n + k ≡ (n + 1) + j = omega arith in
               line_shown (before ++ op ∷ []) ops j (n + 1) (omega arith) (omega arith)
               (subst (λ m. HoldsAt m) next holds))
           | inr away ↦
-              let none : cond (op.board == board) 1 0 ≡ 0 = ap (λ b. cond b 1 0) away in
+              let none : cond {A = ℕ} (op.board == board) 1 0 ≡ 0 = ap (λ b. cond {A = ℕ} b 1 0) away in
               any_back P (option_to_list (option_map (line_of client before op) (slice_get runs op.board)))
               (lines_behind runs client (before ++ op ∷ []) ops)
               (line_shown (before ++ op ∷ []) ops k n (omega arith) (omega arith) holds)
