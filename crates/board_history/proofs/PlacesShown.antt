@@ -1,5 +1,5 @@
 -- The places that lines show of a board are 1, 2, .. up to the number of its first sends.
-use Rattle.std.proofs.Common.{◌≡◌, ◌↔◌, ◌⊎◌, ℕ, zero, suc, ◌+◌, ◌<◌, ◌≤◌, List, [], ◌∷◌, ◌++◌, length, map, Option, Some}
+use Rattle.std.proofs.Common.{◌≡◌, ◌↔◌, ℕ, suc, ◌+◌, ◌<◌, ◌≤◌, List, [], ◌∷◌, length, map, Option, Some}
 use Rattle.std.proofs.Common.{None, refl, sym, ap, subst, ◌∙◌, inl, inr, arith}
 use Rattle.std.specs.Prelude.{nat_le}
 use Rattle.std.specs.List.{AllByRecursion, Any, count_by, slice_get, zip}
@@ -12,12 +12,12 @@ use Rattle.transcript.specs.declared.outcome.Greeting.TheVariants.{Live, Silent,
 use Rattle.transcript.specs.declared.outcome.Outcome.{Outcome}
 use Rattle.transcript.specs.declared.board_run.ClientPart.{ClientPart}
 use Rattle.transcript.specs.declared.board_run.BoardRun.{BoardRun}
-use Rattle.transcript.specs.Ends.{place_of, end_of, ends_of}
+use Rattle.transcript.specs.Ends.{place_of, end_of}
 use Rattle.transcript.specs.Lines.{is_sent, outcomes_on, board_line, lines_from, transcript_of}
-use Rattle.transcript.specs.Shown.{IsShown, EndsAt, HasBodyAt, IsPlaceOn, IsPlanned, ArePlanned, HaveOwnNames}
+use Rattle.transcript.specs.Shown.{IsShown, EndsAt, HasBodyAt, IsPlaceOn, IsPlanned, ArePlanned}
 use Rattle.transcript.specs.Shown.{ShowPlacesOf, ShowsAllPlaces}
 use Rattle.transcript.proofs.ShownLines.{planned_there, place_on_live}
-use Rattle.board_history.specs.Order.{Placed, with_place, placed, all_placed, insert, by_place, order, places_of}
+use Rattle.board_history.specs.Order.{Placed, with_place, placed, all_placed, insert, by_place, places_of}
 use Rattle.board_history.specs.Order.{CountsFrom}
 use Rattle.board_history.specs.History.{IsOrdered, bodies_by_client, outcomes_by_client}
 use Rattle.board_history.proofs.Sorting.{either}
@@ -167,11 +167,11 @@ place_in_order run place is =
     let all = all_placed (bodies_by_client run) (outcomes_by_client run) in
     let sent = sends_are_the_order run is.shape in (
       λ on.
-      let both = counted 1 (by_place all) place is.one_order
-      (sorted_any (IsAt place) all (parts_placed place run.parts on)) in
-      (both.0, omega (arith, both.1, sent)),
+          let both = counted 1 (by_place all) place is.one_order
+          (sorted_any (IsAt place) all (parts_placed place run.parts on)) in
+          (both.0, omega (arith, both.1, sent)),
       λ both. placed_parts place run.parts
-      (any_sorted (IsAt place) all (reached 1 (by_place all) place is.one_order both.0 (omega (arith, both.1, sent)))),
+          (any_sorted (IsAt place) all (reached 1 (by_place all) place is.one_order both.0 (omega (arith, both.1, sent)))),
     )
 
 -- ---- the lines
