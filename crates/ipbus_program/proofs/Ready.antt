@@ -14,6 +14,7 @@ use Rattle.session_input.specs.Deserved.{HasBus, IsRunnable, delivers_all, range
 use Rattle.std.proofs.Common.{None}
 use Rattle.ipbus_program.specs.declared.command.Command.TheVariants.{Run}
 use Rattle.ipbus_program.specs.declared.running.Answer.{Answer}
+use Rattle.ipbus_program.specs.Below.{PlacesAreShown}
 use Rattle.ipbus_program.specs.Runs.{Owes}
 use Rattle.ipbus_program.specs.Steps.{MayRun, Prints}
 
@@ -41,10 +42,11 @@ may_run bytes session steps runs within packed few = record {
   few = few;
 }
 
-pub printed : {E : Type 0} (bytes : List ℕ) (session : Session) (steps : List (List Step)) (result : Result Answer E)
+pub printed : {E : Type 0} → PlacesAreShown → (bytes : List ℕ) (session : Session) (steps : List (List Step))
+    (result : Result Answer E)
     → IsRunnable bytes session steps → IfOk result (λ answer. Prints session steps answer.status answer.text.items)
     → IfOk result (λ answer. Owes Run bytes answer.status answer.text.items)
-printed bytes session steps (Ok answer) runs prints =
+printed shown bytes session steps (Ok answer) runs prints =
     inl (record {
       session = session;
       steps = steps;
@@ -53,5 +55,6 @@ printed bytes session steps (Ok answer) runs prints =
       boards = prints.boards;
       spelled = prints.spelled;
       told = prints.told;
+      places = shown bytes session steps prints.runs runs prints.boards;
     })
-printed bytes session steps (Err why) runs prints = tt
+printed shown bytes session steps (Err why) runs prints = tt

@@ -1,11 +1,10 @@
-//! Laws of what `run` writes. These functions do nothing when they run: their clauses are what is proved of every
-//! transcript that the theorem of `control` speaks of.
+//! Laws of the transcripts of sessions. These functions do nothing when they run: their clauses are what is proved.
 
 ghost use Rattle.std.specs.Prelude.{ℕ, List};
 ghost use Rattle.std.specs.List.{AllByRecursion};
 ghost use Rattle.direct_run.specs.Lines.{IsBusLine};
 ghost use Rattle.transcript.specs.Lines.{transcript_of};
-ghost use Rattle.transcript.specs.Shown.{ShowsAllPlaces};
+ghost use Rattle.ipbus_program.specs.Below.{PlacesAreShown};
 ghost use Rattle.ipbus_program.specs.Runs.{IsTranscriptOf};
 
 use direct_run::laws::lines_fail_by_codes_of_the_bus_alone;
@@ -16,18 +15,17 @@ use script_lang::laws::{
 };
 use session_input::laws::what_can_be_run_can_be_executed;
 
-/// The lines of operations show of each board the places 1, 2, .. up to the number in the line of that board, each place
-/// in some line, and no other place.
-pub fn a_transcript_shows_all_places()
-    ensures { (bytes : List ℕ) (status : ℕ) (text : List ℕ) (is : IsTranscriptOf bytes status text) →
-        ShowsAllPlaces (transcript_of is.steps is.runs) }
+/// Whatever becomes of a session that can be run, the lines of operations show of each board the places 1, 2, .. up to
+/// the number in the line of that board, each place in some line, and no other place.
+pub fn a_runnable_session_shows_all_places()
+    ensures { PlacesAreShown }
 {
     a_session_shows_all_places();
     the_boards_of_a_session_have_their_own_names();
 }
 
-/// Each line of an operation is a value, `done`, `was`, a code of the bus or skipped: none is garbled, timed out, unsent
-/// or lost with its link. So status 1 of `run` comes from codes of the bus alone.
+/// Each line of an operation in a transcript is a value, `done`, `was`, a code of the bus or skipped: none is garbled,
+/// timed out, unsent or lost with its link. So status 1 of `run` comes from codes of the bus alone.
 pub fn a_transcript_fails_by_codes_of_the_bus_alone()
     ensures { (bytes : List ℕ) (status : ℕ) (text : List ℕ) (is : IsTranscriptOf bytes status text) →
         AllByRecursion (AllByRecursion IsBusLine) (transcript_of is.steps is.runs).clients }

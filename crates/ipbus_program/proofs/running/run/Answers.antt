@@ -15,7 +15,7 @@ transcript-requires c =
 
 pub returns-in-Ok : goal.returns-in-Ok
 returns-in-Ok c =
-    printed c.args.bytes.now c.in-Ok.read.session c.in-Ok.read.steps.items c.transcript.result c.in-Ok.ensures.runnable
+    printed c.a_runnable_session_shows_all_places.ensures c.args.bytes.now c.in-Ok.read.session c.in-Ok.read.steps.items c.transcript.result c.in-Ok.ensures.runnable
     (rw c.deref.ensures.value at c.transcript.ensures)
 
 pub returns-in-Err-Refused : goal.returns-in-Err-Refused
