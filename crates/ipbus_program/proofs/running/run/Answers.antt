@@ -1,7 +1,7 @@
-use Rattle.std.proofs.Common.{subst, rules}
-use Rattle.session_input.specs.Deserved.{Deserves, BreaksInRun, IsRunnable}
+use Rattle.std.proofs.Common.{rules}
+use Rattle.session_input.specs.Deserved.{Deserves, BreaksInRun}
 use Rattle.ipbus_program.specs.declared.command.Command.TheVariants.{Run}
-use Rattle.ipbus_program.specs.Steps.{MayRun, Prints}
+use Rattle.ipbus_program.specs.Steps.{MayRun}
 use Rattle.ipbus_program.proofs.Ready.{may_run, printed}
 use Rattle.ipbus_program.proofs.Refusing.{refused_answer}
 use Rattle.ipbus_program.proofs.running.run.Goals as goal
