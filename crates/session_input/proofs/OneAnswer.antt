@@ -15,8 +15,8 @@ use Rattle.script_lang.specs.Scripts.{LineFault, script_faults, steps_of}
 use Rattle.session_input.specs.declared.refusal.Refusal.{Refusal}
 use Rattle.session_input.specs.declared.refusal.Refusal.TheVariants.{TooLong, Document, Table, Compile, Board, Script, NotBuilt}
 use Rattle.session_input.specs.Below.{TableLaws}
-use Rattle.session_input.specs.Deserved.{IsToldFirst, ranges_of, delivers_all, Compiles, HasIndex, HasBus, AreCompiled, AreSteps}
-use Rattle.session_input.specs.Deserved.{CanRun, TellsCompile, TellsBus, TellsLine, BreaksBuses, BreaksScripts}
+use Rattle.session_input.specs.Deserved.{IsToldFirst, ranges_of, delivers_all, Compiles, HasIndex, HasBus, AreCompiled, HaveBuses, AreSteps}
+use Rattle.session_input.specs.Deserved.{CanRun, TellsCompile, TellsBus, TellsLine, BreaksCompiling, TellsFirstBus, BreaksBuses, BreaksScripts}
 use Rattle.session_input.specs.Deserved.{BreaksLinks, BreaksInRun}
 
 -- ---- the first board that is not right

@@ -1,7 +1,8 @@
 -- Bytes have one answer to a command.
-use Rattle.std.proofs.Common.{◌≡◌, ◌⊎◌, ℕ, ◌≤◌, ◌<◌, List, [], Some, length, slice_get, inl, inr, refl, sym, ap, subst, ◌∙◌, arith}
-use Rattle.node_tree.specs.Maps.{RegisterMap}
+use Rattle.std.proofs.Common.{◌≡◌, ◌⊎◌, ℕ, ◌≤◌, ◌<◌, List, [], Option, Some, length, slice_get, inl, inr, refl, sym, ap, subst, ◌∙◌, arith}
+use Rattle.node_tree.specs.Maps.{Name, RegisterMap}
 use Rattle.script_lang.specs.declared.operation.Step.{Step}
+use Rattle.script_lang.specs.declared.refusal.DocWhy.{DocWhy}
 use Rattle.script_lang.specs.declared.refusal.DocWhy.TheVariants.{NotToml, Shape, NoBoards, ManyBoards, ManyClients, DuplicateBoard}
 use Rattle.script_lang.specs.declared.session.Session.{Session}
 use Rattle.script_lang.specs.Document.{Fault, in_document, in_table, faults, HasFirstFault, IsToml, IsNotToml, SameSession, StandsFor}
@@ -10,7 +11,7 @@ use Rattle.session_input.specs.declared.refusal.Refusal.{Refusal}
 use Rattle.session_input.specs.declared.refusal.Refusal.TheVariants.{TooLong, Document, Table, Compile, Board, Script, NotBuilt}
 use Rattle.session_input.specs.Below.{DocumentLaws, TableLaws}
 use Rattle.session_input.specs.Numbers.{document_bytes}
-use Rattle.session_input.specs.Deserved.{BreaksInRun, BreaksInCheck, DeservesUnread, Deserves, IsRunnable, IsListed}
+use Rattle.session_input.specs.Deserved.{BreaksInRun, BreaksInCheck, DeservesUnread, BreaksRule, Deserves, IsRunnable, IsListed, TellsCompile, AreSteps}
 use Rattle.session_input.proofs.OneAnswer.{one_break, runs_unbroken, one_steps, same_table, table_apart}
 use Rattle.session_input.proofs.Moved.{root_moved, told_moved, steps_moved, break_moved}
 
