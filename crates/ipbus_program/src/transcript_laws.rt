@@ -3,8 +3,13 @@
 ghost use Rattle.std.specs.Prelude.{ℕ, List};
 ghost use Rattle.std.specs.List.{AllByRecursion};
 ghost use Rattle.direct_run.specs.Lines.{IsBusLine};
+ghost use Rattle.direct_run.specs.Runs.{AreRuns};
+ghost use Rattle.script_lang.specs.declared.operation.Step.{Step};
+ghost use Rattle.script_lang.specs.declared.session.Session.{Session};
+ghost use Rattle.session_input.specs.Deserved.{IsRunnable};
+ghost use Rattle.transcript.specs.declared.board_run.BoardRun.{BoardRun};
 ghost use Rattle.transcript.specs.Lines.{transcript_of};
-ghost use Rattle.ipbus_program.specs.Below.{PlacesAreShown};
+ghost use Rattle.transcript.specs.Shown.{ShowsAllPlaces};
 ghost use Rattle.ipbus_program.specs.Runs.{IsTranscriptOf};
 
 use direct_run::laws::lines_fail_by_codes_of_the_bus_alone;
@@ -15,10 +20,12 @@ use script_lang::laws::{
 };
 use session_input::laws::what_can_be_run_can_be_executed;
 
-/// Whatever becomes of a session that can be run, the lines of operations show of each board the places 1, 2, .. up to
-/// the number in the line of that board, each place in some line, and no other place.
+/// The lines of operations of a session that can be run show of each board the places 1, 2, .. up to the number in the
+/// line of that board, each place in some line, and no other place.
 pub fn a_runnable_session_shows_all_places()
-    ensures { PlacesAreShown }
+    ensures { (bytes : List ℕ) (session : Session) (steps : List (List Step)) (runs : List BoardRun) →
+        IsRunnable bytes session steps → AreRuns 0 session.boards steps runs →
+        ShowsAllPlaces (transcript_of steps runs) }
 {
     a_session_shows_all_places();
     the_boards_of_a_session_have_their_own_names();
