@@ -4,3 +4,4 @@ mod Only
 mod Sends
 mod OwnPlaces
 pub mod Merging
+mod PlacesShown

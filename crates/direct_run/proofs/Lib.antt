@@ -9,3 +9,5 @@ pub mod Asking
 mod BusResults
 mod BusLines
 mod Spelled
+mod Readiness
+mod Placed
