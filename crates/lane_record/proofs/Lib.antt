@@ -8,3 +8,4 @@ pub mod Offers
 pub mod Events
 pub mod Sends
 pub mod Kept
+pub mod Coding

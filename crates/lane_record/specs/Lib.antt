@@ -7,3 +7,4 @@ pub mod FirstSends
 pub mod Bounds
 pub mod Offers
 pub mod NextEntry
+pub mod Coding

@@ -9,5 +9,5 @@ mod item;
 pub mod laws;
 mod outcome;
 
-pub use item::{Item, What};
+pub use item::{ASK, Item, PLAN, SEAL, TOOK, What};
 pub use outcome::{Outcome, Outcomes};
