@@ -22,9 +22,10 @@ get_split (z ∷ xs) y (suc k) x e = elim (get_split xs y k x e) [ inl h ↦ inl
 -- the Ask of a front is that of the whole
 pub ask_front : (xs ys : List Item) (k client seq : ℕ) (claim : Claim) → IsAskOf xs k client seq claim → IsAskOf (xs ++ ys) k client seq claim
 ask_front xs ys k client seq claim is = record {
-    there = subst (λ (l : List Claim). slice_get l k ≡ Some claim) (sym (claims_front xs ys)) (get_front (claims xs) (claims_behind xs ys) k claim is.there);
-    same_client = is.same_client; same_seq = is.same_seq;
-  }
+  there = subst (λ (l : List Claim). slice_get l k ≡ Some claim) (sym (claims_front xs ys)) (get_front (claims xs) (claims_behind xs ys) k claim is.there);
+  same_client = is.same_client;
+  same_seq = is.same_seq;
+}
 
 -- ---- each is there once
 
@@ -51,7 +52,7 @@ apart_new : (front : List Item) (x : Item) (cs : List Claim) (new : Claim) → n
     → AreApart front cs → AreApart (front ++ x ∷ []) (cs ++ new ∷ [])
 apart_new front x cs new same_client same_seq next one is =
     let below_old = λ (k : ℕ) (c : Claim) (h : slice_get cs k ≡ Some c) (p : c.client ≡ new.client) (q : c.seq ≡ new.seq).
-        clash front x c.seq new.seq (subst (λ (z : ℕ). c.seq < asked z front) (p ∙ same_client) (is.below k c h)) q same_seq next in
+    clash front x c.seq new.seq (subst (λ (z : ℕ). c.seq < asked z front) (p ∙ same_client) (is.below k c h)) q same_seq next in
     record {
       below = λ k c e. elim (get_split cs new k c e) [
         | inl h ↦ asked_more front x c.client c.seq (is.below k c h)
@@ -72,7 +73,7 @@ apart_new front x cs new same_client same_seq next one is =
 one_more_asked : (front : List Item) (x : Item) → is_some (ask_in x.what) ≡ true → x.seq ≡ asked x.client front → x.seq < asked x.client (front ++ x ∷ [])
 one_more_asked front x some next =
     let e = ap length (numbers_append ask_in x.client front (x ∷ []) ∙ ap (λ (l : List ℕ). numbers ask_in x.client front ++ l) (own_number ask_in x some))
-      ∙ length-append (numbers ask_in x.client front) (x.seq ∷ []) in
+    ∙ length-append (numbers ask_in x.client front) (x.seq ∷ []) in
     omega (arith, e, next)
 
 -- one more entry whose number is next
@@ -94,7 +95,7 @@ apart_from front (x ∷ items) cs count is =
     let one = apart_push front x cs (count_front ask_in (front ++ x ∷ []) items whole) is in
     let all = apart_from (front ++ x ∷ []) items (cs ++ claim_in front x (ask_in x.what)) whole one in
     subst (λ (l : List Item). AreApart l (cs ++ (claim_in front x (ask_in x.what) ++ claims_behind (front ++ x ∷ []) items))) (append_assoc front (x ∷ []) items)
-      (subst (λ (l : List Claim). AreApart ((front ++ x ∷ []) ++ items) l) (append_assoc cs (claim_in front x (ask_in x.what)) (claims_behind (front ++ x ∷ []) items)) all)
+    (subst (λ (l : List Claim). AreApart ((front ++ x ∷ []) ++ items) l) (append_assoc cs (claim_in front x (ask_in x.what)) (claims_behind (front ++ x ∷ []) items)) all)
 
 pub apart : (items : List Item) → Count ask_in items → AreApart items (claims items)
 apart items count = apart_from [] items [] count (record { below = λ k c e. absurd (cc); apart = λ j k c d e f. absurd (cc) })

@@ -1,11 +1,11 @@
 -- Lemmas on the spelling of records: no two are spelled alike, and fronts are spelled by fronts.
-use Rattle.std.proofs.Common.{◌≡◌, ℕ, List, [], ◌∷◌, ◌++◌, map, Option, Some, None, refl, sym, ap, ◌∙◌, subst}
+use Rattle.std.proofs.Common.{◌≡◌, ℕ, List, [], ◌∷◌, ◌++◌, map, Option, Some, None, refl, sym, ap, ◌∙◌}
 use Rattle.std.proofs.lemmas.List.{map-append}
 use Rattle.ipb_base.specs.Lists.{IsPrefix}
-use Rattle.turn_pass.specs.Record.{Recorded, Record, Begins}
+use Rattle.turn_pass.specs.Record.{Recorded, Begins}
 use Rattle.board_bus.specs.declared.kind.RangeKind.{RangeKind}
 use Rattle.board_bus.specs.declared.kind.RangeKind.TheVariants.{Rw, Ro, Wo, Slow}
-use Rattle.board_bus.specs.Cells.{Cell, CellMap}
+use Rattle.board_bus.specs.Cells.{CellMap}
 use Rattle.lane_record.specs.declared.outcome.Outcome.{Outcome}
 use Rattle.lane_record.specs.declared.outcome.Outcome.TheVariants.{Replied, TimedOut, Unsent, LinkLost}
 use Rattle.lane_record.specs.declared.item.Item.{Item}
@@ -96,9 +96,9 @@ one_head h g e =
 
 pub fronts_spell : (h g : Head) (xs ys : List Item) → g ≡ h → IsPrefix xs ys → Begins (record_of h xs) (record_of g ys)
 fronts_spell h g xs ys e is = record {
-    head = ap head_numbers e;
-    entries = (map recorded is.0, ap (map recorded) is.1 ∙ map-append recorded xs is.0);
-  }
+  head = ap head_numbers e;
+  entries = (map recorded is.0, ap (map recorded) is.1 ∙ map-append recorded xs is.0);
+}
 
 front_of : (xs ys : List Item) (rest : List Recorded) → map recorded ys ≡ map recorded xs ++ rest → IsPrefix xs ys
 front_of [] ys rest e = (ys, refl)

@@ -43,7 +43,8 @@ found_in_took outcomes front items x client seq outcome (Took o g) c s e may =
     let o_is : o ≡ outcome = cc in
     let ask = ask_front front (x ∷ items) may.k x.client x.seq may.claim may.ask in
     record {
-      k = may.k; claim = may.claim;
+      k = may.k;
+      claim = may.claim;
       ask = record { there = ask.there; same_client = ask.same_client ∙ c; same_seq = ask.same_seq ∙ s };
       became = may.became ∙ ap (λ (z : Outcome). Some (Some z)) o_is;
     }
@@ -116,7 +117,7 @@ sent_counts others (c ∷ cs) (Some outcome ∷ os) all is =
 pub first_sends_count : (items : List Item) (outcomes : List (Option Outcome)) → IsLegal items outcomes → IsFinished items → CountsFrom 1 (places_of (first_sends items))
 first_sends_count items outcomes is all =
     sent_counts 0 (claims items) (taken items) (some_taken items (claims items) all)
-      (subst (HavePlacesAfter 0) (outcomes_taken items outcomes is all) is.places_count.places)
+    (subst (HavePlacesAfter 0) (outcomes_taken items outcomes is all) is.places_count.places)
 
 -- ---- each at its place
 
@@ -131,7 +132,8 @@ here_after others c outcome later place e is =
     let at : Some place ≡ Some (others + 1) = sym e ∙ is (ap (λ (p : Option ℕ). is_some p) e) in
     let place_is : place ≡ others + 1 = cc in
     record {
-      j = 0; place_is = omega (arith, place_is);
+      j = 0;
+      place_is = omega (arith, place_is);
       there = ap (λ (p : Option ℕ). slice_get (sent_at c outcome p ++ later) 0) e;
     }
 
@@ -153,23 +155,28 @@ stands_after others (d ∷ cs) (Some first ∷ os) zero c outcome place all is e
     let d_is : d ≡ c = cc in
     let first_is : first ≡ outcome = cc in
     subst (λ (z : Claim). StandsAfter others (sent_of (z ∷ cs) (Some first ∷ os)) c outcome place) (sym d_is)
-      (subst (λ (z : Outcome). StandsAfter others (sent_of (c ∷ cs) (Some z ∷ os)) c outcome place) (sym first_is)
-        (here_after others c outcome (sent_of cs os) place g (subst (λ (z : Outcome). HasPlaceAfter others (Some z)) first_is is.0)))
+    (subst (λ (z : Outcome). StandsAfter others (sent_of (c ∷ cs) (Some z ∷ os)) c outcome place) (sym first_is)
+    (here_after others c outcome (sent_of cs os) place g (subst (λ (z : Outcome). HasPlaceAfter others (Some z)) first_is is.0)))
 stands_after others (d ∷ cs) (Some first ∷ os) (suc k) c outcome place all is e f g =
     later_after others d first (sent_of cs os) c outcome place (place_of first) refl
-      (stands_after (if may_have_place (Some first) then others + 1 else others) cs os k c outcome place all.2 is.1 e f g)
+    (stands_after (if may_have_place (Some first) then others + 1 else others) cs os k c outcome place all.2 is.1 e f g)
 
 -- ---- each of an Ask
 
 of_ask_at : (items : List Item) (front : List Claim) (c : Claim) (back : List Claim) (outcome : Outcome) (place : Option ℕ) → claims items ≡ front ++ c ∷ back
     → outcome_taken items c ≡ Some outcome → place_of outcome ≡ place → AllByRecursion (IsOfAsk items) (sent_at c outcome place)
 of_ask_at items front c back outcome None e t p = tt
-of_ask_at items front c back outcome (Some place) e t p =
-    (record {
-      k = length front; claim = c;
-      ask = record { there = ap (λ (l : List Claim). slice_get l (length front)) e ∙ get_seam front back c; same_client = refl; same_seq = refl };
-      same_body = refl; took = t; at = p;
-    }, tt)
+of_ask_at items front c back outcome (Some place) e t p = (
+  record {
+    k = length front;
+    claim = c;
+    ask = record { there = ap (λ (l : List Claim). slice_get l (length front)) e ∙ get_seam front back c; same_client = refl; same_seq = refl };
+    same_body = refl;
+    took = t;
+    at = p;
+  },
+  tt,
+)
 
 of_ask : (items : List Item) (front : List Claim) (c : Claim) (back : List Claim) (outcome : Option Outcome) → claims items ≡ front ++ c ∷ back → outcome_taken items c ≡ outcome
     → AllByRecursion (IsOfAsk items) (sent_as c outcome)
@@ -180,8 +187,8 @@ pub of_asks : (items : List Item) (front cs : List Claim) → claims items ≡ f
 of_asks items front [] e = tt
 of_asks items front (c ∷ cs) e =
     AllByRecursion-append (IsOfAsk items) (sent_as c (outcome_taken items c)) (sent_of cs (map (outcome_taken items) cs))
-      (of_ask items front c cs (outcome_taken items c) e refl)
-      (of_asks items (front ++ c ∷ []) cs (e ∙ sym (append_assoc front (c ∷ []) cs)))
+    (of_ask items front c cs (outcome_taken items c) e refl)
+    (of_asks items (front ++ c ∷ []) cs (e ∙ sym (append_assoc front (c ∷ []) cs)))
 
 -- ---- each body is that of its Plan
 
@@ -192,23 +199,25 @@ planned_one : (front items : List Item) (x : Item) (what : What) → HasPlan fro
 planned_one front items x (Plan body) is = tt
 planned_one front items x Seal is = tt
 planned_one front items x (Took outcome g) is = tt
-planned_one front items x (Ask g) is =
-    (found_front plan_in x.client x.seq front items (unwrap_or (found plan_in x.client x.seq front) [])
-      (is.1 ∙ ap (λ (o : Option (List ℕ)). Some (unwrap_or o [])) (sym is.1)), tt)
+planned_one front items x (Ask g) is = (
+  found_front plan_in x.client x.seq front items (unwrap_or (found plan_in x.client x.seq front) [])
+      (is.1 ∙ ap (λ (o : Option (List ℕ)). Some (unwrap_or o [])) (sym is.1)),
+  tt,
+)
 
 planned_behind : (front items : List Item) → EachBehind IsPlanned front items → AllByRecursion (IsOfPlan (front ++ items)) (claims_behind front items)
 planned_behind front [] is = tt
 planned_behind front (x ∷ items) is =
     AllByRecursion-append (IsOfPlan (front ++ x ∷ items)) (claim_in front x (ask_in x.what)) (claims_behind (front ++ x ∷ []) items)
-      (planned_one front (x ∷ items) x x.what is.0)
-      (subst (λ (l : List Item). AllByRecursion (IsOfPlan l) (claims_behind (front ++ x ∷ []) items)) (append_assoc front (x ∷ []) items) (planned_behind (front ++ x ∷ []) items is.1))
+    (planned_one front (x ∷ items) x x.what is.0)
+    (subst (λ (l : List Item). AllByRecursion (IsOfPlan l) (claims_behind (front ++ x ∷ []) items)) (append_assoc front (x ∷ []) items) (planned_behind (front ++ x ∷ []) items is.1))
 
 pub asked_as_planned : (items : List Item) (outcomes : List (Option Outcome)) (k client seq : ℕ) (claim : Claim) → IsLegal items outcomes → IsAskOf items k client seq claim
     → found plan_in client seq items ≡ Some claim.body
 asked_as_planned items outcomes k client seq claim is ask =
     subst (λ (c : ℕ). found plan_in c seq items ≡ Some claim.body) ask.same_client
-      (subst (λ (s : ℕ). found plan_in claim.client s items ≡ Some claim.body) ask.same_seq
-        (all_get (IsOfPlan items) (claims items) k claim (planned_behind [] items is.asks_follow_plans.planned) ask.there))
+    (subst (λ (s : ℕ). found plan_in claim.client s items ≡ Some claim.body) ask.same_seq
+    (all_get (IsOfPlan items) (claims items) k claim (planned_behind [] items is.asks_follow_plans.planned) ask.there))
 
 pub stands_at : (items : List Item) (outcomes : List (Option Outcome)) (k client seq : ℕ) (claim : Claim) (outcome : Outcome) (place : ℕ) → IsLegal items outcomes → IsFinished items
     → IsAskOf items k client seq claim → outcome_taken items claim ≡ Some outcome → place_of outcome ≡ Some place
@@ -216,13 +225,13 @@ pub stands_at : (items : List Item) (outcomes : List (Option Outcome)) (k client
 stands_at items outcomes k client seq claim outcome place is all ask took at =
     let same = outcomes_taken items outcomes is all in
     let s = stands_after 0 (claims items) (taken items) k claim outcome place (some_taken items (claims items) all)
-      (subst (HavePlacesAfter 0) same is.places_count.places) ask.there
-      (get_map (outcome_taken items) (claims items) k claim ask.there ∙ ap (λ (o : Option Outcome). Some o) took) at in
+    (subst (HavePlacesAfter 0) same is.places_count.places) ask.there
+    (get_map (outcome_taken items) (claims items) k claim ask.there ∙ ap (λ (o : Option Outcome). Some o) took) at in
     let p = s.place_is in
     let at_j : suc s.j ≡ place = omega (arith, p) in
     subst (λ (q : ℕ). at_place (first_sends items) q ≡ Some (record { place = place; client = client; seq = seq; body = claim.body; outcome = outcome })) at_j
-      (s.there ∙ ap (λ (c : ℕ). Some (record { place = place; client = c; seq = claim.seq; body = claim.body; outcome = outcome })) ask.same_client
-        ∙ ap (λ (c : ℕ). Some (record { place = place; client = client; seq = c; body = claim.body; outcome = outcome })) ask.same_seq)
+    (s.there ∙ ap (λ (c : ℕ). Some (record { place = place; client = c; seq = claim.seq; body = claim.body; outcome = outcome })) ask.same_client
+    ∙ ap (λ (c : ℕ). Some (record { place = place; client = client; seq = c; body = claim.body; outcome = outcome })) ask.same_seq)
 
 -- ---- what the hub sent
 
@@ -264,7 +273,7 @@ finished_hub items outcomes sent queue open_places is all agrees =
     record {
       nothing_queued = none;
       bodies = ap bodies_of (sym (append-nil sent) ∙ (ap (λ (q : List Offered). sent ++ q) (sym none) ∙ (agrees.offered ∙ ap (offers_from 0 (claims items)) same)))
-        ∙ same_bodies 0 (claims items) (taken items) some (length-map (claims items) (outcome_taken items));
+          ∙ same_bodies 0 (claims items) (taken items) some (length-map (claims items) (outcome_taken items));
     }
 
 -- ---- no more Asks than Plans
@@ -274,9 +283,11 @@ plan_of_asked : (front items : List Item) (x : Item) (what : What) (client seq g
 plan_of_asked front items x (Plan body) client seq g c s e is = absurd (cc)
 plan_of_asked front items x Seal client seq g c s e is = absurd (cc)
 plan_of_asked front items x (Took outcome n) client seq g c s e is = absurd (cc)
-plan_of_asked front items x (Ask n) client seq g c s e is =
-    (is.0, found_front plan_in client seq front items is.0
-      (subst (λ (d : ℕ). found plan_in d seq front ≡ Some is.0) c (subst (λ (t : ℕ). found plan_in x.client t front ≡ Some is.0) s is.1)))
+plan_of_asked front items x (Ask n) client seq g c s e is = (
+  is.0,
+  found_front plan_in client seq front items is.0
+      (subst (λ (d : ℕ). found plan_in d seq front ≡ Some is.0) c (subst (λ (t : ℕ). found plan_in x.client t front ≡ Some is.0) s is.1)),
+)
 
 plan_behind : (front items : List Item) (client seq g : ℕ) → EachBehind IsPlanned front items → found ask_in client seq items ≡ Some g
     → (body : List ℕ) × (found plan_in client seq (front ++ items) ≡ Some body)
@@ -299,6 +310,6 @@ last_planned items outcomes client many e is =
 
 pub asked_few : (items : List Item) (outcomes : List (Option Outcome)) (client : ℕ) → IsLegal items outcomes → asked client items ≤ planned client items
 asked_few items outcomes client is = elim (asked client items) as (λ n. asked client items ≡ n → n ≤ planned client items) [
-    | zero ↦ λ e. omega arith
-    | suc many ↦ λ e. last_planned items outcomes client many e is
-  ] refl
+  | zero ↦ λ e. omega arith
+  | suc many ↦ λ e. last_planned items outcomes client many e is
+] refl

@@ -34,7 +34,7 @@ within_more g h items le is = all-map (λ (n : ℕ). n ≤ g) (λ (n : ℕ). n �
 within_push : (g : ℕ) (items : List Item) (x : Item) → AllByRecursion (λ (n : ℕ). n ≤ g) (and_number (give_ups_in x.what) []) → AreWithin g items → AreWithin g (items ++ x ∷ [])
 within_push g items x one is =
     subst (AllByRecursion (λ (n : ℕ). n ≤ g)) (sym (give_ups_append items (x ∷ [])))
-      (AllByRecursion-append (λ (n : ℕ). n ≤ g) (give_ups items) (and_number (give_ups_in x.what) []) is one)
+    (AllByRecursion-append (λ (n : ℕ). n ≤ g) (give_ups items) (and_number (give_ups_in x.what) []) is one)
 
 -- an Ask tells its number of give-ups
 abbrev pub AtMostAsked : ℕ → Claim → Type 0
@@ -62,13 +62,13 @@ head_calm : (y x : Option Outcome) (a b : ℕ) → b ≤ a → ((o : Outcome) �
     → (if has_timed_out x then 1 + b else b) ≤ (if has_timed_out y then 1 + a else a)
 head_calm y None a b le f = elim (has_timed_out y) as (λ t. b ≤ cond t (1 + a) a) [ true ↦ omega (arith, le) | false ↦ le ]
 head_calm y (Some o) a b le f = elim (is_timed_out o) as (λ t. is_timed_out o ≡ t → cond t (1 + b) b ≤ (if has_timed_out y then 1 + a else a)) [
-    | true ↦ λ t.
-        let same : Some y ≡ Some (Some o) = f o refl t in
-        let y_is : y ≡ Some o = cc in
-        let timed : has_timed_out y ≡ true = ap has_timed_out y_is ∙ t in
-        subst (λ (c : Bool). 1 + b ≤ (if c then 1 + a else a)) (sym timed) (omega (arith, le))
-    | false ↦ λ t. elim (has_timed_out y) as (λ c. b ≤ cond c (1 + a) a) [ true ↦ omega (arith, le) | false ↦ le ]
-  ] refl
+  | true ↦ λ t.
+      let same : Some y ≡ Some (Some o) = f o refl t in
+      let y_is : y ≡ Some o = cc in
+      let timed : has_timed_out y ≡ true = ap has_timed_out y_is ∙ t in
+      subst (λ (c : Bool). 1 + b ≤ (if c then 1 + a else a)) (sym timed) (omega (arith, le))
+  | false ↦ λ t. elim (has_timed_out y) as (λ c. b ≤ cond c (1 + a) a) [ true ↦ omega (arith, le) | false ↦ le ]
+] refl
 
 timeouts_calm : (old new : List (Option Outcome)) → length new ≡ length old
     → ((k : ℕ) (o : Outcome) → slice_get new k ≡ Some (Some o) → is_timed_out o ≡ true → slice_get old k ≡ Some (Some o)) → timeouts new ≤ timeouts old
@@ -82,9 +82,9 @@ timeouts_calm (y ∷ old) (x ∷ new) len f =
 calm_kind : (kind : Outcome → Bool) (old new : List (Option Outcome)) → ((o : Outcome) → kind o ≡ true → is_given_up o ≡ false) → AddsOnly kind old new
     → (k : ℕ) (o : Outcome) → slice_get new k ≡ Some (Some o) → is_given_up o ≡ true → slice_get old k ≡ Some (Some o)
 calm_kind kind old new calm adds k o e up = elim (adds k o e) [
-    | inl h ↦ h
-    | inr h ↦ let no_give_up = calm o h in absurd (cc)
-  ]
+  | inl h ↦ h
+  | inr h ↦ let no_give_up = calm o h in absurd (cc)
+]
 
 timed_out_given_up : (o : Outcome) → is_timed_out o ≡ true → is_given_up o ≡ true
 timed_out_given_up (Replied place words) e = absurd (cc)
@@ -128,11 +128,11 @@ kept_goes items old new kind window g calm keeps adds places is =
 pub kept_given_up : (items : List Item) (old new : List (Option Outcome)) (window g : ℕ) → KeepsOutcomes old new → timeouts new ≤ timeouts old + window → PlacesCount (claims items) new
     → IsKept items old window g → IsKept items new window (g + 1)
 kept_given_up items old new window g keeps few places is = record {
-    legal = legal_goes items old new keeps places is.legal;
-    within = within_more g (g + 1) items (omega arith) is.within;
-    given_up_before = λ k claim o c e up. (let h = asked_within g items k claim is.within c in omega (arith, h));
-    few = (let f = is.few in let m = mul_more window g in omega (arith, f, few, m));
-  }
+  legal = legal_goes items old new keeps places is.legal;
+  within = within_more g (g + 1) items (omega arith) is.within;
+  given_up_before = λ k claim o c e up. (let h = asked_within g items k claim is.within c in omega (arith, h));
+  few = (let f = is.few in let m = mul_more window g in omega (arith, f, few, m));
+}
 
 -- ---- entries come
 
@@ -148,19 +148,19 @@ same_claims items x outs g e is =
 pub kept_plan : (items : List Item) (outs : List (Option Outcome)) (window g client seq : ℕ) (body : List ℕ) → MayPlan items client seq → IsKept items outs window g
     → IsKept (items ++ plan_of client seq body ∷ []) outs window g
 kept_plan items outs window g client seq body may is = record {
-    legal = may_plan items outs client seq body may is.legal;
-    within = within_push g items (plan_of client seq body) tt is.within;
-    given_up_before = same_claims items (plan_of client seq body) outs g refl is.given_up_before;
-    few = is.few;
-  }
+  legal = may_plan items outs client seq body may is.legal;
+  within = within_push g items (plan_of client seq body) tt is.within;
+  given_up_before = same_claims items (plan_of client seq body) outs g refl is.given_up_before;
+  few = is.few;
+}
 
 pub kept_seal : (items : List Item) (outs : List (Option Outcome)) (window g : ℕ) → is_sealed items ≡ false → IsKept items outs window g → IsKept (items ++ the_seal ∷ []) outs window g
 kept_seal items outs window g open_to is = record {
-    legal = may_seal items outs open_to is.legal;
-    within = within_push g items the_seal tt is.within;
-    given_up_before = same_claims items the_seal outs g refl is.given_up_before;
-    few = is.few;
-  }
+  legal = may_seal items outs open_to is.legal;
+  within = within_push g items the_seal tt is.within;
+  given_up_before = same_claims items the_seal outs g refl is.given_up_before;
+  few = is.few;
+}
 
 abbrev pub NotGivenUp : Option Outcome → Type 0
 NotGivenUp o = (outcome : Outcome) → o ≡ Some outcome → is_given_up outcome ≡ false
@@ -172,9 +172,9 @@ timeouts_push (x ∷ outs) o e = ap (λ (n : ℕ). if has_timed_out x then 1 + n
 not_timed_out : (o : Option Outcome) → NotGivenUp o → has_timed_out o ≡ false
 not_timed_out None f = refl
 not_timed_out (Some outcome) f = elim (is_timed_out outcome) as (λ b. is_timed_out outcome ≡ b → b ≡ false) [
-    | true ↦ λ e. let up = timed_out_given_up outcome e in let no_give_up = f outcome refl in absurd (cc)
-    | false ↦ λ e. refl
-  ] refl
+  | true ↦ λ e. let up = timed_out_given_up outcome e in let no_give_up = f outcome refl in absurd (cc)
+  | false ↦ λ e. refl
+] refl
 
 -- an Ask that is not the last is there without the last
 claim_before : (items : List Item) (client seq g : ℕ) (outs : List (Option Outcome)) (k : ℕ) (claim : Claim) (o : Option Outcome) → length outs ≡ length (claims items) → slice_get outs k ≡ Some o
@@ -182,30 +182,30 @@ claim_before : (items : List Item) (client seq g : ℕ) (outs : List (Option Out
 claim_before items client seq g outs k claim o each there e =
     let within = get_within outs k o there in
     let e1 : slice_get (claims items ++ claim_in items (ask_of client seq g) (Some g)) k ≡ Some claim =
-        subst (λ (cs : List Claim). slice_get cs k ≡ Some claim) (claims_push items (ask_of client seq g)) e in
+    subst (λ (cs : List Claim). slice_get cs k ≡ Some claim) (claims_push items (ask_of client seq g)) e in
     front_get (claims items) (claim_in items (ask_of client seq g) (Some g)) k claim (omega (arith, within, each)) e1
 
 pub kept_ask : (items : List Item) (outs : List (Option Outcome)) (window g client seq : ℕ) (o : Option Outcome) → MayAsk items client seq g → HasPlaceAfter (places_given outs) o → NotGivenUp o
     → IsKept items outs window g → IsKept (items ++ ask_of client seq g ∷ []) (outs ++ o ∷ []) window g
 kept_ask items outs window g client seq o may place calm is = record {
-    legal = may_ask items outs client seq g o may place is.legal;
-    within = within_push g items (ask_of client seq g) (omega arith, tt) is.within;
-    given_up_before = λ k claim outcome c e up.
+  legal = may_ask items outs client seq g o may place is.legal;
+  within = within_push g items (ask_of client seq g) (omega arith, tt) is.within;
+  given_up_before = λ k claim outcome c e up.
       elim (get_split outs o k (Some outcome) e) [
         | inl h ↦ is.given_up_before k claim outcome (claim_before items client seq g outs k claim (Some outcome) is.legal.places_count.each h c) h up
         | inr h ↦ let no_give_up = calm outcome (sym h.1) in absurd (cc)
       ];
-    few = (let t = timeouts_push outs o (not_timed_out o calm) in let f = is.few in omega (arith, t, f));
-  }
+  few = (let t = timeouts_push outs o (not_timed_out o calm) in let f = is.few in omega (arith, t, f));
+}
 
 pub kept_took : (items : List Item) (outs : List (Option Outcome)) (window g client seq : ℕ) (outcome : Outcome) → MayTook items outs client seq outcome g → IsKept items outs window g
     → IsKept (items ++ took_of client seq outcome g ∷ []) outs window g
 kept_took items outs window g client seq outcome may is = record {
-    legal = may_took items outs client seq outcome g may is.legal;
-    within = within_push g items (took_of client seq outcome g) (omega arith, tt) is.within;
-    given_up_before = same_claims items (took_of client seq outcome g) outs g refl is.given_up_before;
-    few = is.few;
-  }
+  legal = may_took items outs client seq outcome g may is.legal;
+  within = within_push g items (took_of client seq outcome g) (omega arith, tt) is.within;
+  given_up_before = same_claims items (took_of client seq outcome g) outs g refl is.given_up_before;
+  few = is.few;
+}
 
 -- what a lane may take: the numbers of give-ups follow from what it keeps
 pub takes_late : (items : List Item) (outs : List (Option Outcome)) (window g : ℕ) (k : ℕ) (claim : Claim) (outcome : Outcome) → IsKept items outs window g → slice_get (claims items) k ≡ Some claim
@@ -236,16 +236,16 @@ put_other (suc k) o (y ∷ outs) (suc j) x e = elim (put_other k o outs j x e) [
 
 told_put : (fates : List (ℕ × Fate)) (f : ℕ × Fate) (outs : List (Option Outcome)) → AreToldBy fates outs → AreToldBy (fates ++ f ∷ []) (put f.0 (outcome_of f.1) outs)
 told_put fates f outs is k o e = elim (put_other f.0 (outcome_of f.1) outs k o e) [
-    | inl h ↦ told_more fates (f ∷ []) k o (is k o h)
-    | inr h ↦ subst (λ (j : ℕ). IsToldBy (fates ++ f ∷ []) j o) (sym h.0) (subst (IsToldBy (fates ++ f ∷ []) f.0) h.1
-        (told_one (fates ++ f ∷ []) f.0 f.1 (record { number = length fates; there = get_seam fates [] f })))
-  ]
+  | inl h ↦ told_more fates (f ∷ []) k o (is k o h)
+  | inr h ↦ subst (λ (j : ℕ). IsToldBy (fates ++ f ∷ []) j o) (sym h.0) (subst (IsToldBy (fates ++ f ∷ []) f.0) h.1
+      (told_one (fates ++ f ∷ []) f.0 f.1 (record { number = length fates; there = get_seam fates [] f })))
+]
 
 pub told_all : (fates more : List (ℕ × Fate)) (outs : List (Option Outcome)) → AreToldBy fates outs → AreToldBy (fates ++ more) (put_all more outs)
 told_all fates [] outs is = subst (λ (l : List (ℕ × Fate)). AreToldBy l outs) (sym (append-nil fates)) is
 told_all fates (f ∷ more) outs is =
     subst (λ (l : List (ℕ × Fate)). AreToldBy l (put_all more (put f.0 (outcome_of f.1) outs))) (append_assoc fates (f ∷ []) more)
-      (told_all (fates ++ f ∷ []) more (put f.0 (outcome_of f.1) outs) (told_put fates f outs is))
+    (told_all (fates ++ f ∷ []) more (put f.0 (outcome_of f.1) outs) (told_put fates f outs is))
 
 lost_told : (fates : List (ℕ × Fate)) (k : ℕ) (o : Outcome) → is_lost o ≡ true → IsToldBy fates k o
 lost_told fates k (Replied place words) e = absurd (cc)
@@ -261,9 +261,9 @@ told_ask fates outs is k o e = elim (get_split outs None k (Some o) e) [ inl h �
 
 pub told_ask_lost : (fates : List (ℕ × Fate)) (outs : List (Option Outcome)) → AreToldBy fates outs → AreToldBy fates (outs ++ Some (LinkLost None) ∷ [])
 told_ask_lost fates outs is k o e = elim (get_split outs (Some (LinkLost None)) k (Some o) e) [
-    | inl h ↦ is k o h
-    | inr h ↦ let x = h.1 in let same : o ≡ LinkLost None = cc in subst (IsToldBy fates k) (sym same) tt
-  ]
+  | inl h ↦ is k o h
+  | inr h ↦ let x = h.1 in let same : o ≡ LinkLost None = cc in subst (IsToldBy fates k) (sym same) tt
+]
 
 pub lost_alone : NotGivenUp (Some (LinkLost None))
 lost_alone outcome e = let same : LinkLost None ≡ outcome = cc in subst (λ (o : Outcome). is_given_up o ≡ false) same refl

@@ -43,11 +43,13 @@ taken_keeps items old new keeps is = each_then (IsTookOf old) (IsTookOf new) [] 
 
 pub legal_goes : (items : List Item) (old new : List (Option Outcome)) → KeepsOutcomes old new → PlacesCount (claims items) new → IsLegal items old → IsLegal items new
 legal_goes items old new keeps places is = record {
-    made = is.made; plans_count = is.plans_count; asks_follow_plans = is.asks_follow_plans;
-    taken_once = taken_keeps items old new keeps is.taken_once;
-    places_count = places;
-    give_ups_rise = is.give_ups_rise;
-  }
+  made = is.made;
+  plans_count = is.plans_count;
+  asks_follow_plans = is.asks_follow_plans;
+  taken_once = taken_keeps items old new keeps is.taken_once;
+  places_count = places;
+  give_ups_rise = is.give_ups_rise;
+}
 
 -- ---- one more entry
 
@@ -58,22 +60,22 @@ rise_push (Some n) ns is all = falls_push 0 n ns is (all n refl) (omega arith)
 pub legal_push : (items : List Item) (x : Item) (old new : List (Option Outcome)) → KeepsOutcomes old new → PlacesCount (claims (items ++ x ∷ [])) new
     → IsFit items new x → IsLegal items old → IsLegal (items ++ x ∷ []) new
 legal_push items x old new keeps places fit is = record {
-    made = AllByRecursion-append IsMade items (x ∷ []) is.made (fit.made, tt);
-    plans_count = record {
-      count = count_push plan_in items x is.plans_count.count fit.plan_next;
-      unsealed = each_push IsUnsealed [] items x is.plans_count.unsealed fit.unsealed;
-    };
-    asks_follow_plans = record {
-      count = count_push ask_in items x is.asks_follow_plans.count fit.ask_next;
-      planned = each_push IsPlanned [] items x is.asks_follow_plans.planned fit.has_plan;
-    };
-    taken_once = each_push (IsTookOf new) [] items x (taken_keeps items old new keeps is.taken_once) fit.took;
-    places_count = places;
-    give_ups_rise = record {
-      rise = subst (NeverFalls 0) (sym (give_ups_append items (x ∷ []))) (rise_push (give_ups_in x.what) (give_ups items) is.give_ups_rise.rise fit.rise);
-      later = each_push IsLate [] items x is.give_ups_rise.later fit.late;
-    };
-  }
+  made = AllByRecursion-append IsMade items (x ∷ []) is.made (fit.made, tt);
+  plans_count = record {
+    count = count_push plan_in items x is.plans_count.count fit.plan_next;
+    unsealed = each_push IsUnsealed [] items x is.plans_count.unsealed fit.unsealed;
+  };
+  asks_follow_plans = record {
+    count = count_push ask_in items x is.asks_follow_plans.count fit.ask_next;
+    planned = each_push IsPlanned [] items x is.asks_follow_plans.planned fit.has_plan;
+  };
+  taken_once = each_push (IsTookOf new) [] items x (taken_keeps items old new keeps is.taken_once) fit.took;
+  places_count = places;
+  give_ups_rise = record {
+    rise = subst (NeverFalls 0) (sym (give_ups_append items (x ∷ []))) (rise_push (give_ups_in x.what) (give_ups items) is.give_ups_rise.rise fit.rise);
+    later = each_push IsLate [] items x is.give_ups_rise.later fit.late;
+  };
+}
 
 -- ---- the last entry
 
@@ -83,15 +85,15 @@ rise_last (Some m) ns is n e = let same : m ≡ n = cc in subst (λ (z : ℕ). A
 
 pub legal_last : (items : List Item) (x : Item) (outcomes : List (Option Outcome)) → IsLegal (items ++ x ∷ []) outcomes → IsFit items outcomes x
 legal_last items x outcomes is = record {
-    made = (back_of_all IsMade items (x ∷ []) is.made).0;
-    plan_next = count_last plan_in items x is.plans_count.count;
-    unsealed = each_last IsUnsealed [] items x is.plans_count.unsealed;
-    ask_next = count_last ask_in items x is.asks_follow_plans.count;
-    has_plan = each_last IsPlanned [] items x is.asks_follow_plans.planned;
-    took = each_last (IsTookOf outcomes) [] items x is.taken_once;
-    rise = rise_last (give_ups_in x.what) (give_ups items) (subst (NeverFalls 0) (give_ups_append items (x ∷ [])) is.give_ups_rise.rise);
-    late = each_last IsLate [] items x is.give_ups_rise.later;
-  }
+  made = (back_of_all IsMade items (x ∷ []) is.made).0;
+  plan_next = count_last plan_in items x is.plans_count.count;
+  unsealed = each_last IsUnsealed [] items x is.plans_count.unsealed;
+  ask_next = count_last ask_in items x is.asks_follow_plans.count;
+  has_plan = each_last IsPlanned [] items x is.asks_follow_plans.planned;
+  took = each_last (IsTookOf outcomes) [] items x is.taken_once;
+  rise = rise_last (give_ups_in x.what) (give_ups items) (subst (NeverFalls 0) (give_ups_append items (x ∷ [])) is.give_ups_rise.rise);
+  late = each_last IsLate [] items x is.give_ups_rise.later;
+}
 
 -- ---- a front
 
@@ -138,8 +140,8 @@ legal_front front back outcomes is =
         planned = each_front IsPlanned [] front back is.asks_follow_plans.planned;
       };
       taken_once = each_then (IsTookOf outcomes) (IsTookOf (take n outcomes)) [] front
-        (λ before x after e p. took_front n outcomes before x x.what (subst (λ (l : List Item). length (claims before) ≤ length (claims l)) e (fewer_claims before (x ∷ after))) p)
-        (each_front (IsTookOf outcomes) [] front back is.taken_once);
+          (λ before x after e p. took_front n outcomes before x x.what (subst (λ (l : List Item). length (claims before) ≤ length (claims l)) e (fewer_claims before (x ∷ after))) p)
+          (each_front (IsTookOf outcomes) [] front back is.taken_once);
       places_count = record {
         each = take_length n outcomes (omega (arith, few, each));
         places = places_take n 0 outcomes is.places_count.places;

@@ -9,3 +9,4 @@ pub mod Events
 pub mod Sends
 pub mod Kept
 pub mod Coding
+pub mod Worked

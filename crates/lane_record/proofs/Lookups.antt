@@ -19,10 +19,10 @@ use Rattle.lane_record.proofs.Sequences.{counts_push, counts_front, counts_last}
 pub numbers_append : {A : Type 0} (kind : What → Option A) (client : ℕ) (xs ys : List Item) → numbers kind client (xs ++ ys) ≡ numbers kind client xs ++ numbers kind client ys
 numbers_append kind client [] ys = refl
 numbers_append kind client (x ∷ xs) ys = elim ((x.client == client) && is_some (kind x.what)) as (λ b. cond b (x.seq ∷ numbers kind client (xs ++ ys)) (numbers kind client (xs ++ ys))
-      ≡ cond b (x.seq ∷ numbers kind client xs) (numbers kind client xs) ++ numbers kind client ys) [
-    | true ↦ ap (λ (l : List ℕ). x.seq ∷ l) (numbers_append kind client xs ys)
-    | false ↦ numbers_append kind client xs ys
-  ]
+    ≡ cond b (x.seq ∷ numbers kind client xs) (numbers kind client xs) ++ numbers kind client ys) [
+      | true ↦ ap (λ (l : List ℕ). x.seq ∷ l) (numbers_append kind client xs ys)
+      | false ↦ numbers_append kind client xs ys
+    ]
 
 or_assoc : {A : Type 0} (o p q : Option A) → option_or o (option_or p q) ≡ option_or (option_or o p) q
 or_assoc None p q = refl
@@ -56,9 +56,9 @@ found_other {A} kind client seq xs x e =
 pub sealed_append : (xs ys : List Item) → is_sealed (xs ++ ys) ≡ (is_sealed xs || is_sealed ys)
 sealed_append [] ys = refl
 sealed_append (x ∷ xs) ys = elim (is_seal x.what) as (λ b. (b || is_sealed (xs ++ ys)) ≡ ((b || is_sealed xs) || is_sealed ys)) [
-    | true ↦ refl
-    | false ↦ sealed_append xs ys
-  ]
+  | true ↦ refl
+  | false ↦ sealed_append xs ys
+]
 
 and_append : (o : Option ℕ) (ns ms : List ℕ) → and_number o (ns ++ ms) ≡ and_number o ns ++ ms
 and_append None ns ms = refl
@@ -100,12 +100,12 @@ both false b e f = absurd (cc)
 pub count_push : {A : Type 0} (kind : What → Option A) (items : List Item) (x : Item) → Count kind items → IsNext kind items x → Count kind (items ++ x ∷ [])
 count_push kind items x is next client =
     subst (CountsFrom 0) (sym (numbers_append kind client items (x ∷ [])))
-      (either (λ (l : List ℕ). CountsFrom 0 (numbers kind client items ++ l)) ((x.client == client) && is_some (kind x.what)) (x.seq ∷ []) []
-        (λ e. let parts = and_true (x.client == client) (is_some (kind x.what)) e in
-          let same = ap (λ (c : ℕ). length (numbers kind c items)) (eqb-true x.client client parts.0) in
-          let n = next parts.1 in
-          counts_push 0 x.seq (numbers kind client items) (is client) (omega (arith, same, n)))
-        (λ _. subst (CountsFrom 0) (sym (append-nil (numbers kind client items))) (is client)))
+    (either (λ (l : List ℕ). CountsFrom 0 (numbers kind client items ++ l)) ((x.client == client) && is_some (kind x.what)) (x.seq ∷ []) []
+    (λ e. let parts = and_true (x.client == client) (is_some (kind x.what)) e in
+    let same = ap (λ (c : ℕ). length (numbers kind c items)) (eqb-true x.client client parts.0) in
+    let n = next parts.1 in
+    counts_push 0 x.seq (numbers kind client items) (is client) (omega (arith, same, n)))
+    (λ _. subst (CountsFrom 0) (sym (append-nil (numbers kind client items))) (is client)))
 
 pub count_front : {A : Type 0} (kind : What → Option A) (xs ys : List Item) → Count kind (xs ++ ys) → Count kind xs
 count_front kind xs ys is client = counts_front 0 (numbers kind client xs) (numbers kind client ys) (subst (CountsFrom 0) (numbers_append kind client xs ys) (is client))
@@ -141,12 +141,12 @@ found_from {A} kind client seq k (x ∷ xs) is le lt =
     let P = λ (ns : List ℕ). CountsFrom k ns → seq < k + length ns → (y : A) × (found kind client seq (x ∷ xs) ≡ Some y) in
     let skip = λ (f : (y : A) × (found kind client seq xs ≡ Some y)). there_or (if is_of client seq x then kind x.what else None) (found kind client seq xs) f.0 f.1 in
     either P ((x.client == client) && is_some (kind x.what)) (x.seq ∷ numbers kind client xs) (numbers kind client xs)
-      (λ e is lt. let parts = and_true (x.client == client) (is_some (kind x.what)) e in elim (seq == k) as (λ b. (seq == k) ≡ b → (y : A) × (found kind client seq (x ∷ xs) ≡ Some y)) [
-        | true ↦ λ same. found_here kind client seq x xs (eqb-true x.client client parts.0) (is.0 ∙ sym (eqb-true seq k same)) parts.1
-        | false ↦ λ other. skip (found_from kind client seq (k + 1) xs is.1 (let ne : seq ≡ k → ⊥ = eqb-false seq k other in omega (arith, le, ne)) (omega (arith, lt)))
-      ] refl)
-      (λ e is lt. skip (found_from kind client seq k xs is le lt))
-      is lt
+    (λ e is lt. let parts = and_true (x.client == client) (is_some (kind x.what)) e in elim (seq == k) as (λ b. (seq == k) ≡ b → (y : A) × (found kind client seq (x ∷ xs) ≡ Some y)) [
+      | true ↦ λ same. found_here kind client seq x xs (eqb-true x.client client parts.0) (is.0 ∙ sym (eqb-true seq k same)) parts.1
+      | false ↦ λ other. skip (found_from kind client seq (k + 1) xs is.1 (let ne : seq ≡ k → ⊥ = eqb-false seq k other in omega (arith, le, ne)) (omega (arith, lt)))
+    ] refl)
+    (λ e is lt. skip (found_from kind client seq k xs is le lt))
+    is lt
 
 pub found_below : {A : Type 0} (kind : What → Option A) (client seq : ℕ) (items : List Item) → Count kind items → seq < length (numbers kind client items)
     → (y : A) × (found kind client seq items ≡ Some y)
@@ -169,16 +169,16 @@ within_from : {A : Type 0} (kind : What → Option A) (client seq k : ℕ) (item
 within_from kind client seq k [] y is e = absurd (cc)
 within_from kind client seq k (x ∷ xs) y is e =
     either (λ (ns : List ℕ). CountsFrom k ns → seq < k + length ns) ((x.client == client) && is_some (kind x.what)) (x.seq ∷ numbers kind client xs) (numbers kind client xs)
-      (λ t is. elim (first_or (if is_of client seq x then kind x.what else None) (found kind client seq xs) y e) [
-        | inl h ↦ let parts = and_true (x.client == client) (x.seq == seq) (if_some (is_of client seq x) (kind x.what) y h).0 in let s = eqb-true x.seq seq parts.1 in let a = is.0 in omega (arith, s, a)
-        | inr h ↦ let later = within_from kind client seq (k + 1) xs y is.1 h in omega (arith, later)
-      ])
-      (λ f is. elim (first_or (if is_of client seq x then kind x.what else None) (found kind client seq xs) y e) [
-        | inl h ↦ let r = if_some (is_of client seq x) (kind x.what) y h in let parts = and_true (x.client == client) (x.seq == seq) r.0 in
-            absurd (true≢false (sym (both (x.client == client) (is_some (kind x.what)) parts.0 (some_of (kind x.what) y r.1)) ∙ f))
-        | inr h ↦ within_from kind client seq k xs y is h
-      ])
-      is
+    (λ t is. elim (first_or (if is_of client seq x then kind x.what else None) (found kind client seq xs) y e) [
+      | inl h ↦ let parts = and_true (x.client == client) (x.seq == seq) (if_some (is_of client seq x) (kind x.what) y h).0 in let s = eqb-true x.seq seq parts.1 in let a = is.0 in omega (arith, s, a)
+      | inr h ↦ let later = within_from kind client seq (k + 1) xs y is.1 h in omega (arith, later)
+    ])
+    (λ f is. elim (first_or (if is_of client seq x then kind x.what else None) (found kind client seq xs) y e) [
+      | inl h ↦ let r = if_some (is_of client seq x) (kind x.what) y h in let parts = and_true (x.client == client) (x.seq == seq) r.0 in
+          absurd (true≢false (sym (both (x.client == client) (is_some (kind x.what)) parts.0 (some_of (kind x.what) y r.1)) ∙ f))
+      | inr h ↦ within_from kind client seq k xs y is h
+    ])
+    is
 
 pub found_within : {A : Type 0} (kind : What → Option A) (client seq : ℕ) (items : List Item) (y : A) → Count kind items → found kind client seq items ≡ Some y
     → seq < length (numbers kind client items)
@@ -187,6 +187,6 @@ found_within kind client seq items y is e = let h = within_from kind client seq 
 -- one that is next was not there
 pub none_next : {A : Type 0} (kind : What → Option A) (client seq : ℕ) (items : List Item) → Count kind items → length (numbers kind client items) ≤ seq → found kind client seq items ≡ None
 none_next kind client seq items is le = elim (found kind client seq items) as (λ o. found kind client seq items ≡ o → o ≡ None) [
-    | None ↦ λ e. refl
-    | Some y ↦ λ e. let h = found_within kind client seq items y is e in absurd (omega (arith, h, le))
-  ] refl
+  | None ↦ λ e. refl
+  | Some y ↦ λ e. let h = found_within kind client seq items y is e in absurd (omega (arith, h, le))
+] refl

@@ -42,20 +42,22 @@ take_front (x ∷ xs) ys = ap (λ l. x ∷ l) (take_front xs ys)
 pub places_push : (others : ℕ) (outcomes : List (Option Outcome)) (o : Option Outcome) → HavePlacesAfter others outcomes → HasPlaceAfter (others + places_given outcomes) o
     → HavePlacesAfter others (outcomes ++ o ∷ [])
 places_push others [] o is one = (subst (λ n. HasPlaceAfter n o) (add_zero others) one, tt)
-places_push others (x ∷ outcomes) o is one =
-    (is.0, elim (may_have_place x) as (λ b. HavePlacesAfter (cond b (others + 1) others) outcomes → HasPlaceAfter (others + cond b (1 + places_given outcomes) (places_given outcomes)) o
-        → HavePlacesAfter (cond b (others + 1) others) (outcomes ++ o ∷ [])) [
-      | true ↦ λ is one. places_push (others + 1) outcomes o is (subst (λ n. HasPlaceAfter n o) (one_further others (places_given outcomes)) one)
-      | false ↦ λ is one. places_push others outcomes o is one
-    ] is.1 one)
+places_push others (x ∷ outcomes) o is one = (
+  is.0,
+  elim (may_have_place x) as (λ b. HavePlacesAfter (cond b (others + 1) others) outcomes → HasPlaceAfter (others + cond b (1 + places_given outcomes) (places_given outcomes)) o
+      → HavePlacesAfter (cond b (others + 1) others) (outcomes ++ o ∷ [])) [
+        | true ↦ λ is one. places_push (others + 1) outcomes o is (subst (λ n. HasPlaceAfter n o) (one_further others (places_given outcomes)) one)
+        | false ↦ λ is one. places_push others outcomes o is one
+      ] is.1 one,
+)
 
 pub places_last : (others : ℕ) (outcomes : List (Option Outcome)) (o : Option Outcome) → HavePlacesAfter others (outcomes ++ o ∷ [])
     → HavePlacesAfter others outcomes × HasPlaceAfter (others + places_given outcomes) o
 places_last others [] o is = (tt, subst (λ n. HasPlaceAfter n o) (sym (add_zero others)) is.0)
 places_last others (x ∷ outcomes) o is =
     let rest : HavePlacesAfter (if may_have_place x then others + 1 else others) outcomes × HasPlaceAfter (others + places_given (x ∷ outcomes)) o =
-      elim (may_have_place x) as (λ b. HavePlacesAfter (cond b (others + 1) others) (outcomes ++ o ∷ [])
-        → HavePlacesAfter (cond b (others + 1) others) outcomes × HasPlaceAfter (others + cond b (1 + places_given outcomes) (places_given outcomes)) o) [
+    elim (may_have_place x) as (λ b. HavePlacesAfter (cond b (others + 1) others) (outcomes ++ o ∷ [])
+    → HavePlacesAfter (cond b (others + 1) others) outcomes × HasPlaceAfter (others + cond b (1 + places_given outcomes) (places_given outcomes)) o) [
       | true ↦ λ is. let h = places_last (others + 1) outcomes o is in (h.0, subst (λ n. HasPlaceAfter n o) (sym (one_further others (places_given outcomes))) h.1)
       | false ↦ λ is. places_last others outcomes o is
     ] is.1 in
@@ -84,8 +86,14 @@ pub may_plan : (items : List Item) (outcomes : List (Option Outcome)) (client se
     → IsLegal (items ++ plan_of client seq body ∷ []) outcomes
 may_plan items outcomes client seq body may is = legal_with items (plan_of client seq body) outcomes refl
     (record {
-      made = may.some_client; plan_next = λ e. may.next; unsealed = may.unsealed; ask_next = λ e. absurd (cc); has_plan = tt; took = tt;
-      rise = λ n e. absurd (cc); late = tt;
+      made = may.some_client;
+      plan_next = λ e. may.next;
+      unsealed = may.unsealed;
+      ask_next = λ e. absurd (cc);
+      has_plan = tt;
+      took = tt;
+      rise = λ n e. absurd (cc);
+      late = tt;
     }) is
 
 pub only_plan : (items : List Item) (outcomes : List (Option Outcome)) (client seq : ℕ) (body : List ℕ) → IsLegal (items ++ plan_of client seq body ∷ []) outcomes
@@ -99,8 +107,14 @@ only_plan items outcomes client seq body is =
 pub may_seal : (items : List Item) (outcomes : List (Option Outcome)) → is_sealed items ≡ false → IsLegal items outcomes → IsLegal (items ++ the_seal ∷ []) outcomes
 may_seal items outcomes open_to is = legal_with items the_seal outcomes refl
     (record {
-      made = (refl, refl); plan_next = λ e. absurd (cc); unsealed = open_to; ask_next = λ e. absurd (cc); has_plan = tt; took = tt;
-      rise = λ n e. absurd (cc); late = tt;
+      made = (refl, refl);
+      plan_next = λ e. absurd (cc);
+      unsealed = open_to;
+      ask_next = λ e. absurd (cc);
+      has_plan = tt;
+      took = tt;
+      rise = λ n e. absurd (cc);
+      late = tt;
     }) is
 
 pub only_seal : (items : List Item) (outcomes : List (Option Outcome)) → IsLegal (items ++ the_seal ∷ []) outcomes → IsLegal items outcomes × (is_sealed items ≡ false)
@@ -121,12 +135,17 @@ may_ask items outcomes client seq now o may place is =
     let each = is.places_count.each in
     let more = length-append outcomes (o ∷ []) in
     legal_push items (ask_of client seq now) outcomes (outcomes ++ o ∷ []) (longer_keeps outcomes (o ∷ []))
-      (record { each = omega (arith, longer, each, more); places = places_push 0 outcomes o is.places_count.places (subst (λ n. HasPlaceAfter n o) (sym (zero_add (places_given outcomes))) place) })
-      (record {
-        made = may.some_client; plan_next = λ e. absurd (cc); unsealed = tt; ask_next = λ e. may.next;
-        has_plan = found_below plan_in client seq items is.plans_count.count may.is_planned;
-        took = tt; rise = λ n e. subst (λ (m : ℕ). AllByRecursion (λ k. k ≤ m) (give_ups items)) (same_some now n e) may.within; late = tt;
-      }) is
+    (record { each = omega (arith, longer, each, more); places = places_push 0 outcomes o is.places_count.places (subst (λ n. HasPlaceAfter n o) (sym (zero_add (places_given outcomes))) place) })
+    (record {
+      made = may.some_client;
+      plan_next = λ e. absurd (cc);
+      unsealed = tt;
+      ask_next = λ e. may.next;
+      has_plan = found_below plan_in client seq items is.plans_count.count may.is_planned;
+      took = tt;
+      rise = λ n e. subst (λ (m : ℕ). AllByRecursion (λ k. k ≤ m) (give_ups items)) (same_some now n e) may.within;
+      late = tt;
+    }) is
 
 pub only_ask : (items : List Item) (outcomes : List (Option Outcome)) (client seq now : ℕ) (o : Option Outcome) → IsLegal (items ++ ask_of client seq now ∷ []) (outcomes ++ o ∷ [])
     → IsLegal items outcomes × MayAsk items client seq now × HasPlaceAfter (places_given outcomes) o
@@ -136,14 +155,16 @@ only_ask items outcomes client seq now o is =
     let more = length-append outcomes (o ∷ []) in
     let same : length (claims items) ≡ length outcomes = omega (arith, longer, each, more) in
     let fit = legal_last items (ask_of client seq now) (outcomes ++ o ∷ []) is in
-    let before = legal_front items (ask_of client seq now ∷ []) (outcomes ++ o ∷ []) is in
-    (subst (IsLegal items) (ap (λ (n : ℕ). take n (outcomes ++ o ∷ [])) same ∙ take_front outcomes (o ∷ [])) before,
-     record {
-       some_client = fit.made; next = fit.ask_next refl;
-       is_planned = found_within plan_in client seq items fit.has_plan.0 before.plans_count.count fit.has_plan.1;
-       within = fit.rise now refl;
-     },
-     subst (λ n. HasPlaceAfter n o) (zero_add (places_given outcomes)) (places_last 0 outcomes o is.places_count.places).1)
+    let before = legal_front items (ask_of client seq now ∷ []) (outcomes ++ o ∷ []) is in (
+      subst (IsLegal items) (ap (λ (n : ℕ). take n (outcomes ++ o ∷ [])) same ∙ take_front outcomes (o ∷ [])) before,
+      record {
+        some_client = fit.made;
+        next = fit.ask_next refl;
+        is_planned = found_within plan_in client seq items fit.has_plan.0 before.plans_count.count fit.has_plan.1;
+        within = fit.rise now refl;
+      },
+      subst (λ n. HasPlaceAfter n o) (zero_add (places_given outcomes)) (places_last 0 outcomes o is.places_count.places).1,
+    )
 
 -- ---- a Took
 
@@ -170,17 +191,21 @@ pub may_took : (items : List Item) (outcomes : List (Option Outcome)) (client se
 may_took items outcomes client seq outcome now may is = legal_with items (took_of client seq outcome now) outcomes refl
     (record {
       made = asked_by_client items may.takes.k client seq may.takes.claim is.made may.takes.ask;
-      plan_next = λ e. absurd (cc); unsealed = tt; ask_next = λ e. absurd (cc); has_plan = tt;
+      plan_next = λ e. absurd (cc);
+      unsealed = tt;
+      ask_next = λ e. absurd (cc);
+      has_plan = tt;
       took = may.takes;
       rise = λ n e. subst (λ (m : ℕ). AllByRecursion (λ k. k ≤ m) (give_ups items)) (same_some now n e) may.within;
       late = λ given_up k claim ask.
-        let same = one_ask items may.takes.k k client seq may.takes.claim claim is.asks_follow_plans.count may.takes.ask ask in
-        subst (λ (c : Claim). c.give_ups < now) (some_get (claims items) may.takes.k k may.takes.claim claim same may.takes.ask.there ask.there) (may.later given_up);
+          let same = one_ask items may.takes.k k client seq may.takes.claim claim is.asks_follow_plans.count may.takes.ask ask in
+          subst (λ (c : Claim). c.give_ups < now) (some_get (claims items) may.takes.k k may.takes.claim claim same may.takes.ask.there ask.there) (may.later given_up);
     }) is
 
 pub only_took : (items : List Item) (outcomes : List (Option Outcome)) (client seq : ℕ) (outcome : Outcome) (now : ℕ) → IsLegal (items ++ took_of client seq outcome now ∷ []) outcomes
     → IsLegal items outcomes × MayTook items outcomes client seq outcome now
 only_took items outcomes client seq outcome now is =
-    let fit = legal_last items (took_of client seq outcome now) outcomes is in
-    (legal_without items (took_of client seq outcome now) outcomes refl is,
-     record { takes = fit.took; within = fit.rise now refl; later = λ given_up. fit.late given_up fit.took.k fit.took.claim fit.took.ask })
+    let fit = legal_last items (took_of client seq outcome now) outcomes is in (
+      legal_without items (took_of client seq outcome now) outcomes refl is,
+      record { takes = fit.took; within = fit.rise now refl; later = λ given_up. fit.late given_up fit.took.k fit.took.claim fit.took.ask },
+    )

@@ -39,9 +39,9 @@ offers_least n [] (o ∷ os) [] c x e = absurd (cc)
 offers_least n [] (o ∷ os) (y ∷ a) c x e = absurd (cc)
 offers_least n (d ∷ cs) (o ∷ os) a c x e =
     either (λ (l : List Offered). l ≡ a ++ x ∷ c → n ≤ x.tag) (may_have_place o) (record { tag = n; body = d.body } ∷ offers_from (n + 1) cs os) (offers_from (n + 1) cs os)
-      (λ _ e. offers_head n (record { tag = n; body = d.body }) (offers_from (n + 1) cs os) a c x refl (λ b h. offers_least (n + 1) cs os b c x h) e)
-      (λ _ h. let k = offers_least (n + 1) cs os a c x h in omega arith)
-      e
+    (λ _ e. offers_head n (record { tag = n; body = d.body }) (offers_from (n + 1) cs os) a c x refl (λ b h. offers_least (n + 1) cs os b c x h) e)
+    (λ _ h. let k = offers_least (n + 1) cs os a c x h in omega arith)
+    e
 
 -- ---- one more Ask
 
@@ -55,7 +55,7 @@ offers_push n (d ∷ cs) (o ∷ os) c e =
     let step : n + 1 + length cs ≡ n + suc (length cs) = omega arith in
     let later = offers_push (n + 1) cs os c same ∙ ap (λ (t : ℕ). offers_from (n + 1) cs os ++ record { tag = t; body = c.body } ∷ []) step in
     elim (may_have_place o) as (λ b. cond b (record { tag = n; body = d.body } ∷ offers_from (n + 1) (cs ++ c ∷ []) (os ++ None ∷ [])) (offers_from (n + 1) (cs ++ c ∷ []) (os ++ None ∷ []))
-        ≡ cond b (record { tag = n; body = d.body } ∷ offers_from (n + 1) cs os) (offers_from (n + 1) cs os) ++ record { tag = n + suc (length cs); body = c.body } ∷ []) [
+    ≡ cond b (record { tag = n; body = d.body } ∷ offers_from (n + 1) cs os) (offers_from (n + 1) cs os) ++ record { tag = n + suc (length cs); body = c.body } ∷ []) [
       | true ↦ ap (λ (l : List Offered). record { tag = n; body = d.body } ∷ l) later
       | false ↦ later
     ]
@@ -149,21 +149,22 @@ put_places n p zero o (d ∷ cs) (None ∷ os) (z ∷ a) c x sent at none e t is
     let h : offers_from (n + 1) cs os ≡ a ++ x ∷ c = cc in
     let k = offers_least (n + 1) cs os a c x h in absurd (omega (arith, k, t))
 put_places n p (suc k) o (d ∷ cs) (y ∷ os) a c x sent at none e t is =
-    let t2 : x.tag ≡ n + 1 + k = omega (arith, t) in
-    (is.0,
-     elim (may_have_place y) as (λ b. cond b (record { tag = n; body = d.body } ∷ offers_from (n + 1) cs os) (offers_from (n + 1) cs os) ≡ a ++ x ∷ c
-        → HavePlacesAfter (cond b (p + 1) p) os → HavePlacesAfter (cond b (p + 1) p) (put k o os)) [
-      | true ↦ λ h q. elim a as (λ a. record { tag = n; body = d.body } ∷ offers_from (n + 1) cs os ≡ a ++ x ∷ c → place_of o ≡ Some (p + length a + 1) → HavePlacesAfter (p + 1) (put k o os)) [
-        | [] ↦ λ h at.
-            let e1 : record { tag = n; body = d.body } ≡ x = cc in
-            let e2 : n ≡ x.tag = ap (λ (o : Offered). o.tag) e1 in absurd (omega (arith, e2, t))
-        | z ∷ a ↦ λ h at.
-            let e1 : offers_from (n + 1) cs os ≡ a ++ x ∷ c = cc in
-            let e2 : p + suc (length a) + 1 ≡ p + 1 + length a + 1 = omega arith in
-            put_places (n + 1) (p + 1) k o cs os a c x sent (at ∙ ap (λ (q : ℕ). Some q) e2) none e1 t2 q
-      ] h at
-      | false ↦ λ h q. put_places (n + 1) p k o cs os a c x sent at none h t2 q
-    ] e is.1)
+    let t2 : x.tag ≡ n + 1 + k = omega (arith, t) in (
+      is.0,
+      elim (may_have_place y) as (λ b. cond b (record { tag = n; body = d.body } ∷ offers_from (n + 1) cs os) (offers_from (n + 1) cs os) ≡ a ++ x ∷ c
+          → HavePlacesAfter (cond b (p + 1) p) os → HavePlacesAfter (cond b (p + 1) p) (put k o os)) [
+            | true ↦ λ h q. elim a as (λ a. record { tag = n; body = d.body } ∷ offers_from (n + 1) cs os ≡ a ++ x ∷ c → place_of o ≡ Some (p + length a + 1) → HavePlacesAfter (p + 1) (put k o os)) [
+              | [] ↦ λ h at.
+                  let e1 : record { tag = n; body = d.body } ≡ x = cc in
+                  let e2 : n ≡ x.tag = ap (λ (o : Offered). o.tag) e1 in absurd (omega (arith, e2, t))
+              | z ∷ a ↦ λ h at.
+                  let e1 : offers_from (n + 1) cs os ≡ a ++ x ∷ c = cc in
+                  let e2 : p + suc (length a) + 1 ≡ p + 1 + length a + 1 = omega arith in
+                  put_places (n + 1) (p + 1) k o cs os a c x sent (at ∙ ap (λ (q : ℕ). Some q) e2) none e1 t2 q
+            ] h at
+            | false ↦ λ h q. put_places (n + 1) p k o cs os a c x sent at none h t2 q
+          ] e is.1,
+    )
 
 -- ---- what stands behind the sent ones has no place
 
@@ -176,7 +177,7 @@ all_unsettled n p (d ∷ cs) (None ∷ os) len e =
     (tt, all_unsettled (n + 1) (p + 1) cs os (omega (arith, len)) h)
 all_unsettled n p (d ∷ cs) (Some o ∷ os) len e =
     elim (is_sent o) as (λ b. tags (cond b (record { tag = n; body = d.body } ∷ offers_from (n + 1) cs os) (offers_from (n + 1) cs os)) ≡ unsettled_from (n + 1) os
-        → (b ≡ true → place_of o ≡ Some (p + 1)) × HavePlacesAfter (cond b (p + 1) p) os) [
+    → (b ≡ true → place_of o ≡ Some (p + 1)) × HavePlacesAfter (cond b (p + 1) p) os) [
       | true ↦ λ h. let k = unsettled_least (n + 1) n os [] (tags (offers_from (n + 1) cs os)) (sym h) in absurd (omega (arith, k))
       | false ↦ λ h. ((λ t. absurd (cc)), all_unsettled (n + 1) p cs os (omega (arith, len)) h)
     ] e
@@ -195,7 +196,7 @@ unsent_offers n zero (d ∷ cs) (None ∷ os) (y ∷ a) c x none t e =
 unsent_offers n (suc k) (d ∷ cs) (o ∷ os) a c x none t e =
     let t2 : x.tag ≡ n + 1 + k = omega (arith, t) in
     elim (may_have_place o) as (λ b. cond b (record { tag = n; body = d.body } ∷ offers_from (n + 1) cs os) (offers_from (n + 1) cs os) ≡ a ++ x ∷ c
-       → cond b (record { tag = n; body = d.body } ∷ offers_from (n + 1) cs (put k Unsent os)) (offers_from (n + 1) cs (put k Unsent os)) ≡ a ++ c) [
+    → cond b (record { tag = n; body = d.body } ∷ offers_from (n + 1) cs (put k Unsent os)) (offers_from (n + 1) cs (put k Unsent os)) ≡ a ++ c) [
       | true ↦ elim a as (λ a. record { tag = n; body = d.body } ∷ offers_from (n + 1) cs os ≡ a ++ x ∷ c → record { tag = n; body = d.body } ∷ offers_from (n + 1) cs (put k Unsent os) ≡ a ++ c) [
         | [] ↦ λ h.
             let e1 : record { tag = n; body = d.body } ≡ x = cc in
@@ -218,7 +219,7 @@ unsent_places n p k (d ∷ cs) (None ∷ os) [] c x len t e w is =
     let h : offers_from (n + 1) cs os ≡ c = cc in
     let v : unsettled_from (n + 1) os ≡ tags c = cc in
     subst (λ (j : ℕ). HavePlacesAfter p (put j Unsent (None ∷ os))) (sym k_is)
-      ((λ u. absurd (cc)), all_unsettled (n + 1) p cs os (omega (arith, len)) (ap tags h ∙ sym v))
+    ((λ u. absurd (cc)), all_unsettled (n + 1) p cs os (omega (arith, len)) (ap tags h ∙ sym v))
 unsent_places n p k (d ∷ cs) (None ∷ os) (y ∷ a) c x len t e w is =
     let n_is : n ≡ x.tag = cc in
     let h : offers_from (n + 1) cs os ≡ a ++ x ∷ c = cc in
@@ -226,17 +227,19 @@ unsent_places n p k (d ∷ cs) (None ∷ os) (y ∷ a) c x len t e w is =
 unsent_places n p zero (d ∷ cs) (Some o ∷ os) a c x len t e w is =
     let later = unsettled_least (n + 1) x.tag os [] (tags c) w in absurd (omega (arith, later, t))
 unsent_places n p (suc k) (d ∷ cs) (Some o ∷ os) a c x len t e w is =
-    let t2 : x.tag ≡ n + 1 + k = omega (arith, t) in
-    (is.0, elim (is_sent o) as (λ b. cond b (record { tag = n; body = d.body } ∷ offers_from (n + 1) cs os) (offers_from (n + 1) cs os) ≡ a ++ x ∷ c
-       → HavePlacesAfter (cond b (p + 1) p) os → HavePlacesAfter (cond b (p + 1) p) (put k Unsent os)) [
-      | true ↦ λ h q. elim a as (λ a. record { tag = n; body = d.body } ∷ offers_from (n + 1) cs os ≡ a ++ x ∷ c → HavePlacesAfter (p + 1) (put k Unsent os)) [
-        | [] ↦ λ h.
-            let e1 : record { tag = n; body = d.body } ≡ x = cc in
-            let e2 : n ≡ x.tag = ap (λ (o : Offered). o.tag) e1 in absurd (omega (arith, e2, t))
-        | z ∷ a ↦ λ h. let e1 : offers_from (n + 1) cs os ≡ a ++ x ∷ c = cc in unsent_places (n + 1) (p + 1) k cs os a c x (omega (arith, len)) t2 e1 w q
-      ] h
-      | false ↦ λ h q. unsent_places (n + 1) p k cs os a c x (omega (arith, len)) t2 h w q
-    ] e is.1)
+    let t2 : x.tag ≡ n + 1 + k = omega (arith, t) in (
+      is.0,
+      elim (is_sent o) as (λ b. cond b (record { tag = n; body = d.body } ∷ offers_from (n + 1) cs os) (offers_from (n + 1) cs os) ≡ a ++ x ∷ c
+          → HavePlacesAfter (cond b (p + 1) p) os → HavePlacesAfter (cond b (p + 1) p) (put k Unsent os)) [
+            | true ↦ λ h q. elim a as (λ a. record { tag = n; body = d.body } ∷ offers_from (n + 1) cs os ≡ a ++ x ∷ c → HavePlacesAfter (p + 1) (put k Unsent os)) [
+              | [] ↦ λ h.
+                  let e1 : record { tag = n; body = d.body } ≡ x = cc in
+                  let e2 : n ≡ x.tag = ap (λ (o : Offered). o.tag) e1 in absurd (omega (arith, e2, t))
+              | z ∷ a ↦ λ h. let e1 : offers_from (n + 1) cs os ≡ a ++ x ∷ c = cc in unsent_places (n + 1) (p + 1) k cs os a c x (omega (arith, len)) t2 e1 w q
+            ] h
+            | false ↦ λ h q. unsent_places (n + 1) p k cs os a c x (omega (arith, len)) t2 h w q
+          ] e is.1,
+    )
 
 -- ---- what stays, and what is new
 
@@ -277,8 +280,8 @@ keeps_lost others sent (Some o ∷ os) (suc j) x e = keeps_lost (if is_sent o th
 keeps_lost others sent (None ∷ os) zero x e = absurd (cc)
 keeps_lost others sent (None ∷ os) (suc j) x e =
     either (λ (l : List (Option Outcome)). slice_get l (suc j) ≡ Some (Some x)) (nat_lt others sent)
-      (Some (LinkLost (Some (others + 1))) ∷ lost_after (others + 1) sent os) (Some (LinkLost None) ∷ lost_after others sent os)
-      (λ _. keeps_lost (others + 1) sent os j x e) (λ _. keeps_lost others sent os j x e)
+    (Some (LinkLost (Some (others + 1))) ∷ lost_after (others + 1) sent os) (Some (LinkLost None) ∷ lost_after others sent os)
+    (λ _. keeps_lost (others + 1) sent os j x e) (λ _. keeps_lost others sent os j x e)
 
 adds_one : (o : Outcome) (os new : List (Option Outcome)) → is_lost o ≡ true → AddsOnly is_lost os new → AddsOnly is_lost (None ∷ os) (Some o ∷ new)
 adds_one o os new lost adds zero x e = let same : o ≡ x = cc in inr (ap is_lost (sym same) ∙ lost)
@@ -290,18 +293,18 @@ adds_lost others sent (Some o ∷ os) zero x e = inl e
 adds_lost others sent (Some o ∷ os) (suc j) x e = adds_lost (if is_sent o then others + 1 else others) sent os j x e
 adds_lost others sent (None ∷ os) j x e =
     either (λ (l : List (Option Outcome)). slice_get l j ≡ Some (Some x) → (slice_get (None ∷ os) j ≡ Some (Some x)) ⊎ (is_lost x ≡ true)) (nat_lt others sent)
-      (Some (LinkLost (Some (others + 1))) ∷ lost_after (others + 1) sent os) (Some (LinkLost None) ∷ lost_after others sent os)
-      (λ _ e. adds_one (LinkLost (Some (others + 1))) os (lost_after (others + 1) sent os) refl (adds_lost (others + 1) sent os) j x e)
-      (λ _ e. adds_one (LinkLost None) os (lost_after others sent os) refl (adds_lost others sent os) j x e)
-      e
+    (Some (LinkLost (Some (others + 1))) ∷ lost_after (others + 1) sent os) (Some (LinkLost None) ∷ lost_after others sent os)
+    (λ _ e. adds_one (LinkLost (Some (others + 1))) os (lost_after (others + 1) sent os) refl (adds_lost (others + 1) sent os) j x e)
+    (λ _ e. adds_one (LinkLost None) os (lost_after others sent os) refl (adds_lost others sent os) j x e)
+    e
 
 pub length-lost_after : (others sent : ℕ) (os : List (Option Outcome)) → length (lost_after others sent os) ≡ length os
 length-lost_after others sent [] = refl
 length-lost_after others sent (Some o ∷ os) = ap suc (length-lost_after (if is_sent o then others + 1 else others) sent os)
 length-lost_after others sent (None ∷ os) =
     either (λ (l : List (Option Outcome)). length l ≡ suc (length os)) (nat_lt others sent)
-      (Some (LinkLost (Some (others + 1))) ∷ lost_after (others + 1) sent os) (Some (LinkLost None) ∷ lost_after others sent os)
-      (λ _. ap suc (length-lost_after (others + 1) sent os)) (λ _. ap suc (length-lost_after others sent os))
+    (Some (LinkLost (Some (others + 1))) ∷ lost_after (others + 1) sent os) (Some (LinkLost None) ∷ lost_after others sent os)
+    (λ _. ap suc (length-lost_after (others + 1) sent os)) (λ _. ap suc (length-lost_after others sent os))
 
 -- what is lost agrees with the first sends: those with a place keep it, and nothing waits any more
 pub record AreLost (n p : ℕ) (cs : List Claim) (os : List (Option Outcome)) (firsts : List Offered) : Type 0 where
@@ -312,11 +315,11 @@ pub record AreLost (n p : ℕ) (cs : List Claim) (os : List (Option Outcome)) (f
 lost_one : (n p : ℕ) (d : Claim) (cs : List Claim) (o : Outcome) (os : List (Option Outcome)) (firsts all : List Offered) (b : Bool) → is_sent o ≡ b → HasPlaceAfter p (Some o)
     → AreLost (n + 1) (cond b (p + 1) p) cs os firsts → cond b (record { tag = n; body = d.body } ∷ firsts) firsts ≡ all → AreLost n p (d ∷ cs) (Some o ∷ os) all
 lost_one n p d cs o os firsts all b sent at is e = record {
-    offers = ap (λ (c : Bool). if c then record { tag = n; body = d.body } ∷ offers_from (n + 1) cs os else offers_from (n + 1) cs os) sent
+  offers = ap (λ (c : Bool). if c then record { tag = n; body = d.body } ∷ offers_from (n + 1) cs os else offers_from (n + 1) cs os) sent
       ∙ (ap (λ (l : List Offered). if b then record { tag = n; body = d.body } ∷ l else l) is.offers ∙ e);
-    places = (at, subst (λ (c : Bool). HavePlacesAfter (if c then p + 1 else p) os) (sym sent) is.places);
-    settled = is.settled;
-  }
+  places = (at, subst (λ (c : Bool). HavePlacesAfter (if c then p + 1 else p) os) (sym sent) is.places);
+  settled = is.settled;
+}
 
 lost_from : (n p s : ℕ) (cs : List Claim) (os : List (Option Outcome)) (a q : List Offered) (w : List ℕ) → length os ≡ length cs → s ≡ p + length a
     → offers_from n cs os ≡ a ++ q → unsettled_from n os ≡ w ++ tags q → HavePlacesAfter p os → AreLost n p cs (lost_after p s os) a
@@ -326,16 +329,16 @@ lost_from n p s [] (o ∷ os) a q w len s_is e v is = absurd (cc)
 lost_from n p s (d ∷ cs) (Some o ∷ os) a q w len s_is e v is =
     let l : length os ≡ length cs = omega (arith, len) in
     elim (is_sent o) as (λ b. is_sent o ≡ b → cond b (record { tag = n; body = d.body } ∷ offers_from (n + 1) cs os) (offers_from (n + 1) cs os) ≡ a ++ q
-        → HavePlacesAfter (cond b (p + 1) p) os → AreLost n p (d ∷ cs) (Some o ∷ lost_after (cond b (p + 1) p) s os) a) [
+    → HavePlacesAfter (cond b (p + 1) p) os → AreLost n p (d ∷ cs) (Some o ∷ lost_after (cond b (p + 1) p) s os) a) [
       | true ↦ λ sent e is1. elim a as (λ a. s ≡ p + length a → record { tag = n; body = d.body } ∷ offers_from (n + 1) cs os ≡ a ++ q → AreLost n p (d ∷ cs) (Some o ∷ lost_after (p + 1) s os) a) [
         | [] ↦ λ s_is e. elim q as (λ q. record { tag = n; body = d.body } ∷ offers_from (n + 1) cs os ≡ q → unsettled_from (n + 1) os ≡ w ++ tags q
             → AreLost n p (d ∷ cs) (Some o ∷ lost_after (p + 1) s os) []) [
-          | [] ↦ λ e v. absurd (cc)
-          | y ∷ q ↦ λ e v.
-              let e1 : record { tag = n; body = d.body } ≡ y = cc in
-              let e2 : n ≡ y.tag = ap (λ (o : Offered). o.tag) e1 in
-              let k = unsettled_least (n + 1) y.tag os w (tags q) v in absurd (omega (arith, e2, k))
-        ] e v
+              | [] ↦ λ e v. absurd (cc)
+              | y ∷ q ↦ λ e v.
+                  let e1 : record { tag = n; body = d.body } ≡ y = cc in
+                  let e2 : n ≡ y.tag = ap (λ (o : Offered). o.tag) e1 in
+                  let k = unsettled_least (n + 1) y.tag os w (tags q) v in absurd (omega (arith, e2, k))
+            ] e v
         | z ∷ a ↦ λ s_is e.
             let e0 : record { tag = n; body = d.body } ≡ z = cc in
             let e1 : offers_from (n + 1) cs os ≡ a ++ q = cc in
@@ -347,40 +350,40 @@ lost_from n p s (d ∷ cs) (Some o ∷ os) a q w len s_is e v is =
 lost_from n p s (d ∷ cs) (None ∷ os) [] q w len s_is e v is =
     let l : length os ≡ length cs = omega (arith, len) in
     either (λ (x : List (Option Outcome)). AreLost n p (d ∷ cs) x []) (nat_lt p s) (Some (LinkLost (Some (p + 1))) ∷ lost_after (p + 1) s os) (Some (LinkLost None) ∷ lost_after p s os)
-      (λ t. let h = ltb-true p s t in absurd (omega (arith, h, s_is)))
-      (λ _. elim q as (λ q. record { tag = n; body = d.body } ∷ offers_from (n + 1) cs os ≡ q → n ∷ unsettled_from (n + 1) os ≡ w ++ tags q
-          → AreLost n p (d ∷ cs) (Some (LinkLost None) ∷ lost_after p s os) []) [
-        | [] ↦ λ e v. absurd (cc)
-        | y ∷ q ↦ λ e v.
-            let e1 : record { tag = n; body = d.body } ≡ y = cc in
-            let e2 : n ≡ y.tag = ap (λ (o : Offered). o.tag) e1 in
-            let e3 : offers_from (n + 1) cs os ≡ q = cc in
-            elim w as (λ w. n ∷ unsettled_from (n + 1) os ≡ w ++ y.tag ∷ tags q → AreLost n p (d ∷ cs) (Some (LinkLost None) ∷ lost_after p s os) []) [
-              | [] ↦ λ v.
-                  let v1 : unsettled_from (n + 1) os ≡ tags q = cc in
-                  let places = all_unsettled (n + 1) p cs os l (ap tags e3 ∙ sym v1) in
-                  lost_one n p d cs (LinkLost None) (lost_after p s os) [] [] false refl (λ u. absurd (cc)) (lost_from (n + 1) p s cs os [] q [] l s_is e3 v1 places) refl
-              | x ∷ w ↦ λ v.
-                  let v1 : unsettled_from (n + 1) os ≡ w ++ y.tag ∷ tags q = cc in
-                  let k = unsettled_least (n + 1) y.tag os w (tags q) v1 in absurd (omega (arith, e2, k))
-            ] v
-      ] e v)
+    (λ t. let h = ltb-true p s t in absurd (omega (arith, h, s_is)))
+    (λ _. elim q as (λ q. record { tag = n; body = d.body } ∷ offers_from (n + 1) cs os ≡ q → n ∷ unsettled_from (n + 1) os ≡ w ++ tags q
+    → AreLost n p (d ∷ cs) (Some (LinkLost None) ∷ lost_after p s os) []) [
+      | [] ↦ λ e v. absurd (cc)
+      | y ∷ q ↦ λ e v.
+          let e1 : record { tag = n; body = d.body } ≡ y = cc in
+          let e2 : n ≡ y.tag = ap (λ (o : Offered). o.tag) e1 in
+          let e3 : offers_from (n + 1) cs os ≡ q = cc in
+          elim w as (λ w. n ∷ unsettled_from (n + 1) os ≡ w ++ y.tag ∷ tags q → AreLost n p (d ∷ cs) (Some (LinkLost None) ∷ lost_after p s os) []) [
+            | [] ↦ λ v.
+                let v1 : unsettled_from (n + 1) os ≡ tags q = cc in
+                let places = all_unsettled (n + 1) p cs os l (ap tags e3 ∙ sym v1) in
+                lost_one n p d cs (LinkLost None) (lost_after p s os) [] [] false refl (λ u. absurd (cc)) (lost_from (n + 1) p s cs os [] q [] l s_is e3 v1 places) refl
+            | x ∷ w ↦ λ v.
+                let v1 : unsettled_from (n + 1) os ≡ w ++ y.tag ∷ tags q = cc in
+                let k = unsettled_least (n + 1) y.tag os w (tags q) v1 in absurd (omega (arith, e2, k))
+          ] v
+    ] e v)
 lost_from n p s (d ∷ cs) (None ∷ os) (z ∷ a) q w len s_is e v is =
     let l : length os ≡ length cs = omega (arith, len) in
     let e0 : record { tag = n; body = d.body } ≡ z = cc in
     let e1 : offers_from (n + 1) cs os ≡ a ++ q = cc in
     either (λ (x : List (Option Outcome)). AreLost n p (d ∷ cs) x (z ∷ a)) (nat_lt p s) (Some (LinkLost (Some (p + 1))) ∷ lost_after (p + 1) s os) (Some (LinkLost None) ∷ lost_after p s os)
-      (λ _. elim w as (λ w. n ∷ unsettled_from (n + 1) os ≡ w ++ tags q → AreLost n p (d ∷ cs) (Some (LinkLost (Some (p + 1))) ∷ lost_after (p + 1) s os) (z ∷ a)) [
-        | [] ↦ λ v. elim q as (λ q. offers_from (n + 1) cs os ≡ a ++ q → n ∷ unsettled_from (n + 1) os ≡ tags q → AreLost n p (d ∷ cs) (Some (LinkLost (Some (p + 1))) ∷ lost_after (p + 1) s os) (z ∷ a)) [
-          | [] ↦ λ h v. absurd (cc)
-          | y ∷ q ↦ λ h v. let e2 : n ≡ y.tag = cc in let k = offers_least (n + 1) cs os a q y h in absurd (omega (arith, e2, k))
-        ] e1 v
-        | x ∷ w ↦ λ v.
-            let v1 : unsettled_from (n + 1) os ≡ w ++ tags q = cc in
-            lost_one n p d cs (LinkLost (Some (p + 1))) (lost_after (p + 1) s os) a (z ∷ a) true refl (λ u. refl)
-              (lost_from (n + 1) (p + 1) s cs os a q w l (omega (arith, s_is)) e1 v1 is.1) (ap (λ (y : Offered). y ∷ a) e0)
-      ] v)
-      (λ f. let h = ltb-false p s f in absurd (omega (arith, h, s_is)))
+    (λ _. elim w as (λ w. n ∷ unsettled_from (n + 1) os ≡ w ++ tags q → AreLost n p (d ∷ cs) (Some (LinkLost (Some (p + 1))) ∷ lost_after (p + 1) s os) (z ∷ a)) [
+      | [] ↦ λ v. elim q as (λ q. offers_from (n + 1) cs os ≡ a ++ q → n ∷ unsettled_from (n + 1) os ≡ tags q → AreLost n p (d ∷ cs) (Some (LinkLost (Some (p + 1))) ∷ lost_after (p + 1) s os) (z ∷ a)) [
+        | [] ↦ λ h v. absurd (cc)
+        | y ∷ q ↦ λ h v. let e2 : n ≡ y.tag = cc in let k = offers_least (n + 1) cs os a q y h in absurd (omega (arith, e2, k))
+      ] e1 v
+      | x ∷ w ↦ λ v.
+          let v1 : unsettled_from (n + 1) os ≡ w ++ tags q = cc in
+          lost_one n p d cs (LinkLost (Some (p + 1))) (lost_after (p + 1) s os) a (z ∷ a) true refl (λ u. refl)
+          (lost_from (n + 1) (p + 1) s cs os a q w l (omega (arith, s_is)) e1 v1 is.1) (ap (λ (y : Offered). y ∷ a) e0)
+    ] v)
+    (λ f. let h = ltb-false p s f in absurd (omega (arith, h, s_is)))
 
 pub all_lost_agree : (cs : List Claim) (os : List (Option Outcome)) (sent queue : List Offered) (w : List ℕ) → length os ≡ length cs → sent ++ queue ≡ offers_from 0 cs os
     → w ++ tags queue ≡ unsettled_from 0 os → HavePlacesAfter 0 os → AreLost 0 0 cs (lost_after 0 (length sent) os) sent

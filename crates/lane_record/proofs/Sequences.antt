@@ -61,6 +61,7 @@ pub each_then : {A : Type 0} (P Q : List A → A → Type 0) (front xs : List A)
     → ((before : List A) (x : A) (after : List A) → before ++ x ∷ after ≡ front ++ xs → P before x → Q before x)
     → EachBehind P front xs → EachBehind Q front xs
 each_then P Q front [] f is = tt
-each_then P Q front (x ∷ xs) f is =
-    (f front x xs refl is.0,
-     each_then P Q (front ++ x ∷ []) xs (λ before y after e p. f before y after (e ∙ append_assoc front (x ∷ []) xs) p) is.1)
+each_then P Q front (x ∷ xs) f is = (
+  f front x xs refl is.0,
+  each_then P Q (front ++ x ∷ []) xs (λ before y after e p. f before y after (e ∙ append_assoc front (x ∷ []) xs) p) is.1,
+)

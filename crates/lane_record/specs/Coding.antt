@@ -1,10 +1,10 @@
 -- How a record is spelled: an entry is three numbers with a list of numbers as its content, and the head of a lane's
 -- record is a list of numbers. Profile.
-use Rattle.std.specs.Prelude.{ℕ, ◌==◌, if◌then◌else◌, List, [], ◌∷◌, ◌++◌, map, Option, Some, None}
-use Rattle.std.specs.Option.{option_map, option_and_then}
+use Rattle.std.specs.Prelude.{ℕ, ◌==◌, if◌then◌else◌, List, [], ◌∷◌, map, Option, Some, None}
+use Rattle.std.specs.Option.{option_map}
 use Rattle.board_bus.specs.declared.kind.RangeKind.{RangeKind}
 use Rattle.board_bus.specs.declared.kind.RangeKind.TheVariants.{Rw, Ro, Wo, Slow}
-use Rattle.board_bus.specs.Cells.{Cell, CellMap}
+use Rattle.board_bus.specs.Cells.{CellMap}
 use Rattle.turn_pass.specs.declared.chronicle.Entry.{Entry}
 use Rattle.turn_pass.specs.Record.{Recorded, Record}
 use Rattle.lane_record.specs.declared.outcome.Outcome.{Outcome}

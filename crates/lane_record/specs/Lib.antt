@@ -8,3 +8,4 @@ pub mod Bounds
 pub mod Offers
 pub mod NextEntry
 pub mod Coding
+pub mod Examples

@@ -53,7 +53,10 @@ impl What {
             What::Plan { body: _ } => PLAN,
             What::Seal => SEAL,
             What::Ask { give_ups: _ } => ASK,
-            What::Took { outcome: _, give_ups: _ } => TOOK,
+            What::Took {
+                outcome: _,
+                give_ups: _,
+            } => TOOK,
         }
     }
 }

@@ -5,6 +5,7 @@
 //! alone. `laws` says what follows from these definitions.
 #![tactic(auto)]
 
+pub mod examples;
 mod item;
 pub mod laws;
 mod outcome;
