@@ -11,7 +11,9 @@ use Rattle.lane_record.specs.declared.outcome.Outcome.TheVariants.{Replied, Time
 use Rattle.lane_record.specs.declared.item.Item.{Item}
 use Rattle.lane_record.specs.declared.item.What.{What}
 use Rattle.lane_record.specs.declared.item.What.TheVariants.{Plan, Seal, Ask, Took}
-use Rattle.lane_record.specs.Coding.{Head, head_numbers, opening_numbers, cell_numbers, kind_number, recorded, record_of, item_from, content_of, outcome_numbers, outcome_from, what_from, kind_of, item_with}
+use Rattle.lane_record.specs.Coding.{Head, head_numbers, opening_numbers, cell_numbers, kind_number, recorded}
+use Rattle.lane_record.specs.Coding.{record_of, item_from, content_of, outcome_numbers, outcome_from, what_from}
+use Rattle.lane_record.specs.Coding.{kind_of, item_with}
 use Rattle.std.specs.Option.{option_map}
 
 -- ---- entries
@@ -74,7 +76,8 @@ one_opening : (a b : Option CellMap) → opening_numbers a ≡ opening_numbers b
 one_opening None None e = refl
 one_opening None (Some ys) e = absurd (cc)
 one_opening (Some xs) None e = absurd (cc)
-one_opening (Some xs) (Some ys) e = let h : cell_numbers xs ≡ cell_numbers ys = cc in ap (λ (l : CellMap). Some l) (one_map xs ys h)
+one_opening (Some xs) (Some ys) e = let h : cell_numbers xs ≡ cell_numbers ys = cc in ap (λ (l : CellMap). Some l)
+    (one_map xs ys h)
 
 pub one_head : (h g : Head) → head_numbers h ≡ head_numbers g → h ≡ g
 one_head h g e =
@@ -109,5 +112,6 @@ front_of (x ∷ xs) (y ∷ ys) rest e =
     let f = front_of xs ys rest later in
     (f.0, ap (λ (z : Item). z ∷ ys) (one_item y x first) ∙ ap (λ (l : List Item). x ∷ l) f.1)
 
-pub spelled_fronts : (h g : Head) (xs ys : List Item) → Begins (record_of h xs) (record_of g ys) → (g ≡ h) × IsPrefix xs ys
+pub spelled_fronts : (h g : Head) (xs ys : List Item) → Begins (record_of h xs) (record_of g ys)
+    → (g ≡ h) × IsPrefix xs ys
 spelled_fronts h g xs ys is = (one_head g h is.head, front_of xs ys is.entries.0 is.entries.1)

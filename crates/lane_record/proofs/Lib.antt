@@ -6,6 +6,7 @@ pub mod NextEntries
 pub mod Finished
 pub mod Offers
 pub mod Events
+pub mod Hearing
 pub mod Sends
 pub mod Kept
 pub mod Coding
