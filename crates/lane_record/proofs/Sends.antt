@@ -1,4 +1,4 @@
--- Lemmas on what a hub sends: a first send takes the front of the queue to the next place, any other changes flags alone.
+-- Lemmas on what a hub sends: a first send takes the front of the queue to the next place, others change flags alone.
 use Rattle.std.proofs.Common.{◌≡◌, ℕ, ◌+◌, Bool, true, false, ◌||◌, List, [], ◌∷◌, ◌++◌, length, Option, Some, None}
 use Rattle.std.proofs.Common.{refl, sym, ap, ◌∙◌, subst, if◌then◌else◌}
 use Rattle.std.specs.Prelude.{nat_le}
