@@ -10,3 +10,4 @@ mod Merges
 mod Calm
 mod InTurn
 mod Live
+mod Shown

@@ -1,14 +1,14 @@
 -- What a board executed is a merge, at any moment.
 use Rattle.std.proofs.Common.{◌≡◌, ℕ, zero, suc, ◌+◌, ◌-◌, ◌<◌, ◌≤◌, Bool, true, false, cond, ◌==◌, ◌&&◌, List, [], ◌∷◌}
 use Rattle.std.proofs.Common.{◌++◌, length, map, take, drop, Option, Some, None, refl, sym, ap, ◌∙◌, subst, arith}
-use Rattle.std.proofs.Common.{if◌then◌else◌, inl, inr}
+use Rattle.std.proofs.Common.{append-nil, if◌then◌else◌, inl, inr}
 use Rattle.std.specs.Prelude.{is_some}
 use Rattle.std.specs.List.{AllByRecursion, cons_option, filter_map, slice_get}
 use Rattle.std.specs.Option.{option_or}
 use Rattle.std.proofs.lemmas.Bool.{eqb-true, eq-eqb}
 use Rattle.std.proofs.lemmas.Bool.Decides.{nat_tests}
 use Rattle.ipb_base.specs.Lists.{IsPrefix}
-use Rattle.ipb_base.proofs.AllLemmas.{all-map}
+use Rattle.ipb_base.proofs.AllLemmas.{AllByRecursion-append, all-map}
 use Rattle.world_model.proofs.Lists.{either, get_front}
 use Rattle.world_model.specs.declared.offered.Offered.{Offered}
 use Rattle.lane_record.specs.declared.outcome.Outcome.{Outcome}
@@ -25,9 +25,12 @@ use Rattle.board_history.specs.Merges.{IsSubsequence, Owned, bodies_by, bodies_o
 use Rattle.board_history.specs.Merges.{IsMergeOfSome}
 use Rattle.board_history.proofs.Merging.{front_of_merge}
 use Rattle.lane_history.specs.Records.{entries_by, planned_in, bodies_planned, ArePlansOf, IsPartlyPlanned}
+use Rattle.lane_history.specs.Records.{plans_from, opening_from, IsOfClient, IsClientsRecord}
 use Rattle.lane_history.specs.Lanes.{bodies_offered}
 use Rattle.lane_history.proofs.Own.{IsBy, all_by, own_found, own_numbers}
-use Rattle.lane_history.proofs.Opening.{IsAskWithin}
+use Rattle.lane_history.proofs.Rans.{ran_items}
+use Rattle.lane_history.proofs.Lookups.{IsNot, rans_are_no_plans}
+use Rattle.lane_history.proofs.Opening.{ClientRan, AllRan, IsAskWithin, each_ran}
 use Rattle.lane_history.proofs.Steps.{seqs_of, claims_seqs, claims_within, step_planned, all_both}
 
 -- ---- the offers, with their owners
@@ -225,3 +228,58 @@ merge_at bodies items became done legal planned front =
     (subst (IsPrefix done) (sym (owned_same 0 (claims items) became)) front)
     (each_sub 1 bodies items became legal planned.each)
     (all_owned (length bodies) (claims items) became (claims_within (length bodies) items within))
+
+-- ---- the record that clients leave
+
+plans_planned : (client seq : ℕ) (bodies : List (List ℕ)) (rest : List Item)
+    → filter_map planned_in (plans_from client seq bodies ++ rest) ≡ bodies ++ filter_map planned_in rest
+plans_planned client seq [] rest = refl
+plans_planned client seq (b ∷ bs) rest =
+    ap (λ (xs : List (List ℕ)). b ∷ xs) (plans_planned client (seq + 1) bs rest)
+
+none_planned : (xs : List Item) → AllByRecursion (IsNot plan_in) xs → filter_map planned_in xs ≡ []
+none_planned [] all = refl
+none_planned (x ∷ xs) all =
+    ap (λ (o : Option (List ℕ)). cons_option o (filter_map planned_in xs)) all.0 ∙ none_planned xs all.1
+
+client_planned : (client : ℕ) (bodies : List (List ℕ)) (dispatches : List (List Outcome)) (items : List Item)
+    → ClientRan client bodies dispatches items → bodies_planned client items ≡ bodies
+client_planned client bodies dispatches items ran =
+    let runs = ran_items client 0 ran.rans in
+    ap (filter_map planned_in) ran.entries ∙ plans_planned client 0 bodies runs
+    ∙ ap (λ (xs : List (List ℕ)). bodies ++ xs) (none_planned runs (rans_are_no_plans client 0 ran.rans))
+    ∙ append-nil bodies
+
+all_planned : (client : ℕ) (bodies : List (List (List ℕ))) (outcomes : List (List (List Outcome)))
+    (items : List Item) → AllRan client bodies outcomes items → ArePlansOf client bodies items
+all_planned client [] outcomes items all = tt
+all_planned client (bs ∷ later) [] items all = absurd all
+all_planned client (bs ∷ later) (os ∷ others) items all = (
+  ([], sym (client_planned client bs os items all.0) ∙ sym (append-nil (bodies_planned client items))),
+  all_planned (client + 1) later others items all.1,
+)
+
+abbrev pub IsAtMost : ℕ → Item → Type 0
+IsAtMost many x = x.client ≤ many
+
+plans_at_most : (many client seq : ℕ) (bodies : List (List ℕ)) → client ≤ many
+    → AllByRecursion (IsAtMost many) (plans_from client seq bodies)
+plans_at_most many client seq [] le = tt
+plans_at_most many client seq (b ∷ bs) le = (le, plans_at_most many client (seq + 1) bs le)
+
+opening_at_most : (many client : ℕ) (bodies : List (List (List ℕ))) → client + length bodies ≤ many + 1
+    → AllByRecursion (IsAtMost many) (opening_from client bodies)
+opening_at_most many client [] le = (omega arith, tt)
+opening_at_most many client (bs ∷ later) le =
+    AllByRecursion-append (IsAtMost many) (plans_from client 0 bs) (opening_from (client + 1) later)
+    (plans_at_most many client 0 bs (omega (arith, le))) (opening_at_most many (client + 1) later (omega (arith, le)))
+
+pub partly_planned : (bodies : List (List (List ℕ))) (outcomes : List (List (List Outcome))) (items : List Item)
+    → IsClientsRecord bodies outcomes items → IsPartlyPlanned bodies items
+partly_planned bodies outcomes items is = record {
+  each = all_planned 1 bodies outcomes items (each_ran bodies outcomes items is);
+  nobody_else = subst (AllByRecursion (IsAtMost (length bodies))) (sym is.opens)
+      (AllByRecursion-append (IsAtMost (length bodies)) (opening_from 1 bodies) is.past
+      (opening_at_most (length bodies) 1 bodies (omega arith))
+      (all-map (IsOfClient (length bodies)) (IsAtMost (length bodies)) is.past (λ x of. of.1) is.nobody_else));
+}

@@ -45,6 +45,20 @@ sent_places (c ∷ cs) (None ∷ os) = sent_places cs os
 sent_places (c ∷ cs) (Some o ∷ os) =
     one_place c o (place_of o) (sent (steps_of cs os)) (sent_of cs os) (sent_places cs os)
 
+one_body : (c : Claim) (o : Outcome) (place : Option ℕ) (ps : List Placed) (ss : List Sent)
+    → bodies_of ps ≡ first.bodies_sent ss
+    → bodies_of (with_place c.body place ++ ps) ≡ first.bodies_sent (sent_at c o place ++ ss)
+one_body c o None ps ss e = e
+one_body c o (Some place) ps ss e = ap (λ (bs : List (List ℕ)). c.body ∷ bs) e
+
+pub sent_bodies : (cs : List Claim) (os : List (Option Outcome))
+    → bodies_of (sent (steps_of cs os)) ≡ first.bodies_sent (sent_of cs os)
+sent_bodies [] os = refl
+sent_bodies (c ∷ cs) [] = refl
+sent_bodies (c ∷ cs) (None ∷ os) = sent_bodies cs os
+sent_bodies (c ∷ cs) (Some o ∷ os) =
+    one_body c o (place_of o) (sent (steps_of cs os)) (sent_of cs os) (sent_bodies cs os)
+
 pub in_order : (items : List Item) (became : List (Option Outcome)) → IsLegal items became → IsFinished items
     → AreInOrder (steps items)
 in_order items became legal done =

@@ -33,6 +33,13 @@ IsBoardOf (Udp address port wait) (Some board) = ⊥
 abbrev pub IsLostOnlyIfFailed : LinkReport → Outcome → Type 0
 IsLostOnlyIfFailed link outcome = is_lost outcome ≡ true → HasFailed link
 
+-- It tells, lost, delayed and dropped no datagram, and never failed.
+pub record IsCalm (link : LinkReport) : Type 0 where
+  pub there : Board
+  pub tells : link.board ≡ Some there
+  pub held' : link.held ≡ 0
+  pub faults' : link.faults ≡ 0
+
 -- where the link tells, its board executed nothing
 abbrev pub IsUntouched : LinkReport → Type 0
 IsUntouched link = IfSome link.board (λ board. executed board ≡ [])
