@@ -1,28 +1,14 @@
 -- Where nothing was held and nothing failed, every body was replied to.
-use Rattle.std.proofs.Common.{◌≡◌, ℕ, zero, suc, ◌+◌, ◌*◌, ◌-◌, ◌^◌, ◌<◌, ◌≤◌, Bool, true, false, cond, ◌==◌, ◌||◌}
-use Rattle.std.proofs.Common.{List, [], ◌∷◌, ◌++◌, length, map, Option, Some, None, refl, sym, ap, ◌∙◌, subst, arith}
-use Rattle.std.proofs.Common.{if◌then◌else◌, inl, inr}
-use Rattle.std.proofs.lemmas.Bool.{eq-eqb, cases_lt}
-use Rattle.std.specs.List.{AllByRecursion, count_by, flat_map, list_any}
-use Rattle.std.proofs.lemmas.List.{length-map}
-use Rattle.ipb_base.proofs.AllLemmas.{AllByRecursion-append, all-map}
-use Rattle.ipb_base.specs.Lists.{IsPrefix}
-use Rattle.world_model.proofs.Lists.{either}
+use Rattle.std.proofs.Common.{◌≡◌, ℕ, zero, suc, ◌+◌, ◌*◌, ◌≤◌, true, false, cond, ◌||◌}
+use Rattle.std.proofs.Common.{List, [], ◌∷◌, ◌++◌, map, refl, sym, ◌∙◌, arith}
+use Rattle.std.specs.List.{AllByRecursion}
+use Rattle.ipb_base.proofs.AllLemmas.{AllByRecursion-append}
 use Rattle.lane_record.specs.declared.outcome.Outcome.{Outcome}
 use Rattle.lane_record.specs.declared.outcome.Outcome.TheVariants.{Replied, TimedOut, Unsent, LinkLost}
-use Rattle.lane_record.specs.Outcomes.{place_of, is_given_up, is_lost}
-use Rattle.lane_record.specs.Lists.{CountsFrom}
-use Rattle.board_bus.specs.Cells.{CellMap}
-use Rattle.board_bus.specs.Bodies.{replay}
-use Rattle.board_history.specs.Order.{Placed, with_place, places_of, bodies_of}
-use Rattle.board_history.specs.Parts.{IsExecuted, IsReplied, IsReplyOf, AllReplied}
-use Rattle.board_history.specs.Patience.{joined, was_given_up, times_given_up, IsExact, IsPatient}
-use Rattle.board_history.specs.Merges.{Owned, bodies_by, bodies_owned, IsOfClients, AreMerged, IsMergeOfAll}
+use Rattle.lane_record.specs.Outcomes.{is_given_up, is_lost}
+use Rattle.board_history.specs.Parts.{IsReplied, AllReplied}
+use Rattle.board_history.specs.Patience.{joined, was_given_up, times_given_up, IsPatient}
 use Rattle.lane_history.proofs.Waits.{count_cons}
-use Rattle.lane_history.proofs.Steps.{Step, body_in, outcome_in, of, AreStepsOf, AreOf, IsWithin, AreStepsOfAll}
-use Rattle.lane_history.proofs.Steps.{all_both}
-use Rattle.lane_history.proofs.Orders.{sent, AreInOrder}
-use Rattle.lane_history.proofs.Histories.{IsTrueOfSteps, reply_executed}
 
 -- ---- all are replied to
 
@@ -41,9 +27,9 @@ dispatch_calm : (os : List Outcome) → was_given_up os ≡ false → AllByRecur
 dispatch_calm [] g l = tt
 dispatch_calm (o ∷ os) g l = elim (is_given_up o) as
     (λ b. is_given_up o ≡ b → (b || was_given_up os) ≡ false → AllByRecursion IsReplied (o ∷ os)) [
-    | true ↦ λ _ h. absurd cc
-    | false ↦ λ is h. (one_calm o is l.0, dispatch_calm os h l.1)
-  ] refl g
+      | true ↦ λ _ h. absurd cc
+      | false ↦ λ is h. (one_calm o is l.0, dispatch_calm os h l.1)
+    ] refl g
 
 front_not_lost : (os ps : List Outcome) → AllByRecursion IsNotLost (os ++ ps)
     → AllByRecursion IsNotLost os × AllByRecursion IsNotLost ps
@@ -57,10 +43,10 @@ client_calm (os ∷ later) none l =
     let parts = front_not_lost os (joined later) l in
     let count = count_cons was_given_up os later in
     let here : was_given_up os ≡ false = elim (was_given_up os) as
-        (λ b. cond b 1 0 + times_given_up later ≡ 0 → b ≡ false) [
-        | true ↦ λ e. absurd (omega (arith, e))
-        | false ↦ λ _. refl
-      ] (sym count ∙ none) in
+    (λ b. cond b 1 0 + times_given_up later ≡ 0 → b ≡ false) [
+      | true ↦ λ e. absurd (omega (arith, e))
+      | false ↦ λ _. refl
+    ] (sym count ∙ none) in
     let rest : times_given_up later ≡ 0 = omega (arith, count, none) in
     AllByRecursion-append IsReplied os (joined later) (dispatch_calm os here parts.0) (client_calm later rest parts.1)
 

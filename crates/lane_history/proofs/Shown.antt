@@ -1,12 +1,12 @@
 -- What follows from what a run shows.
-use Rattle.std.proofs.Common.{◌≡◌, ℕ, ◌+◌, ◌*◌, ◌≤◌, true, List, [], ◌∷◌, ◌++◌, length, map, Option, Some, None, refl}
+use Rattle.std.proofs.Common.{◌≡◌, ℕ, ◌+◌, ◌≤◌, List, [], ◌∷◌, ◌++◌, map, Option, Some, None, refl}
 use Rattle.std.proofs.Common.{sym, ap, ◌∙◌, subst, arith}
 use Rattle.std.specs.Prelude.{IfSome}
 use Rattle.std.specs.List.{AllByRecursion}
 use Rattle.std.proofs.lemmas.Option.{same_Some}
 use Rattle.ipb_base.specs.Numbers.{payload_of}
 use Rattle.ipb_base.proofs.AllLemmas.{all-map}
-use Rattle.mtu_packer.specs.declared.packing.TheConstants.{MIN_PAYLOAD, MAX_PAYLOAD}
+use Rattle.mtu_packer.specs.declared.packing.TheConstants.{MIN_PAYLOAD}
 use Rattle.board_node.specs.declared.spec.BoardSpec.{BoardSpec}
 use Rattle.board_node.specs.declared.spec.LinkSpec.{LinkSpec}
 use Rattle.board_node.specs.declared.spec.LinkSpec.TheVariants.{Sim, Udp}
@@ -14,7 +14,6 @@ use Rattle.world_model.specs.Board.{Board, executed}
 use Rattle.reliable_engine.specs.Settings.{Limits}
 use Rattle.script_lang.specs.declared.operation.Step.{Step}
 use Rattle.lane_record.specs.declared.outcome.Outcome.{Outcome}
-use Rattle.lane_record.specs.Outcomes.{is_lost}
 use Rattle.lane_record.specs.Lists.{CountsFrom}
 use Rattle.transcript.specs.declared.greeting.Greeting.{Greeting}
 use Rattle.transcript.specs.declared.greeting.Greeting.TheVariants.{Live, Silent, Down}
@@ -22,7 +21,7 @@ use Rattle.transcript.specs.declared.board_run.ClientPart.{ClientPart}
 use Rattle.transcript.specs.declared.board_run.BoardRun.{BoardRun}
 use Rattle.transcript.specs.Plan.{ClientBodies, plans_on, planned_on}
 use Rattle.transcript.specs.Shown.{ArePlanned}
-use Rattle.board_history.specs.Order.{Placed, placed, all_placed, by_place, order, places_of}
+use Rattle.board_history.specs.Order.{Placed, placed, all_placed, by_place, places_of}
 use Rattle.board_history.specs.Parts.{HasOneOrder, AllReplied}
 use Rattle.board_history.specs.InTurn.{AreInTurn}
 use Rattle.board_history.specs.History.{IsOrdered, ShowsHistory, bodies_by_client, outcomes_by_client}
@@ -30,9 +29,9 @@ use Rattle.board_history.specs.History.{dispatches_by_client}
 use Rattle.board_history.specs.Patience.{joined, IsPatient}
 use Rattle.board_history.specs.Merges.{AreSubsequences, IsMergeOfSome, IsMergeOfAll}
 use Rattle.board_history.proofs.Merging.{executed_some, executed_whole, order_whole}
-use Rattle.direct_run.specs.Runs.{greeting_of, opening_of, IsRun, AreRuns}
+use Rattle.direct_run.specs.Runs.{greeting_of, opening_of, AreRuns}
 use Rattle.direct_run.proofs.Shaped.{Standing}
-use Rattle.lane_history.specs.Links.{LinkReport, HasFailed, IsBoardOf, IsCalm, IsLostOnlyIfFailed, IsUntouched}
+use Rattle.lane_history.specs.Links.{LinkReport, IsBoardOf, IsCalm, IsLostOnlyIfFailed, IsUntouched}
 use Rattle.lane_history.specs.Runs.{ShowsScripts, TellsPayload, IsTrueRun, IsLiveRun, IsSilentRun, IsDownRun, IsAsTold}
 use Rattle.lane_history.specs.Runs.{IsRunOver, AreRunsOver, ExecutedSome, AllExecutedSome, IsWholeRun, AreWholeRuns}
 use Rattle.lane_history.proofs.Calm.{all_calm, IsNotLost}
@@ -57,8 +56,7 @@ nothing_planned board told [] (p ∷ parts) none e = absurd cc
 nothing_planned board told (steps ∷ scripts) [] none e = absurd cc
 nothing_planned board told (steps ∷ scripts) (p ∷ parts) none e =
     let head : p.planned ≡ planned_on board told steps = cc in
-    let tail : map (λ (q : ClientPart). q.planned) parts ≡ plans_on board told scripts = cc in
-    (
+    let tail : map (λ (q : ClientPart). q.planned) parts ≡ plans_on board told scripts = cc in (
       ap (λ (b : ClientBodies). b.bodies) head ∙ none steps,
       nothing_planned board told scripts parts none tail,
     )
@@ -175,14 +173,14 @@ untouched_some : (spec : BoardSpec) (board : ℕ) (scripts : List (List Step)) (
 untouched_some spec board scripts link none =
     some_then (λ (b : Board). executed b ≡ []) (λ (b : Board). ExecutedSome spec board scripts (executed b)) link.board
     (λ b e.
-      let packets = some_payload spec.link in
-      record {
-        payload = packets.payload;
-        told = packets.told;
-        merge =
-            let bodies = map (λ (p : ClientBodies). p.bodies) (plans_on board (Live packets.payload) scripts) in
-            subst (IsMergeOfSome bodies) (sym e) (nothing_executed bodies);
-      }) none
+    let packets = some_payload spec.link in
+    record {
+      payload = packets.payload;
+      told = packets.told;
+      merge =
+          let bodies = map (λ (p : ClientBodies). p.bodies) (plans_on board (Live packets.payload) scripts) in
+          subst (IsMergeOfSome bodies) (sym e) (nothing_executed bodies);
+    }) none
 
 executed_as : (settings : Limits) (spec : BoardSpec) (board : ℕ) (scripts : List (List Step)) (run : BoardRun)
     (link : LinkReport) (told : Greeting) → run.greeting ≡ told → ShowsScripts spec board scripts run
@@ -197,8 +195,8 @@ executed_as settings spec board scripts run link (Live payload) greeted shows is
       payload = payload;
       told = is.packets;
       merge = subst (λ (bss : List (List (List ℕ))). IsMergeOfSome bss (executed b)) bodies
-      (executed_some (bodies_by_client run) (outcomes_by_client run) (executed b) shows.shape is.script_order
-        true'.executed_once);
+          (executed_some (bodies_by_client run) (outcomes_by_client run) (executed b) shows.shape is.script_order
+          true'.executed_once);
     }) is.told
 executed_as settings spec board scripts run link Silent greeted shows is =
     untouched_some spec board scripts link is.untouched
@@ -239,29 +237,29 @@ module _ (standing : Standing) where
       → IsRunOver settings spec board scripts run link → IsWholeRun spec run link
   calm_live settings spec board scripts run link payload greeted some calm is =
       let live : IsLiveRun settings spec payload run link =
-          subst (IsAsTold settings spec run link) greeted is.as_told in
+      subst (IsAsTold settings spec run link) greeted is.as_told in
       let true' = at_some (IsTrueRun settings (opening_of spec.link) run link.held) link.board calm.there calm.tells
       live.told in
       let same = run_joined standing spec board scripts run is.scripts' in
       let patient : IsPatient settings.window settings.rounds 0 (dispatches_by_client run) =
-          subst (λ (n : ℕ). IsPatient settings.window settings.rounds n (dispatches_by_client run)) calm.held'
-          true'.held' in
+      subst (λ (n : ℕ). IsPatient settings.window settings.rounds n (dispatches_by_client run)) calm.held'
+      true'.held' in
       let kept : AllByRecursion (AllByRecursion IsNotLost) (map joined (dispatches_by_client run)) =
-          subst (AllByRecursion (AllByRecursion IsNotLost)) (sym same)
-          (not_lost link (outcomes_by_client run) calm.faults' live.lost) in
+      subst (AllByRecursion (AllByRecursion IsNotLost)) (sym same)
+      (not_lost link (outcomes_by_client run) calm.faults' live.lost) in
       let replied : AllReplied (outcomes_by_client run) =
-          subst AllReplied same (all_calm settings.window settings.rounds (dispatches_by_client run) some patient kept) in
+      subst AllReplied same (all_calm settings.window settings.rounds (dispatches_by_client run) some patient kept) in
       let whole : IsMergeOfAll (bodies_by_client run) (executed calm.there) =
-          subst (IsMergeOfAll (bodies_by_client run))
-          (sym (executed_whole (bodies_by_client run) (outcomes_by_client run) (executed calm.there) live.one_order
-            replied true'.executed_once))
-          (order_whole (bodies_by_client run) (outcomes_by_client run) is.scripts'.shape live.script_order replied) in
+      subst (IsMergeOfAll (bodies_by_client run))
+      (sym (executed_whole (bodies_by_client run) (outcomes_by_client run) (executed calm.there) live.one_order
+      replied true'.executed_once))
+      (order_whole (bodies_by_client run) (outcomes_by_client run) is.scripts'.shape live.script_order replied) in
       record {
         greeting = greeted ∙ told_greeting spec.link link.board calm.there payload calm.tells is.board' live.packets;
         replied = replied;
         history = is_history settings spec board scripts run link calm.there payload is greeted calm.tells;
         all_executed = subst (λ (o : Option Board). IfSome o (λ b. IsMergeOfAll (bodies_by_client run) (executed b)))
-        (sym calm.tells) whole;
+            (sym calm.tells) whole;
       }
 
   calm_run : (settings : Limits) (spec : BoardSpec) (board : ℕ) (scripts : List (List Step)) (run : BoardRun)

@@ -24,7 +24,11 @@ HasFailed link = 1 ≤ link.faults
 abbrev pub IsBoardOf : LinkSpec → Option Board → Type 0
 IsBoardOf (Sim mtu buffers first ranges fates) None = ⊥
 IsBoardOf (Sim mtu buffers first ranges fates) (Some board) = board ≡ record {
-  opening = opening_bus ranges; mtu = mtu; buffers = buffers; first = first; log = board.log;
+  opening = opening_bus ranges;
+  mtu = mtu;
+  buffers = buffers;
+  first = first;
+  log = board.log;
 }
 IsBoardOf (Udp address port wait) None = Unit {0}
 IsBoardOf (Udp address port wait) (Some board) = ⊥

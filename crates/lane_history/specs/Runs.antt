@@ -21,7 +21,7 @@ use Rattle.board_history.specs.History.{ShowsHistory, bodies_by_client, outcomes
 use Rattle.board_history.specs.Patience.{IsPatient}
 use Rattle.board_history.specs.Merges.{IsMergeOfSome, IsMergeOfAll}
 use Rattle.direct_run.specs.Runs.{greeting_of, opening_of}
-use Rattle.lane_history.specs.Links.{LinkReport, HasFailed, IsBoardOf, IsCalm, IsLostOnlyIfFailed}
+use Rattle.lane_history.specs.Links.{LinkReport, HasFailed, IsBoardOf, IsLostOnlyIfFailed}
 use Rattle.lane_history.specs.Links.{IsUntouched}
 
 -- ---- what the scripts ask

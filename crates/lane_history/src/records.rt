@@ -21,7 +21,10 @@ ghost use Rattle.board_history.specs.Order.{bodies_of, order};
 ghost use Rattle.board_history.specs.Parts.{HasOneOrder, IsExecutedOnce, KeepsScripts};
 ghost use Rattle.board_history.specs.InTurn.{AreInTurn};
 ghost use Rattle.board_history.specs.History.{
-    IsHistory, bodies_by_client, dispatches_by_client, outcomes_by_client,
+  IsHistory,
+  bodies_by_client,
+  dispatches_by_client,
+  outcomes_by_client,
 };
 ghost use Rattle.board_history.specs.Patience.{IsPatient, joined};
 ghost use Rattle.board_history.specs.Merges.{IsMergeOfSome};
