@@ -10,4 +10,5 @@ mod Merges
 mod Calm
 mod InTurn
 mod Live
+mod Ungarbled
 mod Shown

@@ -2,7 +2,7 @@
 use Rattle.std.proofs.Common.{◌≡◌, ℕ, ◌+◌, ◌≤◌, List, [], ◌∷◌, ◌++◌, map, Option, Some, None, refl}
 use Rattle.std.proofs.Common.{sym, ap, ◌∙◌, subst, arith}
 use Rattle.std.specs.Prelude.{IfSome}
-use Rattle.std.specs.List.{AllByRecursion}
+use Rattle.std.specs.List.{AllByRecursion, zip}
 use Rattle.std.proofs.lemmas.Option.{same_Some}
 use Rattle.ipb_base.specs.Numbers.{payload_of}
 use Rattle.ipb_base.proofs.AllLemmas.{all-map}
@@ -21,6 +21,7 @@ use Rattle.transcript.specs.declared.board_run.ClientPart.{ClientPart}
 use Rattle.transcript.specs.declared.board_run.BoardRun.{BoardRun}
 use Rattle.transcript.specs.Plan.{ClientBodies, plans_on, planned_on}
 use Rattle.transcript.specs.Shown.{ArePlanned}
+use Rattle.transcript.specs.Ends.{end_of, ends_of}
 use Rattle.board_history.specs.Order.{Placed, placed, all_placed, by_place, places_of}
 use Rattle.board_history.specs.Parts.{HasOneOrder, AllReplied}
 use Rattle.board_history.specs.InTurn.{AreInTurn}
@@ -30,10 +31,14 @@ use Rattle.board_history.specs.Patience.{joined, IsPatient}
 use Rattle.board_history.specs.Merges.{AreSubsequences, IsMergeOfSome, IsMergeOfAll}
 use Rattle.board_history.proofs.Merging.{executed_some, executed_whole, order_whole}
 use Rattle.direct_run.specs.Runs.{greeting_of, opening_of, AreRuns}
+use Rattle.direct_run.specs.Answering.{AskRequests, OpensWithWords}
 use Rattle.direct_run.proofs.Shaped.{Standing}
+use Rattle.direct_run.proofs.Answering.{Answering, AnsweringAny, Keeping, KeepingAll, Garbling, Joins}
 use Rattle.lane_history.specs.Links.{LinkReport, IsBoardOf, IsCalm, IsLostOnlyIfFailed, IsUntouched}
 use Rattle.lane_history.specs.Runs.{ShowsScripts, TellsPayload, IsTrueRun, IsLiveRun, IsSilentRun, IsDownRun, IsAsTold}
 use Rattle.lane_history.specs.Runs.{IsRunOver, AreRunsOver, ExecutedSome, AllExecutedSome, IsWholeRun, AreWholeRuns}
+use Rattle.lane_history.specs.Runs.{IsUngarbled, NoneGarbled}
+use Rattle.lane_history.proofs.Ungarbled.{none_garbled}
 use Rattle.lane_history.proofs.Calm.{all_calm, IsNotLost}
 use Rattle.lane_history.proofs.Live.{run_joined}
 
@@ -312,3 +317,41 @@ runs_in_turn settings board (spec ∷ specs) scripts (run ∷ runs) (link ∷ li
   },
   runs_in_turn settings (board + 1) specs scripts runs links is.1 whole.1 turn.1,
 )
+
+-- ---- replies
+
+no_ends : (parts : List ClientPart)
+    → AllByRecursion (λ (bodies : List (List ℕ)). bodies ≡ []) (map (λ (p : ClientPart). p.planned.bodies) parts)
+    → AllByRecursion (λ (part : ClientPart). AllByRecursion IsUngarbled (ends_of part)) parts
+no_ends [] none = tt
+no_ends (p ∷ parts) none = (
+  subst (λ (bodies : List (List ℕ)). AllByRecursion IsUngarbled (map end_of (zip bodies p.outcomes))) (sym none.0) tt,
+  no_ends parts none.1,
+)
+
+nothing_garbled : (spec : BoardSpec) (board : ℕ) (told : Greeting) (scripts : List (List Step)) (run : BoardRun)
+    → run.greeting ≡ told → ((steps : List Step) → (planned_on board told steps).bodies ≡ [])
+    → ShowsScripts spec board scripts run → NoneGarbled run
+nothing_garbled spec board told scripts run greeted none shows = no_ends run.parts
+    (nothing_planned board told scripts run.parts none
+      (shows.plans ∙ ap (λ (g : Greeting). plans_on board g scripts) greeted))
+
+module _ (answering : Answering) (any : AnsweringAny) (keeping : Keeping) (keeping_all : KeepingAll)
+    (garbling : Garbling) (joins : Joins) where
+  ungarbled_as : (settings : Limits) (spec : BoardSpec) (board : ℕ) (scripts : List (List Step)) (run : BoardRun)
+      (link : LinkReport) (there : Board) (told : Greeting) → run.greeting ≡ told
+      → IsRunOver settings spec board scripts run link → link.board ≡ Some there → OpensWithWords spec
+      → AskRequests run → NoneGarbled run
+  ungarbled_as settings spec board scripts run link there (Live payload) greeted is tells opens asks =
+      none_garbled answering any keeping keeping_all garbling joins (opening_of spec.link) run opens asks
+      (is_history settings spec board scripts run link there payload is greeted tells)
+  ungarbled_as settings spec board scripts run link there Silent greeted is tells opens asks =
+      nothing_garbled spec board Silent scripts run greeted (λ steps. refl) is.scripts'
+  ungarbled_as settings spec board scripts run link there Down greeted is tells opens asks =
+      nothing_garbled spec board Down scripts run greeted (λ steps. refl) is.scripts'
+
+  pub ungarbled : (settings : Limits) (spec : BoardSpec) (board : ℕ) (scripts : List (List Step)) (run : BoardRun)
+      (link : LinkReport) (there : Board) → IsRunOver settings spec board scripts run link → link.board ≡ Some there
+      → OpensWithWords spec → AskRequests run → NoneGarbled run
+  ungarbled settings spec board scripts run link there is tells opens asks =
+      ungarbled_as settings spec board scripts run link there run.greeting refl is tells opens asks

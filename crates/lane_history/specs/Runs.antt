@@ -1,5 +1,5 @@
 -- What a run shows of boards whose links may lose, repeat, delay and reorder datagrams, and fail. Profile.
-use Rattle.std.specs.Prelude.{◌≡◌, ℕ, ◌+◌, ◌*◌, ◌≤◌, List, [], ◌∷◌, length, map, IfSome}
+use Rattle.std.specs.Prelude.{◌≡◌, ◌≢◌, ℕ, ◌+◌, ◌*◌, ◌≤◌, List, [], ◌∷◌, length, map, IfSome}
 use Rattle.std.specs.List.{AllByRecursion}
 use Rattle.ipb_base.specs.Numbers.{payload_of}
 use Rattle.mtu_packer.specs.declared.packing.TheConstants.{MIN_PAYLOAD, MAX_PAYLOAD}
@@ -12,7 +12,11 @@ use Rattle.reliable_engine.specs.Settings.{Limits}
 use Rattle.script_lang.specs.declared.operation.Step.{Step}
 use Rattle.transcript.specs.declared.greeting.Greeting.{Greeting}
 use Rattle.transcript.specs.declared.greeting.Greeting.TheVariants.{Live, Silent, Down}
+use Rattle.transcript.specs.declared.body_end.Told.TheVariants.{Garbled}
+use Rattle.transcript.specs.declared.body_end.BodyEnd.{BodyEnd}
+use Rattle.transcript.specs.declared.board_run.ClientPart.{ClientPart}
 use Rattle.transcript.specs.declared.board_run.BoardRun.{BoardRun}
+use Rattle.transcript.specs.Ends.{ends_of}
 use Rattle.transcript.specs.Plan.{ClientBodies, plans_on}
 use Rattle.transcript.specs.Shown.{IsPlanned}
 use Rattle.board_history.specs.Order.{order}
@@ -98,6 +102,16 @@ AreRunsOver settings board [] scripts [] [] = Unit {0}
 AreRunsOver settings board (spec ∷ specs) scripts (run ∷ runs) (link ∷ links) =
     IsRunOver settings spec board scripts run link × AreRunsOver settings (board + 1) specs scripts runs links
 AreRunsOver settings board specs scripts runs links = ⊥
+
+-- ---- replies
+
+-- the words of its reply, where it has one, are a reply to the body
+abbrev pub IsUngarbled : BodyEnd → Type 0
+IsUngarbled end = end.told ≢ Garbled
+
+-- so of no body of the board: each reply answers all transactions of its body
+abbrev pub NoneGarbled : BoardRun → Type 0
+NoneGarbled run = AllByRecursion (λ (part : ClientPart). AllByRecursion IsUngarbled (ends_of part)) run.parts
 
 -- ---- at any moment
 

@@ -14,10 +14,15 @@ ghost use Rattle.transcript.specs.Shown.{HaveOwnNames, ShowsAllPlaces};
 ghost use Rattle.board_history.specs.InTurn.{AreInTurn};
 ghost use Rattle.board_history.specs.History.{ShowsHistory, bodies_by_client, outcomes_by_client};
 ghost use Rattle.direct_run.specs.Runs.{AreRuns, opening_of};
+ghost use Rattle.direct_run.specs.Answering.{AskRequests, OpensWithWords};
 ghost use Rattle.lane_history.specs.Links.{IsCalm, LinkReport};
-ghost use Rattle.lane_history.specs.Runs.{AllExecutedSome, AreRunsOver, AreWholeRuns, IsRunOver};
+ghost use Rattle.lane_history.specs.Runs.{
+    AllExecutedSome, AreRunsOver, AreWholeRuns, IsRunOver, NoneGarbled,
+};
 
+use board_bus::laws::{a_reply_answers_its_body, words_stay_words};
 use board_history::place_laws::lines_show_all_places;
+use reply_join::laws::joining_is_a_function;
 use transcript::laws::bodies_stand_dispatch_by_dispatch;
 
 /// Over a link that tells, what a run shows of a live board is one legal history of it.
@@ -26,6 +31,18 @@ pub fn a_live_board_shows_a_history()
         (link : LinkReport) (there : Board) (payload : ℕ) → IsRunOver settings spec board scripts run link →
         run.greeting ≡ Live payload → link.board ≡ Some there → ShowsHistory (opening_of spec.link) run }
 {}
+
+/// Over a link that tells no reply is garbled: each answers all transactions of its body. The board opens with words of
+/// 32 bits, and the bodies are those of requests.
+pub fn no_reply_is_garbled()
+    ensures { (settings : Limits) (spec : BoardSpec) (board : ℕ) (scripts : List (List Step)) (run : BoardRun)
+        (link : LinkReport) (there : Board) → IsRunOver settings spec board scripts run link →
+        link.board ≡ Some there → OpensWithWords spec → AskRequests run → NoneGarbled run }
+{
+    a_reply_answers_its_body();
+    words_stay_words();
+    joining_is_a_function();
+}
 
 /// The lines of a session show of each board the places 1, 2, .. up to the number of first sends that its line tells,
 /// each in some line, and no other place. A board that is silent or down shows none.
