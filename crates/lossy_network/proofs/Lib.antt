@@ -1,0 +1,4 @@
+mod Noise
+mod Hearing
+mod Takings
+mod Fronts
