@@ -2,3 +2,6 @@ mod Noise
 mod Hearing
 mod Takings
 mod Fronts
+mod Receipts
+mod Calls
+mod Tellings

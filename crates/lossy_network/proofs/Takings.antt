@@ -150,7 +150,7 @@ taken_is_less net after taking is = subst (IsLess (most_takings net)) is (less_o
 
 -- ---- so many takings suffice
 
-still : (k : ℕ) (net : Network) (f : Front) → front net ≡ f → stands f ≡ true → takes k net ≡ net
+pub still : (k : ℕ) (net : Network) (f : Front) → front net ≡ f → stands f ≡ true → takes k net ≡ net
 still zero net f is st = refl
 still (suc k) net Nothing is st = rw is refl
 still (suc k) net (ForHub place bytes) is st = rw is refl

@@ -1,6 +1,6 @@
 //! A simulated link, which loses, repeats and delays datagrams as it is told, and tells all that it carries.
 
-ghost use Rattle.std.specs.Prelude.{◌≡◌, ◌↔◌, ◌≤◌, ℕ, [], length, true, false, Err, Ok, IfOk, OnOk, OnErr};
+ghost use Rattle.std.specs.Prelude.{◌≡◌, ◌↔◌, ◌≤◌, ◌<◌, ◌^◌, ℕ, [], length, true, false, Err, Ok, IfOk, OnOk, OnErr};
 ghost use Rattle.world_model.specs.Board.{executed};
 ghost use Rattle.world_model.specs.Links.{sent_on};
 ghost use Rattle.world_core.specs.declared.link.TheConstants.{MAX_DATAGRAM};
@@ -101,6 +101,21 @@ impl SimLink {
         ensures { result ≡ self.now.quiets }
     {
         self.quiets
+    }
+
+    /// Each count is one of 64 bits. It does nothing when it runs.
+    pub fn counts_fit(&self)
+        ensures calls { self.now.calls < 2 ^ 64 }
+        ensures faults { self.now.faults < 2 ^ 64 }
+        ensures quiets { self.now.quiets < 2 ^ 64 }
+        ensures gots { self.now.gots < 2 ^ 64 }
+        ensures held { self.now.traffic.held < 2 ^ 64 }
+    {
+        fits(self.calls);
+        fits(self.faults);
+        fits(self.quiets);
+        fits(self.gots);
+        fits(self.under_way.held);
     }
 
     /// Sends a datagram of at most 9000 bytes to the board. `Failed` where the call's number was named. It costs the
@@ -233,4 +248,10 @@ impl SimLink {
         self.gots = self.gots.saturating_add(1);
         Ok(Received::Got)
     }
+}
+
+/// A count is one of 64 bits.
+fn fits(count: u64)
+    ensures { count < 2 ^ 64 }
+{
 }

@@ -19,11 +19,13 @@ impl Link for SimLink {
     ghost held = { λ link. link.traffic.held };
 
     fn send(&mut self, bytes: &[u8]) -> Result<(), LinkFault> {
+        self.counts_fit();
         SimLink::send(self, bytes)
     }
 
     fn receive(&mut self, into: &mut Vec<u8>) -> Result<Received, LinkFault> {
         a_receive_goes_step_by_step();
+        self.counts_fit();
         SimLink::receive(self, into)
     }
 }
