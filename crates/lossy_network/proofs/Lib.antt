@@ -5,3 +5,4 @@ mod Fronts
 mod Receipts
 mod Calls
 mod Tellings
+mod Makes

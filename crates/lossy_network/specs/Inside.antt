@@ -13,9 +13,11 @@ use Rattle.world_model.specs.declared.datagram.Direction.TheVariants.{ToBoard, T
 use Rattle.world_core.specs.declared.link.TheConstants.{MAX_DATAGRAM}
 use Rattle.lossy_network.specs.declared.under_way.UnderWay.{UnderWay}
 use Rattle.lossy_network.specs.declared.link.SimLink.TheInside.{Inside}
+use Rattle.lossy_network.specs.declared.sim_rack.SimRack.TheInside.{Inside as RackInside}
 use Rattle.lossy_network.specs.Fates.{generator_of}
 use Rattle.lossy_network.specs.Traffic.{Traffic}
 use Rattle.lossy_network.specs.Network.{Front, Nothing, ForHub, Taken, Network, Taking, front}
+use Rattle.lossy_network.specs.Racks.{RackState}
 
 -- ---- fates
 
@@ -71,3 +73,20 @@ stands (Taken taking after) = false
 abbrev pub IsTaken : Bool → Network → Network → Type 0
 IsTaken true old new = (taking : Taking) × (front old ≡ Taken taking new)
 IsTaken false old new = (stands (front old) ≡ true) × (new ≡ old)
+
+-- ---- the rack
+
+abbrev pub rack_of : RackInside → RackState
+rack_of r = record {
+  fail_makes = r.fail_makes.items;
+  fail_calls = r.fail_calls.items;
+  makes = r.makes;
+  made = r.made;
+  faults = r.faults;
+  kept = r.kept.items;
+}
+
+-- no more links are kept than were made, and there is room for all that were made
+pub record IsRack (r : RackInside) : Type 0 where
+  pub within : length r.kept.items ≤ r.made
+  pub places : r.made ≤ vec_capacity r.kept

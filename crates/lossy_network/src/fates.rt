@@ -42,7 +42,7 @@ pub(crate) fn next_fate(fates: &Fates, noise: &mut Lcg64Xsh32, place: usize) -> 
     ensures drawn { IsDrawn fates.now (place + 1) noise.new }
 {
     match fates {
-        Fates::Text(text) => fate_of_letter(text.as_str().as_bytes(), place),
+        Fates::Text(text) => fate_of_letter(text.as_slice(), place),
         Fates::Noise(_) => fate_of_bits(noise.next_word() % 16),
     }
 }

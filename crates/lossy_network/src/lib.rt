@@ -7,6 +7,7 @@
 mod fates;
 mod link;
 mod rack;
+mod sim_rack;
 mod telling;
 mod under_way;
 
@@ -15,4 +16,5 @@ pub use fates::DatagramFate;
 pub use ipb_base::NoMemory;
 pub use link::SimLink;
 pub use rack::{Rack, RackFault};
+pub use sim_rack::SimRack;
 pub use world_core::{Link, LinkFault, Received};

@@ -251,7 +251,7 @@ impl SimLink {
 }
 
 /// A count is one of 64 bits.
-fn fits(count: u64)
+pub(crate) fn fits(count: u64)
     ensures { count < 2 ^ 64 }
 {
 }
