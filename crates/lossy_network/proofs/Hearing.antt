@@ -96,6 +96,14 @@ air_grows told new r e =
     omega (arith, size, length-append told.air more,
     answer_grows (first_sends told) (hear told.board on.datagram.bytes).answer)
 
+pub air_longer : (told new : Told) (r : Option Datagram) → heard_by told r ≡ Some new
+    → length told.air ≤ length new.air
+air_longer told new r e =
+    let on = heard_on_is told new r e in
+    let more = answered (first_sends told) (hear told.board on.datagram.bytes).answer in
+    let size = ap (λ (t : Told). length t.air) on.heard in
+    omega (arith, size, length-append told.air more)
+
 pub air_short : (told new : Told) (r : Option Datagram)
     → ((datagram : List ℕ) → length (answer_bytes (hear told.board datagram).answer) ≤ MAX_DATAGRAM)
     → AllByRecursion IsShort told.air → heard_by told r ≡ Some new → AllByRecursion IsShort new.air

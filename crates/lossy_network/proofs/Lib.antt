@@ -6,3 +6,4 @@ mod Receipts
 mod Calls
 mod Tellings
 mod Makes
+mod Along

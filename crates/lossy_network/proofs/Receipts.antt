@@ -11,6 +11,7 @@ use Rattle.world_core.specs.declared.link.Received.TheVariants.{Got, Quiet}
 use Rattle.lossy_network.specs.Network.{ForHub, Front, Network, Nothing, Receipt, Taken, Taking, all_taken, called, front}
 use Rattle.lossy_network.specs.Network.{front_of, front_with, handed_out, hub_bytes, quiet_receipt, receipt_at, received}
 use Rattle.lossy_network.specs.Network.{with_queue, without_front}
+use Rattle.lossy_network.specs.Receipts.{GotReceipt, QuietReceipt}
 use Rattle.lossy_network.specs.Inside.{stands}
 use Rattle.lossy_network.proofs.Hearing.{some_if}
 use Rattle.lossy_network.proofs.Takings.{all_stands}
@@ -61,22 +62,6 @@ handed_for told place bytes (Some d) there is = handed_by told place bytes d.byt
 
 -- ---- the two receipts
 
-pub record QuietReceipt (old : Network) : Type 0 where
-  pub is : received old ≡ quiet_receipt (all_taken (called old))
-  pub none : (all_taken (called old)).traffic.queue ≡ []
-
-pub record GotReceipt (old : Network) : Type 0 where
-  pub place : ℕ
-  pub bytes : List ℕ
-  pub rest : List ℕ
-  pub queue : (all_taken (called old)).traffic.queue ≡ place ∷ rest
-  pub there : IsHandedAt (all_taken (called old)).told bytes place
-  pub is : received old ≡ record {
-    answer = Got;
-    bytes = bytes;
-    after = handed_out (with_queue (all_taken (called old)) rest) place;
-  }
-
 got_receipt : (old mid : Network) (place : ℕ) (bytes rest : List ℕ) → mid ≡ all_taken (called old)
     → front mid ≡ ForHub place bytes → mid.traffic.queue ≡ place ∷ rest
     → received old ≡ record { answer = Got; bytes = bytes; after = handed_out (with_queue mid rest) place }
@@ -106,3 +91,22 @@ cases_by old (Taken taking after) is st hub = absurd cc
 pub receipt_cases : (old : Network) → QuietReceipt old ⊎ GotReceipt old
 receipt_cases old = cases_by old (front (all_taken (called old))) refl (all_stands (called old))
     (hub_of (all_taken (called old)) (all_taken (called old)).traffic.queue)
+
+-- the two cannot be taken for one another
+quiet_is_not_got : (old : Network) → QuietReceipt old → Got ≡ (received old).answer → ⊥
+quiet_is_not_got old quiet is = let e = is ∙ ap (λ (r : Receipt). r.answer) quiet.is in absurd cc
+
+got_is_not_quiet : (old : Network) → GotReceipt old → Quiet ≡ (received old).answer → ⊥
+got_is_not_quiet old got is = let e = is ∙ ap (λ (r : Receipt). r.answer) got.is in absurd cc
+
+pub the_got : (old : Network) → Got ≡ (received old).answer → GotReceipt old
+the_got old is = elim (receipt_cases old) [
+  | inl quiet ↦ absurd (quiet_is_not_got old quiet is)
+  | inr got ↦ got
+]
+
+pub the_quiet : (old : Network) → Quiet ≡ (received old).answer → QuietReceipt old
+the_quiet old is = elim (receipt_cases old) [
+  | inl quiet ↦ quiet
+  | inr got ↦ absurd (got_is_not_quiet old got is)
+]

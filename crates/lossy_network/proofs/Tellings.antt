@@ -24,7 +24,8 @@ use Rattle.lossy_network.specs.Network.{fails, front, front_of, front_with, hand
 use Rattle.lossy_network.specs.Network.{Receipt, most_takings, sent, takes, telling_of, with_queue}
 use Rattle.lossy_network.proofs.Takings.{still, takes_one}
 use Rattle.lossy_network.proofs.Calls.{taken_keeps, takes_keep, with_carried}
-use Rattle.lossy_network.proofs.Receipts.{GotReceipt, QuietReceipt, receipt_cases}
+use Rattle.lossy_network.specs.Receipts.{GotReceipt, QuietReceipt}
+use Rattle.lossy_network.proofs.Receipts.{the_got, the_quiet}
 
 -- ---- the steps of a receive, a law of `world_core`
 
@@ -281,25 +282,6 @@ is_quiet steps old new small after_is quiet =
     let one = received_step steps old small in
     subst (λ (n : Network). IsQuiet old.traffic.held n.traffic.held (telling_of old) (telling_of n))
     (sym (after_is ∙ ap (λ (r : Receipt). r.after) quiet.is)) (record { received = one.receives; none_due = quiet.none })
-
--- the two cannot be taken for one another
-quiet_is_not_got : (old : Network) → QuietReceipt old → Got ≡ (received old).answer → ⊥
-quiet_is_not_got old quiet is = let e = is ∙ ap (λ (r : Receipt). r.answer) quiet.is in absurd cc
-
-got_is_not_quiet : (old : Network) → GotReceipt old → Quiet ≡ (received old).answer → ⊥
-got_is_not_quiet old got is = let e = is ∙ ap (λ (r : Receipt). r.answer) got.is in absurd cc
-
-pub the_got : (old : Network) → Got ≡ (received old).answer → GotReceipt old
-the_got old is = elim (receipt_cases old) [
-  | inl quiet ↦ absurd (quiet_is_not_got old quiet is)
-  | inr got ↦ got
-]
-
-pub the_quiet : (old : Network) → Quiet ≡ (received old).answer → QuietReceipt old
-the_quiet old is = elim (receipt_cases old) [
-  | inl quiet ↦ quiet
-  | inr got ↦ absurd (got_is_not_quiet old got is)
-]
 
 -- what a receive of the code says
 pub record IsReceipt (result : Result Received LinkFault) (bytes : List ℕ) (old new : Network) : Type 0 where

@@ -5,6 +5,7 @@
 #![tactic(auto)]
 
 mod fates;
+pub mod laws;
 mod link;
 mod rack;
 mod sim_rack;
