@@ -7,3 +7,5 @@ mod Calls
 mod Tellings
 mod Makes
 mod Along
+mod Copies
+mod Deliveries

@@ -61,7 +61,7 @@ released_weight air place (late ∷ delayed) = weight_split air place late (is_d
 abbrev pub load : List Datagram → Traffic → ℕ
 load air traffic = weight air traffic.queue + weight air (map place_of traffic.delayed)
 
-places-push : (delayed : List Late) (late : Late)
+pub places-push : (delayed : List Late) (late : Late)
     → map place_of (delayed ++ late ∷ []) ≡ map place_of delayed ++ late.place ∷ []
 places-push [] late = refl
 places-push (x ∷ delayed) late = ap (λ (xs : List ℕ). x.place ∷ xs) (places-push delayed late)
