@@ -9,3 +9,5 @@ mod Makes
 mod Along
 mod Copies
 mod Deliveries
+mod Numbers
+mod Delays

@@ -39,6 +39,11 @@ abbrev pub after_calls : Network → List Call → Network
 after_calls net [] = net
 after_calls net (call ∷ calls) = after_calls (after_call net call) calls
 
+-- how many of the calls fail
+abbrev pub failures : Network → List Call → ℕ
+failures net [] = 0
+failures net (call ∷ calls) = (if fails net then 1 else 0) + failures (after_call net call) calls
+
 -- ---- what was taken from the queue, in order
 
 abbrev pub takings_on : (Network → List Taking) → Front → List Taking

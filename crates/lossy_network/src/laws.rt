@@ -2,7 +2,7 @@
 //! is proved. What a call does is what `SimLink::send` and `SimLink::receive` do.
 
 ghost use Rattle.std.specs.Prelude.{◌≡◌, ◌+◌, ◌-◌, ◌^◌, ◌==◌, ◌++◌, ◌<◌, ◌≤◌, ℕ, true, List, length, map, min};
-ghost use Rattle.std.specs.List.{list_all, range_with_len};
+ghost use Rattle.std.specs.List.{list_all, list_any, range_with_len};
 ghost use Rattle.board_node.specs.declared.spec.Fates.{Fates};
 ghost use Rattle.board_node.specs.declared.spec.Fates.TheVariants.{Text};
 ghost use Rattle.world_model.specs.Air.{LIFETIME as most_further_sends};
@@ -11,10 +11,10 @@ ghost use Rattle.world_model.specs.Links.{first_sends};
 ghost use Rattle.world_core.specs.declared.link.Received.TheVariants.{Got, Quiet};
 ghost use Rattle.lossy_network.specs.declared.fates.DatagramFate.TheVariants.{Delivered};
 ghost use Rattle.lossy_network.specs.Fates.{fate_at};
-ghost use Rattle.lossy_network.specs.Network.{Network, new_network, received};
+ghost use Rattle.lossy_network.specs.Network.{Network, fails, new_network, received};
 ghost use Rattle.lossy_network.specs.Receipts.{GotReceipt, QuietReceipt};
 ghost use Rattle.lossy_network.specs.Calls.{Call, after_calls, all_takings, copies, drops, held_of, place_taken};
-ghost use Rattle.lossy_network.specs.Calls.{times_of};
+ghost use Rattle.lossy_network.specs.Calls.{failures, times_of};
 
 use world_model::laws::links::a_link_forgets_nothing;
 
@@ -69,3 +69,20 @@ pub fn where_every_fate_delivers_all_are_taken_in_order()
 {
     a_link_forgets_nothing();
 }
+
+/// Calls are counted from 1, and a call fails exactly where its number was named. As many faults are counted as calls
+/// failed, up to 2^64 - 1.
+pub fn the_named_calls_fail_and_no_others()
+    ensures named { (board : Board) (fates : Fates) (fail : List ℕ) (calls : List Call) → length calls + 1 < 2 ^ 64
+        → fails (after_calls (new_network board fates fail) calls)
+        ≡ list_any (λ number. number == length calls + 1) fail }
+    ensures counted { (board : Board) (fates : Fates) (fail : List ℕ) (calls : List Call)
+        → (after_calls (new_network board fates fail) calls).faults
+        ≡ min (failures (new_network board fates fail) calls) (2 ^ 64 - 1) }
+{}
+
+/// No more than nine datagrams are delayed at once, however long a link has run.
+pub fn no_more_than_nine_are_delayed()
+    ensures { (board : Board) (fates : Fates) (fail : List ℕ) (calls : List Call)
+        → length (after_calls (new_network board fates fail) calls).traffic.delayed ≤ 9 }
+{}
