@@ -11,3 +11,4 @@ mod Copies
 mod Deliveries
 mod Numbers
 mod Delays
+mod Reached

@@ -1,21 +1,25 @@
 //! Laws of a simulated link, for every list of calls. These functions do nothing when they run: their clauses are what
 //! is proved. What a call does is what `SimLink::send` and `SimLink::receive` do.
 
-ghost use Rattle.std.specs.Prelude.{◌≡◌, ◌+◌, ◌-◌, ◌^◌, ◌==◌, ◌++◌, ◌<◌, ◌≤◌, ℕ, true, List, length, map, min};
-ghost use Rattle.std.specs.List.{list_all, list_any, range_with_len};
+ghost use Rattle.std.specs.Prelude.{◌≡◌, ◌+◌, ◌-◌, ◌^◌, ◌==◌, ◌++◌, ◌<◌, ◌≤◌, ℕ, true, List, [], length, map, min, Some};
+ghost use Rattle.std.specs.List.{AllByRecursion, list_all, list_any, range_with_len};
 ghost use Rattle.board_node.specs.declared.spec.Fates.{Fates};
 ghost use Rattle.board_node.specs.declared.spec.Fates.TheVariants.{Text};
 ghost use Rattle.world_model.specs.Air.{LIFETIME as most_further_sends};
 ghost use Rattle.world_model.specs.Board.{Board};
+ghost use Rattle.world_model.specs.Facts.{IsStart};
 ghost use Rattle.world_model.specs.Links.{first_sends};
+ghost use Rattle.world_model.specs.World.{start};
+ghost use Rattle.world_core.specs.States.{IsReached};
 ghost use Rattle.world_core.specs.declared.link.Received.TheVariants.{Got, Quiet};
 ghost use Rattle.lossy_network.specs.declared.fates.DatagramFate.TheVariants.{Delivered};
 ghost use Rattle.lossy_network.specs.Fates.{fate_at};
 ghost use Rattle.lossy_network.specs.Network.{Network, fails, new_network, received};
 ghost use Rattle.lossy_network.specs.Receipts.{GotReceipt, QuietReceipt};
 ghost use Rattle.lossy_network.specs.Calls.{Call, after_calls, all_takings, copies, drops, held_of, place_taken};
-ghost use Rattle.lossy_network.specs.Calls.{failures, times_of};
+ghost use Rattle.lossy_network.specs.Calls.{Deed, Ends, IsDeed, after_deeds, failures, new_ends, times_of};
 
+use world_core::laws::each_event_leads_to_a_state_of_a_run;
 use world_model::laws::links::a_link_forgets_nothing;
 
 /// A receive takes datagrams from the front of the queue until one for the hub stands there, which it hands out, or
@@ -86,3 +90,15 @@ pub fn no_more_than_nine_are_delayed()
     ensures { (board : Board) (fates : Fates) (fail : List ℕ) (calls : List Call)
         → length (after_calls (new_network board fates fail) calls).traffic.delayed ≤ 9 }
 {}
+
+/// A hub over a simulated link begins where a run of the world begins, and whatever it does leads to a state of one: it
+/// takes an offer, sends what it wants to send, receives when nothing is left to send, is told that memory ran out in a
+/// receive, and hands out fates. So the air is that of a run, and the board's executed bodies are.
+pub fn a_hub_over_a_simulated_link_goes_as_a_run()
+    ensures { (window rounds : ℕ) (board : Board) (fates : Fates) (fail : List ℕ) (deeds : List Deed) (after : Ends)
+        → IsStart window board [] → AllByRecursion IsDeed deeds
+        → after_deeds (new_ends window rounds (new_network board fates fail)) deeds ≡ Some after
+        → IsReached (start window rounds board []) after.fates after.hub after.net.told }
+{
+    each_event_leads_to_a_state_of_a_run();
+}
