@@ -1,6 +1,6 @@
 -- How often a datagram is taken, waits or is delayed, and how many were held, as their fates say.
-use Rattle.std.proofs.Common.{◌≡◌, ◌⊎◌, inl, inr, ◌∙◌, ℕ, zero, suc, ◌+◌, ◌-◌, ◌^◌, ◌<◌, ◌≤◌, ◌==◌, Bool, true, false, not}
-use Rattle.std.proofs.Common.{cond, List, [], ◌∷◌, ◌++◌, length, map, min, nat_lt, nat_eq, refl, sym, ap, subst, arith}
+use Rattle.std.proofs.Common.{◌≡◌, ◌⊎◌, inl, inr, ◌∙◌, ℕ, suc, ◌+◌, ◌-◌, ◌^◌, ◌<◌, ◌≤◌, ◌==◌, Bool, true, false, not}
+use Rattle.std.proofs.Common.{cond, List, [], ◌∷◌, ◌++◌, length, map, min, nat_lt, nat_eq, refl, sym, ap, arith}
 use Rattle.std.proofs.Common.{length-append}
 use Rattle.std.specs.List.{filter}
 use Rattle.std.proofs.lemmas.List.{map-append}
@@ -16,7 +16,7 @@ use Rattle.lossy_network.specs.declared.fates.DatagramFate.TheVariants.{Delivere
 use Rattle.lossy_network.specs.declared.under_way.Late.{Late}
 use Rattle.lossy_network.specs.Fates.{fate_at}
 use Rattle.lossy_network.specs.Traffic.{Traffic, due_at, is_due, meets, place_of, put_on, still_late}
-use Rattle.lossy_network.specs.Network.{ByBoard, ByHub, Dropped, Network, Taking, new_network}
+use Rattle.lossy_network.specs.Network.{ByBoard, ByHub, Dropped, Taking, new_network}
 use Rattle.lossy_network.specs.Calls.{Call, after_calls, all_takings, copies, drops, held_of, holds, place_taken, times_of}
 use Rattle.lossy_network.proofs.Takings.{places-push}
 use Rattle.lossy_network.proofs.Along.{IsKept, calls_kept}
@@ -50,8 +50,11 @@ met_times n Repeated place traffic =
     omega (arith, times-append n traffic.queue (place ∷ place ∷ []), two_copies (place == n))
 met_times n (Delayed by) place traffic =
     let late : Late = record { place = place; by = by } in
-    omega (arith, ap (times n) (places-push traffic.delayed late),
-    times-append n (map place_of traffic.delayed) (place ∷ []))
+    omega (
+      arith,
+      ap (times n) (places-push traffic.delayed late),
+      times-append n (map place_of traffic.delayed) (place ∷ []),
+    )
 
 times_split : (n : ℕ) (late : Late) (b : Bool) (due still : List Late)
     → times n (map place_of (cond b (late ∷ due) due)) + times n (map place_of (cond (not b) (late ∷ still) still))
@@ -71,8 +74,12 @@ put_times : (n : ℕ) (fate : DatagramFate) (place : ℕ) (traffic : Traffic)
     → times_in n (put_on fate place traffic) ≡ times_in n traffic + if_same place n (copies fate)
 put_times n fate place traffic =
     let met = meets fate place traffic in
-    omega (arith, met_times n fate place traffic, released_times n place met.delayed,
-    times-append n met.queue (due_at place met.delayed))
+    omega (
+      arith,
+      met_times n fate place traffic,
+      released_times n place met.delayed,
+      times-append n met.queue (due_at place met.delayed),
+    )
 
 -- one more datagram was sent
 below_by : (fates : Fates) (count n : ℕ) → (n < count) ⊎ (count ≤ n)
@@ -126,8 +133,14 @@ copies_kept fates = record {
       omega (arith, are n, same, times_taken n ts (ByBoard place), times_queue n place rest traffic.queue queue);
   answers = λ told new traffic ts place rest queue by_board size are. λ n.
       let more = ap (λ (k : ℕ). copies_below fates k n) size ∙ below_more fates (length told.air) n in
-      omega (arith, are n, more, times_taken n ts (ByBoard place), times_queue n place rest traffic.queue queue,
-      put_times n (fate_at fates (length told.air)) (length told.air) (record traffic { queue = rest }));
+      omega (
+        arith,
+        are n,
+        more,
+        times_taken n ts (ByBoard place),
+        times_queue n place rest traffic.queue queue,
+        put_times n (fate_at fates (length told.air)) (length told.air) (record traffic { queue = rest }),
+      );
   hands = λ told traffic ts place rest queue are. λ n.
       omega (arith, are n, times_taken n ts (ByHub place), times_queue n place rest traffic.queue queue);
 }

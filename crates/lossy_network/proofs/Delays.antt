@@ -1,21 +1,20 @@
 -- No more datagrams are delayed at once than the longest delay.
-use Rattle.std.proofs.Common.{◌≡◌, ◌∙◌, ℕ, zero, suc, ◌+◌, ◌-◌, ◌%◌, ◌<◌, ◌≤◌, ◌==◌, Bool, true, false, not, cond, List}
-use Rattle.std.proofs.Common.{[], ◌∷◌, ◌++◌, length, map, nat_lt, Option, Some, None, refl, sym, ap, subst, arith}
+use Rattle.std.proofs.Common.{◌≡◌, ℕ, ◌+◌, ◌-◌, ◌%◌, ◌<◌, ◌≤◌, ◌==◌, Bool, true, false, not, cond, List}
+use Rattle.std.proofs.Common.{[], ◌∷◌, ◌++◌, length, nat_lt, Option, Some, None, refl, sym, subst, arith}
 use Rattle.std.specs.Prelude.{nat_le, ◌&&◌}
-use Rattle.std.specs.List.{AllByRecursion, filter, slice_get}
+use Rattle.std.specs.List.{slice_get}
 use Rattle.std.proofs.lemmas.Bool.Decides.{nat_tests}
-use Rattle.ipb_base.proofs.AllLemmas.{AllByRecursion-append}
 use Rattle.board_node.specs.declared.spec.Fates.{Fates}
 use Rattle.board_node.specs.declared.spec.Fates.TheVariants.{Text, Noise}
 use Rattle.world_model.specs.Board.{Board}
-use Rattle.world_model.specs.Links.{Told, sent_on}
+use Rattle.world_model.specs.Links.{Told}
 use Rattle.lossy_network.specs.declared.fates.DatagramFate.{DatagramFate}
 use Rattle.lossy_network.specs.declared.fates.DatagramFate.TheVariants.{Delivered, Lost, Repeated, Delayed}
 use Rattle.lossy_network.specs.declared.under_way.Late.{Late}
 use Rattle.lossy_network.specs.Fates.{fate_at, fate_of_bits, fate_of_character, fate_of_letter, fate_of_word, words_of}
-use Rattle.lossy_network.specs.Traffic.{Traffic, is_due, meets, put_on, still_late}
-use Rattle.lossy_network.specs.Network.{Network, Taking, new_network}
-use Rattle.lossy_network.specs.Calls.{Call, after_calls, all_takings}
+use Rattle.lossy_network.specs.Traffic.{Traffic, is_due, put_on, still_late}
+use Rattle.lossy_network.specs.Network.{Taking, new_network}
+use Rattle.lossy_network.specs.Calls.{Call, after_calls}
 use Rattle.lossy_network.proofs.Along.{IsKept, calls_kept}
 use Rattle.lossy_network.proofs.Copies.{one_longer}
 

@@ -1,27 +1,26 @@
 -- Where every fate delivers, datagrams are taken in the order of sending, each once.
-use Rattle.std.proofs.Common.{◌≡◌, ◌∙◌, ℕ, zero, suc, ◌+◌, ◌-◌, ◌<◌, ◌≤◌, ◌==◌, Bool, true, false, cond, List, [], ◌∷◌}
-use Rattle.std.proofs.Common.{◌++◌, length, map, Some, None, refl, sym, ap, subst, arith, append_assoc, length-append}
-use Rattle.std.specs.Prelude.{nat_le, ◌&&◌, Option}
+use Rattle.std.proofs.Common.{◌≡◌, ◌∙◌, ℕ, zero, suc, ◌+◌, ◌<◌, ◌≤◌, ◌==◌, Bool, true, false, cond, List, [], ◌∷◌}
+use Rattle.std.proofs.Common.{◌++◌, length, map, Some, None, refl, sym, ap, subst, arith, append_assoc}
+use Rattle.std.specs.Prelude.{◌&&◌, Option}
 use Rattle.std.specs.List.{AllByRecursion, list_all, range_with_len, slice_get}
 use Rattle.std.proofs.lemmas.List.{append-nil, map-append}
 use Rattle.std.proofs.lemmas.Bool.Decides.{nat_tests}
 use Rattle.ipb_base.proofs.AllLemmas.{back_of_all}
 use Rattle.board_node.specs.declared.spec.Fates.{Fates}
-use Rattle.board_node.specs.declared.spec.Fates.TheVariants.{Text}
 use Rattle.world_model.specs.declared.datagram.Datagram.{Datagram}
 use Rattle.world_model.specs.declared.datagram.Direction.{Direction}
 use Rattle.world_model.specs.declared.datagram.Direction.TheVariants.{ToBoard, ToHub}
 use Rattle.world_model.specs.Air.{LIFETIME, is_alive}
 use Rattle.world_model.specs.Board.{Board, hear}
 use Rattle.world_model.specs.World.{answered}
-use Rattle.world_model.specs.Links.{IsHeard, Told, first_sends, first_sends_from, heard_by, heard_on, is_first_send}
+use Rattle.world_model.specs.Links.{IsHeard, Told, first_sends, first_sends_from, heard_by, is_first_send}
 use Rattle.world_model.specs.Links.{sent_on, then_told}
 use Rattle.lossy_network.specs.declared.fates.DatagramFate.{DatagramFate}
 use Rattle.lossy_network.specs.declared.fates.DatagramFate.TheVariants.{Delivered}
 use Rattle.lossy_network.specs.declared.under_way.Late.{Late}
 use Rattle.lossy_network.specs.Fates.{fate_at, fate_of_letter}
 use Rattle.lossy_network.specs.Traffic.{Traffic, due_at, put_on, still_late}
-use Rattle.lossy_network.specs.Network.{ByBoard, ByHub, Dropped, Network, Taking, hub_bytes, new_network}
+use Rattle.lossy_network.specs.Network.{ByBoard, ByHub, Dropped, Taking, hub_bytes, new_network}
 use Rattle.lossy_network.specs.Calls.{Call, after_calls, all_takings, drops, place_taken}
 use Rattle.lossy_network.proofs.Hearing.{heard_on_is}
 use Rattle.lossy_network.proofs.Along.{IsKept, calls_kept}
@@ -149,7 +148,6 @@ taken_place ts taking rest queue is = ap (λ (xs : List ℕ). xs ++ rest) (map-a
     ∙ ap (λ (xs : List ℕ). map place_taken ts ++ xs) (sym is))
 
 module _ (fates : Fates) (all : (place : ℕ) → fate_at fates place ≡ Delivered) (keeps : KeepsFirst) where
-
   -- one more was sent
   put_in_order : (told new : Told) (traffic : Traffic) (ts : List Taking) → length new.air ≡ length told.air + 1
       → map place_taken ts ++ traffic.queue ≡ range_with_len 0 (length told.air) → traffic.delayed ≡ []

@@ -1,5 +1,5 @@
 -- Why a rack makes no link.
-use Rattle.std.proofs.Common.{◌≡◌, ℕ, ◌+◌, ◌<◌, ◌≤◌, ◌^◌, Bool, true, false, List, length, Result, Ok, Err, refl}
+use Rattle.std.proofs.Common.{◌≡◌, ℕ, ◌<◌, ◌≤◌, ◌^◌, Bool, true, false, List, Result, Ok, Err, refl}
 use Rattle.std.proofs.Common.{arith}
 use Rattle.board_bus.specs.declared.range.Range.{Range}
 use Rattle.board_node.specs.declared.spec.Fates.{Fates}

@@ -1,6 +1,6 @@
 -- Calls are counted, and those that fail are those whose numbers are named.
-use Rattle.std.proofs.Common.{◌≡◌, ◌∙◌, inl, inr, ℕ, ◌+◌, ◌-◌, ◌^◌, ◌<◌, ◌≤◌, ◌==◌, Bool, true, false, cond, List, []}
-use Rattle.std.proofs.Common.{◌∷◌, length, min, refl, sym, ap, arith}
+use Rattle.std.proofs.Common.{◌≡◌, ◌∙◌, inl, inr, ℕ, ◌+◌, ◌-◌, ◌^◌, ◌<◌, ◌==◌, Bool, true, false, cond, List, []}
+use Rattle.std.proofs.Common.{◌∷◌, length, min, refl, ap, arith}
 use Rattle.std.specs.List.{list_any}
 use Rattle.ipb_base.specs.Faults.{one_more}
 use Rattle.board_node.specs.declared.spec.Fates.{Fates}

@@ -1,13 +1,13 @@
 -- A hub over a simulated link goes from one state of a run to another.
-use Rattle.std.proofs.Common.{◌≡◌, ◌⊎◌, inl, inr, ◌∙◌, ℕ, zero, suc, Bool, true, false, not, cond, List, [], ◌∷◌, ◌++◌}
+use Rattle.std.proofs.Common.{◌≡◌, ◌⊎◌, inl, inr, ◌∙◌, ℕ, zero, suc, Bool, true, false, cond, List, [], ◌∷◌, ◌++◌}
 use Rattle.std.proofs.Common.{Option, Some, None, refl, sym, ap, subst}
 use Rattle.std.specs.Prelude.{◌&&◌}
-use Rattle.std.specs.List.{AllByRecursion, slice_get}
+use Rattle.std.specs.List.{AllByRecursion}
 use Rattle.world_model.specs.declared.offered.Fate.{Fate}
 use Rattle.world_model.specs.declared.offered.Offered.{Offered}
 use Rattle.world_model.specs.Facts.{IsSendable}
 use Rattle.world_model.specs.Hub.{Hub, hear_quiet, is_waiting, offer, take_message}
-use Rattle.world_model.specs.Links.{IsHanded, IsHeard, Told, heard_by, hears_all, sent_on, then_told}
+use Rattle.world_model.specs.Links.{IsHanded, IsHeard, Told, hears_all, sent_on, then_told}
 use Rattle.world_model.specs.Messages.{to_hub}
 use Rattle.world_model.specs.Sends.{Next, bytes_to_send, next_send}
 use Rattle.world_model.specs.World.{World}
@@ -15,8 +15,7 @@ use Rattle.world_core.specs.States.{IsReached}
 use Rattle.world_core.specs.declared.link.Received.{Received}
 use Rattle.world_core.specs.declared.link.Received.TheVariants.{Got, Quiet}
 use Rattle.lossy_network.specs.Network.{ForHub, Front, Network, Nothing, Receipt, Taken, Taking, all_taken, called, fails}
-use Rattle.lossy_network.specs.Network.{front, most_takings, received, sent, takes}
-use Rattle.lossy_network.specs.Receipts.{GotReceipt, QuietReceipt}
+use Rattle.lossy_network.specs.Network.{front, most_takings, received, takes}
 use Rattle.lossy_network.specs.Calls.{CannotReceive, Deed, Ends, HandsOut, IsDeed, Offers, Receives, Sends, after_deed}
 use Rattle.lossy_network.specs.Calls.{after_deeds, deeds_on, hears_answer, is_silent, is_told, may_receive, sends_on}
 use Rattle.lossy_network.proofs.Takings.{still, takes_one}
@@ -105,7 +104,6 @@ abbrev pub IsThere : World → Ends → Type 0
 IsThere begin ends = IsReached begin ends.fates ends.hub ends.net.told
 
 module _ (begin : World) (events : RunEvents begin) where
-
   sends_there : (ends after : Ends) (r : Option Next) → next_send ends.hub ≡ r → IsThere begin ends
       → sends_on ends r ≡ Some after → IsThere begin after
   sends_there ends after None is here done = absurd cc
