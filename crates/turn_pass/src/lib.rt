@@ -7,6 +7,7 @@
 #![tactic(auto)]
 
 mod chronicle;
+pub mod laws;
 mod pass;
 mod plays;
 mod turn;

@@ -1,6 +1,8 @@
 use Rattle.std.proofs.Common.{◌≡◌, ℕ, [], ◌∷◌, ap, refl, sym, ◌∙◌, Some, None, arith}
 use mathlib.Core.Option.{none}
 use Rattle.atomic_table.specs.Table.{rest, step}
+use Rattle.turn_pass.specs.Pass.{Knowledge}
+use Rattle.turn_pass.specs.Record.{Record}
 use Rattle.turn_pass.specs.Rule.Stage.{Took}
 use Rattle.turn_pass.specs.Steps.{view_at}
 use Rattle.turn_pass.proofs.Steps.{exchanges, loads}
@@ -22,10 +24,10 @@ exchange-value-requires g c =
 pub load-requires : goal.load-requires
 load-requires g c =
     let took = c.swap.ensures.2.0 c.if-swap-ne0.false in
-    let now = c.exchange-value.ensures.3 in
-    let k = c.args.seat.now.me.0.knows in
-    let r = g.V.Chronicle.entries took.0 in (
+    let k : Knowledge = c.args.seat.now.me.0.knows in
+    let r : Record = g.V.Chronicle.entries took.0 in
+    let carried : c.exchange-value.new.seat.me ≡ (view_at (Took r) k, (0, None) ∷ []) = c.exchange-value.ensures.3 ∙ ap (λ m. (m.0, (0, None) ∷ rest m.1)) took.1 in (
       c.exchange-value.ensures.0 ∙ (c.swap.ensures.0 ∙ c.requires.table.0),
       omega (arith, c.requires.table.1),
-      loads g.V.Chronicle.entries _ _ _ _ (step 0 0 0 0 none) k r (now ∙ (λ i. ((took.1 i).0, (0, None) ∷ rest (took.1 i).1))),
+      loads g.V.Chronicle.entries _ _ _ _ (step 0 0 0 0 none) k r carried,
     )
