@@ -1,5 +1,5 @@
 -- What stays true of a turn where one pass changes.
-use Rattle.std.proofs.Common.{◌≡◌, ◌≢◌, ◌⊎◌, ⊎_elim, ℕ, ◌<◌, ◌≤◌, zero, suc, true, false, List, [], ◌∷◌, ◌++◌, length, set, Option, refl, sym, ap, subst, ◌∙◌, arith, length-set, true≢false}
+use Rattle.std.proofs.Common.{◌≡◌, ◌≢◌, ⊎_elim, ℕ, ◌<◌, ◌≤◌, zero, suc, true, false, List, [], ◌∷◌, length, set, Option, refl, sym, ap, subst, ◌∙◌, arith, length-set, true≢false}
 use Rattle.std.specs.List.{AllByRecursion}
 use mathlib.Core.Option.{none, some, some-injective, some-ne-none}
 use mathlib.Core.Option as maybe
@@ -9,12 +9,11 @@ use lib.ListN.{get_elem?}
 use Rattle.ipb_base.proofs.AllLemmas.{all-map}
 use Rattle.atomic_table.specs.Table.{State}
 use Rattle.atomic_table.proofs.Lists.{at_set, set_here, set_else}
-use Rattle.turn_pass.specs.Record.{Recorded, Record, Begins, made_by, past}
+use Rattle.turn_pass.specs.Record.{Record, Begins, made_by, past}
 use Rattle.turn_pass.specs.Pass.{Joined, Knowledge, Stands, Told}
-use Rattle.turn_pass.specs.Rule.{Stage, View, IsPass, SlotHas, words_at, OneHolds, WordCounts, AllBegin, StaysJoined, Owns, OwnEntries, Turning}
-use Rattle.turn_pass.specs.Rule.Stage.{Idle, Took, Has, Stores}
-use Rattle.turn_pass.specs.Steps.{view_at}
-use Rattle.turn_pass.proofs.Records.{begins_self, begins_on}
+use Rattle.turn_pass.specs.Rule.{Stage, View, IsPass, SlotHas, words_at, OneHolds, AllBegin, StaysJoined, Owns, OwnEntries, Turning}
+use Rattle.turn_pass.specs.Rule.Stage.{Idle}
+use Rattle.turn_pass.proofs.Records.{begins_on}
 
 pub place_inside : {A : Type 0} (l : List A) (i : ℕ) (a : A) → get_elem? l i ≡ some a → i < length l
 place_inside [] i a e = absurd (some-ne-none a (sym e))

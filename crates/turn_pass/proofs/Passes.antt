@@ -1,5 +1,5 @@
 -- The view of a pass that holds nothing.
-use Rattle.std.proofs.Common.{◌≡◌, Bool, false, List, [], ◌∷◌, ap, sym, subst, ◌∙◌}
+use Rattle.std.proofs.Common.{◌≡◌, false, List, [], ◌∷◌, ap, sym, ◌∙◌}
 use Rattle.turn_pass.specs.PassInside.{has_value, view_of}
 use Rattle.turn_pass.specs.Rule.{View}
 use Rattle.turn_pass.specs.Rule.Stage.{Idle}

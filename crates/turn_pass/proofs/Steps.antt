@@ -1,20 +1,19 @@
 -- Each kind of step keeps the rule.
 use Rattle.std.proofs.Common.{◌≡◌, ◌≢◌, ◌⊎◌, ⊎_elim, ℕ, ◌<◌, ◌≤◌, ◌+◌, zero, suc, nat_lt, Bool, true, false, if◌then◌else◌, List, [], ◌∷◌, ◌++◌, length, set, slice_index, drop, Option, Some, None, inl, inr, refl, sym, ap, subst, ◌∙◌, arith, length-set, length-append, true≢false}
-use Rattle.std.specs.List.{AllByRecursion}
 use Rattle.std.proofs.Math.Seq.{drop-append_seam}
 use mathlib.Core.Option.{none, some, some-injective, some-ne-none}
 use lib.ListN.{get_elem?}
 use Rattle.ipb_base.proofs.AllLemmas.{AllByRecursion-append}
-use Rattle.atomic_table.specs.Table.{State, Me, Step, Allows, Splits, Joins, Act, Valid, stepped, carried_after}
+use Rattle.atomic_table.specs.Table.{State, Me, Step, Allows, Splits, Joins, Act, Valid, rest, stepped, carried_after}
 use Rattle.atomic_table.specs.Table.Act.{keeps, takes, gives}
 use Rattle.atomic_table.proofs.Lists.{at_longer, at_set, set_else, set_here}
 use Rattle.turn_pass.specs.Record.{Record, AreMadeBy, Begins, GrowsBy, made_by, past}
-use Rattle.turn_pass.specs.Pass.{Joined, Knowledge, Stands, Told, first_knowledge, having_given, having_seen, in_vain, kept_of, longer, newcomer, one_more_made, taking_in}
-use Rattle.turn_pass.specs.Rule.{Stage, View, IsPass, SlotHas, words_at, OneHolds, AllBegin, StaysJoined, Owns, OwnEntries, Turning}
+use Rattle.turn_pass.specs.Pass.{Knowledge, Told, first_knowledge, having_given, having_seen, in_vain, kept_of, longer, newcomer, one_more_made, taking_in}
+use Rattle.turn_pass.specs.Rule.{Stage, View, IsPass, SlotHas, words_at, StaysJoined, Owns, Turning}
 use Rattle.turn_pass.specs.Rule.Stage.{Idle, Took, Has, Stores}
-use Rattle.turn_pass.specs.Steps.{view_at, spent_view, Takes, Loads, StoresNumber, Gives, first_after_split, pass_made, view_joined}
+use Rattle.turn_pass.specs.Steps.{record_taken, view_at, spent_view, Takes, Loads, StoresNumber, Gives, first_after_split, pass_made, view_joined}
 use Rattle.turn_pass.proofs.Records.{begins_self, grown_begins, others_as_before, own_grow, past_self}
-use Rattle.turn_pass.proofs.Moves.{Changes, SpentStay, begin_on, either_pass, is_holder, joined_stay_on, moves, not_holder, others_own, own_on, place_inside, same_view, spent_stay_set, told_of}
+use Rattle.turn_pass.proofs.Moves.{Changes, SpentStay, begin_on, either_pass, is_holder, joined_stay_on, moves, not_holder, others_own, own_on, place_inside, spent_stay_set, told_of}
 
 took_not_idle : (r : Record) → Took r ≡ Idle → ⊥
 took_not_idle r e = cc
@@ -398,3 +397,11 @@ pub joins : {V : Type 0} (entries : V → Record) (start : Record) (id : ℕ) (v
     → Joins (Turning entries start) id v other u (view_joined v u) spent_view
 joins entries start id v other u is is' = subst (λ z. Joins (Turning entries start) id z other u (view_joined v u) spent_view) (sym is)
     (subst (λ z. Joins (Turning entries start) id (view_at Idle v.knows) other z (view_joined v u) spent_view) (sym is') (join_step entries start id v.knows other u.knows))
+
+-- a seat that put something else into the slot that it took
+pub exchanged_slot : {V : Type 0} (before after : Me (Option V) View) (w : View) (old new : Option V) → after ≡ (before.0, (0, new) ∷ rest before.1) → before ≡ (w, (0, old) ∷ []) → after ≡ (w, (0, new) ∷ [])
+exchanged_slot before after w old new is was = is ∙ ap (λ m. (m.0, (0, new) ∷ rest m.1)) was
+
+-- a seat that stored the number of entries
+pub stored_number : {V : Type 0} (before after : Me (Option V) View) (k : Knowledge) (r : Record) (n : ℕ) → after ≡ (view_at (Stores (record_taken before.0.stage) n) before.0.knows, (0, None) ∷ []) → before ≡ (view_at (Has r) k, []) → after ≡ (view_at (Stores r n) k, (0, None) ∷ [])
+stored_number before after k r n is was = is ∙ ap (λ m. (view_at (Stores (record_taken m.0.stage) n) m.0.knows, (0, None) ∷ [])) was

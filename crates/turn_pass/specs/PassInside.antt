@@ -1,7 +1,7 @@
 -- How the code keeps a pass.
 use Rattle.std.specs.Prelude.{◌≡◌, Bool, true, false, List, [], ◌∷◌}
 use Rattle.turn_pass.specs.declared.pass.Pass.TheInside.{Inside}
-use Rattle.turn_pass.specs.Pass.{Knowledge, PassState}
+use Rattle.turn_pass.specs.Pass.{PassState}
 use Rattle.turn_pass.specs.Rule.{Stage, View}
 use Rattle.turn_pass.specs.Rule.Stage.{Idle, Took, Has, Stores}
 use Rattle.turn_pass.specs.Steps.{spent_view, view_at_rest}

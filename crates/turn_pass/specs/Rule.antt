@@ -7,7 +7,7 @@ use mathlib.Core.Option as maybe
 use lib.ListN.{get_elem?}
 use Rattle.atomic_table.specs.Table.{State}
 use Rattle.turn_pass.specs.Record.{Record, Begins, made_by, past}
-use Rattle.turn_pass.specs.Pass.{Joined, Knowledge, Stands, first_knowledge}
+use Rattle.turn_pass.specs.Pass.{Joined, Knowledge, Stands}
 
 -- How far a pass is with the value: it has none of it; it took the slot by its exchange; it has the value, out of the
 -- slot; it has stored the new number of entries and puts the value back. Each with the record that it took.

@@ -1,4 +1,4 @@
-use Rattle.std.proofs.Common.{◌≡◌, ap, sym, ◌∙◌, arith}
+use Rattle.std.proofs.Common.{ap, sym, ◌∙◌, arith}
 use Rattle.turn_pass.specs.PassInside.{view_of}
 use Rattle.turn_pass.proofs.Passes.{idle_pass}
 use Rattle.turn_pass.proofs.Steps.{splits}
