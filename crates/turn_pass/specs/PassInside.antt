@@ -20,7 +20,11 @@ has_value (Stores r n) = false
 
 abbrev pub state_of : Inside → PassState
 state_of p =
-    record { turn = p.badge.table_id; holds = has_value (view_of p.badge.views).stage; knows = (view_of p.badge.views).knows }
+    record {
+      turn = p.badge.table_id;
+      holds = has_value (view_of p.badge.views).stage;
+      knows = (view_of p.badge.views).knows;
+    }
 
 -- a pass has one view, which is not spent, and is between calls
 pub record IsWhole (p : Inside) : Type 0 where

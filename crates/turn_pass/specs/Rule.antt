@@ -1,5 +1,5 @@
--- The rule of a turn. The table of a turn has one slot, for the value, and two words: word 0 is 1 while a pass holds the
--- value and else 0, and word 1 is the number of entries of the record. Profile.
+-- The rule of a turn. The table of a turn has one slot, for the value, and two words: word 0 is 1 while a pass holds
+-- the value and else 0, and word 1 is the number of entries of the record. Profile.
 use Rattle.std.specs.Prelude.{◌≡◌, ◌≢◌, ℕ, ◌≤◌, Bool, true, false, List, [], ◌∷◌, length, Option, Some, None}
 use Rattle.std.specs.List.{AllByRecursion}
 use mathlib.Core.Option.{none, some}

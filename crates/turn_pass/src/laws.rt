@@ -1,5 +1,5 @@
-//! What the rule of a turn means, for any passes of any threads at any moment. These functions do nothing when they run:
-//! their clauses are what is proved.
+//! What the rule of a turn means, for any passes of any threads at any moment. These functions do nothing when they
+//! run: their clauses are what is proved.
 
 ghost use Rattle.std.specs.Prelude.{◌≡◌, ◌≢◌, ◌↔◌, ℕ, Option, Some, [], ◌∷◌, slice_index};
 ghost use mathlib.Core.Option.{some};

@@ -57,8 +57,8 @@ pub struct NotMade<V> {
 }
 
 impl<V: Chronicle + Send> Turn<V> {
-    /// A turn that has the value, and its first pass, which has seen the record of the value. The value comes back where
-    /// memory runs out.
+    /// A turn that has the value, and its first pass, which has seen the record of the value. The value comes back
+    /// where memory runs out.
     pub fn new(alloc: Global, value: V) -> Result<(Turn<V>, Pass), NotMade<V>>
         ensures first { IfOk result (λ made. made.1 ≡
             record { turn = made.0; holds = false; knows = first_knowledge (V.entries value) }) }
