@@ -58,7 +58,7 @@ number_small value = tt
 
 -- ---- the numbers of a line
 
-abbrev AreSmall : Option (List ℕ) → Type 0
+abbrev pub AreSmall : Option (List ℕ) → Type 0
 AreSmall None = Unit {0}
 AreSmall (Some numbers) = AreWords numbers
 
@@ -68,60 +68,9 @@ one_more None later is are = tt
 one_more (Some n) None is are = tt
 one_more (Some n) (Some ns) is are = (is, are)
 
-all_small : (words : List (List ℕ)) → AreSmall (numbers_of words)
+pub all_small : (words : List (List ℕ)) → AreSmall (numbers_of words)
 all_small [] = tt
 all_small (word ∷ words) = one_more (number_in_text word) (numbers_of words) (text_small word) (all_small words)
-
--- the numbers that a line asks with are words
-abbrev AsksSmall : Option Command → Type 0
-AsksSmall None = Unit {0}
-AsksSmall (Some Nothing) = Unit {0}
-AsksSmall (Some Dispatch) = Unit {0}
-AsksSmall (Some (Ask call)) = AreWords call.numbers
-
-by_takes : (verb : Verb) (board name numbers : List ℕ) (b : Bool) → AreWords numbers
-    → AsksSmall (if b then Some (Ask (record { verb = verb; board = board; name = name; numbers = numbers })) else None)
-by_takes verb board name numbers true are = are
-by_takes verb board name numbers false are = tt
-
-by_numbers : (verb : Verb) (board name : List ℕ) (found : Option (List ℕ)) → AreSmall found
-    → AsksSmall (found >>= λ numbers. if takes verb numbers then Some (Ask (record { verb = verb; board = board; name = name; numbers = numbers })) else None)
-by_numbers verb board name None are = tt
-by_numbers verb board name (Some numbers) are = by_takes verb board name numbers (takes verb numbers) are
-
-by_names : (verb : Verb) (words : List (List ℕ)) (found : Option (List ℕ × List ℕ))
-    → AsksSmall (found >>= λ names. numbers_of words >>= λ numbers.
-    if takes verb numbers then Some (Ask (record { verb = verb; board = names.0; name = names.1; numbers = numbers })) else None)
-by_names verb words None = tt
-by_names verb words (Some names) = by_numbers verb names.0 names.1 (numbers_of words) (all_small words)
-
-call_small : (verb : Verb) (words : List (List ℕ)) → AsksSmall (call_of verb words)
-call_small verb [] = tt
-call_small verb (place ∷ words) = by_names verb words (cut_at 58 place)
-
-dispatch_small : (words : List (List ℕ)) → AsksSmall (dispatch_of words)
-dispatch_small [] = tt
-dispatch_small (word ∷ words) = tt
-
-by_verb : (words : List (List ℕ)) (found : Option Verb) → AsksSmall (found >>= λ verb. call_of verb words)
-by_verb words None = tt
-by_verb words (Some verb) = call_small verb words
-
-by_word : (b : Bool) (one other : Option Command) → AsksSmall one → AsksSmall other
-    → AsksSmall (if b then one else other)
-by_word true one other first second = first
-by_word false one other first second = second
-
-command_small : (words : List (List ℕ)) → AsksSmall (command_of words)
-command_small [] = tt
-command_small (word ∷ words) =
-    by_word (is_comment word) (Some Nothing)
-    (if bytes_eq word (codes "dispatch") then dispatch_of words else (verb_named word >>= λ verb. call_of verb words)) tt
-    (by_word (bytes_eq word (codes "dispatch")) (dispatch_of words) (verb_named word >>= λ verb. call_of verb words)
-    (dispatch_small words) (by_verb words (verb_named word)))
-
-pub numbers_asked : (words : List (List ℕ)) (call : Call) → command_of words ≡ Some (Ask call) → AreWords call.numbers
-numbers_asked words call is = subst AsksSmall is (command_small words)
 
 -- ---- the words that ranges name
 
