@@ -172,7 +172,7 @@ place_in_order run place is =
           (both.0, omega (arith, both.1, sent)),
       λ both. placed_parts place run.parts
           (any_sorted (IsAt place) all
-      (reached 1 (by_place all) place is.one_order both.0 (omega (arith, both.1, sent)))),
+          (reached 1 (by_place all) place is.one_order both.0 (omega (arith, both.1, sent)))),
     )
 
 -- ---- the lines

@@ -3,24 +3,19 @@ use Rattle.std.proofs.Common.{◌≡◌, ℕ, ◌^◌, ltb, List, [], ◌∷◌,
 use Rattle.std.proofs.Common.{Option, Some, None, refl, sym, subst, ℤ, pos, negsuc, nat_eq}
 use Rattle.std.specs.List.{AllByRecursion, cons_option, starts_with}
 use Rattle.std.specs.Option.{option_map}
-use Rattle.std.specs.Str.{bytes_eq}
 use Rattle.std.proofs.lemmas.Bool.{ltb-true}
 use Rattle.ipb_base.specs.Word.{IsWord, AreWords}
 use Rattle.toml.specs.Data.{Data, integer, string, Members, as_table}
 use Rattle.address_table.specs.Numbers.{number, number_in_text, number_of_integer, digits_number, digits_in_base, word}
 use Rattle.address_table.specs.Numbers.{are_digits, is_between, value_of_digits}
-use Rattle.script_lang.specs.declared.call.Call.{Call}
-use Rattle.script_lang.specs.declared.call.Command.{Command}
-use Rattle.script_lang.specs.declared.call.Command.TheVariants.{Nothing, Dispatch, Ask}
-use Rattle.script_lang.specs.declared.operation.Verb.{Verb}
 use Rattle.script_lang.specs.declared.session.Session.{Session}
 use Rattle.script_lang.specs.Document.{StandsFor}
 use Rattle.script_lang.specs.Executable.{NamesWords, LinkNamesWords, OpensOnWords}
 use Rattle.script_lang.specs.Fields.{items_at, numbers_in, tables_in}
 use Rattle.script_lang.specs.Keys.{is_udp}
-use Rattle.script_lang.specs.Lines.{takes, call_of, command_of, dispatch_of, numbers_of, is_comment, verb_named}
+use Rattle.script_lang.specs.Lines.{numbers_of}
 use Rattle.script_lang.specs.Sessions.{board_of, sim_of, udp_of, range_of}
-use Rattle.script_lang.specs.Texts.{◌>>=◌, cut_at}
+use Rattle.script_lang.specs.Texts.{◌>>=◌}
 
 -- ---- numbers
 
