@@ -173,7 +173,8 @@ place_in_order run place is =
           (sorted_any (IsAt place) all (parts_placed place run.parts on)) in
           (both.0, omega (arith, both.1, sent)),
       λ both. placed_parts place run.parts
-          (any_sorted (IsAt place) all (reached 1 (by_place all) place is.one_order both.0 (omega (arith, both.1, sent)))),
+          (any_sorted (IsAt place) all
+          (reached 1 (by_place all) place is.one_order both.0 (omega (arith, both.1, sent)))),
     )
 
 -- ---- the lines

@@ -152,8 +152,8 @@ over_packed ops payload progress spans contents low high over bodies words piece
       parts = ended.parts;
       packing = record { whole = ended.whole; filled = ended.filled; fits = ended.fits; full = ended.full };
       readable = all_readable payload ended.parts high (all_words ended.parts (subst (AllByRecursion AreWords)
-          same_bodies words)) (all_of_each (FitsAlone payload) ended.parts (subst (AllByRecursion (FitsAlone payload)) (sym ended.whole)
-          (all_fit payload ops low))) ended.fits;
+          same_bodies words)) (all_of_each (FitsAlone payload) ended.parts (subst (AllByRecursion (FitsAlone payload))
+          (sym ended.whole) (all_fit payload ops low))) ended.fits;
       bodies = same_bodies;
       pieces = ap (map (pieces_at ended.parts)) dealt ∙ own_pieces payload ops ended.parts ended.whole;
       places = ap (flat_map (λ places. places)) dealt ∙ all_places payload ops ended.parts ended.whole;

@@ -62,8 +62,8 @@ pub fn the_request_at_a_place_is_the_piece()
     one_list_for_words();
 }
 
-/// Operations that can be packed, and whose addresses and words have 32 bits, are packed by that function: every body has
-/// requests that a reader accepts.
+/// Operations that can be packed, and whose addresses and words have 32 bits, are packed by that function: every body
+/// has requests that a reader accepts.
 pub fn operations_of_words_are_packed()
     ensures { (ops : List Op) (payload : ℕ) → MIN_PAYLOAD ≤ payload → payload ≤ MAX_PAYLOAD →
         AllByRecursion CanBeCut ops → AllByRecursion HasWords ops → IsPacked ops payload (packed payload ops) }

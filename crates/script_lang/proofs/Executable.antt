@@ -32,11 +32,10 @@ use Rattle.script_lang.specs.Operations.{use_rules, is_full, is_port, fits_mask,
 use Rattle.script_lang.specs.Operations.{read_block_op, write_block_op, op_on, by_rules, use_at, use_on, as_step}
 use Rattle.script_lang.specs.Operations.{step_of, board_from, register_at, meaning}
 use Rattle.script_lang.specs.Scripts.{Meaning, step_in, steps_from, steps_of}
-use Rattle.script_lang.proofs.Asking.{takes_asked}
+use Rattle.script_lang.proofs.Asking.{numbers_asked, takes_asked}
 use Rattle.script_lang.proofs.MaskedValues.{field_kept}
 use Rattle.script_lang.proofs.Packable.{can_be_cut}
 use Rattle.script_lang.proofs.Registers.{IsSoundRegister, AreSoundRegisters, session_registers}
-use Rattle.script_lang.proofs.SmallNumbers.{numbers_asked}
 
 -- ---- words
 
@@ -62,7 +61,9 @@ write_words : (r : Register) (numbers : List ℕ) → IsSoundRegister r → AreW
 write_words r numbers is are fits =
     by_bool (HasWords (write_op r numbers)) (is_full r.mask)
     (λ full. rw full (own_address r is, are))
-    (λ part. rw part (own_address r is, (omega arith, (shifted_small r.mask (slice_index numbers 0) is.mask' fits, tt))))
+    (λ part.
+    let small = shifted_small r.mask (slice_index numbers 0) is.mask' fits in
+    rw part (own_address r is, (omega arith, (small, tt))))
 
 read_block_words : (r : Register) (count : ℕ) → IsSoundRegister r → HasWords (read_block_op r count)
 read_block_words r count is =
@@ -152,7 +153,8 @@ module _ (boards : List BoardSpec) (indexes : List RegisterMap) (sound : AllByRe
         use_well line board call (register_at indexes board call.name) asking
         (λ r there. register_sound indexes board call.name (slice_get indexes board) r sound refl there)
 
-    command_well : (line : ℕ) (command : Option Command) → ((call : Call) → command ≡ Some (says.Ask call) → IsAsking call)
+    command_well : (line : ℕ) (command : Option Command)
+        → ((call : Call) → command ≡ Some (says.Ask call) → IsAsking call)
         → MeansWell (step_of boards indexes line command)
     command_well line None asking = tt
     command_well line (Some says.Nothing) asking = tt
@@ -164,7 +166,7 @@ module _ (boards : List BoardSpec) (indexes : List RegisterMap) (sound : AllByRe
     line_well line text =
         command_well line (command_of (words text)) (λ call is. record {
           taken = takes_asked (words text) call (sym is);
-          numbers = numbers_asked (words text) call is;
+          numbers = numbers_asked (words text) call (sym is);
         })
 
     one_step : (m : Meaning) (steps : List Step) → MeansWell m → AreExecutable steps

@@ -89,7 +89,7 @@ step-words : (boards : List BoardSpec) (indexes : List RegisterMap) (line : ℕ)
 step-words boards indexes line None asks = tt
 step-words boards indexes line (Some says.Nothing) asks = tt
 step-words boards indexes line (Some says.Dispatch) asks = tt
-step-words boards indexes line (Some (says.Ask call)) asks = board-words indexes line call (board_from 0 call.board boards) asks
+step-words boards indexes line (Some (says.Ask call)) asks = board-words indexes line call (board_from 0 call.board boards) asks.0
 
 meaning-words : (boards : List BoardSpec) (indexes : List RegisterMap) (line : ℕ) (text : List ℕ) → MeansWords (meaning boards indexes line text)
 meaning-words boards indexes line text = step-words boards indexes line (command_of (words text)) (command_asks (words text))

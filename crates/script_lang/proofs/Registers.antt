@@ -17,7 +17,8 @@ use Rattle.board_node.specs.declared.spec.BoardSpec.{BoardSpec}
 use Rattle.node_tree.specs.Addresses.{last_address}
 use Rattle.node_tree.specs.Limits.{most_nodes, most_ids}
 use Rattle.node_tree.specs.Maps.{Name, TableMap, RegisterMap, nodes_of, AreValidTables, IsRegister}
-use Rattle.node_tree.specs.Names.{Names, itself, child, later, children_of, node_name, node_address, IsIndexOf, RootNames}
+use Rattle.node_tree.specs.Names.{Names, itself, child, later, children_of, node_name, node_address}
+use Rattle.node_tree.specs.Names.{IsIndexOf, RootNames}
 use Rattle.node_tree.specs.Refusals.{KeepsRules}
 use Rattle.node_tree.specs.Walk.{Visit, Lists, HasLevel, root_walk, visit_rules, fault_or, first_fault}
 use Rattle.node_tree.specs.declared.refusal.CompileWhy.{CompileWhy}

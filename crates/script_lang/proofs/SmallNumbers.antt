@@ -3,24 +3,19 @@ use Rattle.std.proofs.Common.{◌≡◌, ℕ, ◌^◌, ltb, List, [], ◌∷◌,
 use Rattle.std.proofs.Common.{Option, Some, None, refl, sym, subst, ℤ, pos, negsuc, nat_eq}
 use Rattle.std.specs.List.{AllByRecursion, cons_option, starts_with}
 use Rattle.std.specs.Option.{option_map}
-use Rattle.std.specs.Str.{bytes_eq}
 use Rattle.std.proofs.lemmas.Bool.{ltb-true}
 use Rattle.ipb_base.specs.Word.{IsWord, AreWords}
 use Rattle.toml.specs.Data.{Data, integer, string, Members, as_table}
 use Rattle.address_table.specs.Numbers.{number, number_in_text, number_of_integer, digits_number, digits_in_base, word}
 use Rattle.address_table.specs.Numbers.{are_digits, is_between, value_of_digits}
-use Rattle.script_lang.specs.declared.call.Call.{Call}
-use Rattle.script_lang.specs.declared.call.Command.{Command}
-use Rattle.script_lang.specs.declared.call.Command.TheVariants.{Nothing, Dispatch, Ask}
-use Rattle.script_lang.specs.declared.operation.Verb.{Verb}
 use Rattle.script_lang.specs.declared.session.Session.{Session}
 use Rattle.script_lang.specs.Document.{StandsFor}
 use Rattle.script_lang.specs.Executable.{NamesWords, LinkNamesWords, OpensOnWords}
 use Rattle.script_lang.specs.Fields.{items_at, numbers_in, tables_in}
 use Rattle.script_lang.specs.Keys.{is_udp}
-use Rattle.script_lang.specs.Lines.{takes, call_of, command_of, dispatch_of, numbers_of, is_comment, verb_named}
+use Rattle.script_lang.specs.Lines.{numbers_of}
 use Rattle.script_lang.specs.Sessions.{board_of, sim_of, udp_of, range_of}
-use Rattle.script_lang.specs.Texts.{◌>>=◌, cut_at}
+use Rattle.script_lang.specs.Texts.{◌>>=◌}
 
 -- ---- numbers
 
@@ -58,7 +53,7 @@ number_small value = tt
 
 -- ---- the numbers of a line
 
-abbrev AreSmall : Option (List ℕ) → Type 0
+abbrev pub AreSmall : Option (List ℕ) → Type 0
 AreSmall None = Unit {0}
 AreSmall (Some numbers) = AreWords numbers
 
@@ -68,60 +63,9 @@ one_more None later is are = tt
 one_more (Some n) None is are = tt
 one_more (Some n) (Some ns) is are = (is, are)
 
-all_small : (words : List (List ℕ)) → AreSmall (numbers_of words)
+pub all_small : (words : List (List ℕ)) → AreSmall (numbers_of words)
 all_small [] = tt
 all_small (word ∷ words) = one_more (number_in_text word) (numbers_of words) (text_small word) (all_small words)
-
--- the numbers that a line asks with are words
-abbrev AsksSmall : Option Command → Type 0
-AsksSmall None = Unit {0}
-AsksSmall (Some Nothing) = Unit {0}
-AsksSmall (Some Dispatch) = Unit {0}
-AsksSmall (Some (Ask call)) = AreWords call.numbers
-
-by_takes : (verb : Verb) (board name numbers : List ℕ) (b : Bool) → AreWords numbers
-    → AsksSmall (if b then Some (Ask (record { verb = verb; board = board; name = name; numbers = numbers })) else None)
-by_takes verb board name numbers true are = are
-by_takes verb board name numbers false are = tt
-
-by_numbers : (verb : Verb) (board name : List ℕ) (found : Option (List ℕ)) → AreSmall found
-    → AsksSmall (found >>= λ numbers. if takes verb numbers then Some (Ask (record { verb = verb; board = board; name = name; numbers = numbers })) else None)
-by_numbers verb board name None are = tt
-by_numbers verb board name (Some numbers) are = by_takes verb board name numbers (takes verb numbers) are
-
-by_names : (verb : Verb) (words : List (List ℕ)) (found : Option (List ℕ × List ℕ))
-    → AsksSmall (found >>= λ names. numbers_of words >>= λ numbers.
-    if takes verb numbers then Some (Ask (record { verb = verb; board = names.0; name = names.1; numbers = numbers })) else None)
-by_names verb words None = tt
-by_names verb words (Some names) = by_numbers verb names.0 names.1 (numbers_of words) (all_small words)
-
-call_small : (verb : Verb) (words : List (List ℕ)) → AsksSmall (call_of verb words)
-call_small verb [] = tt
-call_small verb (place ∷ words) = by_names verb words (cut_at 58 place)
-
-dispatch_small : (words : List (List ℕ)) → AsksSmall (dispatch_of words)
-dispatch_small [] = tt
-dispatch_small (word ∷ words) = tt
-
-by_verb : (words : List (List ℕ)) (found : Option Verb) → AsksSmall (found >>= λ verb. call_of verb words)
-by_verb words None = tt
-by_verb words (Some verb) = call_small verb words
-
-by_word : (b : Bool) (one other : Option Command) → AsksSmall one → AsksSmall other
-    → AsksSmall (if b then one else other)
-by_word true one other first second = first
-by_word false one other first second = second
-
-command_small : (words : List (List ℕ)) → AsksSmall (command_of words)
-command_small [] = tt
-command_small (word ∷ words) =
-    by_word (is_comment word) (Some Nothing)
-    (if bytes_eq word (codes "dispatch") then dispatch_of words else (verb_named word >>= λ verb. call_of verb words)) tt
-    (by_word (bytes_eq word (codes "dispatch")) (dispatch_of words) (verb_named word >>= λ verb. call_of verb words)
-    (dispatch_small words) (by_verb words (verb_named word)))
-
-pub numbers_asked : (words : List (List ℕ)) (call : Call) → command_of words ≡ Some (Ask call) → AreWords call.numbers
-numbers_asked words call is = subst AsksSmall is (command_small words)
 
 -- ---- the words that ranges name
 

@@ -58,7 +58,8 @@ pub fn the_boards_of_a_session_have_their_own_names()
 pub fn scripts_ask_what_can_be_executed()
     ensures { (bytes : List ℕ) (session : Session) (indexes : List RegisterMap) → spec.StandsFor bytes session
         → AllByRecursion (λ (b : BoardSpec). KeepsRules session.tables b.table) session.boards
-        → AllZip (λ (b : BoardSpec) (index : RegisterMap). IsIndexOf session.tables b.table index) session.boards indexes
+        → AllZip (λ (b : BoardSpec) (index : RegisterMap). IsIndexOf session.tables b.table index)
+        session.boards indexes
         → AllByRecursion AreExecutable (steps_of session.boards indexes session.scripts) }
 {}
 

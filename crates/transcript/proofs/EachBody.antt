@@ -1,5 +1,6 @@
 -- Each body of a plan has a piece.
-use Rattle.std.proofs.Common.{◌≡◌, ℕ, ◌+◌, ◌-◌, ◌<◌, List, [], ◌∷◌, length, map, inl, inr, subst, ap, arith, length-append}
+use Rattle.std.proofs.Common.{◌≡◌, ℕ, ◌+◌, ◌-◌, ◌<◌, List, [], ◌∷◌, length, map, inl, inr, subst, ap, arith}
+use Rattle.std.proofs.Common.{length-append}
 use Rattle.std.specs.List.{Any, fold}
 use Rattle.std.proofs.lemmas.Bool.{cases_lt}
 use Rattle.transaction_codec.specs.declared.request.Op.{Op}
@@ -10,7 +11,8 @@ use Rattle.mtu_packer.proofs.AnyLemmas.{any_same, any_front, any_back, any_map}
 use Rattle.script_lang.specs.declared.operation.RegOp.{RegOp}
 use Rattle.script_lang.specs.declared.operation.Step.{Step}
 use Rattle.transcript.specs.declared.planned.PieceAt.{PieceAt}
-use Rattle.transcript.specs.Plan.{ClientBodies, no_bodies, moved, ops_on, dispatches, plan, with_dispatch, all_dispatches}
+use Rattle.transcript.specs.Plan.{ClientBodies, no_bodies, moved, ops_on, dispatches, plan, with_dispatch}
+use Rattle.transcript.specs.Plan.{all_dispatches}
 use Rattle.transcript.specs.Shown.{HasPiece}
 
 -- each body of a packing has a piece

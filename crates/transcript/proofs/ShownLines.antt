@@ -22,7 +22,8 @@ use Rattle.transcript.specs.declared.line.OpLine.{OpLine}
 use Rattle.transcript.specs.Plan.{ClientBodies, operations, plan, planned_on, all_dispatches}
 use Rattle.transcript.specs.Ends.{end_of, ends_of, place_at, place_in, piece_place}
 use Rattle.transcript.specs.Results.{op_places}
-use Rattle.transcript.specs.Lines.{by_pieces, in_part, showing, count_on, line_of, lines_behind, client_lines, lines_from}
+use Rattle.transcript.specs.Lines.{by_pieces, in_part, showing, count_on, line_of, lines_behind, client_lines}
+use Rattle.transcript.specs.Lines.{lines_from}
 use Rattle.transcript.specs.Shown.{ShowsPlace, IsShown, EndsAt, HasBodyAt, IsPlaceOn, IsPlanned, ArePlanned}
 use Rattle.transcript.specs.Shown.{HaveOwnNames, HasPiece}
 use Rattle.transcript.proofs.LineLemmas.{count_by-append}

@@ -51,9 +51,11 @@ ShowsAllPlaces transcript = AllByRecursion (ShowPlacesOf transcript.clients) tra
 
 -- ---- what became of bodies
 
+-- the body has this place
 abbrev pub EndsAt : ℕ → BodyEnd → Type 0
 EndsAt place end = end.place ≡ Some place
 
+-- some body of a client has it
 abbrev pub HasBodyAt : ℕ → ClientPart → Type 0
 HasBodyAt place part = Any (EndsAt place) (ends_of part)
 

@@ -18,8 +18,8 @@ pub fn each_body_of_a_plan_has_a_piece()
     each_body_has_a_piece();
 }
 
-/// The lines of a run show of each board the places of the bodies that its clients asked for, and no other: each of them
-/// in some line.
+/// The lines of a run show of each board the places of the bodies that its clients asked for, each in some line, and no
+/// other place.
 pub fn lines_show_the_places_of_bodies()
     ensures { (scripts : List (List Step)) (runs : List BoardRunValue) (board : ℕ) (run : BoardRunValue) (place : ℕ) →
         HaveOwnNames runs → ArePlanned 0 scripts runs → slice_get runs board ≡ Some run →
