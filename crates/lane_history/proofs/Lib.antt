@@ -12,3 +12,4 @@ mod InTurn
 mod Live
 mod Ungarbled
 mod Shown
+mod Lines

@@ -120,7 +120,7 @@ all_ordered settings board (spec ∷ specs) scripts (run ∷ runs) (link ∷ lin
 
 -- ---- over a link that tells
 
-some_then : {A : Type 0} (P Q : A → Type 0) (o : Option A) → ((x : A) → P x → Q x) → IfSome o P → IfSome o Q
+pub some_then : {A : Type 0} (P Q : A → Type 0) (o : Option A) → ((x : A) → P x → Q x) → IfSome o P → IfSome o Q
 some_then P Q None f p = tt
 some_then P Q (Some x) f p = f x p
 
@@ -173,7 +173,7 @@ some_payload : (spec : LinkSpec) → SomePayload spec
 some_payload (Sim mtu buffers first ranges fates) = record { payload = payload_of mtu; told = refl }
 some_payload (Udp address port wait) = record { payload = MIN_PAYLOAD; told = (omega arith, omega arith) }
 
-untouched_some : (spec : BoardSpec) (board : ℕ) (scripts : List (List Step)) (link : LinkReport) → IsUntouched link
+pub untouched_some : (spec : BoardSpec) (board : ℕ) (scripts : List (List Step)) (link : LinkReport) → IsUntouched link
     → IfSome link.board (λ there. ExecutedSome spec board scripts (executed there))
 untouched_some spec board scripts link none =
     some_then (λ (b : Board). executed b ≡ []) (λ (b : Board). ExecutedSome spec board scripts (executed b)) link.board

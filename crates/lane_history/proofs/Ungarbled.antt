@@ -44,7 +44,7 @@ stand_behind front (p ∷ ps) counts =
     let later = stand_behind (front ++ p ∷ []) ps (subst (λ (k : ℕ). CountsFrom k (places_of ps)) on counts.1) in
     (here, subst (λ (all : List Placed). AllByRecursion (StandsIn all) ps) (append_assoc front (p ∷ []) ps) later)
 
-all_stand : (ps : List Placed) → CountsFrom 1 (places_of ps) → AllByRecursion (StandsIn ps) ps
+pub all_stand : (ps : List Placed) → CountsFrom 1 (places_of ps) → AllByRecursion (StandsIn ps) ps
 all_stand ps counts = stand_behind [] ps counts
 
 -- ---- the bodies of an order are words
@@ -63,7 +63,7 @@ placed_words (b ∷ bs) [] spelled = tt
 placed_words (b ∷ bs) (o ∷ os) spelled = AllByRecursion-append HasWords (with_place b (place_of o)) (placed bs os)
     (place_words b (place_of o) (spelled_words b spelled.0)) (placed_words bs os spelled.1)
 
-all_words : (parts : List ClientPart) → AllByRecursion AsksRequests parts
+pub all_words : (parts : List ClientPart) → AllByRecursion AsksRequests parts
     → AllByRecursion HasWords (all_placed (map (λ (p : ClientPart). p.planned.bodies) parts)
     (map (λ (p : ClientPart). p.outcomes) parts))
 all_words [] asks = tt
@@ -71,7 +71,7 @@ all_words (p ∷ parts) asks = AllByRecursion-append HasWords (placed p.planned.
     (all_placed (map (λ (q : ClientPart). q.planned.bodies) parts) (map (λ (q : ClientPart). q.outcomes) parts))
     (placed_words p.planned.bodies p.outcomes asks.0) (all_words parts asks.1)
 
-words_of : (ps : List Placed) → AllByRecursion HasWords ps → AllByRecursion AreWords (bodies_of ps)
+pub words_of : (ps : List Placed) → AllByRecursion HasWords ps → AllByRecursion AreWords (bodies_of ps)
 words_of [] all = tt
 words_of (p ∷ ps) all = (all.0, words_of ps all.1)
 
@@ -88,18 +88,17 @@ told_ungarbled body o is = subst (λ (p : Outcome). told_of body p ≢ Garbled) 
 
 module _ (answering : Answering) (any : AnsweringAny) (keeping : Keeping) (keeping_all : KeepingAll)
     (garbling : Garbling) (joins : Joins) where
-  reply_ungarbled : (opening : CellMap) (bodies : List (List ℕ)) (place : ℕ) (body words : List ℕ) → HoldsWords opening
-      → AllByRecursion AreWords bodies → SpellsRequests body → at_place bodies place ≡ Some body
-      → at_place (replay opening bodies).replies place ≡ Some words → told_of body (Replied place words) ≢ Garbled
-  reply_ungarbled opening bodies zero body words holds all spelled there reply = absurd cc
-  reply_ungarbled opening bodies (suc k) body words holds all spelled there reply =
+  pub reply_told : (opening : CellMap) (bodies : List (List ℕ)) (place : ℕ) (body words : List ℕ)
+      → HoldsWords opening → AllByRecursion AreWords bodies → SpellsRequests body → at_place bodies place ≡ Some body
+      → at_place (replay opening bodies).replies place ≡ Some words → IsTold body (Replied place words)
+  reply_told opening bodies zero body words holds all spelled there reply = absurd cc
+  reply_told opening bodies (suc k) body words holds all spelled there reply =
       let cells = (replay opening (take k bodies)).cells in
       let kept : HoldsWords cells = keeping_all opening (take k bodies) holds (words_take k bodies all) in
       let right : (run_body cells body).reply ≡ words =
           same_Some (run_body cells body).reply words (sym (replay-place opening bodies k body there) ∙ reply) in
-      subst (λ (ws : List ℕ). told_of body (Replied (suc k) ws) ≢ Garbled) right
-      (told_ungarbled body (Replied (suc k) (run_body cells body).reply)
-        (body_told answering any keeping keeping_all garbling joins (suc k) cells body kept spelled))
+      subst (λ (ws : List ℕ). IsTold body (Replied (suc k) ws)) right
+      (body_told answering any keeping keeping_all garbling joins (suc k) cells body kept spelled)
 
   client_ungarbled : (opening : CellMap) (ps : List Placed) (bodies : List (List ℕ)) (outcomes : List Outcome)
       → HoldsWords opening → AllByRecursion AreWords (bodies_of ps) → AreSpelled bodies
@@ -109,8 +108,8 @@ module _ (answering : Answering) (any : AnsweringAny) (keeping : Keeping) (keepi
   client_ungarbled opening ps [] outcomes holds all spelled stand replies = tt
   client_ungarbled opening ps (b ∷ bs) [] holds all spelled stand replies = tt
   client_ungarbled opening ps (b ∷ bs) (Replied place words ∷ os) holds all spelled stand replies = (
-    reply_ungarbled opening (bodies_of ps) place b words holds all spelled.0
-        (at_map (λ (p : Placed). p.body) ps place (record { place = place; body = b }) stand.0) replies.0,
+    told_ungarbled b (Replied place words) (reply_told opening (bodies_of ps) place b words holds all spelled.0
+        (at_map (λ (p : Placed). p.body) ps place (record { place = place; body = b }) stand.0) replies.0),
     client_ungarbled opening ps bs os holds all spelled.1 stand.1 replies.1,
   )
   client_ungarbled opening ps (b ∷ bs) (TimedOut place rounds ∷ os) holds all spelled stand replies =

@@ -14,6 +14,8 @@ use Rattle.transcript.specs.declared.greeting.Greeting.{Greeting}
 use Rattle.transcript.specs.declared.greeting.Greeting.TheVariants.{Live, Silent, Down}
 use Rattle.transcript.specs.declared.body_end.Told.TheVariants.{Garbled}
 use Rattle.transcript.specs.declared.body_end.BodyEnd.{BodyEnd}
+use Rattle.transcript.specs.declared.line.OpResult.TheVariants as result
+use Rattle.transcript.specs.declared.line.OpLine.{OpLine}
 use Rattle.transcript.specs.declared.board_run.ClientPart.{ClientPart}
 use Rattle.transcript.specs.declared.board_run.BoardRun.{BoardRun}
 use Rattle.transcript.specs.Ends.{ends_of}
@@ -112,6 +114,10 @@ IsUngarbled end = end.told ≢ Garbled
 -- so of no body of the board: each reply answers all transactions of its body
 abbrev pub NoneGarbled : BoardRun → Type 0
 NoneGarbled run = AllByRecursion (λ (part : ClientPart). AllByRecursion IsUngarbled (ends_of part)) run.parts
+
+-- no line of an operation shows so
+abbrev pub IsUngarbledLine : OpLine → Type 0
+IsUngarbledLine line = line.result ≢ result.Garbled
 
 -- ---- at any moment
 

@@ -1,11 +1,12 @@
 //! From the record that clients leave to what a run may show. These functions do nothing when they run: their clauses
 //! are what is proved.
 
-ghost use Rattle.std.specs.Prelude.{◌≡◌, ℕ, ◌*◌, List, map, Option};
+ghost use Rattle.std.specs.Prelude.{◌≡◌, ℕ, ◌*◌, List, map, IfSome, Option};
 ghost use Rattle.std.specs.List.{AllByRecursion};
 ghost use Rattle.ipb_base.specs.Lists.{IsPrefix};
 ghost use Rattle.board_bus.specs.Cells.{CellMap};
 ghost use Rattle.board_node.specs.declared.spec.BoardSpec.{BoardSpec};
+ghost use Rattle.world_model.specs.Board.{executed};
 ghost use Rattle.reliable_engine.specs.Settings.{Limits};
 ghost use Rattle.script_lang.specs.declared.operation.Step.{Step};
 ghost use Rattle.lane_record.specs.declared.outcome.Outcome.{Outcome};
@@ -17,6 +18,7 @@ ghost use Rattle.lane_record.specs.Legal.{IsLegal};
 ghost use Rattle.lane_record.specs.Bounds.{AreLostOnlyIf, HasReached, IsKept};
 ghost use Rattle.transcript.specs.declared.greeting.Greeting.TheVariants.{Live};
 ghost use Rattle.transcript.specs.declared.board_run.BoardRun.{BoardRun};
+ghost use Rattle.transcript.specs.Plan.{ClientBodies, plans_on};
 ghost use Rattle.board_history.specs.Order.{bodies_of, order};
 ghost use Rattle.board_history.specs.Parts.{HasOneOrder, IsExecutedOnce, KeepsScripts};
 ghost use Rattle.board_history.specs.InTurn.{AreInTurn};
@@ -29,8 +31,10 @@ ghost use Rattle.board_history.specs.History.{
 ghost use Rattle.board_history.specs.Patience.{IsPatient, joined};
 ghost use Rattle.board_history.specs.Merges.{IsMergeOfSome};
 ghost use Rattle.direct_run.specs.Runs.{opening_of};
-ghost use Rattle.lane_history.specs.Links.{HasFailed, IsBoardOf, IsLostOnlyIfFailed, LinkReport};
-ghost use Rattle.lane_history.specs.Runs.{IsRunOver, ShowsScripts, TellsPayload};
+ghost use Rattle.lane_history.specs.Links.{
+    HasFailed, IsBoardOf, IsLostOnlyIfFailed, IsUntouched, LinkReport,
+};
+ghost use Rattle.lane_history.specs.Runs.{ExecutedSome, IsRunOver, ShowsScripts, TellsPayload};
 ghost use Rattle.lane_history.specs.Records.{IsClientsRecord, IsPartlyPlanned, makers};
 ghost use Rattle.lane_history.specs.Lanes.{IsSoundLane, IsTrueOf, bodies_offered};
 
@@ -96,6 +100,19 @@ pub fn a_board_executes_a_merge_at_any_moment()
         IsPrefix done (bodies_offered (claims items) became) → IsMergeOfSome bodies done }
     ensures planned { (bodies : List (List (List ℕ))) (outcomes : List (List (List Outcome))) (items : List Item) →
         IsClientsRecord bodies outcomes items → IsPartlyPlanned bodies items }
+{}
+
+/// So it is of a lane that was left in the midst of a session, and of a board that was not touched: each executed a merge
+/// of bodies that the scripts ask of it, each client's in its order.
+pub fn a_lane_left_at_any_moment_executed_a_merge()
+    ensures lane { (settings : Limits) (spec : BoardSpec) (board : ℕ) (scripts : List (List Step)) (link : LinkReport)
+        (payload : ℕ) (items : List Item) (became : List (Option Outcome)) (given_up : ℕ) →
+        TellsPayload spec.link payload →
+        IsPartlyPlanned (map (λ (p : ClientBodies). p.bodies) (plans_on board (Live payload) scripts)) items →
+        IsSoundLane settings (opening_of spec.link) link items became given_up →
+        IfSome link.board (λ there. ExecutedSome spec board scripts (executed there)) }
+    ensures untouched { (spec : BoardSpec) (board : ℕ) (scripts : List (List Step)) (link : LinkReport) →
+        IsUntouched link → IfSome link.board (λ there. ExecutedSome spec board scripts (executed there)) }
 {}
 
 /// Where the entries stand client by client behind the Plans, the places of the first client's bodies are 1, 2, .., and

@@ -6,6 +6,7 @@ ghost use Rattle.std.specs.List.{AllByRecursion};
 ghost use Rattle.board_node.specs.declared.spec.BoardSpec.{BoardSpec};
 ghost use Rattle.world_model.specs.Board.{Board};
 ghost use Rattle.reliable_engine.specs.Settings.{Limits};
+ghost use Rattle.script_lang.specs.Executable.{AreExecutable, OpensOnWords};
 ghost use Rattle.script_lang.specs.declared.operation.Step.{Step};
 ghost use Rattle.transcript.specs.declared.greeting.Greeting.TheVariants.{Live};
 ghost use Rattle.transcript.specs.declared.board_run.BoardRun.{BoardRun};
@@ -13,16 +14,21 @@ ghost use Rattle.transcript.specs.Lines.{transcript_of};
 ghost use Rattle.transcript.specs.Shown.{HaveOwnNames, ShowsAllPlaces};
 ghost use Rattle.board_history.specs.InTurn.{AreInTurn};
 ghost use Rattle.board_history.specs.History.{ShowsHistory, bodies_by_client, outcomes_by_client};
-ghost use Rattle.direct_run.specs.Runs.{AreRuns, opening_of};
+ghost use Rattle.direct_run.specs.Runs.{AreRuns, CanRun, opening_of};
+ghost use Rattle.direct_run.specs.Lines.{IsBusLine};
 ghost use Rattle.direct_run.specs.Answering.{AskRequests, OpensWithWords};
 ghost use Rattle.lane_history.specs.Links.{IsCalm, LinkReport};
 ghost use Rattle.lane_history.specs.Runs.{
-    AllExecutedSome, AreRunsOver, AreWholeRuns, IsRunOver, NoneGarbled,
+    AllExecutedSome, AreRunsOver, AreWholeRuns, IsRunOver, IsUngarbledLine, NoneGarbled,
 };
 
 use board_bus::laws::{a_reply_answers_its_body, words_stay_words};
 use board_history::place_laws::lines_show_all_places;
-use reply_join::laws::joining_is_a_function;
+use mtu_packer::laws::{operations_of_words_are_packed, packed_bodies_spell_requests};
+use reply_join::laws::{
+    each_answer_is_that_of_its_request, each_request_has_one_answer, joining_is_a_function,
+};
+use transaction_codec::laws::one_list_for_words;
 use transcript::laws::bodies_stand_dispatch_by_dispatch;
 
 /// Over a link that tells, what a run shows of a live board is one legal history of it.
@@ -81,4 +87,44 @@ pub fn calm_links_in_turn_are_boards_of_this_process()
         AreRuns board specs scripts runs }
 {
     bodies_stand_dispatch_by_dispatch();
+}
+
+/// No line of a session is garbled, whatever the links of its boards lose, repeat, delay or reorder, and where they
+/// fail. The boards are simulated and open with words of 32 bits, and the scripts can be executed, as it is of every
+/// session that can be run.
+pub fn no_line_is_garbled()
+    ensures { (settings : Limits) (specs : List BoardSpec) (scripts : List (List Step)) (runs : List BoardRun)
+        (links : List LinkReport) → AreRunsOver settings 0 specs scripts runs links →
+        AllByRecursion CanRun specs → AllByRecursion OpensOnWords specs → AllByRecursion AreExecutable scripts →
+        AllByRecursion (AllByRecursion IsUngarbledLine) (transcript_of scripts runs).clients }
+{
+    bodies_stand_dispatch_by_dispatch();
+    a_reply_answers_its_body();
+    words_stay_words();
+    joining_is_a_function();
+    each_request_has_one_answer();
+    each_answer_is_that_of_its_request();
+    one_list_for_words();
+    packed_bodies_spell_requests();
+    operations_of_words_are_packed();
+}
+
+/// Where moreover nothing was held and nothing failed, each line is a value, `done`, `was`, a code of the bus or skipped:
+/// none is garbled, timed out, unsent or lost with its link, in whatever order the clients ran.
+pub fn calm_lines_fail_by_codes_of_the_bus_alone()
+    ensures { (settings : Limits) (specs : List BoardSpec) (scripts : List (List Step)) (runs : List BoardRun)
+        (links : List LinkReport) → 1 ≤ settings.rounds → AllByRecursion IsCalm links →
+        AreRunsOver settings 0 specs scripts runs links → AllByRecursion CanRun specs →
+        AllByRecursion OpensOnWords specs → AllByRecursion AreExecutable scripts →
+        AllByRecursion (AllByRecursion IsBusLine) (transcript_of scripts runs).clients }
+{
+    bodies_stand_dispatch_by_dispatch();
+    a_reply_answers_its_body();
+    words_stay_words();
+    joining_is_a_function();
+    each_request_has_one_answer();
+    each_answer_is_that_of_its_request();
+    one_list_for_words();
+    packed_bodies_spell_requests();
+    operations_of_words_are_packed();
 }
