@@ -26,6 +26,25 @@ def check(holds, told):
         raise Wrong(told)
 
 
+def sums(total, parts):
+    """All lists of so many numbers from 0 with this sum."""
+    for bars in itertools.combinations(range(total + parts - 1), parts - 1):
+        ends = [-1, *bars, total + parts - 1]
+        yield [end - begin - 1 for begin, end in itertools.pairwise(ends)]
+
+
+def choices(length, count):
+    """All ways to choose so many of a list, as truth values. A hub that gives up leaves a list of bodies at some point
+    and takes it up behind it, so those come first that are cut into the fewest parts of chosen ones and others."""
+    for cuts in range(min(count, length - count) + 1):
+        for chosen in sums(count - cuts, cuts + 1):
+            for others in sums(length - count - cuts, cuts + 1):
+                way = []
+                for part, (yes, no) in enumerate(zip(chosen, others)):
+                    way += [True] * (yes + (part > 0)) + [False] * (no + (part < cuts))
+                yield way
+
+
 class Line:
     """The line of an operation: its result and its places, by their body: (place, positions in the body from 1)."""
 
@@ -45,10 +64,13 @@ class Line:
     def placings(self):
         """The ways to give its places to bodies of the operation, as lists of a place or None for each body. There
         is one way where all bodies have a place, or none has."""
-        for chosen in itertools.combinations(range(len(self.bodies)), len(self.places)):
-            given = dict(zip(chosen, self.places))
-            if all(self.bodies[k][1] == positions for k, (_, positions) in given.items()):
-                yield [given[k][0] if k in given else None for k in range(len(self.bodies))]
+        if len(self.places) > len(self.bodies):
+            return
+        for way in choices(len(self.bodies), len(self.places)):
+            places = iter(self.places)
+            given = [next(places) if chosen else None for chosen in way]
+            if all(each is None or each[1] == positions for each, (_, positions) in zip(given, self.bodies)):
+                yield [each and each[0] for each in given]
 
 
 class BoardTold:
@@ -103,10 +125,10 @@ def placements(told):
     """The ways to give the printed places of a board to its bodies. A line that shows places for a part of its
     bodies leaves open which; all others leave no choice."""
     known = {}
-    choices = []
+    open_lines = []
     for line in told.lines:
         if 0 < len(line.places) < len(line.bodies):
-            choices.append(line)
+            open_lines.append(line)
             continue
         placing = next(line.placings(), None)
         check(placing, f"{line.told}: the places are not those of its pieces")
@@ -114,16 +136,16 @@ def placements(told):
             same = known.setdefault((line.client, body), place)
             check(same == place, f"{line.told}: two places of one body, {same} and {place}")
 
-    def choose(known, choices):
-        if not choices:
+    def choose(known, lines):
+        if not lines:
             yield known
             return
-        for placing in choices[0].placings():
-            more = joined(known, choices[0], placing)
+        for placing in lines[0].placings():
+            more = joined(known, lines[0], placing)
             if more is not None:
-                yield from choose(more, choices[1:])
+                yield from choose(more, lines[1:])
 
-    return choose(known, choices)
+    return choose(known, open_lines)
 
 
 def check_order(told, places):
@@ -223,17 +245,18 @@ def check_results(session, told, places):
     """There are outcomes of the bodies by which every line and the counts are as they are printed."""
     answers = replay(session, told, places)
     known = {}
-    choices = []
+    open_ways = []
     for line in told.lines:
         found = ways(session, line, places, answers)
         check(found, f"{line.told}: {line.result[:80]!r} is not what the board's order gives")
         if len(found) > 1:
-            choices.append(found)
+            open_ways.append(found)
             continue
         for body, outcome in found[0]:
             same = known.setdefault(body, outcome)
             check(same == outcome, f"{line.told}: its body was {same} by a line before it")
-    for chosen in itertools.islice(itertools.product(*choices), MOST_TRIES):
+    for number, chosen in enumerate(itertools.product(*open_ways)):
+        check(number < MOST_TRIES, f"undecided: the board {told.board.name} has more than {MOST_TRIES} ways")
         outcomes = known
         for way in chosen:
             outcomes = None if outcomes is None else agreed(outcomes, way)
@@ -248,7 +271,8 @@ def check_board(session, told):
             check(line.result == told.unplaced and not line.places, f"{line.told}: it is not {told.unplaced}")
         return
     first = None
-    for places in itertools.islice(placements(told), MOST_TRIES):
+    for number, places in enumerate(placements(told)):
+        check(number < MOST_TRIES, f"undecided: the board {told.board.name} has more than {MOST_TRIES} ways; {first}")
         try:
             check_order(told, places)
             check_results(session, told, places)
