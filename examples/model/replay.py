@@ -33,16 +33,17 @@ def sums(total, parts):
         yield [end - begin - 1 for begin, end in itertools.pairwise(ends)]
 
 
-def choices(length, count):
-    """All ways to choose so many of a list, as truth values. A hub that gives up leaves a list of bodies at some point
-    and takes it up behind it, so those come first that are cut into the fewest parts of chosen ones and others."""
-    for cuts in range(min(count, length - count) + 1):
-        for chosen in sums(count - cuts, cuts + 1):
-            for others in sums(length - count - cuts, cuts + 1):
-                way = []
-                for part, (yes, no) in enumerate(zip(chosen, others)):
-                    way += [True] * (yes + (part > 0)) + [False] * (no + (part < cuts))
-                yield way
+def choices(length, count, cuts):
+    """The ways to choose so many of a list, as truth values, that come to a chosen one behind one that was left so
+    many times. A hub that gives up leaves the rest of a list of bodies, and may go on with those asked behind it."""
+    if cuts > min(count, length - count):
+        return
+    for chosen in sums(count - cuts, cuts + 1):
+        for others in sums(length - count - cuts, cuts + 1):
+            way = []
+            for part, (yes, no) in enumerate(zip(chosen, others)):
+                way += [True] * (yes + (part > 0)) + [False] * (no + (part < cuts))
+            yield way
 
 
 class Line:
@@ -61,12 +62,14 @@ class Line:
         bodies = itertools.groupby(operation.pieces, lambda piece: piece[0])
         self.bodies = [(body, [index + 1 for _, index in pieces]) for body, pieces in bodies]
 
-    def placings(self):
-        """The ways to give its places to bodies of the operation, as lists of a place or None for each body. There
-        is one way where all bodies have a place, or none has."""
-        if len(self.places) > len(self.bodies):
-            return
-        for way in choices(len(self.bodies), len(self.places)):
+    @property
+    def most_cuts(self):
+        return min(len(self.places), len(self.bodies) - len(self.places))
+
+    def placings(self, cuts):
+        """The ways to give its places to bodies of the operation, as lists of a place or None for each body, where
+        so many bodies with a place stand behind one without. Where all or none have a place, there is one way."""
+        for way in choices(len(self.bodies), len(self.places), cuts):
             places = iter(self.places)
             given = [next(places) if chosen else None for chosen in way]
             if all(each is None or each[1] == positions for each, (_, positions) in zip(given, self.bodies)):
@@ -121,31 +124,35 @@ def joined(known, line, placing):
     return known | placed
 
 
+def chosen_placements(known, lines, cuts):
+    """The ways to place the bodies of these lines too, with so many cuts in all."""
+    if not lines:
+        if cuts == 0:
+            yield known
+        return
+    for here in range(min(cuts, lines[0].most_cuts) + 1):
+        for placing in lines[0].placings(here):
+            more = joined(known, lines[0], placing)
+            if more is not None:
+                yield from chosen_placements(more, lines[1:], cuts - here)
+
+
 def placements(told):
     """The ways to give the printed places of a board to its bodies. A line that shows places for a part of its
-    bodies leaves open which; all others leave no choice."""
+    bodies leaves open which; all others leave no choice. Ways with few cuts come first."""
     known = {}
     open_lines = []
     for line in told.lines:
         if 0 < len(line.places) < len(line.bodies):
             open_lines.append(line)
             continue
-        placing = next(line.placings(), None)
+        placing = next(line.placings(0), None)
         check(placing, f"{line.told}: the places are not those of its pieces")
         for (body, _), place in zip(line.bodies, placing):
             same = known.setdefault((line.client, body), place)
             check(same == place, f"{line.told}: two places of one body, {same} and {place}")
-
-    def choose(known, lines):
-        if not lines:
-            yield known
-            return
-        for placing in lines[0].placings():
-            more = joined(known, lines[0], placing)
-            if more is not None:
-                yield from choose(more, lines[1:])
-
-    return choose(known, open_lines)
+    for cuts in range(sum(line.most_cuts for line in open_lines) + 1):
+        yield from chosen_placements(known, open_lines, cuts)
 
 
 def check_order(told, places):
