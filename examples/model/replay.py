@@ -21,6 +21,10 @@ class Wrong(Exception):
     """The transcript is not one that the session can have."""
 
 
+class Undecided(Wrong):
+    """There are more ways to read the transcript than are tried."""
+
+
 def check(holds, told):
     if not holds:
         raise Wrong(told)
@@ -197,7 +201,8 @@ def good_text(line, answers):
 
 
 def ways_without_reply(line, outcome, places, answers):
-    """The ways in which a body of the line has this outcome and all bodies before it were replied and done."""
+    """The ways in which a body of the line has this outcome and all bodies before it were replied and done: those
+    first that say least of the other bodies."""
     ways = []
     replied = []
     for number, positions in line.bodies:
@@ -262,8 +267,10 @@ def check_results(session, told, places):
         for body, outcome in found[0]:
             same = known.setdefault(body, outcome)
             check(same == outcome, f"{line.told}: its body was {same} by a line before it")
+    open_ways = [[way for way in found if agreed(known, way) is not None] for found in open_ways]
     for number, chosen in enumerate(itertools.product(*open_ways)):
-        check(number < MOST_TRIES, f"undecided: the board {told.board.name} has more than {MOST_TRIES} ways")
+        if number == MOST_TRIES:
+            raise Undecided(f"board {told.board.name}: more than {MOST_TRIES} ways to its counts")
         outcomes = known
         for way in chosen:
             outcomes = None if outcomes is None else agreed(outcomes, way)
@@ -279,14 +286,17 @@ def check_board(session, told):
         return
     first = None
     for number, places in enumerate(placements(told)):
-        check(number < MOST_TRIES, f"undecided: the board {told.board.name} has more than {MOST_TRIES} ways; {first}")
+        if number == MOST_TRIES:
+            raise Undecided(f"board {told.board.name}: more than {MOST_TRIES} ways to its places; {first}")
         try:
             check_order(told, places)
             check_results(session, told, places)
             return
+        except Undecided:
+            raise
         except Wrong as wrong:
             first = first or wrong
-    raise first or Wrong(f"board {told.board.name}: its bodies can not have its places")
+    raise first or Wrong(f"board {told.board.name}: its bodies cannot have its places")
 
 
 def check_transcript(session, text, status):
