@@ -1,0 +1,108 @@
+"""Sessions drawn at random, from a number: the same number draws the same session."""
+import random
+
+REGISTERS = """
+tables.group = [
+  { id = "ctrl", nodes = [ { id = "on", mask = 1 }, { id = "gain", mask = 0xf0 }, { id = "top", mask = 0x80000000 } ] },
+  { id = "count", address = 1 },
+  { id = "id", address = 2, permission = "r" },
+  { id = "key", address = 3, permission = "w" },
+  { id = "fifo", address = 4, mode = "port" },
+  { id = "memory", address = 0x10, mode = "block", size = 700 },
+]
+tables.main = [
+  { id = "low", module = "group", mode = "hierarchical" },
+  { id = "high", module = "group", address = 0x1000, mode = "hierarchical" },
+  { id = "slow", address = 0x8000 },
+  { id = "absent", address = 0x9000 },
+]
+"""
+
+# lines for the register groups `low` and `high`; a line of a name behind them may fail on the bus
+LINES = [
+  "read {group}.ctrl",
+  "read {group}.ctrl.gain",
+  "read {group}.ctrl.top",
+  "read {group}.count",
+  "read {group}.id",
+  "read {group}.memory",
+  "write {group}.ctrl.on {bit}",
+  "write {group}.ctrl.gain {digit}",
+  "write {group}.count {word}",
+  "write {group}.key {word}",
+  "rmwsum {group}.count {word}",
+  "rmwbits {group}.ctrl {word} {word}",
+  "readblock {group}.memory {few}",
+  "readblock {group}.fifo {few}",
+  "writeblock {group}.fifo {words}",
+  "writeblock {group}.memory {words}",
+  "dispatch",
+]
+RARE_LINES = [
+  "readblock {group}.memory {many}",
+  "writeblock {group}.memory {many_words}",
+  "read slow",
+  "write slow {word}",
+  "read absent",
+  "write absent {word}",
+  "rmwsum absent 1",
+]
+
+
+class Draw:
+    def __init__(self, number):
+        self.random = random.Random(f"session {number}")
+
+    def word(self):
+        return f"0x{self.random.getrandbits(self.random.choice([1, 8, 32])):08x}"
+
+    def words(self, count):
+        return " ".join(self.word() for _ in range(count))
+
+    def line(self, boards):
+        """A line of a script, for one of these boards."""
+        rare = self.random.random() < 0.02
+        line = self.random.choice(RARE_LINES if rare else LINES)
+        verb, _, rest = line.partition(" ")
+        register, _, numbers = rest.partition(" ")
+        many = self.random.randint(20, 700)
+        numbers = numbers.replace("{word}", "{0}", 1).format(
+            self.word(),
+            word=self.word(),
+            bit=self.random.randint(0, 1),
+            digit=self.random.randint(0, 15),
+            few=self.random.randint(1, 16),
+            words=self.words(self.random.randint(1, 12)),
+            many=many,
+            many_words=self.words(many) if "{many_words}" in numbers else "",
+        )
+        register = register.format(group=self.random.choice(["low", "high"]))
+        return f"{verb} {self.random.choice(boards)}:{register} {numbers}".rstrip() if rest else verb
+
+    def board(self, name):
+        mtu = self.random.choice([92, 93, 120, 300, 576, 1500, 9000])
+        first = self.random.choice([1, 2, 65530, 65535, self.random.randint(1, 65535)])
+        size = self.random.choice([8, 716, 716, 716])
+        return (
+            f'[[board]]\nname = "{name}"\ntable = "main"\nmtu = {mtu}\nfirst = {first}\n'
+            f"buffers = {self.random.choice([1, 2, 4, 16, 64])}\nranges = [\n"
+            f"  {{ base = 0, size = {size}, init = [{self.word()}, 5, {self.word()}] }},\n"
+            f'  {{ base = 0x1000, size = 2 }}, {{ base = 0x1002, size = 1, kind = "ro", init = [7] }},\n'
+            f'  {{ base = 0x1003, size = 1, kind = "wo" }}, {{ base = 0x1004, size = 712 }},\n'
+            f'  {{ base = 0x8000, size = 1, kind = "slow" }},\n]\n'
+        )
+
+    def session(self):
+        boards = [f"b{place}" for place in range(self.random.choice([1, 1, 2, 3]))]
+        rounds = self.random.choice([1, 2, 3, 8, 255])
+        text = f"rounds = {rounds}\nwindow = {self.random.randint(1, 16)}\n{REGISTERS}"
+        text += "".join(self.board(board) for board in boards)
+        for _ in range(self.random.choice([1, 1, 2, 3, 5])):
+            script = [self.line(boards) for _ in range(self.random.choice([2, 10, 30, 60]))]
+            text += "[[client]]\nscript = [\n" + "".join(f'  "{line}",\n' for line in script) + "]\n"
+        return text.encode()
+
+
+def drawn_session(number):
+    """The document that this number draws."""
+    return Draw(number).session()
