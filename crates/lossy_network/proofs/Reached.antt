@@ -17,8 +17,9 @@ use Rattle.world_core.specs.declared.link.Received.TheVariants.{Got, Quiet}
 use Rattle.lossy_network.specs.Network.{ForHub, Front, Network, Nothing, Receipt, Taken, Taking, all_taken, called}
 use Rattle.lossy_network.specs.Network.{fails}
 use Rattle.lossy_network.specs.Network.{front, most_takings, received, takes}
-use Rattle.lossy_network.specs.Calls.{CannotReceive, Deed, Ends, HandsOut, IsDeed, Offers, Receives, Sends, after_deed}
-use Rattle.lossy_network.specs.Calls.{after_deeds, deeds_on, hears_answer, is_silent, is_told, may_receive, sends_on}
+use Rattle.lossy_network.specs.HubSteps.{CannotReceive, HandsOut, HubAndLink, HubStep, IsHubStep, Offers, Receives}
+use Rattle.lossy_network.specs.HubSteps.{Sends, after_step}
+use Rattle.lossy_network.specs.HubSteps.{after_steps, steps_on, hears_answer, is_silent, is_told, may_receive, sends_on}
 use Rattle.lossy_network.proofs.Takings.{still, takes_one}
 use Rattle.lossy_network.proofs.Along.{WasDropped, WasHeard, was_taken}
 use Rattle.lossy_network.proofs.Receipts.{the_got, the_quiet}
@@ -99,75 +100,75 @@ if_none : {A : Type 0} (b : Bool) (r : Option A) (x : A) → cond b None r ≡ S
 if_none true r x is = absurd cc
 if_none false r x is = is
 
--- ---- deeds
+-- ---- steps
 
-abbrev pub IsThere : World → Ends → Type 0
-IsThere begin ends = IsReached begin ends.fates ends.hub ends.net.told
+abbrev pub IsThere : World → HubAndLink → Type 0
+IsThere begin both = IsReached begin both.fates both.hub both.net.told
 
 module _ (begin : World) (events : RunEvents begin) where
-  sends_there : (ends after : Ends) (r : Option Next) → next_send ends.hub ≡ r → IsThere begin ends
-      → sends_on ends r ≡ Some after → IsThere begin after
-  sends_there ends after None is here done = absurd cc
-  sends_there ends after (Some next) is here done =
-      let same = some_is _ after (if_none (fails ends.net) _ after done) in
-      subst (IsThere begin) (sym same) (events.one_sent ends.fates ends.hub ends.net.told next here is)
+  sends_there : (both after : HubAndLink) (r : Option Next) → next_send both.hub ≡ r → IsThere begin both
+      → sends_on both r ≡ Some after → IsThere begin after
+  sends_there both after None is here done = absurd cc
+  sends_there both after (Some next) is here done =
+      let same = some_is _ after (if_none (fails both.net) _ after done) in
+      subst (IsThere begin) (sym same) (events.one_sent both.fates both.hub both.net.told next here is)
 
-  received_there : (ends after : Ends) (answer : Received) → answer ≡ (received ends.net).answer → IsThere begin ends
-      → next_send ends.hub ≡ None → ends.hub.fates ≡ []
-      → hears_answer ends (received ends.net) answer ≡ Some after → IsThere begin after
-  received_there ends after Got is here silent told done =
-      let got = the_got ends.net is in
-      let heard = takes_heard (most_takings (called ends.net)) (called ends.net) in
-      let mid = events.some_heard ends.fates ends.hub ends.net.told (all_taken (called ends.net)).told here silent told
+  received_there : (both after : HubAndLink) (answer : Received) → answer ≡ (received both.net).answer
+      → IsThere begin both → next_send both.hub ≡ None → both.hub.fates ≡ []
+      → hears_answer both (received both.net) answer ≡ Some after → IsThere begin after
+  received_there both after Got is here silent told done =
+      let got = the_got both.net is in
+      let heard = takes_heard (most_takings (called both.net)) (called both.net) in
+      let mid = events.some_heard both.fates both.hub both.net.told (all_taken (called both.net)).told here silent told
       heard in
-      let handed = events.handed ends.fates ends.hub (all_taken (called ends.net)).told got.bytes mid silent told
+      let handed = events.handed both.fates both.hub (all_taken (called both.net)).told got.bytes mid silent told
       (record { place = got.place; at = got.there }) in
       subst (IsThere begin) (sym (some_is _ after done))
-      (subst (λ (r : Receipt). IsReached begin ends.fates (take_message ends.hub (to_hub r.bytes)) r.after.told)
+      (subst (λ (r : Receipt). IsReached begin both.fates (take_message both.hub (to_hub r.bytes)) r.after.told)
       (sym got.is) handed)
-  received_there ends after Quiet is here silent told done =
-      let quiet = the_quiet ends.net is in
-      let heard = takes_heard (most_takings (called ends.net)) (called ends.net) in
-      let mid = events.some_heard ends.fates ends.hub ends.net.told (all_taken (called ends.net)).told here silent told
+  received_there both after Quiet is here silent told done =
+      let quiet = the_quiet both.net is in
+      let heard = takes_heard (most_takings (called both.net)) (called both.net) in
+      let mid = events.some_heard both.fates both.hub both.net.told (all_taken (called both.net)).told here silent told
       heard in
-      let waits = if_some (is_waiting ends.hub) _ after done in
-      let noticed = events.quiet ends.fates ends.hub (all_taken (called ends.net)).told mid silent told waits.0 in
+      let waits = if_some (is_waiting both.hub) _ after done in
+      let noticed = events.quiet both.fates both.hub (all_taken (called both.net)).told mid silent told waits.0 in
       subst (IsThere begin) (sym (some_is _ after waits.1))
-      (subst (λ (r : Receipt). IsReached begin ends.fates (hear_quiet ends.hub) r.after.told) (sym quiet.is) noticed)
+      (subst (λ (r : Receipt). IsReached begin both.fates (hear_quiet both.hub) r.after.told) (sym quiet.is) noticed)
 
-  told_of_may : (ends : Ends) → may_receive ends ≡ true → ends.hub.fates ≡ []
-  told_of_may ends is = told_none ends.hub.fates (left_true _ _ (left_true _ _ is))
+  told_of_may : (both : HubAndLink) → may_receive both ≡ true → both.hub.fates ≡ []
+  told_of_may both is = told_none both.hub.fates (left_true _ _ (left_true _ _ is))
 
-  silent_of_may : (ends : Ends) → may_receive ends ≡ true → next_send ends.hub ≡ None
-  silent_of_may ends is = silent_none (next_send ends.hub) (right_true _ _ (left_true _ _ is))
+  silent_of_may : (both : HubAndLink) → may_receive both ≡ true → next_send both.hub ≡ None
+  silent_of_may both is = silent_none (next_send both.hub) (right_true _ _ (left_true _ _ is))
 
-  deed_there : (ends after : Ends) (deed : Deed) → IsDeed deed → IsThere begin ends → after_deed ends deed ≡ Some after
-      → IsThere begin after
-  deed_there ends after (Offers offered) is here done =
-      let told = if_some (is_told ends.hub.fates) _ after done in
+  step_there : (both after : HubAndLink) (step : HubStep) → IsHubStep step → IsThere begin both
+      → after_step both step ≡ Some after → IsThere begin after
+  step_there both after (Offers offered) is here done =
+      let told = if_some (is_told both.hub.fates) _ after done in
       subst (IsThere begin) (sym (some_is _ after told.1))
-      (events.offered ends.fates ends.hub ends.net.told offered here is (told_none ends.hub.fates told.0))
-  deed_there ends after Sends is here done = sends_there ends after (next_send ends.hub) refl here done
-  deed_there ends after Receives is here done =
-      let may = if_some (may_receive ends) _ after done in
-      received_there ends after (received ends.net).answer refl here (silent_of_may ends may.0) (told_of_may ends may.0)
+      (events.offered both.fates both.hub both.net.told offered here is (told_none both.hub.fates told.0))
+  step_there both after Sends is here done = sends_there both after (next_send both.hub) refl here done
+  step_there both after Receives is here done =
+      let may = if_some (may_receive both) _ after done in
+      received_there both after (received both.net).answer refl here (silent_of_may both may.0) (told_of_may both may.0)
       may.1
-  deed_there ends after (CannotReceive taken) is here done =
-      let may = if_some (may_receive ends) _ after done in
+  step_there both after (CannotReceive taken) is here done =
+      let may = if_some (may_receive both) _ after done in
       subst (IsThere begin) (sym (some_is _ after may.1))
-      (events.some_heard ends.fates ends.hub ends.net.told (takes taken (called ends.net)).told here
-      (silent_of_may ends may.0) (told_of_may ends may.0) (takes_heard taken (called ends.net)))
-  deed_there ends after HandsOut is here done = subst (IsThere begin) (sym (some_is _ after done))
-      (events.out ends.fates ends.hub ends.net.told here)
+      (events.some_heard both.fates both.hub both.net.told (takes taken (called both.net)).told here
+      (silent_of_may both may.0) (told_of_may both may.0) (takes_heard taken (called both.net)))
+  step_there both after HandsOut is here done = subst (IsThere begin) (sym (some_is _ after done))
+      (events.out both.fates both.hub both.net.told here)
 
-  deeds_by : (r : Option Ends) (deeds : List Deed) (after : Ends)
-      → ((mid : Ends) → r ≡ Some mid → after_deeds mid deeds ≡ Some after → IsThere begin after)
-      → deeds_on r (λ mid. after_deeds mid deeds) ≡ Some after → IsThere begin after
-  deeds_by None deeds after later done = absurd cc
-  deeds_by (Some mid) deeds after later done = later mid refl done
+  steps_by : (r : Option HubAndLink) (steps : List HubStep) (after : HubAndLink)
+      → ((mid : HubAndLink) → r ≡ Some mid → after_steps mid steps ≡ Some after → IsThere begin after)
+      → steps_on r (λ mid. after_steps mid steps) ≡ Some after → IsThere begin after
+  steps_by None steps after later done = absurd cc
+  steps_by (Some mid) steps after later done = later mid refl done
 
-  pub deeds_there : (deeds : List Deed) (ends after : Ends) → AllByRecursion IsDeed deeds → IsThere begin ends
-      → after_deeds ends deeds ≡ Some after → IsThere begin after
-  deeds_there [] ends after are here done = subst (IsThere begin) (sym (some_is ends after done)) here
-  deeds_there (deed ∷ deeds) ends after are here done = deeds_by (after_deed ends deed) deeds after
-      (λ mid one more. deeds_there deeds mid after are.1 (deed_there ends mid deed are.0 here one) more) done
+  pub steps_there : (steps : List HubStep) (both after : HubAndLink) → AllByRecursion IsHubStep steps
+      → IsThere begin both → after_steps both steps ≡ Some after → IsThere begin after
+  steps_there [] both after are here done = subst (IsThere begin) (sym (some_is both after done)) here
+  steps_there (step ∷ steps) both after are here done = steps_by (after_step both step) steps after
+      (λ mid one more. steps_there steps mid after are.1 (step_there both mid step are.0 here one) more) done

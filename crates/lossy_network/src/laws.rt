@@ -18,7 +18,8 @@ ghost use Rattle.lossy_network.specs.Fates.{fate_at};
 ghost use Rattle.lossy_network.specs.Network.{Network, fails, new_network, received};
 ghost use Rattle.lossy_network.specs.Receipts.{GotReceipt, QuietReceipt};
 ghost use Rattle.lossy_network.specs.Calls.{Call, after_calls, all_takings, copies, drops, held_of, place_taken};
-ghost use Rattle.lossy_network.specs.Calls.{Deed, Ends, IsDeed, after_deeds, failures, new_ends, times_of};
+ghost use Rattle.lossy_network.specs.Calls.{failures, times_of};
+ghost use Rattle.lossy_network.specs.HubSteps.{HubAndLink, HubStep, IsHubStep, after_steps, new_hub_and_link};
 
 use world_core::laws::each_event_leads_to_a_state_of_a_run;
 use world_model::laws::links::a_link_forgets_nothing;
@@ -94,11 +95,12 @@ pub fn no_more_than_nine_are_delayed()
 
 /// A hub over a simulated link begins where a run of the world begins, and whatever it does leads to a state of one: it
 /// takes an offer, sends what it wants to send, receives when nothing is left to send, is told that memory ran out in a
-/// receive, and hands out fates. So the air is that of a run, and the board's executed bodies are.
+/// receive, and hands out fates. So the air is that of a run, and the board's executed bodies are. Steps after a call
+/// that failed, or after a send that memory ran out for, are not spoken of.
 pub fn a_hub_over_a_simulated_link_goes_as_a_run()
-    ensures { (window rounds : ℕ) (board : Board) (fates : Fates) (fail : List ℕ) (deeds : List Deed) (after : Ends)
-        → IsStart window board [] → AllByRecursion IsDeed deeds
-        → after_deeds (new_ends window rounds (new_network board fates fail)) deeds ≡ Some after
+    ensures { (window rounds : ℕ) (board : Board) (fates : Fates) (fail : List ℕ) (steps : List HubStep)
+        (after : HubAndLink) → IsStart window board [] → AllByRecursion IsHubStep steps
+        → after_steps (new_hub_and_link window rounds (new_network board fates fail)) steps ≡ Some after
         → IsReached (start window rounds board []) after.fates after.hub after.net.told }
 {
     each_event_leads_to_a_state_of_a_run();
