@@ -5,7 +5,7 @@ use Rattle.std.specs.Prelude.{Option, Some, None}
 use Rattle.lane_record.specs.declared.outcome.Outcome.{Outcome}
 use Rattle.lane_record.specs.declared.item.Item.{Item}
 use Rattle.lane_record.specs.Outcomes.{place_of, is_sent}
-use Rattle.lane_record.specs.Claims.{Claim, claims, taken}
+use Rattle.lane_record.specs.Claims.{Claim, claims, taken, IsAskOf, outcome_taken}
 
 -- a body without an outcome was sent, or may still be
 abbrev pub may_have_place : Option Outcome → Bool
@@ -21,6 +21,11 @@ abbrev pub HavePlacesAfter : ℕ → List (Option Outcome) → Type 0
 HavePlacesAfter others [] = Unit {0}
 HavePlacesAfter others (o ∷ os) =
     HasPlaceAfter others o × HavePlacesAfter (if may_have_place o then others + 1 else others) os
+
+-- how many of these bodies were sent, or may still be
+abbrev pub places_given : List (Option Outcome) → ℕ
+places_given [] = 0
+places_given (o ∷ os) = if may_have_place o then 1 + places_given os else places_given os
 
 -- The places are 1, 2, 3, .. in the order of the Asks; an Ask that never got a place is left out. There is an outcome,
 -- or the lack of one, for each Ask.
@@ -56,6 +61,15 @@ sent_of (c ∷ cs) (o ∷ os) = sent_as c o ++ sent_of cs os
 -- What a record alone tells of the bodies that were sent and taken. Of a finished record these are the first sends.
 abbrev pub first_sends : List Item → List Sent
 first_sends items = sent_of (claims items) (taken items)
+
+-- a body that was sent is that of an Ask, with what was taken for it
+pub record IsOfAsk (items : List Item) (s : Sent) : Type 0 where
+  pub k : ℕ
+  pub claim : Claim
+  pub ask : IsAskOf items k s.client s.seq claim
+  pub same_body : claim.body ≡ s.body
+  pub took : outcome_taken items claim ≡ Some s.outcome
+  pub at : place_of s.outcome ≡ Some s.place
 
 abbrev pub places_of : List Sent → List ℕ
 places_of sends = map (λ (s : Sent). s.place) sends

@@ -58,18 +58,19 @@ pub record AsksFollowPlans (items : List Item) : Type 0 where
 -- ---- the third part
 
 -- what was taken is what became of the body, which was asked before and not taken yet
-pub record TakesOf (outcomes : List (Option Outcome)) (front : List Item) (x : Item) (outcome : Outcome) : Type 0 where
+pub record TakesOf (front : List Item) (outcomes : List (Option Outcome)) (client seq : ℕ) (outcome : Outcome)
+    : Type 0 where
   pub k : ℕ
   pub claim : Claim
-  pub ask : IsAskOf front k x.client x.seq claim
-  pub once : found took_in x.client x.seq front ≡ None
+  pub ask : IsAskOf front k client seq claim
+  pub once : found took_in client seq front ≡ None
   pub became : slice_get outcomes k ≡ Some (Some outcome)
 
 abbrev pub MayTake : List (Option Outcome) → List Item → Item → What → Type 0
 MayTake outcomes front x (Plan body) = Unit {0}
 MayTake outcomes front x Seal = Unit {0}
 MayTake outcomes front x (Ask give_ups) = Unit {0}
-MayTake outcomes front x (Took outcome give_ups) = TakesOf outcomes front x outcome
+MayTake outcomes front x (Took outcome give_ups) = TakesOf front outcomes x.client x.seq outcome
 
 abbrev pub IsTookOf : List (Option Outcome) → List Item → Item → Type 0
 IsTookOf outcomes front x = MayTake outcomes front x x.what
@@ -82,15 +83,16 @@ TakenOnce items outcomes = Throughout (IsTookOf outcomes) items
 
 -- ---- the fifth part
 
--- the lane gave up after the Ask
-abbrev pub IsAskedBefore : ℕ → List Item → Item → Type 0
-IsAskedBefore now front x = IfSome (found ask_in x.client x.seq front) (λ then. then < now)
+-- the Ask of this client and number stands at a smaller number of give-ups
+abbrev pub IsAskedBefore : ℕ → List Item → ℕ → ℕ → Type 0
+IsAskedBefore now front client seq =
+    (k : ℕ) (claim : Claim) → IsAskOf front k client seq claim → claim.give_ups < now
 
 abbrev pub IsLateEnough : List Item → Item → What → Type 0
 IsLateEnough front x (Plan body) = Unit {0}
 IsLateEnough front x Seal = Unit {0}
 IsLateEnough front x (Ask give_ups) = Unit {0}
-IsLateEnough front x (Took outcome give_ups) = is_given_up outcome ≡ true → IsAskedBefore give_ups front x
+IsLateEnough front x (Took outcome give_ups) = is_given_up outcome ≡ true → IsAskedBefore give_ups front x.client x.seq
 
 abbrev pub IsLate : List Item → Item → Type 0
 IsLate front x = IsLateEnough front x x.what

@@ -6,3 +6,4 @@ pub mod Legal
 pub mod FirstSends
 pub mod Bounds
 pub mod Offers
+pub mod NextEntry

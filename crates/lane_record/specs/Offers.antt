@@ -1,5 +1,5 @@
 -- What ties a record to the hub that sends its bodies: an Ask is an offer under the number of the Ask. Profile.
-use Rattle.std.specs.Prelude.{◌≡◌, ℕ, zero, suc, ◌+◌, if◌then◌else◌, nat_lt}
+use Rattle.std.specs.Prelude.{◌≡◌, ◌⊎◌, ℕ, Bool, true, zero, suc, ◌+◌, ◌≤◌, if◌then◌else◌, nat_lt}
 use Rattle.std.specs.Prelude.{List, [], ◌∷◌, ◌++◌, map, Option, Some, None}
 use Rattle.std.specs.List.{slice_get}
 use Rattle.world_model.specs.declared.offered.Offered.{Offered}
@@ -7,12 +7,13 @@ use Rattle.world_model.specs.declared.offered.OpenPlace.{OpenPlace}
 use Rattle.world_model.specs.declared.offered.Fate.{Fate}
 use Rattle.world_model.specs.declared.offered.Fate.TheVariants as fate
 use Rattle.world_model.specs.Places.{at_place}
-use Rattle.world_model.specs.Hub.{tag_of}
+use Rattle.world_model.specs.Hub.{Hub, tag_of}
 use Rattle.lane_record.specs.declared.outcome.Outcome.{Outcome}
 use Rattle.lane_record.specs.declared.outcome.Outcome.TheVariants.{Replied, TimedOut, Unsent, LinkLost}
 use Rattle.lane_record.specs.Outcomes.{is_sent}
 use Rattle.lane_record.specs.Claims.{Claim}
 use Rattle.lane_record.specs.FirstSends.{may_have_place, PlacesCount}
+use Rattle.lane_record.specs.Bounds.{timeouts}
 
 -- The bodies of the Asks from number n on that were sent or may still be, each under the number of its Ask: what the
 -- hub has sent, and then what it has queued.
@@ -97,4 +98,19 @@ AreToldBy fates outcomes = (k : ℕ) (o : Outcome) → slice_get outcomes k ≡ 
 
 -- what became of an Ask stays
 abbrev pub KeepsOutcomes : List (Option Outcome) → List (Option Outcome) → Type 0
-KeepsOutcomes old new = (k : ℕ) (o : Outcome) → slice_get old k ≡ Some (Some o) → slice_get new k ≡ Some (Some o)
+KeepsOutcomes old new =
+    (k : ℕ) (outcome : Outcome) → slice_get old k ≡ Some (Some outcome) → slice_get new k ≡ Some (Some outcome)
+
+-- the new outcomes are all of one kind
+abbrev pub AddsOnly : (Outcome → Bool) → List (Option Outcome) → List (Option Outcome) → Type 0
+AddsOnly kind old new = (k : ℕ) (outcome : Outcome) → slice_get new k ≡ Some (Some outcome)
+    → (slice_get old k ≡ Some (Some outcome)) ⊎ (kind outcome ≡ true)
+
+-- A hub whose fates are still to be handed out: with them the outcomes agree with it. What became of an Ask stays, what
+-- is new is of one kind, and at most so many bodies more are timed out.
+pub record Settles (hub : Hub) (claims : List Claim) (old : List (Option Outcome)) (kind : Outcome → Bool) (most : ℕ)
+    : Type 0 where
+  pub agrees : Agrees hub.sent hub.queue hub.open_places claims (put_all hub.fates old)
+  pub keeps : KeepsOutcomes old (put_all hub.fates old)
+  pub adds : AddsOnly kind old (put_all hub.fates old)
+  pub few : timeouts (put_all hub.fates old) ≤ timeouts old + most

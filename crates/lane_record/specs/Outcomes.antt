@@ -10,6 +10,12 @@ place_of (TimedOut place rounds) = Some place
 place_of Unsent = None
 place_of (LinkLost place) = place
 
+abbrev pub is_replied : Outcome → Bool
+is_replied (Replied place words) = true
+is_replied (TimedOut place rounds) = false
+is_replied Unsent = false
+is_replied (LinkLost place) = false
+
 -- only a give-up of the hub ends a body so
 abbrev pub is_given_up : Outcome → Bool
 is_given_up (Replied place words) = false
@@ -22,6 +28,12 @@ is_timed_out (Replied place words) = false
 is_timed_out (TimedOut place rounds) = true
 is_timed_out Unsent = false
 is_timed_out (LinkLost place) = false
+
+abbrev pub is_lost : Outcome → Bool
+is_lost (Replied place words) = false
+is_lost (TimedOut place rounds) = false
+is_lost Unsent = false
+is_lost (LinkLost place) = true
 
 -- whether the body was sent
 abbrev pub is_sent : Outcome → Bool
