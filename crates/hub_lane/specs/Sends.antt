@@ -1,5 +1,5 @@
 -- Sends of a hub, one after another. Profile.
-use Rattle.std.specs.Prelude.{◌≡◌, ℕ, replicate}
+use Rattle.std.specs.Prelude.{◌≡◌, ℕ, [], replicate}
 use Rattle.world_model.specs.Hub.{Hub}
 use Rattle.world_model.specs.Sends.{pending}
 use Rattle.reliable_engine.specs.Events.{Send, after_events}
@@ -16,3 +16,7 @@ all_sent hub = after_sends (pending hub) hub
 pub record HasSent (old new : Hub) : Type 0 where
   pub count : ℕ
   pub sends : new ≡ after_sends count old
+
+-- the hub whose fates were all handed out
+abbrev pub handed_out : Hub → Hub
+handed_out hub = record hub { fates = [] }

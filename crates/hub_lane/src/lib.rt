@@ -3,5 +3,6 @@
 
 mod answers;
 mod exchange;
+mod rows;
 
-pub use answers::Pumped;
+pub use answers::{Asked, BoardState, PlanRefusal, Pumped, Taken};
