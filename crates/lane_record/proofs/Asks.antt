@@ -1,20 +1,15 @@
 -- Lemmas on the Asks of a record: each client and number stands once among them.
-use Rattle.std.proofs.Common.{◌≡◌, ℕ, zero, suc, ◌+◌, ◌<◌, ◌≤◌, Bool, true, false, List, [], ◌∷◌, ◌++◌, length, Option, Some, None}
+use Rattle.std.proofs.Common.{◌≡◌, ℕ, zero, suc, ◌<◌, true, List, [], ◌∷◌, ◌++◌, length, Some, None}
 use Rattle.std.proofs.Common.{refl, sym, ap, ◌∙◌, subst, arith, length-append, append_assoc, inl, inr, ◌⊎◌}
 use Rattle.std.proofs.lemmas.List.{append-nil}
 use Rattle.std.specs.Prelude.{is_some}
-use Rattle.std.specs.List.{slice_get, AllByRecursion}
+use Rattle.std.specs.List.{slice_get}
 use Rattle.std.specs.Option.{unwrap_or}
-use Rattle.ipb_base.proofs.AllLemmas.{AllByRecursion-append, front_of_all}
 use Rattle.world_model.proofs.Lists.{get_front}
 use Rattle.lane_record.specs.declared.item.Item.{Item}
-use Rattle.lane_record.specs.declared.item.What.{What}
-use Rattle.lane_record.specs.declared.item.What.TheVariants.{Plan, Seal, Ask, Took}
-use Rattle.lane_record.specs.Items.{numbers, found, plan_in, ask_in, took_in, asked}
+use Rattle.lane_record.specs.Items.{numbers, found, plan_in, ask_in, asked}
 use Rattle.lane_record.specs.Claims.{Claim, claims, claims_behind, claim_in, IsAskOf}
-use Rattle.lane_record.specs.Legal.{IsMade, HasMaker, TakesOf, MayTake, IsTookOf}
-use Rattle.lane_record.specs.Lists.{EachBehind}
-use Rattle.lane_record.proofs.Lookups.{Count, IsNext, count_front, count_last, numbers_append, claims_front, claims_push, own_number}
+use Rattle.lane_record.proofs.Lookups.{Count, IsNext, count_front, count_last, numbers_append, claims_front, own_number}
 
 -- ---- a list and one more
 

@@ -1,25 +1,29 @@
 -- Lemmas on finished records: what was taken is what became of the bodies, and the places count.
-use Rattle.std.proofs.Common.{◌≡◌, ℕ, zero, suc, ◌+◌, ◌<◌, ◌≤◌, Bool, true, false, cond, ◌==◌, List, [], ◌∷◌, ◌++◌, length, map, Option, Some, None}
+use Rattle.std.proofs.Common.{◌≡◌, ℕ, zero, suc, ◌+◌, ◌≤◌, Bool, true, ◌==◌, List, [], ◌∷◌, ◌++◌, length, map, Option, Some, None}
 use Rattle.std.proofs.Common.{refl, sym, ap, ◌∙◌, subst, arith, append_assoc, inl, inr, if◌then◌else◌}
 use Rattle.std.proofs.lemmas.Bool.{eqb-true}
-use Rattle.std.proofs.lemmas.List.{append-nil}
+use Rattle.std.proofs.lemmas.List.{append-nil, length-map}
 use Rattle.std.specs.List.{slice_get, AllByRecursion}
-use Rattle.std.specs.Option.{option_or, unwrap_or}
+use Rattle.std.specs.Option.{unwrap_or}
 use Rattle.std.specs.Prelude.{is_some}
 use Rattle.ipb_base.proofs.AllLemmas.{AllByRecursion-append}
 use Rattle.world_model.proofs.Lists.{all_get, get_seam}
+use Rattle.world_model.specs.declared.offered.Offered.{Offered}
+use Rattle.world_model.specs.declared.offered.OpenPlace.{OpenPlace}
+use Rattle.world_model.specs.Facts.{bodies_of}
 use Rattle.world_model.specs.Places.{at_place}
 use Rattle.lane_record.specs.declared.outcome.Outcome.{Outcome}
 use Rattle.lane_record.specs.declared.item.Item.{Item}
 use Rattle.lane_record.specs.declared.item.What.{What}
 use Rattle.lane_record.specs.declared.item.What.TheVariants.{Plan, Seal, Ask, Took}
 use Rattle.lane_record.specs.Outcomes.{place_of, is_sent}
-use Rattle.lane_record.specs.Items.{found, plan_in, ask_in, took_in, is_of}
+use Rattle.lane_record.specs.Items.{found, plan_in, ask_in, took_in, is_of, asked, planned}
 use Rattle.lane_record.specs.Claims.{Claim, claims, claims_behind, claim_in, IsAskOf, outcome_taken, taken, IsTaken, IsFinished}
 use Rattle.lane_record.specs.Lists.{EachBehind, CountsFrom}
-use Rattle.lane_record.specs.FirstSends.{PlacesCount, HavePlacesAfter, HasPlaceAfter, may_have_place, Sent, sent_at, sent_as, sent_of, first_sends, places_of, IsOfAsk}
+use Rattle.lane_record.specs.FirstSends.{HavePlacesAfter, HasPlaceAfter, may_have_place, Sent, sent_at, sent_as, sent_of, first_sends, places_of, bodies_sent, IsOfAsk}
+use Rattle.lane_record.specs.Offers.{Agrees, offers_from, unsettled_from, awaited, tags}
 use Rattle.lane_record.specs.Legal.{IsLegal, IsPlanned, HasPlan, IsTookOf, MayTake}
-use Rattle.lane_record.proofs.Lookups.{first_or, if_some, and_true, found_front}
+use Rattle.lane_record.proofs.Lookups.{first_or, if_some, and_true, found_front, found_below, found_within}
 use Rattle.lane_record.proofs.Asks.{ask_front, one_ask}
 
 -- ---- what was taken is what became of the body
@@ -219,3 +223,82 @@ stands_at items outcomes k client seq claim outcome place is all ask took at =
     subst (λ (q : ℕ). at_place (first_sends items) q ≡ Some (record { place = place; client = client; seq = seq; body = claim.body; outcome = outcome })) at_j
       (s.there ∙ ap (λ (c : ℕ). Some (record { place = place; client = c; seq = claim.seq; body = claim.body; outcome = outcome })) ask.same_client
         ∙ ap (λ (c : ℕ). Some (record { place = place; client = client; seq = c; body = claim.body; outcome = outcome })) ask.same_seq)
+
+-- ---- what the hub sent
+
+all_settled : (n : ℕ) (os : List (Option Outcome)) → AllSome os → unsettled_from n os ≡ []
+all_settled n [] all = refl
+all_settled n (None ∷ os) all = absurd (let e = all.1 in cc)
+all_settled n (Some outcome ∷ os) all = all_settled (n + 1) os all.2
+
+no_queue : (a : List ℕ) (queue : List Offered) → a ++ tags queue ≡ [] → queue ≡ []
+no_queue [] [] e = refl
+no_queue [] (x ∷ queue) e = absurd (cc)
+no_queue (y ∷ a) queue e = absurd (cc)
+
+bodies_at : (c : Claim) (outcome : Outcome) (place : Option ℕ) (n : ℕ) (offers : List Offered) (later : List Sent) → place_of outcome ≡ place → bodies_of offers ≡ bodies_sent later
+    → bodies_of (if may_have_place (Some outcome) then record { tag = n; body = c.body } ∷ offers else offers) ≡ bodies_sent (sent_at c outcome place ++ later)
+bodies_at c outcome None n offers later e same = ap (λ (p : Option ℕ). bodies_of (if is_some p then record { tag = n; body = c.body } ∷ offers else offers)) e ∙ same
+bodies_at c outcome (Some place) n offers later e same =
+    ap (λ (p : Option ℕ). bodies_of (if is_some p then record { tag = n; body = c.body } ∷ offers else offers)) e ∙ ap (λ (l : List (List ℕ)). c.body ∷ l) same
+
+same_bodies : (n : ℕ) (cs : List Claim) (os : List (Option Outcome)) → AllSome os → length os ≡ length cs → bodies_of (offers_from n cs os) ≡ bodies_sent (sent_of cs os)
+same_bodies n [] [] all len = refl
+same_bodies n [] (o ∷ os) all len = absurd (cc)
+same_bodies n (c ∷ cs) [] all len = refl
+same_bodies n (c ∷ cs) (None ∷ os) all len = absurd (let e = all.1 in cc)
+same_bodies n (c ∷ cs) (Some outcome ∷ os) all len =
+    bodies_at c outcome (place_of outcome) n (offers_from (n + 1) cs os) (sent_of cs os) refl (same_bodies (n + 1) cs os all.2 (omega (arith, len)))
+
+-- the hub of a finished record has sent its bodies, and queues nothing
+pub record HasSentAll (items : List Item) (sent queue : List Offered) : Type 0 where
+  pub nothing_queued : queue ≡ []
+  pub bodies : bodies_of sent ≡ bodies_sent (first_sends items)
+
+pub finished_hub : (items : List Item) (outcomes : List (Option Outcome)) (sent queue : List Offered) (open_places : List OpenPlace) → IsLegal items outcomes → IsFinished items
+    → Agrees sent queue open_places (claims items) outcomes → HasSentAll items sent queue
+finished_hub items outcomes sent queue open_places is all agrees =
+    let same = outcomes_taken items outcomes is all in
+    let some = some_taken items (claims items) all in
+    let none = no_queue (awaited sent open_places) queue (agrees.waits ∙ (ap (unsettled_from 0) same ∙ all_settled 0 (taken items) some)) in
+    record {
+      nothing_queued = none;
+      bodies = ap bodies_of (sym (append-nil sent) ∙ (ap (λ (q : List Offered). sent ++ q) (sym none) ∙ (agrees.offered ∙ ap (offers_from 0 (claims items)) same)))
+        ∙ same_bodies 0 (claims items) (taken items) some (length-map (claims items) (outcome_taken items));
+    }
+
+-- ---- no more Asks than Plans
+
+plan_of_asked : (front items : List Item) (x : Item) (what : What) (client seq g : ℕ) → x.client ≡ client → x.seq ≡ seq → ask_in what ≡ Some g → HasPlan front x what
+    → (body : List ℕ) × (found plan_in client seq (front ++ items) ≡ Some body)
+plan_of_asked front items x (Plan body) client seq g c s e is = absurd (cc)
+plan_of_asked front items x Seal client seq g c s e is = absurd (cc)
+plan_of_asked front items x (Took outcome n) client seq g c s e is = absurd (cc)
+plan_of_asked front items x (Ask n) client seq g c s e is =
+    (is.0, found_front plan_in client seq front items is.0
+      (subst (λ (d : ℕ). found plan_in d seq front ≡ Some is.0) c (subst (λ (t : ℕ). found plan_in x.client t front ≡ Some is.0) s is.1)))
+
+plan_behind : (front items : List Item) (client seq g : ℕ) → EachBehind IsPlanned front items → found ask_in client seq items ≡ Some g
+    → (body : List ℕ) × (found plan_in client seq (front ++ items) ≡ Some body)
+plan_behind front [] client seq g is e = absurd (cc)
+plan_behind front (x ∷ items) client seq g is e =
+    elim (first_or (if is_of client seq x then ask_in x.what else None) (found ask_in client seq items) g e) [
+      | inl h ↦
+          let r = if_some (is_of client seq x) (ask_in x.what) g h in
+          let same = and_true (x.client == client) (x.seq == seq) r.0 in
+          plan_of_asked front (x ∷ items) x x.what client seq g (eqb-true x.client client same.0) (eqb-true x.seq seq same.1) r.1 is.0
+      | inr h ↦ subst (λ (l : List Item). (body : List ℕ) × (found plan_in client seq l ≡ Some body)) (append_assoc front (x ∷ []) items) (plan_behind (front ++ x ∷ []) items client seq g is.1 h)
+    ]
+
+last_planned : (items : List Item) (outcomes : List (Option Outcome)) (client many : ℕ) → asked client items ≡ suc many → IsLegal items outcomes → suc many ≤ planned client items
+last_planned items outcomes client many e is =
+    let ask = found_below ask_in client many items is.asks_follow_plans.count (omega (arith, e)) in
+    let plan = plan_behind [] items client many ask.0 is.asks_follow_plans.planned ask.1 in
+    let within = found_within plan_in client many items plan.0 is.plans_count.count plan.1 in
+    omega (arith, within)
+
+pub asked_few : (items : List Item) (outcomes : List (Option Outcome)) (client : ℕ) → IsLegal items outcomes → asked client items ≤ planned client items
+asked_few items outcomes client is = elim (asked client items) as (λ n. asked client items ≡ n → n ≤ planned client items) [
+    | zero ↦ λ e. omega arith
+    | suc many ↦ λ e. last_planned items outcomes client many e is
+  ] refl

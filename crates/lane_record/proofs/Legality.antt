@@ -1,25 +1,23 @@
 -- Lemmas on legal records: one more entry, one entry less, and a front.
-use Rattle.std.proofs.Common.{◌≡◌, ℕ, zero, suc, ◌+◌, ◌<◌, ◌≤◌, Bool, true, false, List, [], ◌∷◌, ◌++◌, length, take, Option, Some, None}
-use Rattle.std.proofs.Common.{refl, sym, ap, ◌∙◌, subst, arith, length-append, append_assoc, inl, inr, ◌⊎◌, if◌then◌else◌}
+use Rattle.std.proofs.Common.{◌≡◌, ℕ, zero, suc, ◌+◌, ◌<◌, ◌≤◌, List, [], ◌∷◌, ◌++◌, length, take, Option, Some, None}
+use Rattle.std.proofs.Common.{refl, sym, ap, ◌∙◌, subst, arith, length-append, if◌then◌else◌}
 use Rattle.std.proofs.lemmas.List.{append-nil}
-use Rattle.std.specs.Prelude.{is_some}
 use Rattle.std.specs.List.{slice_get, AllByRecursion}
 use Rattle.ipb_base.proofs.AllLemmas.{AllByRecursion-append, front_of_all, back_of_all}
-use Rattle.world_model.proofs.Lists.{get_front, get_within}
+use Rattle.world_model.proofs.Lists.{get_within}
 use Rattle.lane_record.specs.declared.outcome.Outcome.{Outcome}
 use Rattle.lane_record.specs.declared.item.Item.{Item}
 use Rattle.lane_record.specs.declared.item.What.{What}
 use Rattle.lane_record.specs.declared.item.What.TheVariants.{Plan, Seal, Ask, Took}
-use Rattle.lane_record.specs.Outcomes.{is_given_up}
-use Rattle.lane_record.specs.Items.{numbers, found, plan_in, ask_in, took_in, give_ups_in, planned, asked, is_sealed, give_ups, and_number}
-use Rattle.lane_record.specs.Claims.{Claim, claims, claims_behind, claim_in, IsAskOf}
-use Rattle.lane_record.specs.Lists.{NeverFalls, EachBehind, Throughout}
+use Rattle.lane_record.specs.Items.{plan_in, ask_in, give_ups_in, give_ups, and_number}
+use Rattle.lane_record.specs.Claims.{claims, claims_behind}
+use Rattle.lane_record.specs.Lists.{NeverFalls}
 use Rattle.lane_record.specs.FirstSends.{PlacesCount, HavePlacesAfter, may_have_place}
-use Rattle.lane_record.specs.Legal.{IsLegal, IsMade, IsUnsealed, IsPlanned, IsTookOf, MayTake, TakesOf, IsLate, PlansCount, AsksFollowPlans, TakenOnce, GiveUpsRise}
+use Rattle.lane_record.specs.Legal.{IsLegal, IsMade, IsUnsealed, IsPlanned, IsTookOf, MayTake, IsLate, TakenOnce}
 use Rattle.lane_record.specs.Bounds.{AreWithin}
 use Rattle.lane_record.specs.Offers.{KeepsOutcomes}
 use Rattle.lane_record.proofs.Sequences.{each_push, each_front, each_last, each_then, falls_push, falls_front, falls_last}
-use Rattle.lane_record.proofs.Lookups.{Count, IsNext, count_push, count_front, count_last, give_ups_append, claims_front}
+use Rattle.lane_record.proofs.Lookups.{IsNext, count_push, count_front, count_last, give_ups_append, claims_front}
 
 -- what an entry needs of those before it, of whatever kind it is
 pub record IsFit (items : List Item) (outcomes : List (Option Outcome)) (x : Item) : Type 0 where

@@ -6,3 +6,5 @@ pub mod NextEntries
 pub mod Finished
 pub mod Offers
 pub mod Events
+pub mod Sends
+pub mod Kept

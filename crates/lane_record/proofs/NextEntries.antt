@@ -1,20 +1,18 @@
 -- Lemmas on one more entry, kind by kind: what a legal record needs of it, both ways.
-use Rattle.std.proofs.Common.{◌≡◌, ℕ, zero, suc, ◌+◌, ◌<◌, ◌≤◌, Bool, true, false, cond, List, [], ◌∷◌, ◌++◌, length, take, Option, Some, None}
-use Rattle.std.proofs.Common.{refl, sym, ap, ◌∙◌, subst, arith, length-append, append_assoc, if◌then◌else◌}
+use Rattle.std.proofs.Common.{◌≡◌, ℕ, ◌+◌, ◌<◌, ◌≤◌, true, false, cond, List, [], ◌∷◌, ◌++◌, length, take, Option, Some, None}
+use Rattle.std.proofs.Common.{refl, sym, ap, ◌∙◌, subst, arith, length-append, if◌then◌else◌}
 use Rattle.std.proofs.lemmas.List.{append-nil, take_all}
-use Rattle.std.specs.Prelude.{is_some}
 use Rattle.std.specs.List.{slice_get, AllByRecursion}
-use Rattle.ipb_base.proofs.AllLemmas.{AllByRecursion-append, front_of_all}
+use Rattle.ipb_base.proofs.AllLemmas.{AllByRecursion-append}
 use Rattle.world_model.proofs.Lists.{get_front, all_get}
 use Rattle.lane_record.specs.declared.outcome.Outcome.{Outcome}
 use Rattle.lane_record.specs.declared.item.Item.{Item}
 use Rattle.lane_record.specs.declared.item.What.{What}
 use Rattle.lane_record.specs.declared.item.What.TheVariants.{Plan, Seal, Ask, Took}
-use Rattle.lane_record.specs.Outcomes.{is_given_up}
-use Rattle.lane_record.specs.Items.{numbers, found, plan_in, ask_in, took_in, give_ups_in, planned, asked, is_sealed, give_ups}
+use Rattle.lane_record.specs.Items.{plan_in, ask_in, is_sealed, give_ups}
 use Rattle.lane_record.specs.Claims.{Claim, claims, claims_behind, claim_in, IsAskOf}
 use Rattle.lane_record.specs.FirstSends.{PlacesCount, HavePlacesAfter, HasPlaceAfter, may_have_place, places_given}
-use Rattle.lane_record.specs.Legal.{IsLegal, IsMade, HasMaker, TakesOf, IsAskedBefore}
+use Rattle.lane_record.specs.Legal.{IsLegal, IsMade, HasMaker}
 use Rattle.lane_record.specs.NextEntry.{MayPlan, MayAsk, MayTook, plan_of, ask_of, took_of, the_seal}
 use Rattle.lane_record.specs.Offers.{KeepsOutcomes}
 use Rattle.lane_record.proofs.Lookups.{claims_push, found_below, found_within}

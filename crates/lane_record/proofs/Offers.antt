@@ -1,5 +1,5 @@
 -- Lemmas on the outcomes of Asks and the bodies that were offered: one more Ask, and an outcome that comes.
-use Rattle.std.proofs.Common.{◌≡◌, ℕ, zero, suc, ◌+◌, ◌<◌, ◌≤◌, Bool, true, false, cond, List, [], ◌∷◌, ◌++◌, length, map, Option, Some, None}
+use Rattle.std.proofs.Common.{◌≡◌, ℕ, zero, suc, ◌+◌, ◌≤◌, Bool, true, false, cond, List, [], ◌∷◌, ◌++◌, length, Option, Some, None}
 use Rattle.std.proofs.Common.{refl, sym, ap, ◌∙◌, subst, arith, inl, inr, ◌⊎◌, if◌then◌else◌}
 use Rattle.std.specs.Prelude.{nat_lt}
 use Rattle.std.specs.List.{slice_get}
@@ -7,7 +7,7 @@ use Rattle.std.proofs.lemmas.Bool.{ltb-true, ltb-false}
 use Rattle.world_model.specs.declared.offered.Offered.{Offered}
 use Rattle.world_model.proofs.Lists.{either}
 use Rattle.lane_record.specs.declared.outcome.Outcome.{Outcome}
-use Rattle.lane_record.specs.declared.outcome.Outcome.TheVariants.{Replied, TimedOut, Unsent, LinkLost}
+use Rattle.lane_record.specs.declared.outcome.Outcome.TheVariants.{Unsent, LinkLost}
 use Rattle.lane_record.specs.Outcomes.{place_of, is_sent, is_lost, is_timed_out}
 use Rattle.lane_record.specs.Claims.{Claim}
 use Rattle.lane_record.specs.FirstSends.{may_have_place, HasPlaceAfter, HavePlacesAfter}
@@ -309,10 +309,97 @@ pub record AreLost (n p : ℕ) (cs : List Claim) (os : List (Option Outcome)) (f
   pub places : HavePlacesAfter p os
   pub settled : unsettled_from n os ≡ []
 
-lost_one : (n p : ℕ) (d : Claim) (cs : List Claim) (o : Outcome) (os : List (Option Outcome)) (firsts : List Offered) → HasPlaceAfter p (Some o)
-    → AreLost (n + 1) (if is_sent o then p + 1 else p) cs os firsts → AreLost n p (d ∷ cs) (Some o ∷ os) (if is_sent o then record { tag = n; body = d.body } ∷ firsts else firsts)
-lost_one n p d cs o os firsts at is = record {
-    offers = ap (λ (l : List Offered). if is_sent o then record { tag = n; body = d.body } ∷ l else l) is.offers;
-    places = (at, is.places);
+lost_one : (n p : ℕ) (d : Claim) (cs : List Claim) (o : Outcome) (os : List (Option Outcome)) (firsts all : List Offered) (b : Bool) → is_sent o ≡ b → HasPlaceAfter p (Some o)
+    → AreLost (n + 1) (cond b (p + 1) p) cs os firsts → cond b (record { tag = n; body = d.body } ∷ firsts) firsts ≡ all → AreLost n p (d ∷ cs) (Some o ∷ os) all
+lost_one n p d cs o os firsts all b sent at is e = record {
+    offers = ap (λ (c : Bool). if c then record { tag = n; body = d.body } ∷ offers_from (n + 1) cs os else offers_from (n + 1) cs os) sent
+      ∙ (ap (λ (l : List Offered). if b then record { tag = n; body = d.body } ∷ l else l) is.offers ∙ e);
+    places = (at, subst (λ (c : Bool). HavePlacesAfter (if c then p + 1 else p) os) (sym sent) is.places);
     settled = is.settled;
   }
+
+lost_from : (n p s : ℕ) (cs : List Claim) (os : List (Option Outcome)) (a q : List Offered) (w : List ℕ) → length os ≡ length cs → s ≡ p + length a
+    → offers_from n cs os ≡ a ++ q → unsettled_from n os ≡ w ++ tags q → HavePlacesAfter p os → AreLost n p cs (lost_after p s os) a
+lost_from n p s cs [] [] q w len s_is e v is = record { offers = refl; places = tt; settled = refl }
+lost_from n p s cs [] (z ∷ a) q w len s_is e v is = absurd (cc)
+lost_from n p s [] (o ∷ os) a q w len s_is e v is = absurd (cc)
+lost_from n p s (d ∷ cs) (Some o ∷ os) a q w len s_is e v is =
+    let l : length os ≡ length cs = omega (arith, len) in
+    elim (is_sent o) as (λ b. is_sent o ≡ b → cond b (record { tag = n; body = d.body } ∷ offers_from (n + 1) cs os) (offers_from (n + 1) cs os) ≡ a ++ q
+        → HavePlacesAfter (cond b (p + 1) p) os → AreLost n p (d ∷ cs) (Some o ∷ lost_after (cond b (p + 1) p) s os) a) [
+      | true ↦ λ sent e is1. elim a as (λ a. s ≡ p + length a → record { tag = n; body = d.body } ∷ offers_from (n + 1) cs os ≡ a ++ q → AreLost n p (d ∷ cs) (Some o ∷ lost_after (p + 1) s os) a) [
+        | [] ↦ λ s_is e. elim q as (λ q. record { tag = n; body = d.body } ∷ offers_from (n + 1) cs os ≡ q → unsettled_from (n + 1) os ≡ w ++ tags q
+            → AreLost n p (d ∷ cs) (Some o ∷ lost_after (p + 1) s os) []) [
+          | [] ↦ λ e v. absurd (cc)
+          | y ∷ q ↦ λ e v.
+              let e1 : record { tag = n; body = d.body } ≡ y = cc in
+              let e2 : n ≡ y.tag = ap (λ (o : Offered). o.tag) e1 in
+              let k = unsettled_least (n + 1) y.tag os w (tags q) v in absurd (omega (arith, e2, k))
+        ] e v
+        | z ∷ a ↦ λ s_is e.
+            let e0 : record { tag = n; body = d.body } ≡ z = cc in
+            let e1 : offers_from (n + 1) cs os ≡ a ++ q = cc in
+            let later = lost_from (n + 1) (p + 1) s cs os a q w l (omega (arith, s_is)) e1 v is1 in
+            lost_one n p d cs o (lost_after (p + 1) s os) a (z ∷ a) true sent is.0 later (ap (λ (y : Offered). y ∷ a) e0)
+      ] s_is e
+      | false ↦ λ sent e is1. lost_one n p d cs o (lost_after p s os) a a false sent is.0 (lost_from (n + 1) p s cs os a q w l s_is e v is1) refl
+    ] refl e is.1
+lost_from n p s (d ∷ cs) (None ∷ os) [] q w len s_is e v is =
+    let l : length os ≡ length cs = omega (arith, len) in
+    either (λ (x : List (Option Outcome)). AreLost n p (d ∷ cs) x []) (nat_lt p s) (Some (LinkLost (Some (p + 1))) ∷ lost_after (p + 1) s os) (Some (LinkLost None) ∷ lost_after p s os)
+      (λ t. let h = ltb-true p s t in absurd (omega (arith, h, s_is)))
+      (λ _. elim q as (λ q. record { tag = n; body = d.body } ∷ offers_from (n + 1) cs os ≡ q → n ∷ unsettled_from (n + 1) os ≡ w ++ tags q
+          → AreLost n p (d ∷ cs) (Some (LinkLost None) ∷ lost_after p s os) []) [
+        | [] ↦ λ e v. absurd (cc)
+        | y ∷ q ↦ λ e v.
+            let e1 : record { tag = n; body = d.body } ≡ y = cc in
+            let e2 : n ≡ y.tag = ap (λ (o : Offered). o.tag) e1 in
+            let e3 : offers_from (n + 1) cs os ≡ q = cc in
+            elim w as (λ w. n ∷ unsettled_from (n + 1) os ≡ w ++ y.tag ∷ tags q → AreLost n p (d ∷ cs) (Some (LinkLost None) ∷ lost_after p s os) []) [
+              | [] ↦ λ v.
+                  let v1 : unsettled_from (n + 1) os ≡ tags q = cc in
+                  let places = all_unsettled (n + 1) p cs os l (ap tags e3 ∙ sym v1) in
+                  lost_one n p d cs (LinkLost None) (lost_after p s os) [] [] false refl (λ u. absurd (cc)) (lost_from (n + 1) p s cs os [] q [] l s_is e3 v1 places) refl
+              | x ∷ w ↦ λ v.
+                  let v1 : unsettled_from (n + 1) os ≡ w ++ y.tag ∷ tags q = cc in
+                  let k = unsettled_least (n + 1) y.tag os w (tags q) v1 in absurd (omega (arith, e2, k))
+            ] v
+      ] e v)
+lost_from n p s (d ∷ cs) (None ∷ os) (z ∷ a) q w len s_is e v is =
+    let l : length os ≡ length cs = omega (arith, len) in
+    let e0 : record { tag = n; body = d.body } ≡ z = cc in
+    let e1 : offers_from (n + 1) cs os ≡ a ++ q = cc in
+    either (λ (x : List (Option Outcome)). AreLost n p (d ∷ cs) x (z ∷ a)) (nat_lt p s) (Some (LinkLost (Some (p + 1))) ∷ lost_after (p + 1) s os) (Some (LinkLost None) ∷ lost_after p s os)
+      (λ _. elim w as (λ w. n ∷ unsettled_from (n + 1) os ≡ w ++ tags q → AreLost n p (d ∷ cs) (Some (LinkLost (Some (p + 1))) ∷ lost_after (p + 1) s os) (z ∷ a)) [
+        | [] ↦ λ v. elim q as (λ q. offers_from (n + 1) cs os ≡ a ++ q → n ∷ unsettled_from (n + 1) os ≡ tags q → AreLost n p (d ∷ cs) (Some (LinkLost (Some (p + 1))) ∷ lost_after (p + 1) s os) (z ∷ a)) [
+          | [] ↦ λ h v. absurd (cc)
+          | y ∷ q ↦ λ h v. let e2 : n ≡ y.tag = cc in let k = offers_least (n + 1) cs os a q y h in absurd (omega (arith, e2, k))
+        ] e1 v
+        | x ∷ w ↦ λ v.
+            let v1 : unsettled_from (n + 1) os ≡ w ++ tags q = cc in
+            lost_one n p d cs (LinkLost (Some (p + 1))) (lost_after (p + 1) s os) a (z ∷ a) true refl (λ u. refl)
+              (lost_from (n + 1) (p + 1) s cs os a q w l (omega (arith, s_is)) e1 v1 is.1) (ap (λ (y : Offered). y ∷ a) e0)
+      ] v)
+      (λ f. let h = ltb-false p s f in absurd (omega (arith, h, s_is)))
+
+pub all_lost_agree : (cs : List Claim) (os : List (Option Outcome)) (sent queue : List Offered) (w : List ℕ) → length os ≡ length cs → sent ++ queue ≡ offers_from 0 cs os
+    → w ++ tags queue ≡ unsettled_from 0 os → HavePlacesAfter 0 os → AreLost 0 0 cs (lost_after 0 (length sent) os) sent
+all_lost_agree cs os sent queue w len e v is = lost_from 0 0 (length sent) cs os sent queue w len (omega arith) (sym e) (sym v) is
+
+-- ---- from the first Ask on
+
+nil_plus : (k : ℕ) → k ≡ 0 + k
+nil_plus k = omega arith
+
+pub unsettled_none : (k : ℕ) (os : List (Option Outcome)) (a c : List ℕ) → unsettled_from 0 os ≡ a ++ k ∷ c → slice_get os k ≡ Some None
+unsettled_none k os a c e = unsettled_none_from 0 k os a c (subst (λ (t : ℕ). unsettled_from 0 os ≡ a ++ t ∷ c) (nil_plus k) e)
+
+pub put_unsettled : (k : ℕ) (o : Outcome) (os : List (Option Outcome)) (a c : List ℕ) → unsettled_from 0 os ≡ a ++ k ∷ c → unsettled_from 0 (put k o os) ≡ a ++ c
+put_unsettled k o os a c e = put_unsettled_from 0 k o os a c (subst (λ (t : ℕ). unsettled_from 0 os ≡ a ++ t ∷ c) (nil_plus k) e)
+
+pub offers_push_first : (cs : List Claim) (os : List (Option Outcome)) (c : Claim) → length os ≡ length cs
+    → offers_from 0 (cs ++ c ∷ []) (os ++ None ∷ []) ≡ offers_from 0 cs os ++ record { tag = length cs; body = c.body } ∷ []
+offers_push_first cs os c e = offers_push 0 cs os c e ∙ ap (λ (t : ℕ). offers_from 0 cs os ++ record { tag = t; body = c.body } ∷ []) (sym (nil_plus (length cs)))
+
+pub unsettled_push_first : (os : List (Option Outcome)) → unsettled_from 0 (os ++ None ∷ []) ≡ unsettled_from 0 os ++ length os ∷ []
+unsettled_push_first os = unsettled_push 0 os ∙ ap (λ (t : ℕ). unsettled_from 0 os ++ t ∷ []) (sym (nil_plus (length os)))

@@ -1,9 +1,9 @@
 -- Lemmas on numbers that follow one another, and on what holds of each item and those before it.
-use Rattle.std.proofs.Common.{◌≡◌, ℕ, zero, suc, ◌+◌, ◌<◌, ◌≤◌, List, [], ◌∷◌, ◌++◌, length, refl, sym, subst, ◌∙◌}
+use Rattle.std.proofs.Common.{◌≡◌, ℕ, ◌+◌, ◌≤◌, List, [], ◌∷◌, ◌++◌, length, refl, sym, subst, ◌∙◌}
 use Rattle.std.proofs.Common.{arith, append_assoc}
 use Rattle.std.proofs.lemmas.List.{append-nil}
 use Rattle.std.specs.List.{AllByRecursion}
-use Rattle.lane_record.specs.Lists.{CountsFrom, NeverFalls, EachBehind, Throughout}
+use Rattle.lane_record.specs.Lists.{CountsFrom, NeverFalls, EachBehind}
 
 -- ---- counting
 

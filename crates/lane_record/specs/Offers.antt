@@ -52,6 +52,13 @@ pub record Agrees (sent queue : List Offered) (open_places : List OpenPlace) (cl
   pub offered : sent ++ queue ≡ offers_from 0 claims outcomes
   pub waits : awaited sent open_places ++ tags queue ≡ unsettled_from 0 outcomes
 
+abbrev pub AgreesWith : Hub → List Claim → List (Option Outcome) → Type 0
+AgreesWith hub claims outcomes = Agrees hub.sent hub.queue hub.open_places claims outcomes
+
+-- an Ask as it is offered: its number is its tag
+abbrev pub offer_of : ℕ → Claim → Offered
+offer_of number claim = record { tag = number; body = claim.body }
+
 -- ---- what becomes of an Ask
 
 abbrev pub put : ℕ → Outcome → List (Option Outcome) → List (Option Outcome)

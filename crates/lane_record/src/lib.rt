@@ -6,6 +6,7 @@
 #![tactic(auto)]
 
 mod item;
+pub mod laws;
 mod outcome;
 
 pub use item::{Item, What};
