@@ -2,7 +2,7 @@
 use Rattle.std.specs.Prelude.{◌≡◌, ◌⊎◌, ℕ, ◌+◌, ◌≤◌, Bool, true, false, if◌then◌else◌, List, [], ◌∷◌, ◌++◌, length}
 use Rattle.std.specs.Prelude.{Option, Some, None, IfSome}
 use Rattle.std.specs.List.{slice_get}
-use Rattle.world_model.specs.Hub.{Hub, hear_quiet, is_waiting, offer}
+use Rattle.world_model.specs.Hub.{Hub, is_waiting, offer}
 use Rattle.world_core.specs.Telling.{Telling}
 use Rattle.lane_record.specs.declared.outcome.Outcome.{Outcome}
 use Rattle.lane_record.specs.declared.outcome.Outcome.TheVariants.{Replied, TimedOut, LinkLost}
@@ -18,7 +18,7 @@ use Rattle.hub_lane.specs.declared.answers.Pumped.TheVariants.{Reply, Status, St
 use Rattle.hub_lane.specs.declared.answers.Taken.{Taken}
 use Rattle.hub_lane.specs.declared.answers.Taken.TheVariants.{Ready, NotYet}
 use Rattle.hub_lane.specs.Sends.{HasSent, all_sent, handed_out}
-use Rattle.hub_lane.specs.Hearing.{IsEventAs, WasReceived, hub_after}
+use Rattle.hub_lane.specs.Hearing.{IsEventAs, WasReceived, give_ups_of, hub_after}
 use Rattle.hub_lane.specs.Lanes.{LaneState, with_item}
 
 -- a Seal is the next entry, unless one stands there
@@ -64,26 +64,22 @@ pub record IsSameRecord {L : Type 0} (old new : LaneState L) : Type 0 where
   pub outcomes : KeepsOutcomes old.outcomes new.outcomes
   pub give_ups : old.give_ups ≤ new.give_ups
 
--- the hub after an event, its fates among the outcomes
-pub record Became {L : Type 0} (old : LaneState L) (event : Hub) (new : LaneState L) : Type 0 where
+-- the hub after an event, its fates among the outcomes; a quiet receive after which nobody waits was a give-up
+pub record Became {L : Type 0} (old : LaneState L) (event : Hub) (pumped : Pumped) (new : LaneState L) : Type 0 where
   pub hub : new.hub ≡ handed_out event
   pub outcomes : new.outcomes ≡ put_all event.fates old.outcomes
+  pub give_ups : new.give_ups ≡ give_ups_of pumped event old.give_ups
   pub down : new.down ≡ false
   pub spent : new.spent ≡ false
 
--- All sends went out, and then came a datagram of these bytes, or none. A quiet receive after which nobody waits was a
--- give-up.
+-- All sends went out, and then came a datagram of these bytes, or none.
 pub record HasReceived {L : Type 0} (old : LaneState L) (telling : Option Telling) (pumped : Pumped)
     (new : LaneState L) : Type 0 where
   pub waited : is_waiting old.hub ≡ true
   pub bytes : List ℕ
   pub event : IsEventAs (all_sent old.hub) bytes pumped
   pub received : IfSome telling (WasReceived pumped bytes)
-  pub became : Became old (hub_after pumped bytes (all_sent old.hub)) new
-
--- whether the hub gave up at a quiet receive
-abbrev pub give_ups_after : Hub → ℕ → ℕ
-give_ups_after hub count = if is_waiting hub then count else count + 1
+  pub became : Became old (hub_after pumped bytes (all_sent old.hub)) pumped new
 
 -- The link failed after some sends: what was without an outcome is lost, with its place where it was sent.
 pub record GoesDown {L : Type 0} (old new : LaneState L) : Type 0 where
@@ -94,12 +90,10 @@ pub record GoesDown {L : Type 0} (old new : LaneState L) : Type 0 where
   pub spent : new.spent ≡ false
 
 abbrev pub PumpsAs : {L : Type 0} → LaneState L → Option Telling → LaneState L → Pumped → Type 0
-PumpsAs old telling new (Reply place) =
-    HasReceived old telling (Reply place) new × (new.give_ups ≡ old.give_ups)
-PumpsAs old telling new Status = HasReceived old telling Status new × (new.give_ups ≡ old.give_ups)
-PumpsAs old telling new Stray = HasReceived old telling Stray new × (new.give_ups ≡ old.give_ups)
+PumpsAs old telling new (Reply place) = HasReceived old telling (Reply place) new
+PumpsAs old telling new Status = HasReceived old telling Status new
+PumpsAs old telling new Stray = HasReceived old telling Stray new
 PumpsAs old telling new Quiet = HasReceived old telling Quiet new
-    × (new.give_ups ≡ give_ups_after (hear_quiet (all_sent old.hub)) old.give_ups)
 PumpsAs old telling new Idle = (new ≡ old) × (is_waiting old.hub ≡ false) × (old.down ≡ false)
 PumpsAs old telling new LinkDown = ((old.down ≡ true) × (new ≡ old)) ⊎ ((old.down ≡ false) × GoesDown old new)
 

@@ -1,7 +1,7 @@
 -- What a hub makes of a receive. IPbus 2.0, reliability mechanism.
-use Rattle.std.specs.Prelude.{◌≡◌, ℕ, List, [], Option, Some}
+use Rattle.std.specs.Prelude.{◌≡◌, ℕ, ◌+◌, if◌then◌else◌, List, [], Option, Some}
 use Rattle.world_model.specs.Messages.{ToHub, StatusReply, Reply as ReplyTo, to_hub}
-use Rattle.world_model.specs.Hub.{Hub, hear_quiet, take_message}
+use Rattle.world_model.specs.Hub.{Hub, hear_quiet, is_waiting, take_message}
 use Rattle.packet_ids.specs.Identifier.{identifier_at}
 use Rattle.reliable_engine.specs.Answers.{IsOpen, TellsPlace}
 use Rattle.ipb_base.specs.Faults.{one_more}
@@ -83,3 +83,15 @@ gots_of Stray count = one_more count
 gots_of Quiet count = count
 gots_of Idle count = count
 gots_of LinkDown count = count
+
+-- how often the hub gave up, after a quiet receive that left it so
+abbrev pub give_ups_after : Hub → ℕ → ℕ
+give_ups_after hub count = if is_waiting hub then count else count + 1
+
+abbrev pub give_ups_of : Pumped → Hub → ℕ → ℕ
+give_ups_of (Reply place) hub count = count
+give_ups_of Status hub count = count
+give_ups_of Stray hub count = count
+give_ups_of Quiet hub count = give_ups_after hub count
+give_ups_of Idle hub count = count
+give_ups_of LinkDown hub count = count

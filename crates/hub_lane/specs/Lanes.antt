@@ -3,11 +3,12 @@ use Rattle.std.specs.Prelude.{◌≡◌, ℕ, ◌+◌, ◌≤◌, min, Bool, tru
 use Rattle.std.specs.Prelude.{Option, Some, None, IfSome}
 use Rattle.std.specs.List.{AllByRecursion}
 use Rattle.ipb_base.specs.Numbers.{payload_of}
+use Rattle.status_packet.specs.declared.status.Status.{Status}
 use Rattle.status_packet.specs.Range.{IsBufferCount, IsMtu}
 use Rattle.packet_ids.specs.Identifier.{IsIdentifier}
 use Rattle.board_bus.specs.Cells.{CellMap}
-use Rattle.world_model.specs.Hub.{Hub, is_waiting, places}
-use Rattle.world_model.specs.Facts.{HasBodies, IsWindow}
+use Rattle.world_model.specs.Hub.{Hub, is_waiting, new_hub, places}
+use Rattle.world_model.specs.Facts.{HasBodies, IsStart, IsWindow}
 use Rattle.reliable_engine.specs.Settings.{AreLimits, Limits}
 use Rattle.world_core.specs.Telling.{Telling}
 use Rattle.lane_record.specs.declared.outcome.Outcome.{Outcome}
@@ -23,6 +24,9 @@ pub record BoardStatus : Type 0 where
   pub mtu : ℕ
   pub buffers : ℕ
   pub next : ℕ
+
+abbrev pub status_of : Status → BoardStatus
+status_of s = record { mtu = s.mtu; buffers = s.buffers; next = s.next }
 
 -- A lane: its link, the settings and the status told at the greeting, its engine's hub, its record, what became of each
 -- Ask in order, how often it gave up, whether its link failed, and whether it ran out of memory in a pump.
@@ -87,3 +91,24 @@ pub record IsLane (settings : Limits) (status : BoardStatus) (hub : Hub) (items 
   pub fault : down ≡ true → 1 ≤ faults
   pub lost : AreLostOnlyIf (down ≡ true) outcomes
   pub standing : IfSome telling (IsStanding (down || spent) settings hub outcomes)
+
+-- a link that tells, after a greeting in which its board told this status: a run can begin there
+pub record IsGreeted (settings : Limits) (status : BoardStatus) (t : Telling) : Type 0 where
+  pub begins : IsStart settings.window t.told.board t.told.air
+  pub mtu : status.mtu ≡ t.told.board.mtu
+  pub buffers : status.buffers ≡ t.told.board.buffers
+  pub next : status.next ≡ t.told.board.first
+
+-- a lane before its first entry
+abbrev pub opened : {L : Type 0} → L → Limits → BoardStatus → LaneState L
+opened link settings status = record {
+  link = link;
+  settings = settings;
+  status = status;
+  hub = new_hub status.next (min settings.window status.buffers) settings.rounds;
+  items = [];
+  outcomes = [];
+  give_ups = 0;
+  down = false;
+  spent = false;
+}

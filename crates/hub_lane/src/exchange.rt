@@ -8,12 +8,17 @@ ghost use Rattle.world_model.specs.Messages.{Reply as ReplyTo, StatusReply, to_h
 ghost use Rattle.world_model.specs.Hub.{hear_reply, hear_status, is_waiting, places, take_message};
 ghost use Rattle.world_model.specs.Sends.{next_send};
 ghost use Rattle.world_model.specs.Facts.{AreSendable, IsWindow};
-ghost use Rattle.hub_lane.specs.Hearing.{IsEventAs, IsHeardAs, WasReceived, gots_of, hub_after, quiets_of};
-ghost use Rattle.hub_lane.specs.Sends.{HasSent, all_sent};
-ghost use Rattle.hub_lane.specs.Standing.{GoesOn, Stops};
+ghost use Rattle.reliable_engine.specs.Settings.{Limits};
+ghost use Rattle.lane_record.specs.Offers.{put_all};
+ghost use Rattle.hub_lane.specs.Lanes.{IsReady};
+ghost use Rattle.hub_lane.specs.Hearing.{IsEventAs, IsHeardAs, WasReceived, give_ups_of, gots_of, hub_after, quiets_of};
+ghost use Rattle.hub_lane.specs.Sends.{HasSent, all_sent, handed_out};
+ghost use Rattle.hub_lane.specs.Standing.{GoesOn, IsRunning, Stops};
 
 use crate::answers::Pumped;
+use crate::outcomes::settle;
 use ipb_base::{NoMemory, Words};
+use lane_record::Outcome;
 use packet_ids::{Id, place_of};
 use reliable_engine::Engine;
 use reliable_engine::laws::draining_ends;
@@ -26,8 +31,57 @@ use world_core::{Link, LinkFault, Message, Received, read_for_hub, write_sending
 use world_model::laws::links::a_link_forgets_nothing;
 use world_model::laws::sends::only_an_offer_makes_more_bodies;
 
+/// Sends all that the hub wants, receives once, and puts what that settled among the outcomes. Where the link or memory
+/// fails, some sends were taken from the hub, and nothing is settled.
+pub(crate) fn exchange<L: Link>(
+    alloc: Global,
+    first: Id,
+    hub: &mut Engine,
+    link: &mut L,
+    buffer: &mut Vec<u8>,
+    outcomes: &mut Vec<Option<Outcome>>,
+    give_ups: &mut u64,
+) -> Result<Pumped, LinkFault>
+    requires ready { IsReady (length outcomes.old.items) hub.old }
+    requires waits { is_waiting hub.old ≡ true }
+    requires first { first ≡ hub.old.first }
+    requires few { length outcomes.old.items ≤ 2 ^ 62 }
+    requires few_give_ups { give_ups.old < 2 ^ 63 }
+    ensures event { IfOk result (IsEventAs (all_sent hub.old) buffer.new.items) }
+    ensures hub { IfOk result (λ pumped.
+        hub.new ≡ handed_out (hub_after pumped buffer.new.items (all_sent hub.old))) }
+    ensures outcomes { IfOk result (λ pumped. outcomes.new.items
+        ≡ put_all (hub_after pumped buffer.new.items (all_sent hub.old)).fates outcomes.old.items) }
+    ensures give_ups { IfOk result (λ pumped. give_ups.new
+        ≡ give_ups_of pumped (hub_after pumped buffer.new.items (all_sent hub.old)) give_ups.old) }
+    ensures received { IfOk result (λ pumped.
+        IfSome (L.telling link.new) (WasReceived pumped buffer.new.items)) }
+    ensures running { OnOk result ((limits : Limits)
+        → IfSome (L.telling link.old) (IsRunning limits hub.old outcomes.old.items)
+        → IfSome (L.telling link.new) (IsRunning limits hub.new outcomes.new.items)) }
+    ensures sent { OnErr result (HasSent hub.old hub.new) }
+    ensures same_outcomes { OnErr result (outcomes.new.items ≡ outcomes.old.items) }
+    ensures same_give_ups { OnErr result (give_ups.new ≡ give_ups.old) }
+    ensures stopped { OnErr result (Stops (L.telling link.old) hub.old (L.telling link.new) hub.new) }
+    ensures failed { result ≡ Err LinkFault.Failed → Rose (L.faults link.old) (L.faults link.new) }
+    ensures faults { L.faults link.old ≤ L.faults link.new }
+    ensures quiets { IfOk result (λ pumped. L.quiets link.new ≡ quiets_of pumped (L.quiets link.old)) }
+    ensures quiets_rise { L.quiets link.old ≤ L.quiets link.new }
+    ensures gots { IfOk result (λ pumped. L.gots link.new ≡ gots_of pumped (L.gots link.old)) }
+    ensures gots_rise { L.gots link.old ≤ L.gots link.new }
+    ensures held { L.held link.old ≤ L.held link.new }
+{
+    a_send_leaves_the_fates();
+    each_event_leads_to_a_state_of_a_run();
+    only_an_offer_makes_more_bodies();
+    send_all(alloc, hub, link)?;
+    let pumped = receive(alloc, first, hub, link, buffer)?;
+    settle(hub, outcomes, give_ups, pumped);
+    Ok(pumped)
+}
+
 /// Sends all that the hub wants. Where the link refuses a send, it was taken from the hub all the same.
-pub(crate) fn send_all<L: Link>(
+fn send_all<L: Link>(
     alloc: Global,
     hub: &mut Engine,
     link: &mut L,
@@ -59,7 +113,7 @@ pub(crate) fn send_all<L: Link>(
 
 /// Receives once, when all is sent, and has the hub hear what came. `buffer` then holds the datagram. `first` is the
 /// identifier of place 1.
-pub(crate) fn receive<L: Link>(
+fn receive<L: Link>(
     alloc: Global,
     first: Id,
     hub: &mut Engine,

@@ -15,12 +15,12 @@ ghost use Rattle.hub_lane.specs.Plans.{CanPlan, IsRefused, Plans};
 ghost use Rattle.hub_lane.specs.Hearing.{gots_of, quiets_of};
 ghost use Rattle.hub_lane.specs.Calls.{AsksAs, IsReplyAt, IsSameRecord, IsSpent, PumpsAs, TakesAs, WasAsked};
 ghost use Rattle.hub_lane.specs.Calls.{is_lost_at_place, is_replied, sealed};
-ghost use Rattle.hub_lane.specs.Lanes.{IsLane};
+ghost use Rattle.hub_lane.specs.Lanes.{IsGreeted, IsLane, opened, status_of};
 
 use crate::answers::{Asked, PlanRefusal, Pumped, Taken};
 use crate::book::Book;
-use crate::exchange::{receive, send_all};
-use crate::outcomes::{copy_outcome, copy_words, count_of, lose_all, next_count, reply_at, settle_all};
+use crate::exchange::exchange;
+use crate::outcomes::{copy_outcome, copy_words, count_of, lose_all, reply_at};
 use ipb_base::{NoMemory, Words};
 use lane_record::Outcome;
 use reliable_engine::{Engine, Settings};
@@ -28,6 +28,7 @@ use status_packet::Status;
 use std::alloc::Global;
 use std::marker::Model;
 use turn_pass::Entry;
+use world_core::laws::each_event_leads_to_a_state_of_a_run;
 use world_core::{Link, LinkFault};
 
 /// The hub's side of one board: its engine, its link, and the record of what clients planned, asked and took (profile).
@@ -47,14 +48,14 @@ pub struct Lane<L: Link> {
 }
 
 impl<L: Link> Model for Lane<L> {
-    ghost use Rattle.hub_lane.specs.Lanes.{IsLane, LaneState};
+    ghost use Rattle.hub_lane.specs.Lanes.{IsLane, LaneState, status_of};
 
     ghost Value = { LaneState L };
 
     ghost view = { λ l. record {
         link = l.link;
         settings = l.settings;
-        status = record { mtu = l.status.mtu; buffers = l.status.buffers; next = l.status.next };
+        status = status_of l.status;
         hub = l.engine;
         items = l.book.items;
         outcomes = l.outcomes.items;
@@ -64,7 +65,7 @@ impl<L: Link> Model for Lane<L> {
     } };
 
     ghost invariant = { λ l. IsLane l.settings
-        (record { mtu = l.status.mtu; buffers = l.status.buffers; next = l.status.next })
+        (status_of l.status)
         l.engine l.book.items l.outcomes.items l.give_ups l.down l.spent (L.telling l.link) (L.faults l.link)
         (L.quiets l.link) };
 }
@@ -77,6 +78,41 @@ impl<L: Link> Lane<L> {
             (L.quiets self.now.link) }
     {
         let _down = &self.down;
+    }
+
+    /// The lane of a link whose board told this status in the greeting. Where memory ran out the link is given back.
+    pub(crate) fn new(
+        alloc: Global,
+        link: L,
+        settings: Settings,
+        status: Status,
+    ) -> Result<Lane<L>, L>
+        requires greeted { IfSome (L.telling link) (IsGreeted settings (status_of status)) }
+        ensures made { IfOk result (λ lane. lane ≡ opened link settings (status_of status)) }
+        ensures given_back { IfErr result (λ back. back ≡ link) }
+    {
+        let Ok(book) = Book::new(alloc) else {
+            return Err(link);
+        };
+        let Ok(engine) = Engine::new(alloc, settings, status) else {
+            return Err(link);
+        };
+        let _window = settings.window();
+        let _next = status.next.get();
+        each_event_leads_to_a_state_of_a_run();
+        Ok(Lane {
+            alloc,
+            link,
+            settings,
+            status,
+            engine,
+            buffer: Vec::new(alloc),
+            book,
+            outcomes: Vec::new(alloc),
+            give_ups: 0,
+            down: false,
+            spent: false,
+        })
     }
 
     /// The words of the longest packet of the board, its header included: P of the MTU that it told.
@@ -121,7 +157,19 @@ impl<L: Link> Lane<L> {
     pub fn close(self) -> L
         ensures { result ≡ self.link }
     {
-        let Lane { link, .. } = self;
+        let Lane {
+            alloc: _alloc,
+            link,
+            settings: _settings,
+            status: _status,
+            engine: _engine,
+            buffer: _buffer,
+            book: _book,
+            outcomes: _outcomes,
+            give_ups: _give_ups,
+            down: _down,
+            spent: _spent,
+        } = self;
         link
     }
 
@@ -196,9 +244,25 @@ impl<L: Link> Lane<L> {
         if !self.engine.waiting() {
             return Ok(Pumped::Idle);
         }
-        match send_all(self.alloc, &mut self.engine, &mut self.link) {
-            Ok(()) => self.receive(),
-            Err(fault) => self.stop(fault),
+        match exchange(
+            self.alloc,
+            self.status.next,
+            &mut self.engine,
+            &mut self.link,
+            &mut self.buffer,
+            &mut self.outcomes,
+            &mut self.give_ups,
+        ) {
+            Ok(pumped) => Ok(pumped),
+            Err(LinkFault::Failed) => {
+                lose_all(&mut self.outcomes, self.engine.sent());
+                self.down = true;
+                Ok(Pumped::LinkDown)
+            }
+            Err(LinkFault::NoMemory) => {
+                self.spent = true;
+                Err(NoMemory)
+            }
         }
     }
 

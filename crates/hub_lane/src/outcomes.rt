@@ -4,9 +4,11 @@ ghost use Rattle.std.specs.Prelude.{◌≡◌, ◌+◌, ◌<◌, ◌^◌, ℕ, I
 ghost use Rattle.lane_record.specs.Bounds.{timeouts};
 ghost use Rattle.lane_record.specs.Offers.{all_lost, lost_after, outcome_of, put, put_all};
 ghost use Rattle.lane_record.specs.Outcomes.{is_sent};
+ghost use Rattle.hub_lane.specs.Hearing.{give_ups_of};
 ghost use Rattle.hub_lane.specs.Calls.{IsReplyAt, IsReplyOf, is_lost_at_place, is_replied};
 ghost use Rattle.hub_lane.specs.Sends.{handed_out};
 
+use crate::answers::Pumped;
 use ipb_base::{NoMemory, Words};
 use lane_record::Outcome;
 use reliable_engine::{Engine, Fate};
@@ -59,7 +61,7 @@ fn put(outcomes: &mut Vec<Option<Outcome>>, at: u64, outcome: Outcome)
 }
 
 /// The hub hands out all its fates.
-pub(crate) fn settle_all(hub: &mut Engine, outcomes: &mut Vec<Option<Outcome>>)
+fn settle_all(hub: &mut Engine, outcomes: &mut Vec<Option<Outcome>>)
     ensures hub { hub.new ≡ handed_out hub.old }
     ensures outcomes { outcomes.new.items ≡ put_all hub.old.fates outcomes.old.items }
 {
@@ -99,12 +101,23 @@ fn is_sent(outcome: &Outcome) -> bool
     }
 }
 
-/// One more give-up, unless somebody still waits.
-pub(crate) fn next_count(count: u64, waiting: bool) -> u64
-    requires { count < 2 ^ 63 }
-    ensures { result ≡ (if waiting then count else count + 1) }
+/// What an event of the hub settles: its fates are handed out, and a quiet receive after which nobody waits was a
+/// give-up.
+pub(crate) fn settle(
+    hub: &mut Engine,
+    outcomes: &mut Vec<Option<Outcome>>,
+    give_ups: &mut u64,
+    pumped: Pumped,
+)
+    requires { give_ups.old < 2 ^ 63 }
+    ensures hub { hub.new ≡ handed_out hub.old }
+    ensures outcomes { outcomes.new.items ≡ put_all hub.old.fates outcomes.old.items }
+    ensures give_ups { give_ups.new ≡ give_ups_of pumped hub.old give_ups.old }
 {
-    if waiting { count } else { count + 1 }
+    if pumped == Pumped::Quiet && !hub.waiting() {
+        *give_ups += 1;
+    }
+    settle_all(hub, outcomes);
 }
 
 /// The reply at a place.
