@@ -4,3 +4,4 @@ mod Windows
 mod Linked
 mod Heard
 mod Tables
+mod Ready
