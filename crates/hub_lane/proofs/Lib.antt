@@ -5,3 +5,4 @@ mod Linked
 mod Heard
 mod Tables
 mod Ready
+mod ClientRows
