@@ -6,3 +6,4 @@ mod Heard
 mod Tables
 mod Ready
 mod ClientRows
+mod Books
