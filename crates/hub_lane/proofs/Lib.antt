@@ -7,3 +7,4 @@ mod Tables
 mod Ready
 mod ClientRows
 mod Books
+mod Lanes

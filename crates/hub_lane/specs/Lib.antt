@@ -4,5 +4,4 @@ pub mod Standing
 pub mod Lanes
 pub mod Plans
 pub mod Calls
-pub mod Entries
 pub mod Books
