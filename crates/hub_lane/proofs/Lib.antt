@@ -8,3 +8,4 @@ mod Ready
 mod ClientRows
 mod Books
 mod Lanes
+mod Truth

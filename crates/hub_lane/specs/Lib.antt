@@ -5,3 +5,4 @@ pub mod Lanes
 pub mod Plans
 pub mod Calls
 pub mod Books
+pub mod Truth

@@ -5,6 +5,7 @@ mod answers;
 mod book;
 mod exchange;
 mod lane;
+pub mod laws;
 mod outcomes;
 mod rows;
 
