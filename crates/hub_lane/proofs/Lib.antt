@@ -3,3 +3,4 @@ mod Sends
 mod Windows
 mod Linked
 mod Heard
+mod Greetings
