@@ -20,7 +20,7 @@ use Rattle.world_model.specs.Board.{Board, expected, hear, hear_message, tell_st
 use Rattle.world_model.specs.Air.{goes_to, is_alive}
 use Rattle.world_model.specs.World.{answered}
 use Rattle.world_model.specs.Facts.{IsGreeting, IsGreetingOf, IsStart}
-use Rattle.world_model.specs.Links.{Told, IsHanded, IsHandedAt, IsHeard, first_sends, heard_by, heard_on, hears_all, sent_on, then_told}
+use Rattle.world_model.specs.Links.{Told, IsHanded, IsHandedAt, IsHeard, birth_of, first_sends, heard_by, heard_on, hears_all, sent_on, then_told}
 use Rattle.world_model.proofs.Lists.{all_get, either, get_front, get_seam, get_within}
 use Rattle.reliable_engine.specs.Settings.{Limits}
 use Rattle.world_core.specs.declared.link.LinkFault.{LinkFault}
@@ -229,3 +229,151 @@ pub got_told : HeardGoesOn → ReplyTells → (settings : Limits) (bytes : List 
     → IfTelling old new (Receives (Ok came.Got) bytes before now) → IfTelling old new (IsHeardFrom settings before now told)
 got_told law tells settings bytes told all before now old new begins is =
     on_telling (CanBegin settings) (Receives (Ok came.Got) bytes before now) (IsHeardFrom settings before now told) old new (got_greeted law tells settings bytes told all before now) begins is
+
+-- ---- a round
+
+abbrev pub IsSameTelling : Telling → Telling → Type 0
+IsSameTelling old new = new ≡ old
+
+-- other datagrams came so far: over a link that tells there was none
+pub record IsListening (before now : Option Telling) (other quiets quiets_now gots gots_now faults faults_now held held_now : ℕ) : Type 0 where
+  pub same : IfTelling before now IsSameTelling
+  pub first : IfSome before (λ _. (other ≡ 0) × (held_now ≡ held))
+  pub quiet : quiets_now ≡ quiets
+  pub got : gots_now ≡ gots + other
+  pub fault : faults ≤ faults_now
+  pub hold : held ≤ held_now
+
+pub same_telling : (a : Option Telling) → IfTelling a a IsSameTelling
+same_telling None = tt
+same_telling (Some t) = refl
+
+pub begins_still : (settings : Limits) (a b : Option Telling) → IfSome a (CanBegin settings) → IfTelling a b IsSameTelling → IfSome b (CanBegin settings)
+begins_still settings None None begins is = tt
+begins_still settings None (Some t) begins is = absurd is
+begins_still settings (Some s) None begins is = absurd is
+begins_still settings (Some s) (Some t) begins is = subst (CanBegin settings) (sym is) begins
+
+pub fresh_after : (settings : Limits) (a b c : Option Telling) → IfTelling a b IsSameTelling → IfTelling b c (StaysFresh settings) → IfTelling a c (StaysFresh settings)
+fresh_after settings None None c same is = is
+fresh_after settings None (Some t) c same is = absurd same
+fresh_after settings (Some s) None c same is = absurd same
+fresh_after settings (Some s) (Some t) None same is = is
+fresh_after settings (Some s) (Some t) (Some u) same is = record { begins = is.begins; same_board = is.same_board ∙ ap (λ (x : Telling). x.told.board) same }
+
+pub fresh_same : (settings : Limits) (a b : Option Telling) → IfSome a (CanBegin settings) → IfTelling a b IsSameTelling → IfTelling a b (StaysFresh settings)
+fresh_same settings a b begins same = on_telling (CanBegin settings) IsSameTelling (StaysFresh settings) a b
+    (λ s t begin e. record { begins = subst (CanBegin settings) (sym e) begin; same_board = ap (λ (x : Telling). x.told.board) e }) begins same
+
+-- another datagram came: so the link tells nothing
+pub no_other : (a b c : Option Telling) (P : Type 0) → IfTelling a b IsSameTelling → IfTelling b c (λ s t. ⊥) → IfTelling a c IsSameTelling × IfSome a (λ _. P)
+no_other None None None P same is = (tt, tt)
+no_other None None (Some u) P same is = absurd is
+no_other None (Some t) c P same is = absurd same
+no_other (Some s) None c P same is = absurd same
+no_other (Some s) (Some t) None P same is = absurd is
+no_other (Some s) (Some t) (Some u) P same is = absurd is
+
+told_round : (settings : Limits) (q q' h h' before now : ℕ) (status : Status) (a b c : Option Telling) → IfTelling a b IsSameTelling → IfTelling b c (IsHeardFrom settings before now (answer.Told status))
+    → IfTelling a c (EndsRoundWith settings q q' h h' (Some status))
+told_round settings q q' h h' before now status None None None same is = tt
+told_round settings q q' h h' before now status None None (Some u) same is = absurd is
+told_round settings q q' h h' before now status None (Some t) c same is = absurd same
+told_round settings q q' h h' before now status (Some s) None c same is = absurd same
+told_round settings q q' h h' before now status (Some s) (Some t) None same is = absurd is
+told_round settings q q' h h' before now status (Some s) (Some t) (Some u) same is = is
+
+pub round_told : (settings : Limits) (q q' h h' before now : ℕ) (status : Status) (told : Answer) (a b c : Option Telling) → told ≡ answer.Told status → IfTelling a b IsSameTelling
+    → IfTelling b c (IsHeardFrom settings before now told) → IfTelling a c (EndsRoundWith settings q q' h h' (Some status))
+round_told settings q q' h h' before now status told a b c e same is =
+    told_round settings q q' h h' before now status a b c same (subst (λ (x : Answer). IfTelling b c (IsHeardFrom settings before now x)) e is)
+
+nothing_round : (settings : Limits) (q q' h h' now : ℕ) (a b c : Option Telling) → q + 1 ≤ q' → IfSome a (λ _. now ≡ h) → IfTelling a b IsSameTelling
+    → IfTelling b c (IsHeardFrom settings now h' answer.Nothing) → IfTelling a c (EndsRoundWith settings q q' h h' None)
+nothing_round settings q q' h h' now None None None more first same is = tt
+nothing_round settings q q' h h' now None None (Some u) more first same is = absurd is
+nothing_round settings q q' h h' now None (Some t) c more first same is = absurd same
+nothing_round settings q q' h h' now (Some s) None c more first same is = absurd same
+nothing_round settings q q' h h' now (Some s) (Some t) None more first same is = absurd is
+nothing_round settings q q' h h' now (Some s) (Some t) (Some u) more first same is =
+    (more, λ expecting. subst (λ (n : ℕ). Rose n h') first (is (subst IsExpecting (sym same) expecting)))
+
+pub round_nothing : (settings : Limits) (q q' h h' now : ℕ) (told : Answer) (a b c : Option Telling) → told ≡ answer.Nothing → q + 1 ≤ q' → IfSome a (λ _. now ≡ h) → IfTelling a b IsSameTelling
+    → IfTelling b c (IsHeardFrom settings now h' told) → IfTelling a c (EndsRoundWith settings q q' h h' None)
+round_nothing settings q q' h h' now told a b c e more first same is =
+    nothing_round settings q q' h h' now a b c more first same (subst (λ (x : Answer). IfTelling b c (IsHeardFrom settings now h' x)) e is)
+
+pub held_first : (other held now : ℕ) (a : Option Telling) → IfSome a (λ _. (other ≡ 0) × (now ≡ held)) → IfSome a (λ _. now ≡ held)
+held_first other held now None is = tt
+held_first other held now (Some s) is = is.1
+
+-- after 64 others the link tells nothing
+pub no_more : (settings : Limits) (q q' h h' other now : ℕ) (a b : Option Telling) → 1 ≤ other → IfSome a (λ _. (other ≡ 0) × (now ≡ h)) → IfTelling a b IsSameTelling → IfTelling a b (EndsRoundWith settings q q' h h' None)
+no_more settings q q' h h' other now None None some first same = tt
+no_more settings q q' h h' other now None (Some t) some first same = absurd same
+no_more settings q q' h h' other now (Some s) b some first same = absurd (let e = first.0 in omega (arith, e, some))
+
+-- ---- a round with its request
+
+abbrev pub RequestGoesOn : Type 0
+RequestGoesOn = (window : ℕ) (told : Told) → IsStart window told.board told.air → IsStart window told.board (sent_on told (packet_bytes status_request)).air
+
+sent_fresh : RequestGoesOn → (settings : Limits) (bytes : List ℕ) (before now : ℕ) (old new : Telling) → bytes ≡ packet_bytes status_request → CanBegin settings old → IsSent bytes before now old new → StaysFresh settings old new
+sent_fresh law settings bytes before now old new e begins is =
+    let told : new.told ≡ sent_on old.told (packet_bytes status_request) = is.told ∙ ap (sent_on old.told) e in
+    record {
+      begins = subst (λ (t : Told). IsStart settings.window t.board t.air) (sym told) (law settings.window old.told begins);
+      same_board = ap (λ (t : Told). t.board) told;
+    }
+
+pub request_fresh : RequestGoesOn → (settings : Limits) (bytes : List ℕ) (before now : ℕ) (old new : Option Telling) → bytes ≡ packet_bytes status_request → IfSome old (CanBegin settings)
+    → IfTelling old new (IsSent bytes before now) → IfTelling old new (StaysFresh settings)
+request_fresh law settings bytes before now old new e begins is =
+    on_telling (CanBegin settings) (IsSent bytes before now) (StaysFresh settings) old new (λ s t. sent_fresh law settings bytes before now s t e) begins is
+
+pub fresh_begins : (settings : Limits) (old new : Option Telling) → IfTelling old new (StaysFresh settings) → IfSome new (CanBegin settings)
+fresh_begins settings None None is = tt
+fresh_begins settings None (Some t) is = absurd is
+fresh_begins settings (Some s) None is = tt
+fresh_begins settings (Some s) (Some t) is = is.begins
+
+pub fresh_then : (settings : Limits) (a b c : Option Telling) → IfTelling a b (StaysFresh settings) → IfTelling b c (StaysFresh settings) → IfTelling a c (StaysFresh settings)
+fresh_then settings None None c is js = js
+fresh_then settings None (Some t) c is js = absurd is
+fresh_then settings (Some s) None c is js = absurd is
+fresh_then settings (Some s) (Some t) None is js = js
+fresh_then settings (Some s) (Some t) (Some u) is js = record { begins = js.begins; same_board = js.same_board ∙ is.same_board }
+
+longer_air : (told : Told) (bytes : List ℕ) → length (sent_on told bytes).air ≡ length told.air + 1
+longer_air told bytes = length-append told.air (record { direction = goes.ToBoard; bytes = bytes; birth = birth_of told bytes } ∷ [])
+
+-- the request is still to be heard, or datagrams were held
+sent_expects : (bytes : List ℕ) (before now : ℕ) (old new : Telling) → IsSent bytes before now old new → IsExpecting new ⊎ Rose before now
+sent_expects bytes before now old new is = elim is.joins [
+    | inl due ↦ inl (record {
+        place = length old.told.air;
+        due = due;
+        there = (let e = ap (λ (t : Told). length t.air) is.told ∙ longer_air old.told bytes in omega (arith, e));
+      })
+    | inr rose ↦ inr rose
+  ]
+
+asked_held : (h h1 h' : ℕ) (old new : Telling) (bytes : List ℕ) → h ≤ h1 → h1 ≤ h' → IsSent bytes h h1 old new → (IsExpecting new → Rose h1 h') → Rose h h'
+asked_held h h1 h' old new bytes le more is later = elim (sent_expects bytes h h1 old new is) [
+    | inl expecting ↦ let rose = later expecting in omega (arith, rose, le)
+    | inr rose ↦ omega (arith, rose, more)
+  ]
+
+round_asked : (settings : Limits) (q q1 q' h h1 h' : ℕ) (bytes : List ℕ) (found : Option Status) (s t u : Telling) → q1 ≡ q → h ≤ h1 → h1 ≤ h' → IsSent bytes h h1 s t → EndsRoundWith settings q1 q' h1 h' found t u
+    → EndsAskingWith settings q q' h h' found s u
+round_asked settings q q1 q' h h1 h' bytes (Some status) s t u same le more sent is = is
+round_asked settings q q1 q' h h1 h' bytes None s t u same le more sent is = (let k = is.0 in omega (arith, k, same), asked_held h h1 h' s t bytes le more sent is.1)
+
+pub asked_round : (settings : Limits) (q q1 q' h h1 h' : ℕ) (bytes : List ℕ) (found : Option Status) (a b c : Option Telling) → q1 ≡ q → h ≤ h1 → h1 ≤ h' → IfTelling a b (IsSent bytes h h1)
+    → IfTelling b c (EndsRoundWith settings q1 q' h1 h' found) → IfTelling a c (EndsAskingWith settings q q' h h' found)
+asked_round settings q q1 q' h h1 h' bytes found None None None same le more sent is = tt
+asked_round settings q q1 q' h h1 h' bytes found None None (Some u) same le more sent is = absurd is
+asked_round settings q q1 q' h h1 h' bytes found None (Some t) c same le more sent is = absurd sent
+asked_round settings q q1 q' h h1 h' bytes found (Some s) None c same le more sent is = absurd sent
+asked_round settings q q1 q' h h1 h' bytes found (Some s) (Some t) None same le more sent is = absurd is
+asked_round settings q q1 q' h h1 h' bytes found (Some s) (Some t) (Some u) same le more sent is = round_asked settings q q1 q' h h1 h' bytes found s t u same le more sent is
