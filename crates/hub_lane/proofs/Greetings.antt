@@ -30,7 +30,7 @@ use Rattle.world_core.specs.declared.link.Received.TheVariants as came
 use Rattle.world_core.specs.Telling.{IfTelling, IsGot, IsQuiet, IsReceived, IsSent, IsSettled, Receives, Telling}
 use Rattle.hub_lane.specs.declared.greeting.Answer.{Answer}
 use Rattle.hub_lane.specs.declared.greeting.Answer.TheVariants as answer
-use Rattle.hub_lane.specs.Greeting.{CanBegin, EndsAskingWith, EndsRoundWith, IsDatagram, IsExpecting, IsHeardFrom, IsTold, StaysFresh}
+use Rattle.hub_lane.specs.Greeting.{CanBegin, EndsAskingWith, EndsGreetingWith, EndsRoundWith, IsDatagram, IsExpecting, IsHeardFrom, IsTold, StaysFresh}
 use Rattle.hub_lane.specs.Lanes.{IsGreeted, status_of}
 
 -- what the laws of links say of what a board hears
@@ -377,3 +377,43 @@ asked_round settings q q1 q' h h1 h' bytes found None (Some t) c same le more se
 asked_round settings q q1 q' h h1 h' bytes found (Some s) None c same le more sent is = absurd sent
 asked_round settings q q1 q' h h1 h' bytes found (Some s) (Some t) None same le more sent is = absurd is
 asked_round settings q q1 q' h h1 h' bytes found (Some s) (Some t) (Some u) same le more sent is = round_asked settings q q1 q' h h1 h' bytes found s t u same le more sent is
+
+-- ---- all rounds
+
+-- over a link that tells each round so far had a quiet receive and held a datagram
+abbrev pub HasPaid : ℕ → ℕ → ℕ → Telling → Type 0
+HasPaid rounds quiets held t = (rounds ≤ quiets) × (rounds ≤ held)
+
+pub record IsAsking (settings : Limits) (before now : Option Telling) (rounds quiets gots held faults faults_now : ℕ) : Type 0 where
+  pub fresh : IfTelling before now (StaysFresh settings)
+  pub paid : IfSome now (HasPaid rounds quiets held)
+  pub few_quiets : quiets ≤ rounds
+  pub few_gots : gots ≤ 64 * rounds
+  pub counted : 64 * rounds ≤ 64 * quiets + gots
+  pub fault : faults ≤ faults_now
+
+pub stays_fresh : (settings : Limits) (a : Option Telling) → IfSome a (CanBegin settings) → IfTelling a a (StaysFresh settings)
+stays_fresh settings None begins = tt
+stays_fresh settings (Some t) begins = record { begins = begins; same_board = refl }
+
+pub paid_first : (quiets held : ℕ) (a : Option Telling) → IfSome a (HasPaid 0 quiets held)
+paid_first quiets held None = tt
+paid_first quiets held (Some t) = (omega arith, omega arith)
+
+pub paid_more : (settings : Limits) (rounds q q' h h' : ℕ) (a b : Option Telling) → rounds ≤ 255 → IfSome a (HasPaid rounds q h) → IfTelling a b (EndsAskingWith settings q q' h h' None) → IfSome b (HasPaid (rounds + 1) q' h')
+paid_more settings rounds q q' h h' None None few paid is = tt
+paid_more settings rounds q q' h h' None (Some t) few paid is = absurd is
+paid_more settings rounds q q' h h' (Some s) None few paid is = tt
+paid_more settings rounds q q' h h' (Some s) (Some t) few paid is =
+    let p = paid.0 in let r = paid.1 in let more = is.0 in let rose = is.1 in
+    (omega (arith, p, more), omega (arith, few, r, rose))
+
+pub told_at_last : (settings : Limits) (q q' h h' : ℕ) (status : Status) (a b : Option Telling) → IfTelling a b (EndsAskingWith settings q q' h h' (Some status)) → IfSome b (EndsGreetingWith settings q' h' (Some status))
+told_at_last settings q q' h h' status None None is = tt
+told_at_last settings q q' h h' status None (Some t) is = absurd is
+told_at_last settings q q' h h' status (Some s) None is = tt
+told_at_last settings q q' h h' status (Some s) (Some t) is = is
+
+pub never_told : (settings : Limits) (rounds q h : ℕ) (a : Option Telling) → settings.rounds ≤ rounds → IfSome a (HasPaid rounds q h) → IfSome a (EndsGreetingWith settings q h None)
+never_told settings rounds q h None all paid = tt
+never_told settings rounds q h (Some t) all paid = let p = paid.0 in let r = paid.1 in (omega (arith, p, all), omega (arith, r, all))
