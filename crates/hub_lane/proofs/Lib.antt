@@ -4,3 +4,6 @@ mod Windows
 mod Linked
 mod Heard
 mod Greetings
+mod Tables
+mod Ready
+mod ClientRows
