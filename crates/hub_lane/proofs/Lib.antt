@@ -4,6 +4,7 @@ mod Windows
 mod Linked
 mod Heard
 mod Greetings
+mod Opening
 mod Tables
 mod Ready
 mod ClientRows

@@ -23,6 +23,7 @@ use crate::exchange::exchange;
 use crate::outcomes::{copy_outcome, copy_words, count_of, lose_all, reply_at};
 use ipb_base::{NoMemory, Words};
 use lane_record::Outcome;
+use lane_record::laws::book::entries_go_into_the_book;
 use packet_ids::Id;
 use reliable_engine::{Engine, Settings};
 use status_packet::Status;
@@ -105,6 +106,7 @@ impl<L: Link> Lane<L> {
         let Ok(engine) = Engine::new(alloc, settings, status) else {
             return Err(link);
         };
+        entries_go_into_the_book();
         each_event_leads_to_a_state_of_a_run();
         Ok(Lane {
             alloc,
