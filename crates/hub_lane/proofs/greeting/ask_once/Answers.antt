@@ -1,5 +1,4 @@
-use Rattle.hub_lane.proofs.Greetings.{asked_round, fresh_begins, fresh_then, request_fresh}
-use Rattle.std.proofs.Common.{◌∙◌}
+use Rattle.hub_lane.proofs.Greetings.{fresh_begins, request_fresh}
 use Rattle.hub_lane.proofs.greeting.ask_once.Goals as goal
 
 pub listen-requires-clause-begins : goal.listen-requires-clause-begins

@@ -1,4 +1,4 @@
-use Rattle.std.proofs.Common.{◌≡◌, ℕ, arith, subst}
+use Rattle.std.proofs.Common.{◌≡◌, arith, subst}
 use Rattle.hub_lane.specs.declared.greeting.Answer.{Answer}
 use Rattle.hub_lane.specs.Greeting.{quiets_of_answer}
 use Rattle.hub_lane.proofs.Greetings.{held_first, round_nothing}

@@ -1,5 +1,4 @@
 use Rattle.hub_lane.proofs.Opening.{opened_as}
-use Rattle.hub_lane.specs.Lanes.{BoardStatus}
 use Rattle.hub_lane.proofs.lane.Lane.new.Goals as goal
 
 pub invariant_of-result : goal.invariant_of-result
