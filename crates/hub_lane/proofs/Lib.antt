@@ -8,3 +8,4 @@ mod Opening
 mod Tables
 mod Ready
 mod ClientRows
+mod Books
