@@ -21,7 +21,7 @@ use Rattle.lane_record.specs.NextEntry.{ask_of, plan_of, the_seal, took_of}
 use Rattle.lane_record.proofs.Asks.{get_split}
 use Rattle.lane_record.proofs.Lookups.{Count, claims_push, count_push, found_append, found_front, found_other, found_within}
 use Rattle.lane_record.proofs.Lookups.{none_next, numbers_append, sealed_append}
-use Rattle.hub_lane.specs.Entries.{entry_of}
+use Rattle.lane_record.specs.Coding.{entry_of}
 use Rattle.hub_lane.specs.Plans.{IsFull, one_with, planned_bodies, planned_words, words_with}
 use Rattle.hub_lane.specs.Books.{HasMorePlans, HasNext, IsBook, IsPlanAt, IsPosition, IsRow, Row, TellsBodies, asked_pair}
 use Rattle.hub_lane.specs.Books.{next_of}

@@ -4,8 +4,8 @@ mod Windows
 mod Linked
 mod Heard
 mod Greetings
-mod Opening
 mod Tables
 mod Ready
 mod ClientRows
 mod Books
+mod Lanes

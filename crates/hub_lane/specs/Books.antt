@@ -8,7 +8,7 @@ use Rattle.lane_record.specs.declared.item.Item.{Item}
 use Rattle.lane_record.specs.Items.{asked, found, is_sealed, numbers, plan_in, planned}
 use Rattle.lane_record.specs.Lists.{CountsFrom}
 use Rattle.lane_record.specs.Claims.{Claim, IsAskOf, claims}
-use Rattle.hub_lane.specs.Entries.{entry_of}
+use Rattle.lane_record.specs.Coding.{entry_of}
 use Rattle.lane_record.specs.NextEntry.{plan_of}
 use Rattle.hub_lane.specs.Plans.{most_bodies, most_words, planned_bodies, planned_words}
 

@@ -8,7 +8,7 @@ ghost use Rattle.transaction_codec.specs.Answer.{reply_room};
 ghost use Rattle.lane_record.specs.Items.{asked, found, is_sealed, plan_in, planned};
 ghost use Rattle.lane_record.specs.Claims.{claims, IsAskOf};
 ghost use Rattle.lane_record.specs.NextEntry.{ask_of, plan_of, the_seal, took_of};
-ghost use Rattle.hub_lane.specs.Entries.{entry_of};
+ghost use Rattle.lane_record.specs.Coding.{entry_of};
 ghost use Rattle.hub_lane.specs.Plans.{IsFull, most_bodies, most_words, planned_bodies, planned_words};
 
 use crate::rows::{ClientRow, add_ask, add_plan, next_place, row_at};
