@@ -4,6 +4,7 @@ mod Windows
 mod Linked
 mod Heard
 mod Greetings
+mod Truth
 mod Tables
 mod Ready
 mod ClientRows
