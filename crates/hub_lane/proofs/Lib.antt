@@ -3,9 +3,10 @@ mod Sends
 mod Windows
 mod Linked
 mod Heard
+mod Greetings
+mod Truth
 mod Tables
 mod Ready
 mod ClientRows
 mod Books
 mod Lanes
-mod Truth

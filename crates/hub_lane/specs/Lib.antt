@@ -6,3 +6,5 @@ pub mod Plans
 pub mod Calls
 pub mod Books
 pub mod Truth
+pub mod Greeting
+pub mod Records

@@ -15,20 +15,16 @@ ghost use Rattle.hub_lane.specs.Plans.{CanPlan, IsRefused, Plans};
 ghost use Rattle.hub_lane.specs.Hearing.{gots_of, quiets_of};
 ghost use Rattle.hub_lane.specs.Calls.{AsksAs, IsReplyAt, IsSameRecord, IsSpent, PumpsAs, TakesAs, WasAsked};
 ghost use Rattle.hub_lane.specs.Calls.{is_lost_at_place, is_replied, sealed};
-ghost use Rattle.lane_record.specs.Claims.{IsFinished};
-ghost use Rattle.hub_lane.specs.Truth.{IsWhole};
 ghost use Rattle.hub_lane.specs.Lanes.{IsGreeted, IsLane, opened, status_of};
 
 use crate::answers::{Asked, PlanRefusal, Pumped, Taken};
 use crate::book::Book;
 use crate::exchange::exchange;
-use crate::laws::a_lane_over_a_link_that_tells_is_true;
 use crate::outcomes::{copy_outcome, copy_words, count_of, lose_all, reply_at};
 use ipb_base::{NoMemory, Words};
 use lane_record::Outcome;
 use lane_record::laws::book::{entries_go_into_the_book, outcomes_go_into_the_book};
 use lane_record::laws::entries::an_ask_is_of_its_plan;
-use lane_record::laws::finished::{a_finished_record_tells_all, a_hub_has_sent_what_a_finished_record_tells};
 use lane_record::laws::offers::{
     a_failed_link_loses_what_waits, a_send_settles_nothing, an_ask_is_an_offer, what_a_hub_hears_settles_asks,
 };
@@ -90,18 +86,6 @@ impl<L: Link> Lane<L> {
             self.now.give_ups self.now.down self.now.spent (L.telling self.now.link) (L.faults self.now.link)
             (L.quiets self.now.link) }
     {
-        let _down = &self.down;
-    }
-
-    /// What a lane is worth once each asked body was taken. It does nothing when it runs.
-    pub fn is_whole(&self)
-        requires { IsFinished self.now.items }
-        ensures { IsWhole self.now.items self.now.hub.sent self.now.hub.window self.now.hub.rounds self.now.give_ups
-            (L.faults self.now.link) (L.quiets self.now.link) (L.telling self.now.link) }
-    {
-        a_finished_record_tells_all();
-        a_hub_has_sent_what_a_finished_record_tells();
-        a_lane_over_a_link_that_tells_is_true();
         let _down = &self.down;
     }
 

@@ -3,7 +3,9 @@
 
 mod answers;
 mod book;
+mod chronicle;
 mod exchange;
+mod greeting;
 mod lane;
 pub mod laws;
 mod outcomes;
@@ -11,6 +13,7 @@ mod rows;
 
 pub use answers::{Asked, BoardState, PlanRefusal, Pumped, Taken};
 pub use book::{MAX_BODIES, MAX_WORDS};
+pub use greeting::{Greeted, MOST_OTHERS};
 pub use ipb_base::{NoMemory, Words};
 pub use lane::Lane;
 pub use lane_record::Outcome;
