@@ -1,6 +1,6 @@
-//! Tests of the board, of the hub's side of a board, of both together over a link in memory, and of what a session
-//! prints. What their clauses cannot say is run here: that each call succeeds where memory is there, and that the
-//! clauses mean the numbers of worked examples. A link in memory is proved to be a link, and a hub to run over any.
+//! Tests of the board, of the hub's side of a board, of links that lose datagrams, and of what a session prints. What
+//! their clauses cannot say is run here: that each call succeeds where memory is there, and that the clauses mean the
+//! numbers of worked examples.
 #![tactic(auto)]
 
 #[cfg(test)]
@@ -10,9 +10,7 @@ mod direct_run_tests;
 #[cfg(test)]
 mod fixtures;
 #[cfg(test)]
-mod mem_link;
-#[cfg(test)]
-mod pumping;
+mod lossy_network_tests;
 #[cfg(test)]
 mod reliable_engine_tests;
 #[cfg(test)]

@@ -1,13 +1,11 @@
-//! A hub and a board over moves, over an air, and over a link.
+//! A hub and a board over moves, and over an air.
 
 use crate::fixtures::{FOUR_READ, READ_FOUR, REPLY, REQUEST, board};
-use crate::mem_link::MemLink;
-use crate::pumping::{hub_with, send_all, send_and_receive};
 use ipb_base::{NoMemory, Words};
 use std::alloc::Global;
 use std::test::Fail;
 use world_core::{
-    Air, Fate, Link, Message, Received, Settings, World, WorldEnd, WorldMove, are_short,
+    Air, Fate, Message, Settings, World, WorldEnd, WorldMove, are_short,
     read_for_hub, run_world,
 };
 
@@ -76,32 +74,5 @@ fn an_air_keeps_what_was_sent_and_answered(rt: HostRuntime) -> Result<(), Fail> 
     );
     assert_eq!(rt; (air.len(), air.sent()), (2, 1));
     assert_eq!(rt; air.into_board().executed_len(), 1);
-    Ok(())
-}
-
-#[test]
-fn a_link_carries_a_packet_and_its_reply(rt: HostRuntime) -> Result<(), Fail> {
-    let mut link = MemLink::new(rt.alloc(), board(rt.alloc(), 1)?);
-    let mut into = Vec::new(rt.alloc());
-    assert!(rt; send_and_receive(&mut link, &REQUEST, &mut into) == Ok(Received::Got));
-    assert_eq!(rt; into.as_slice(), REPLY.as_slice());
-    assert!(rt; link.receive(&mut into) == Ok(Received::Quiet));
-    assert_eq!(rt; (into.len(), link.board().executed_len()), (0, 1));
-    Ok(())
-}
-
-#[test]
-fn a_hub_sends_over_a_link_and_hears_the_reply(rt: HostRuntime) -> Result<(), Fail> {
-    let mut link = MemLink::new(rt.alloc(), board(rt.alloc(), 1)?);
-    let mut hub = hub_with(rt.alloc(), &READ_FOUR)?;
-    let mut into = Vec::new(rt.alloc());
-    assert!(rt; send_all(rt.alloc(), &mut hub, &mut link) == Ok(()));
-    assert!(rt; link.receive(&mut into) == Ok(Received::Got));
-    let Message::Reply { id, words } = read_for_hub(rt.alloc(), &into)? else {
-        return Err("no reply")?;
-    };
-    assert_eq!(rt; words.as_slice(), FOUR_READ.as_slice());
-    assert!(rt; hub.on_reply(id, words));
-    assert!(rt; !hub.waiting());
     Ok(())
 }
