@@ -44,7 +44,7 @@ abbrev pub CanBeDone : Step → Type 0
 CanBeDone (Do op) = CanBeAsked op
 CanBeDone Dispatch = Unit {0}
 
--- so does each operation of a client
+-- so can each operation of a client
 abbrev pub AreExecutable : List Step → Type 0
 AreExecutable steps = AllByRecursion CanBeDone steps
 
