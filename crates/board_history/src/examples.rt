@@ -35,8 +35,7 @@ pub fn two_clients_and_one_register()
 pub fn wrong_runs_are_refused()
     ensures two_at_one_place { HasOneOrder two_clients ((reads_at 1 7 ∷ []) ∷ (reads_at 1 7 ∷ []) ∷ []) → ⊥ }
     ensures place_left_out { HasOneOrder one_client ((reads_at 2 7 ∷ []) ∷ []) → ⊥ }
-    ensures script_turned_round {
-        KeepsScripts ((read_body ∷ read_body ∷ []) ∷ []) ((reads_at 2 7 ∷ reads_at 1 7 ∷ []) ∷ []) → ⊥ }
+    ensures script_turned_round { KeepsScripts ((read_body ∷ read_body ∷ []) ∷ []) ((reads_at 2 7 ∷ reads_at 1 7 ∷ []) ∷ []) → ⊥ }
     ensures executed_twice { IsExecutedOnce (order one_client one_read) one_read (read_body ∷ read_body ∷ []) → ⊥ }
     ensures never_executed { IsExecutedOnce (order one_client one_read) one_read [] → ⊥ }
     ensures another_bus { AreRepliesOf seven (order one_client ((reads_at 1 8 ∷ []) ∷ []))

@@ -175,12 +175,12 @@ module _ (P : OpResult → Type 0) (bus : AllowsBus P) (fitting : Fitting P) whe
       → slice_get scripts client ≡ Some steps → before ++ op ∷ later ≡ operations steps → KeepsVerb op
       → P (showing run client (count_on op.board before) op).0
   showing_allowed scripts run client steps before later op can at ops keeps = elim can [
-      | inl live ↦ live_allowed live.0 scripts run client steps before later op live.1 at ops keeps
-      | inr other ↦ elim other [
-          | inl silent ↦ rw silent.0 silent.1
-          | inr down ↦ rw down.0 down.1
-        ]
+    | inl live ↦ live_allowed live.0 scripts run client steps before later op live.1 at ops keeps
+    | inr other ↦ elim other [
+      | inl silent ↦ rw silent.0 silent.1
+      | inr down ↦ rw down.0 down.1
     ]
+  ]
 
   lines_allowed : (scripts : List (List Step)) (runs : List BoardRun)
       → ((k : ℕ) (run : BoardRun) → slice_get runs k ≡ Some run → CanShow P k scripts run)

@@ -334,7 +334,7 @@ nothing_garbled : (spec : BoardSpec) (board : ℕ) (told : Greeting) (scripts : 
     → ShowsScripts spec board scripts run → NoneGarbled run
 nothing_garbled spec board told scripts run greeted none shows = no_ends run.parts
     (nothing_planned board told scripts run.parts none
-      (shows.plans ∙ ap (λ (g : Greeting). plans_on board g scripts) greeted))
+    (shows.plans ∙ ap (λ (g : Greeting). plans_on board g scripts) greeted))
 
 module _ (answering : Answering) (any : AnsweringAny) (keeping : Keeping) (keeping_all : KeepingAll)
     (garbling : Garbling) (joins : Joins) where

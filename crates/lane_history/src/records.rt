@@ -32,7 +32,11 @@ ghost use Rattle.board_history.specs.Patience.{IsPatient, joined};
 ghost use Rattle.board_history.specs.Merges.{IsMergeOfSome};
 ghost use Rattle.direct_run.specs.Runs.{opening_of};
 ghost use Rattle.lane_history.specs.Links.{
-    HasFailed, IsBoardOf, IsLostOnlyIfFailed, IsUntouched, LinkReport,
+  HasFailed,
+  IsBoardOf,
+  IsLostOnlyIfFailed,
+  IsUntouched,
+  LinkReport,
 };
 ghost use Rattle.lane_history.specs.Runs.{ExecutedSome, IsRunOver, ShowsScripts, TellsPayload};
 ghost use Rattle.lane_history.specs.Records.{IsClientsRecord, IsPartlyPlanned, makers};

@@ -19,7 +19,12 @@ ghost use Rattle.direct_run.specs.Lines.{IsBusLine};
 ghost use Rattle.direct_run.specs.Answering.{AskRequests, OpensWithWords};
 ghost use Rattle.lane_history.specs.Links.{IsCalm, LinkReport};
 ghost use Rattle.lane_history.specs.Runs.{
-    AllExecutedSome, AreRunsOver, AreWholeRuns, IsRunOver, IsUngarbledLine, NoneGarbled,
+  AllExecutedSome,
+  AreRunsOver,
+  AreWholeRuns,
+  IsRunOver,
+  IsUngarbledLine,
+  NoneGarbled,
 };
 
 use board_bus::laws::{a_reply_answers_its_body, words_stay_words};
