@@ -1,5 +1,5 @@
--- What the pieces of an operation came to, and so the operation, is of an allowed kind: where nothing is lost, a code of
--- the bus at worst.
+-- What the pieces of an operation came to, and so the operation, is of an allowed kind: where nothing is lost, a code
+-- of the bus at worst.
 use Rattle.std.proofs.Common.{◌≡◌, ◌⊎◌, ℕ, zero, suc, ◌<◌, true, false, List, [], ◌∷◌, length, map, Option, Some}
 use Rattle.std.proofs.Common.{None, refl, sym, ap, ◌∙◌, subst, inl, inr, arith, length-append}
 use Rattle.std.specs.Prelude.{unwrap_or}
@@ -118,7 +118,8 @@ module _ (P : OpResult → Type 0) (bus : AllowsBus P) (one_each : OneEach) (eac
     answer_at op requests words list index request ranges joined at rmw =
         elim (slice_get_cases list index).1 [
           | inl (one, within, there, again) ↦ subst (λ (o : Option Answer). Fits P op (answered o)) (sym there)
-              (answer_fits P bus op request one rmw (each_is (requests_words requests) words list requests index request one
+              (answer_fits P bus op request one rmw
+              (each_is (requests_words requests) words list requests index request one
               joined ranges refl at there))
           | inr (past, none) ↦
               absurd (omega (

@@ -138,7 +138,8 @@ blocks_of many client [] (block ∷ blocks) low high are = absurd are
 blocks_of many client (os ∷ others) [] low high are = absurd are
 blocks_of many client (os ∷ others) (block ∷ blocks) low high are =
     AllByRecursion-append (IsOfClient many) block (all_blocks blocks)
-    (all-map (IsBy client) (IsOfClient many) block (λ x is. (omega (arith, is, low), omega (arith, is, high))) are.0.own)
+    (all-map (IsBy client) (IsOfClient many) block (λ x is. (omega (arith, is, low), omega (arith, is, high)))
+    are.0.own)
     (blocks_of many (client + 1) others blocks (omega arith) (omega (arith, high)) are.1)
 
 falls_lower : (j k : ℕ) (ns : List ℕ) → j ≤ k → NeverFalls k ns → NeverFalls j ns

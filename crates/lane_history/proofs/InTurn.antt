@@ -56,7 +56,8 @@ no_asks_in_plans : (client seq : ℕ) (bodies : List (List ℕ)) → AllByRecurs
 no_asks_in_plans client seq [] = tt
 no_asks_in_plans client seq (b ∷ bs) = (refl, no_asks_in_plans client (seq + 1) bs)
 
-no_asks_in_opening : (client : ℕ) (bodies : List (List (List ℕ))) → AllByRecursion IsNoAsk (all_plans_from client bodies)
+no_asks_in_opening : (client : ℕ) (bodies : List (List (List ℕ)))
+    → AllByRecursion IsNoAsk (all_plans_from client bodies)
 no_asks_in_opening client [] = tt
 no_asks_in_opening client (bs ∷ later) = AllByRecursion-append IsNoAsk (plans_from client 0 bs)
     (all_plans_from (client + 1) later) (no_asks_in_plans client 0 bs) (no_asks_in_opening (client + 1) later)

@@ -151,7 +151,8 @@ module _ (P : OpResult → Type 0) (answering : Answering) (any : AnsweringAny) 
       → IsRunOver settings spec board scripts run link → IsReady spec board scripts → IsAllowed P run
       → Shows P board payload scripts run
   live_shows standing spelling settings spec board scripts run link payload greeted is ready may =
-      let live : IsLiveRun settings spec payload run link = subst (IsAsTold settings spec run link) greeted is.as_told in
+      let live : IsLiveRun settings spec payload run link =
+      subst (IsAsTold settings spec run link) greeted is.as_told in
       let told : Live payload ≡ greeting_of spec.link = told_here spec.link payload ready.here live.packets in
       let there = there_is spec.link link.board ready.here is.board' in
       let history = is_history settings spec board scripts run link there.0 payload is greeted there.1 in
@@ -192,7 +193,8 @@ module _ (P : OpResult → Type 0) (answering : Answering) (any : AnsweringAny) 
       subst (λ (b : ℕ). CanShow P b scripts run) same
       (subst (λ (x : BoardRun). CanShow P board scripts x) (same_Some r run at) here)
   shows_at standing spelling settings board (spec ∷ specs) scripts (r ∷ runs) (l ∷ links) is ready may (suc k) run at =
-      let later = shows_at standing spelling settings (board + 1) specs scripts runs links is.1 ready.1 may.1 k run at in
+      let later =
+      shows_at standing spelling settings (board + 1) specs scripts runs links is.1 ready.1 may.1 k run at in
       let same : board + 1 + k ≡ board + suc k = omega arith in
       subst (λ (b : ℕ). CanShow P b scripts run) same later
 

@@ -86,7 +86,8 @@ sub_skip (x ∷ xs) y ys s = inr s
 -- its own offer, or none
 own_offer : (client : ℕ) (c : Claim) (b : Bool) (os : List Owned) (ys : List (List ℕ)) → c.client ≡ client
     → IsSubsequence (bodies_by client os) ys
-    → IsSubsequence (bodies_by client (if b then record { client = c.client; body = c.body } ∷ os else os)) (c.body ∷ ys)
+    → IsSubsequence (bodies_by client (if b then record { client = c.client; body = c.body } ∷ os else os))
+    (c.body ∷ ys)
 own_offer client c true os ys e s =
     let own : (c.client == client) ≡ true = eq-eqb c.client client e in
     rw own (inl (refl, s))

@@ -34,7 +34,8 @@ plans_not_by client other seq (b ∷ bs) e = (e, plans_not_by client other (seq 
 
 pub no_plans : (client other seq : ℕ) (bodies : List (List ℕ)) → (other == client) ≡ false
     → entries_by client (plans_from other seq bodies) ≡ []
-no_plans client other seq bodies e = none_by client (plans_from other seq bodies) (plans_not_by client other seq bodies e)
+no_plans client other seq bodies e =
+    none_by client (plans_from other seq bodies) (plans_not_by client other seq bodies e)
 
 -- clients from a later number on planned nothing of this one's
 pub none_later : (client from : ℕ) (bodies : List (List (List ℕ))) → 1 ≤ client → client < from
@@ -43,7 +44,8 @@ none_later client from [] low h = refl
 none_later client from (bs ∷ later) low h =
     let other : (from == client) ≡ false = grind (arith, nat_tests) in
     by_append client (plans_from from 0 bs) (all_plans_from (from + 1) later)
-    ∙ ap (λ (xs : List Item). xs ++ entries_by client (all_plans_from (from + 1) later)) (no_plans client from 0 bs other)
+    ∙ ap (λ (xs : List Item). xs ++ entries_by client (all_plans_from (from + 1) later))
+    (no_plans client from 0 bs other)
     ∙ none_later client (from + 1) later low (omega arith)
 
 pub own_opening : (client : ℕ) (bodies : List (List ℕ)) (later : List (List (List ℕ))) → 1 ≤ client

@@ -95,7 +95,8 @@ is_took : (what : What) (outcome : Outcome) → deed_of what ≡ Taken outcome �
 is_took (Plan body) outcome e = absurd cc
 is_took Seal outcome e = absurd cc
 is_took (Ask n) outcome e = absurd cc
-is_took (Took o n) outcome e = record { give_ups = n; same = let s : o ≡ outcome = cc in ap (λ (z : Outcome). Took z n) s }
+is_took (Took o n) outcome e =
+    record { give_ups = n; same = let s : o ≡ outcome = cc in ap (λ (z : Outcome). Took z n) s }
 
 same_item : (x : Item) (client seq : ℕ) (what : What) → x.client ≡ client → x.seq ≡ seq → x.what ≡ what
     → x ≡ record { client = client; seq = seq; what = what }
@@ -148,7 +149,8 @@ tooks_in client seq (o ∷ os) (x ∷ xs) by e =
     record {
       took = record { outcome = o; give_ups = what.give_ups } ∷ later.took;
       items = ap (λ (y : Item). y ∷ xs) (same_item x client seq (Took o what.give_ups) by.0 s what.same)
-          ∙ ap (λ (ys : List Item). record { client = client; seq = seq; what = Took o what.give_ups } ∷ ys) later.items;
+          ∙ ap (λ (ys : List Item). record { client = client; seq = seq; what = Took o what.give_ups } ∷ ys)
+          later.items;
       same = ap (λ (zs : List Outcome). o ∷ zs) later.same;
     }
 

@@ -25,7 +25,8 @@ use Rattle.board_history.specs.Parts.{IsReplyOf}
 use Rattle.board_history.specs.History.{ShowsHistory, bodies_by_client, outcomes_by_client}
 use Rattle.board_history.proofs.Sorting.{all_sorted, sorted_all}
 use Rattle.direct_run.specs.Answering.{AsksRequests, AskRequests}
-use Rattle.direct_run.proofs.Answering.{Answering, AnsweringAny, Keeping, KeepingAll, Garbling, Joins, IsTold, body_told}
+use Rattle.direct_run.proofs.Answering.{Answering, AnsweringAny, Keeping, KeepingAll, Garbling, Joins, IsTold}
+use Rattle.direct_run.proofs.Answering.{body_told}
 use Rattle.direct_run.proofs.Answering.{spelled_words}
 use Rattle.lane_history.specs.Runs.{IsUngarbled, NoneGarbled}
 

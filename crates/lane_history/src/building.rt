@@ -1,5 +1,5 @@
-//! How the record that clients leave comes about, entry by entry. These functions do nothing when they run: their clauses
-//! are what is proved.
+//! How the record that clients leave comes about, entry by entry. These functions do nothing when they run: their
+//! clauses are what is proved.
 
 ghost use Rattle.std.specs.Prelude.{◌≡◌, ℕ, ◌+◌, ◌≤◌, List, [], ◌∷◌, ◌++◌, length, map, None};
 ghost use Rattle.std.specs.List.{flat_map};
@@ -51,8 +51,8 @@ pub fn clients_one_after_another_leave_a_clients_record()
         × NeverFalls 0 (makers is.past) }
 {}
 
-/// A record is partly planned while Plans are entered client by client, and stays so while other entries of these clients
-/// come behind them.
+/// A record is partly planned while Plans are entered client by client, and stays so while other entries of these
+/// clients come behind them.
 pub fn a_record_is_partly_planned_on_its_way()
     ensures plans { (bodies : List (List (List ℕ))) → IsPartlyPlanned bodies (all_plans_from 1 bodies) }
     ensures front { (bodies : List (List (List ℕ))) (front items : List Item) → IsPrefix front items →

@@ -106,8 +106,8 @@ pub fn a_board_executes_a_merge_at_any_moment()
         IsClientsRecord bodies outcomes items → IsPartlyPlanned bodies items }
 {}
 
-/// So it is of a lane that was left in the midst of a session, and of a board that was not touched: each executed a merge
-/// of bodies that the scripts ask of it, each client's in its order.
+/// So it is of a lane that was left in the midst of a session, and of a board that was not touched: each executed a
+/// merge of bodies that the scripts ask of it, each client's in its order.
 pub fn a_lane_left_at_any_moment_executed_a_merge()
     ensures lane { (settings : Limits) (spec : BoardSpec) (board : ℕ) (scripts : List (List Step)) (link : LinkReport)
         (payload : ℕ) (items : List Item) (became : List (Option Outcome)) (given_up : ℕ) →

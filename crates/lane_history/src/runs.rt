@@ -114,8 +114,8 @@ pub fn no_line_is_garbled()
     operations_of_words_are_packed();
 }
 
-/// Where moreover nothing was held and nothing failed, each line is a value, `done`, `was`, a code of the bus or skipped:
-/// none is garbled, timed out, unsent or lost with its link, in whatever order the clients ran.
+/// Where moreover nothing was held and nothing failed, each line is a value, `done`, `was`, a code of the bus or
+/// skipped: none is garbled, timed out, unsent or lost with its link, in whatever order the clients ran.
 pub fn calm_lines_fail_by_codes_of_the_bus_alone()
     ensures { (settings : Limits) (specs : List BoardSpec) (scripts : List (List Step)) (runs : List BoardRun)
         (links : List LinkReport) → 1 ≤ settings.rounds → AllByRecursion IsCalm links →
