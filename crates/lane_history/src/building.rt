@@ -10,19 +10,9 @@ ghost use Rattle.lane_record.specs.Items.{plan_in};
 ghost use Rattle.lane_record.specs.Lists.{NeverFalls};
 ghost use Rattle.lane_record.specs.NextEntry.{plan_of, the_seal};
 ghost use Rattle.board_history.specs.Patience.{joined};
-ghost use Rattle.lane_history.specs.Records.{
-  AreBlocks,
-  Asked,
-  IsClientsRecord,
-  IsPartlyPlanned,
-  Taken,
-  all_plans_from,
-  asks_from,
-  dispatches_from,
-  makers,
-  plans_from,
-  tooks_from,
-};
+ghost use Rattle.lane_history.specs.Records.{AreBlocks, Asked, IsClientsRecord, IsPartlyPlanned, Taken};
+ghost use Rattle.lane_history.specs.Records.{all_plans_from, asks_from, dispatches_from, makers, plans_from};
+ghost use Rattle.lane_history.specs.Records.{tooks_from};
 
 /// What one more entry says stands behind what those before it say: a Plan, an Ask, a Took, and the entries of a whole
 /// dispatch.

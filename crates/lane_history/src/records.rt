@@ -22,22 +22,11 @@ ghost use Rattle.transcript.specs.Plan.{ClientBodies, plans_on};
 ghost use Rattle.board_history.specs.Order.{bodies_of, order};
 ghost use Rattle.board_history.specs.Parts.{HasOneOrder, IsExecutedOnce, KeepsScripts};
 ghost use Rattle.board_history.specs.InTurn.{AreInTurn};
-ghost use Rattle.board_history.specs.History.{
-  IsHistory,
-  bodies_by_client,
-  dispatches_by_client,
-  outcomes_by_client,
-};
+ghost use Rattle.board_history.specs.History.{IsHistory, bodies_by_client, dispatches_by_client, outcomes_by_client};
 ghost use Rattle.board_history.specs.Patience.{IsPatient, joined};
 ghost use Rattle.board_history.specs.Merges.{IsMergeOfSome};
 ghost use Rattle.direct_run.specs.Runs.{opening_of};
-ghost use Rattle.lane_history.specs.Links.{
-  HasFailed,
-  IsBoardOf,
-  IsLostOnlyIfFailed,
-  IsUntouched,
-  LinkReport,
-};
+ghost use Rattle.lane_history.specs.Links.{HasFailed, IsBoardOf, IsLostOnlyIfFailed, IsUntouched, LinkReport};
 ghost use Rattle.lane_history.specs.Runs.{ExecutedSome, IsRunOver, ShowsScripts, TellsPayload};
 ghost use Rattle.lane_history.specs.Records.{IsClientsRecord, IsPartlyPlanned, makers};
 ghost use Rattle.lane_history.specs.Lanes.{IsSoundLane, IsTrueOf, bodies_offered};
