@@ -255,12 +255,14 @@ fn put(entries: &mut Vec<Entry>, items: &mut Vec<Item>, item: Item)
     items.push_reserved(item);
 }
 
-/// Where an Ask of this client and number stands.
+/// Where an Ask of this client and number stands. The last ones are looked at first, since a client takes what it asked
+/// last.
 fn position(asks: &[(u32, u64)], client: u32, seq: u64) -> Option<usize>
     ensures some { IfSome result (λ at. slice_get asks.now at ≡ Some (client, seq)) }
     ensures none { IfNone result ((at : ℕ) → ¬ (slice_get asks.now at ≡ Some (client, seq))) }
 {
-    for at in 0..asks.len() {
+    for back in 0..asks.len() {
+        let at = asks.len() - 1 - back;
         let ask = asks[at];
         if ask.0 == client && ask.1 == seq {
             return Some(at);
