@@ -84,11 +84,7 @@ pub(crate) fn exchange<L: Link>(
 }
 
 /// Sends all that the hub wants. Where the link refuses a send, it was taken from the hub all the same.
-fn send_all<L: Link>(
-    alloc: Global,
-    hub: &mut Engine,
-    link: &mut L,
-) -> Result<(), LinkFault>
+fn send_all<L: Link>(alloc: Global, hub: &mut Engine, link: &mut L) -> Result<(), LinkFault>
     requires sent { AreSendable hub.old.sent }
     requires queue { AreSendable hub.old.queue }
     ensures all { OnOk result (hub.new ≡ all_sent hub.old) }
@@ -160,12 +156,7 @@ fn receive<L: Link>(
 
 /// Hears a datagram that the link handed out. `first` is the identifier of place 1. Where memory ran out the hub has not
 /// heard it.
-fn hear(
-    alloc: Global,
-    first: Id,
-    hub: &mut Engine,
-    bytes: &[u8],
-) -> Result<Pumped, NoMemory>
+fn hear(alloc: Global, first: Id, hub: &mut Engine, bytes: &[u8]) -> Result<Pumped, NoMemory>
     requires first { first ≡ hub.old.first }
     requires window { IsWindow hub.old.window (length hub.old.sent) (places hub.old.open_places) }
     requires few { body_count hub.old ≤ 2 ^ 62 }

@@ -26,7 +26,8 @@ use lane_record::Outcome;
 use lane_record::laws::book::{entries_go_into_the_book, outcomes_go_into_the_book};
 use lane_record::laws::entries::an_ask_is_of_its_plan;
 use lane_record::laws::offers::{
-    a_failed_link_loses_what_waits, a_send_settles_nothing, an_ask_is_an_offer, what_a_hub_hears_settles_asks,
+    a_failed_link_loses_what_waits, a_send_settles_nothing, an_ask_is_an_offer,
+    what_a_hub_hears_settles_asks,
 };
 use packet_ids::Id;
 use reliable_engine::{Engine, Settings};
@@ -62,15 +63,15 @@ impl<L: Link> Model for Lane<L> {
     ghost Value = { LaneState L };
 
     ghost view = { λ l. record {
-        link = l.link;
-        settings = l.settings;
-        status = record { mtu = l.mtu; buffers = l.buffers; next = l.first };
-        hub = l.engine;
-        items = l.book.items;
-        outcomes = l.outcomes.items;
-        give_ups = l.give_ups;
-        down = l.down;
-        spent = l.spent;
+      link = l.link;
+      settings = l.settings;
+      status = record { mtu = l.mtu; buffers = l.buffers; next = l.first };
+      hub = l.engine;
+      items = l.book.items;
+      outcomes = l.outcomes.items;
+      give_ups = l.give_ups;
+      down = l.down;
+      spent = l.spent;
     } };
 
     ghost invariant = { λ l. IsLane l.settings

@@ -1,8 +1,8 @@
-use Rattle.std.proofs.Common.{◌∙◌, ◌≡◌, ℕ, List, subst, sym, arith, ap}
+use Rattle.std.proofs.Common.{◌∙◌, ℕ, List, subst, sym, arith}
 use Rattle.world_model.specs.Sends.{Next}
 use Rattle.world_core.specs.Telling.{IfTelling, IsSent}
 use Rattle.hub_lane.proofs.Sends.{all_out, next_is, none_is, one_less, same_hub, sent_more}
-use Rattle.hub_lane.proofs.Linked.{refused_on, sent_on, sent_opening, still_spelled}
+use Rattle.hub_lane.proofs.Linked.{sent_on, sent_opening, still_spelled}
 use Rattle.hub_lane.proofs.exchange.send_all.Goals as goal
 
 pub returns-in_err-bytes-clause-some : goal.returns-in_err-bytes-clause-some
