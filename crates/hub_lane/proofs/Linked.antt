@@ -151,7 +151,8 @@ same_opening R None (Some u) call same = absurd call
 same_opening R (Some t) None call same = absurd call
 same_opening R (Some t) (Some u) call same = ap (λ (o : CellMap). Some o) (same t u call)
 
-pub sent_opening : (bytes : List ℕ) (held now : ℕ) (old new : Option Telling) → IfTelling old new (IsSent bytes held now)
+pub sent_opening : (bytes : List ℕ) (held now : ℕ) (old new : Option Telling)
+    → IfTelling old new (IsSent bytes held now)
     → opening_of new ≡ opening_of old
 sent_opening bytes held now old new call = same_opening (IsSent bytes held now) old new call
     (λ t u is. ap (λ (told : Told). told.board.opening) is.told)

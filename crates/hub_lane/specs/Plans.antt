@@ -56,7 +56,8 @@ IsRefused items payload body Sealed = is_sealed items ≡ true
 IsRefused items payload body TooLong = (is_sealed items ≡ false) × (payload < length body + 1)
 IsRefused items payload body ReplyTooLong =
     (is_sealed items ≡ false) × (length body + 1 ≤ payload) × (payload < reply_room body + 1)
-IsRefused items payload body Overfull = (is_sealed items ≡ false) × FitsBoard payload body × IsFull items (length body) (reply_room body)
+IsRefused items payload body Overfull = (is_sealed items ≡ false) × FitsBoard payload body × IsFull items (length
+    body) (reply_room body)
 IsRefused items payload body NoMemory = Unit {0}
 
 -- the body has the next number of its client, and its Plan is the next entry

@@ -1,6 +1,7 @@
 //! A hub over any link: what it sends, what it hears, and what that settles.
 
-ghost use Rattle.std.specs.Prelude.{◌≡◌, ◌≤◌, ◌<◌, ◌+◌, ◌^◌, ℕ, [], true, None, Some, length, OnOk, OnErr, IfOk, IfSome, Err};
+ghost use Rattle.std.specs.Prelude.{◌≡◌, ◌≤◌, ◌<◌, ◌+◌, ◌^◌, ℕ, [], true, None, Some, length, OnOk, OnErr, IfOk};
+ghost use Rattle.std.specs.Prelude.{IfSome, Err};
 ghost use Rattle.ipb_base.specs.Faults.{Rose};
 ghost use Rattle.packet_ids.specs.Identifier.{identifier_at};
 ghost use Rattle.reliable_engine.specs.Answers.{body_count};
@@ -154,7 +155,8 @@ fn receive<L: Link>(
     }
 }
 
-/// Hears a datagram that the link handed out. `first` is the identifier of place 1. Where memory ran out the hub has not
+/// Hears a datagram that the link handed out. `first` is the identifier of place 1. Where memory ran out the hub has
+/// not
 /// heard it.
 fn hear(alloc: Global, first: Id, hub: &mut Engine, bytes: &[u8]) -> Result<Pumped, NoMemory>
     requires first { first ≡ hub.old.first }

@@ -1,6 +1,7 @@
 //! A lane: the engine and the link of one board, and the record of what clients asked of it.
 
-ghost use Rattle.std.specs.Prelude.{◌≡◌, ◌≤◌, ◌<◌, ◌⊎◌, ◌^◌, ℕ, true, false, length, map, count_by, OnOk, OnErr, IfOk, IfErr};
+ghost use Rattle.std.specs.Prelude.{◌≡◌, ◌≤◌, ◌<◌, ◌⊎◌, ◌^◌, ℕ, true, false, length, map, count_by, OnOk, OnErr, IfOk};
+ghost use Rattle.std.specs.Prelude.{IfErr};
 ghost use Rattle.std.specs.Prelude.{IfSome, IfNone, Err, List, if◌then◌else◌, ◌++◌, ◌∷◌, [], Some, None};
 ghost use Rattle.ipb_base.specs.Faults.{Rose};
 ghost use Rattle.ipb_base.specs.Numbers.{payload_of};
@@ -41,6 +42,7 @@ use world_model::laws::sends::only_an_offer_makes_more_bodies;
 
 /// The hub's side of one board: its engine, its link, and the record of what clients planned, asked and took (profile).
 /// Contracts see it as `LaneState`; what holds of it at the exit of every call is `IsLane`, which `is_sound` tells.
+#[derive(Drop)]
 pub struct Lane<L: Link> {
     alloc: Global,
     link: L,
@@ -192,7 +194,8 @@ impl<L: Link> Lane<L> {
         link
     }
 
-    /// Plans a body for a client, from 1. `reply_words` is the words of the longest reply to it. Answers the body's number
+    /// Plans a body for a client, from 1. `reply_words` is the words of the longest reply to it. Answers the body's
+    /// number
     /// among the client's, from 0. A body that is refused changes nothing.
     pub fn plan(&mut self, client: u32, body: Words, reply_words: u32) -> Result<u64, PlanRefusal>
         requires client { 1 ≤ client }
@@ -243,7 +246,8 @@ impl<L: Link> Lane<L> {
         Ok(Asked::Asked(self.book.ask(client, self.give_ups)))
     }
 
-    /// Sends all that the engine wants, in its order, and then receives once. After want of memory the lane is spent, and
+    /// Sends all that the engine wants, in its order, and then receives once. After want of memory the lane is spent,
+    /// and
     /// every later pump answers want of memory. Where the link fails, now or before, every body that has no outcome is
     /// lost.
     pub fn pump(&mut self) -> Result<Pumped, NoMemory>

@@ -1,7 +1,7 @@
 use Rattle.std.proofs.Common.{◌∙◌, sym, subst, refl}
 use Rattle.hub_lane.specs.Calls.{IsSameRecord}
 use Rattle.hub_lane.specs.Lanes.{BoardStatus, LaneState}
-use Rattle.hub_lane.proofs.Lanes.{PumpLaws, pump_down, pump_received, pump_spent}
+use Rattle.hub_lane.proofs.Pumps.{PumpLaws, pump_down, pump_received, pump_spent}
 use Rattle.hub_lane.proofs.lane.Lane.pump.Goals as goal
 
 pub invariant_of-self : goal.invariant_of-self
