@@ -83,6 +83,7 @@ pub record HasReceived {L : Type 0} (old : LaneState L) (telling : Option Tellin
 
 -- The link failed after some sends: what was without an outcome is lost, with its place where it was sent.
 pub record GoesDown {L : Type 0} (old new : LaneState L) : Type 0 where
+  pub waited : is_waiting old.hub ≡ true
   pub hub : HasSent old.hub new.hub
   pub outcomes : new.outcomes ≡ all_lost (length new.hub.sent) old.outcomes
   pub give_ups : new.give_ups ≡ old.give_ups

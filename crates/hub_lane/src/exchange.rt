@@ -156,8 +156,7 @@ fn receive<L: Link>(
 }
 
 /// Hears a datagram that the link handed out. `first` is the identifier of place 1. Where memory ran out the hub has
-/// not
-/// heard it.
+/// not heard it.
 fn hear(alloc: Global, first: Id, hub: &mut Engine, bytes: &[u8]) -> Result<Pumped, NoMemory>
     requires first { first ≡ hub.old.first }
     requires window { IsWindow hub.old.window (length hub.old.sent) (places hub.old.open_places) }

@@ -195,8 +195,7 @@ impl<L: Link> Lane<L> {
     }
 
     /// Plans a body for a client, from 1. `reply_words` is the words of the longest reply to it. Answers the body's
-    /// number
-    /// among the client's, from 0. A body that is refused changes nothing.
+    /// number among the client's, from 0. A body that is refused changes nothing.
     pub fn plan(&mut self, client: u32, body: Words, reply_words: u32) -> Result<u64, PlanRefusal>
         requires client { 1 ≤ client }
         requires reply { reply_words ≡ reply_room body }
@@ -247,15 +246,14 @@ impl<L: Link> Lane<L> {
     }
 
     /// Sends all that the engine wants, in its order, and then receives once. After want of memory the lane is spent,
-    /// and
-    /// every later pump answers want of memory. Where the link fails, now or before, every body that has no outcome is
-    /// lost.
+    /// and every later pump answers want of memory. Where the link fails, now or before, every body that has no outcome
+    /// is lost.
     pub fn pump(&mut self) -> Result<Pumped, NoMemory>
         ensures pumped { IfOk result (PumpsAs self.old (L.telling self.new.link) self.new) }
         ensures same { IsSameRecord self.old self.new }
         ensures not_spent { OnOk result (self.old.spent ≡ false) }
-        ensures spent { OnErr result ((self.old.spent ≡ true) ⊎ (self.old.down ≡ false)) }
-        ensures stays_spent { OnErr result (IsSpent self.old self.new) }
+        ensures spent { OnErr result (IsSpent self.old self.new) }
+        ensures not_down { OnErr result ((self.old.spent ≡ true) ⊎ (self.old.down ≡ false)) }
         ensures down { IfOk result (λ _. self.new.down ≡ true → (self.old.down ≡ true)
             ⊎ Rose (L.faults self.old.link) (L.faults self.new.link)) }
         ensures faults { L.faults self.old.link ≤ L.faults self.new.link }
