@@ -1,8 +1,8 @@
 -- What a lane over a link that tells is worth.
-use Rattle.std.proofs.Common.{◌≡◌, ℕ, ◌+◌, ◌*◌, ◌≤◌, Bool, true, false, List, [], ◌∷◌, ◌++◌, length, map, Option, Some}
-use Rattle.std.proofs.Common.{None, refl, sym, ap, ◌∙◌, subst, arith, inl, inr, ◌⊎◌, append_assoc, ◌||◌, cond}
+use Rattle.std.proofs.Common.{◌≡◌, ℕ, ◌+◌, ◌*◌, ◌≤◌, Bool, true, false, List, [], ◌∷◌, ◌++◌, Option, Some}
+use Rattle.std.proofs.Common.{None, refl, sym, ap, ◌∙◌, subst, arith, inl, inr, ◌||◌}
 use Rattle.std.specs.Prelude.{IfSome}
-use Rattle.std.specs.List.{AllByRecursion, slice_get}
+use Rattle.std.specs.List.{slice_get}
 use Rattle.std.proofs.lemmas.List.{append-nil, map-append}
 use Rattle.ipb_base.specs.Lists.{IsPrefix}
 use Rattle.world_model.specs.declared.datagram.Datagram.{Datagram}
@@ -35,8 +35,8 @@ use Rattle.lane_record.specs.FirstSends.{bodies_sent, first_sends, places_of}
 use Rattle.lane_record.specs.Offers.{Agrees}
 use Rattle.lane_record.specs.Bounds.{AreLostOnlyIf, HasReached}
 use Rattle.hub_lane.specs.Lanes.{BoardStatus, IsLane}
-use Rattle.hub_lane.specs.Standing.{IsHandedFate, IsRunning, IsStanding, IsStopped, WasHanded}
-use Rattle.hub_lane.specs.Truth.{AreRightReplies, IsTrueTo, IsWhole}
+use Rattle.hub_lane.specs.Standing.{IsHandedFate, IsRunning, IsStanding}
+use Rattle.hub_lane.specs.Truth.{IsTrueTo, IsWhole}
 use Rattle.hub_lane.proofs.Standing.{if_told}
 
 -- ---- the laws of world_core
@@ -92,11 +92,13 @@ abbrev pub SendsMore : Hub → Option Next → Type 0
 SendsMore hub None = Unit {0}
 SendsMore hub (Some next) = (more : List Offered) × (next.hub.sent ≡ hub.sent ++ more)
 
-sends_more : (hub : Hub) → IfSome (next_send hub) (λ (n : Next). (more : List Offered) × (n.hub.sent ≡ hub.sent ++ more))
+sends_more : (hub : Hub) → IfSome (next_send hub) (λ (n : Next). (more : List Offered) × (n.hub.sent ≡ hub.sent ++
+    more))
 sends_more hub = send_cases (λ (n : Next). (more : List Offered) × (n.hub.sent ≡ hub.sent ++ more)) hub
     ([], sym (append-nil hub.sent)) (λ w is. ([], sym (append-nil hub.sent))) (λ o later queue room. (o ∷ [], refl))
 
-next_more : (hub : Hub) (r : Option Next) → IfSome r (λ (n : Next). (more : List Offered) × (n.hub.sent ≡ hub.sent ++ more))
+next_more : (hub : Hub) (r : Option Next)
+    → IfSome r (λ (n : Next). (more : List Offered) × (n.hub.sent ≡ hub.sent ++ more))
     → (more : List Offered) × ((hub_next hub r).sent ≡ hub.sent ++ more)
 next_more hub None is = ([], sym (append-nil hub.sent))
 next_more hub (Some n) is = is
@@ -147,7 +149,8 @@ pub whole : (settings : Limits) (status : BoardStatus) (hub : Hub) (items : List
     → IsFinished items
     → IsLane settings status hub items outcomes give_ups down spent telling faults quiets
     → IsWhole items hub.sent hub.window hub.rounds give_ups faults quiets telling
-whole settings status hub items outcomes give_ups down spent telling faults quiets all_taken places sent true_to finished
+whole settings status hub items outcomes give_ups down spent telling faults quiets all_taken places sent true_to
+    finished
     is =
     let same = all_taken items outcomes is.kept.legal finished in
     let bodies = sent items outcomes hub.sent _ _ is.kept.legal finished is.agrees in

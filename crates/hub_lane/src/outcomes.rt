@@ -1,6 +1,7 @@
 //! What became of the asked bodies, in the order of the Asks.
 
-ghost use Rattle.std.specs.Prelude.{◌≡◌, ◌+◌, ◌<◌, ◌≤◌, ◌^◌, ℕ, IfOk, IfSome, IfNone, length, count_by, if◌then◌else◌, List};
+ghost use Rattle.std.specs.Prelude.{◌≡◌, ◌+◌, ◌<◌, ◌≤◌, ◌^◌, ℕ, IfOk, IfSome, IfNone, length, count_by, if◌then◌else◌};
+ghost use Rattle.std.specs.Prelude.{List};
 ghost use Rattle.lane_record.specs.Bounds.{timeouts};
 ghost use Rattle.lane_record.specs.Offers.{all_lost, lost_after, outcome_of, put, put_all};
 ghost use Rattle.lane_record.specs.Outcomes.{is_sent};
@@ -98,7 +99,10 @@ fn is_sent(outcome: &Outcome) -> bool
 {
     match outcome {
         Outcome::Replied { place: _, words: _ } => true,
-        Outcome::TimedOut { place: _, rounds: _ } => true,
+        Outcome::TimedOut {
+            place: _,
+            rounds: _,
+        } => true,
         Outcome::Unsent => false,
         Outcome::LinkLost { place } => place.is_some(),
     }
@@ -159,7 +163,12 @@ pub(crate) fn count_of(outcomes: &[Option<Outcome>]) -> (u64, u64, u64)
     for outcome in outcomes {
         match outcome {
             Some(Outcome::Replied { place: _, words: _ }) => replied += 1,
-            Some(Outcome::TimedOut { place: _, rounds: _ }) => timed_out += 1,
+            Some(
+                Outcome::TimedOut {
+                    place: _,
+                    rounds: _,
+                },
+            ) => timed_out += 1,
             Some(Outcome::LinkLost { place: Some(_) }) => lost += 1,
             _ => {}
         }

@@ -1,4 +1,5 @@
-use Rattle.std.proofs.Common.{◌≡◌, ◌∙◌, ℕ, List, sym, ap, subst, refl, arith, length, ◌++◌, ◌∷◌, [], Option, Some, None, ◌≤◌, if◌then◌else◌}
+use Rattle.std.proofs.Common.{◌≡◌, ◌∙◌, ℕ, List, sym, ap, subst, refl, length, ◌++◌, ◌∷◌, [], Option, Some, None, ◌≤◌}
+use Rattle.std.proofs.Common.{if◌then◌else◌}
 use Rattle.world_model.specs.Hub.{offer}
 use Rattle.lane_record.specs.declared.outcome.Outcome.{Outcome}
 use Rattle.lane_record.specs.declared.outcome.Outcome.TheVariants.{LinkLost}
@@ -38,7 +39,8 @@ invariant_of-self-2 g c =
     c.an_ask_is_an_offer.ensures.offered c.a_failed_link_loses_what_waits.ensures.later l.settings status l.engine
     c.offer.new.engine items c.ask.new.self.items l.outcomes.items c.offer.new.outcomes.items l.give_ups l.down l.spent
     (g.L.Link.telling l.link) (g.L.Link.faults l.link) (g.L.Link.quiets l.link) client seq c.in_ok-body.body
-    (λ kept. c.entries_go_into_the_book.ensures.ask items l.outcomes.items l.engine.window l.give_ups client seq kept may)
+    (λ kept. c.entries_go_into_the_book.ensures.ask items l.outcomes.items l.engine.window l.give_ups client seq kept
+    may)
     (λ kept. c.entries_go_into_the_book.ensures.ask_in_vain items l.outcomes.items l.engine.window l.give_ups client seq
     kept may) there can c.if-self.false
     (c.in_ok-offer.ensures.engine ∙ ap (λ (os : List (Option Outcome)). if l.down then l.engine

@@ -27,7 +27,8 @@ invariant_of-self-2 g c =
     let within : at < length outcomes = (let h = get_within (claims items) at place.0 place.1.there in
     let e = c.self.invariant.agrees.counts.each in omega (arith, h, e)) in
     let there : slice_get outcomes at ≡ Some c.index.result.now =
-    slice_get-get_or outcomes at c.index.result.now within ∙ ap (λ (o : Option Outcome). Some o) (sym c.index.ensures) in
+    slice_get-get_or outcomes at c.index.result.now within ∙ ap (λ (o : Option Outcome). Some o) (sym c.index.ensures)
+    in
     let became : slice_get outcomes at ≡ Some (Some kept_is) = there ∙ ap (λ (o : Option Outcome). Some o)
     (c.in-Some-index.is ∙ ap (λ (o : Outcome). Some o) (sym c.in_ok-kept.ensures)) in
     let entry : c.take.new.self.items ≡ items ++ x ∷ [] =
@@ -38,7 +39,11 @@ invariant_of-self-2 g c =
     (g.L.Link.telling l.link) (g.L.Link.faults l.link) (g.L.Link.quiets l.link) x refl tt
     (λ kept. c.entries_go_into_the_book.ensures.took items outcomes l.engine.window l.give_ups c.args.client c.args.seq
     kept_is kept (record {
-      k = at; claim = place.0; ask = place.1; once = asked.untaken.once; became = became;
+      k = at;
+      claim = place.0;
+      ask = place.1;
+      once = asked.untaken.once;
+      became = became;
     })) c.self.invariant)
 
 pub returns-clause-taken : goal.returns-clause-taken
@@ -56,22 +61,38 @@ returns-clause-taken g c =
     let within : at < length outcomes = (let h = get_within (claims items) at place.0 place.1.there in
     let e = c.self.invariant.agrees.counts.each in omega (arith, h, e)) in
     let there : slice_get outcomes at ≡ Some c.index.result.now =
-    slice_get-get_or outcomes at c.index.result.now within ∙ ap (λ (o : Option Outcome). Some o) (sym c.index.ensures) in
+    slice_get-get_or outcomes at c.index.result.now within ∙ ap (λ (o : Option Outcome). Some o) (sym c.index.ensures)
+    in
     let became : slice_get outcomes at ≡ Some (Some answer) = there ∙ ap (λ (o : Option Outcome). Some o)
     (c.in-Some-index.is ∙ ap (λ (o : Outcome). Some o) (sym c.in_ok-answer.ensures)) in
     let same : c.in_ok-kept.kept ≡ answer = c.in_ok-kept.ensures ∙ sym c.in_ok-answer.ensures in
     let entry : c.take.new.self.items ≡ items ++ x ∷ [] =
-    c.take.ensures ∙ (ap (λ (o : Outcome). c.reserve.new.self.items ++ took_of c.args.client c.args.seq o l.give_ups ∷ [])
+    c.take.ensures ∙ (ap (λ (o : Outcome). c.reserve.new.self.items ++ took_of c.args.client c.args.seq o l.give_ups ∷
+    [])
     same ∙ ap (λ (xs : List Item). xs ++ x ∷ []) c.in_ok-reserve.ensures.items) in
     subst (λ (v : LaneState _). Takes v c.args.client c.args.seq (record {
-      link = l.link; settings = l.settings; status = status; hub = l.engine; items = c.take.new.self.items;
-      outcomes = outcomes; give_ups = l.give_ups; down = l.down; spent = l.spent;
+      link = l.link;
+      settings = l.settings;
+      status = status;
+      hub = l.engine;
+      items = c.take.new.self.items;
+      outcomes = outcomes;
+      give_ups = l.give_ups;
+      down = l.down;
+      spent = l.spent;
     }) answer) c.self.view_is (record {
       number = at;
       untaken = record { claim = place.0; ask = place.1; once = asked.untaken.once };
       became = became;
       entry = ap (λ (xs : List Item). record {
-        link = l.link; settings = l.settings; status = status; hub = l.engine; items = xs;
-        outcomes = outcomes; give_ups = l.give_ups; down = l.down; spent = l.spent;
+        link = l.link;
+        settings = l.settings;
+        status = status;
+        hub = l.engine;
+        items = xs;
+        outcomes = outcomes;
+        give_ups = l.give_ups;
+        down = l.down;
+        spent = l.spent;
       }) entry;
     })
