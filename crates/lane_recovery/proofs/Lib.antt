@@ -1,0 +1,5 @@
+mod Reading
+mod Answers
+mod Hearing
+pub mod Heard
+mod Receiving
