@@ -3,3 +3,4 @@ mod Answers
 mod Hearing
 pub mod Heard
 mod Receiving
+mod Sending
