@@ -4,3 +4,4 @@ mod Hearing
 pub mod Heard
 mod Receiving
 mod Sending
+mod Rounds

@@ -5,3 +5,4 @@
 #![tactic(auto)]
 
 mod below;
+pub mod laws;
