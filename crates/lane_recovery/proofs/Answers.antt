@@ -1,6 +1,8 @@
 -- The answers of a board to the packets of a round.
-use Rattle.std.proofs.Common.{◌≡◌, ℕ, zero, suc, ◌+◌, ◌-◌, ◌*◌, ◌<◌, ◌≤◌, ◌^◌, Bool, true, false, cond, ◌==◌, ◌||◌, List, [], ◌∷◌, ◌++◌, length, map, drop}
-use Rattle.std.proofs.Common.{Option, Some, None, refl, sym, ap, ◌∙◌, subst, arith, inl, inr, ◌⊎◌, length-append, append_assoc}
+use Rattle.std.proofs.Common.{◌≡◌, ℕ, zero, suc, ◌+◌, ◌-◌, ◌*◌, ◌<◌, ◌≤◌, ◌^◌, Bool, true, false, cond, ◌==◌, ◌||◌}
+use Rattle.std.proofs.Common.{List, [], ◌∷◌, ◌++◌, length, map, drop}
+use Rattle.std.proofs.Common.{Option, Some, None, refl, sym, ap, ◌∙◌, subst, arith, inl, inr, ◌⊎◌, length-append}
+use Rattle.std.proofs.Common.{append_assoc}
 use Rattle.std.proofs.lemmas.List.{length-map, map-append}
 use Rattle.std.proofs.lemmas.Bool.{eqb-true}
 use Rattle.std.specs.List.{AllByRecursion, AllZip, slice_get}
@@ -20,7 +22,8 @@ use Rattle.packet_ids.specs.Identifier.{IsIdentifier, identifier_at}
 use Rattle.status_packet.specs.Range.{IsMtu}
 use Rattle.world_model.specs.declared.heard.LogEntry.{LogEntry}
 use Rattle.world_model.specs.Messages.{Reply as ReplyTo, control_packet, to_hub}
-use Rattle.world_model.specs.Board.{Board, body_of, executed, expected, held, last_of, numbered, numbered_replies, present_bus, replies, with_id}
+use Rattle.world_model.specs.Board.{Board, body_of, executed, expected, held, last_of, numbered, numbered_replies}
+use Rattle.world_model.specs.Board.{present_bus, replies, with_id}
 use Rattle.world_model.specs.Facts.{IsBoard, IsLogged, IsSendable}
 use Rattle.world_model.proofs.Places.{id_fits}
 use Rattle.lane_recovery.specs.Below.{RecoveryLaws}
@@ -76,9 +79,10 @@ module _ (below : RecoveryLaws) where
 
   replayed_sendable : (mtu : ℕ) (cells : CellMap) (log : List LogEntry) → IsMtu mtu → HoldsWords cells → AllByRecursion (IsLogged mtu) log → AllByRecursion IsSendable (replay cells (map body_of log)).replies
   replayed_sendable mtu cells [] is holds all = tt
-  replayed_sendable mtu cells (e ∷ log) is holds all =
-      (reply_sendable mtu e.body (run_body cells e.body).reply cells is (below.answer cells e.body holds all.0.words) (below.room cells e.body) all.0.room,
-       replayed_sendable mtu (run_body cells e.body).cells log is (below.words_stay cells (e.body ∷ []) holds (all.0.words, tt)) all.1)
+  replayed_sendable mtu cells (e ∷ log) is holds all = (
+    reply_sendable mtu e.body (run_body cells e.body).reply cells is (below.answer cells e.body holds all.0.words) (below.room cells e.body) all.0.room,
+    replayed_sendable mtu (run_body cells e.body).cells log is (below.words_stay cells (e.body ∷ []) holds (all.0.words, tt)) all.1,
+  )
 
   abbrev pub IsReadable : Packet → Type 0
   IsReadable p = to_hub (packet_bytes p) ≡ Some (ReplyTo p.id p.body)
@@ -100,9 +104,9 @@ module _ (below : RecoveryLaws) where
   with_id_is : (P : Packet → Type 0) (id : ℕ) (ps : List Packet) (p : Packet) → AllByRecursion P ps → with_id id ps ≡ Some p → P p × (p.id ≡ id)
   with_id_is P id [] p all e = absurd (cc)
   with_id_is P id (q ∷ ps) p all e = elim (q.id == id) as (λ b. (q.id == id) ≡ b → cond b (Some q) (with_id id ps) ≡ Some p → P p × (p.id ≡ id)) [
-      | true ↦ λ is e. let same : q ≡ p = cc in subst (λ (x : Packet). P x × (x.id ≡ id)) same (all.0, eqb-true q.id id is)
-      | false ↦ λ is e. with_id_is P id ps p all.1 e
-    ] refl e
+    | true ↦ λ is e. let same : q ≡ p = cc in subst (λ (x : Packet). P x × (x.id ≡ id)) same (all.0, eqb-true q.id id is)
+    | false ↦ λ is e. with_id_is P id ps p all.1 e
+  ] refl e
 
   -- a held reply with an identifier is read as one with it
   pub held_read : (first : ℕ) (b : Board) (id : ℕ) (p : Packet) → IsBoard first b → with_id id (held b) ≡ Some p → to_hub (packet_bytes p) ≡ Some (ReplyTo id p.body)

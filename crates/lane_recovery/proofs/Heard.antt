@@ -1,5 +1,6 @@
 -- What a board heard of the air in one receive.
-use Rattle.std.proofs.Common.{◌≡◌, ℕ, zero, suc, ◌+◌, ◌<◌, ◌≤◌, Bool, true, false, List, [], ◌∷◌, ◌++◌, length, Option, Some, None}
+use Rattle.std.proofs.Common.{◌≡◌, ℕ, zero, suc, ◌+◌, ◌<◌, ◌≤◌, Bool, true, false, List, [], ◌∷◌, ◌++◌, length}
+use Rattle.std.proofs.Common.{Option, Some, None}
 use Rattle.std.proofs.Common.{refl, sym, ap, ◌∙◌, subst, arith, if◌then◌else◌}
 use Rattle.std.specs.List.{Contains, slice_get, slice_index_or}
 use Rattle.ipb_base.specs.Lists.{IsPrefix}
@@ -31,11 +32,11 @@ heard_at t u k ks (Some d) there e =
     let heard = Some (heard_on t d.bytes) in
     let alive_or = if is_alive (first_sends t) d then heard else None in
     either (λ (x : Option Told). heard_by t (Some d) ≡ x → then_told x (λ after. hears_all after ks) ≡ Some u → HeardFirst t u k ks) (goes_to goes.ToBoard d.direction) alive_or None
-      (λ way. either (λ (x : Option Told). heard_by t (Some d) ≡ x → then_told x (λ after. hears_all after ks) ≡ Some u → HeardFirst t u k ks) (is_alive (first_sends t) d) heard None
-        (λ alive h e. record { d = d; there = there; to_board = same_direction d.direction way; here = ap (heard_by t) there ∙ h; later = e })
-        (λ dead h e. absurd (cc)))
-      (λ other h e. absurd (cc))
-      refl e
+    (λ way. either (λ (x : Option Told). heard_by t (Some d) ≡ x → then_told x (λ after. hears_all after ks) ≡ Some u → HeardFirst t u k ks) (is_alive (first_sends t) d) heard None
+    (λ alive h e. record { d = d; there = there; to_board = same_direction d.direction way; here = ap (heard_by t) there ∙ h; later = e })
+    (λ dead h e. absurd (cc)))
+    (λ other h e. absurd (cc))
+    refl e
 
 pub heard_first : (t u : Told) (k : ℕ) (ks : List ℕ) → hears_all t (k ∷ ks) ≡ Some u → HeardFirst t u k ks
 heard_first t u k ks e = heard_at t u k ks (slice_get t.air k) refl e
@@ -48,10 +49,10 @@ pub record GoesThere (way : Direction) (air : List Datagram) (place : ℕ) : Typ
 
 pub front_goes : (way : Direction) (front all : List Datagram) (place : ℕ) → IsPrefix front all → GoesThere way front place → GoesThere way all place
 front_goes way front all place is at = record {
-    d = at.d;
-    there = ap (λ (l : List Datagram). slice_get l place) is.1 ∙ get_front front is.0 place at.d at.there;
-    direction = at.direction;
-  }
+  d = at.d;
+  there = ap (λ (l : List Datagram). slice_get l place) is.1 ∙ get_front front is.0 place at.d at.there;
+  direction = at.direction;
+}
 
 -- what the board heard goes to the board
 pub heard_goes : AirGrows → (t u : Told) (ks : List ℕ) (place j : ℕ) → hears_all t ks ≡ Some u → slice_get ks j ≡ Some place → GoesThere goes.ToBoard u.air place
@@ -60,7 +61,7 @@ heard_goes grows t u (k ∷ ks) place zero e at =
     let h = heard_first t u k ks e in
     let k_is : k ≡ place = cc in
     front_goes goes.ToBoard t.air u.air place (grows t u (record { places = k ∷ ks; heard = e }))
-      (record { d = h.d; there = ap (slice_get t.air) (sym k_is) ∙ h.there; direction = h.to_board })
+    (record { d = h.d; there = ap (slice_get t.air) (sym k_is) ∙ h.there; direction = h.to_board })
 heard_goes grows t u (k ∷ ks) place (suc j) e at =
     let h = heard_first t u k ks e in heard_goes grows (heard_on t h.d.bytes) u ks place j h.later at
 

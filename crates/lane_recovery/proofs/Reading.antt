@@ -1,5 +1,6 @@
 -- What both sides read in the packets of a round.
-use Rattle.std.proofs.Common.{◌≡◌, ℕ, ◌+◌, ◌*◌, ◌<◌, ◌≤◌, ◌^◌, Bool, true, false, List, [], ◌∷◌, ◌++◌, length, Option, Some, None}
+use Rattle.std.proofs.Common.{◌≡◌, ℕ, ◌+◌, ◌*◌, ◌<◌, ◌≤◌, ◌^◌, Bool, true, false, List, [], ◌∷◌, ◌++◌, length}
+use Rattle.std.proofs.Common.{Option, Some, None}
 use Rattle.std.proofs.Common.{refl, sym, ap, ◌∙◌, subst, arith, rules}
 use Rattle.std.specs.Prelude.{Ok, Err}
 use Rattle.std.proofs.lemmas.Bool.{le-leb}
@@ -48,8 +49,15 @@ module _ (below : RecoveryLaws) where
 
   status_is : (mtu buffers next : ℕ) → IsMtu mtu → IsBufferCount buffers → IsIdentifier next → status_with mtu buffers (header_of (packet_header next 0)) ≡ Some (StatusReply mtu buffers next)
   status_is mtu buffers next mtu_is buffers_is next_is =
-      rw (below.header next 0 (omega (arith, next_is.up_to_end)) (omega arith), le-leb _ _ mtu_is.0, le-leb _ _ mtu_is.1, le-leb _ _ buffers_is.0, le-leb _ _ buffers_is.1,
-        le-leb _ _ next_is.from_one, le-leb _ _ next_is.up_to_end) refl
+      rw (
+        below.header next 0 (omega (arith, next_is.up_to_end)) (omega arith),
+        le-leb _ _ mtu_is.0,
+        le-leb _ _ mtu_is.1,
+        le-leb _ _ buffers_is.0,
+        le-leb _ _ buffers_is.1,
+        le-leb _ _ next_is.from_one,
+        le-leb _ _ next_is.up_to_end,
+      ) refl
 
   pub status_read : (mtu buffers next : ℕ) → IsMtu mtu → IsBufferCount buffers → IsIdentifier next → to_hub (packet_bytes (status_reply mtu buffers next)) ≡ Some (StatusReply mtu buffers next)
   status_read mtu buffers next mtu_is buffers_is next_is =

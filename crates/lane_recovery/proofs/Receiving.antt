@@ -1,5 +1,6 @@
 -- One receive in a round: what is under way stays so, is handed out, or datagrams are held.
-use Rattle.std.proofs.Common.{◌≡◌, ℕ, zero, suc, ◌+◌, ◌<◌, ◌≤◌, Bool, true, false, ◌==◌, List, [], ◌∷◌, ◌++◌, length, Option, Some, None}
+use Rattle.std.proofs.Common.{◌≡◌, ℕ, zero, suc, ◌+◌, ◌<◌, ◌≤◌, Bool, true, false, ◌==◌, List, [], ◌∷◌, ◌++◌}
+use Rattle.std.proofs.Common.{length, Option, Some, None}
 use Rattle.std.proofs.Common.{refl, sym, ap, ◌∙◌, subst, arith, inl, inr, ◌⊎◌, length-append}
 use Rattle.std.proofs.lemmas.List.{length-map}
 use Rattle.std.proofs.lemmas.Bool.{eqb-true, eqb-false}
@@ -19,8 +20,10 @@ use Rattle.world_model.specs.Links.{IsHeard, IsJoined, Told, first_sends, heard_
 use Rattle.world_model.proofs.Lists.{get_front, get_seam, get_within}
 use Rattle.world_core.specs.Telling.{IsReceived, Telling}
 use Rattle.lane_recovery.specs.Below.{RecoveryLaws}
-use Rattle.lane_recovery.specs.UnderWay.{CanRecover, IsDue, IsUnderWay, IsUseful, IsUsefulAt, AsksBoard, TellsHub, WantsMore, done}
-use Rattle.lane_recovery.proofs.Heard.{GoesThere, HeardFirst, contains_get, front_goes, heard_first, heard_goes, one_way}
+use Rattle.lane_recovery.specs.UnderWay.{CanRecover, IsDue, IsUnderWay, IsUseful, IsUsefulAt, AsksBoard, TellsHub}
+use Rattle.lane_recovery.specs.UnderWay.{WantsMore, done}
+use Rattle.lane_recovery.proofs.Heard.{GoesThere, HeardFirst, contains_get, front_goes, heard_first, heard_goes}
+use Rattle.lane_recovery.proofs.Heard.{one_way}
 use Rattle.lane_recovery.proofs.Hearing.{Grows, Hears, IsPlaced, StaysAs, Tells, board_hears}
 
 -- a hub and a link that are joined, whose board has buffers enough
@@ -32,7 +35,9 @@ placed : (hub : Hub) (t : Told) → IsSetUp hub t → IsPlaced hub.first hub.win
 placed hub t is =
     let sound = is.joined.sound in
     record {
-      node = sound.node; log = sound.log; most = is.most;
+      node = sound.node;
+      log = sound.log;
+      most = is.most;
       hub = subst (λ (n : ℕ). IsWindow hub.window n (places hub.open_places)) (sym (length-map hub.sent offered_body)) sound.hub;
     }
 
@@ -48,9 +53,10 @@ new_answer : (hub : Hub) (t u : Told) (bytes : List ℕ) (answer : Option (List 
 new_answer hub t u bytes answer air e tells =
     let d : Datagram = record { direction = goes.ToHub; bytes = bytes; birth = first_sends t } in
     let there : slice_get u.air (length t.air) ≡ Some d =
-        ap (λ (l : List Datagram). slice_get l (length t.air)) (air ∙ ap (λ (a : Option (List ℕ)). t.air ++ answered (first_sends t) a) e) ∙ get_seam t.air [] d in
+    ap (λ (l : List Datagram). slice_get l (length t.air)) (air ∙ ap (λ (a : Option (List ℕ)). t.air ++ answered (first_sends t) a) e) ∙ get_seam t.air [] d in
     record {
-      place = length t.air; late = omega arith;
+      place = length t.air;
+      late = omega arith;
       at = record { d = d; there = there; useful = tells };
       to_hub = record { d = d; there = there; direction = refl };
     }
@@ -62,15 +68,15 @@ module _ (below : RecoveryLaws) where
 
   set_up_on : (hub : Hub) (t v : Told) → IsSetUp hub t → IsHeard t v → IsSetUp hub v
   set_up_on hub t v is heard = record {
-      joined = below.heard hub t v is.joined heard;
-      most = subst (λ (n : ℕ). hub.window ≤ n) (sym (ap (λ (b : Board). b.buffers) (below.board t v heard))) is.most;
-    }
+    joined = below.heard hub t v is.joined heard;
+    most = subst (λ (n : ℕ). hub.window ≤ n) (sym (ap (λ (b : Board). b.buffers) (below.board t v heard))) is.most;
+  }
 
   hears_one : (hub : Hub) (t u : Told) (k : ℕ) (ks : List ℕ) (h : HeardFirst t u k ks) → IsSetUp hub t
       → Hears hub.first (places hub.open_places) t.board (to_board h.d.bytes) (hear t.board h.d.bytes)
   hears_one hub t u k ks h is =
       board_hears below hub.first hub.window (bodies_of hub.sent) (places hub.open_places) t.board h.d.bytes (to_board h.d.bytes) refl (placed hub t is)
-        (placed hub (heard_on t h.d.bytes) (set_up_on hub t (heard_on t h.d.bytes) is (heard_one t u k ks h)))
+      (placed hub (heard_on t h.d.bytes) (set_up_on hub t (heard_on t h.d.bytes) is (heard_one t u k ks h)))
 
   -- what was useful is so still, or something new is
   abbrev pub OneOn : Hub → Told → Told → ℕ → ℕ → Type 0
@@ -89,22 +95,25 @@ module _ (below : RecoveryLaws) where
             let both : Some h.d ≡ Some at.d = sym h.there ∙ (ap (slice_get t.air) k_is ∙ at.there) in
             let d_is : at.d ≡ h.d = cc in
             let asks : AsksBoard first ps t.board (to_board h.d.bytes) =
-                subst (λ (way : Direction). IsUseful first ps t.board way h.d.bytes) h.to_board (subst (λ (d : Datagram). IsUseful first ps t.board d.direction d.bytes) d_is at.useful) in
+            subst (λ (way : Direction). IsUseful first ps t.board way h.d.bytes) h.to_board (subst (λ (d : Datagram). IsUseful first ps t.board d.direction d.bytes) d_is at.useful) in
             let tells = stays.answers asks in
             inr (new_answer hub t v tells.bytes (hear t.board h.d.bytes).answer refl tells.answer (subst (λ (b : Board). TellsHub first ps b (to_hub tells.bytes)) (sym stays.same) tells.tells))
-        | false ↦ λ other. inl (record {
+        | false ↦ λ other. inl (
+          record {
             d = at.d;
             there = ap (λ (l : List Datagram). slice_get l w) grown.1 ∙ get_front t.air grown.0 w at.d at.there;
             useful = subst (λ (b : Board). IsUseful first ps b at.d.direction at.d.bytes) (sym stays.same) at.useful;
-          }, eqb-false k w other)
+          },
+          eqb-false k w other,
+        )
       ] refl
 
   one_on : (hub : Hub) (t u : Told) (k w : ℕ) (ks : List ℕ) (h : HeardFirst t u k ks) → IsSetUp hub t → IsUsefulAt hub.first (places hub.open_places) t.board t.air w
       → OneOn hub t (heard_on t h.d.bytes) k w
   one_on hub t u k w ks h is at = elim (hears_one hub t u k ks h is) [
-      | inl grows ↦ inr (new_answer hub t (heard_on t h.d.bytes) grows.bytes (hear t.board h.d.bytes).answer refl grows.answer grows.tells)
-      | inr stays ↦ stays_at hub t u k w ks h is stays at
-    ]
+    | inl grows ↦ inr (new_answer hub t (heard_on t h.d.bytes) grows.bytes (hear t.board h.d.bytes).answer refl grows.answer grows.tells)
+    | inr stays ↦ stays_at hub t u k w ks h is stays at
+  ]
 
   -- ---- all that is heard in one receive
 
@@ -217,15 +226,15 @@ module _ (below : RecoveryLaws) where
 
   pub received : (hub : Hub) (by_hub : List ℕ) (before now : ℕ) (old new : Telling) → IsSetUp hub old.told → IsUnderWay hub old → IsReceived by_hub before now old new → Received hub by_hub before now new
   received hub by_hub before now old new set_up way is = elim way [
-      | inl wanted ↦ inr (inl (inl wanted))
-      | inr rest ↦ elim rest [
-        | inl wants ↦ elim (none_or_new hub old.told new.told is.by_board.places set_up is.by_board.heard) [
-          | inl same ↦ inr (inl (inr (inl (subst (λ (n : ℕ). WantsMore n hub.open_places) (sym same) wants))))
-          | inr n ↦ new_received hub by_hub before now old new is n
-        ]
-        | inr due ↦ elim (all_on hub old.told new.told is.by_board.places due.place set_up is.by_board.heard due.at) [
-          | inl left ↦ left_received hub by_hub before now old new due.place is due.due is.by_board.places left.unheard left.at is refl
-          | inr n ↦ new_received hub by_hub before now old new is n
-        ]
+    | inl wanted ↦ inr (inl (inl wanted))
+    | inr rest ↦ elim rest [
+      | inl wants ↦ elim (none_or_new hub old.told new.told is.by_board.places set_up is.by_board.heard) [
+        | inl same ↦ inr (inl (inr (inl (subst (λ (n : ℕ). WantsMore n hub.open_places) (sym same) wants))))
+        | inr n ↦ new_received hub by_hub before now old new is n
+      ]
+      | inr due ↦ elim (all_on hub old.told new.told is.by_board.places due.place set_up is.by_board.heard due.at) [
+        | inl left ↦ left_received hub by_hub before now old new due.place is due.due is.by_board.places left.unheard left.at is refl
+        | inr n ↦ new_received hub by_hub before now old new is n
       ]
     ]
+  ]

@@ -1,6 +1,8 @@
 -- A round, event by event.
-use Rattle.std.proofs.Common.{◌≡◌, ℕ, zero, suc, ◌+◌, ◌*◌, ◌-◌, ◌^◌, ◌<◌, ◌≤◌, Bool, true, false, cond, ◌==◌, ◌||◌, List, [], ◌∷◌, ◌++◌, length, map}
-use Rattle.std.proofs.Common.{Option, Some, None, refl, sym, ap, ◌∙◌, subst, arith, inl, inr, ◌⊎◌, length-append, if◌then◌else◌}
+use Rattle.std.proofs.Common.{◌≡◌, ℕ, zero, suc, ◌+◌, ◌*◌, ◌-◌, ◌^◌, ◌<◌, ◌≤◌, Bool, true, false, cond, ◌==◌, ◌||◌}
+use Rattle.std.proofs.Common.{List, [], ◌∷◌, ◌++◌, length, map}
+use Rattle.std.proofs.Common.{Option, Some, None, refl, sym, ap, ◌∙◌, subst, arith, inl, inr, ◌⊎◌, length-append}
+use Rattle.std.proofs.Common.{if◌then◌else◌}
 use Rattle.std.proofs.lemmas.List.{length-map}
 use Rattle.std.proofs.lemmas.Bool.{eqb-true, eq-eqb, le-leb, lt-ltb, ltb-false, ltb-true}
 use Rattle.std.proofs.Math.Nat.{mul-add}
@@ -17,7 +19,8 @@ use Rattle.world_model.specs.declared.offered.OpenPlace.{OpenPlace}
 use Rattle.world_model.specs.declared.sending.Sending.TheVariants as sends
 use Rattle.world_model.specs.Messages.{Reply, StatusReply, ToHub, to_hub}
 use Rattle.world_model.specs.Board.{Board, executed, is_too_long}
-use Rattle.world_model.specs.Hub.{Hub, give_up, hear_quiet, hear_reply, hear_status, is_waiting, least, low, offer, open_with, place_of, place_with, places, recover, recovered}
+use Rattle.world_model.specs.Hub.{Hub, give_up, hear_quiet, hear_reply, hear_status, is_waiting, least, low, offer}
+use Rattle.world_model.specs.Hub.{open_with, place_of, place_with, places, recover, recovered}
 use Rattle.world_model.specs.Hub.{settle, some_queued, some_waited, take_message, told_place, want_control, want_status}
 use Rattle.world_model.specs.Sends.{Next, Wanted, bytes_to_send, first_send, next_send, opened, wanted, wanted_or_first}
 use Rattle.world_model.specs.Facts.{AreRising, IsExecuted, IsWindow, bodies_of, has, offered_body}
@@ -29,7 +32,8 @@ use Rattle.world_core.specs.Telling.{IsGot, IsQuiet, IsReceived, IsSent, Telling
 use Rattle.lane_record.specs.Bounds.{HasReached}
 use Rattle.lane_recovery.specs.Below.{RecoveryLaws}
 use Rattle.lane_recovery.specs.Rounds.{IsPaid}
-use Rattle.lane_recovery.specs.UnderWay.{CanRecover, FitsBoard, IsDue, IsUnderWay, IsUseful, IsUsefulAt, TellsHub, WantsMore, done}
+use Rattle.lane_recovery.specs.UnderWay.{CanRecover, FitsBoard, IsDue, IsUnderWay, IsUseful, IsUsefulAt, TellsHub}
+use Rattle.lane_recovery.specs.UnderWay.{WantsMore, done}
 use Rattle.lane_recovery.proofs.Heard.{contains_get, nothing_due}
 use Rattle.lane_recovery.proofs.Receiving.{IsHandedUseful, IsSetUp, received}
 use Rattle.lane_recovery.proofs.Sending.{HasAll, WantsOr, due_more, sends_on, wants_sent}
@@ -60,7 +64,7 @@ place_found first place (suc count) id target le lt named one =
       | true ↦ λ same. ap (λ (n : ℕ). Some n) (one place (omega arith) (omega arith) (eqb-true (identifier_at first place) id same))
       | false ↦ λ other. place_found first (place + 1) count id target
           (further place target le (λ same. let here : identifier_at first place ≡ id = ap (identifier_at first) same ∙ named in
-            let found : (identifier_at first place == id) ≡ true = eq-eqb (identifier_at first place) id here in absurd (cc)))
+          let found : (identifier_at first place == id) ≡ true = eq-eqb (identifier_at first place) id here in absurd (cc)))
           (omega (arith, lt)) named (λ e a b. one e (omega (arith, a)) (omega (arith, b)))
     ] refl
 
@@ -76,8 +80,8 @@ low_next window all done_bodies ps sent n all_is done_is is log =
 recovers : (executed : ℕ) (o : OpenPlace) (os : List OpenPlace) → 1 ≤ o.place → o.place ≤ executed + 1 → WantsMore executed (map (recover (executed + 1)) (o ∷ os))
 recovers executed o os one le =
     either (λ (x : OpenPlace). WantsMore executed (x ∷ map (recover (executed + 1)) os)) (nat_lt o.place (executed + 1)) (record o { resend = true }) (record o { control = true })
-      (λ lt. let less = ltb-true o.place (executed + 1) lt in inl (refl, one, omega (arith, less)))
-      (λ ge. let more = ltb-false o.place (executed + 1) ge in inr (inl (refl, omega (arith, more, le))))
+    (λ lt. let less = ltb-true o.place (executed + 1) lt in inl (refl, one, omega (arith, less)))
+    (λ ge. let more = ltb-false o.place (executed + 1) ge in inr (inl (refl, omega (arith, more, le))))
 
 recover_all : (executed : ℕ) (os : List OpenPlace) → 1 ≤ length os → 1 ≤ least (places os) 0 → least (places os) 0 ≤ executed + 1 → WantsMore executed (map (recover (executed + 1)) os)
 recover_all executed [] some one le = absurd (omega (arith, some))
@@ -124,11 +128,11 @@ useful_taken hub t (Some (StatusReply mtu buffers next)) can asked some tells =
     let lowest = low_next hub.window (bodies_of hub.sent) (executed t.told.board) (places hub.open_places) (length hub.sent) n all_is done_is window sound.log in
     let next_le : n ≤ length hub.sent = omega (arith, front, all_is, done_is) in
     let told : told_place hub next ≡ Some (n + 1) =
-        place_found hub.first (low hub) (length hub.sent + 2 - low hub) next (n + 1) lowest (omega (arith, lowest, next_le)) (sym tells)
-          (λ e a b same. one_place hub.first e (n + 1) sound.node.identifier (omega (arith, from_one, a)) (omega arith) (omega (arith, b, within, few, lowest)) (omega (arith, a, within, few, next_le)) (same ∙ tells)) in
+    place_found hub.first (low hub) (length hub.sent + 2 - low hub) next (n + 1) lowest (omega (arith, lowest, next_le)) (sym tells)
+    (λ e a b same. one_place hub.first e (n + 1) sound.node.identifier (omega (arith, from_one, a)) (omega arith) (omega (arith, b, within, few, lowest)) (omega (arith, a, within, few, next_le)) (same ∙ tells)) in
     let more : nat_lt 0 hub.status_requests ≡ true = lt-ltb 0 hub.status_requests asked in
     let heard : take_message hub (Some (StatusReply mtu buffers next)) ≡ recovered hub (Some (n + 1)) =
-        ap (λ (b : Bool). if b then recovered hub (told_place hub next) else hub) more ∙ ap (recovered hub) told in
+    ap (λ (b : Bool). if b then recovered hub (told_place hub next) else hub) more ∙ ap (recovered hub) told in
     let least_is = least_some hub.open_places (length hub.sent + 1) 0 some in
     subst (GoesOn n) (sym heard) (inr (recover_all n hub.open_places some (omega (arith, least_is, from_one)) (omega (arith, least_is, lowest))))
 
@@ -151,9 +155,9 @@ recover_wants executed e (o ∷ os) is =
 control_wants : (executed : ℕ) (os : List OpenPlace) → WantsMore executed os → WantsMore executed (map want_control os)
 control_wants executed [] is = absurd is
 control_wants executed (o ∷ os) is = elim is [
-    | inl here ↦ inl here
-    | inr rest ↦ elim rest [ inl next ↦ inr (inl (refl, next.1)) | inr more ↦ inr (inr (control_wants executed os more)) ]
-  ]
+  | inl here ↦ inl here
+  | inr rest ↦ elim rest [ inl next ↦ inr (inl (refl, next.1)) | inr more ↦ inr (inr (control_wants executed os more)) ]
+]
 
 same_has : (ps qs : List ℕ) → qs ≡ ps → HasAll ps qs
 same_has ps qs e place there = subst (λ (l : List ℕ). has place l ≡ true) (sym e) there
@@ -169,17 +173,17 @@ OverOr hub t after = (after.status_requests ≡ 0) ⊎ IsSameRound hub after t
 
 recovered_round : (hub : Hub) (t : Telling) (e : ℕ) → IsSameRound hub (recovered hub (Some e)) t
 recovered_round hub t e = record {
-    requests = refl;
-    open_as = length-map hub.open_places (recover e);
-    way = λ way. elim way [
-      | inl status ↦ inl status
-      | inr rest ↦ elim rest [
-        | inl wants ↦ inr (inl (recover_wants (done t.told.board) e hub.open_places wants))
-        | inr due ↦ inr (inr (due_more hub.first (places hub.open_places) (places (map (recover e) hub.open_places)) t
-            (same_has (places hub.open_places) (places (map (recover e) hub.open_places)) (places_map (recover e) hub.open_places (recover_place e))) due))
-      ]
-    ];
-  }
+  requests = refl;
+  open_as = length-map hub.open_places (recover e);
+  way = λ way. elim way [
+    | inl status ↦ inl status
+    | inr rest ↦ elim rest [
+      | inl wants ↦ inr (inl (recover_wants (done t.told.board) e hub.open_places wants))
+      | inr due ↦ inr (inr (due_more hub.first (places hub.open_places) (places (map (recover e) hub.open_places)) t
+          (same_has (places hub.open_places) (places (map (recover e) hub.open_places)) (places_map (recover e) hub.open_places (recover_place e))) due))
+    ]
+  ];
+}
 
 message_round : (hub : Hub) (t : Telling) (m : Option ToHub) → OverOr hub t (take_message hub m)
 message_round hub t m = message_cases (OverOr hub t) hub m
@@ -215,10 +219,10 @@ over_paid rounds g hub after held t over paid =
 same_paid : (rounds g : ℕ) (hub after : Hub) (held : ℕ) (t : Telling) → IsSameRound hub after t → 1 ≤ length hub.open_places → HasReached (rounds * g + (hub.status_requests - 1)) held
     → IsUnderWay after t ⊎ HasReached (rounds * g + hub.status_requests) held → IsPaid rounds g after held t
 same_paid rounds g hub after held t same some paid way = record {
-    paid = subst (λ (c : ℕ). HasReached (rounds * g + (c - 1)) held) (sym same.requests) paid;
-    some_open = λ asked. (let e = same.open_as in omega (arith, e, some));
-    under_way = λ asked. subst (λ (c : ℕ). IsUnderWay after t ⊎ HasReached (rounds * g + c) held) (sym same.requests) way;
-  }
+  paid = subst (λ (c : ℕ). HasReached (rounds * g + (c - 1)) held) (sym same.requests) paid;
+  some_open = λ asked. (let e = same.open_as in omega (arith, e, some));
+  under_way = λ asked. subst (λ (c : ℕ). IsUnderWay after t ⊎ HasReached (rounds * g + c) held) (sym same.requests) way;
+}
 
 asked_or_not : (n : ℕ) → (n ≡ 0) ⊎ (1 ≤ n)
 asked_or_not zero = inl refl
@@ -253,8 +257,8 @@ SentRound hub next = (next.hub.status_requests ≡ hub.status_requests) × (leng
 sent_round : (hub : Hub) (next : Next) → next_send hub ≡ Some next → SentRound hub next
 sent_round hub next e = subst (λ (r : Option Next). IfSome r (SentRound hub)) e
     (send_cases (SentRound hub) hub (refl, omega arith)
-      (λ w wants. (refl, same_count hub.open_places w.open_places (subst (IsWantedOr hub.first hub.open_places) wants (wanted_is hub.first hub.open_places)).same))
-      (λ o later queue room. (refl, (let e = length-append hub.open_places (opened (length hub.sent + 1) ∷ []) in omega (arith, e)))))
+    (λ w wants. (refl, same_count hub.open_places w.open_places (subst (IsWantedOr hub.first hub.open_places) wants (wanted_is hub.first hub.open_places)).same))
+    (λ o later queue room. (refl, (let e = length-append hub.open_places (opened (length hub.sent + 1) ∷ []) in omega (arith, e)))))
 
 no_wish_by : (hub : Hub) (r : Option Wanted) → wanted_or_first hub r ≡ None → r ≡ None
 no_wish_by hub None e = refl
@@ -269,10 +273,10 @@ no_first hub quiet none =
 no_wish : (hub : Hub) → next_send hub ≡ None → (hub.status_wanted ≡ false) × (wanted hub.first hub.open_places ≡ None)
 no_wish hub none =
     either (λ (r : Option Next). r ≡ None → (hub.status_wanted ≡ false) × (wanted hub.first hub.open_places ≡ None)) hub.status_wanted
-      (Some (record { send = sends.Status; hub = record hub { status_wanted = false } })) (wanted_or_first hub (wanted hub.first hub.open_places))
-      (λ status e. absurd (cc))
-      (λ quiet e. (quiet, no_wish_by hub (wanted hub.first hub.open_places) e))
-      none
+    (Some (record { send = sends.Status; hub = record hub { status_wanted = false } })) (wanted_or_first hub (wanted hub.first hub.open_places))
+    (λ status e. absurd (cc))
+    (λ quiet e. (quiet, no_wish_by hub (wanted hub.first hub.open_places) e))
+    none
 
 nothing_wanted : (hub : Hub) (t : Telling) → next_send hub ≡ None → t.due ≡ [] → IsUnderWay hub t → ⊥
 nothing_wanted hub t none empty way =
@@ -324,10 +328,10 @@ module _ (below : RecoveryLaws) where
   handed_at hub bytes before now old new can is useful asked some =
       let place_is = only_one is.place useful.place useful.handed.0 (contains_get (is.place ∷ []) useful.place useful.handed) in
       let both : Some useful.at.d ≡ Some (record { direction = goes.ToHub; bytes = bytes; birth = is.there.birth }) =
-          sym useful.at.there ∙ (ap (slice_get new.told.air) (sym place_is) ∙ is.there.there) in
+      sym useful.at.there ∙ (ap (slice_get new.told.air) (sym place_is) ∙ is.there.there) in
       let d_is : useful.at.d ≡ record { direction = goes.ToHub; bytes = bytes; birth = is.there.birth } = cc in
       let tells : TellsHub hub.first (places hub.open_places) new.told.board (to_hub bytes) =
-          subst (λ (d : Datagram). IsUseful hub.first (places hub.open_places) new.told.board d.direction d.bytes) d_is useful.at.useful in
+      subst (λ (d : Datagram). IsUseful hub.first (places hub.open_places) new.told.board d.direction d.bytes) d_is useful.at.useful in
       useful_taken hub new (to_hub bytes) can asked some tells
 
   round_got : (rounds g : ℕ) (hub : Hub) (bytes : List ℕ) (before now : ℕ) (old new : Telling) → CanRecover hub old → before ≤ now → IsGot bytes before now old new → 1 ≤ hub.status_requests → IsPaid rounds g hub before old
@@ -358,23 +362,23 @@ module _ (below : RecoveryLaws) where
   pub paid_got : (rounds g : ℕ) (hub : Hub) (bytes : List ℕ) (before now : ℕ) (old new : Telling) → CanRecover hub old → before ≤ now → IsGot bytes before now old new → IsPaid rounds g hub before old
       → IsPaid rounds g (take_message hub (to_hub bytes)) now new
   paid_got rounds g hub bytes before now old new can le is paid = elim (asked_or_not hub.status_requests) [
-      | inl none ↦ idle_paid rounds g hub (take_message hub (to_hub bytes)) before now old new le none (message_round hub new (to_hub bytes)) paid
-      | inr asked ↦ round_got rounds g hub bytes before now old new can le is asked paid
-    ]
+    | inl none ↦ idle_paid rounds g hub (take_message hub (to_hub bytes)) before now old new le none (message_round hub new (to_hub bytes)) paid
+    | inr asked ↦ round_got rounds g hub bytes before now old new can le is asked paid
+  ]
 
   -- a receive that hands nothing out
   pub paid_heard : (rounds g : ℕ) (hub : Hub) (before now : ℕ) (old new : Telling) → CanRecover hub old → before ≤ now → IsReceived [] before now old new → IsPaid rounds g hub before old → IsPaid rounds g hub now new
   paid_heard rounds g hub before now old new can le is paid = record {
-      paid = reached_later (rounds * g + (hub.status_requests - 1)) before now le paid.paid;
-      some_open = paid.some_open;
-      under_way = λ asked. elim (paid.under_way asked) [
-        | inr late ↦ inr (reached_later (rounds * g + hub.status_requests) before now le late)
-        | inl way ↦ elim (received below hub [] before now old new (record { joined = can.joined; most = can.held }) way is) [
-          | inl rose ↦ inr (subst (λ (n : ℕ). HasReached n now) (one_back (rounds * g) hub.status_requests asked) (reached_rose (rounds * g + (hub.status_requests - 1)) before now paid.paid rose))
-          | inr rest ↦ elim rest [ inl on ↦ inl on | inr useful ↦ absurd (nothing_due [] useful.place refl useful.handed) ]
-        ]
-      ];
-    }
+    paid = reached_later (rounds * g + (hub.status_requests - 1)) before now le paid.paid;
+    some_open = paid.some_open;
+    under_way = λ asked. elim (paid.under_way asked) [
+      | inr late ↦ inr (reached_later (rounds * g + hub.status_requests) before now le late)
+      | inl way ↦ elim (received below hub [] before now old new (record { joined = can.joined; most = can.held }) way is) [
+        | inl rose ↦ inr (subst (λ (n : ℕ). HasReached n now) (one_back (rounds * g) hub.status_requests asked) (reached_rose (rounds * g + (hub.status_requests - 1)) before now paid.paid rose))
+        | inr rest ↦ elim rest [ inl on ↦ inl on | inr useful ↦ absurd (nothing_due [] useful.place refl useful.handed) ]
+      ]
+    ];
+  }
 
   -- a send
   pub paid_sent : (rounds g : ℕ) (hub : Hub) (next : Next) (before now : ℕ) (old new : Telling) → CanRecover hub old → before ≤ now → next_send hub ≡ Some next → IsSent (bytes_to_send next.hub next.send) before now old new
@@ -385,8 +389,8 @@ module _ (below : RecoveryLaws) where
         paid = subst (λ (c : ℕ). HasReached (rounds * g + (c - 1)) now) (sym same.0) (reached_later (rounds * g + (hub.status_requests - 1)) before now le paid.paid);
         some_open = λ asked. (let s = paid.some_open (omega (arith, asked, same.0)) in let longer = same.1 in omega (arith, s, longer));
         under_way = λ asked.
-          let asked_before : 1 ≤ hub.status_requests = omega (arith, asked, same.0) in
-          subst (λ (c : ℕ). IsUnderWay next.hub new ⊎ HasReached (rounds * g + c) now) (sym same.0)
+            let asked_before : 1 ≤ hub.status_requests = omega (arith, asked, same.0) in
+            subst (λ (c : ℕ). IsUnderWay next.hub new ⊎ HasReached (rounds * g + c) now) (sym same.0)
             (elim (paid.under_way asked_before) [
               | inr late ↦ inr (reached_later (rounds * g + hub.status_requests) before now le late)
               | inl way ↦ elim (sends_on below hub next before now old new can e way is) [
@@ -436,20 +440,20 @@ module _ (below : RecoveryLaws) where
 offer_by : (rounds g : ℕ) (hub : Hub) (held : ℕ) (t : Telling) (offered : Offered) (b : Bool) → hub.gave_up ≡ b → IsPaid rounds g hub held t
     → IsPaid rounds g (record hub { queue = hub.queue ++ offered ∷ []; open_places = cond b (map want_control hub.open_places) hub.open_places; gave_up = false }) held t
 offer_by rounds g hub held t offered true e is = record {
-    paid = is.paid;
-    some_open = λ asked. (let s = is.some_open asked in let l = length-map hub.open_places want_control in omega (arith, s, l));
-    under_way = λ asked. elim (is.under_way asked) [
-      | inr late ↦ inr late
-      | inl way ↦ inl (elim way [
-        | inl status ↦ inl status
-        | inr rest ↦ elim rest [
-          | inl wants ↦ inr (inl (control_wants (done t.told.board) hub.open_places wants))
-          | inr due ↦ inr (inr (due_more hub.first (places hub.open_places) (places (map want_control hub.open_places)) t
-              (same_has (places hub.open_places) (places (map want_control hub.open_places)) (places_map want_control hub.open_places (λ o. refl))) due))
-        ]
-      ])
-    ];
-  }
+  paid = is.paid;
+  some_open = λ asked. (let s = is.some_open asked in let l = length-map hub.open_places want_control in omega (arith, s, l));
+  under_way = λ asked. elim (is.under_way asked) [
+    | inr late ↦ inr late
+    | inl way ↦ inl (elim way [
+      | inl status ↦ inl status
+      | inr rest ↦ elim rest [
+        | inl wants ↦ inr (inl (control_wants (done t.told.board) hub.open_places wants))
+        | inr due ↦ inr (inr (due_more hub.first (places hub.open_places) (places (map want_control hub.open_places)) t
+            (same_has (places hub.open_places) (places (map want_control hub.open_places)) (places_map want_control hub.open_places (λ o. refl))) due))
+      ]
+    ])
+  ];
+}
 offer_by rounds g hub held t offered false e is = record { paid = is.paid; some_open = is.some_open; under_way = is.under_way }
 
 pub paid_offered : (rounds g : ℕ) (hub : Hub) (held : ℕ) (t : Telling) (offered : Offered) → IsPaid rounds g hub held t → IsPaid rounds g (offer hub offered) held t
@@ -457,10 +461,10 @@ paid_offered rounds g hub held t offered is = offer_by rounds g hub held t offer
 
 pub paid_begins : (rounds : ℕ) (hub : Hub) (held : ℕ) (t : Telling) → hub.status_requests ≡ 0 → IsPaid rounds 0 hub held t
 paid_begins rounds hub held t none = record {
-    paid = omega (arith, none);
-    some_open = λ asked. absurd (omega (arith, asked, none));
-    under_way = λ asked. absurd (omega (arith, asked, none));
-  }
+  paid = omega (arith, none);
+  some_open = λ asked. absurd (omega (arith, asked, none));
+  under_way = λ asked. absurd (omega (arith, asked, none));
+}
 
 pub paid_give_ups : (rounds g : ℕ) (hub : Hub) (held : ℕ) (t : Telling) → IsPaid rounds g hub held t → HasReached (rounds * g) held
 paid_give_ups rounds g hub held t is = reached_less (rounds * g) (rounds * g + (hub.status_requests - 1)) held (omega arith) is.paid

@@ -1,5 +1,6 @@
 -- Sends in a round: what the hub wants to send is then under way.
-use Rattle.std.proofs.Common.{◌≡◌, ℕ, zero, suc, ◌+◌, ◌<◌, ◌≤◌, Bool, true, false, cond, ◌==◌, ◌||◌, List, [], ◌∷◌, ◌++◌, length, map, Option, Some, None}
+use Rattle.std.proofs.Common.{◌≡◌, ℕ, zero, suc, ◌+◌, ◌<◌, ◌≤◌, Bool, true, false, cond, ◌==◌, ◌||◌, List, [], ◌∷◌}
+use Rattle.std.proofs.Common.{◌++◌, length, map, Option, Some, None}
 use Rattle.std.proofs.Common.{refl, sym, ap, ◌∙◌, subst, arith, inl, inr, ◌⊎◌, length-append, if◌then◌else◌}
 use Rattle.std.proofs.lemmas.List.{map-append}
 use Rattle.std.specs.Prelude.{IfSome}
@@ -17,7 +18,8 @@ use Rattle.world_model.specs.declared.offered.OpenPlace.{OpenPlace}
 use Rattle.world_model.specs.declared.sending.Sending.{Sending}
 use Rattle.world_model.specs.declared.sending.Sending.TheVariants as sends
 use Rattle.world_model.specs.Places.{at_place}
-use Rattle.world_model.specs.Messages.{ControlPacket, Reply, ResendRequest, StatusReply, StatusRequest, ToBoard, ToHub, control_packet, to_board, to_hub}
+use Rattle.world_model.specs.Messages.{ControlPacket, Reply, ResendRequest, StatusReply, StatusRequest, ToBoard}
+use Rattle.world_model.specs.Messages.{ToHub, control_packet, to_board, to_hub}
 use Rattle.world_model.specs.Board.{Board, is_too_long}
 use Rattle.world_model.specs.Hub.{Hub, place_of, places, words_of}
 use Rattle.world_model.specs.Sends.{Next, Wanted, after_open, bytes_to_send, next_send, opened, wanted}
@@ -29,7 +31,8 @@ use Rattle.world_model.proofs.Lists.{all_get, at_exists, either, get_front, get_
 use Rattle.world_model.proofs.Places.{has_below, id_fits}
 use Rattle.world_core.specs.Telling.{IsSent, Telling}
 use Rattle.lane_recovery.specs.Below.{RecoveryLaws}
-use Rattle.lane_recovery.specs.UnderWay.{AsksBoard, CanRecover, FitsBoard, IsDue, IsUnderWay, IsUseful, IsUsefulAt, TellsHub, WantsMore, done}
+use Rattle.lane_recovery.specs.UnderWay.{AsksBoard, CanRecover, FitsBoard, IsDue, IsUnderWay, IsUseful, IsUsefulAt}
+use Rattle.lane_recovery.specs.UnderWay.{TellsHub, WantsMore, done}
 use Rattle.lane_recovery.proofs.Reading.{control_read, request_read, resend_read}
 
 -- ---- more open places
@@ -54,16 +57,17 @@ useful_more first ps qs board goes.ToHub bytes more is = tells_more first ps qs 
 
 pub due_more : (first : ℕ) (ps qs : List ℕ) (t : Telling) → HasAll ps qs → IsDue first ps t → IsDue first qs t
 due_more first ps qs t more is = record {
-    place = is.place; due = is.due;
-    at = record { d = is.at.d; there = is.at.there; useful = useful_more first ps qs t.told.board is.at.d.direction is.at.d.bytes more is.at.useful };
-  }
+  place = is.place;
+  due = is.due;
+  at = record { d = is.at.d; there = is.at.there; useful = useful_more first ps qs t.told.board is.at.d.direction is.at.d.bytes more is.at.useful };
+}
 
 has_front_by : (place p : ℕ) (ps more : List ℕ) → has place (p ∷ ps) ≡ true → has place ((p ∷ ps) ++ more) ≡ true
 has_front_by place p [] more is = elim (p == place) as (λ b. (b || false) ≡ true → (b || has place more) ≡ true) [ true ↦ λ e. refl | false ↦ λ e. absurd (cc) ] is
 has_front_by place p (q ∷ ps) more is = elim (p == place) as (λ b. (b || has place (q ∷ ps)) ≡ true → (b || has place ((q ∷ ps) ++ more)) ≡ true) [
-    | true ↦ λ e. refl
-    | false ↦ λ e. has_front_by place q ps more e
-  ] is
+  | true ↦ λ e. refl
+  | false ↦ λ e. has_front_by place q ps more e
+] is
 
 pub has_front : (ps more : List ℕ) → HasAll ps (ps ++ more)
 has_front [] more place is = absurd (cc)
@@ -88,9 +92,9 @@ WantsOr first executed os (Some w) = WantsMore executed w.open_places ⊎ SendsF
 wants_later : (first executed : ℕ) (o : OpenPlace) (os : List OpenPlace) (r : Option Wanted) → WantsOr first executed os r → WantsOr first executed (o ∷ os) (after_open o r)
 wants_later first executed o os None is = is
 wants_later first executed o os (Some w) is = elim is [
-    | inl more ↦ inl (inr (inr more))
-    | inr sent ↦ inr (sends_later first executed o.place (places os) w.send sent)
-  ]
+  | inl more ↦ inl (inr (inr more))
+  | inr sent ↦ inr (sends_later first executed o.place (places os) w.send sent)
+]
 
 pub wants_sent : (first executed : ℕ) (os : List OpenPlace) → WantsMore executed os → WantsOr first executed os (wanted first os)
 wants_sent first executed [] is = absurd is
@@ -98,34 +102,34 @@ wants_sent first executed (o ∷ os) is =
     let control : Option Wanted = Some (record { send = sends.Control o.place (identifier_at first o.place); open_places = record o { control = false } ∷ os }) in
     let later = after_open o (wanted first os) in
     either (WantsOr first executed (o ∷ os)) o.resend
-      (Some (record { send = sends.Resend (identifier_at first o.place); open_places = record o { resend = false } ∷ os }))
-      (if o.control then control else later)
-      (λ resend. elim is [
-        | inl here ↦ inr (o.place, has_first o.place (places os), here.1, here.2, refl)
-        | inr rest ↦ elim rest [ inl next ↦ inl (inr (inl next)) | inr more ↦ inl (inr (inr more)) ]
-      ])
-      (λ no_resend. either (WantsOr first executed (o ∷ os)) o.control control later
-        (λ wants. elim is [
-          | inl here ↦ let resend = here.0 in absurd (cc)
-          | inr rest ↦ elim rest [
-            | inl next ↦ inr (next.1, has_first o.place (places os), refl)
-            | inr more ↦ inl (inr (inr more))
-          ]
-        ])
-        (λ no_control. elim is [
-          | inl here ↦ let resend = here.0 in absurd (cc)
-          | inr rest ↦ elim rest [
-            | inl next ↦ let wants = next.0 in absurd (cc)
-            | inr more ↦ wants_later first executed o os (wanted first os) (wants_sent first executed os more)
-          ]
-        ]))
+    (Some (record { send = sends.Resend (identifier_at first o.place); open_places = record o { resend = false } ∷ os }))
+    (if o.control then control else later)
+    (λ resend. elim is [
+      | inl here ↦ inr (o.place, has_first o.place (places os), here.1, here.2, refl)
+      | inr rest ↦ elim rest [ inl next ↦ inl (inr (inl next)) | inr more ↦ inl (inr (inr more)) ]
+    ])
+    (λ no_resend. either (WantsOr first executed (o ∷ os)) o.control control later
+    (λ wants. elim is [
+      | inl here ↦ let resend = here.0 in absurd (cc)
+      | inr rest ↦ elim rest [
+        | inl next ↦ inr (next.1, has_first o.place (places os), refl)
+        | inr more ↦ inl (inr (inr more))
+      ]
+    ])
+    (λ no_control. elim is [
+      | inl here ↦ let resend = here.0 in absurd (cc)
+      | inr rest ↦ elim rest [
+        | inl next ↦ let wants = next.0 in absurd (cc)
+        | inr more ↦ wants_later first executed o os (wanted first os) (wants_sent first executed os more)
+      ]
+    ]))
 
 wants_front : (executed : ℕ) (os more : List OpenPlace) → WantsMore executed os → WantsMore executed (os ++ more)
 wants_front executed [] more is = absurd is
 wants_front executed (o ∷ os) more is = elim is [
-    | inl here ↦ inl here
-    | inr rest ↦ elim rest [ inl next ↦ inr (inl next) | inr later ↦ inr (inr (wants_front executed os more later)) ]
-  ]
+  | inl here ↦ inl here
+  | inr rest ↦ elim rest [ inl next ↦ inr (inl next) | inr later ↦ inr (inr (wants_front executed os more later)) ]
+]
 
 -- ---- a datagram is sent
 
@@ -134,29 +138,31 @@ new_place bytes before now old new is = ap (λ (t : Told). slice_get t.air (leng
 
 sent_new : (first : ℕ) (ps : List ℕ) (bytes : List ℕ) (before now : ℕ) (old new : Telling) → IsSent bytes before now old new → AsksBoard first ps old.told.board (to_board bytes) → IsDue first ps new ⊎ Rose before now
 sent_new first ps bytes before now old new is asks = elim is.joins [
-    | inl due ↦ inl (record {
-        place = length old.told.air; due = due;
-        at = record {
-          d = record { direction = goes.ToBoard; bytes = bytes; birth = birth_of old.told bytes };
-          there = new_place bytes before now old new is;
-          useful = subst (λ (b : Board). AsksBoard first ps b (to_board bytes)) (sym (ap (λ (t : Told). t.board) is.told)) asks;
-        };
-      })
-    | inr rose ↦ inr rose
-  ]
+  | inl due ↦ inl (record {
+    place = length old.told.air;
+    due = due;
+    at = record {
+      d = record { direction = goes.ToBoard; bytes = bytes; birth = birth_of old.told bytes };
+      there = new_place bytes before now old new is;
+      useful = subst (λ (b : Board). AsksBoard first ps b (to_board bytes)) (sym (ap (λ (t : Told). t.board) is.told)) asks;
+    };
+  })
+  | inr rose ↦ inr rose
+]
 
 sent_due : (first : ℕ) (ps qs : List ℕ) (bytes : List ℕ) (before now : ℕ) (old new : Telling) → HasAll ps qs → IsSent bytes before now old new → IsDue first ps old → IsDue first qs new ⊎ Rose before now
 sent_due first ps qs bytes before now old new more is due = elim (is.stays due.place due.due) [
-    | inl still ↦ inl (due_more first ps qs new more (record {
-        place = due.place; due = still;
-        at = record {
-          d = due.at.d;
-          there = ap (λ (t : Told). slice_get t.air due.place) is.told ∙ get_front old.told.air _ due.place due.at.d due.at.there;
-          useful = subst (λ (b : Board). IsUseful first ps b due.at.d.direction due.at.d.bytes) (sym (ap (λ (t : Told). t.board) is.told)) due.at.useful;
-        };
-      }))
-    | inr rose ↦ inr rose
-  ]
+  | inl still ↦ inl (due_more first ps qs new more (record {
+    place = due.place;
+    due = still;
+    at = record {
+      d = due.at.d;
+      there = ap (λ (t : Told). slice_get t.air due.place) is.told ∙ get_front old.told.air _ due.place due.at.d due.at.there;
+      useful = subst (λ (b : Board). IsUseful first ps b due.at.d.direction due.at.d.bytes) (sym (ap (λ (t : Told). t.board) is.told)) due.at.useful;
+    };
+  }))
+  | inr rose ↦ inr rose
+]
 
 sent_wants : (executed : ℕ) (os : List OpenPlace) (bytes : List ℕ) (before now : ℕ) (old new : Telling) → IsSent bytes before now old new → WantsMore (done old.told.board) os → WantsMore (done new.told.board) os
 sent_wants executed os bytes before now old new is wants = subst (λ (b : Board). WantsMore (done b) os) (sym (ap (λ (t : Told). t.board) is.told)) wants
@@ -175,8 +181,8 @@ module _ (below : RecoveryLaws) where
   status_sent : (hub : Hub) (before now : ℕ) (old new : Telling) → IsSent (packet_bytes status_request) before now old new → OnAfter (record hub { status_wanted = false }) before now new
   status_sent hub before now old new is =
       by_due (record hub { status_wanted = false }) before now new
-        (sent_new hub.first (places hub.open_places) (packet_bytes status_request) before now old new is
-          (subst (AsksBoard hub.first (places hub.open_places) old.told.board) (sym (request_read below)) tt))
+      (sent_new hub.first (places hub.open_places) (packet_bytes status_request) before now old new is
+      (subst (AsksBoard hub.first (places hub.open_places) old.told.board) (sym (request_read below)) tt))
 
   resend_asks : (first : ℕ) (ps : List ℕ) (board : Board) (id place : ℕ) → has place ps ≡ true → 1 ≤ place → place ≤ done board → id ≡ identifier_at first place
       → AsksBoard first ps board (to_board (packet_bytes (resend_request id)))
@@ -206,7 +212,7 @@ module _ (below : RecoveryLaws) where
       let next = is.0 in
       let fits = open_fits hub t place (at_place hub.sent place) can (omega (arith, within)) (omega (arith, next)) refl in
       control_asks hub.first (places hub.open_places) t.told.board id (words_of (at_place hub.sent place))
-        (subst (λ (p : ℕ). has p (places hub.open_places) ≡ true) next is.1) (is.2 ∙ ap (identifier_at hub.first) next) fits.0 fits.1
+      (subst (λ (p : ℕ). has p (places hub.open_places) ≡ true) next is.1) (is.2 ∙ ap (identifier_at hub.first) next) fits.0 fits.1
 
   wanted_sent : (hub : Hub) (w : Wanted) (before now : ℕ) (old new : Telling) → CanRecover hub old → wanted hub.first hub.open_places ≡ Some w → places w.open_places ≡ places hub.open_places
       → IsUnderWay hub old → IsSent (bytes_to_send (record hub { open_places = w.open_places }) w.send) before now old new → OnAfter (record hub { open_places = w.open_places }) before now new
@@ -232,7 +238,7 @@ module _ (below : RecoveryLaws) where
       let after = record hub { sent = hub.sent ++ o ∷ []; queue = later; open_places = hub.open_places ++ opened (length hub.sent + 1) ∷ [] } in
       let longer : places after.open_places ≡ places hub.open_places ++ (length hub.sent + 1) ∷ [] = map-append place_of hub.open_places (opened (length hub.sent + 1) ∷ []) in
       let all : HasAll (places hub.open_places) (places after.open_places) = λ place there.
-          subst (λ (ps : List ℕ). has place ps ≡ true) (sym longer) (has_front (places hub.open_places) ((length hub.sent + 1) ∷ []) place there) in
+      subst (λ (ps : List ℕ). has place ps ≡ true) (sym longer) (has_front (places hub.open_places) ((length hub.sent + 1) ∷ []) place there) in
       elim way [
         | inl status ↦ inl (inl status)
         | inr rest ↦ elim rest [
@@ -247,7 +253,7 @@ module _ (below : RecoveryLaws) where
   pub sends_on : (hub : Hub) (next : Next) (before now : ℕ) (old new : Telling) → CanRecover hub old → next_send hub ≡ Some next → IsUnderWay hub old → SentOn hub before now old new next
   sends_on hub next before now old new can e way =
       subst (λ (r : Option Next). IfSome r (SentOn hub before now old new)) e
-        (send_cases (SentOn hub before now old new) hub
-          (λ is. status_sent hub before now old new is)
-          (λ w wants is. wanted_sent hub w before now old new can wants (subst (IsWantedOr hub.first hub.open_places) wants (wanted_is hub.first hub.open_places)).same way is)
-          (λ o later queue room is. first_sent hub o later _ before now old new way is))
+      (send_cases (SentOn hub before now old new) hub
+      (λ is. status_sent hub before now old new is)
+      (λ w wants is. wanted_sent hub w before now old new can wants (subst (IsWantedOr hub.first hub.open_places) wants (wanted_is hub.first hub.open_places)).same way is)
+      (λ o later queue room is. first_sent hub o later _ before now old new way is))

@@ -1,8 +1,6 @@
 ghost use Rattle.lane_recovery.specs.Below.{RecoveryLaws};
 
-use board_bus::laws::{
-    a_reply_answers_its_body, a_reply_has_room, words_stay_words,
-};
+use board_bus::laws::{a_reply_answers_its_body, a_reply_has_room, words_stay_words};
 use board_node::laws::the_last_replies_alone_are_held;
 use packet_codec::laws::reading_is_the_grammar;
 use world_model::laws::links::{a_link_forgets_nothing, each_event_keeps_them_joined};
