@@ -1,5 +1,5 @@
 -- What may be planned on a lane. Profile.
-use Rattle.std.specs.Prelude.{◌≡◌, ◌⊎◌, ℕ, ◌+◌, ◌<◌, ◌≤◌, true, false, List, [], ◌∷◌, ◌++◌, length, Option, Some, None}
+use Rattle.std.specs.Prelude.{◌≡◌, ◌⊎◌, ℕ, ◌+◌, ◌<◌, ◌≤◌, true, false, List, [], ◌∷◌, length, Option, Some, None}
 use Rattle.ipb_base.specs.Numbers.{payload_of}
 use Rattle.transaction_codec.specs.Answer.{reply_room}
 use Rattle.lane_record.specs.declared.item.Item.{Item}
@@ -56,7 +56,8 @@ IsRefused items payload body Sealed = is_sealed items ≡ true
 IsRefused items payload body TooLong = (is_sealed items ≡ false) × (payload < length body + 1)
 IsRefused items payload body ReplyTooLong =
     (is_sealed items ≡ false) × (length body + 1 ≤ payload) × (payload < reply_room body + 1)
-IsRefused items payload body Overfull = (is_sealed items ≡ false) × FitsBoard payload body × IsFull items (length body) (reply_room body)
+IsRefused items payload body Overfull = (is_sealed items ≡ false) × FitsBoard payload body × IsFull items (length
+    body) (reply_room body)
 IsRefused items payload body NoMemory = Unit {0}
 
 -- the body has the next number of its client, and its Plan is the next entry

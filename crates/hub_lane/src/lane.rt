@@ -1,6 +1,7 @@
 //! A lane: the engine and the link of one board, and the record of what clients asked of it.
 
-ghost use Rattle.std.specs.Prelude.{◌≡◌, ◌≤◌, ◌<◌, ◌⊎◌, ◌^◌, ℕ, true, false, length, map, count_by, OnOk, OnErr, IfOk, IfErr};
+ghost use Rattle.std.specs.Prelude.{◌≡◌, ◌≤◌, ◌<◌, ◌⊎◌, ◌^◌, ℕ, true, false, length, map, count_by, OnOk, OnErr, IfOk};
+ghost use Rattle.std.specs.Prelude.{IfErr};
 ghost use Rattle.std.specs.Prelude.{IfSome, IfNone, Err, List, if◌then◌else◌, ◌++◌, ◌∷◌, [], Some, None};
 ghost use Rattle.ipb_base.specs.Faults.{Rose};
 ghost use Rattle.ipb_base.specs.Numbers.{payload_of};
@@ -15,7 +16,7 @@ ghost use Rattle.hub_lane.specs.Plans.{CanPlan, IsRefused, Plans};
 ghost use Rattle.hub_lane.specs.Hearing.{gots_of, quiets_of};
 ghost use Rattle.hub_lane.specs.Calls.{AsksAs, IsReplyAt, IsSameRecord, IsSpent, PumpsAs, TakesAs, WasAsked};
 ghost use Rattle.hub_lane.specs.Calls.{is_lost_at_place, is_replied, sealed};
-ghost use Rattle.hub_lane.specs.Lanes.{IsGreeted, IsLane, opened, status_of};
+ghost use Rattle.hub_lane.specs.Lanes.{IsGreeted, IsLane, opened, opening_of, status_of};
 
 use crate::answers::{Asked, PlanRefusal, Pumped, Taken};
 use crate::book::Book;
@@ -23,19 +24,25 @@ use crate::exchange::exchange;
 use crate::outcomes::{copy_outcome, copy_words, count_of, lose_all, reply_at};
 use ipb_base::{NoMemory, Words};
 use lane_record::Outcome;
-use lane_record::laws::book::entries_go_into_the_book;
-use lane_record::laws::offers::an_ask_is_an_offer;
+use lane_record::laws::book::{entries_go_into_the_book, outcomes_go_into_the_book};
+use lane_record::laws::entries::an_ask_is_of_its_plan;
+use lane_record::laws::offers::{
+    a_failed_link_loses_what_waits, a_send_settles_nothing, an_ask_is_an_offer,
+    what_a_hub_hears_settles_asks,
+};
 use packet_ids::Id;
 use reliable_engine::{Engine, Settings};
 use status_packet::Status;
 use std::alloc::Global;
 use std::marker::Model;
 use turn_pass::Entry;
-use world_core::laws::each_event_leads_to_a_state_of_a_run;
+use world_core::laws::{a_send_leaves_the_fates, each_event_leads_to_a_state_of_a_run};
 use world_core::{Link, LinkFault};
+use world_model::laws::sends::only_an_offer_makes_more_bodies;
 
 /// The hub's side of one board: its engine, its link, and the record of what clients planned, asked and took (profile).
 /// Contracts see it as `LaneState`; what holds of it at the exit of every call is `IsLane`, which `is_sound` tells.
+#[derive(Drop)]
 pub struct Lane<L: Link> {
     alloc: Global,
     link: L,
@@ -58,15 +65,15 @@ impl<L: Link> Model for Lane<L> {
     ghost Value = { LaneState L };
 
     ghost view = { λ l. record {
-        link = l.link;
-        settings = l.settings;
-        status = record { mtu = l.mtu; buffers = l.buffers; next = l.first };
-        hub = l.engine;
-        items = l.book.items;
-        outcomes = l.outcomes.items;
-        give_ups = l.give_ups;
-        down = l.down;
-        spent = l.spent;
+      link = l.link;
+      settings = l.settings;
+      status = record { mtu = l.mtu; buffers = l.buffers; next = l.first };
+      hub = l.engine;
+      items = l.book.items;
+      outcomes = l.outcomes.items;
+      give_ups = l.give_ups;
+      down = l.down;
+      spent = l.spent;
     } };
 
     ghost invariant = { λ l. IsLane l.settings
@@ -187,8 +194,8 @@ impl<L: Link> Lane<L> {
         link
     }
 
-    /// Plans a body for a client, from 1. `reply_words` is the words of the longest reply to it. Answers the body's number
-    /// among the client's, from 0. A body that is refused changes nothing.
+    /// Plans a body for a client, from 1. `reply_words` is the words of the longest reply to it. Answers the body's
+    /// number among the client's, from 0. A body that is refused changes nothing.
     pub fn plan(&mut self, client: u32, body: Words, reply_words: u32) -> Result<u64, PlanRefusal>
         requires client { 1 ≤ client }
         requires reply { reply_words ≡ reply_room body }
@@ -196,6 +203,7 @@ impl<L: Link> Lane<L> {
         ensures refused { IfErr result (IsRefused self.old.items (payload_of self.old.status.mtu) body) }
         ensures unchanged { OnErr result (self.new ≡ self.old) }
     {
+        entries_go_into_the_book();
         self.check_plan(body.as_slice(), reply_words)?;
         self.book.reserve()?;
         Ok(self.book.plan(client, body, reply_words)?)
@@ -205,6 +213,7 @@ impl<L: Link> Lane<L> {
     pub fn seal(&mut self)
         ensures { self.new ≡ sealed self.old }
     {
+        entries_go_into_the_book();
         if !self.book.is_sealed() {
             self.book.seal();
         }
@@ -217,6 +226,12 @@ impl<L: Link> Lane<L> {
         ensures asked { IfOk result (AsksAs self.old client self.new) }
         ensures unchanged { OnErr result (self.new ≡ self.old) }
     {
+        an_ask_is_an_offer();
+        an_ask_is_of_its_plan();
+        a_failed_link_loses_what_waits();
+        each_event_leads_to_a_state_of_a_run();
+        entries_go_into_the_book();
+        only_an_offer_makes_more_bodies();
         if self.spent {
             return Err(NoMemory);
         }
@@ -230,15 +245,15 @@ impl<L: Link> Lane<L> {
         Ok(Asked::Asked(self.book.ask(client, self.give_ups)))
     }
 
-    /// Sends all that the engine wants, in its order, and then receives once. After want of memory the lane is spent, and
-    /// every later pump answers want of memory. Where the link fails, now or before, every body that has no outcome is
-    /// lost.
+    /// Sends all that the engine wants, in its order, and then receives once. After want of memory the lane is spent,
+    /// and every later pump answers want of memory. Where the link fails, now or before, every body that has no outcome
+    /// is lost.
     pub fn pump(&mut self) -> Result<Pumped, NoMemory>
         ensures pumped { IfOk result (PumpsAs self.old (L.telling self.new.link) self.new) }
         ensures same { IsSameRecord self.old self.new }
         ensures not_spent { OnOk result (self.old.spent ≡ false) }
-        ensures spent { OnErr result ((self.old.spent ≡ true) ⊎ (self.old.down ≡ false)) }
-        ensures stays_spent { OnErr result (IsSpent self.old self.new) }
+        ensures spent { OnErr result (IsSpent self.old self.new) }
+        ensures not_down { OnErr result ((self.old.spent ≡ true) ⊎ (self.old.down ≡ false)) }
         ensures down { IfOk result (λ _. self.new.down ≡ true → (self.old.down ≡ true)
             ⊎ Rose (L.faults self.old.link) (L.faults self.new.link)) }
         ensures faults { L.faults self.old.link ≤ L.faults self.new.link }
@@ -248,7 +263,15 @@ impl<L: Link> Lane<L> {
         ensures gots { IfOk result (λ pumped. L.gots self.new.link ≡ gots_of pumped (L.gots self.old.link)) }
         ensures gots_rise { L.gots self.old.link ≤ L.gots self.new.link }
         ensures held { L.held self.old.link ≤ L.held self.new.link }
+        // So the head of its record stays.
+        ensures opening { opening_of (L.telling self.new.link) ≡ opening_of (L.telling self.old.link) }
     {
+        a_send_leaves_the_fates();
+        only_an_offer_makes_more_bodies();
+        a_send_settles_nothing();
+        what_a_hub_hears_settles_asks();
+        a_failed_link_loses_what_waits();
+        outcomes_go_into_the_book();
         if self.spent {
             return Err(NoMemory);
         }
@@ -288,6 +311,8 @@ impl<L: Link> Lane<L> {
         ensures taken { IfOk result (TakesAs self.old client seq self.new) }
         ensures unchanged { OnErr result (self.new ≡ self.old) }
     {
+        an_ask_is_of_its_plan();
+        entries_go_into_the_book();
         let Some(at) = self.book.ask_at(client, seq) else {
             return Ok(Taken::NotYet);
         };

@@ -1,12 +1,15 @@
 //! What became of the asked bodies, in the order of the Asks.
 
-ghost use Rattle.std.specs.Prelude.{◌≡◌, ◌+◌, ◌<◌, ◌^◌, ℕ, IfOk, IfSome, IfNone, length, count_by, if◌then◌else◌, List};
+ghost use Rattle.std.specs.Prelude.{◌≡◌, ◌+◌, ◌<◌, ◌≤◌, ◌^◌, ℕ, IfOk, IfSome, IfNone, length, count_by, if◌then◌else◌};
+ghost use Rattle.std.specs.Prelude.{List};
 ghost use Rattle.lane_record.specs.Bounds.{timeouts};
 ghost use Rattle.lane_record.specs.Offers.{all_lost, lost_after, outcome_of, put, put_all};
 ghost use Rattle.lane_record.specs.Outcomes.{is_sent};
 ghost use Rattle.hub_lane.specs.Hearing.{give_ups_of};
 ghost use Rattle.hub_lane.specs.Calls.{IsReplyAt, IsReplyOf, is_lost_at_place, is_replied};
 ghost use Rattle.hub_lane.specs.Sends.{handed_out};
+ghost use Rattle.packet_codec.specs.declared.packet.TheConstants.{MAX_BODY_WORDS};
+ghost use Rattle.world_model.specs.Facts.{IsSendable};
 
 use crate::answers::Pumped;
 use ipb_base::{NoMemory, Words};
@@ -14,9 +17,10 @@ use lane_record::Outcome;
 use reliable_engine::{Engine, Fate};
 use std::alloc::Global;
 
-/// The same words in memory of their own.
+/// The same words in memory of their own. A packet can carry them, where they are not too many.
 pub(crate) fn copy_words(alloc: Global, words: &[u32]) -> Result<Words, NoMemory>
-    ensures { IfOk result (λ copied. copied ≡ words.now) }
+    ensures copied { IfOk result (λ copied. copied ≡ words.now) }
+    ensures sendable { length words.now ≤ MAX_BODY_WORDS → IsSendable words.now }
 {
     Ok(Words::from_vec(Vec::from_slice(alloc, words)?))
 }
@@ -95,7 +99,10 @@ fn is_sent(outcome: &Outcome) -> bool
 {
     match outcome {
         Outcome::Replied { place: _, words: _ } => true,
-        Outcome::TimedOut { place: _, rounds: _ } => true,
+        Outcome::TimedOut {
+            place: _,
+            rounds: _,
+        } => true,
         Outcome::Unsent => false,
         Outcome::LinkLost { place } => place.is_some(),
     }
@@ -156,7 +163,12 @@ pub(crate) fn count_of(outcomes: &[Option<Outcome>]) -> (u64, u64, u64)
     for outcome in outcomes {
         match outcome {
             Some(Outcome::Replied { place: _, words: _ }) => replied += 1,
-            Some(Outcome::TimedOut { place: _, rounds: _ }) => timed_out += 1,
+            Some(
+                Outcome::TimedOut {
+                    place: _,
+                    rounds: _,
+                },
+            ) => timed_out += 1,
             Some(Outcome::LinkLost { place: Some(_) }) => lost += 1,
             _ => {}
         }

@@ -1,4 +1,4 @@
-use Rattle.std.proofs.Common.{◌≡◌, ◌∙◌, ℕ, sym, ap, arith, subst, Option, Some, None}
+use Rattle.std.proofs.Common.{◌≡◌, ◌∙◌, sym, ap, arith, subst, Some}
 use Rattle.std.proofs.lemmas.Option.{slice_get-get_or}
 use Rattle.lane_record.specs.Items.{asked}
 use Rattle.hub_lane.specs.Books.{BookState, IsRow, Row, row_at}
@@ -22,7 +22,8 @@ returns-in-Some c =
     sym (slice_get-get_or rows c.in-Some.at row found.within ∙ ap (λ (r : Row). Some r) (sym c.index.ensures))
     ∙ found.there in
     let same : row ≡ found.row = cc in
-    let tells = subst (IsRow c.self.inside.items.items c.args.client) found.mine (c.self.invariant.rows_are c.args.client) in
+    let tells = subst (IsRow c.self.inside.items.items c.args.client) found.mine (c.self.invariant.rows_are
+    c.args.client) in
     c.asked.ensures ∙ (ap (λ (r : Row). r.asked) same ∙ (tells.asked_are
     ∙ ap (λ (v : BookState). asked c.args.client v.items) c.self.view_is))
 
