@@ -1,7 +1,7 @@
 -- What a board heard of the air in one receive.
-use Rattle.std.proofs.Common.{◌≡◌, ℕ, zero, suc, ◌+◌, ◌<◌, ◌≤◌, Bool, true, false, List, [], ◌∷◌, ◌++◌, length}
+use Rattle.std.proofs.Common.{◌≡◌, ℕ, zero, suc, ◌<◌, true, List, [], ◌∷◌, length}
 use Rattle.std.proofs.Common.{Option, Some, None}
-use Rattle.std.proofs.Common.{refl, sym, ap, ◌∙◌, subst, arith, if◌then◌else◌}
+use Rattle.std.proofs.Common.{refl, sym, ap, ◌∙◌, arith, if◌then◌else◌}
 use Rattle.std.specs.List.{Contains, slice_get, slice_index_or}
 use Rattle.ipb_base.specs.Lists.{IsPrefix}
 use Rattle.world_model.specs.declared.datagram.Datagram.{Datagram}
@@ -26,14 +26,25 @@ same_direction : (d : Direction) → goes_to goes.ToBoard d ≡ true → d ≡ g
 same_direction goes.ToBoard e = refl
 same_direction goes.ToHub e = absurd (cc)
 
-heard_at : (t u : Told) (k : ℕ) (ks : List ℕ) (r : Option Datagram) → slice_get t.air k ≡ r → then_told (heard_by t r) (λ after. hears_all after ks) ≡ Some u → HeardFirst t u k ks
+heard_at : (t u : Told) (k : ℕ) (ks : List ℕ) (r : Option Datagram) → slice_get t.air k ≡ r
+    → then_told (heard_by t r) (λ after. hears_all after ks) ≡ Some u → HeardFirst t u k ks
 heard_at t u k ks None there e = absurd (cc)
 heard_at t u k ks (Some d) there e =
     let heard = Some (heard_on t d.bytes) in
     let alive_or = if is_alive (first_sends t) d then heard else None in
-    either (λ (x : Option Told). heard_by t (Some d) ≡ x → then_told x (λ after. hears_all after ks) ≡ Some u → HeardFirst t u k ks) (goes_to goes.ToBoard d.direction) alive_or None
-    (λ way. either (λ (x : Option Told). heard_by t (Some d) ≡ x → then_told x (λ after. hears_all after ks) ≡ Some u → HeardFirst t u k ks) (is_alive (first_sends t) d) heard None
-    (λ alive h e. record { d = d; there = there; to_board = same_direction d.direction way; here = ap (heard_by t) there ∙ h; later = e })
+    either (λ (x : Option Told). heard_by t (Some d) ≡ x → then_told x (λ after. hears_all after ks) ≡ Some u
+    → HeardFirst t u k ks) (goes_to goes.ToBoard d.direction) alive_or None
+    (λ way. either (λ (x : Option Told). heard_by t (Some d) ≡ x
+    → then_told x (λ after. hears_all after ks) ≡ Some u
+    → HeardFirst t u k ks) (is_alive (first_sends t) d) heard None
+    (λ alive h e. record {
+      d = d;
+      there = there;
+      to_board = same_direction d.direction way;
+      here = ap (heard_by t)
+          there ∙ h;
+      later = e;
+    })
     (λ dead h e. absurd (cc)))
     (λ other h e. absurd (cc))
     refl e
@@ -47,7 +58,8 @@ pub record GoesThere (way : Direction) (air : List Datagram) (place : ℕ) : Typ
   pub there : slice_get air place ≡ Some d
   pub direction : d.direction ≡ way
 
-pub front_goes : (way : Direction) (front all : List Datagram) (place : ℕ) → IsPrefix front all → GoesThere way front place → GoesThere way all place
+pub front_goes : (way : Direction) (front all : List Datagram) (place : ℕ) → IsPrefix front all
+    → GoesThere way front place → GoesThere way all place
 front_goes way front all place is at = record {
   d = at.d;
   there = ap (λ (l : List Datagram). slice_get l place) is.1 ∙ get_front front is.0 place at.d at.there;
@@ -55,7 +67,8 @@ front_goes way front all place is at = record {
 }
 
 -- what the board heard goes to the board
-pub heard_goes : AirGrows → (t u : Told) (ks : List ℕ) (place j : ℕ) → hears_all t ks ≡ Some u → slice_get ks j ≡ Some place → GoesThere goes.ToBoard u.air place
+pub heard_goes : AirGrows → (t u : Told) (ks : List ℕ) (place j : ℕ) → hears_all t ks ≡ Some u
+    → slice_get ks j ≡ Some place → GoesThere goes.ToBoard u.air place
 heard_goes grows t u [] place j e at = absurd (cc)
 heard_goes grows t u (k ∷ ks) place zero e at =
     let h = heard_first t u k ks e in

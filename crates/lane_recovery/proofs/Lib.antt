@@ -4,4 +4,5 @@ mod Hearing
 pub mod Heard
 mod Receiving
 mod Sending
+mod Lowest
 mod Rounds

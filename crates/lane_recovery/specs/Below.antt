@@ -1,10 +1,10 @@
--- What the laws of the crates below say of packets, boards and links, for the proofs here: no public clause speaks of it.
+-- What the laws of the crates below say of packets, boards and links, for the proofs here: no public clause speaks of
+-- it.
 use Rattle.std.specs.Prelude.{◌≡◌, ℕ, ◌<◌, ◌≤◌, ◌^◌, List, length, Some, Ok}
 use Rattle.std.specs.List.{AllZip, AllByRecursion}
 use Rattle.ipb_base.specs.Word.{AreWords}
 use Rattle.ipb_base.specs.Lists.{IsPrefix}
 use Rattle.packet_codec.specs.declared.packet.Packet.{Packet}
-use Rattle.packet_codec.specs.declared.header.Header.{Header}
 use Rattle.packet_codec.specs.Header.{packet_header}
 use Rattle.packet_codec.specs.Packet.{IsPacket, packet_bytes}
 use Rattle.packet_codec.specs.Reading.{header_of, packet_of}

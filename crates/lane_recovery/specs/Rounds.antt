@@ -1,6 +1,6 @@
 -- What a hub pays for its rounds over a link that tells: each round that ended without a settled place held a datagram
 -- back.
-use Rattle.std.specs.Prelude.{◌≡◌, ◌⊎◌, ℕ, ◌+◌, ◌*◌, ◌-◌, ◌≤◌, length}
+use Rattle.std.specs.Prelude.{◌⊎◌, ℕ, ◌+◌, ◌*◌, ◌-◌, ◌≤◌, length}
 use Rattle.world_model.specs.Hub.{Hub}
 use Rattle.world_core.specs.Telling.{Telling}
 use Rattle.lane_record.specs.Bounds.{HasReached}

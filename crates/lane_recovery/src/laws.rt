@@ -14,8 +14,8 @@ ghost use Rattle.lane_recovery.specs.UnderWay.{CanRecover, IsUnderWay};
 use crate::below::laws_below;
 
 /// A round of the recovery comes to its end. What is under way in it stays so at each send and at each receive, unless
-/// datagrams are held; a datagram that is handed out leads on, or settles a place, which ends the round. So a receive is
-/// quiet while a round is under way only where datagrams are held.
+/// datagrams are held; a datagram that is handed out leads on, or settles a place, which ends the round. So a receive
+/// is quiet while a round is under way only where datagrams are held.
 pub fn a_round_goes_on_unless_datagrams_are_held()
     ensures sent { (hub : Hub) (next : Next) (before now : ℕ) (old new : Telling) → CanRecover hub old
         → next_send hub ≡ Some next → IsSent (bytes_to_send next.hub next.send) before now old new
