@@ -30,7 +30,7 @@ use Rattle.world_core.specs.Telling.{IsGot, IsQuiet, IsReceived, IsSent, Telling
 use Rattle.lane_record.specs.Bounds.{HasReached}
 use Rattle.lane_recovery.specs.Below.{RecoveryLaws}
 use Rattle.lane_recovery.specs.Rounds.{IsPaid}
-use Rattle.lane_recovery.specs.UnderWay.{CanRecover, FitsBoard, IsUnderWay, IsUseful, TellsHub}
+use Rattle.lane_recovery.specs.UnderWay.{CanRecover, CanTake, IsUnderWay, IsUseful, TellsHub}
 use Rattle.lane_recovery.specs.UnderWay.{WantsMore, done}
 use Rattle.lane_recovery.proofs.Heard.{contains_get, nothing_due}
 use Rattle.lane_recovery.proofs.Receiving.{IsHandedUseful, received}
@@ -152,9 +152,9 @@ too_long_same : (old new : Board) (body : List ℕ) → new.mtu ≡ old.mtu → 
 too_long_same old new body e = ap (λ (mtu : ℕ). nat_lt (payload_of mtu) (length body + 1) || nat_lt (payload_of mtu)
     (reply_room body + 1)) e
 
-fits_on : (old new : Board) (sent : List Offered) → new.mtu ≡ old.mtu → AllByRecursion (FitsBoard old) sent
-    → AllByRecursion (FitsBoard new) sent
-fits_on old new sent e is = all-map (FitsBoard old) (FitsBoard new) sent (λ o fits. too_long_same old new o.body e ∙
+fits_on : (old new : Board) (sent : List Offered) → new.mtu ≡ old.mtu → AllByRecursion (CanTake old) sent
+    → AllByRecursion (CanTake new) sent
+fits_on old new sent e is = all-map (CanTake old) (CanTake new) sent (λ o fits. too_long_same old new o.body e ∙
     fits) is
 
 only_one : (x y j : ℕ) → slice_get (x ∷ []) j ≡ Some y → x ≡ y

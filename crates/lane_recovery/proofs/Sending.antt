@@ -30,7 +30,7 @@ use Rattle.world_model.proofs.Lists.{all_get, at_exists, either, get_front, get_
 use Rattle.world_model.proofs.Places.{has_below, id_fits}
 use Rattle.world_core.specs.Telling.{IsSent, Telling}
 use Rattle.lane_recovery.specs.Below.{RecoveryLaws}
-use Rattle.lane_recovery.specs.UnderWay.{AsksBoard, CanRecover, FitsBoard, IsDue, IsUnderWay, IsUseful}
+use Rattle.lane_recovery.specs.UnderWay.{AsksBoard, CanRecover, CanTake, IsDue, IsUnderWay, IsUseful}
 use Rattle.lane_recovery.specs.UnderWay.{TellsHub, WantsMore, done}
 use Rattle.lane_recovery.proofs.Reading.{control_read, request_read, resend_read}
 
@@ -251,7 +251,7 @@ module _ (below : RecoveryLaws) where
   open_fits hub t zero (Some o) can le one e = absurd (omega (arith, one))
   open_fits hub t (suc k) (Some o) can le one e = (
     all_get (λ (x : Offered). IsSendable x.body) hub.sent k o can.joined.sound.sent_bodies e,
-    all_get (FitsBoard
+    all_get (CanTake
         t.told.board) hub.sent k o can.fits e,
   )
 

@@ -67,8 +67,8 @@ IsUnderWay hub t =
     ⊎ IsDue hub.first (places hub.open_places) t
 
 -- a body that the board can take, and answer
-abbrev pub FitsBoard : Board → Offered → Type 0
-FitsBoard board offered = is_too_long board offered.body ≡ false
+abbrev pub CanTake : Board → Offered → Type 0
+CanTake board offered = is_too_long board offered.body ≡ false
 
 -- A hub and a link that tells, where each round can come to its end: they are joined, the board holds as many replies
 -- as
@@ -76,4 +76,4 @@ FitsBoard board offered = is_too_long board offered.body ≡ false
 pub record CanRecover (hub : Hub) (t : Telling) : Type 0 where
   pub joined : IsJoined hub t.told
   pub held : hub.window ≤ t.told.board.buffers
-  pub fits : AllByRecursion (FitsBoard t.told.board) hub.sent
+  pub fits : AllByRecursion (CanTake t.told.board) hub.sent
