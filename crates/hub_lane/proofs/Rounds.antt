@@ -27,11 +27,10 @@ use Rattle.hub_lane.specs.declared.answers.Pumped.{Pumped}
 use Rattle.hub_lane.specs.declared.answers.Pumped.TheVariants.{Reply, Status, Stray, Quiet, Idle, LinkDown}
 use Rattle.hub_lane.specs.Hearing.{IsHeardAs, give_ups_after, give_ups_of}
 use Rattle.hub_lane.specs.Below.{RoundLaws}
-use Rattle.hub_lane.specs.Lanes.{BoardStatus, IsGreeted}
-use Rattle.hub_lane.specs.Plans.{FitsBoard}
+use Rattle.hub_lane.specs.Lanes.{BoardStatus, FitsBoard, IsGreeted, board_of}
 use Rattle.hub_lane.specs.Rounds.{HasPaid, PaysFor, PaysOn, PaysRounds}
 use Rattle.hub_lane.specs.Sends.{handed_out}
-use Rattle.hub_lane.specs.Standing.{GoesOn, IsRunning}
+use Rattle.hub_lane.specs.Standing.{GoesOn, IsRunning, IsStanding}
 use Rattle.hub_lane.proofs.Standing.{SameBoard, after_call, if_told}
 
 -- ---- the same board takes the same bodies
@@ -284,6 +283,9 @@ pays_asked laws false spent mtu rounds g hub new tag body held telling up fits n
     (subst (λ (b : Bool). IfSome telling (HasPaid b mtu rounds g hub held)) up is)
     (λ t paid. offered_pays laws mtu rounds g hub tag body held t fits paid)))
 
+neither : (down spent : Bool) → down ≡ false → spent ≡ false → (down || spent) ≡ false
+neither down spent d s = ap (λ (b : Bool). b || spent) d ∙ s
+
 reached_later : (n before now : ℕ) → before ≤ now → HasReached n before → HasReached n now
 reached_later n before now le is = omega (arith, le, is)
 
@@ -293,3 +295,32 @@ still_paid : RoundLaws → (stopped : Bool) (mtu rounds g : ℕ) (hub : Hub) (he
 still_paid laws true mtu rounds g hub held now t le is = reached_later (rounds * g) held now le is
 still_paid laws false mtu rounds g hub held now t le is =
     reached_later (rounds * g) held now le (laws.give_ups rounds g hub held t is.paid)
+
+-- ---- a pump
+
+pub still_up : (down spent : Bool) (settings : Limits) (hub : Hub) (outcomes : List (Option Outcome))
+    (telling : Option Telling) → down ≡ false → spent ≡ false
+    → IfSome telling (IsStanding (down || spent) settings hub outcomes) → IfSome telling (IsRunning settings hub outcomes)
+still_up down spent settings hub outcomes telling d s is =
+    subst (λ (b : Bool). IfSome telling (IsStanding b settings hub outcomes)) (neither down spent d s) is
+
+pub pays_pumped : (down spent : Bool) (mtu rounds g g_now : ℕ) (hub new : Hub) (held now : ℕ)
+    (telling after : Option Telling) → down ≡ false → spent ≡ false → hub.rounds ≡ rounds
+    → (IfSome telling (PaysRounds mtu hub.rounds g hub held) → IfSome after (PaysRounds mtu hub.rounds g_now new now))
+    → IfSome telling (HasPaid (down || spent) mtu rounds g hub held)
+    → IfSome after (HasPaid (down || spent) mtu rounds g_now new now)
+pays_pumped down spent mtu rounds g g_now hub new held now telling after d s rounds_is goes is =
+    let up = neither down spent d s in
+    subst (λ (b : Bool). IfSome after (HasPaid b mtu rounds g_now new now)) (sym up)
+    (subst (λ (r : ℕ). IfSome after (PaysRounds mtu r g_now new now)) rounds_is
+    (goes (subst (λ (r : ℕ). IfSome telling (PaysRounds mtu r g hub held)) (sym rounds_is)
+    (subst (λ (b : Bool). IfSome telling (HasPaid b mtu rounds g hub held)) up is))))
+
+-- the link failed, or memory ran out
+pub pays_stopped : RoundLaws → (stopped : Bool) (mtu rounds g g_now : ℕ) (hub new : Hub) (held now : ℕ)
+    (telling after : Option Telling) → board_of after ≡ board_of telling → g_now ≡ g → held ≤ now
+    → IfSome telling (HasPaid stopped mtu rounds g hub held) → IfSome after (HasPaid true mtu rounds g_now new now)
+pays_stopped laws stopped mtu rounds g g_now hub new held now telling None same g_is le is = tt
+pays_stopped laws stopped mtu rounds g g_now hub new held now None (Some u) same g_is le is = absurd cc
+pays_stopped laws stopped mtu rounds g g_now hub new held now (Some t) (Some u) same g_is le is =
+    subst (λ (n : ℕ). HasReached (rounds * n) now) (sym g_is) (still_paid laws stopped mtu rounds g hub held now t le is)
