@@ -1,5 +1,5 @@
 -- The rounds of a hub over a link that tells, call by call.
-use Rattle.std.proofs.Common.{◌≡◌, ℕ, ◌+◌, ◌*◌, ◌<◌, ◌≤◌, Bool, true, false, cond, List, [], ◌∷◌, ◌++◌, length}
+use Rattle.std.proofs.Common.{◌≡◌, ℕ, ◌+◌, ◌*◌, ◌≤◌, Bool, true, false, cond, List, [], ◌∷◌, length}
 use Rattle.std.proofs.Common.{map, Option, Some, None, refl, sym, ap, ◌∙◌, subst, arith, ◌||◌}
 use Rattle.std.specs.Prelude.{IfSome, min, nat_lt}
 use Rattle.std.proofs.lemmas.Bool.{ltb-true}
@@ -18,7 +18,7 @@ use Rattle.world_model.specs.Sends.{Next, bytes_to_send, next_send}
 use Rattle.world_model.proofs.Flushing.{message_cases, quiet_cases, send_cases}
 use Rattle.status_packet.specs.Range.{IsBufferCount}
 use Rattle.reliable_engine.specs.Settings.{AreLimits, Limits}
-use Rattle.world_core.specs.Telling.{IfTelling, IsGot, IsQuiet, IsReceived, IsSent, Telling}
+use Rattle.world_core.specs.Telling.{IfTelling, IsGot, IsQuiet, IsSent, Telling}
 use Rattle.lane_record.specs.declared.outcome.Outcome.{Outcome}
 use Rattle.lane_record.specs.Bounds.{HasReached}
 use Rattle.lane_recovery.specs.Rounds.{IsPaid}
@@ -219,7 +219,8 @@ exchanged_pays pumped old mid event hub outcomes before between after held held_
 
 -- ---- a lane begins, is asked, and stops
 
-pub pays_begun : RoundLaws → (settings : Limits) (status : BoardStatus) (hub : Hub) (telling : Option Telling) (held : ℕ)
+pub pays_begun : RoundLaws → (settings : Limits) (status : BoardStatus) (hub : Hub) (telling : Option Telling) (held :
+    ℕ)
     → AreLimits settings → IsBufferCount status.buffers
     → hub ≡ new_hub status.next (min settings.window status.buffers) settings.rounds
     → IfSome telling (IsGreeted settings status)
@@ -300,7 +301,8 @@ still_paid laws false mtu rounds g hub held now t le is =
 
 pub still_up : (down spent : Bool) (settings : Limits) (hub : Hub) (outcomes : List (Option Outcome))
     (telling : Option Telling) → down ≡ false → spent ≡ false
-    → IfSome telling (IsStanding (down || spent) settings hub outcomes) → IfSome telling (IsRunning settings hub outcomes)
+    → IfSome telling (IsStanding (down || spent) settings hub outcomes)
+        → IfSome telling (IsRunning settings hub outcomes)
 still_up down spent settings hub outcomes telling d s is =
     subst (λ (b : Bool). IfSome telling (IsStanding b settings hub outcomes)) (neither down spent d s) is
 
@@ -323,4 +325,5 @@ pub pays_stopped : RoundLaws → (stopped : Bool) (mtu rounds g g_now : ℕ) (hu
 pays_stopped laws stopped mtu rounds g g_now hub new held now telling None same g_is le is = tt
 pays_stopped laws stopped mtu rounds g g_now hub new held now None (Some u) same g_is le is = absurd cc
 pays_stopped laws stopped mtu rounds g g_now hub new held now (Some t) (Some u) same g_is le is =
-    subst (λ (n : ℕ). HasReached (rounds * n) now) (sym g_is) (still_paid laws stopped mtu rounds g hub held now t le is)
+    subst (λ (n : ℕ). HasReached (rounds * n) now) (sym g_is) (still_paid laws stopped mtu rounds g hub held now t le
+        is)

@@ -13,7 +13,8 @@ use Rattle.hub_lane.specs.declared.answers.Pumped.{Pumped}
 use Rattle.hub_lane.specs.Hearing.{give_ups_of}
 use Rattle.hub_lane.specs.Standing.{IsRunning}
 
--- A hub that gave up so many times, and a link that tells and held so many datagrams. The board has the MTU that it told,
+-- A hub that gave up so many times, and a link that tells and held so many datagrams. The board has the MTU that it
+-- told,
 -- holds as many replies as the window has places, and can take every body that was offered; and the rounds are paid.
 pub record PaysRounds (mtu rounds given_up : ℕ) (hub : Hub) (held : ℕ) (t : Telling) : Type 0 where
   pub board : t.told.board.mtu ≡ mtu

@@ -84,7 +84,7 @@ impl<L: Link> Model for Lane<L> {
         l.engine l.book.items l.outcomes.items l.give_ups l.down l.spent (L.telling l.link) (L.faults l.link)
         (L.quiets l.link)
         × IfSome (L.telling l.link)
-            (HasPaid (l.down || l.spent) l.mtu l.settings.rounds l.give_ups l.engine (L.held l.link)) };
+        (HasPaid (l.down || l.spent) l.mtu l.settings.rounds l.give_ups l.engine (L.held l.link)) };
 }
 
 impl<L: Link> Lane<L> {
