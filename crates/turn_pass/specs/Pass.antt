@@ -4,6 +4,10 @@ use Rattle.std.specs.List.{AllByRecursion}
 use Rattle.atomic_table.specs.Seated.{TableId}
 use Rattle.turn_pass.specs.Record.{Record, Recorded, Begins, made_by, past}
 
+-- which turn it is: no two turns are one
+abbrev pub TurnId : Type 0
+TurnId = TableId
+
 -- a pass that another took in: its number, the record that it had seen, and its own entries
 pub record Joined : Type 0 where
   pub number : ℕ
@@ -24,7 +28,7 @@ pub record Knowledge : Type 0 where
 
 -- a pass: the turn that it is of, whether it holds the value, and what it knows
 pub record PassState : Type 0 where
-  pub turn : TableId
+  pub turn : TurnId
   pub holds : Bool
   pub knows : Knowledge
 

@@ -39,9 +39,10 @@ pub struct Turn<V: Chronicle> {
 
 impl<V: Chronicle> Model for Turn<V> {
     ghost use Rattle.std.specs.Prelude.{◌≡◌};
-    ghost use Rattle.atomic_table.specs.Seated.{TableId, table_id_coded};
+    ghost use Rattle.atomic_table.specs.Seated.{table_id_coded};
+    ghost use Rattle.turn_pass.specs.Pass.{TurnId};
 
-    ghost Value = { TableId };
+    ghost Value = { TurnId };
 
     ghost coded = { table_id_coded };
 
