@@ -2,3 +2,5 @@
 #![tactic(auto)]
 
 mod passes;
+mod room;
+mod turns;
