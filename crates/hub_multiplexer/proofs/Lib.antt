@@ -1,3 +1,4 @@
 pub mod Lists
 pub mod Joins
 pub mod Ends
+pub mod OwnItems

@@ -1,2 +1,5 @@
 pub mod Seats
 pub mod Ends
+pub mod OwnItems
+pub mod Lanes
+pub mod Calls
