@@ -2,3 +2,5 @@ pub mod Lists
 pub mod Joins
 pub mod Ends
 pub mod OwnItems
+pub mod Grows
+pub mod Adds

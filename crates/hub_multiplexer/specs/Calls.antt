@@ -8,9 +8,15 @@ use Rattle.lane_record.specs.Legal.{IsLegal}
 use Rattle.lane_record.specs.NextEntry.{ask_of, took_of}
 use Rattle.hub_multiplexer.specs.OwnItems.{HasTakenAllOf, IsOldestOf, asked_by, planned_by}
 use Rattle.hub_multiplexer.specs.declared.answers.AskTry.{AskTry}
-use Rattle.hub_multiplexer.specs.declared.answers.AskTry.TheVariants as ask
+use Rattle.hub_multiplexer.specs.declared.answers.AskTry.TheVariants as ask_tries
 use Rattle.hub_multiplexer.specs.declared.answers.StepTry.{StepTry}
-use Rattle.hub_multiplexer.specs.declared.answers.StepTry.TheVariants as step
+use Rattle.hub_multiplexer.specs.declared.answers.StepTry.TheVariants as step_tries
+use Rattle.hub_multiplexer.specs.declared.answers.Performed.{Performed}
+use Rattle.hub_multiplexer.specs.declared.answers.Performed.TheVariants as performs
+use Rattle.hub_multiplexer.specs.declared.lane.Asked.{Asked}
+use Rattle.hub_multiplexer.specs.declared.lane.Asked.TheVariants as asks
+use Rattle.hub_multiplexer.specs.declared.lane.Stepped.{Stepped}
+use Rattle.hub_multiplexer.specs.declared.lane.Stepped.TheVariants as steps
 
 -- A lane as a pass found it: its record, and what became of each Ask so far.
 pub record FoundLane : Type 0 where
@@ -27,13 +33,27 @@ pub record Adds (k : Knowledge) (lane : FoundLane) (added : List Item) (after : 
   pub mine_now : after.mine ≡ k.mine ++ map recorded added
   pub rest_same : after ≡ record k { seen = after.seen; mine = after.mine; vain = after.vain }
 
--- the same of a call that makes one exchange, which was not in vain
-abbrev pub AddsAtOnce : Knowledge → List Item → Knowledge → Type 0
-AddsAtOnce k added after = (after.vain ≡ k.vain) × (lane : FoundLane) × Adds k lane added after
+-- By one exchange, which was not in vain, the pass added entries of which this holds.
+pub record Made (k : Knowledge) (P : List Item → Type 0) (after : Knowledge) : Type 0 where
+  pub lane : FoundLane
+  pub added : List Item
+  pub meaning : P added
+  pub adds : Adds k lane added after
+  pub same_vain : after.vain ≡ k.vain
 
--- the same of a call that waits, after some exchanges in vain
-abbrev pub AddsInTime : Knowledge → List Item → Knowledge → Type 0
-AddsInTime k added after = (k.vain ≤ after.vain) × (lane : FoundLane) × Adds k lane added after
+-- The same of a call that waits: there may have been exchanges in vain before.
+pub record MadeInTime (k : Knowledge) (P : List Item → Type 0) (after : Knowledge) : Type 0 where
+  pub lane : FoundLane
+  pub added : List Item
+  pub meaning : P added
+  pub adds : Adds k lane added after
+  pub more_vain : k.vain ≤ after.vain
+
+-- it looked, and added nothing
+abbrev pub IsNone : List Item → Type 0
+IsNone added = added ≡ []
+
+-- ---- ask
 
 -- the client's next planned body was asked
 pub record HasAsked (k : Knowledge) (seq : ℕ) (added : List Item) : Type 0 where
@@ -42,6 +62,19 @@ pub record HasAsked (k : Knowledge) (seq : ℕ) (added : List Item) : Type 0 whe
   pub give_ups : ℕ
   pub entry : added ≡ ask_of k.number seq give_ups ∷ []
 
+-- what an answer means of the entries that were added: all planned bodies were asked before where it is Nothing
+abbrev pub AskMeans : Knowledge → Asked → List Item → Type 0
+AskMeans k (asks.Asked seq) added = HasAsked k seq added
+AskMeans k asks.Nothing added = (asked_by k ≡ planned_by k) × IsNone added
+
+-- how a try to ask went
+abbrev pub AskTried : Knowledge → AskTry → Knowledge → Type 0
+AskTried k ask_tries.Busy after = after ≡ in_vain k
+AskTried k (ask_tries.Asked seq) after = Made k (AskMeans k (asks.Asked seq)) after
+AskTried k ask_tries.Nothing after = Made k (AskMeans k asks.Nothing) after
+
+-- ---- step
+
 -- what became of the client's oldest asked and untaken body was taken
 pub record HasTaken (k : Knowledge) (outcome : Outcome) (added : List Item) : Type 0 where
   pub seq : ℕ
@@ -49,15 +82,25 @@ pub record HasTaken (k : Knowledge) (outcome : Outcome) (added : List Item) : Ty
   pub give_ups : ℕ
   pub entry : added ≡ took_of k.number seq outcome give_ups ∷ []
 
--- how a try to ask went
-abbrev pub AskTried : Knowledge → AskTry → Knowledge → Type 0
-AskTried k ask.Busy after = after ≡ in_vain k
-AskTried k (ask.Asked seq) after = (added : List Item) × HasAsked k seq added × AddsAtOnce k added after
-AskTried k ask.Nothing after = (asked_by k ≡ planned_by k) × AddsAtOnce k [] after
+-- nothing became of it yet
+pub record HasNothingYet (k : Knowledge) (added : List Item) : Type 0 where
+  pub seq : ℕ
+  pub oldest : IsOldestOf k seq
+  pub none : IsNone added
+
+abbrev pub StepMeans : Knowledge → Stepped → List Item → Type 0
+StepMeans k (steps.Ready outcome) added = HasTaken k outcome added
+StepMeans k (steps.NotYet turned) added = HasNothingYet k added
+StepMeans k steps.Nothing added = HasTakenAllOf k × IsNone added
 
 -- how a try to step went
 abbrev pub StepTried : Knowledge → StepTry → Knowledge → Type 0
-StepTried k step.Busy after = after ≡ in_vain k
-StepTried k (step.NotYet turned) after = ((seq : ℕ) × IsOldestOf k seq) × AddsAtOnce k [] after
-StepTried k (step.Ready outcome) after = (added : List Item) × HasTaken k outcome added × AddsAtOnce k added after
-StepTried k step.Nothing after = HasTakenAllOf k × AddsAtOnce k [] after
+StepTried k step_tries.Busy after = after ≡ in_vain k
+StepTried k (step_tries.NotYet turned) after = Made k (StepMeans k (steps.NotYet turned)) after
+StepTried k (step_tries.Ready outcome) after = Made k (StepMeans k (steps.Ready outcome)) after
+StepTried k step_tries.Nothing after = Made k (StepMeans k steps.Nothing) after
+
+-- what was performed
+abbrev pub PerformMeans : Knowledge → Performed → List Item → Type 0
+PerformMeans k (performs.Ready outcome) added = HasTaken k outcome added
+PerformMeans k performs.Nothing added = HasTakenAllOf k × IsNone added

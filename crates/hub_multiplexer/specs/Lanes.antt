@@ -1,10 +1,16 @@
--- What the calls of a lane do to its record. Profile.
+-- What the calls of a lane do to its record, and what that means to a pass of the client. Profile.
 use Rattle.std.specs.Prelude.{◌≡◌, ℕ, ◌<◌, List, [], ◌∷◌, ◌++◌}
+use Rattle.std.specs.List.{AllByRecursion}
+use Rattle.turn_pass.specs.Record.{Record}
+use Rattle.turn_pass.specs.Pass.{Knowledge, Told}
 use Rattle.lane_record.specs.declared.outcome.Outcome.{Outcome}
 use Rattle.lane_record.specs.declared.item.Item.{Item}
 use Rattle.lane_record.specs.Items.{asked, planned}
 use Rattle.lane_record.specs.NextEntry.{ask_of, took_of}
+use Rattle.lane_record.specs.Coding.{record_of}
+use Rattle.lane_record.specs.Legal.{IsLegal}
 use Rattle.hub_multiplexer.specs.OwnItems.{HasTakenAll, IsOldest}
+use Rattle.hub_multiplexer.specs.Calls.{FoundLane}
 use Rattle.hub_multiplexer.specs.declared.lane.Asked.{Asked}
 use Rattle.hub_multiplexer.specs.declared.lane.Asked.TheVariants as asks
 use Rattle.hub_multiplexer.specs.declared.lane.Stepped.{Stepped}
@@ -22,3 +28,17 @@ StepsOn items client (steps.Ready outcome) after = (seq : ℕ) × IsOldest items
     × (give_ups : ℕ) × (after ≡ items ++ took_of client seq outcome give_ups ∷ [])
 StepsOn items client (steps.NotYet turned) after = ((seq : ℕ) × IsOldest items client seq) × (after ≡ items)
 StepsOn items client steps.Nothing after = HasTakenAll items client × (after ≡ items)
+
+-- a legal record of a lane grew by these entries of a client
+pub record Grew (client : ℕ) (before : Record) (added : List Item) (after : Record) : Type 0 where
+  pub lane : FoundLane
+  pub was : before ≡ record_of lane.head lane.items
+  pub now : after ≡ record_of lane.head (lane.items ++ added)
+  pub legal : IsLegal (lane.items ++ added) lane.outcomes
+  pub makers : AllByRecursion (λ x. x.client ≡ client) added
+
+-- The record grew by entries that have a meaning for every pass of the client that finds it.
+pub record Means (client : ℕ) (before : Record) (P : Knowledge → List Item → Type 0) (after : Record) : Type 0 where
+  pub added : List Item
+  pub grew : Grew client before added after
+  pub to_finder : (k : Knowledge) → Told k before → k.number ≡ client → P k added

@@ -1,6 +1,9 @@
 //! What the calls of a hub answer.
 
-use crate::lane::Turned;
+ghost use Rattle.turn_pass.specs.Pass.{Knowledge};
+ghost use Rattle.hub_multiplexer.specs.Calls.{AskMeans, AskTried, Made, StepMeans, StepTried};
+
+use crate::lane::{Asked, Stepped, Turned};
 use lane_record::Outcome;
 
 /// How a try to ask went.
@@ -14,6 +17,18 @@ pub enum AskTry {
     Nothing,
 }
 
+impl AskTry {
+    /// The answer of a lane that was found.
+    pub(crate) fn of(asked: Asked) -> AskTry
+        ensures { (k after : Knowledge) → Made k (AskMeans k asked) after → AskTried k result after }
+    {
+        match asked {
+            Asked::Asked(seq) => AskTry::Asked(seq),
+            Asked::Nothing => AskTry::Nothing,
+        }
+    }
+}
+
 /// How a try to step went.
 #[derive(Debug, Drop)]
 pub enum StepTry {
@@ -25,6 +40,19 @@ pub enum StepTry {
     Ready(Outcome),
     /// The client has no asked body to take.
     Nothing,
+}
+
+impl StepTry {
+    /// The answer of a lane that was found.
+    pub(crate) fn of(stepped: Stepped) -> StepTry
+        ensures { (k after : Knowledge) → Made k (StepMeans k stepped) after → StepTried k result after }
+    {
+        match stepped {
+            Stepped::NotYet(turned) => StepTry::NotYet(turned),
+            Stepped::Ready(outcome) => StepTry::Ready(outcome),
+            Stepped::Nothing => StepTry::Nothing,
+        }
+    }
 }
 
 /// What a client performed.

@@ -1,11 +1,13 @@
 //! One call of one client on one board.
 
 ghost use Rattle.std.specs.Prelude.{◌≡◌, ◌≤◌, false, [], IfOk, OnErr};
-ghost use Rattle.hub_multiplexer.specs.Calls.{AddsAtOnce, AskTried, StepTried};
+ghost use Rattle.hub_multiplexer.specs.Calls.{AskMeans, AskTried, IsNone, Made, MadeInTime, StepMeans, StepTried};
 
 use crate::answers::{AskTry, StepTry};
 use crate::lane::{Asked, BoardLane, Stepped};
+use crate::own::{ask_on, step_on};
 use ipb_base::NoMemory;
+use std::sync::Wait;
 use turn_pass::{Pass, Turn};
 
 /// Asks the client's next planned body, by one exchange.
@@ -19,17 +21,75 @@ pub(crate) fn try_ask<B: BoardLane + Send>(
     requires client { 1 ≤ client }
     ensures same { pass.new ≡ record pass.old { knows = pass.new.knows } }
     ensures tried { IfOk result (λ tried. AskTried pass.old.knows tried pass.new.knows) }
-    ensures looked { OnErr result (AddsAtOnce pass.old.knows [] pass.new.knows) }
+    ensures looked { OnErr result (Made pass.old.knows IsNone pass.new.knows) }
 {
     let Some(mut lane) = turn.try_take(pass) else {
         return Ok(AskTry::Busy);
     };
-    lane.is_sound();
-    let asked = lane.ask(client);
-    lane.is_sound();
+    let asked = ask_on(&mut lane, client);
     turn.give(pass, lane);
-    match asked? {
-        Asked::Asked(seq) => Ok(AskTry::Asked(seq)),
-        Asked::Nothing => Ok(AskTry::Nothing),
-    }
+    Ok(AskTry::of(asked?))
+}
+
+/// Pumps the lane once at most, and takes what became of the client's oldest asked and untaken body, by one exchange.
+pub(crate) fn try_step<B: BoardLane + Send>(
+    turn: &Turn<B>,
+    pass: &mut Pass,
+    client: u32,
+) -> Result<StepTry, NoMemory>
+    requires turn { pass.old.turn ≡ turn.now }
+    requires idle { (pass.old.holds ≡ false) × (pass.old.knows.number ≡ client) }
+    requires client { 1 ≤ client }
+    ensures same { pass.new ≡ record pass.old { knows = pass.new.knows } }
+    ensures tried { IfOk result (λ tried. StepTried pass.old.knows tried pass.new.knows) }
+    ensures looked { OnErr result (Made pass.old.knows IsNone pass.new.knows) }
+{
+    let Some(mut lane) = turn.try_take(pass) else {
+        return Ok(StepTry::Busy);
+    };
+    let stepped = step_on(&mut lane, client);
+    turn.give(pass, lane);
+    Ok(StepTry::of(stepped?))
+}
+
+/// Asks the client's next planned body. It waits for the lane.
+pub(crate) fn ask<B: BoardLane + Send, R: Wait>(
+    rt: &R,
+    turn: &Turn<B>,
+    pass: &mut Pass,
+    client: u32,
+) -> Result<Asked, NoMemory>
+    requires turn { pass.old.turn ≡ turn.now }
+    requires idle { (pass.old.holds ≡ false) × (pass.old.knows.number ≡ client) }
+    requires client { 1 ≤ client }
+    ensures same { pass.new ≡ record pass.old { knows = pass.new.knows } }
+    ensures asked { IfOk result (λ asked. MadeInTime pass.old.knows (AskMeans pass.old.knows asked) pass.new.knows) }
+    ensures looked { OnErr result (MadeInTime pass.old.knows IsNone pass.new.knows) }
+{
+    let mut lane = turn.take(rt, pass);
+    let asked = ask_on(&mut lane, client);
+    turn.give(pass, lane);
+    asked
+}
+
+/// Pumps the lane once at most, and takes what became of the client's oldest asked and untaken body. It waits for the
+/// lane.
+fn step<B: BoardLane + Send, R: Wait>(
+    rt: &R,
+    turn: &Turn<B>,
+    pass: &mut Pass,
+    client: u32,
+) -> Result<Stepped, NoMemory>
+    requires turn { pass.old.turn ≡ turn.now }
+    requires idle { (pass.old.holds ≡ false) × (pass.old.knows.number ≡ client) }
+    requires client { 1 ≤ client }
+    ensures same { pass.new ≡ record pass.old { knows = pass.new.knows } }
+    ensures stepped { IfOk result (λ stepped.
+        MadeInTime pass.old.knows (StepMeans pass.old.knows stepped) pass.new.knows) }
+    ensures looked { OnErr result (MadeInTime pass.old.knows IsNone pass.new.knows) }
+{
+    let mut lane = turn.take(rt, pass);
+    let stepped = step_on(&mut lane, client);
+    turn.give(pass, lane);
+    stepped
 }
