@@ -28,11 +28,10 @@ may_give client before added after g = record {
 }
 
 -- mid is what the pass knew while it held the lane
-pub adds_of : (client : ℕ) (k mid final : Knowledge) (before : Record) (added : List Item) (after : Record) → Grew client before added after → Told k before
-    → mid ≡ record (having_seen k before) { vain = mid.vain } → final ≡ having_given mid after → (final.vain ≡ mid.vain) × (lane : FoundLane) × Adds k lane added final
+pub adds_of : (client : ℕ) (k mid final : Knowledge) (before : Record) (added : List Item) (after : Record) → (g : Grew client before added after) → Told k before
+    → mid ≡ record (having_seen k before) { vain = mid.vain } → final ≡ having_given mid after → (final.vain ≡ mid.vain) × Adds k g.lane added final
 adds_of client k mid final before added after g told took gave = (
   ap (λ (z : Knowledge). z.vain) gave,
-  g.lane,
   record {
     found = subst (Told k) g.was told;
     legal = g.legal;
@@ -44,20 +43,20 @@ adds_of client k mid final before added after g told took gave = (
 )
 
 -- after one exchange
-pub at_once : (client : ℕ) (old mid final : PassState) (before after : Record) (P : Knowledge → List Item → Type 0) → Means client before P after → old.knows.number ≡ client → Told old.knows before
+pub at_once : (client : ℕ) (old mid final : PassState) (before after : Record) (P : Knowledge → FoundLane → List Item → Type 0) → Means client before P after → old.knows.number ≡ client → Told old.knows before
     → mid ≡ record old { holds = true; knows = having_seen old.knows before } → final ≡ record mid { holds = false; knows = having_given mid.knows after } → Made old.knows (P old.knows) final.knows
 at_once client old mid final before after P m number told took gave =
     let knew : mid.knows ≡ having_seen old.knows before = ap (λ (p : PassState). p.knows) took in
     let same : mid.knows.vain ≡ old.knows.vain = ap (λ (k : Knowledge). k.vain) knew in
     let a = adds_of client old.knows mid.knows final.knows before m.added after m.grew told (knew ∙ (λ i. record (having_seen old.knows before) { vain = sym same i })) (ap (λ (p : PassState). p.knows) gave) in
-    record { lane = a.1; added = m.added; meaning = m.to_finder old.knows told number; adds = a.2; same_vain = a.0 ∙ same }
+    record { lane = m.grew.lane; added = m.added; meaning = m.to_finder old.knows told number; adds = a.1; same_vain = a.0 ∙ same }
 
 -- after some exchanges in vain
-pub in_time : (client : ℕ) (old mid final : PassState) (before after : Record) (P : Knowledge → List Item → Type 0) → Means client before P after → old.knows.number ≡ client → Told old.knows before → old.knows.vain ≤ mid.knows.vain
+pub in_time : (client : ℕ) (old mid final : PassState) (before after : Record) (P : Knowledge → FoundLane → List Item → Type 0) → Means client before P after → old.knows.number ≡ client → Told old.knows before → old.knows.vain ≤ mid.knows.vain
     → mid ≡ record old { holds = true; knows = record (having_seen old.knows before) { vain = mid.knows.vain } } → final ≡ record mid { holds = false; knows = having_given mid.knows after } → MadeInTime old.knows (P old.knows) final.knows
 in_time client old mid final before after P m number told waited took gave =
     let a = adds_of client old.knows mid.knows final.knows before m.added after m.grew told (ap (λ (p : PassState). p.knows) took) (ap (λ (p : PassState). p.knows) gave) in
-    record { lane = a.1; added = m.added; meaning = m.to_finder old.knows told number; adds = a.2; more_vain = subst (λ n. old.knows.vain ≤ n) (sym a.0) waited }
+    record { lane = m.grew.lane; added = m.added; meaning = m.to_finder old.knows told number; adds = a.1; more_vain = subst (λ n. old.knows.vain ≤ n) (sym a.0) waited }
 
 pub on_err_holds : {T E P : Type 0} (r : Result T E) → P → OnErr r P
 on_err_holds (Ok x) p = tt

@@ -4,3 +4,4 @@ pub mod Ends
 pub mod OwnItems
 pub mod Grows
 pub mod Adds
+pub mod Looks

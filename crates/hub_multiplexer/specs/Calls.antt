@@ -34,24 +34,25 @@ pub record Adds (k : Knowledge) (lane : FoundLane) (added : List Item) (after : 
   pub rest_same : after ≡ record k { seen = after.seen; mine = after.mine; vain = after.vain }
 
 -- By one exchange, which was not in vain, the pass added entries of which this holds.
-pub record Made (k : Knowledge) (P : List Item → Type 0) (after : Knowledge) : Type 0 where
+pub record Made (k : Knowledge) (P : FoundLane → List Item → Type 0) (after : Knowledge) : Type 0 where
   pub lane : FoundLane
   pub added : List Item
-  pub meaning : P added
+  pub meaning : P lane added
   pub adds : Adds k lane added after
   pub same_vain : after.vain ≡ k.vain
 
 -- The same of a call that waits: there may have been exchanges in vain before.
-pub record MadeInTime (k : Knowledge) (P : List Item → Type 0) (after : Knowledge) : Type 0 where
+pub record MadeInTime (k : Knowledge) (P : FoundLane → List Item → Type 0) (after : Knowledge)
+    : Type 0 where
   pub lane : FoundLane
   pub added : List Item
-  pub meaning : P added
+  pub meaning : P lane added
   pub adds : Adds k lane added after
   pub more_vain : k.vain ≤ after.vain
 
 -- it looked, and added nothing
-abbrev pub IsNone : List Item → Type 0
-IsNone added = added ≡ []
+abbrev pub IsNone : FoundLane → List Item → Type 0
+IsNone lane added = added ≡ []
 
 -- ---- ask
 
@@ -63,9 +64,9 @@ pub record HasAsked (k : Knowledge) (seq : ℕ) (added : List Item) : Type 0 whe
   pub entry : added ≡ ask_of k.number seq give_ups ∷ []
 
 -- what an answer means of the entries that were added: all planned bodies were asked before where it is Nothing
-abbrev pub AskMeans : Knowledge → Asked → List Item → Type 0
-AskMeans k (asks.Asked seq) added = HasAsked k seq added
-AskMeans k asks.Nothing added = (asked_by k ≡ planned_by k) × IsNone added
+abbrev pub AskMeans : Knowledge → Asked → FoundLane → List Item → Type 0
+AskMeans k (asks.Asked seq) lane added = HasAsked k seq added
+AskMeans k asks.Nothing lane added = (asked_by k ≡ planned_by k) × (added ≡ [])
 
 -- how a try to ask went
 abbrev pub AskTried : Knowledge → AskTry → Knowledge → Type 0
@@ -86,12 +87,12 @@ pub record HasTaken (k : Knowledge) (outcome : Outcome) (added : List Item) : Ty
 pub record HasNothingYet (k : Knowledge) (added : List Item) : Type 0 where
   pub seq : ℕ
   pub oldest : IsOldestOf k seq
-  pub none : IsNone added
+  pub none : added ≡ []
 
-abbrev pub StepMeans : Knowledge → Stepped → List Item → Type 0
-StepMeans k (steps.Ready outcome) added = HasTaken k outcome added
-StepMeans k (steps.NotYet turned) added = HasNothingYet k added
-StepMeans k steps.Nothing added = HasTakenAllOf k × IsNone added
+abbrev pub StepMeans : Knowledge → Stepped → FoundLane → List Item → Type 0
+StepMeans k (steps.Ready outcome) lane added = HasTaken k outcome added
+StepMeans k (steps.NotYet turned) lane added = HasNothingYet k added
+StepMeans k steps.Nothing lane added = HasTakenAllOf k × (added ≡ [])
 
 -- how a try to step went
 abbrev pub StepTried : Knowledge → StepTry → Knowledge → Type 0
@@ -101,6 +102,6 @@ StepTried k (step_tries.Ready outcome) after = Made k (StepMeans k (steps.Ready 
 StepTried k step_tries.Nothing after = Made k (StepMeans k steps.Nothing) after
 
 -- what was performed
-abbrev pub PerformMeans : Knowledge → Performed → List Item → Type 0
-PerformMeans k (performs.Ready outcome) added = HasTaken k outcome added
-PerformMeans k performs.Nothing added = HasTakenAllOf k × IsNone added
+abbrev pub PerformMeans : Knowledge → Performed → FoundLane → List Item → Type 0
+PerformMeans k (performs.Ready outcome) lane added = HasTaken k outcome added
+PerformMeans k performs.Nothing lane added = HasTakenAllOf k × (added ≡ [])

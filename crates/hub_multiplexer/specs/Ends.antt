@@ -1,9 +1,9 @@
 -- What stands in the records that are handed back at the end. Profile.
-use Rattle.std.specs.Prelude.{◌≡◌, ℕ, ◌≤◌, ◌<◌, List, [], map}
+use Rattle.std.specs.Prelude.{◌≡◌, ℕ, ◌+◌, ◌≤◌, ◌<◌, List, [], map}
 use Rattle.std.specs.List.{AllByRecursion, AllZip, Contains}
 use Rattle.turn_pass.specs.Record.{Record, Recorded, past}
 use Rattle.turn_pass.specs.Pass.{Joined, Knowledge, PassState, Told}
-use Rattle.hub_multiplexer.specs.Seats.{IsIdle}
+use Rattle.hub_multiplexer.specs.Seats.{IsFirst, IsIdle}
 
 -- the numbers of the passes that were taken in
 abbrev pub numbers_joined : Knowledge → List ℕ
@@ -28,3 +28,10 @@ pub record IsLast (pass : PassState) : Type 0 where
   pub idle : IsIdle 0 pass
   pub no_entry : pass.knows.mine ≡ []
   pub all_joined : HasAllJoined pass.knows
+
+-- How the code keeps a master: first passes that hold nothing and made no entry, after so many seats were made, and the
+-- pass of the room, beside which no other was made.
+pub record IsMaster (seats : ℕ) (passes : List PassState) (room : PassState) : Type 0 where
+  pub firsts : AllByRecursion (IsFirst (seats + 1)) passes
+  pub no_entries : AllByRecursion (λ pass. pass.knows.mine ≡ []) passes
+  pub room_first : IsFirst 1 room

@@ -38,7 +38,8 @@ pub record Grew (client : ℕ) (before : Record) (added : List Item) (after : Re
   pub makers : AllByRecursion (λ x. x.client ≡ client) added
 
 -- The record grew by entries that have a meaning for every pass of the client that finds it.
-pub record Means (client : ℕ) (before : Record) (P : Knowledge → List Item → Type 0) (after : Record) : Type 0 where
+pub record Means (client : ℕ) (before : Record) (P : Knowledge → FoundLane → List Item → Type 0) (after : Record)
+    : Type 0 where
   pub added : List Item
   pub grew : Grew client before added after
-  pub to_finder : (k : Knowledge) → Told k before → k.number ≡ client → P k added
+  pub to_finder : (k : Knowledge) → Told k before → k.number ≡ client → P k grew.lane added

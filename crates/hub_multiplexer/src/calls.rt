@@ -1,9 +1,9 @@
 //! One call of one client on one board.
 
 ghost use Rattle.std.specs.Prelude.{◌≡◌, ◌≤◌, false, [], IfOk, OnErr};
-ghost use Rattle.hub_multiplexer.specs.Calls.{AskMeans, AskTried, IsNone, Made, MadeInTime, StepMeans, StepTried};
+ghost use Rattle.hub_multiplexer.specs.Calls.{AskMeans, AskTried, IsNone, Made, MadeInTime, PerformMeans, StepMeans, StepTried};
 
-use crate::answers::{AskTry, StepTry};
+use crate::answers::{AskTry, Performed, StepTry};
 use crate::lane::{Asked, BoardLane, Stepped};
 use crate::own::{ask_on, step_on};
 use ipb_base::NoMemory;
@@ -92,4 +92,30 @@ fn step<B: BoardLane + Send, R: Wait>(
     let stepped = step_on(&mut lane, client);
     turn.give(pass, lane);
     stepped
+}
+
+/// Steps until something became of the client's oldest asked and untaken body, and takes it. It waits for the lane, and
+/// for the board.
+pub(crate) fn perform<B: BoardLane + Send, R: Wait>(
+    rt: &R,
+    turn: &Turn<B>,
+    pass: &mut Pass,
+    client: u32,
+) -> Result<Performed, NoMemory>
+    requires turn { pass.old.turn ≡ turn.now }
+    requires idle { (pass.old.holds ≡ false) × (pass.old.knows.number ≡ client) }
+    requires client { 1 ≤ client }
+    ensures same { pass.new ≡ record pass.old { knows = pass.new.knows } }
+    ensures performed { IfOk result (λ performed.
+        MadeInTime pass.old.knows (PerformMeans pass.old.knows performed) pass.new.knows) }
+    ensures looked { OnErr result (MadeInTime pass.old.knows IsNone pass.new.knows) }
+{
+    for _ in rt.forever() {
+        match step(rt, turn, pass, client)? {
+            Stepped::Ready(outcome) => return Ok(Performed::Ready(outcome)),
+            Stepped::NotYet(_turned) => {}
+            Stepped::Nothing => return Ok(Performed::Nothing),
+        }
+    }
+    unreachable!()
 }

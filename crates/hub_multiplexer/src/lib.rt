@@ -3,10 +3,16 @@
 
 mod answers;
 mod calls;
+mod hub;
 mod lane;
+mod master;
 mod own;
 mod passes;
 mod room;
+mod seat;
 mod turns;
 
 pub use answers::{AskTry, Performed, StepTry};
+pub use hub::Hub;
+pub use master::Master;
+pub use seat::Seat;
