@@ -25,14 +25,14 @@ not_joined (x ∷ xs) rest (suc n) p inside read = not_joined xs rest n p (omega
 
 pub board_joined : (firsts others before now left : List PassState) (board : ℕ) (p q p' : PassState) → before ≡ left ++ q ∷ [] → before ≡ take (length before) others
     → now ≡ take (length before) firsts ++ after_join (drop (length before) firsts) (drop (length before) others)
-    → length left < length firsts → board ≡ length left → p ≡ get_or now board p → p' ≡ joining (get_or now board p) q
+    → length left < length firsts → board ≡ length left → p ≡ get_or now board p → p' ≡ joining p q
     → (left ≡ take (length left) others) × (set now board p' ≡ take (length left) firsts ++ after_join (drop (length left) firsts) (drop (length left) others))
 board_joined firsts others before now left board p q p' was front state inside at read is =
     let last = popped others left q (sym was ∙ (front ∙ ap (λ l. take (length l) others) was)) in
     let long : length before ≡ suc (length left) = ap length was ∙ omega (arith, length-append left (q ∷ [])) in
     let state' : now ≡ take (suc (length left)) firsts ++ after_join (drop (suc (length left)) firsts) (drop (suc (length left)) others) = state ∙ ap (λ n. take n firsts ++ after_join (drop n firsts) (drop n others)) long in
     let here : get_elem? firsts (length left) ≡ some p = not_joined firsts _ (length left) p inside (read ∙ (λ i. get_or (state' i) (at i) p)) in
-    (last.0, (λ i. set (state' i) (at i) ((is ∙ ap (λ z. joining z q) (sym read)) i)) ∙ joined_at firsts others (length left) p q here last.1)
+    (last.0, (λ i. set (state' i) (at i) (is i)) ∙ joined_at firsts others (length left) p q here last.1)
 
 -- the board of the last of the passes that are left is one of all boards
 pub board_inside : (firsts others before left : List PassState) (q : PassState) → before ≡ left ++ q ∷ [] → before ≡ take (length before) others → length firsts ≡ length others → length left < length firsts

@@ -5,3 +5,4 @@ pub mod OwnItems
 pub mod Grows
 pub mod Adds
 pub mod Looks
+pub mod Seats

@@ -18,12 +18,12 @@ map_take_more g (x ∷ xs) (suc i) d h = ap (λ l. g x ∷ l) (map_take_more g x
 
 -- a loop that writes f x over each element x, and pushes g x
 pub mapped_and_pushed : {A B : Type 0} (f : A → A) (g : A → B) (xs ys : List A) (zs ws : List B) (i : ℕ) (x x' : A) (y : B) → ys ≡ map f (take i xs) ++ drop i xs → zs ≡ map g (take i xs)
-    → i < length xs → x ≡ get_or ys i x → x' ≡ f (get_or ys i x) → y ≡ g (get_or ys i x) → ws ≡ zs ++ y ∷ []
+    → i < length xs → x ≡ get_or ys i x → x' ≡ f x → y ≡ g x → ws ≡ zs ++ y ∷ []
     → (set ys i x' ≡ map f (take (i + 1) xs) ++ drop (i + 1) xs) × (ws ≡ map g (take (i + 1) xs))
 mapped_and_pushed f g xs ys zs ws i x x' y written pushed inside read f_is g_is now =
     let here : x ≡ get_or xs i x = read ∙ (ap (λ l. get_or l i x) written ∙ not_yet_mapped f xs i x) in (
-      ap (set ys i) (f_is ∙ ap f (sym read)) ∙ map_over_more f xs ys i x inside written read,
-      now ∙ ((λ j. pushed j ++ (g_is ∙ ap g (sym read)) j ∷ []) ∙ ((λ j. map g (take i xs) ++ g (here j) ∷ []) ∙ (sym (map_take_more g xs i x inside) ∙ ap (λ n. map g (take n xs)) (sym (add-one i))))),
+      ap (set ys i) f_is ∙ map_over_more f xs ys i x inside written read,
+      now ∙ ((λ j. pushed j ++ g_is j ∷ []) ∙ ((λ j. map g (take i xs) ++ g (here j) ∷ []) ∙ (sym (map_take_more g xs i x inside) ∙ ap (λ n. map g (take n xs)) (sym (add-one i))))),
     )
 
 -- what is left after the last of them was popped, and the one that was popped

@@ -43,6 +43,7 @@ impl Model for Master {
 impl Master {
     /// One seat more. Its client is its number among the seats, from 1, and the number of its pass on each board. It has
     /// seen what the master has. Want of memory changes nothing.
+    #[tactic(auto, using(crate::proofs::Seats::idle_split, crate::proofs::Seats::master_split, crate::proofs::Seats::turns_split_off, crate::proofs::Seats::turns_after_split, crate::proofs::Seats::knows_split_off, crate::proofs::Seats::knows_after_split))]
     pub fn seat<B: BoardLane + Send>(
         &mut self,
         alloc: Global,
@@ -67,6 +68,7 @@ impl Master {
     }
 
     /// Takes a seat in, with all that it had seen and the entries that it made.
+    #[tactic(auto, using(crate::proofs::Seats::master_joined, crate::proofs::Seats::turns_after_join, crate::proofs::Seats::knows_joined))]
     pub fn join<B: BoardLane + Send>(&mut self, hub: &Hub<B>, seat: Seat)
         requires hub { IsMasterOf hub.now self.old }
         requires seat { IsSeatOf hub.now seat }
