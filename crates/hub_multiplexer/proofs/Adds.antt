@@ -37,7 +37,7 @@ adds_of client k mid final before added after g told took gave = (
     legal = g.legal;
     seen_now = ap (λ (z : Knowledge). z.seen) gave ∙ g.now;
     mine_now = ap (λ (z : Knowledge). z.mine) gave ∙ ((λ i. (took i).mine ++ drop (length (took i).seen.entries) (entries_grew client before added after g i))
-          ∙ ap (λ l. k.mine ++ l) (drop-append_seam before.entries (map recorded added)));
+        ∙ ap (λ l. k.mine ++ l) (drop-append_seam before.entries (map recorded added)));
     rest_same = gave ∙ ((λ i. record (took i) { seen = (sym gave i).seen; mine = (sym gave i).mine; vain = (sym gave i).vain }));
   },
 )

@@ -6,3 +6,4 @@ pub mod Grows
 pub mod Adds
 pub mod Looks
 pub mod Seats
+pub mod Boards

@@ -20,6 +20,7 @@ pub(crate) fn try_ask<B: BoardLane + Send>(
     requires idle { (pass.old.holds ≡ false) × (pass.old.knows.number ≡ client) }
     requires client { 1 ≤ client }
     ensures same { pass.new ≡ record pass.old { knows = pass.new.knows } }
+    ensures number { pass.new.knows.number ≡ client }
     ensures tried { IfOk result (λ tried. AskTried pass.old.knows tried pass.new.knows) }
     ensures looked { OnErr result (Made pass.old.knows IsNone pass.new.knows) }
 {
@@ -41,6 +42,7 @@ pub(crate) fn try_step<B: BoardLane + Send>(
     requires idle { (pass.old.holds ≡ false) × (pass.old.knows.number ≡ client) }
     requires client { 1 ≤ client }
     ensures same { pass.new ≡ record pass.old { knows = pass.new.knows } }
+    ensures number { pass.new.knows.number ≡ client }
     ensures tried { IfOk result (λ tried. StepTried pass.old.knows tried pass.new.knows) }
     ensures looked { OnErr result (Made pass.old.knows IsNone pass.new.knows) }
 {
@@ -63,6 +65,7 @@ pub(crate) fn ask<B: BoardLane + Send, R: Wait>(
     requires idle { (pass.old.holds ≡ false) × (pass.old.knows.number ≡ client) }
     requires client { 1 ≤ client }
     ensures same { pass.new ≡ record pass.old { knows = pass.new.knows } }
+    ensures number { pass.new.knows.number ≡ client }
     ensures asked { IfOk result (λ asked. MadeInTime pass.old.knows (AskMeans pass.old.knows asked) pass.new.knows) }
     ensures looked { OnErr result (MadeInTime pass.old.knows IsNone pass.new.knows) }
 {
@@ -84,6 +87,7 @@ fn step<B: BoardLane + Send, R: Wait>(
     requires idle { (pass.old.holds ≡ false) × (pass.old.knows.number ≡ client) }
     requires client { 1 ≤ client }
     ensures same { pass.new ≡ record pass.old { knows = pass.new.knows } }
+    ensures number { pass.new.knows.number ≡ client }
     ensures stepped { IfOk result (λ stepped.
         MadeInTime pass.old.knows (StepMeans pass.old.knows stepped) pass.new.knows) }
     ensures looked { OnErr result (MadeInTime pass.old.knows IsNone pass.new.knows) }
@@ -106,6 +110,7 @@ pub(crate) fn perform<B: BoardLane + Send, R: Wait>(
     requires idle { (pass.old.holds ≡ false) × (pass.old.knows.number ≡ client) }
     requires client { 1 ≤ client }
     ensures same { pass.new ≡ record pass.old { knows = pass.new.knows } }
+    ensures number { pass.new.knows.number ≡ client }
     ensures performed { IfOk result (λ performed.
         MadeInTime pass.old.knows (PerformMeans pass.old.knows performed) pass.new.knows) }
     ensures looked { OnErr result (MadeInTime pass.old.knows IsNone pass.new.knows) }

@@ -1,7 +1,7 @@
 //! The hub: a turn for each board's lane.
 
-ghost use Rattle.std.specs.Prelude.{◌≡◌, ◌<◌, length, IfOk, IfErr};
-ghost use Rattle.hub_multiplexer.specs.Calls.{AskTried, StepTried, IsNone, Made, MadeInTime};
+ghost use Rattle.std.specs.Prelude.{◌≡◌, ◌<◌, length, IfOk, IfErr, OnErr};
+ghost use Rattle.hub_multiplexer.specs.Calls.{AskMeans, AskTried, IsNone, Made, MadeInTime, PerformMeans, StepTried};
 ghost use Rattle.hub_multiplexer.specs.Seats.{ChangesAt, IsSeatOf};
 
 use crate::answers::{AskTry, Performed, StepTry};
@@ -36,5 +36,65 @@ impl<B: BoardLane + Send> Hub<B> {
         ensures { result ≡ length self.now.turns }
     {
         self.turns.len()
+    }
+
+    /// Asks the seat's next planned body on a board, by one exchange. It never waits. `Busy` where another held the lane
+    /// at that exchange. Want of memory adds nothing.
+    #[tactic(auto, using(crate::proofs::Boards::idle_at))]
+    pub fn try_ask(&self, seat: &mut Seat, board: usize) -> Result<AskTry, NoMemory>
+        requires board { board < length self.now.turns }
+        requires seat { IsSeatOf self.now seat.old }
+        ensures tried { IfOk result (λ tried. ChangesAt board seat.old seat.new (λ k. AskTried k tried)) }
+        ensures looked { OnErr result (ChangesAt board seat.old seat.new (λ k. Made k IsNone)) }
+    {
+        let client = seat.client;
+        calls::try_ask(&self.turns[board], &mut seat.passes[board], client)
+    }
+
+    /// Takes a board's lane, pumps it once where nothing became of the seat's oldest asked and untaken body yet, takes
+    /// what did, and gives the lane back: by one exchange, and it never waits. `Busy` where another held the lane at that
+    /// exchange. Want of memory adds nothing; the lane may have been pumped, or be spent.
+    #[tactic(auto, using(crate::proofs::Boards::idle_at))]
+    pub fn try_step(&self, seat: &mut Seat, board: usize) -> Result<StepTry, NoMemory>
+        requires board { board < length self.now.turns }
+        requires seat { IsSeatOf self.now seat.old }
+        ensures tried { IfOk result (λ tried. ChangesAt board seat.old seat.new (λ k. StepTried k tried)) }
+        ensures looked { OnErr result (ChangesAt board seat.old seat.new (λ k. Made k IsNone)) }
+    {
+        let client = seat.client;
+        calls::try_step(&self.turns[board], &mut seat.passes[board], client)
+    }
+
+    /// Asks the seat's next planned body on a board. It waits for the lane. Want of memory adds nothing.
+    #[tactic(auto, using(crate::proofs::Boards::idle_at))]
+    pub fn ask<R: Wait>(&self, rt: &R, seat: &mut Seat, board: usize) -> Result<Asked, NoMemory>
+        requires board { board < length self.now.turns }
+        requires seat { IsSeatOf self.now seat.old }
+        ensures asked { IfOk result (λ asked.
+            ChangesAt board seat.old seat.new (λ k. MadeInTime k (AskMeans k asked))) }
+        ensures looked { OnErr result (ChangesAt board seat.old seat.new (λ k. MadeInTime k IsNone)) }
+    {
+        let client = seat.client;
+        calls::ask(rt, &self.turns[board], &mut seat.passes[board], client)
+    }
+
+    /// Steps on a board until something became of the seat's oldest asked and untaken body, and takes it. It waits for
+    /// the lane, and goes on as long as the board does not answer and the hub does not give up. Want of memory adds
+    /// nothing; the lane may have been pumped, or be spent.
+    #[tactic(auto, using(crate::proofs::Boards::idle_at))]
+    pub fn perform<R: Wait>(
+        &self,
+        rt: &R,
+        seat: &mut Seat,
+        board: usize,
+    ) -> Result<Performed, NoMemory>
+        requires board { board < length self.now.turns }
+        requires seat { IsSeatOf self.now seat.old }
+        ensures performed { IfOk result (λ performed.
+            ChangesAt board seat.old seat.new (λ k. MadeInTime k (PerformMeans k performed))) }
+        ensures looked { OnErr result (ChangesAt board seat.old seat.new (λ k. MadeInTime k IsNone)) }
+    {
+        let client = seat.client;
+        calls::perform(rt, &self.turns[board], &mut seat.passes[board], client)
     }
 }

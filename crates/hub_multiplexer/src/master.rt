@@ -31,10 +31,10 @@ impl Model for Master {
     ghost use Rattle.hub_multiplexer.specs.Ends.{IsMaster};
 
     ghost view = { λ master. record {
-        seats = master.seats;
-        turns = turns_of master.passes.items;
-        room = master.room.turn;
-        knows = knows_of master.passes.items;
+      seats = master.seats;
+      turns = turns_of master.passes.items;
+      room = master.room.turn;
+      knows = knows_of master.passes.items;
     } };
 
     ghost invariant = { λ master. IsMaster master.seats master.passes.items master.room };
@@ -52,7 +52,10 @@ impl Master {
         requires hub { IsMasterOf hub.now self.old }
         requires few { self.old.seats < 2 ^ 32 - 1 }
         ensures seat { IfOk result (λ seat. seat ≡ record {
-            client = self.old.seats + 1; turns = hub.now.turns; knows = map newcomer self.old.knows }) }
+          client = self.old.seats + 1;
+          turns = hub.now.turns;
+          knows = map newcomer self.old.knows;
+        }) }
         ensures made { IfOk result (λ _. self.new ≡
             record self.old { seats = self.old.seats + 1; knows = map one_more_made self.old.knows }) }
         ensures unchanged { OnErr result (self.new ≡ self.old) }

@@ -18,9 +18,9 @@ impl Model for Seat {
     ghost Value = { SeatState };
 
     ghost view = { λ seat. record {
-        client = seat.client;
-        turns = turns_of seat.passes.items;
-        knows = knows_of seat.passes.items;
+      client = seat.client;
+      turns = turns_of seat.passes.items;
+      knows = knows_of seat.passes.items;
     } };
 
     ghost invariant = { λ seat. (1 ≤ seat.client) × AllByRecursion (IsIdle seat.client) seat.passes.items };

@@ -10,13 +10,13 @@ returns-in-Ready-clause-performed g c =
     let answer = performs.Ready c.in-Ready.outcome in
     let now = c.loop.pass.knows in
     let made : MadeInTime now (PerformMeans now answer) c.step.new.pass.knows = subst (λ s. MadeInTime now (StepMeans now s) c.step.new.pass.knows) c.in-Ready.is c.in_ok-outcome.ensures.stepped in
-    after_looking (λ k. PerformMeans k answer) c.args.pass.now.knows now c.step.new.pass.knows c.loop.invariant.2 (performed_before c.args.pass.now.knows answer) made
+    after_looking (λ k. PerformMeans k answer) c.args.pass.now.knows now c.step.new.pass.knows c.loop.invariant.3 (performed_before c.args.pass.now.knows answer) made
 
 pub returns-in-Nothing-clause-performed : goal.returns-in-Nothing-clause-performed
 returns-in-Nothing-clause-performed g c =
     let now = c.loop.pass.knows in
     let made : MadeInTime now (PerformMeans now performs.Nothing) c.step.new.pass.knows = subst (λ s. MadeInTime now (StepMeans now s) c.step.new.pass.knows) c.in-Nothing.is c.in_ok-outcome.ensures.stepped in
-    after_looking (λ k. PerformMeans k performs.Nothing) c.args.pass.now.knows now c.step.new.pass.knows c.loop.invariant.2 (performed_before c.args.pass.now.knows performs.Nothing) made
+    after_looking (λ k. PerformMeans k performs.Nothing) c.args.pass.now.knows now c.step.new.pass.knows c.loop.invariant.3 (performed_before c.args.pass.now.knows performs.Nothing) made
 
 pub loop-preserved : goal.loop-preserved
 loop-preserved g c =
@@ -24,5 +24,6 @@ loop-preserved g c =
     let made = subst (λ s. MadeInTime now (StepMeans now s) c.step.new.pass.knows) c.in-NotYet.is c.in_ok-outcome.ensures.stepped in (
       (tt, tt),
       c.in_ok-outcome.ensures.same ∙ ap (λ (p : PassState). record p { knows = c.step.new.pass.knows }) c.loop.invariant.1,
-      looked_more c.args.pass.now.knows now c.step.new.pass.knows c.loop.invariant.2 (nothing_yet now c.in-NotYet._turned c.step.new.pass.knows made),
+      c.in_ok-outcome.ensures.number,
+      looked_more c.args.pass.now.knows now c.step.new.pass.knows c.loop.invariant.3 (nothing_yet now c.in-NotYet._turned c.step.new.pass.knows made),
     )

@@ -7,4 +7,5 @@ abbrev pub invariant-loop : goal.invariant-loop
 invariant-loop g l =
     ((goal.iterator-loop g).can_next l.iterator' × (goal.iterator-loop g).is_finite l.iterator')
     × (l.pass ≡ record l.fn.pass { knows = l.pass.knows })
+    × (l.pass.knows.number ≡ l.fn.client)
     × HasLooked l.fn.pass.knows l.pass.knows
