@@ -19,7 +19,7 @@ made_by_rest n x xs e = cases (eqb x.entry.maker n) e
     cases false e = e
 
 -- where each number has this, or no entry, each entry's maker has it
-each_maker : (P : ℕ → Type 0) (xs : List Recorded) → ((n : ℕ) → (made_by n xs ≡ []) ⊎ P n) → AllByRecursion (λ x. P x.entry.maker) xs
+pub each_maker : (P : ℕ → Type 0) (xs : List Recorded) → ((n : ℕ) → (made_by n xs ≡ []) ⊎ P n) → AllByRecursion (λ x. P x.entry.maker) xs
 each_maker P [] h = tt
 each_maker P (x ∷ xs) h = (
   ⊎_elim (λ (none : made_by x.entry.maker (x ∷ xs) ≡ []). absurd (not_empty x (made_by x.entry.maker xs) (subst (λ (b : Bool). cond b (x ∷ made_by x.entry.maker xs) (made_by x.entry.maker xs) ≡ []) (eq-eqb x.entry.maker x.entry.maker refl) none)))

@@ -7,3 +7,4 @@ pub mod Adds
 pub mod Looks
 pub mod Seats
 pub mod Boards
+pub mod Openings

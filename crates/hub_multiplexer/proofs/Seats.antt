@@ -1,8 +1,9 @@
 -- The passes of seats and of the master.
-use Rattle.std.proofs.Common.{◌≡◌, ◌≤◌, ◌+◌, ℕ, false, List, [], ◌∷◌, map, refl, sym, ap, subst, ◌∙◌, arith}
+use Rattle.std.proofs.Common.{◌≡◌, ◌≤◌, ◌+◌, ℕ, suc, false, List, [], ◌∷◌, length, map, refl, sym, ap, subst, ◌∙◌, arith}
 use Rattle.std.specs.List.{AllByRecursion}
+use Rattle.std.proofs.lemmas.List.{length-map}
 use Rattle.turn_pass.specs.Pass.{Knowledge, PassState, TurnId, newcomer, one_more_made, taking_in}
-use Rattle.hub_multiplexer.specs.Ends.{IsMaster}
+use Rattle.hub_multiplexer.specs.Ends.{HasAllJoined, IsLast, IsMaster, IsRoomPass}
 use Rattle.hub_multiplexer.specs.Seats.{IsFirst, IsIdle, after_join, after_split, knows_after_join, knows_of, split_off, turns_of}
 
 -- passes that were split off have the next number
@@ -19,7 +20,7 @@ none_split [] a = tt
 none_split (p ∷ ps) a = (a.0, none_split ps a.1)
 
 pub master_split : (seats : ℕ) (passes : List PassState) (room : PassState) → IsMaster seats passes room → IsMaster (seats + 1) (map after_split passes) room
-master_split seats passes room m = record { firsts = first_split (seats + 1) passes m.firsts; no_entries = none_split passes m.no_entries; room_first = m.room_first }
+master_split seats passes room m = record { firsts = first_split (seats + 1) passes m.firsts; no_entries = none_split passes m.no_entries; room_fits = subst (λ n. IsRoomPass n room) (sym (length-map passes after_split)) m.room_fits }
 
 pub turns_split_off : (passes : List PassState) → turns_of (map split_off passes) ≡ turns_of passes
 turns_split_off [] = refl
@@ -48,8 +49,13 @@ none_joined [] others a = tt
 none_joined (p ∷ ps) [] a = a
 none_joined (p ∷ ps) (q ∷ qs) a = (a.0, none_joined ps qs a.1)
 
+length_joined : (passes others : List PassState) → length (after_join passes others) ≡ length passes
+length_joined [] others = refl
+length_joined (p ∷ ps) [] = refl
+length_joined (p ∷ ps) (q ∷ qs) = ap suc (length_joined ps qs)
+
 pub master_joined : (seats : ℕ) (passes others : List PassState) (room : PassState) → IsMaster seats passes room → IsMaster seats (after_join passes others) room
-master_joined seats passes others room m = record { firsts = first_joined (seats + 1) passes others m.firsts; no_entries = none_joined passes others m.no_entries; room_first = m.room_first }
+master_joined seats passes others room m = record { firsts = first_joined (seats + 1) passes others m.firsts; no_entries = none_joined passes others m.no_entries; room_fits = subst (λ n. IsRoomPass n room) (sym (length_joined passes others)) m.room_fits }
 
 pub turns_after_join : (passes others : List PassState) → turns_of (after_join passes others) ≡ turns_of passes
 turns_after_join [] others = refl
@@ -60,3 +66,8 @@ pub knows_joined : (passes others : List PassState) → knows_of (after_join pas
 knows_joined [] others = refl
 knows_joined (p ∷ ps) [] = refl
 knows_joined (p ∷ ps) (q ∷ qs) = ap (λ l. taking_in p.knows q.knows ∷ l) (knows_joined ps qs)
+
+-- at the end
+pub last_of : (made : ℕ) (passes : List PassState) → AllByRecursion (IsFirst made) passes → AllByRecursion (λ (p : PassState). p.knows.mine ≡ []) passes → AllByRecursion HasAllJoined (knows_of passes) → AllByRecursion IsLast passes
+last_of made [] a b c = tt
+last_of made (p ∷ ps) a b c = (record { idle = a.0.idle; no_entry = b.0; all_joined = c.0 }, last_of made ps a.1 b.1 c.1)

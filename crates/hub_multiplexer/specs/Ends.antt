@@ -1,5 +1,5 @@
 -- What stands in the records that are handed back at the end. Profile.
-use Rattle.std.specs.Prelude.{◌≡◌, ℕ, ◌+◌, ◌≤◌, ◌<◌, List, [], map}
+use Rattle.std.specs.Prelude.{◌≡◌, ℕ, ◌+◌, ◌≤◌, ◌<◌, List, [], ◌∷◌, length, map}
 use Rattle.std.specs.List.{AllByRecursion, AllZip, Contains}
 use Rattle.turn_pass.specs.Record.{Record, Recorded, past}
 use Rattle.turn_pass.specs.Pass.{Joined, Knowledge, PassState, Told}
@@ -29,9 +29,16 @@ pub record IsLast (pass : PassState) : Type 0 where
   pub no_entry : pass.knows.mine ≡ []
   pub all_joined : HasAllJoined pass.knows
 
+-- the first pass of a turn of the room for so many lanes, beside which no pass was made
+pub record IsRoomPass (count : ℕ) (pass : PassState) : Type 0 where
+  pub first : IsFirst 1 pass
+  pub capacity : ℕ
+  pub enough : count ≤ capacity
+  pub opening_is : pass.knows.opening.head ≡ capacity ∷ []
+
 -- How the code keeps a master: first passes that hold nothing and made no entry, after so many seats were made, and the
--- pass of the room, beside which no other was made.
+-- pass of the room.
 pub record IsMaster (seats : ℕ) (passes : List PassState) (room : PassState) : Type 0 where
   pub firsts : AllByRecursion (IsFirst (seats + 1)) passes
   pub no_entries : AllByRecursion (λ pass. pass.knows.mine ≡ []) passes
-  pub room_first : IsFirst 1 room
+  pub room_fits : IsRoomPass (length passes) room

@@ -3,3 +3,4 @@ pub mod Ends
 pub mod OwnItems
 pub mod Lanes
 pub mod Calls
+pub mod Openings

@@ -1,15 +1,21 @@
 //! The hub: a turn for each board's lane.
 
-ghost use Rattle.std.specs.Prelude.{◌≡◌, ◌<◌, length, IfOk, IfErr, OnErr};
+ghost use Rattle.std.specs.Prelude.{◌≡◌, ◌<◌, length, map, IfOk, IfErr, OnErr};
+ghost use Rattle.std.specs.List.{AllByRecursion};
+ghost use Rattle.turn_pass.specs.Pass.{first_knowledge};
 ghost use Rattle.hub_multiplexer.specs.Calls.{AskMeans, AskTried, IsNone, Made, MadeInTime, PerformMeans, StepTried};
-ghost use Rattle.hub_multiplexer.specs.Seats.{ChangesAt, IsSeatOf};
+ghost use Rattle.hub_multiplexer.specs.Ends.{AreEnded, HasAllJoined};
+ghost use Rattle.hub_multiplexer.specs.Seats.{ChangesAt, IsMasterOf, IsSeatOf};
 
 use crate::answers::{AskTry, Performed, StepTry};
 use crate::calls;
 use crate::lane::{Asked, BoardLane};
-use crate::room::Room;
+use crate::master::Master;
+use crate::room::{Room, room_for};
 use crate::seat::Seat;
+use crate::turns::{close_all, open_all};
 use ipb_base::NoMemory;
+use std::alloc::Global;
 use std::marker::Model;
 use std::sync::Wait;
 use turn_pass::Turn;
@@ -28,6 +34,51 @@ impl<B: BoardLane> Model for Hub<B> {
     ghost Value = { HubState };
 
     ghost view = { λ hub. record { turns = hub.turns.items; room = hub.room } };
+}
+
+/// There was no memory for a hub. The lanes come back, in order.
+#[derive(Drop)]
+pub struct Returned<B> {
+    pub lanes: Vec<B>,
+}
+
+impl<B: BoardLane + Send + Drop> Hub<B> {
+    /// A hub of these lanes, and its master, who has seen their records. Where memory runs out there are as many lanes
+    /// as before, with the same records in the same order.
+    pub fn new(alloc: Global, mut lanes: Vec<B>) -> Result<(Hub<B>, Master), Returned<B>>
+        ensures hub { IfOk result (λ made. IsMasterOf made.0 made.1) }
+        ensures no_seats { IfOk result (λ made. made.1.seats ≡ 0) }
+        ensures master { IfOk result (λ made. made.1.knows ≡ map first_knowledge (map B.entries lanes.items)) }
+        ensures returned { IfErr result (λ returned. map B.entries returned.lanes.items ≡ map B.entries lanes.items) }
+    {
+        let Ok((room, room_pass)) = room_for(alloc, lanes.len()) else {
+            return Err(Returned { lanes });
+        };
+        let Ok((turns, passes)) = open_all(alloc, &mut lanes) else {
+            return Err(Returned { lanes });
+        };
+        let hub = Hub { turns, room };
+        Ok((hub, Master::of(passes, room_pass)))
+    }
+
+    /// Takes the lanes for good, in order, once every seat was joined. It waits for those who hold one. The record of
+    /// each lane begins with that at `new` and with all that the joined seats had seen, and past that at `new` it has
+    /// only entries of joined seats.
+    pub fn finish<R: Wait>(self, rt: &R, master: Master) -> Vec<B>
+        requires hub { IsMasterOf self master }
+        requires joined { AllByRecursion HasAllJoined master.knows }
+        ensures { AreEnded master.knows (map B.entries result.items) }
+    {
+        let Hub { turns, room } = self;
+        let Master {
+            passes,
+            room: room_pass,
+            ..
+        } = master;
+        let mut lanes = room.close(rt, room_pass).into_vec();
+        close_all(rt, turns, passes, &mut lanes);
+        lanes
+    }
 }
 
 impl<B: BoardLane + Send> Hub<B> {

@@ -2,7 +2,8 @@
 
 ghost use Rattle.std.specs.Prelude.{◌≡◌, ◌<◌, ◌+◌, ◌-◌, ◌^◌, map, IfOk, OnErr};
 ghost use Rattle.turn_pass.specs.Pass.{newcomer, one_more_made};
-ghost use Rattle.hub_multiplexer.specs.Seats.{IsMasterOf, IsSeatOf, knows_after_join};
+ghost use Rattle.hub_multiplexer.specs.Ends.{IsMaster};
+ghost use Rattle.hub_multiplexer.specs.Seats.{IsMasterOf, IsSeatOf, knows_after_join, knows_of, turns_of};
 
 use crate::hub::Hub;
 use crate::lane::BoardLane;
@@ -41,6 +42,19 @@ impl Model for Master {
 }
 
 impl Master {
+    /// The master of turns that were just made, and of the room.
+    pub(crate) fn of(passes: Vec<Pass>, room: Pass) -> Master
+        requires { IsMaster 0 passes.items room }
+        ensures { result ≡ record {
+            seats = 0; turns = turns_of passes.items; room = room.turn; knows = knows_of passes.items } }
+    {
+        Master {
+            seats: 0,
+            passes,
+            room,
+        }
+    }
+
     /// One seat more. Its client is its number among the seats, from 1, and the number of its pass on each board. It has
     /// seen what the master has. Want of memory changes nothing.
     #[tactic(auto, using(crate::proofs::Seats::idle_split, crate::proofs::Seats::master_split, crate::proofs::Seats::turns_split_off, crate::proofs::Seats::turns_after_split, crate::proofs::Seats::knows_split_off, crate::proofs::Seats::knows_after_split))]
