@@ -1,0 +1,12 @@
+mod Standing
+mod Sends
+mod Windows
+mod Linked
+mod Heard
+mod Greetings
+mod Truth
+mod Tables
+mod Ready
+mod ClientRows
+mod Books
+mod Lanes

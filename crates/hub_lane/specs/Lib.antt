@@ -1,0 +1,10 @@
+pub mod Sends
+pub mod Hearing
+pub mod Standing
+pub mod Lanes
+pub mod Plans
+pub mod Calls
+pub mod Books
+pub mod Truth
+pub mod Greeting
+pub mod Records

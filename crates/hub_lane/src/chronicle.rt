@@ -1,0 +1,42 @@
+//! A lane as a value with a record, and what it is worth.
+
+ghost use Rattle.std.specs.Prelude.{◌≡◌, length, IfSome};
+ghost use Rattle.world_model.specs.Facts.{bodies_of};
+ghost use Rattle.lane_record.specs.Claims.{IsFinished};
+ghost use Rattle.hub_lane.specs.Truth.{IsTrueTo, IsWhole};
+
+use crate::lane::Lane;
+use crate::laws::{a_finished_lane_is_whole, a_lane_over_a_link_that_tells_is_true};
+use turn_pass::Chronicle;
+use world_core::Link;
+
+impl<L: Link> Chronicle for Lane<L> {
+    ghost use Rattle.hub_lane.specs.Records.{record_shown};
+
+    ghost entries = { λ lane. record_shown lane.settings lane.status (L.telling lane.link) lane.items };
+
+    fn count(&self) -> u64 {
+        self.entries().len() as u64
+    }
+}
+
+impl<L: Link> Lane<L> {
+    /// What a lane over a link that tells is worth at any time. It does nothing when it runs.
+    pub fn is_true(&self)
+        ensures { IfSome (L.telling self.now.link)
+            (λ t. IsTrueTo t (bodies_of self.now.hub.sent) self.now.outcomes) }
+    {
+        a_lane_over_a_link_that_tells_is_true();
+        self.is_sound();
+    }
+
+    /// What any lane is worth once each asked body was taken. It does nothing when it runs.
+    pub fn is_whole(&self)
+        requires { IsFinished self.now.items }
+        ensures { IsWhole self.now.items self.now.hub.sent self.now.hub.window self.now.hub.rounds self.now.give_ups
+            (L.faults self.now.link) (L.quiets self.now.link) (L.telling self.now.link) }
+    {
+        a_finished_lane_is_whole();
+        self.is_sound();
+    }
+}
