@@ -10,3 +10,4 @@ mod Ready
 mod ClientRows
 mod Books
 mod Lanes
+mod Untaken
