@@ -1,8 +1,8 @@
 -- What a lane over a link that tells is worth.
-use Rattle.std.proofs.Common.{◌≡◌, ℕ, ◌+◌, ◌*◌, ◌≤◌, Bool, true, false, List, [], ◌∷◌, ◌++◌, length, map, Option, Some}
-use Rattle.std.proofs.Common.{None, refl, sym, ap, ◌∙◌, subst, arith, inl, inr, ◌⊎◌, append_assoc, ◌||◌, cond}
+use Rattle.std.proofs.Common.{◌≡◌, ℕ, ◌+◌, ◌*◌, ◌≤◌, Bool, true, false, List, [], ◌∷◌, ◌++◌, Option, Some}
+use Rattle.std.proofs.Common.{None, refl, sym, ap, ◌∙◌, subst, arith, inl, inr, ◌||◌}
 use Rattle.std.specs.Prelude.{IfSome}
-use Rattle.std.specs.List.{AllByRecursion, slice_get}
+use Rattle.std.specs.List.{slice_get}
 use Rattle.std.proofs.lemmas.List.{append-nil, map-append}
 use Rattle.ipb_base.specs.Lists.{IsPrefix}
 use Rattle.world_model.specs.declared.datagram.Datagram.{Datagram}
@@ -35,8 +35,8 @@ use Rattle.lane_record.specs.FirstSends.{bodies_sent, first_sends, places_of}
 use Rattle.lane_record.specs.Offers.{Agrees}
 use Rattle.lane_record.specs.Bounds.{AreLostOnlyIf, HasReached}
 use Rattle.hub_lane.specs.Lanes.{BoardStatus, IsLane}
-use Rattle.hub_lane.specs.Standing.{IsHandedFate, IsRunning, IsStanding, IsStopped, WasHanded}
-use Rattle.hub_lane.specs.Truth.{AreRightReplies, IsTrueTo, IsWhole}
+use Rattle.hub_lane.specs.Standing.{IsHandedFate, IsRunning, IsStanding}
+use Rattle.hub_lane.specs.Truth.{IsTrueTo, IsWhole}
 use Rattle.hub_lane.proofs.Standing.{if_told}
 
 -- ---- the laws of world_core

@@ -1,10 +1,10 @@
 -- What a lane over a link that tells is worth, and what any lane is worth once each asked body was taken. Profile.
-use Rattle.std.specs.Prelude.{◌≡◌, ℕ, ◌+◌, ◌*◌, ◌≤◌, List, length, Option, Some, IfSome}
+use Rattle.std.specs.Prelude.{◌≡◌, ℕ, ◌+◌, ◌*◌, ◌≤◌, List, Option, Some, IfSome}
 use Rattle.std.specs.List.{slice_get}
 use Rattle.ipb_base.specs.Lists.{IsPrefix}
 use Rattle.world_model.specs.declared.offered.Offered.{Offered}
 use Rattle.world_model.specs.Places.{at_place}
-use Rattle.world_model.specs.Board.{Board, executed, replies}
+use Rattle.world_model.specs.Board.{executed, replies}
 use Rattle.world_model.specs.Facts.{bodies_of}
 use Rattle.world_core.specs.Telling.{Telling}
 use Rattle.lane_record.specs.declared.outcome.Outcome.{Outcome}
