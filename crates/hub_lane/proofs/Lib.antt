@@ -11,3 +11,4 @@ mod ClientRows
 mod Books
 mod Lanes
 mod Untaken
+mod Steps

@@ -41,6 +41,7 @@ use world_model::laws::sends::only_an_offer_makes_more_bodies;
 
 /// The hub's side of one board: its engine, its link, and the record of what clients planned, asked and took (profile).
 /// Contracts see it as `LaneState`; what holds of it at the exit of every call is `IsLane`, which `is_sound` tells.
+#[derive(Drop)]
 pub struct Lane<L: Link> {
     alloc: Global,
     link: L,

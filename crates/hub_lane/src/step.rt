@@ -1,7 +1,7 @@
 //! One step of a client.
 
 ghost use Rattle.std.specs.Prelude.{◌≡◌, ◌≤◌, IfOk, IfSome, IfNone, OnErr};
-ghost use Rattle.hub_lane.specs.Calls.{IsSameRecord};
+ghost use Rattle.hub_lane.specs.Calls.{IsSameRecord, WasAsked};
 ghost use Rattle.hub_lane.specs.Step.{HasTakenAll, IsOldest, RoseInVain, StepsAs};
 
 use crate::answers::Taken;
@@ -45,10 +45,12 @@ impl<L: Link> Lane<L> {
         let Some(seq) = self.oldest(client) else {
             return Ok(Stepped::Nothing);
         };
-        if let Taken::Ready(outcome) = self.take(client, seq)? {
-            return Ok(Stepped::Ready(outcome));
+        match self.take(client, seq)? {
+            Taken::Ready(outcome) => return Ok(Stepped::Ready(outcome)),
+            Taken::NotYet => {}
         }
         self.pump()?;
+        self.is_sound();
         match self.take(client, seq)? {
             Taken::Ready(outcome) => Ok(Stepped::Ready(outcome)),
             Taken::NotYet => Ok(Stepped::NotYet(Turned { received: () })),
@@ -58,6 +60,7 @@ impl<L: Link> Lane<L> {
     /// The client's oldest body that was asked and not taken.
     fn oldest(&self, client: u32) -> Option<u64>
         ensures some { IfSome result (λ seq. IsOldest self.now.items client seq) }
+        ensures asked { IfSome result (λ seq. WasAsked self.now.items client seq) }
         ensures none { IfNone result (HasTakenAll self.now.items client) }
     {
         oldest_of(self.book.items(), client, self.book.asked(client))

@@ -1,4 +1,4 @@
-use Rattle.std.proofs.Common.{◌-◌, ◌≡◌, ◌<◌, ◌≤◌, ℕ}
+use Rattle.std.proofs.Common.{◌-◌, ◌<◌, ◌≤◌, ℕ}
 use Rattle.hub_lane.specs.Step.{IsTakenIn}
 use Rattle.hub_lane.proofs.oldest.oldest_of.Given as goal
 
