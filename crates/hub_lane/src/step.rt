@@ -2,6 +2,7 @@
 
 ghost use Rattle.std.specs.Prelude.{◌≡◌, ◌≤◌, IfOk, IfSome, IfNone, OnErr};
 ghost use Rattle.hub_lane.specs.Calls.{IsSameRecord, WasAsked};
+ghost use Rattle.hub_lane.specs.Lanes.{opening_of};
 ghost use Rattle.hub_lane.specs.Step.{HasTakenAll, IsOldest, RoseInVain, StepsAs};
 
 use crate::answers::Taken;
@@ -41,6 +42,7 @@ impl<L: Link> Lane<L> {
         ensures quiets { L.quiets self.old.link ≤ L.quiets self.new.link }
         ensures gots { L.gots self.old.link ≤ L.gots self.new.link }
         ensures held { L.held self.old.link ≤ L.held self.new.link }
+        ensures opening { opening_of (L.telling self.new.link) ≡ opening_of (L.telling self.old.link) }
     {
         let Some(seq) = self.oldest(client) else {
             return Ok(Stepped::Nothing);

@@ -1,5 +1,5 @@
 -- What a pass knows after it took a lane and gave it back.
-use Rattle.std.proofs.Common.{◌≡◌, ◌≤◌, ℕ, true, false, List, [], ◌∷◌, ◌++◌, map, length, drop, Result, Ok, Err, OnErr, refl, sym, ap, subst, ◌∙◌}
+use Rattle.std.proofs.Common.{◌≡◌, ◌≤◌, ℕ, true, false, List, [], ◌∷◌, ◌++◌, map, length, drop, Result, Ok, Err, IfOk, OnErr, refl, sym, ap, subst, ◌∙◌}
 use Rattle.std.specs.List.{AllByRecursion}
 use Rattle.std.proofs.lemmas.List.{map-append}
 use Rattle.std.proofs.Math.Seq.{drop-append_seam}
@@ -61,3 +61,16 @@ in_time client old mid final before after P m number told waited took gave =
 pub on_err_holds : {T E P : Type 0} (r : Result T E) → P → OnErr r P
 on_err_holds (Ok x) p = tt
 on_err_holds (Err e) p = p
+
+-- a call on a lane that was taken, however it went, lets the lane be given back
+grew_either : {A E : Type 0} (client : ℕ) (before after : Record) (P : A → Knowledge → FoundLane → List Item → Type 0) (Q : Knowledge → FoundLane → List Item → Type 0) (r : Result A E)
+    → IfOk r (λ a. Means client before (P a) after) → OnErr r (Means client before Q after) → GrowsBy client before after
+grew_either client before after P Q (Ok a) ok err = may_give client before ok.added after ok.grew
+grew_either client before after P Q (Err e) ok err = may_give client before err.added after err.grew
+
+pub may_give_back : {A E : Type 0} (client : ℕ) (old mid : PassState) (before after : Record) (vain : ℕ) (P : A → Knowledge → FoundLane → List Item → Type 0) (Q : Knowledge → FoundLane → List Item → Type 0) (r : Result A E)
+    → mid ≡ record old { holds = true; knows = record (having_seen old.knows before) { vain = vain } } → old.knows.number ≡ client → IfOk r (λ a. Means client before (P a) after) → OnErr r (Means client before Q after)
+    → GrowsBy mid.knows.number mid.knows.seen after
+may_give_back client old mid before after vain P Q r took number ok err =
+    subst (λ (p : PassState). GrowsBy p.knows.number p.knows.seen after) (sym took)
+    (subst (λ (n : ℕ). GrowsBy n before after) (sym number) (grew_either client before after P Q r ok err))

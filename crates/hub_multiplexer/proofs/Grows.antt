@@ -10,12 +10,18 @@ use Rattle.lane_record.specs.Items.{asked, planned}
 use Rattle.lane_record.specs.Legal.{IsLegal}
 use Rattle.lane_record.specs.NextEntry.{ask_of, took_of}
 use Rattle.hub_multiplexer.specs.Calls.{AskMeans, FoundLane, IsNone, StepMeans}
-use Rattle.hub_multiplexer.specs.Lanes.{AsksOn, Grew, Means, StepsOn}
-use Rattle.hub_multiplexer.specs.OwnItems.{HasTakenAll, HasTakenAllOf, IsOldest, IsOldestOf, asked_by, of_client, own_items, planned_by}
-use Rattle.hub_multiplexer.specs.declared.lane.Asked.{Asked}
-use Rattle.hub_multiplexer.specs.declared.lane.Asked.TheVariants as asks
-use Rattle.hub_multiplexer.specs.declared.lane.Stepped.{Stepped}
-use Rattle.hub_multiplexer.specs.declared.lane.Stepped.TheVariants as steps
+use Rattle.hub_multiplexer.specs.Lanes.{AsksOn, Grew, Means, StepsOn, shown}
+use Rattle.hub_lane.specs.Step.{HasTakenAll, IsOldest}
+use Rattle.hub_multiplexer.specs.OwnItems.{HasTakenAllOf, IsOldestOf, asked_by, of_client, own_items, planned_by}
+use Rattle.hub_lane.specs.declared.answers.Asked.{Asked}
+use Rattle.hub_lane.specs.declared.answers.Asked.TheVariants as asks
+use Rattle.hub_lane.specs.declared.step.Stepped.{Stepped}
+use Rattle.hub_lane.specs.declared.step.Stepped.TheVariants as steps
+use Rattle.world_core.specs.Telling.{Telling}
+use Rattle.hub_lane.specs.Calls.{AsksAs, IsSameRecord}
+use Rattle.hub_lane.specs.Lanes.{LaneState, opening_of}
+use Rattle.hub_lane.specs.Step.{StepsAs}
+use Rattle.hub_multiplexer.proofs.LaneCalls.{IsPlanLaw, ask_head, asks_on, head, same_head, steps_on, steps_same}
 use Rattle.hub_multiplexer.proofs.OwnItems.{asked_own, oldest_own, planned_own, taken_own}
 
 -- a lane's record before and after a call, as the lane shows it
@@ -92,15 +98,35 @@ module _ (client : ℕ) (before after : Record) (s : Shown before after) where
   }
   steps_of steps.Nothing (all, is) = record { added = []; grew = same is; to_finder = λ k told number. (taken_all_is k told number all, refl) }
 
-abbrev pub shown_of : (before after : Record) (head head' : Head) (items items' : List Item) (outcomes : List (Option Outcome)) → before ≡ record_of head items
-    → ((k : Knowledge) → Told k before → own_items k ≡ of_client k.number items) → after ≡ record_of head' items' → IsLegal items' outcomes → head' ≡ head → Shown before after
-shown_of before after head head' items items' outcomes was own now legal same_head = record {
-  head = head;
-  items = items;
-  items' = items';
-  outcomes = outcomes;
-  was = was;
-  now = now ∙ ap (λ h. record_of h items') same_head;
-  legal = legal;
-  own = own;
-}
+module _ {L : Type 0} (telling : L → Option Telling) where
+  abbrev pub shown_of : (old new : LaneState L) → ((k : Knowledge) → Told k (shown telling old) → own_items k ≡ of_client k.number old.items) → IsLegal new.items new.outcomes → head telling new ≡ head telling old → Shown (shown telling old) (shown telling new)
+  shown_of old new own legal same_head = record {
+    head = head telling old;
+    items = old.items;
+    items' = new.items;
+    outcomes = new.outcomes;
+    was = refl;
+    now = ap (λ h. record_of h new.items) same_head;
+    legal = legal;
+    own = own;
+  }
+
+  pub ask_means : IsPlanLaw → (old new : LaneState L) (client : ℕ) (answer : Asked) → ((k : Knowledge) → Told k (shown telling old) → own_items k ≡ of_client k.number old.items) → IsLegal old.items old.outcomes → IsLegal new.items new.outcomes → AsksAs old client new answer
+      → Means client (shown telling old) (λ k. AskMeans k answer) (shown telling new)
+  ask_means law old new client answer own was legal a = asks_of client (shown telling old) (shown telling new) (shown_of old new own legal (ask_head telling old new client answer a)) answer (asks_on telling law old new client answer was a)
+
+  pub step_means : (old new : LaneState L) (client : ℕ) (answer : Stepped) → ((k : Knowledge) → Told k (shown telling old) → own_items k ≡ of_client k.number old.items) → IsLegal new.items new.outcomes → opening_of (telling new.link) ≡ opening_of (telling old.link) → StepsAs old client new answer
+      → Means client (shown telling old) (λ k. StepMeans k answer) (shown telling new)
+  step_means old new client answer own legal opening s = let same = steps_same old new client answer s in
+      steps_of client (shown telling old) (shown telling new) (shown_of old new own legal (same_head telling old new same.0 same.1 opening)) answer (steps_on old new client answer s)
+
+  -- no entry was added
+  pub look_means : (old new : LaneState L) (client : ℕ) → ((k : Knowledge) → Told k (shown telling old) → own_items k ≡ of_client k.number old.items) → IsLegal new.items new.outcomes → opening_of (telling new.link) ≡ opening_of (telling old.link) → IsSameRecord old new
+      → Means client (shown telling old) (λ _. IsNone) (shown telling new)
+  look_means old new client own legal opening s =
+      looked client (shown telling old) (shown telling new) (shown_of old new own legal (same_head telling old new s.settings s.status opening)) s.items
+
+  pub same_means : (old new : LaneState L) (client : ℕ) → ((k : Knowledge) → Told k (shown telling old) → own_items k ≡ of_client k.number old.items) → IsLegal new.items new.outcomes → new ≡ old
+      → Means client (shown telling old) (λ _. IsNone) (shown telling new)
+  same_means old new client own legal e =
+      looked client (shown telling old) (shown telling new) (shown_of old new own legal (ap (head telling) e)) (ap (λ (l : LaneState L). l.items) e)

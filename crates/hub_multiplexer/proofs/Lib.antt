@@ -8,3 +8,4 @@ pub mod Looks
 pub mod Seats
 pub mod Boards
 pub mod Openings
+pub mod LaneCalls

@@ -10,8 +10,8 @@ use Rattle.hub_multiplexer.specs.Calls.{Adds, FoundLane, HasTaken, IsNone, MadeI
 use Rattle.hub_multiplexer.specs.OwnItems.{HasTakenAllOf, IsOldestOf}
 use Rattle.hub_multiplexer.specs.declared.answers.Performed.{Performed}
 use Rattle.hub_multiplexer.specs.declared.answers.Performed.TheVariants as performs
-use Rattle.hub_multiplexer.specs.declared.lane.Turned.{Turned}
-use Rattle.hub_multiplexer.specs.declared.lane.Stepped.TheVariants as steps
+use Rattle.hub_lane.specs.declared.step.Turned.{Turned}
+use Rattle.hub_lane.specs.declared.step.Stepped.TheVariants as steps
 
 -- the pass did nothing, or it only looked
 abbrev pub HasLooked : Knowledge → Knowledge → Type 0

@@ -1,7 +1,7 @@
 -- Turns that are made from the last value on, and values taken back.
 use Rattle.std.proofs.Common.{◌≡◌, ◌≢◌, ◌⊎◌, ⊎_elim, ◌≤◌, ◌+◌, ℕ, zero, suc, inl, inr, false, List, [], ◌∷◌, ◌++◌, map, reverse, length, drop, refl, sym, ap, subst, ◌∙◌, arith, append-nil, append_assoc}
 use Rattle.std.specs.List.{AllByRecursion}
-use Rattle.std.proofs.lemmas.List.{map-append, reverse-append}
+use Rattle.std.proofs.lemmas.List.{length-map, map-append, reverse-append}
 use Rattle.std.proofs.Math.Seq.{drop-append_seam}
 use mathlib.Core.Logic.{dite}
 use native.Mathlib.Decide.{ℕ_discrete}
@@ -9,7 +9,8 @@ use Rattle.ipb_base.proofs.AllLemmas.{AllByRecursion-append, back_of_all, front_
 use Rattle.turn_pass.specs.Record.{Record, Recorded, made_by, past}
 use Rattle.turn_pass.specs.Pass.{Knowledge, PassState, Told, TurnId, first_knowledge}
 use Rattle.hub_multiplexer.specs.Openings.{AreFresh, AreOpened, IsFresh, IsOpening, openings_of}
-use Rattle.hub_multiplexer.specs.Seats.{knows_of, turns_of}
+use Rattle.hub_multiplexer.specs.Seats.{IsFirst, knows_of, turns_of}
+use Rattle.hub_multiplexer.specs.Ends.{IsMaster, IsRoomPass}
 use Rattle.hub_multiplexer.proofs.Ends.{each_maker}
 
 map_reverse : {A B : Type 0} (f : A → B) (xs : List A) → map f (reverse xs) ≡ reverse (map f xs)
@@ -92,3 +93,22 @@ knows_opened records turns passes o = all_know passes o.are_fresh.fresh ∙ ap (
     all_know : (ps : List PassState) → AllByRecursion IsFresh ps → knows_of ps ≡ map first_knowledge (openings_of ps)
     all_know [] a = refl
     all_know (p ∷ ps) a = (λ i. a.0.knows_opening i ∷ all_know ps a.1 i)
+
+-- the master of turns that were just made
+pub master_opened : (records : List Record) (turns : List TurnId) (passes : List PassState) (room : PassState) (count : ℕ) → AreOpened records turns passes → IsRoomPass count room → count ≡ length records → IsMaster 0 passes room
+master_opened records turns passes room count o fits long = record {
+  firsts = all_first passes o.are_fresh.fresh;
+  no_entries = all_none passes o.are_fresh.fresh;
+  room_fits = subst (λ n. IsRoomPass n room) (long ∙ (ap length (sym o.openings) ∙ length-map passes (λ (p : PassState). p.knows.opening))) fits;
+}
+  where
+    all_first : (ps : List PassState) → AllByRecursion IsFresh ps → AllByRecursion (IsFirst 1) ps
+    all_first [] a = tt
+    all_first (p ∷ ps) a = (record {
+      idle = record { holds_nothing = a.0.holds_nothing; has_number = ap (λ (k : Knowledge). k.number) a.0.knows_opening };
+      has_made = ap (λ (k : Knowledge). k.made) a.0.knows_opening;
+    }, all_first ps a.1)
+
+    all_none : (ps : List PassState) → AllByRecursion IsFresh ps → AllByRecursion (λ (p : PassState). p.knows.mine ≡ []) ps
+    all_none [] a = tt
+    all_none (p ∷ ps) a = (ap (λ (k : Knowledge). k.mine) a.0.knows_opening, all_none ps a.1)

@@ -1,11 +1,15 @@
 -- What the calls of a hub do to what a pass knows. Profile.
-use Rattle.std.specs.Prelude.{◌≡◌, ◌⊎◌, ℕ, ◌<◌, ◌≤◌, List, [], ◌∷◌, ◌++◌, map, Option, Result, Ok, Err}
+use Rattle.std.specs.Prelude.{◌≡◌, ◌⊎◌, ℕ, ◌<◌, ◌≤◌, List, [], ◌∷◌, ◌++◌, map, Option}
 use Rattle.turn_pass.specs.Pass.{Knowledge, Told, in_vain}
 use Rattle.lane_record.specs.declared.outcome.Outcome.{Outcome}
 use Rattle.lane_record.specs.declared.item.Item.{Item}
 use Rattle.lane_record.specs.Coding.{Head, record_of, recorded}
 use Rattle.lane_record.specs.Legal.{IsLegal}
-use Rattle.lane_record.specs.NextEntry.{ask_of, took_of}
+use Rattle.lane_record.specs.NextEntry.{ask_of, plan_of, took_of}
+use Rattle.ipb_base.specs.Numbers.{payload_of}
+use Rattle.hub_lane.specs.Plans.{CanPlan, IsRefused}
+use Rattle.hub_lane.specs.declared.answers.PlanRefusal.{PlanRefusal}
+use Rattle.hub_lane.specs.declared.answers.PlanRefusal.TheVariants as refusals
 use Rattle.hub_multiplexer.specs.OwnItems.{HasTakenAllOf, IsOldestOf, asked_by, planned_by}
 use Rattle.hub_multiplexer.specs.declared.answers.AskTry.{AskTry}
 use Rattle.hub_multiplexer.specs.declared.answers.AskTry.TheVariants as ask_tries
@@ -13,10 +17,10 @@ use Rattle.hub_multiplexer.specs.declared.answers.StepTry.{StepTry}
 use Rattle.hub_multiplexer.specs.declared.answers.StepTry.TheVariants as step_tries
 use Rattle.hub_multiplexer.specs.declared.answers.Performed.{Performed}
 use Rattle.hub_multiplexer.specs.declared.answers.Performed.TheVariants as performs
-use Rattle.hub_multiplexer.specs.declared.lane.Asked.{Asked}
-use Rattle.hub_multiplexer.specs.declared.lane.Asked.TheVariants as asks
-use Rattle.hub_multiplexer.specs.declared.lane.Stepped.{Stepped}
-use Rattle.hub_multiplexer.specs.declared.lane.Stepped.TheVariants as steps
+use Rattle.hub_lane.specs.declared.answers.Asked.{Asked}
+use Rattle.hub_lane.specs.declared.answers.Asked.TheVariants as asks
+use Rattle.hub_lane.specs.declared.step.Stepped.{Stepped}
+use Rattle.hub_lane.specs.declared.step.Stepped.TheVariants as steps
 
 -- A lane as a pass found it: its record, and what became of each Ask so far.
 pub record FoundLane : Type 0 where
@@ -105,3 +109,27 @@ StepTried k step_tries.Nothing after = Made k (StepMeans k steps.Nothing) after
 abbrev pub PerformMeans : Knowledge → Performed → FoundLane → List Item → Type 0
 PerformMeans k (performs.Ready outcome) lane added = HasTaken k outcome added
 PerformMeans k performs.Nothing lane added = HasTakenAllOf k × (added ≡ [])
+
+-- ---- submit
+
+-- the client's next body was planned, as it may be, and asked
+pub record HasSubmitted (k : Knowledge) (body : List ℕ) (seq : ℕ) (lane : FoundLane) (added : List Item)
+    : Type 0 where
+  pub next : seq ≡ planned_by k
+  pub can : CanPlan lane.items (payload_of lane.head.mtu) body
+  pub give_ups : ℕ
+  pub entries : added ≡ plan_of k.number seq body ∷ ask_of k.number seq give_ups ∷ []
+
+-- What a refusal means: the first rule that the body breaks on the record that the pass found, and nothing was added.
+-- After want of memory the body may stand planned and not asked.
+abbrev pub SubmitRefused : Knowledge → List ℕ → PlanRefusal → FoundLane → List Item → Type 0
+SubmitRefused k body refusals.Sealed lane added =
+    (added ≡ []) × IsRefused lane.items (payload_of lane.head.mtu) body refusals.Sealed
+SubmitRefused k body refusals.TooLong lane added =
+    (added ≡ []) × IsRefused lane.items (payload_of lane.head.mtu) body refusals.TooLong
+SubmitRefused k body refusals.ReplyTooLong lane added =
+    (added ≡ []) × IsRefused lane.items (payload_of lane.head.mtu) body refusals.ReplyTooLong
+SubmitRefused k body refusals.Overfull lane added =
+    (added ≡ []) × IsRefused lane.items (payload_of lane.head.mtu) body refusals.Overfull
+SubmitRefused k body refusals.NoMemory lane added =
+    (added ≡ []) ⊎ (added ≡ plan_of k.number (planned_by k) body ∷ [])

@@ -1,5 +1,5 @@
 -- What the calls of a lane do to its record, and what that means to a pass of the client. Profile.
-use Rattle.std.specs.Prelude.{◌≡◌, ℕ, ◌<◌, List, [], ◌∷◌, ◌++◌}
+use Rattle.std.specs.Prelude.{◌≡◌, ℕ, ◌<◌, List, [], ◌∷◌, ◌++◌, Option}
 use Rattle.std.specs.List.{AllByRecursion}
 use Rattle.turn_pass.specs.Record.{Record}
 use Rattle.turn_pass.specs.Pass.{Knowledge, Told}
@@ -9,12 +9,19 @@ use Rattle.lane_record.specs.Items.{asked, planned}
 use Rattle.lane_record.specs.NextEntry.{ask_of, took_of}
 use Rattle.lane_record.specs.Coding.{record_of}
 use Rattle.lane_record.specs.Legal.{IsLegal}
-use Rattle.hub_multiplexer.specs.OwnItems.{HasTakenAll, IsOldest}
+use Rattle.hub_lane.specs.Lanes.{LaneState}
+use Rattle.hub_lane.specs.Records.{record_shown}
+use Rattle.hub_lane.specs.Step.{HasTakenAll, IsOldest}
+use Rattle.world_core.specs.Telling.{Telling}
 use Rattle.hub_multiplexer.specs.Calls.{FoundLane}
-use Rattle.hub_multiplexer.specs.declared.lane.Asked.{Asked}
-use Rattle.hub_multiplexer.specs.declared.lane.Asked.TheVariants as asks
-use Rattle.hub_multiplexer.specs.declared.lane.Stepped.{Stepped}
-use Rattle.hub_multiplexer.specs.declared.lane.Stepped.TheVariants as steps
+use Rattle.hub_lane.specs.declared.answers.Asked.{Asked}
+use Rattle.hub_lane.specs.declared.answers.Asked.TheVariants as asks
+use Rattle.hub_lane.specs.declared.step.Stepped.{Stepped}
+use Rattle.hub_lane.specs.declared.step.Stepped.TheVariants as steps
+
+-- the record of a lane, whose link tells this
+abbrev pub shown : {L : Type 0} → (L → Option Telling) → LaneState L → Record
+shown telling lane = record_shown lane.settings lane.status (telling lane.link) lane.items
 
 -- an Ask of the client's next planned body is added, or all were asked
 abbrev pub AsksOn : List Item → ℕ → Asked → List Item → Type 0

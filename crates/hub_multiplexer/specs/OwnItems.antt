@@ -1,11 +1,12 @@
 -- What a pass knows of its own client's bodies, whatever other clients do meanwhile. Profile.
-use Rattle.std.specs.Prelude.{◌≡◌, ◌==◌, ℕ, ◌<◌, true, List, ◌++◌, None, is_some}
+use Rattle.std.specs.Prelude.{◌==◌, ℕ, List, ◌++◌}
 use Rattle.std.specs.List.{filter, filter_map}
 use Rattle.turn_pass.specs.Record.{made_by}
 use Rattle.turn_pass.specs.Pass.{Knowledge}
 use Rattle.lane_record.specs.declared.item.Item.{Item}
 use Rattle.lane_record.specs.Coding.{item_from}
-use Rattle.lane_record.specs.Items.{asked, found, planned, took_in}
+use Rattle.lane_record.specs.Items.{asked, planned}
+use Rattle.hub_lane.specs.Step.{HasTakenAll, IsOldest}
 
 -- The entries of the pass's client in the lane's record: those of the opening, and those that the pass added itself.
 -- Nobody else adds any, so they are all, also in a record that the pass has not seen.
@@ -19,20 +20,7 @@ planned_by k = planned k.number (own_items k)
 abbrev pub asked_by : Knowledge → ℕ
 asked_by k = asked k.number (own_items k)
 
--- a body of the client that was taken
-abbrev pub IsTakenIn : List Item → ℕ → ℕ → Type 0
-IsTakenIn items client seq = is_some (found took_in client seq items) ≡ true
-
--- the oldest body of a client that was asked and not taken
-pub record IsOldest (items : List Item) (client seq : ℕ) : Type 0 where
-  pub is_asked : seq < asked client items
-  pub untaken : found took_in client seq items ≡ None
-  pub before : (n : ℕ) → n < seq → IsTakenIn items client n
-
--- the client has no asked body to take
-abbrev pub HasTakenAll : List Item → ℕ → Type 0
-HasTakenAll items client = (n : ℕ) → n < asked client items → IsTakenIn items client n
-
+-- the client's oldest asked and untaken body, and whether it has none
 abbrev pub IsOldestOf : Knowledge → ℕ → Type 0
 IsOldestOf k seq = IsOldest (own_items k) k.number seq
 

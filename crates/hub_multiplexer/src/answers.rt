@@ -3,8 +3,7 @@
 ghost use Rattle.turn_pass.specs.Pass.{Knowledge};
 ghost use Rattle.hub_multiplexer.specs.Calls.{AskMeans, AskTried, Made, StepMeans, StepTried};
 
-use crate::lane::{Asked, Stepped, Turned};
-use lane_record::Outcome;
+use hub_lane::{Asked, Outcome, Stepped, Turned};
 
 /// How a try to ask went.
 #[derive(Clone, Copy, Debug, PartialEq, Eq)]

@@ -1,18 +1,20 @@
 //! One call of one client on one board.
 
-ghost use Rattle.std.specs.Prelude.{◌≡◌, ◌≤◌, false, [], IfOk, OnErr};
-ghost use Rattle.hub_multiplexer.specs.Calls.{AskMeans, AskTried, IsNone, Made, MadeInTime, PerformMeans, StepMeans, StepTried};
+ghost use Rattle.std.specs.Prelude.{◌≡◌, ◌≤◌, false, IfOk, IfErr, OnErr};
+ghost use Rattle.transaction_codec.specs.Answer.{reply_room};
+ghost use Rattle.hub_multiplexer.specs.Calls.{AskMeans, AskTried, HasSubmitted, IsNone, Made, MadeInTime, PerformMeans};
+ghost use Rattle.hub_multiplexer.specs.Calls.{StepMeans, StepTried, SubmitRefused};
+ghost use Rattle.hub_multiplexer.specs.OwnItems.{asked_by, planned_by};
 
 use crate::answers::{AskTry, Performed, StepTry};
-use crate::lane::{Asked, BoardLane, Stepped};
-use crate::own::{ask_on, step_on};
-use ipb_base::NoMemory;
+use crate::own::{ask_on, step_on, submit_on, tells_its_own};
+use hub_lane::{Asked, Lane, Link, NoMemory, PlanRefusal, Stepped, Words};
 use std::sync::Wait;
 use turn_pass::{Pass, Turn};
 
 /// Asks the client's next planned body, by one exchange.
-pub(crate) fn try_ask<B: BoardLane + Send>(
-    turn: &Turn<B>,
+pub(crate) fn try_ask<L: Link + Send>(
+    turn: &Turn<Lane<L>>,
     pass: &mut Pass,
     client: u32,
 ) -> Result<AskTry, NoMemory>
@@ -33,8 +35,8 @@ pub(crate) fn try_ask<B: BoardLane + Send>(
 }
 
 /// Pumps the lane once at most, and takes what became of the client's oldest asked and untaken body, by one exchange.
-pub(crate) fn try_step<B: BoardLane + Send>(
-    turn: &Turn<B>,
+pub(crate) fn try_step<L: Link + Send>(
+    turn: &Turn<Lane<L>>,
     pass: &mut Pass,
     client: u32,
 ) -> Result<StepTry, NoMemory>
@@ -55,9 +57,9 @@ pub(crate) fn try_step<B: BoardLane + Send>(
 }
 
 /// Asks the client's next planned body. It waits for the lane.
-pub(crate) fn ask<B: BoardLane + Send, R: Wait>(
+pub(crate) fn ask<L: Link + Send, R: Wait>(
     rt: &R,
-    turn: &Turn<B>,
+    turn: &Turn<Lane<L>>,
     pass: &mut Pass,
     client: u32,
 ) -> Result<Asked, NoMemory>
@@ -77,9 +79,9 @@ pub(crate) fn ask<B: BoardLane + Send, R: Wait>(
 
 /// Pumps the lane once at most, and takes what became of the client's oldest asked and untaken body. It waits for the
 /// lane.
-fn step<B: BoardLane + Send, R: Wait>(
+fn step<L: Link + Send, R: Wait>(
     rt: &R,
-    turn: &Turn<B>,
+    turn: &Turn<Lane<L>>,
     pass: &mut Pass,
     client: u32,
 ) -> Result<Stepped, NoMemory>
@@ -100,9 +102,9 @@ fn step<B: BoardLane + Send, R: Wait>(
 
 /// Steps until something became of the client's oldest asked and untaken body, and takes it. It waits for the lane, and
 /// for the board.
-pub(crate) fn perform<B: BoardLane + Send, R: Wait>(
+pub(crate) fn perform<L: Link + Send, R: Wait>(
     rt: &R,
-    turn: &Turn<B>,
+    turn: &Turn<Lane<L>>,
     pass: &mut Pass,
     client: u32,
 ) -> Result<Performed, NoMemory>
@@ -123,4 +125,32 @@ pub(crate) fn perform<B: BoardLane + Send, R: Wait>(
         }
     }
     unreachable!()
+}
+
+/// Plans a body of the client, and asks it. It waits for the lane.
+pub(crate) fn submit<L: Link + Send, R: Wait>(
+    rt: &R,
+    turn: &Turn<Lane<L>>,
+    pass: &mut Pass,
+    client: u32,
+    body: Words,
+    reply_words: u32,
+) -> Result<u64, PlanRefusal>
+    requires turn { pass.old.turn ≡ turn.now }
+    requires idle { (pass.old.holds ≡ false) × (pass.old.knows.number ≡ client) }
+    requires client { 1 ≤ client }
+    requires reply { reply_words ≡ reply_room body }
+    requires all_asked { asked_by pass.old.knows ≡ planned_by pass.old.knows }
+    ensures same { pass.new ≡ record pass.old { knows = pass.new.knows } }
+    ensures number { pass.new.knows.number ≡ client }
+    ensures submitted { IfOk result (λ seq.
+        MadeInTime pass.old.knows (HasSubmitted pass.old.knows body seq) pass.new.knows) }
+    ensures refused { IfErr result (λ why.
+        MadeInTime pass.old.knows (SubmitRefused pass.old.knows body why) pass.new.knows) }
+{
+    let mut lane = turn.take(rt, pass);
+    tells_its_own(&lane);
+    let submitted = submit_on(&mut lane, client, body, reply_words);
+    turn.give(pass, lane);
+    submitted
 }

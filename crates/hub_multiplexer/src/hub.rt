@@ -5,16 +5,16 @@ ghost use Rattle.std.specs.List.{AllByRecursion};
 ghost use Rattle.turn_pass.specs.Pass.{first_knowledge};
 ghost use Rattle.hub_multiplexer.specs.Calls.{AskMeans, AskTried, IsNone, Made, MadeInTime, PerformMeans, StepTried};
 ghost use Rattle.hub_multiplexer.specs.Ends.{AreEnded, HasAllJoined};
+ghost use Rattle.hub_multiplexer.specs.Lanes.{shown};
 ghost use Rattle.hub_multiplexer.specs.Seats.{ChangesAt, IsMasterOf, IsSeatOf};
 
 use crate::answers::{AskTry, Performed, StepTry};
 use crate::calls;
-use crate::lane::{Asked, BoardLane};
 use crate::master::Master;
 use crate::room::{Room, room_for};
 use crate::seat::Seat;
 use crate::turns::{close_all, open_all};
-use ipb_base::NoMemory;
+use hub_lane::{Asked, Lane, Link, NoMemory};
 use std::alloc::Global;
 use std::marker::Model;
 use std::sync::Wait;
@@ -23,12 +23,12 @@ use turn_pass::Turn;
 /// A turn for each board's lane, and one for the room in which the lanes are handed back. Threads share it by `&`, each
 /// with a seat of its own.
 #[derive(Drop)]
-pub struct Hub<B: BoardLane> {
-    pub(crate) turns: Vec<Turn<B>>,
-    pub(crate) room: Turn<Room<B>>,
+pub struct Hub<L: Link> {
+    pub(crate) turns: Vec<Turn<Lane<L>>>,
+    pub(crate) room: Turn<Room<Lane<L>>>,
 }
 
-impl<B: BoardLane> Model for Hub<B> {
+impl<L: Link> Model for Hub<L> {
     ghost use Rattle.hub_multiplexer.specs.Seats.{HubState};
 
     ghost Value = { HubState };
@@ -38,18 +38,18 @@ impl<B: BoardLane> Model for Hub<B> {
 
 /// There was no memory for a hub. The lanes come back, in order.
 #[derive(Drop)]
-pub struct Returned<B> {
-    pub lanes: Vec<B>,
+pub struct Returned<L: Link> {
+    pub lanes: Vec<Lane<L>>,
 }
 
-impl<B: BoardLane + Send + Drop> Hub<B> {
+impl<L: Link + Send + Drop> Hub<L> {
     /// A hub of these lanes, and its master, who has seen their records. Where memory runs out there are as many lanes
     /// as before, with the same records in the same order.
-    pub fn new(alloc: Global, mut lanes: Vec<B>) -> Result<(Hub<B>, Master), Returned<B>>
+    pub fn new(alloc: Global, mut lanes: Vec<Lane<L>>) -> Result<(Hub<L>, Master), Returned<L>>
         ensures hub { IfOk result (λ made. IsMasterOf made.0 made.1) }
         ensures no_seats { IfOk result (λ made. made.1.seats ≡ 0) }
-        ensures master { IfOk result (λ made. made.1.knows ≡ map first_knowledge (map B.entries lanes.items)) }
-        ensures returned { IfErr result (λ returned. map B.entries returned.lanes.items ≡ map B.entries lanes.items) }
+        ensures master { IfOk result (λ made. made.1.knows ≡ map first_knowledge (map (shown L.telling) lanes.items)) }
+        ensures returned { IfErr result (λ returned. map (shown L.telling) returned.lanes.items ≡ map (shown L.telling) lanes.items) }
     {
         let Ok((room, room_pass)) = room_for(alloc, lanes.len()) else {
             return Err(Returned { lanes });
@@ -64,10 +64,10 @@ impl<B: BoardLane + Send + Drop> Hub<B> {
     /// Takes the lanes for good, in order, once every seat was joined. It waits for those who hold one. The record of
     /// each lane begins with that at `new` and with all that the joined seats had seen, and past that at `new` it has
     /// only entries of joined seats.
-    pub fn finish<R: Wait>(self, rt: &R, master: Master) -> Vec<B>
+    pub fn finish<R: Wait>(self, rt: &R, master: Master) -> Vec<Lane<L>>
         requires hub { IsMasterOf self master }
         requires joined { AllByRecursion HasAllJoined master.knows }
-        ensures { AreEnded master.knows (map B.entries result.items) }
+        ensures { AreEnded master.knows (map (shown L.telling) result.items) }
     {
         let Hub { turns, room } = self;
         let Master {
@@ -81,7 +81,7 @@ impl<B: BoardLane + Send + Drop> Hub<B> {
     }
 }
 
-impl<B: BoardLane + Send> Hub<B> {
+impl<L: Link + Send> Hub<L> {
     /// How many boards there are.
     pub fn boards(&self) -> usize
         ensures { result ≡ length self.now.turns }

@@ -4,7 +4,6 @@
 mod answers;
 mod calls;
 mod hub;
-mod lane;
 mod master;
 mod own;
 mod passes;
@@ -16,3 +15,4 @@ pub use answers::{AskTry, Performed, StepTry};
 pub use hub::Hub;
 pub use master::Master;
 pub use seat::Seat;
+pub use hub_lane::{Asked, Lane, Link, NoMemory, Outcome, PlanRefusal, Turned, Words};

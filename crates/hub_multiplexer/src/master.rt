@@ -6,10 +6,9 @@ ghost use Rattle.hub_multiplexer.specs.Ends.{IsMaster};
 ghost use Rattle.hub_multiplexer.specs.Seats.{IsMasterOf, IsSeatOf, knows_after_join, knows_of, turns_of};
 
 use crate::hub::Hub;
-use crate::lane::BoardLane;
 use crate::passes::{join_all, split_all};
 use crate::seat::Seat;
-use ipb_base::NoMemory;
+use hub_lane::{Link, NoMemory};
 use std::alloc::Global;
 use std::marker::Model;
 use turn_pass::Pass;
@@ -58,10 +57,10 @@ impl Master {
     /// One seat more. Its client is its number among the seats, from 1, and the number of its pass on each board. It has
     /// seen what the master has. Want of memory changes nothing.
     #[tactic(auto, using(crate::proofs::Seats::idle_split, crate::proofs::Seats::master_split, crate::proofs::Seats::turns_split_off, crate::proofs::Seats::turns_after_split, crate::proofs::Seats::knows_split_off, crate::proofs::Seats::knows_after_split))]
-    pub fn seat<B: BoardLane + Send>(
+    pub fn seat<L: Link + Send>(
         &mut self,
         alloc: Global,
-        hub: &Hub<B>,
+        hub: &Hub<L>,
     ) -> Result<Seat, NoMemory>
         requires hub { IsMasterOf hub.now self.old }
         requires few { self.old.seats < 2 ^ 32 - 1 }
@@ -86,7 +85,7 @@ impl Master {
 
     /// Takes a seat in, with all that it had seen and the entries that it made.
     #[tactic(auto, using(crate::proofs::Seats::master_joined, crate::proofs::Seats::turns_after_join, crate::proofs::Seats::knows_joined))]
-    pub fn join<B: BoardLane + Send>(&mut self, hub: &Hub<B>, seat: Seat)
+    pub fn join<L: Link + Send>(&mut self, hub: &Hub<L>, seat: Seat)
         requires hub { IsMasterOf hub.now self.old }
         requires seat { IsSeatOf hub.now seat }
         ensures { self.new ≡ record self.old { knows = knows_after_join self.old.knows seat.knows } }

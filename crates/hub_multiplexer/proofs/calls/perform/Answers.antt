@@ -1,8 +1,9 @@
 use Rattle.std.proofs.Common.{◌≡◌, ap, subst, ◌∙◌}
 use Rattle.turn_pass.specs.Pass.{PassState}
-use Rattle.hub_multiplexer.specs.Calls.{MadeInTime, PerformMeans, StepMeans}
+use Rattle.hub_multiplexer.specs.Calls.{IsNone, MadeInTime, PerformMeans, StepMeans}
 use Rattle.hub_multiplexer.specs.declared.answers.Performed.TheVariants as performs
-use Rattle.hub_multiplexer.proofs.Looks.{after_looking, looked_more, nothing_yet, performed_before}
+use Rattle.hub_multiplexer.proofs.Adds.{on_err_holds}
+use Rattle.hub_multiplexer.proofs.Looks.{after_looking, looked_more, none_before, nothing_yet, performed_before}
 use Rattle.hub_multiplexer.proofs.calls.perform.Goals as goal
 
 pub returns-in-Ready-clause-performed : goal.returns-in-Ready-clause-performed
@@ -27,3 +28,7 @@ loop-preserved g c =
       c.in_ok-outcome.ensures.number,
       looked_more c.args.pass.now.knows now c.step.new.pass.knows c.loop.invariant.3 (nothing_yet now c.in-NotYet._turned c.step.new.pass.knows made),
     )
+
+pub returns-in_err-outcome-clause-looked : goal.returns-in_err-outcome-clause-looked
+returns-in_err-outcome-clause-looked g c =
+    on_err_holds c.from_residual.result (after_looking (λ _. IsNone) c.args.pass.now.knows c.loop.pass.knows c.step.new.pass.knows c.loop.invariant.3 (none_before c.args.pass.now.knows) c.in_err-outcome.ensures.looked)
