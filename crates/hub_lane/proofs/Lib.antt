@@ -11,3 +11,5 @@ mod ClientRows
 mod Books
 mod Lanes
 mod Pumps
+mod Untaken
+mod Steps

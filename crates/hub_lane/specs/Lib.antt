@@ -8,3 +8,4 @@ pub mod Books
 pub mod Truth
 pub mod Greeting
 pub mod Records
+pub mod Step

@@ -52,7 +52,7 @@ pub struct Lane<L: Link> {
     first: Id,
     engine: Engine,
     buffer: Vec<u8>,
-    book: Book,
+    pub(crate) book: Book,
     outcomes: Vec<Option<Outcome>>,
     give_ups: u64,
     down: bool,
