@@ -12,3 +12,5 @@ mod ClientRows
 mod Books
 mod Lanes
 mod Pumps
+mod Untaken
+mod Steps

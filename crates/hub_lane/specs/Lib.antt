@@ -10,3 +10,4 @@ pub mod Truth
 pub mod Greeting
 pub mod Records
 pub mod Below
+pub mod Step

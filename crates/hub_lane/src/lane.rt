@@ -1,7 +1,7 @@
 //! A lane: the engine and the link of one board, and the record of what clients asked of it.
 
-ghost use Rattle.std.specs.Prelude.{◌≡◌, ◌≤◌, ◌<◌, ◌⊎◌, ◌*◌, ◌^◌, ℕ, true, false, length, map, count_by, OnOk, OnErr, IfOk};
-ghost use Rattle.std.specs.Prelude.{IfErr};
+ghost use Rattle.std.specs.Prelude.{◌≡◌, ◌≤◌, ◌<◌, ◌⊎◌, ◌*◌, ◌^◌, ℕ, true, false, length, map, count_by, OnOk, OnErr};
+ghost use Rattle.std.specs.Prelude.{IfOk, IfErr};
 ghost use Rattle.std.specs.Prelude.{IfSome, IfNone, Err, List, if◌then◌else◌, ◌++◌, ◌∷◌, [], Some, None};
 ghost use Rattle.ipb_base.specs.Faults.{Rose};
 ghost use Rattle.ipb_base.specs.Numbers.{payload_of};
@@ -53,7 +53,7 @@ pub struct Lane<L: Link> {
     first: Id,
     engine: Engine,
     buffer: Vec<u8>,
-    book: Book,
+    pub(crate) book: Book,
     outcomes: Vec<Option<Outcome>>,
     give_ups: u64,
     down: bool,

@@ -284,8 +284,8 @@ module _ (below : RecoveryLaws) where
         | inr rest ↦ elim rest [
           | inl wants ↦ elim (subst (WantsOr hub.first (done old.told.board) hub.open_places) e (wants_sent hub.first
               (done old.told.board) hub.open_places wants)) [
-                | inl more ↦ inl (inr (inl (sent_wants 0 w.open_places (bytes_to_send after w.send) before now old new is
-                    more)))
+                | inl more ↦ inl (inr (inl (sent_wants 0 w.open_places (bytes_to_send after w.send) before now old new
+                    is more)))
                 | inr sent ↦ by_due after before now new (sent_new hub.first (places w.open_places) (bytes_to_send after
                     w.send) before now old new is
                     (asks_more hub.first (places hub.open_places) (places w.open_places) old.told.board (to_board
