@@ -120,7 +120,8 @@ message_same hub message = message_cases (Same hub) hub message
     (λ told. record { window = refl; sent = refl; queue = refl })
     (λ id words o found. record { window = refl; sent = refl; queue = refl })
 
-none_wait : (os : List OpenPlace) → some_waited (map abandoned os) ≡ false
+-- once the hub gave up nobody waits
+pub none_wait : (os : List OpenPlace) → some_waited (map abandoned os) ≡ false
 none_wait [] = refl
 none_wait (o ∷ os) = none_wait os
 
