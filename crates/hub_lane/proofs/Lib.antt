@@ -7,6 +7,7 @@ mod Heard
 mod Greetings
 mod Truth
 mod Tables
+mod Rounds
 mod Ready
 mod ClientRows
 mod Books
