@@ -1,6 +1,7 @@
 mod Standing
 mod Sends
 mod Windows
+mod Carrying
 mod Linked
 mod Heard
 mod Greetings

@@ -18,6 +18,7 @@ use Rattle.world_core.specs.declared.link.LinkFault.TheVariants.{Failed, NoMemor
 use Rattle.world_core.specs.Telling.{IfTelling, IsGot, IsQuiet, IsReceived, IsSent, Receives, Telling}
 use Rattle.hub_lane.specs.declared.answers.Pumped.{Pumped}
 use Rattle.hub_lane.specs.declared.answers.Pumped.TheVariants.{Reply, Status, Stray, Quiet, Idle, LinkDown}
+use Rattle.hub_lane.specs.Carrying.{HasPut}
 use Rattle.hub_lane.specs.Hearing.{IsHeardAs, WasReceived}
 use Rattle.hub_lane.specs.Rounds.{PaysOn}
 use Rattle.hub_lane.specs.Sends.{HasSent, all_sent}
@@ -40,6 +41,7 @@ pub record IsSending (before : Option Telling) (old : Hub) (telling : Option Tel
   pub hold : held ≤ held_now
   pub pays : PaysOn before old held telling now held_now
   pub board : board_of telling ≡ board_of before
+  pub put : IfTelling before telling (HasPut old now)
 
 -- the bodies of the hub after a send
 abbrev pub SendKeepsBodies : Type 0

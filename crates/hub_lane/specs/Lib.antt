@@ -1,5 +1,6 @@
 pub mod Sends
 pub mod Hearing
+pub mod Carrying
 pub mod Standing
 pub mod Lanes
 pub mod Rounds

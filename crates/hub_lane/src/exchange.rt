@@ -12,6 +12,8 @@ ghost use Rattle.world_model.specs.Facts.{AreSendable, IsWindow};
 ghost use Rattle.reliable_engine.specs.Settings.{Limits};
 ghost use Rattle.lane_record.specs.Offers.{put_all};
 ghost use Rattle.hub_lane.specs.Lanes.{IsReady, board_of};
+ghost use Rattle.world_core.specs.Telling.{IfTelling};
+ghost use Rattle.hub_lane.specs.Carrying.{Brings, Carries, HasPut};
 ghost use Rattle.hub_lane.specs.Hearing.{IsEventAs, IsHeardAs, WasReceived, give_ups_of, gots_of, hub_after, quiets_of};
 ghost use Rattle.hub_lane.specs.Sends.{HasSent, all_sent, handed_out};
 ghost use Rattle.hub_lane.specs.Rounds.{PaysFor, PaysOn, PaysRounds};
@@ -80,6 +82,8 @@ pub(crate) fn exchange<L: Link>(
     ensures failed_gots { result ≡ Err LinkFault.Failed → L.gots link.new ≡ L.gots link.old }
     ensures held { L.held link.old ≤ L.held link.new }
     ensures board { board_of (L.telling link.new) ≡ board_of (L.telling link.old) }
+    ensures carries { IfOk result (λ pumped. IfTelling (L.telling link.old) (L.telling link.new)
+        (Carries pumped buffer.new.items hub.old)) }
 {
     a_send_leaves_the_fates();
     each_event_leads_to_a_state_of_a_run();
@@ -107,6 +111,7 @@ fn send_all<L: Link>(alloc: Global, hub: &mut Engine, link: &mut L) -> Result<()
     ensures gots { L.gots link.new ≡ L.gots link.old }
     ensures held { L.held link.old ≤ L.held link.new }
     ensures board { board_of (L.telling link.new) ≡ board_of (L.telling link.old) }
+    ensures put { OnOk result (IfTelling (L.telling link.old) (L.telling link.new) (HasPut hub.old hub.new)) }
 {
     a_send_leaves_the_fates();
     draining_ends();
@@ -154,6 +159,8 @@ fn receive<L: Link>(
     ensures failed_gots { result ≡ Err LinkFault.Failed → L.gots link.new ≡ L.gots link.old }
     ensures held { L.held link.old ≤ L.held link.new }
     ensures board { board_of (L.telling link.new) ≡ board_of (L.telling link.old) }
+    ensures brings { IfOk result (λ pumped. IfTelling (L.telling link.old) (L.telling link.new)
+        (Brings pumped buffer.new.items)) }
 {
     each_event_leads_to_a_state_of_a_run();
     laws_of_rounds();

@@ -13,6 +13,8 @@ ghost use Rattle.world_model.specs.Hub.{offer};
 ghost use Rattle.reliable_engine.specs.Answers.{body_count};
 ghost use Rattle.lane_record.specs.declared.outcome.Outcome.TheVariants.{LinkLost};
 ghost use Rattle.hub_lane.specs.Plans.{CanPlan, IsRefused, Plans};
+ghost use Rattle.world_core.specs.Telling.{IfTelling};
+ghost use Rattle.hub_lane.specs.Carrying.{Pumping};
 ghost use Rattle.hub_lane.specs.Hearing.{gots_of, quiets_of};
 ghost use Rattle.hub_lane.specs.Calls.{AsksAs, IsReplyAt, IsSameRecord, IsSpent, PumpsAs, TakesAs, WasAsked};
 ghost use Rattle.hub_lane.specs.Calls.{is_lost_at_place, is_replied, sealed};
@@ -281,6 +283,8 @@ impl<L: Link> Lane<L> {
         ensures gots_rise { L.gots self.old.link ≤ L.gots self.new.link }
         ensures held { L.held self.old.link ≤ L.held self.new.link }
         ensures board { board_of (L.telling self.new.link) ≡ board_of (L.telling self.old.link) }
+        ensures link { IfOk result (λ pumped. IfTelling (L.telling self.old.link) (L.telling self.new.link)
+            (Pumping pumped self.old.hub self.new.hub)) }
         // So the head of its record stays.
         ensures opening { opening_of (L.telling self.new.link) ≡ opening_of (L.telling self.old.link) }
     {

@@ -7,6 +7,7 @@ use Rattle.hub_lane.specs.Hearing.{IsHeardAs}
 use Rattle.hub_lane.specs.declared.answers.Pumped.TheVariants.{Quiet}
 use Rattle.hub_lane.specs.Rounds.{PaysFor}
 use Rattle.hub_lane.specs.Standing.{GoesOn}
+use Rattle.hub_lane.proofs.Carrying.{got_brings, quiet_brings}
 use Rattle.hub_lane.proofs.Linked.{fault_on, got_on, quiet_on, received_board, unheard_on, was_received}
 use Rattle.hub_lane.proofs.Rounds.{got_for, quiet_for}
 use Rattle.hub_lane.proofs.exchange.receive.Goals as goal
@@ -128,3 +129,27 @@ returns-in-Quiet-clause-pays g c =
     (quiet_for c.laws_of_rounds.ensures c.a_link_forgets_nothing.ensures.board c.args.hub.now
     (held c.args.link.now) (held c.receive.new.self) (telling c.args.link.now) (telling c.receive.new.self)
     c.receive.ensures.held c.requires.none c.requires.waits quiet)
+
+pub returns-in_ok-hear-in-Got-clause-brings : goal.returns-in_ok-hear-in-Got-clause-brings
+returns-in_ok-hear-in-Got-clause-brings g c =
+    let telling = g.L.Link.telling in
+    let held = g.L.Link.held in
+    let bytes = c.receive.new.into.items in
+    let got = subst (λ (r : Received). IfTelling (telling c.args.link.now) (telling c.receive.new.self)
+    (Receives (Ok r) bytes (held c.args.link.now) (held c.receive.new.self))) c.in-Got.is
+    c.in_ok-receive.ensures.received in
+    got_brings bytes c.args.hub.now c.in_ok-hear-in-Got.field-0 (held c.args.link.now) (held c.receive.new.self)
+    (telling c.args.link.now) (telling c.receive.new.self)
+    (subst (λ (heard : List ℕ). IsHeardAs c.args.hub.now (to_hub heard) c.in_ok-hear-in-Got.field-0)
+    c.deref.ensures.value c.in_ok-hear-in-Got.ensures.heard) got
+
+pub returns-in-Quiet-clause-brings : goal.returns-in-Quiet-clause-brings
+returns-in-Quiet-clause-brings g c =
+    let telling = g.L.Link.telling in
+    let held = g.L.Link.held in
+    let bytes = c.receive.new.into.items in
+    let quiet = subst (λ (r : Received). IfTelling (telling c.args.link.now) (telling c.receive.new.self)
+    (Receives (Ok r) bytes (held c.args.link.now) (held c.receive.new.self))) c.in-Quiet.is
+    c.in_ok-receive.ensures.received in
+    quiet_brings bytes (held c.args.link.now) (held c.receive.new.self) (telling c.args.link.now)
+    (telling c.receive.new.self) quiet

@@ -2,6 +2,7 @@ use Rattle.std.proofs.Common.{◌∙◌, ℕ, List, subst, sym, arith}
 use Rattle.world_model.specs.Sends.{Next}
 use Rattle.world_core.specs.Telling.{IfTelling, IsSent}
 use Rattle.hub_lane.proofs.Sends.{all_out, next_is, none_is, one_less, same_hub, sent_more}
+use Rattle.hub_lane.proofs.Carrying.{put_more}
 use Rattle.hub_lane.proofs.Linked.{sent_on, sent_board, still_spelled}
 use Rattle.hub_lane.proofs.Rounds.{pays_sent}
 use Rattle.hub_lane.proofs.exchange.send_all.Goals as goal
@@ -45,6 +46,8 @@ loop-send-preserved g c =
       quiet = c.send.ensures.quiets ∙ before.invariant.quiet;
       got = c.send.ensures.gots ∙ before.invariant.got;
       board = sent_board _ _ _ _ _ call ∙ before.invariant.board;
+      put = put_more c.args.hub.now old next (held before.link) (held c.send.new.self) (telling c.args.link.now)
+          (telling before.link) (telling c.send.new.self) is before.invariant.put call;
       hold = (let a = before.invariant.hold in let b = c.send.ensures.held in omega (arith, a, b));
     }
 

@@ -1,7 +1,10 @@
 use Rattle.std.proofs.Common.{◌∙◌, sym, subst, refl, Bool, true, ◌||◌}
 use Rattle.std.specs.Prelude.{IfSome}
+use Rattle.world_core.specs.Telling.{IfTelling}
 use Rattle.hub_lane.specs.Calls.{IsSameRecord}
+use Rattle.hub_lane.specs.Carrying.{Pumping}
 use Rattle.hub_lane.specs.Lanes.{BoardStatus, LaneState}
+use Rattle.hub_lane.proofs.Carrying.{pumping}
 use Rattle.hub_lane.specs.Rounds.{HasPaid}
 use Rattle.hub_lane.proofs.Pumps.{PumpLaws, pump_down, pump_received, pump_spent}
 use Rattle.hub_lane.proofs.Rounds.{pays_pumped, pays_stopped, still_up}
@@ -160,3 +163,12 @@ returns-in-Ok-clause-same g c =
       spent = l.spent;
     })) c.self.view_is
     (record { settings = refl; status = refl; items = refl; outcomes = done.keeps; give_ups = done.more })
+
+pub returns-in-Ok-clause-link : goal.returns-in-Ok-clause-link
+returns-in-Ok-clause-link g c =
+    let l = c.self.inside in
+    let telling = g.L.Link.telling in
+    subst (λ (v : LaneState _). IfTelling (telling v.link) (telling c.exchange.new.link)
+    (Pumping c.in-Ok.pumped v.hub c.exchange.new.hub)) c.self.view_is
+    (pumping c.in-Ok.pumped c.exchange.new.buffer.items l.engine c.exchange.new.hub (telling l.link)
+    (telling c.exchange.new.link) c.in-Ok.ensures.event c.in-Ok.ensures.hub c.in-Ok.ensures.carries)
