@@ -6,9 +6,11 @@ mod Heard
 mod Greetings
 mod Truth
 mod Tables
+mod Rounds
 mod Ready
 mod ClientRows
 mod Books
 mod Lanes
+mod Pumps
 mod Untaken
 mod Steps

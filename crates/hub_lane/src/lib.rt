@@ -2,6 +2,7 @@
 #![tactic(auto)]
 
 mod answers;
+mod below;
 mod book;
 mod chronicle;
 mod exchange;

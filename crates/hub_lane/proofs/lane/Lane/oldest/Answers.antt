@@ -12,6 +12,6 @@ returns-clause-asked g c =
     let client = c.args.client in
     let oldest = c.oldest_of.result in
     subst (λ lane. IfSome oldest (λ seq. WasAsked lane.items client seq)) c.self.view_is
-    (each_asked c.self.inside.book.items _ client _ oldest c.self.invariant.kept.legal c.asked.ensures found_there.below
+    (each_asked c.self.inside.book.items _ client _ oldest c.self.invariant.0.kept.legal c.asked.ensures found_there.below
     (subst (λ (items : List Item). IfSome oldest (λ seq. found took_in client seq items ≡ None)) c.items.ensures found_there.untaken)
     (subst (λ (items : List Item). IfSome oldest (λ seq. (n : ℕ) → n < seq → IsTakenIn items client n)) c.items.ensures found_there.before))
