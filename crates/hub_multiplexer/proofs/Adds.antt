@@ -1,12 +1,12 @@
 -- What a pass knows after it took a lane and gave it back.
-use Rattle.std.proofs.Common.{◌≡◌, ◌≤◌, ℕ, true, false, List, [], ◌∷◌, ◌++◌, map, length, drop, Result, Ok, Err, IfOk, OnErr, refl, sym, ap, subst, ◌∙◌}
+use Rattle.std.proofs.Common.{◌≡◌, ◌≤◌, ℕ, true, false, List, [], ◌∷◌, ◌++◌, map, length, drop, Result, Ok, Err, IfErr, IfOk, OnErr, sym, ap, subst, ◌∙◌}
 use Rattle.std.specs.List.{AllByRecursion}
 use Rattle.std.proofs.lemmas.List.{map-append}
 use Rattle.std.proofs.Math.Seq.{drop-append_seam}
 use Rattle.turn_pass.specs.Record.{AreMadeBy, GrowsBy, Record}
 use Rattle.turn_pass.specs.Pass.{Knowledge, PassState, Told, having_given, having_seen}
 use Rattle.lane_record.specs.declared.item.Item.{Item}
-use Rattle.lane_record.specs.Coding.{record_of, recorded}
+use Rattle.lane_record.specs.Coding.{recorded}
 use Rattle.hub_multiplexer.specs.Calls.{Adds, FoundLane, Made, MadeInTime}
 use Rattle.hub_multiplexer.specs.Lanes.{Grew, Means}
 
@@ -74,3 +74,15 @@ pub may_give_back : {A E : Type 0} (client : ℕ) (old mid : PassState) (before 
 may_give_back client old mid before after vain P Q r took number ok err =
     subst (λ (p : PassState). GrowsBy p.knows.number p.knows.seen after) (sym took)
     (subst (λ (n : ℕ). GrowsBy n before after) (sym number) (grew_either client before after P Q r ok err))
+
+-- the same of a call that says what a refusal means
+pub may_give_either : {A E : Type 0} (client : ℕ) (old mid : PassState) (before after : Record) (vain : ℕ) (P : A → Knowledge → FoundLane → List Item → Type 0) (Q : E → Knowledge → FoundLane → List Item → Type 0) (r : Result A E)
+    → mid ≡ record old { holds = true; knows = record (having_seen old.knows before) { vain = vain } } → old.knows.number ≡ client → IfOk r (λ a. Means client before (P a) after) → IfErr r (λ e. Means client before (Q e) after)
+    → GrowsBy mid.knows.number mid.knows.seen after
+may_give_either {A} {E} client old mid before after vain P Q r took number ok err =
+    subst (λ (p : PassState). GrowsBy p.knows.number p.knows.seen after) (sym took)
+    (subst (λ (n : ℕ). GrowsBy n before after) (sym number) (cases r ok err))
+  where
+    cases : (r : Result A E) → IfOk r (λ a. Means client before (P a) after) → IfErr r (λ e. Means client before (Q e) after) → GrowsBy client before after
+    cases (Ok a) ok err = may_give client before ok.added after ok.grew
+    cases (Err e) ok err = may_give client before err.added after err.grew

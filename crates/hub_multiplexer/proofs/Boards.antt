@@ -1,5 +1,5 @@
 -- A call on one board of a seat.
-use Rattle.std.proofs.Common.{◌≡◌, ◌<◌, ◌+◌, ℕ, zero, suc, List, [], ◌∷◌, map, length, get_or, set, Some, refl, sym, ap, subst, ◌∙◌, arith}
+use Rattle.std.proofs.Common.{◌≡◌, ◌<◌, ℕ, zero, suc, List, [], ◌∷◌, length, get_or, set, Some, IfSome, refl, sym, ap, subst, ◌∙◌, arith}
 use Rattle.std.specs.List.{AllByRecursion, slice_get}
 use Rattle.std.proofs.lemmas.List.{length-map}
 use Rattle.turn_pass.specs.Pass.{Knowledge, PassState, TurnId}
@@ -41,3 +41,9 @@ pub idle_at : (client : ℕ) (passes : List PassState) (board : ℕ) (p : PassSt
 idle_at client [] board p a i = tt
 idle_at client (x ∷ xs) zero p a i = (i, a.1)
 idle_at client (x ∷ xs) (suc board) p a i = (a.0, idle_at client xs board p a.1 i)
+
+-- what holds of what the seat knows of the board
+pub known_at : (client : ℕ) (passes : List PassState) (old : SeatState) (board : ℕ) (p : PassState) (P : Knowledge → Type 0) → seat_with client passes ≡ old → board < length passes → p ≡ get_or passes board p
+    → IfSome (slice_get old.knows board) P → P p.knows
+known_at client passes old board p P seat_is inside here holds =
+    subst (λ o. IfSome o P) (ap (λ (s : SeatState). slice_get s.knows board) (sym seat_is) ∙ knows_there passes board p inside here) holds

@@ -1,5 +1,5 @@
 -- What a call on a lane means to whoever finds it.
-use Rattle.std.proofs.Common.{◌≡◌, ℕ, ◌<◌, List, [], ◌∷◌, ◌++◌, map, length, drop, Option, Some, None, refl, sym, ap, subst, ◌∙◌, append-nil}
+use Rattle.std.proofs.Common.{◌≡◌, ℕ, ◌<◌, List, [], ◌∷◌, ◌++◌, Option, refl, sym, ap, subst, ◌∙◌, append-nil}
 use Rattle.std.specs.List.{AllByRecursion}
 use Rattle.turn_pass.specs.Record.{Record}
 use Rattle.turn_pass.specs.Pass.{Knowledge, Told}
@@ -9,7 +9,7 @@ use Rattle.lane_record.specs.Coding.{Head, record_of}
 use Rattle.lane_record.specs.Items.{asked, planned}
 use Rattle.lane_record.specs.Legal.{IsLegal}
 use Rattle.lane_record.specs.NextEntry.{ask_of, took_of}
-use Rattle.hub_multiplexer.specs.Calls.{AskMeans, FoundLane, IsNone, StepMeans}
+use Rattle.hub_multiplexer.specs.Calls.{AskMeans, IsNone, StepMeans}
 use Rattle.hub_multiplexer.specs.Lanes.{AsksOn, Grew, Means, StepsOn, shown}
 use Rattle.hub_lane.specs.Step.{HasTakenAll, IsOldest}
 use Rattle.hub_multiplexer.specs.OwnItems.{HasTakenAllOf, IsOldestOf, asked_by, of_client, own_items, planned_by}
@@ -36,7 +36,7 @@ pub record Shown (before after : Record) : Type 0 where
   pub own : (k : Knowledge) → Told k before → own_items k ≡ of_client k.number items
 
 module _ (client : ℕ) (before after : Record) (s : Shown before after) where
-  pub grew : (added : List Item) → s.items' ≡ s.items ++ added → AllByRecursion (λ (x : Item). x.client ≡ client) added → Grew client before added after
+  abbrev pub grew : (added : List Item) → s.items' ≡ s.items ++ added → AllByRecursion (λ (x : Item). x.client ≡ client) added → Grew client before added after
   grew added is makers = record {
     lane = record { head = s.head; items = s.items; outcomes = s.outcomes };
     was = s.was;
@@ -45,13 +45,13 @@ module _ (client : ℕ) (before after : Record) (s : Shown before after) where
     makers = makers;
   }
 
-  pub same : s.items' ≡ s.items → Grew client before [] after
+  abbrev pub same : s.items' ≡ s.items → Grew client before [] after
   same is = grew [] (is ∙ sym (append-nil s.items)) tt
 
-  asked_is : (k : Knowledge) → Told k before → k.number ≡ client → asked_by k ≡ asked client s.items
+  pub asked_is : (k : Knowledge) → Told k before → k.number ≡ client → asked_by k ≡ asked client s.items
   asked_is k told number = (λ i. asked (number i) (s.own k told i)) ∙ ((λ i. asked client (of_client (number i) s.items)) ∙ asked_own client s.items)
 
-  planned_is : (k : Knowledge) → Told k before → k.number ≡ client → planned_by k ≡ planned client s.items
+  pub planned_is : (k : Knowledge) → Told k before → k.number ≡ client → planned_by k ≡ planned client s.items
   planned_is k told number = (λ i. planned (number i) (s.own k told i)) ∙ ((λ i. planned client (of_client (number i) s.items)) ∙ planned_own client s.items)
 
   oldest_is : (k : Knowledge) → Told k before → k.number ≡ client → (seq : ℕ) → IsOldest s.items client seq → IsOldestOf k seq

@@ -1,5 +1,5 @@
 -- What the calls of a lane do to its record.
-use Rattle.std.proofs.Common.{◌≡◌, ◌<◌, ℕ, Bool, true, false, if◌then◌else◌, List, [], ◌∷◌, ◌++◌, Option, Some, refl, sym, ap, subst, ◌∙◌}
+use Rattle.std.proofs.Common.{◌≡◌, ◌<◌, ℕ, Bool, true, false, if◌then◌else◌, List, [], ◌∷◌, ◌++◌, Option, Some, ap, ◌∙◌}
 use Rattle.world_core.specs.Telling.{Telling}
 use Rattle.lane_record.specs.declared.outcome.Outcome.{Outcome}
 use Rattle.lane_record.specs.declared.item.Item.{Item}
@@ -11,7 +11,7 @@ use Rattle.hub_lane.specs.declared.answers.Asked.{Asked}
 use Rattle.hub_lane.specs.declared.answers.Asked.TheVariants as asks
 use Rattle.hub_lane.specs.declared.step.Stepped.{Stepped}
 use Rattle.hub_lane.specs.declared.step.Stepped.TheVariants as steps
-use Rattle.hub_lane.specs.Calls.{AsksAs, IsSameRecord, asked_in_vain, offered}
+use Rattle.hub_lane.specs.Calls.{AsksAs, asked_in_vain, offered}
 use Rattle.hub_lane.specs.Lanes.{LaneState, opening_of}
 use Rattle.hub_lane.specs.Records.{head_of}
 use Rattle.hub_lane.specs.Step.{StepsAs}
@@ -27,7 +27,12 @@ module _ {L : Type 0} (telling : L → Option Telling) where
 
   pub same_head : (old new : LaneState L) → new.settings ≡ old.settings → new.status ≡ old.status → opening_of (telling new.link) ≡ opening_of (telling old.link) → head new ≡ head old
   same_head old new settings status opening = λ i. record {
-    rounds = (settings i).rounds; window = (settings i).window; mtu = (status i).mtu; buffers = (status i).buffers; first = (status i).next; opening = opening i
+    rounds = (settings i).rounds;
+    window = (settings i).window;
+    mtu = (status i).mtu;
+    buffers = (status i).buffers;
+    first = (status i).next;
+    opening = opening i;
   }
 
   asked_either : (old new : LaneState L) (client seq : ℕ) (body : List ℕ) (b : Bool) → new ≡ (if b then asked_in_vain old client seq else offered old client seq body)

@@ -9,3 +9,4 @@ pub mod Seats
 pub mod Boards
 pub mod Openings
 pub mod LaneCalls
+pub mod Submits

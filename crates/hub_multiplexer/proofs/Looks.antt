@@ -1,13 +1,11 @@
 -- Calls of a pass that only looked before.
-use Rattle.std.proofs.Common.{◌≡◌, ◌≤◌, ◌⊎◌, ⊎_elim, inl, inr, ℕ, List, [], ◌∷◌, ◌++◌, map, refl, sym, ap, subst, ◌∙◌, arith, append-nil}
-use Rattle.std.specs.List.{AllByRecursion}
-use Rattle.turn_pass.specs.Record.{Begins, Record, made_by, past}
-use Rattle.turn_pass.specs.Pass.{Knowledge, Stands, Told}
+use Rattle.std.proofs.Common.{◌≡◌, ◌⊎◌, ⊎_elim, inr, ℕ, List, ◌++◌, map, ap, subst, ◌∙◌, arith, append-nil}
+use Rattle.turn_pass.specs.Record.{Begins, Record}
+use Rattle.turn_pass.specs.Pass.{Knowledge, Told}
 use Rattle.turn_pass.proofs.Records.{begins_on}
 use Rattle.lane_record.specs.declared.item.Item.{Item}
 use Rattle.lane_record.specs.Coding.{record_of, recorded}
-use Rattle.hub_multiplexer.specs.Calls.{Adds, FoundLane, HasTaken, IsNone, MadeInTime, PerformMeans, StepMeans}
-use Rattle.hub_multiplexer.specs.OwnItems.{HasTakenAllOf, IsOldestOf}
+use Rattle.hub_multiplexer.specs.Calls.{Adds, FoundLane, IsNone, MadeInTime, PerformMeans, StepMeans}
 use Rattle.hub_multiplexer.specs.declared.answers.Performed.{Performed}
 use Rattle.hub_multiplexer.specs.declared.answers.Performed.TheVariants as performs
 use Rattle.hub_lane.specs.declared.step.Turned.{Turned}

@@ -1,5 +1,5 @@
 -- Turns that are made from the last value on, and values taken back.
-use Rattle.std.proofs.Common.{◌≡◌, ◌≢◌, ◌⊎◌, ⊎_elim, ◌≤◌, ◌+◌, ℕ, zero, suc, inl, inr, false, List, [], ◌∷◌, ◌++◌, map, reverse, length, drop, refl, sym, ap, subst, ◌∙◌, arith, append-nil, append_assoc}
+use Rattle.std.proofs.Common.{◌≡◌, ◌≢◌, ◌≤◌, ℕ, zero, suc, inl, List, [], ◌∷◌, ◌++◌, map, reverse, length, drop, refl, sym, ap, subst, ◌∙◌, arith, append-nil, append_assoc}
 use Rattle.std.specs.List.{AllByRecursion}
 use Rattle.std.proofs.lemmas.List.{length-map, map-append, reverse-append}
 use Rattle.std.proofs.Math.Seq.{drop-append_seam}
@@ -46,8 +46,8 @@ told_opening k r fresh told =
     let rest = t.opening_begins.entries in
     let later : past o r ≡ rest.0 = ap (drop (length o.entries)) rest.1 ∙ drop-append_seam o.entries rest.0 in
     let none : past o r ≡ [] = nothing_past (past o r) (λ n. dite (ℕ_discrete n 0)
-        (λ (e : n ≡ 0). ap (λ m. made_by m (past o r)) e ∙ sym t.own)
-        (λ (ne : n ≢ 0). t.unmade refl n (one_at_least n ne))) in
+    (λ (e : n ≡ 0). ap (λ m. made_by m (past o r)) e ∙ sym t.own)
+    (λ (ne : n ≢ 0). t.unmade refl n (one_at_least n ne))) in
     let same : r.entries ≡ o.entries = rest.1 ∙ (ap (λ l. o.entries ++ l) (sym later ∙ none) ∙ append-nil o.entries) in
     (λ i. record { head = t.opening_begins.head i; entries = same i })
   where
@@ -104,10 +104,13 @@ master_opened records turns passes room count o fits long = record {
   where
     all_first : (ps : List PassState) → AllByRecursion IsFresh ps → AllByRecursion (IsFirst 1) ps
     all_first [] a = tt
-    all_first (p ∷ ps) a = (record {
-      idle = record { holds_nothing = a.0.holds_nothing; has_number = ap (λ (k : Knowledge). k.number) a.0.knows_opening };
-      has_made = ap (λ (k : Knowledge). k.made) a.0.knows_opening;
-    }, all_first ps a.1)
+    all_first (p ∷ ps) a = (
+      record {
+        idle = record { holds_nothing = a.0.holds_nothing; has_number = ap (λ (k : Knowledge). k.number) a.0.knows_opening };
+        has_made = ap (λ (k : Knowledge). k.made) a.0.knows_opening;
+      },
+      all_first ps a.1,
+    )
 
     all_none : (ps : List PassState) → AllByRecursion IsFresh ps → AllByRecursion (λ (p : PassState). p.knows.mine ≡ []) ps
     all_none [] a = tt

@@ -1,8 +1,8 @@
 -- The passes of seats and of the master.
-use Rattle.std.proofs.Common.{◌≡◌, ◌≤◌, ◌+◌, ℕ, suc, false, List, [], ◌∷◌, length, map, refl, sym, ap, subst, ◌∙◌, arith}
+use Rattle.std.proofs.Common.{◌≡◌, ◌+◌, ℕ, suc, List, [], ◌∷◌, length, map, refl, sym, ap, subst}
 use Rattle.std.specs.List.{AllByRecursion}
 use Rattle.std.proofs.lemmas.List.{length-map}
-use Rattle.turn_pass.specs.Pass.{Knowledge, PassState, TurnId, newcomer, one_more_made, taking_in}
+use Rattle.turn_pass.specs.Pass.{PassState, newcomer, one_more_made, taking_in}
 use Rattle.hub_multiplexer.specs.Ends.{HasAllJoined, IsLast, IsMaster, IsRoomPass}
 use Rattle.hub_multiplexer.specs.Seats.{IsFirst, IsIdle, after_join, after_split, knows_after_join, knows_of, split_off, turns_of}
 

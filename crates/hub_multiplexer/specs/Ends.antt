@@ -1,8 +1,8 @@
 -- What stands in the records that are handed back at the end. Profile.
 use Rattle.std.specs.Prelude.{◌≡◌, ℕ, ◌+◌, ◌≤◌, ◌<◌, List, [], ◌∷◌, length, map}
 use Rattle.std.specs.List.{AllByRecursion, AllZip, Contains}
-use Rattle.turn_pass.specs.Record.{Record, Recorded, past}
-use Rattle.turn_pass.specs.Pass.{Joined, Knowledge, PassState, Told}
+use Rattle.turn_pass.specs.Record.{Record, past}
+use Rattle.turn_pass.specs.Pass.{Knowledge, PassState, Told}
 use Rattle.hub_multiplexer.specs.Seats.{IsFirst, IsIdle}
 
 -- the numbers of the passes that were taken in

@@ -3,12 +3,12 @@ use Rattle.std.specs.Prelude.{◌≡◌, ℕ, ◌<◌, List, [], ◌∷◌, ◌+
 use Rattle.std.specs.List.{AllByRecursion}
 use Rattle.turn_pass.specs.Record.{Record}
 use Rattle.turn_pass.specs.Pass.{Knowledge, Told}
-use Rattle.lane_record.specs.declared.outcome.Outcome.{Outcome}
 use Rattle.lane_record.specs.declared.item.Item.{Item}
 use Rattle.lane_record.specs.Items.{asked, planned}
 use Rattle.lane_record.specs.NextEntry.{ask_of, took_of}
 use Rattle.lane_record.specs.Coding.{record_of}
 use Rattle.lane_record.specs.Legal.{IsLegal}
+use Rattle.hub_lane.specs.Calls.{AsksAs}
 use Rattle.hub_lane.specs.Lanes.{LaneState}
 use Rattle.hub_lane.specs.Records.{record_shown}
 use Rattle.hub_lane.specs.Step.{HasTakenAll, IsOldest}
@@ -35,6 +35,11 @@ StepsOn items client (steps.Ready outcome) after = (seq : ℕ) × IsOldest items
     × (give_ups : ℕ) × (after ≡ items ++ took_of client seq outcome give_ups ∷ [])
 StepsOn items client (steps.NotYet turned) after = ((seq : ℕ) × IsOldest items client seq) × (after ≡ items)
 StepsOn items client steps.Nothing after = HasTakenAll items client × (after ≡ items)
+
+-- the client's next planned body was asked
+pub record IsAskedNext {L : Type 0} (old : LaneState L) (client : ℕ) (new : LaneState L) : Type 0 where
+  pub seq : ℕ
+  pub as_next : AsksAs old client new (asks.Asked seq)
 
 -- a legal record of a lane grew by these entries of a client
 pub record Grew (client : ℕ) (before : Record) (added : List Item) (after : Record) : Type 0 where

@@ -2,8 +2,11 @@
 
 ghost use Rattle.std.specs.Prelude.{◌≡◌, ◌<◌, length, map, IfOk, IfErr, OnErr};
 ghost use Rattle.std.specs.List.{AllByRecursion};
+ghost use Rattle.transaction_codec.specs.Answer.{reply_room};
 ghost use Rattle.turn_pass.specs.Pass.{first_knowledge};
-ghost use Rattle.hub_multiplexer.specs.Calls.{AskMeans, AskTried, IsNone, Made, MadeInTime, PerformMeans, StepTried};
+ghost use Rattle.hub_multiplexer.specs.Calls.{AskMeans, AskTried, HasSubmitted, IsNone, Made, MadeInTime, PerformMeans};
+ghost use Rattle.hub_multiplexer.specs.Calls.{StepTried, SubmitRefused};
+ghost use Rattle.hub_multiplexer.specs.OwnItems.{HasAskedAll};
 ghost use Rattle.hub_multiplexer.specs.Ends.{AreEnded, HasAllJoined};
 ghost use Rattle.hub_multiplexer.specs.Lanes.{shown};
 ghost use Rattle.hub_multiplexer.specs.Seats.{ChangesAt, IsMasterOf, IsSeatOf};
@@ -14,7 +17,7 @@ use crate::master::Master;
 use crate::room::{Room, room_for};
 use crate::seat::Seat;
 use crate::turns::{close_all, open_all};
-use hub_lane::{Asked, Lane, Link, NoMemory};
+use hub_lane::{Asked, Lane, Link, NoMemory, PlanRefusal, Words};
 use std::alloc::Global;
 use std::marker::Model;
 use std::sync::Wait;
@@ -147,5 +150,38 @@ impl<L: Link + Send> Hub<L> {
     {
         let client = seat.client;
         calls::perform(rt, &self.turns[board], &mut seat.passes[board], client)
+    }
+
+    /// Plans a body on a board for the seat's client, and asks it, whose number among the client's bodies it answers, from
+    /// 0. `reply_words` is the words of the longest reply to it. It waits for the lane. Every body that was planned for
+    /// the client on that board was asked before. A refusal is that of `Lane::plan` on the record found, and adds
+    /// nothing; after want of memory the body may stand planned and not asked.
+    #[tactic(auto, using(crate::proofs::Boards::idle_at))]
+    pub fn submit<R: Wait>(
+        &self,
+        rt: &R,
+        seat: &mut Seat,
+        board: usize,
+        body: Words,
+        reply_words: u32,
+    ) -> Result<u64, PlanRefusal>
+        requires board { board < length self.now.turns }
+        requires seat { IsSeatOf self.now seat.old }
+        requires reply { reply_words ≡ reply_room body }
+        requires all_asked { HasAskedAll seat.old board }
+        ensures submitted { IfOk result (λ seq.
+            ChangesAt board seat.old seat.new (λ k. MadeInTime k (HasSubmitted k body seq))) }
+        ensures refused { IfErr result (λ why.
+            ChangesAt board seat.old seat.new (λ k. MadeInTime k (SubmitRefused k body why))) }
+    {
+        let client = seat.client;
+        calls::submit(
+            rt,
+            &self.turns[board],
+            &mut seat.passes[board],
+            client,
+            body,
+            reply_words,
+        )
     }
 }

@@ -13,6 +13,6 @@ mod turns;
 
 pub use answers::{AskTry, Performed, StepTry};
 pub use hub::Hub;
+pub use hub_lane::{Asked, Lane, Link, NoMemory, Outcome, PlanRefusal, Turned, Words};
 pub use master::Master;
 pub use seat::Seat;
-pub use hub_lane::{Asked, Lane, Link, NoMemory, Outcome, PlanRefusal, Turned, Words};

@@ -45,7 +45,11 @@ impl Master {
     pub(crate) fn of(passes: Vec<Pass>, room: Pass) -> Master
         requires { IsMaster 0 passes.items room }
         ensures { result ≡ record {
-            seats = 0; turns = turns_of passes.items; room = room.turn; knows = knows_of passes.items } }
+          seats = 0;
+          turns = turns_of passes.items;
+          room = room.turn;
+          knows = knows_of passes.items;
+        } }
     {
         Master {
             seats: 0,
@@ -57,11 +61,7 @@ impl Master {
     /// One seat more. Its client is its number among the seats, from 1, and the number of its pass on each board. It has
     /// seen what the master has. Want of memory changes nothing.
     #[tactic(auto, using(crate::proofs::Seats::idle_split, crate::proofs::Seats::master_split, crate::proofs::Seats::turns_split_off, crate::proofs::Seats::turns_after_split, crate::proofs::Seats::knows_split_off, crate::proofs::Seats::knows_after_split))]
-    pub fn seat<L: Link + Send>(
-        &mut self,
-        alloc: Global,
-        hub: &Hub<L>,
-    ) -> Result<Seat, NoMemory>
+    pub fn seat<L: Link + Send>(&mut self, alloc: Global, hub: &Hub<L>) -> Result<Seat, NoMemory>
         requires hub { IsMasterOf hub.now self.old }
         requires few { self.old.seats < 2 ^ 32 - 1 }
         ensures seat { IfOk result (λ seat. seat ≡ record {

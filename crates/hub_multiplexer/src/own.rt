@@ -1,12 +1,13 @@
 //! What a call on a lane means to a pass of the client.
 
-ghost use Rattle.std.specs.Prelude.{◌≡◌, ◌≤◌, [], IfOk, IfErr, OnErr};
+ghost use Rattle.std.specs.Prelude.{◌≡◌, ◌≤◌, ◌<◌, [], IfOk, IfErr, OnErr};
 ghost use Rattle.transaction_codec.specs.Answer.{reply_room};
 ghost use Rattle.lane_record.specs.Items.{asked, planned};
 ghost use Rattle.turn_pass.specs.Pass.{Knowledge, Told};
 ghost use Rattle.lane_record.specs.Legal.{IsLegal};
 ghost use Rattle.hub_multiplexer.specs.Calls.{AskMeans, HasSubmitted, IsNone, StepMeans, SubmitRefused};
-ghost use Rattle.hub_multiplexer.specs.Lanes.{Means, shown};
+ghost use Rattle.hub_multiplexer.specs.Lanes.{IsAskedNext, Means, shown};
+ghost use Rattle.hub_lane.specs.declared.answers.PlanRefusal.TheVariants as refusals;
 ghost use Rattle.hub_multiplexer.specs.OwnItems.{of_client, own_items};
 
 use hub_lane::{Asked, Lane, Link, NoMemory, PlanRefusal, Stepped, Words};
@@ -70,11 +71,26 @@ pub(crate) fn submit_on<L: Link>(
     an_ask_is_of_its_plan();
     let planned = lane.plan(client, body, reply_words);
     tells_its_own(lane);
-    let seq = planned?;
-    let asked = lane.ask(client);
-    tells_its_own(lane);
-    match asked? {
-        Asked::Asked(_seq) => Ok(seq),
-        Asked::Nothing => unreachable!(),
+    match planned {
+        Ok(seq) => {
+            let asked = ask_planned(lane, client, seq);
+            tells_its_own(lane);
+            asked
+        }
+        Err(why) => Err(why),
+    }
+}
+
+/// Asks the body of this number, which is the client's next planned one.
+fn ask_planned<L: Link>(lane: &mut Lane<L>, client: u32, seq: u64) -> Result<u64, PlanRefusal>
+    requires client { 1 ≤ client }
+    requires next { asked client lane.old.items < planned client lane.old.items }
+    ensures asked { IfOk result (λ number. (number ≡ seq) × IsAskedNext lane.old client lane.new) }
+    ensures refused { IfErr result (λ why. (why ≡ refusals.NoMemory) × (lane.new ≡ lane.old)) }
+{
+    match lane.ask(client) {
+        Ok(Asked::Asked(_seq)) => Ok(seq),
+        Ok(Asked::Nothing) => unreachable!(),
+        Err(NoMemory) => Err(PlanRefusal::NoMemory),
     }
 }

@@ -1,4 +1,4 @@
-use Rattle.std.proofs.Common.{◌≡◌, ap, subst, ◌∙◌}
+use Rattle.std.proofs.Common.{ap, subst, ◌∙◌}
 use Rattle.turn_pass.specs.Pass.{PassState}
 use Rattle.hub_multiplexer.specs.Calls.{IsNone, MadeInTime, PerformMeans, StepMeans}
 use Rattle.hub_multiplexer.specs.declared.answers.Performed.TheVariants as performs

@@ -1,4 +1,4 @@
-use Rattle.std.proofs.Common.{rules, ◌≡◌, length, sym, ◌∙◌}
+use Rattle.std.proofs.Common.{rules, sym, ◌∙◌}
 use Rattle.hub_multiplexer.proofs.Joins.{board_inside, board_joined, same_length}
 use Rattle.hub_multiplexer.proofs.passes.join_all.Goals as goal
 

@@ -1,7 +1,7 @@
-use Rattle.std.proofs.Common.{◌≡◌, ◌+◌, ◌<◌, map, length, ap, sym, ◌∙◌, arith}
+use Rattle.std.proofs.Common.{length, ap, ◌∙◌, arith}
 use Rattle.std.proofs.lemmas.List.{length-map}
 use Rattle.turn_pass.specs.Pass.{PassState}
-use Rattle.hub_multiplexer.specs.Seats.{after_split, split_off, turns_of}
+use Rattle.hub_multiplexer.specs.Seats.{after_split, split_off}
 use Rattle.hub_multiplexer.proofs.Lists.{mapped_and_pushed}
 use Rattle.hub_multiplexer.proofs.passes.split_all.Goals as goal
 

@@ -1,5 +1,5 @@
-use Rattle.std.proofs.Common.{◌≡◌, ◌++◌, map, take, drop, length, vec_len, vec_capacity}
-use Rattle.hub_multiplexer.specs.Seats.{after_split, split_off, turns_of}
+use Rattle.std.proofs.Common.{◌≡◌, ◌++◌, map, take, drop, vec_len, vec_capacity}
+use Rattle.hub_multiplexer.specs.Seats.{after_split, split_off}
 use Rattle.hub_multiplexer.proofs.passes.split_all.Given as goal
 
 abbrev pub invariant-loop-i : goal.invariant-loop-i

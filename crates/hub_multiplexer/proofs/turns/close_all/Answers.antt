@@ -1,6 +1,5 @@
-use Rattle.std.proofs.Common.{rules, ◌≡◌, ◌+◌, ◌≤◌, ◌<◌, ◌++◌, ◌∷◌, [], List, map, length, ap, sym, subst, ◌∙◌, arith, vec_len}
+use Rattle.std.proofs.Common.{rules, ◌≡◌, ◌<◌, ◌++◌, ◌∷◌, [], map, length, ap, sym, subst, ◌∙◌, arith, vec_len}
 use Rattle.std.proofs.lemmas.List.{map-append}
-use Rattle.turn_pass.specs.Record.{Record}
 use Rattle.hub_multiplexer.specs.Ends.{AreEnded}
 use Rattle.hub_multiplexer.proofs.Ends.{one_closed}
 use Rattle.hub_multiplexer.proofs.turns.close_all.Goals as goal

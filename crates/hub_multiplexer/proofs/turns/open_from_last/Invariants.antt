@@ -1,4 +1,4 @@
-use Rattle.std.proofs.Common.{◌≡◌, ◌≤◌, ◌+◌, map, length, vec_len, vec_capacity}
+use Rattle.std.proofs.Common.{◌≤◌, ◌+◌, map, vec_len, vec_capacity}
 use Rattle.hub_multiplexer.specs.Openings.{IsOpening}
 use Rattle.hub_multiplexer.proofs.turns.open_from_last.Given as goal
 

@@ -1,6 +1,5 @@
-use Rattle.std.proofs.Common.{rules, ◌≡◌, ◌+◌, ◌≤◌, ◌++◌, ◌∷◌, [], map, reverse, ap, sym, ◌∙◌, arith}
+use Rattle.std.proofs.Common.{◌≡◌, ◌++◌, ◌∷◌, [], map, reverse, ap, ◌∙◌, arith}
 use Rattle.std.proofs.lemmas.List.{map-append}
-use Rattle.turn_pass.specs.Record.{Record}
 use Rattle.hub_multiplexer.specs.Openings.{openings_of}
 use Rattle.hub_multiplexer.proofs.Openings.{one_back}
 use Rattle.hub_multiplexer.proofs.turns.take_back.Goals as goal

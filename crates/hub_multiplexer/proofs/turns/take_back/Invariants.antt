@@ -1,4 +1,4 @@
-use Rattle.std.proofs.Common.{◌≡◌, ◌≤◌, ◌+◌, ◌++◌, map, reverse, length, vec_len, vec_capacity}
+use Rattle.std.proofs.Common.{◌≡◌, ◌≤◌, ◌+◌, ◌++◌, map, reverse, vec_len, vec_capacity}
 use Rattle.hub_multiplexer.specs.Openings.{AreFresh, openings_of}
 use Rattle.hub_multiplexer.proofs.turns.take_back.Given as goal
 

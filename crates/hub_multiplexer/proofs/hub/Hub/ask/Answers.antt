@@ -1,5 +1,5 @@
 use Rattle.std.proofs.lemmas.Result.{IfOk-weaker, on_err_weaker}
-use Rattle.hub_multiplexer.specs.Calls.{AskMeans, IsNone, Made, MadeInTime}
+use Rattle.hub_multiplexer.specs.Calls.{AskMeans, IsNone, MadeInTime}
 use Rattle.hub_multiplexer.proofs.Boards.{changes_at}
 use Rattle.hub_multiplexer.proofs.hub.Hub.ask.Goals as goal
 

@@ -1,4 +1,4 @@
-use Rattle.std.proofs.Common.{◌+◌, ap, sym, subst}
+use Rattle.std.proofs.Common.{◌+◌, sym, subst}
 use Rattle.std.specs.List.{AllByRecursion}
 use Rattle.hub_multiplexer.specs.Ends.{HasAllJoined}
 use Rattle.hub_multiplexer.specs.Seats.{MasterState}

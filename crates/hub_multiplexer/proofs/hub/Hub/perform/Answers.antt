@@ -1,5 +1,5 @@
 use Rattle.std.proofs.lemmas.Result.{IfOk-weaker, on_err_weaker}
-use Rattle.hub_multiplexer.specs.Calls.{IsNone, Made, MadeInTime, PerformMeans}
+use Rattle.hub_multiplexer.specs.Calls.{IsNone, MadeInTime, PerformMeans}
 use Rattle.hub_multiplexer.proofs.Boards.{changes_at}
 use Rattle.hub_multiplexer.proofs.hub.Hub.perform.Goals as goal
 
