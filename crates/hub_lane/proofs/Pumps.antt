@@ -383,7 +383,7 @@ pub lane_received : MessageSettles → RepliedLaw → QuietSettles → GaveUpLaw
     × KeepsOutcomes outcomes outcomes_now × (give_ups ≤ give_ups_now)
 lane_received message replied quiet gave_up settings status hub mid new bytes pumped items outcomes outcomes_now
     give_ups give_ups_now telling telling_now faults faults_now quiets quiets_now bodies quiet_bodies at waiting event
-        hub_is
+    hub_is
     outcomes_are give_ups_are quiets_are running is =
     let before = mid_after settings status hub mid items outcomes give_ups telling faults quiets at is in
     let done = event_after message replied quiet gave_up settings status mid bytes pumped items outcomes give_ups quiets

@@ -303,7 +303,7 @@ still_paid laws false mtu rounds g hub held now t le is =
 pub still_up : (down spent : Bool) (settings : Limits) (hub : Hub) (outcomes : List (Option Outcome))
     (telling : Option Telling) → down ≡ false → spent ≡ false
     → IfSome telling (IsStanding (down || spent) settings hub outcomes)
-        → IfSome telling (IsRunning settings hub outcomes)
+    → IfSome telling (IsRunning settings hub outcomes)
 still_up down spent settings hub outcomes telling d s is =
     subst (λ (b : Bool). IfSome telling (IsStanding b settings hub outcomes)) (neither down spent d s) is
 
@@ -327,4 +327,4 @@ pays_stopped laws stopped mtu rounds g g_now hub new held now telling None same 
 pays_stopped laws stopped mtu rounds g g_now hub new held now None (Some u) same g_is le is = absurd cc
 pays_stopped laws stopped mtu rounds g g_now hub new held now (Some t) (Some u) same g_is le is =
     subst (λ (n : ℕ). HasReached (rounds * n) now) (sym g_is) (still_paid laws stopped mtu rounds g hub held now t le
-        is)
+    is)

@@ -114,5 +114,5 @@ sound_lane law settings status hub items outcomes give_ups down spent telling fa
           opening t opens is.agrees.offered standing);
       held = shown (λ _. HasReached (settings.rounds * give_ups) held) (OpenedWith opening)
           (λ (board : Board). HasReached (settings.rounds * give_ups) held) telling paid opened (λ t is_paid opens.
-              is_paid);
+          is_paid);
     }

@@ -46,19 +46,19 @@ invariant_of-self-2 g c =
       lane_asks c.each_event_leads_to_a_state_of_a_run.ensures.offered c.only_an_offer_makes_more_bodies.ensures.offered
           c.an_ask_is_an_offer.ensures.offered c.a_failed_link_loses_what_waits.ensures.later l.settings status l.engine
           c.offer.new.engine items c.ask.new.self.items l.outcomes.items c.offer.new.outcomes.items l.give_ups l.down
-              l.spent
+          l.spent
           (g.L.Link.telling l.link) (g.L.Link.faults l.link) (g.L.Link.quiets l.link) client seq c.in_ok-body.body
           (λ kept. c.entries_go_into_the_book.ensures.ask items l.outcomes.items l.engine.window l.give_ups client seq
-              kept
+          kept
           may)
           (λ kept. c.entries_go_into_the_book.ensures.ask_in_vain items l.outcomes.items l.engine.window l.give_ups
-              client seq
+          client seq
           kept may) there can c.if-self.false
           hub_is entry
           (c.in_ok-offer.ensures.outcomes ∙ ap (λ (os : List (Option Outcome)). os
           ++ (if l.down then Some (LinkLost None) else None) ∷ []) c.in_ok-reserve-2.ensures.items) c.self.invariant.0,
       pays_asked c.laws_of_rounds.ensures l.down l.spent l.mtu l.settings.rounds l.give_ups l.engine c.offer.new.engine
           (length l.outcomes.items) c.in_ok-body.body (g.L.Link.held l.link) (g.L.Link.telling l.link) c.if-self.false
-              fits
+          fits
           hub_is c.self.invariant.1,
     )

@@ -26,7 +26,7 @@ invariant_of-self-2 g c =
           (lane_entry l.settings status l.engine items l.outcomes.items l.give_ups l.down l.spent
           (g.L.Link.telling l.link) (g.L.Link.faults l.link) (g.L.Link.quiets l.link) x refl can.fits
           (λ kept. c.entries_go_into_the_book.ensures.plan items l.outcomes.items l.engine.window l.give_ups
-              c.args.client
+          c.args.client
           (planned c.args.client items) c.args.body kept
           (record { some_client = c.requires.client; next = refl; unsealed = can.unsealed })) c.self.invariant.0),
       c.self.invariant.1,

@@ -35,16 +35,16 @@ invariant_of-self g c =
       (pump_received laws l.settings status l.engine l.book.items l.outcomes.items l.give_ups l.down l.spent
           (telling l.link) (faults l.link) (quiets l.link) c.if-self-2.false c.if-self.false c.self.invariant.0
           c.exchange.new.hub c.exchange.new.buffer.items c.in-Ok.pumped c.exchange.new.outcomes.items
-              c.exchange.new.give_ups
+          c.exchange.new.give_ups
           (telling c.exchange.new.link) (faults c.exchange.new.link) (quiets c.exchange.new.link)
           (sym c.waiting.ensures ∙ c.if-not-waiting.false) c.in-Ok.ensures.event c.in-Ok.ensures.hub
-              c.in-Ok.ensures.outcomes
+          c.in-Ok.ensures.outcomes
           c.in-Ok.ensures.give_ups c.in-Ok.ensures.quiets c.in-Ok.ensures.running).lane,
       pays_pumped l.down l.spent l.mtu l.settings.rounds l.give_ups c.exchange.new.give_ups l.engine c.exchange.new.hub
           (g.L.Link.held l.link) (g.L.Link.held c.exchange.new.link) (telling l.link) (telling c.exchange.new.link)
           c.if-self-2.false c.if-self.false c.self.invariant.0.knows.rounds (c.in-Ok.ensures.pays l.settings l.mtu
           (still_up l.down l.spent l.settings l.engine l.outcomes.items (telling l.link) c.if-self-2.false
-              c.if-self.false
+          c.if-self.false
           c.self.invariant.0.standing)) c.self.invariant.1,
     )
 
@@ -73,7 +73,7 @@ invariant_of-self-in-Err-Failed g c =
       pump_down laws l.settings status l.engine l.book.items l.outcomes.items l.give_ups l.down l.spent
           (telling l.link) (faults l.link) (quiets l.link) c.if-self-2.false c.if-self.false c.self.invariant.0
           c.exchange.new.hub c.exchange.new.outcomes.items c.lose_all.new.outcomes.items c.exchange.new.give_ups
-              c.sent.result
+          c.sent.result
           (telling c.exchange.new.link) (faults c.exchange.new.link) (quiets c.exchange.new.link)
           c.in-Err-Failed.ensures.sent c.in-Err-Failed.ensures.stopped (c.exchange.ensures.failed (cc))
           (c.exchange.ensures.failed_quiets (cc))
@@ -82,7 +82,7 @@ invariant_of-self-in-Err-Failed g c =
           c.exchange.new.give_ups
           l.engine c.exchange.new.hub (g.L.Link.held l.link) (g.L.Link.held c.exchange.new.link) (telling l.link)
           (telling c.exchange.new.link) c.exchange.ensures.board c.in-Err-Failed.ensures.same_give_ups
-              c.exchange.ensures.held
+          c.exchange.ensures.held
           c.self.invariant.1,
     )
 
@@ -119,7 +119,7 @@ invariant_of-self-in-Err-NoMemory g c =
           (pays_stopped c.laws_of_rounds.ensures (l.down || l.spent) l.mtu l.settings.rounds l.give_ups
           c.exchange.new.give_ups l.engine c.exchange.new.hub (g.L.Link.held l.link) (g.L.Link.held c.exchange.new.link)
           (telling l.link) (telling c.exchange.new.link) c.exchange.ensures.board
-              c.in-Err-NoMemory.ensures.same_give_ups
+          c.in-Err-NoMemory.ensures.same_give_ups
           c.exchange.ensures.held c.self.invariant.1),
     )
 

@@ -38,7 +38,7 @@ invariant_of-self-2 g c =
           (lane_entry l.settings status l.engine items outcomes l.give_ups l.down l.spent
           (g.L.Link.telling l.link) (g.L.Link.faults l.link) (g.L.Link.quiets l.link) x refl tt
           (λ kept. c.entries_go_into_the_book.ensures.took items outcomes l.engine.window l.give_ups c.args.client
-              c.args.seq
+          c.args.seq
           kept_is kept (record {
             k = at;
             claim = place.0;
