@@ -1,0 +1,5 @@
+mod Standing
+mod Sends
+mod Windows
+mod Linked
+mod Heard

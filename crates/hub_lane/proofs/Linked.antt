@@ -1,0 +1,137 @@
+-- A hub over a link, call by call.
+use Rattle.std.proofs.Common.{◌≡◌, ℕ, ◌+◌, ◌≤◌, Bool, true, false, List, [], ◌∷◌, ◌++◌, length}
+use Rattle.std.proofs.Common.{Option, Some, None, refl, sym, ap, ◌∙◌, subst, arith}
+use Rattle.std.specs.Prelude.{IfSome}
+use Rattle.std.specs.Prelude.{Result, Ok, Err}
+use Rattle.world_model.specs.Messages.{to_hub}
+use Rattle.world_model.specs.Hub.{Hub, hear_quiet, is_waiting, take_message}
+use Rattle.world_model.specs.Links.{IsHanded}
+use Rattle.world_model.specs.Sends.{Next, bytes_to_send, next_send}
+use Rattle.world_model.specs.Facts.{AreSendable, HasBodies}
+use Rattle.reliable_engine.specs.Answers.{hub_next}
+use Rattle.world_core.specs.declared.link.LinkFault.{LinkFault}
+use Rattle.world_core.specs.declared.link.LinkFault.TheVariants.{Failed, NoMemory}
+use Rattle.world_core.specs.Telling.{IfTelling, IsGot, IsQuiet, IsReceived, IsSent, Receives, Telling}
+use Rattle.hub_lane.specs.declared.answers.Pumped.{Pumped}
+use Rattle.hub_lane.specs.declared.answers.Pumped.TheVariants.{Reply, Status, Stray, Quiet, Idle, LinkDown}
+use Rattle.hub_lane.specs.Hearing.{IsHeardAs, WasReceived}
+use Rattle.hub_lane.specs.Sends.{HasSent, all_sent}
+use Rattle.hub_lane.specs.Standing.{GoesOn, IsRunning, IsStopped, Stops}
+use Rattle.hub_lane.proofs.Standing.{AirGrows, HandedLaw, HeardLaw, QuietLaw, SameBoard, SameFates, SendLaw}
+use Rattle.hub_lane.proofs.Standing.{after_call, got_running, if_told, other_running, quiet_running, refused_stopped}
+use Rattle.hub_lane.proofs.Standing.{sent_running}
+
+-- so far sends went out
+pub record IsSending (before : Option Telling) (old : Hub) (telling : Option Telling) (now : Hub)
+    (faults faults_now quiets quiets_now gots gots_now held held_now : ℕ) : Type 0 where
+  pub sent : AreSendable now.sent
+  pub queue : AreSendable now.queue
+  pub all : all_sent now ≡ all_sent old
+  pub some : HasSent old now
+  pub running : GoesOn before old telling now
+  pub fault : faults ≤ faults_now
+  pub quiet : quiets_now ≡ quiets
+  pub got : gots_now ≡ gots
+  pub hold : held ≤ held_now
+
+-- the bodies of the hub after a send
+abbrev pub SendKeepsBodies : Type 0
+SendKeepsBodies = (most : ℕ) (hub : Hub) (next : Next) → next_send hub ≡ Some next → HasBodies most hub
+    → HasBodies most next.hub
+
+spelled_by : SendKeepsBodies → (old new : Hub) (r : Option Next) → next_send old ≡ r → new ≡ hub_next old r
+    → AreSendable old.sent → AreSendable old.queue → AreSendable new.sent × AreSendable new.queue
+spelled_by law old new None is after sent queue =
+    subst (λ (h : Hub). AreSendable h.sent × AreSendable h.queue) (sym after) (sent, queue)
+spelled_by law old new (Some next) is after sent queue =
+    let kept = law (length old.sent + length old.queue) old next is
+    (record { few = omega arith; sent = sent; queue = queue }) in
+    subst (λ (h : Hub). AreSendable h.sent × AreSendable h.queue) (sym after) (kept.sent, kept.queue)
+
+pub still_spelled : SendKeepsBodies → (old new : Hub) → new ≡ hub_next old (next_send old)
+    → AreSendable old.sent → AreSendable old.queue → AreSendable new.sent × AreSendable new.queue
+still_spelled law old new after sent queue = spelled_by law old new (next_send old) refl after sent queue
+
+-- a send that the link took
+pub sent_on : SendLaw → SameFates → (begin old : Hub) (next : Next) (held now : ℕ)
+    (first telling after : Option Telling) → next_send old ≡ Some next
+    → GoesOn first begin telling old
+    → IfTelling telling after (IsSent (bytes_to_send next.hub next.send) held now)
+    → GoesOn first begin after next.hub
+sent_on law same begin old next held now first telling after is running call = λ limits outcomes start.
+    after_call (IsRunning limits old outcomes) (IsRunning limits next.hub outcomes)
+    (IsSent (bytes_to_send next.hub next.send) held now) telling after
+    (running limits outcomes start) call
+    (λ t u is_running sent. sent_running law same limits outcomes old next held now t u is is_running sent)
+
+-- a send that it did not take
+pub refused_on : (begin old : Hub) (next : Next) (first telling after : Option Telling) → next_send old ≡ Some next
+    → GoesOn first begin telling old → after ≡ telling → Stops first begin after next.hub
+refused_on begin old next first telling after is running same = λ limits outcomes start.
+    subst (λ (t : Option Telling). IfSome t (IsStopped limits next.hub outcomes)) (sym same)
+    (if_told (IsRunning limits old outcomes) (IsStopped limits next.hub outcomes) telling
+    (running limits outcomes start)
+    (λ t is_running. refused_stopped limits outcomes old next t is is_running))
+
+-- ---- a receive
+
+module _ (heard : HeardLaw) (longer : AirGrows) (board : SameBoard) where
+  -- one that brings the hub nothing
+  pub other_on : (hub : Hub) (by_hub : List ℕ) (held now : ℕ) (old new : Option Telling) → next_send hub ≡ None
+      → hub.fates ≡ [] → IfTelling old new (IsReceived by_hub held now) → GoesOn old hub new hub
+  other_on hub by_hub held now old new send none call = λ limits outcomes start.
+      after_call (IsRunning limits hub outcomes) (IsRunning limits hub outcomes) (IsReceived by_hub held now) old new
+      start call (λ t u is received. other_running heard longer board limits outcomes hub by_hub held now t u send none
+      is received)
+
+  pub fault_on : (hub : Hub) (fault : LinkFault) (bytes : List ℕ) (held now : ℕ) (old new : Option Telling)
+      → next_send hub ≡ None → hub.fates ≡ [] → IfTelling old new (Receives (Err fault) bytes held now)
+      → GoesOn old hub new hub
+  fault_on hub Failed bytes held now old new send none call = λ limits outcomes start.
+      after_call (IsRunning limits hub outcomes) (IsRunning limits hub outcomes)
+      (Receives (Err Failed) bytes held now) old new start call
+      (λ t u is same. subst (IsRunning limits hub outcomes) (sym same) is)
+  fault_on hub NoMemory bytes held now old new send none call = other_on hub [] held now old new send none call
+
+  -- one whose datagram the hub did not hear
+  pub unheard_on : (hub : Hub) (bytes : List ℕ) (held now : ℕ) (old new : Option Telling) → next_send hub ≡ None
+      → hub.fates ≡ [] → IfTelling old new (IsGot bytes held now) → GoesOn old hub new hub
+  unheard_on hub bytes held now old new send none call = λ limits outcomes start.
+      after_call (IsRunning limits hub outcomes) (IsRunning limits hub outcomes) (IsGot bytes held now) old new
+      start call (λ t u is got. other_running heard longer board limits outcomes hub (got.place ∷ []) held now t u send
+      none is got.received)
+
+  pub got_on : HandedLaw → (hub : Hub) (bytes : List ℕ) (held now : ℕ) (old new : Option Telling)
+      → next_send hub ≡ None → hub.fates ≡ [] → IfTelling old new (IsGot bytes held now)
+      → GoesOn old hub new (take_message hub (to_hub bytes))
+  got_on law hub bytes held now old new send none call = λ limits outcomes start.
+      after_call (IsRunning limits hub outcomes) (IsRunning limits (take_message hub (to_hub bytes)) outcomes)
+      (IsGot bytes held now) old new start call
+      (λ t u is got. got_running heard longer board law limits outcomes hub bytes held now t u send none is got)
+
+  pub quiet_on : QuietLaw → (hub : Hub) (held now : ℕ) (old new : Option Telling)
+      → next_send hub ≡ None → hub.fates ≡ [] → is_waiting hub ≡ true → IfTelling old new (IsQuiet held now)
+      → GoesOn old hub new (hear_quiet hub)
+  quiet_on law hub held now old new send none waits call = λ limits outcomes start.
+      after_call (IsRunning limits hub outcomes) (IsRunning limits (hear_quiet hub) outcomes) (IsQuiet held now) old new
+      start call (λ t u is quiet. quiet_running heard longer board law limits outcomes hub held now t u send none waits
+      is quiet)
+
+-- the datagram of a receive was handed out
+handed_of : (t : Telling) (bytes : List ℕ) (pumped : Pumped) (hub : Hub) → IsHeardAs hub (to_hub bytes) pumped
+    → IsHanded t.told bytes → WasReceived pumped bytes t
+handed_of t bytes (Reply place) hub is handed = handed
+handed_of t bytes Status hub is handed = handed
+handed_of t bytes Stray hub is handed = handed
+handed_of t bytes Quiet hub is handed = absurd is
+handed_of t bytes Idle hub is handed = tt
+handed_of t bytes LinkDown hub is handed = tt
+
+pub was_received : (bytes : List ℕ) (pumped : Pumped) (hub : Hub) (held now : ℕ) (old new : Option Telling)
+    → IsHeardAs hub (to_hub bytes) pumped → IfTelling old new (IsGot bytes held now)
+    → IfSome new (WasReceived pumped bytes)
+was_received bytes pumped hub held now None None is call = tt
+was_received bytes pumped hub held now None (Some u) is call = absurd call
+was_received bytes pumped hub held now (Some t) None is call = absurd call
+was_received bytes pumped hub held now (Some t) (Some u) is call =
+    handed_of u bytes pumped hub is (record { place = call.place; at = call.there })

@@ -1,0 +1,75 @@
+use Rattle.std.proofs.Common.{◌≡◌, ◌∙◌, ℕ, List, Ok, sym, subst, ap}
+use Rattle.world_model.specs.Hub.{Hub, hear_quiet, take_message}
+use Rattle.world_core.specs.declared.link.Received.{Received}
+use Rattle.world_core.specs.Telling.{IfTelling, IsGot, IsQuiet, Receives, Telling}
+use Rattle.world_model.specs.Messages.{to_hub}
+use Rattle.hub_lane.specs.Hearing.{IsHeardAs}
+use Rattle.hub_lane.specs.Standing.{GoesOn}
+use Rattle.hub_lane.proofs.Linked.{fault_on, got_on, quiet_on, unheard_on, was_received}
+use Rattle.hub_lane.proofs.exchange.receive.Goals as goal
+
+pub returns-in_err-receive-clause-running : goal.returns-in_err-receive-clause-running
+returns-in_err-receive-clause-running g c =
+    fault_on c.each_event_leads_to_a_state_of_a_run.ensures.heard c.a_link_forgets_nothing.ensures.air
+    c.a_link_forgets_nothing.ensures.board c.args.hub.now c.in_err-receive.field-0.0 c.receive.new.into.items
+    (g.L.Link.held c.args.link.now) (g.L.Link.held c.receive.new.self) (g.L.Link.telling c.args.link.now)
+    (g.L.Link.telling c.receive.new.self) c.requires.none c.requires.drained c.in_err-receive.ensures.received
+
+pub returns-in_err-hear-in-Got-clause-running : goal.returns-in_err-hear-in-Got-clause-running
+returns-in_err-hear-in-Got-clause-running g c =
+    let telling = g.L.Link.telling in
+    let held = g.L.Link.held in
+    let bytes = c.receive.new.into.items in
+    let got = subst (λ (r : Received). IfTelling (telling c.args.link.now) (telling c.receive.new.self)
+    (Receives (Ok r) bytes (held c.args.link.now) (held c.receive.new.self))) c.in-Got.is
+    c.in_ok-receive.ensures.received in
+    subst (λ (h : Hub). GoesOn (telling c.args.link.now) c.args.hub.now (telling c.receive.new.self) h)
+    (sym c.in_err-hear-in-Got.ensures.unchanged)
+    (unheard_on c.each_event_leads_to_a_state_of_a_run.ensures.heard c.a_link_forgets_nothing.ensures.air
+    c.a_link_forgets_nothing.ensures.board c.args.hub.now bytes
+    (held c.args.link.now) (held c.receive.new.self) (telling c.args.link.now)
+    (telling c.receive.new.self) c.requires.none c.requires.drained got)
+
+pub returns-in_ok-hear-in-Got-clause-received : goal.returns-in_ok-hear-in-Got-clause-received
+returns-in_ok-hear-in-Got-clause-received g c =
+    let telling = g.L.Link.telling in
+    let held = g.L.Link.held in
+    let bytes = c.receive.new.into.items in
+    let got = subst (λ (r : Received). IfTelling (telling c.args.link.now) (telling c.receive.new.self)
+    (Receives (Ok r) bytes (held c.args.link.now) (held c.receive.new.self))) c.in-Got.is
+    c.in_ok-receive.ensures.received in
+    was_received bytes c.in_ok-hear-in-Got.field-0 c.args.hub.now (held c.args.link.now) (held c.receive.new.self)
+    (telling c.args.link.now) (telling c.receive.new.self)
+    (subst (λ (heard : List ℕ). IsHeardAs c.args.hub.now (to_hub heard) c.in_ok-hear-in-Got.field-0)
+    c.deref.ensures.value c.in_ok-hear-in-Got.ensures.heard) got
+
+pub returns-in_ok-hear-in-Got-clause-running : goal.returns-in_ok-hear-in-Got-clause-running
+returns-in_ok-hear-in-Got-clause-running g c =
+    let telling = g.L.Link.telling in
+    let held = g.L.Link.held in
+    let bytes = c.receive.new.into.items in
+    let got = subst (λ (r : Received). IfTelling (telling c.args.link.now) (telling c.receive.new.self)
+    (Receives (Ok r) bytes (held c.args.link.now) (held c.receive.new.self))) c.in-Got.is
+    c.in_ok-receive.ensures.received in
+    subst (λ (h : Hub). GoesOn (telling c.args.link.now) c.args.hub.now (telling c.receive.new.self) h)
+    (sym (c.in_ok-hear-in-Got.ensures.hub
+    ∙ ap (λ (heard : List ℕ). take_message c.args.hub.now (to_hub heard)) c.deref.ensures.value))
+    (got_on c.each_event_leads_to_a_state_of_a_run.ensures.heard c.a_link_forgets_nothing.ensures.air
+    c.a_link_forgets_nothing.ensures.board c.each_event_leads_to_a_state_of_a_run.ensures.handed c.args.hub.now bytes
+    (held c.args.link.now) (held c.receive.new.self) (telling c.args.link.now)
+    (telling c.receive.new.self) c.requires.none c.requires.drained got)
+
+pub returns-in-Quiet-clause-running : goal.returns-in-Quiet-clause-running
+returns-in-Quiet-clause-running g c =
+    let telling = g.L.Link.telling in
+    let held = g.L.Link.held in
+    let bytes = c.receive.new.into.items in
+    let quiet = subst (λ (r : Received). IfTelling (telling c.args.link.now) (telling c.receive.new.self)
+    (Receives (Ok r) bytes (held c.args.link.now) (held c.receive.new.self))) c.in-Quiet.is
+    c.in_ok-receive.ensures.received in
+    subst (λ (h : Hub). GoesOn (telling c.args.link.now) c.args.hub.now (telling c.receive.new.self) h)
+    (sym c.on_quiet.ensures.hub)
+    (quiet_on c.each_event_leads_to_a_state_of_a_run.ensures.heard c.a_link_forgets_nothing.ensures.air
+    c.a_link_forgets_nothing.ensures.board c.each_event_leads_to_a_state_of_a_run.ensures.quiet c.args.hub.now
+    (held c.args.link.now) (held c.receive.new.self) (telling c.args.link.now)
+    (telling c.receive.new.self) c.requires.none c.requires.drained c.requires.waits quiet)

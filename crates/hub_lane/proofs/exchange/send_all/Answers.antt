@@ -1,0 +1,49 @@
+use Rattle.std.proofs.Common.{◌∙◌, ◌≡◌, ℕ, List, subst, sym, arith, ap}
+use Rattle.world_model.specs.Sends.{Next}
+use Rattle.world_core.specs.Telling.{IfTelling, IsSent}
+use Rattle.hub_lane.proofs.Sends.{all_out, next_is, none_is, one_less, same_hub, sent_more}
+use Rattle.hub_lane.proofs.Linked.{refused_on, sent_on, still_spelled}
+use Rattle.hub_lane.proofs.exchange.send_all.Goals as goal
+
+pub returns-in_err-bytes-clause-some : goal.returns-in_err-bytes-clause-some
+returns-in_err-bytes-clause-some g c =
+    sent_more c.args.hub.now c.loop-send.hub c.next_send.new.self c.next_send.ensures.hub c.loop-send.invariant.some
+
+pub returns-in_err-send-clause-some : goal.returns-in_err-send-clause-some
+returns-in_err-send-clause-some g c =
+    sent_more c.args.hub.now c.loop-send.hub c.next_send.new.self c.next_send.ensures.hub c.loop-send.invariant.some
+
+pub loop-send-preserved : goal.loop-send-preserved
+loop-send-preserved g c =
+    let before = c.loop-send in
+    let old = before.hub in
+    let new = c.next_send.new.self in
+    let send = c.in-Some.send in
+    let next : Next = record { send = send; hub = new } in
+    let is = next_is old new send c.in-Some.ensures.send c.next_send.ensures.hub in
+    let telling = g.L.Link.telling in
+    let held = g.L.Link.held in
+    let call = subst (λ (bytes : List ℕ). IfTelling (telling before.link) (telling c.send.new.self)
+    (IsSent bytes (held before.link) (held c.send.new.self))) (c.deref.ensures.value ∙ c.in_ok-bytes.ensures.bytes)
+    c.in_ok-send.ensures.sent in
+    let spelled = still_spelled c.only_an_offer_makes_more_bodies.ensures.sent old new c.next_send.ensures.hub
+    before.invariant.sent before.invariant.queue in
+    record {
+      sent = spelled.0;
+      queue = spelled.1;
+      all = one_less c.draining_ends.ensures.fewer old next is ∙ before.invariant.all;
+      some = sent_more c.args.hub.now old new c.next_send.ensures.hub before.invariant.some;
+      running = sent_on c.each_event_leads_to_a_state_of_a_run.ensures.sent c.a_send_leaves_the_fates.ensures.fates
+          c.args.hub.now old next (held before.link) (held c.send.new.self) (telling c.args.link.now)
+          (telling before.link) (telling c.send.new.self) is before.invariant.running call;
+      fault = (let a = before.invariant.fault in let b = c.send.ensures.faults in omega (arith, a, b));
+      quiet = c.send.ensures.quiets ∙ before.invariant.quiet;
+      got = c.send.ensures.gots ∙ before.invariant.got;
+      hold = (let a = before.invariant.hold in let b = c.send.ensures.held in omega (arith, a, b));
+    }
+
+pub returns-clause-all : goal.returns-clause-all
+returns-clause-all g c =
+    let told = sym c.in_default.is ∙ c.next_send.ensures.send in
+    let same = same_hub c.loop-send.hub c.next_send.new.self told c.next_send.ensures.hub in
+    same ∙ (sym (all_out c.loop-send.hub (none_is c.loop-send.hub told)) ∙ c.loop-send.invariant.all)

@@ -1,0 +1,155 @@
+-- What each call does to a lane. Profile.
+use Rattle.std.specs.Prelude.{◌≡◌, ◌⊎◌, ℕ, ◌+◌, ◌≤◌, Bool, true, false, if◌then◌else◌, List, [], ◌∷◌, ◌++◌, length}
+use Rattle.std.specs.Prelude.{Option, Some, None, IfSome}
+use Rattle.std.specs.List.{slice_get}
+use Rattle.world_model.specs.Hub.{Hub, is_waiting, offer}
+use Rattle.world_core.specs.Telling.{Telling}
+use Rattle.lane_record.specs.declared.outcome.Outcome.{Outcome}
+use Rattle.lane_record.specs.declared.outcome.Outcome.TheVariants.{Replied, TimedOut, LinkLost}
+use Rattle.lane_record.specs.declared.item.Item.{Item}
+use Rattle.lane_record.specs.NextEntry.{ask_of, the_seal, took_of}
+use Rattle.lane_record.specs.Items.{ask_in, asked, found, is_sealed, plan_in, planned, took_in}
+use Rattle.lane_record.specs.Claims.{Claim, IsAskOf, claims}
+use Rattle.lane_record.specs.Offers.{KeepsOutcomes, all_lost, put_all}
+use Rattle.hub_lane.specs.declared.answers.Asked.{Asked}
+use Rattle.hub_lane.specs.declared.answers.Asked.TheVariants as asks
+use Rattle.hub_lane.specs.declared.answers.Pumped.{Pumped}
+use Rattle.hub_lane.specs.declared.answers.Pumped.TheVariants.{Reply, Status, Stray, Quiet, Idle, LinkDown}
+use Rattle.hub_lane.specs.declared.answers.Taken.{Taken}
+use Rattle.hub_lane.specs.declared.answers.Taken.TheVariants.{Ready, NotYet}
+use Rattle.hub_lane.specs.Sends.{HasSent, all_sent, handed_out}
+use Rattle.hub_lane.specs.Hearing.{IsEventAs, WasReceived, give_ups_of, hub_after}
+use Rattle.hub_lane.specs.Lanes.{LaneState, with_item}
+
+-- a Seal is the next entry, unless one stands there
+abbrev pub sealed : {L : Type 0} → LaneState L → LaneState L
+sealed lane = if is_sealed lane.items then lane else with_item lane the_seal
+
+-- ---- ask
+
+-- the client's next body, which was planned
+pub record IsNextAsk (items : List Item) (client seq : ℕ) (body : List ℕ) : Type 0 where
+  pub number : seq ≡ asked client items
+  pub planned_there : found plan_in client seq items ≡ Some body
+
+-- the engine is offered the body under the number of the Ask
+abbrev pub offered : {L : Type 0} → LaneState L → ℕ → ℕ → List ℕ → LaneState L
+offered lane client seq body = record (with_item lane (ask_of client seq lane.give_ups)) {
+  hub = offer lane.hub (record { tag = length lane.outcomes; body = body });
+  outcomes = lane.outcomes ++ None ∷ [];
+}
+
+-- the link failed before
+abbrev pub asked_in_vain : {L : Type 0} → LaneState L → ℕ → ℕ → LaneState L
+asked_in_vain lane client seq = record (with_item lane (ask_of client seq lane.give_ups)) {
+  outcomes = lane.outcomes ++ Some (LinkLost None) ∷ [];
+}
+
+pub record Asks {L : Type 0} (old : LaneState L) (client seq : ℕ) (new : LaneState L) : Type 0 where
+  pub body : List ℕ
+  pub next : IsNextAsk old.items client seq body
+  pub became : new ≡ (if old.down then asked_in_vain old client seq else offered old client seq body)
+
+abbrev pub AsksAs : {L : Type 0} → LaneState L → ℕ → LaneState L → Asked → Type 0
+AsksAs old client new (asks.Asked seq) = Asks old client seq new
+AsksAs old client new asks.Nothing = (new ≡ old) × (asked client old.items ≡ planned client old.items)
+
+-- ---- pump
+
+-- no entry is added, and what became of an Ask stays
+pub record IsSameRecord {L : Type 0} (old new : LaneState L) : Type 0 where
+  pub settings : new.settings ≡ old.settings
+  pub status : new.status ≡ old.status
+  pub items : new.items ≡ old.items
+  pub outcomes : KeepsOutcomes old.outcomes new.outcomes
+  pub give_ups : old.give_ups ≤ new.give_ups
+
+-- the hub after an event, its fates among the outcomes; a quiet receive after which nobody waits was a give-up
+pub record Became {L : Type 0} (old : LaneState L) (event : Hub) (pumped : Pumped) (new : LaneState L) : Type 0 where
+  pub hub : new.hub ≡ handed_out event
+  pub outcomes : new.outcomes ≡ put_all event.fates old.outcomes
+  pub give_ups : new.give_ups ≡ give_ups_of pumped event old.give_ups
+  pub down : new.down ≡ false
+  pub spent : new.spent ≡ false
+
+-- All sends went out, and then came a datagram of these bytes, or none.
+pub record HasReceived {L : Type 0} (old : LaneState L) (telling : Option Telling) (pumped : Pumped)
+    (new : LaneState L) : Type 0 where
+  pub waited : is_waiting old.hub ≡ true
+  pub bytes : List ℕ
+  pub event : IsEventAs (all_sent old.hub) bytes pumped
+  pub received : IfSome telling (WasReceived pumped bytes)
+  pub became : Became old (hub_after pumped bytes (all_sent old.hub)) pumped new
+
+-- The link failed after some sends: what was without an outcome is lost, with its place where it was sent.
+pub record GoesDown {L : Type 0} (old new : LaneState L) : Type 0 where
+  pub hub : HasSent old.hub new.hub
+  pub outcomes : new.outcomes ≡ all_lost (length new.hub.sent) old.outcomes
+  pub give_ups : new.give_ups ≡ old.give_ups
+  pub down : new.down ≡ true
+  pub spent : new.spent ≡ false
+
+abbrev pub PumpsAs : {L : Type 0} → LaneState L → Option Telling → LaneState L → Pumped → Type 0
+PumpsAs old telling new (Reply place) = HasReceived old telling (Reply place) new
+PumpsAs old telling new Status = HasReceived old telling Status new
+PumpsAs old telling new Stray = HasReceived old telling Stray new
+PumpsAs old telling new Quiet = HasReceived old telling Quiet new
+PumpsAs old telling new Idle = (new ≡ old) × (is_waiting old.hub ≡ false) × (old.down ≡ false)
+PumpsAs old telling new LinkDown = ((old.down ≡ true) × (new ≡ old)) ⊎ ((old.down ≡ false) × GoesDown old new)
+
+-- memory ran out: some sends were taken from the hub
+pub record IsSpent {L : Type 0} (old new : LaneState L) : Type 0 where
+  pub spent : new.spent ≡ true
+  pub hub : HasSent old.hub new.hub
+  pub outcomes : new.outcomes ≡ old.outcomes
+  pub give_ups : new.give_ups ≡ old.give_ups
+  pub down : new.down ≡ old.down
+
+-- ---- take
+
+-- this body was asked under this number, and not taken
+pub record IsUntaken (items : List Item) (client seq k : ℕ) : Type 0 where
+  pub claim : Claim
+  pub ask : IsAskOf items k client seq claim
+  pub once : found took_in client seq items ≡ None
+
+-- the body was asked and not taken
+pub record WasAsked (items : List Item) (client seq : ℕ) : Type 0 where
+  pub number : ℕ
+  pub untaken : IsUntaken items client seq number
+
+-- what became of it, and its Took as the next entry
+pub record Takes {L : Type 0} (old : LaneState L) (client seq : ℕ) (new : LaneState L) (outcome : Outcome) : Type 0 where
+  pub number : ℕ
+  pub untaken : IsUntaken old.items client seq number
+  pub became : slice_get old.outcomes number ≡ Some (Some outcome)
+  pub entry : new ≡ with_item old (took_of client seq outcome old.give_ups)
+
+pub record TakesNothing {L : Type 0} (old : LaneState L) (client seq : ℕ) (new : LaneState L) : Type 0 where
+  pub number : ℕ
+  pub untaken : IsUntaken old.items client seq number
+  pub none_yet : slice_get old.outcomes number ≡ Some None
+  pub same : new ≡ old
+
+abbrev pub TakesAs : {L : Type 0} → LaneState L → ℕ → ℕ → LaneState L → Taken → Type 0
+TakesAs old client seq new (Ready outcome) = Takes old client seq new outcome
+TakesAs old client seq new NotYet = TakesNothing old client seq new
+
+-- ---- what is read
+
+-- an outcome is this reply at this place
+abbrev pub IsReplyOf : Option Outcome → ℕ → List ℕ → Type 0
+IsReplyOf outcome place words = outcome ≡ Some (Replied place words)
+
+-- a client got, or will get, this reply at this place
+pub record IsReplyAt (outcomes : List (Option Outcome)) (place : ℕ) (words : List ℕ) : Type 0 where
+  pub number : ℕ
+  pub there : slice_get outcomes number ≡ Some (Some (Replied place words))
+
+abbrev pub is_replied : Option Outcome → Bool
+is_replied (Some (Replied place words)) = true
+is_replied other = false
+
+abbrev pub is_lost_at_place : Option Outcome → Bool
+is_lost_at_place (Some (LinkLost (Some place))) = true
+is_lost_at_place other = false

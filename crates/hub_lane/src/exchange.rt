@@ -1,0 +1,214 @@
+//! A hub over any link: what it sends, what it hears, and what that settles.
+
+ghost use Rattle.std.specs.Prelude.{◌≡◌, ◌≤◌, ◌<◌, ◌+◌, ◌^◌, ℕ, [], true, None, Some, length, OnOk, OnErr, IfOk, IfSome, Err};
+ghost use Rattle.ipb_base.specs.Faults.{Rose};
+ghost use Rattle.packet_ids.specs.Identifier.{identifier_at};
+ghost use Rattle.reliable_engine.specs.Answers.{body_count};
+ghost use Rattle.world_model.specs.Messages.{Reply as ReplyTo, StatusReply, to_hub};
+ghost use Rattle.world_model.specs.Hub.{hear_reply, hear_status, is_waiting, places, take_message};
+ghost use Rattle.world_model.specs.Sends.{next_send};
+ghost use Rattle.world_model.specs.Facts.{AreSendable, IsWindow};
+ghost use Rattle.reliable_engine.specs.Settings.{Limits};
+ghost use Rattle.lane_record.specs.Offers.{put_all};
+ghost use Rattle.hub_lane.specs.Lanes.{IsReady};
+ghost use Rattle.hub_lane.specs.Hearing.{IsEventAs, IsHeardAs, WasReceived, give_ups_of, gots_of, hub_after, quiets_of};
+ghost use Rattle.hub_lane.specs.Sends.{HasSent, all_sent, handed_out};
+ghost use Rattle.hub_lane.specs.Standing.{GoesOn, IsRunning, Stops};
+
+use crate::answers::Pumped;
+use crate::outcomes::settle;
+use ipb_base::{NoMemory, Words};
+use lane_record::Outcome;
+use packet_ids::{Id, place_of};
+use reliable_engine::Engine;
+use reliable_engine::laws::draining_ends;
+use status_packet::Status;
+use std::alloc::Global;
+use world_core::laws::{
+    a_send_leaves_the_fates, each_event_leads_to_a_state_of_a_run, what_is_wanted_can_be_written,
+};
+use world_core::{Link, LinkFault, Message, Received, read_for_hub, write_sending};
+use world_model::laws::links::a_link_forgets_nothing;
+use world_model::laws::sends::only_an_offer_makes_more_bodies;
+
+/// Sends all that the hub wants, receives once, and puts what that settled among the outcomes. Where the link or memory
+/// fails, some sends were taken from the hub, and nothing is settled.
+pub(crate) fn exchange<L: Link>(
+    alloc: Global,
+    first: Id,
+    hub: &mut Engine,
+    link: &mut L,
+    buffer: &mut Vec<u8>,
+    outcomes: &mut Vec<Option<Outcome>>,
+    give_ups: &mut u64,
+) -> Result<Pumped, LinkFault>
+    requires ready { IsReady (length outcomes.old.items) hub.old }
+    requires waits { is_waiting hub.old ≡ true }
+    requires first { first ≡ hub.old.first }
+    requires few { length outcomes.old.items ≤ 2 ^ 62 }
+    requires few_give_ups { give_ups.old < 2 ^ 63 }
+    ensures event { IfOk result (IsEventAs (all_sent hub.old) buffer.new.items) }
+    ensures hub { IfOk result (λ pumped.
+        hub.new ≡ handed_out (hub_after pumped buffer.new.items (all_sent hub.old))) }
+    ensures outcomes { IfOk result (λ pumped. outcomes.new.items
+        ≡ put_all (hub_after pumped buffer.new.items (all_sent hub.old)).fates outcomes.old.items) }
+    ensures give_ups { IfOk result (λ pumped. give_ups.new
+        ≡ give_ups_of pumped (hub_after pumped buffer.new.items (all_sent hub.old)) give_ups.old) }
+    ensures received { IfOk result (λ pumped.
+        IfSome (L.telling link.new) (WasReceived pumped buffer.new.items)) }
+    ensures running { OnOk result ((limits : Limits)
+        → IfSome (L.telling link.old) (IsRunning limits hub.old outcomes.old.items)
+        → IfSome (L.telling link.new) (IsRunning limits hub.new outcomes.new.items)) }
+    ensures sent { OnErr result (HasSent hub.old hub.new) }
+    ensures same_outcomes { OnErr result (outcomes.new.items ≡ outcomes.old.items) }
+    ensures same_give_ups { OnErr result (give_ups.new ≡ give_ups.old) }
+    ensures stopped { OnErr result (Stops (L.telling link.old) hub.old (L.telling link.new) hub.new) }
+    ensures failed { result ≡ Err LinkFault.Failed → Rose (L.faults link.old) (L.faults link.new) }
+    ensures faults { L.faults link.old ≤ L.faults link.new }
+    ensures quiets { IfOk result (λ pumped. L.quiets link.new ≡ quiets_of pumped (L.quiets link.old)) }
+    ensures quiets_rise { L.quiets link.old ≤ L.quiets link.new }
+    ensures gots { IfOk result (λ pumped. L.gots link.new ≡ gots_of pumped (L.gots link.old)) }
+    ensures gots_rise { L.gots link.old ≤ L.gots link.new }
+    ensures held { L.held link.old ≤ L.held link.new }
+{
+    a_send_leaves_the_fates();
+    each_event_leads_to_a_state_of_a_run();
+    only_an_offer_makes_more_bodies();
+    send_all(alloc, hub, link)?;
+    let pumped = receive(alloc, first, hub, link, buffer)?;
+    settle(hub, outcomes, give_ups, pumped);
+    Ok(pumped)
+}
+
+/// Sends all that the hub wants. Where the link refuses a send, it was taken from the hub all the same.
+fn send_all<L: Link>(
+    alloc: Global,
+    hub: &mut Engine,
+    link: &mut L,
+) -> Result<(), LinkFault>
+    requires sent { AreSendable hub.old.sent }
+    requires queue { AreSendable hub.old.queue }
+    ensures all { OnOk result (hub.new ≡ all_sent hub.old) }
+    ensures none { OnOk result (next_send hub.new ≡ None) }
+    ensures some { HasSent hub.old hub.new }
+    ensures running { OnOk result (GoesOn (L.telling link.old) hub.old (L.telling link.new) hub.new) }
+    ensures stopped { OnErr result (Stops (L.telling link.old) hub.old (L.telling link.new) hub.new) }
+    ensures failed { result ≡ Err LinkFault.Failed → Rose (L.faults link.old) (L.faults link.new) }
+    ensures faults { L.faults link.old ≤ L.faults link.new }
+    ensures quiets { L.quiets link.new ≡ L.quiets link.old }
+    ensures gots { L.gots link.new ≡ L.gots link.old }
+    ensures held { L.held link.old ≤ L.held link.new }
+{
+    a_send_leaves_the_fates();
+    draining_ends();
+    each_event_leads_to_a_state_of_a_run();
+    only_an_offer_makes_more_bodies();
+    what_is_wanted_can_be_written();
+    while let Some(send) = hub.next_send() {
+        let bytes = write_sending(alloc, hub, send)?;
+        link.send(&bytes)?;
+    }
+    Ok(())
+}
+
+/// Receives once, when all is sent, and has the hub hear what came. `buffer` then holds the datagram. `first` is the
+/// identifier of place 1.
+fn receive<L: Link>(
+    alloc: Global,
+    first: Id,
+    hub: &mut Engine,
+    link: &mut L,
+    buffer: &mut Vec<u8>,
+) -> Result<Pumped, LinkFault>
+    requires none { next_send hub.old ≡ None }
+    requires drained { hub.old.fates ≡ [] }
+    requires waits { is_waiting hub.old ≡ true }
+    requires first { first ≡ hub.old.first }
+    requires window { IsWindow hub.old.window (length hub.old.sent) (places hub.old.open_places) }
+    requires few { body_count hub.old ≤ 2 ^ 62 }
+    ensures event { IfOk result (IsEventAs hub.old buffer.new.items) }
+    ensures hub { IfOk result (λ pumped. hub.new ≡ hub_after pumped buffer.new.items hub.old) }
+    ensures unchanged { OnErr result (hub.new ≡ hub.old) }
+    ensures received { IfOk result (λ pumped.
+        IfSome (L.telling link.new) (WasReceived pumped buffer.new.items)) }
+    ensures running { GoesOn (L.telling link.old) hub.old (L.telling link.new) hub.new }
+    ensures failed { result ≡ Err LinkFault.Failed → Rose (L.faults link.old) (L.faults link.new) }
+    ensures faults { L.faults link.old ≤ L.faults link.new }
+    ensures quiets { IfOk result (λ pumped. L.quiets link.new ≡ quiets_of pumped (L.quiets link.old)) }
+    ensures quiets_rise { L.quiets link.old ≤ L.quiets link.new }
+    ensures gots { IfOk result (λ pumped. L.gots link.new ≡ gots_of pumped (L.gots link.old)) }
+    ensures gots_rise { L.gots link.old ≤ L.gots link.new }
+    ensures held { L.held link.old ≤ L.held link.new }
+{
+    each_event_leads_to_a_state_of_a_run();
+    a_link_forgets_nothing();
+    match link.receive(buffer)? {
+        Received::Got => Ok(hear(alloc, first, hub, buffer)?),
+        Received::Quiet => {
+            hub.on_quiet();
+            Ok(Pumped::Quiet)
+        }
+    }
+}
+
+/// Hears a datagram that the link handed out. `first` is the identifier of place 1. Where memory ran out the hub has not
+/// heard it.
+fn hear(
+    alloc: Global,
+    first: Id,
+    hub: &mut Engine,
+    bytes: &[u8],
+) -> Result<Pumped, NoMemory>
+    requires first { first ≡ hub.old.first }
+    requires window { IsWindow hub.old.window (length hub.old.sent) (places hub.old.open_places) }
+    requires few { body_count hub.old ≤ 2 ^ 62 }
+    ensures heard { IfOk result (IsHeardAs hub.old (to_hub bytes.now)) }
+    ensures hub { OnOk result (hub.new ≡ take_message hub.old (to_hub bytes.now)) }
+    ensures unchanged { OnErr result (hub.new ≡ hub.old) }
+{
+    match read_for_hub(alloc, bytes)? {
+        Message::Reply { id, words } => Ok(hear_reply(first, hub, id, words)),
+        Message::Status(status) => Ok(hear_status(hub, &status)),
+        Message::Other => Ok(Pumped::Stray),
+    }
+}
+
+/// Hears a reply.
+fn hear_reply(first: Id, hub: &mut Engine, id: Id, words: Words) -> Pumped
+    requires first { first ≡ hub.old.first }
+    requires window { IsWindow hub.old.window (length hub.old.sent) (places hub.old.open_places) }
+    requires few { body_count hub.old ≤ 2 ^ 62 }
+    ensures heard { IsHeardAs hub.old (Some (ReplyTo id words)) result }
+    ensures hub { hub.new ≡ hear_reply hub.old id words }
+{
+    let named = last_with(first, hub.sent(), id);
+    if !hub.on_reply(id, words) {
+        return Pumped::Stray;
+    }
+    match named {
+        Some(place) => Pumped::Reply { place },
+        None => unreachable!(),
+    }
+}
+
+/// The place with an identifier among the last ones, as many as a window may have.
+fn last_with(first: Id, sent: u64, id: Id) -> Option<u64>
+    requires { sent ≤ 2 ^ 62 }
+    ensures { (place : ℕ) → 1 ≤ place → place ≤ sent → sent < place + 16 → identifier_at first place ≡ id
+        → result ≡ Some place }
+{
+    let low = sent.saturating_sub(15).max(1);
+    place_of(first, low, sent + 1 - low, id)
+}
+
+/// Hears a status reply.
+fn hear_status(hub: &mut Engine, status: &Status) -> Pumped
+    ensures heard { IsHeardAs hub.old (Some (StatusReply status.now.mtu status.now.buffers status.now.next)) result }
+    ensures hub { hub.new ≡ hear_status hub.old status.now.next }
+{
+    if hub.on_status(status) {
+        Pumped::Status
+    } else {
+        Pumped::Stray
+    }
+}

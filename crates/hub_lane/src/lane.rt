@@ -1,0 +1,340 @@
+//! A lane: the engine and the link of one board, and the record of what clients asked of it.
+
+ghost use Rattle.std.specs.Prelude.{◌≡◌, ◌≤◌, ◌<◌, ◌⊎◌, ◌^◌, ℕ, true, false, length, map, count_by, OnOk, OnErr, IfOk, IfErr};
+ghost use Rattle.std.specs.Prelude.{IfSome, IfNone, Err, List, if◌then◌else◌, ◌++◌, ◌∷◌, [], Some, None};
+ghost use Rattle.ipb_base.specs.Faults.{Rose};
+ghost use Rattle.ipb_base.specs.Numbers.{payload_of};
+ghost use Rattle.transaction_codec.specs.Answer.{reply_room};
+ghost use Rattle.lane_record.specs.Bounds.{timeouts};
+ghost use Rattle.hub_lane.specs.Entries.{entry_of};
+ghost use Rattle.std.specs.Vec.{vec_len, vec_capacity};
+ghost use Rattle.world_model.specs.Hub.{offer};
+ghost use Rattle.reliable_engine.specs.Answers.{body_count};
+ghost use Rattle.lane_record.specs.declared.outcome.Outcome.TheVariants.{LinkLost};
+ghost use Rattle.hub_lane.specs.Plans.{CanPlan, IsRefused, Plans};
+ghost use Rattle.hub_lane.specs.Hearing.{gots_of, quiets_of};
+ghost use Rattle.hub_lane.specs.Calls.{AsksAs, IsReplyAt, IsSameRecord, IsSpent, PumpsAs, TakesAs, WasAsked};
+ghost use Rattle.hub_lane.specs.Calls.{is_lost_at_place, is_replied, sealed};
+ghost use Rattle.hub_lane.specs.Lanes.{IsGreeted, IsLane, opened, status_of};
+
+use crate::answers::{Asked, PlanRefusal, Pumped, Taken};
+use crate::book::Book;
+use crate::exchange::exchange;
+use crate::outcomes::{copy_outcome, copy_words, count_of, lose_all, reply_at};
+use ipb_base::{NoMemory, Words};
+use lane_record::Outcome;
+use reliable_engine::{Engine, Settings};
+use status_packet::Status;
+use std::alloc::Global;
+use std::marker::Model;
+use turn_pass::Entry;
+use world_core::laws::each_event_leads_to_a_state_of_a_run;
+use world_core::{Link, LinkFault};
+
+/// The hub's side of one board: its engine, its link, and the record of what clients planned, asked and took (profile).
+/// Contracts see it as `LaneState`; what holds of it at the exit of every call is `IsLane`, which `is_sound` tells.
+pub struct Lane<L: Link> {
+    alloc: Global,
+    link: L,
+    settings: Settings,
+    status: Status,
+    engine: Engine,
+    buffer: Vec<u8>,
+    book: Book,
+    outcomes: Vec<Option<Outcome>>,
+    give_ups: u64,
+    down: bool,
+    spent: bool,
+}
+
+impl<L: Link> Model for Lane<L> {
+    ghost use Rattle.hub_lane.specs.Lanes.{IsLane, LaneState, status_of};
+
+    ghost Value = { LaneState L };
+
+    ghost view = { λ l. record {
+        link = l.link;
+        settings = l.settings;
+        status = status_of l.status;
+        hub = l.engine;
+        items = l.book.items;
+        outcomes = l.outcomes.items;
+        give_ups = l.give_ups;
+        down = l.down;
+        spent = l.spent;
+    } };
+
+    ghost invariant = { λ l. IsLane l.settings
+        (status_of l.status)
+        l.engine l.book.items l.outcomes.items l.give_ups l.down l.spent (L.telling l.link) (L.faults l.link)
+        (L.quiets l.link) };
+}
+
+impl<L: Link> Lane<L> {
+    /// What holds of every lane. It does nothing when it runs.
+    pub fn is_sound(&self)
+        ensures { IsLane self.now.settings self.now.status self.now.hub self.now.items self.now.outcomes
+            self.now.give_ups self.now.down self.now.spent (L.telling self.now.link) (L.faults self.now.link)
+            (L.quiets self.now.link) }
+    {
+        let _down = &self.down;
+    }
+
+    /// The lane of a link whose board told this status in the greeting. Where memory ran out the link is given back.
+    pub(crate) fn new(
+        alloc: Global,
+        link: L,
+        settings: Settings,
+        status: Status,
+    ) -> Result<Lane<L>, L>
+        requires greeted { IfSome (L.telling link) (IsGreeted settings (status_of status)) }
+        ensures made { IfOk result (λ lane. lane ≡ opened link settings (status_of status)) }
+        ensures given_back { IfErr result (λ back. back ≡ link) }
+    {
+        let Ok(book) = Book::new(alloc) else {
+            return Err(link);
+        };
+        let Ok(engine) = Engine::new(alloc, settings, status) else {
+            return Err(link);
+        };
+        let _window = settings.window();
+        let _next = status.next.get();
+        each_event_leads_to_a_state_of_a_run();
+        Ok(Lane {
+            alloc,
+            link,
+            settings,
+            status,
+            engine,
+            buffer: Vec::new(alloc),
+            book,
+            outcomes: Vec::new(alloc),
+            give_ups: 0,
+            down: false,
+            spent: false,
+        })
+    }
+
+    /// The words of the longest packet of the board, its header included: P of the MTU that it told.
+    pub fn payload(&self) -> u32
+        ensures { result ≡ payload_of self.now.status.mtu }
+    {
+        (self.status.mtu - 28) / 4
+    }
+
+    /// How many first sends there were: the place of the last one.
+    pub fn sent(&self) -> u64
+        ensures { result ≡ length self.now.hub.sent }
+    {
+        self.engine.sent()
+    }
+
+    /// The reply that a client got, or will get, at a place. `None` where there is none.
+    pub fn reply_at(&self, place: u64) -> Option<&[u32]>
+        ensures some { IfSome result (λ words. IsReplyAt self.now.outcomes place words.now) }
+        ensures none { IfNone result ((words : List ℕ) → ¬ IsReplyAt self.now.outcomes place words) }
+    {
+        reply_at(&self.outcomes, place)
+    }
+
+    /// How many places have the fate Replied, TimedOut and LinkLost, in this order.
+    pub fn counts(&self) -> (u64, u64, u64)
+        ensures replied { result.0 ≡ count_by is_replied self.now.outcomes }
+        ensures timed_out { result.1 ≡ timeouts self.now.outcomes }
+        ensures lost { result.2 ≡ count_by is_lost_at_place self.now.outcomes }
+    {
+        count_of(&self.outcomes)
+    }
+
+    /// The entries of the record, in order: who made each, its kind (1 Plan, 2 Seal, 3 Ask, 4 Took), and its number.
+    pub fn entries(&self) -> &[Entry]
+        ensures { result.now ≡ map entry_of self.now.items }
+    {
+        self.book.entries()
+    }
+
+    /// The link, given back.
+    pub fn close(self) -> L
+        ensures { result ≡ self.link }
+    {
+        let Lane {
+            alloc: _alloc,
+            link,
+            settings: _settings,
+            status: _status,
+            engine: _engine,
+            buffer: _buffer,
+            book: _book,
+            outcomes: _outcomes,
+            give_ups: _give_ups,
+            down: _down,
+            spent: _spent,
+        } = self;
+        link
+    }
+
+    /// Plans a body for a client, from 1. `reply_words` is the words of the longest reply to it. Answers the body's number
+    /// among the client's, from 0. A body that is refused changes nothing.
+    pub fn plan(&mut self, client: u32, body: Words, reply_words: u32) -> Result<u64, PlanRefusal>
+        requires client { 1 ≤ client }
+        requires reply { reply_words ≡ reply_room body }
+        ensures planned { IfOk result (Plans self.old client body self.new) }
+        ensures refused { IfErr result (IsRefused self.old.items (payload_of self.old.status.mtu) body) }
+        ensures unchanged { OnErr result (self.new ≡ self.old) }
+    {
+        self.check_plan(body.as_slice(), reply_words)?;
+        self.book.reserve()?;
+        Ok(self.book.plan(client, body, reply_words)?)
+    }
+
+    /// Closes planning for all clients. A second time it changes nothing.
+    pub fn seal(&mut self)
+        ensures { self.new ≡ sealed self.old }
+    {
+        if !self.book.is_sealed() {
+            self.book.seal();
+        }
+    }
+
+    /// Asks the client's next planned body: the engine is offered it, or it is lost where the link failed before. After
+    /// want of memory in a pump it answers want of memory. An `Err` changes nothing.
+    pub fn ask(&mut self, client: u32) -> Result<Asked, NoMemory>
+        requires client { 1 ≤ client }
+        ensures asked { IfOk result (AsksAs self.old client self.new) }
+        ensures unchanged { OnErr result (self.new ≡ self.old) }
+    {
+        if self.spent {
+            return Err(NoMemory);
+        }
+        let Some(body) = self.book.next(client) else {
+            return Ok(Asked::Nothing);
+        };
+        let body = copy_words(self.alloc, body.as_slice())?;
+        self.book.reserve()?;
+        self.outcomes.reserve(1)?;
+        offer(&mut self.engine, &mut self.outcomes, self.down, body)?;
+        Ok(Asked::Asked(self.book.ask(client, self.give_ups)))
+    }
+
+    /// Sends all that the engine wants, in its order, and then receives once. After want of memory the lane is spent, and
+    /// every later pump answers want of memory. Where the link fails, now or before, every body that has no outcome is
+    /// lost.
+    pub fn pump(&mut self) -> Result<Pumped, NoMemory>
+        ensures pumped { IfOk result (PumpsAs self.old (L.telling self.new.link) self.new) }
+        ensures same { IsSameRecord self.old self.new }
+        ensures not_spent { OnOk result (self.old.spent ≡ false) }
+        ensures spent { OnErr result ((self.old.spent ≡ true) ⊎ (self.old.down ≡ false)) }
+        ensures stays_spent { OnErr result (IsSpent self.old self.new) }
+        ensures down { IfOk result (λ _. self.new.down ≡ true → (self.old.down ≡ true)
+            ⊎ Rose (L.faults self.old.link) (L.faults self.new.link)) }
+        ensures faults { L.faults self.old.link ≤ L.faults self.new.link }
+        ensures quiets { IfOk result (λ pumped.
+            L.quiets self.new.link ≡ quiets_of pumped (L.quiets self.old.link)) }
+        ensures quiets_rise { L.quiets self.old.link ≤ L.quiets self.new.link }
+        ensures gots { IfOk result (λ pumped. L.gots self.new.link ≡ gots_of pumped (L.gots self.old.link)) }
+        ensures gots_rise { L.gots self.old.link ≤ L.gots self.new.link }
+        ensures held { L.held self.old.link ≤ L.held self.new.link }
+    {
+        if self.spent {
+            return Err(NoMemory);
+        }
+        if self.down {
+            return Ok(Pumped::LinkDown);
+        }
+        if !self.engine.waiting() {
+            return Ok(Pumped::Idle);
+        }
+        match exchange(
+            self.alloc,
+            self.status.next,
+            &mut self.engine,
+            &mut self.link,
+            &mut self.buffer,
+            &mut self.outcomes,
+            &mut self.give_ups,
+        ) {
+            Ok(pumped) => Ok(pumped),
+            Err(LinkFault::Failed) => {
+                lose_all(&mut self.outcomes, self.engine.sent());
+                self.down = true;
+                Ok(Pumped::LinkDown)
+            }
+            Err(LinkFault::NoMemory) => {
+                self.spent = true;
+                Err(NoMemory)
+            }
+        }
+    }
+
+    /// What became of a body that was asked and not taken, if anything did; then its Took is the next entry. Want of
+    /// memory changes nothing.
+    pub fn take(&mut self, client: u32, seq: u64) -> Result<Taken, NoMemory>
+        requires client { 1 ≤ client }
+        requires asked { WasAsked self.old.items client seq }
+        ensures taken { IfOk result (TakesAs self.old client seq self.new) }
+        ensures unchanged { OnErr result (self.new ≡ self.old) }
+    {
+        let Some(at) = self.book.ask_at(client, seq) else {
+            return Ok(Taken::NotYet);
+        };
+        let Some(outcome) = &self.outcomes[at] else {
+            return Ok(Taken::NotYet);
+        };
+        let answer = copy_outcome(self.alloc, outcome)?;
+        let kept = copy_outcome(self.alloc, outcome)?;
+        self.book.reserve()?;
+        self.book.take(client, seq, kept, self.give_ups);
+        Ok(Taken::Ready(answer))
+    }
+
+    /// Whether a body may be planned.
+    fn check_plan(&self, body: &[u32], reply_words: u32) -> Result<(), PlanRefusal>
+        requires reply { reply_words ≡ reply_room body.now }
+        ensures can { OnOk result (CanPlan self.now.items (payload_of self.now.status.mtu) body.now) }
+        ensures refused { IfErr result (IsRefused self.now.items (payload_of self.now.status.mtu) body.now) }
+    {
+        let payload = self.payload() as usize;
+        if self.book.is_sealed() {
+            return Err(PlanRefusal::Sealed);
+        }
+        if body.len() >= payload {
+            return Err(PlanRefusal::TooLong);
+        }
+        if reply_words as usize >= payload {
+            return Err(PlanRefusal::ReplyTooLong);
+        }
+        if self.book.is_full(body.len(), reply_words) {
+            return Err(PlanRefusal::Overfull);
+        }
+        Ok(())
+    }
+}
+
+/// Offers a body to the engine under the number of its Ask, or it is lost where the link failed. There is room for its
+/// outcome.
+pub(crate) fn offer(
+    engine: &mut Engine,
+    outcomes: &mut Vec<Option<Outcome>>,
+    down: bool,
+    body: Words,
+) -> Result<(), NoMemory>
+    requires room { vec_len outcomes.old < vec_capacity outcomes.old }
+    requires few { body_count engine.old < 2 ^ 62 }
+    ensures engine { OnOk result (engine.new ≡ (if down then engine.old
+        else offer engine.old (record { tag = length outcomes.old.items; body = body }))) }
+    ensures outcomes { OnOk result (outcomes.new.items ≡ outcomes.old.items
+        ++ (if down then Some (LinkLost None) else None) ∷ []) }
+    ensures same_engine { OnErr result (engine.new ≡ engine.old) }
+    ensures same_outcomes { OnErr result (outcomes.new.items ≡ outcomes.old.items) }
+{
+    if down {
+        outcomes.push_reserved(Some(Outcome::LinkLost { place: None }));
+        return Ok(());
+    }
+    let tag = outcomes.len() as u64;
+    if engine.offer(tag, body).is_err() {
+        return Err(NoMemory);
+    }
+    outcomes.push_reserved(None);
+    Ok(())
+}

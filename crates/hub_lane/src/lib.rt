@@ -1,0 +1,17 @@
+//! One board's lane: its engine over its link, and the record of what clients asked and got.
+#![tactic(auto)]
+
+mod answers;
+mod book;
+mod exchange;
+mod lane;
+mod outcomes;
+mod rows;
+
+pub use answers::{Asked, BoardState, PlanRefusal, Pumped, Taken};
+pub use book::{MAX_BODIES, MAX_WORDS};
+pub use ipb_base::{NoMemory, Words};
+pub use lane::Lane;
+pub use lane_record::Outcome;
+pub use turn_pass::Entry;
+pub use world_core::{Link, LinkFault, Received, Settings};

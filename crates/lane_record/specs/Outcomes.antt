@@ -1,0 +1,40 @@
+-- What an outcome tells of its body. Profile.
+use Rattle.std.specs.Prelude.{ℕ, Bool, true, false, Option, Some, None, is_some}
+use Rattle.lane_record.specs.declared.outcome.Outcome.{Outcome}
+use Rattle.lane_record.specs.declared.outcome.Outcome.TheVariants.{Replied, TimedOut, Unsent, LinkLost}
+
+-- the place of a body that has one
+abbrev pub place_of : Outcome → Option ℕ
+place_of (Replied place words) = Some place
+place_of (TimedOut place rounds) = Some place
+place_of Unsent = None
+place_of (LinkLost place) = place
+
+abbrev pub is_replied : Outcome → Bool
+is_replied (Replied place words) = true
+is_replied (TimedOut place rounds) = false
+is_replied Unsent = false
+is_replied (LinkLost place) = false
+
+-- only a give-up of the hub ends a body so
+abbrev pub is_given_up : Outcome → Bool
+is_given_up (Replied place words) = false
+is_given_up (TimedOut place rounds) = true
+is_given_up Unsent = true
+is_given_up (LinkLost place) = false
+
+abbrev pub is_timed_out : Outcome → Bool
+is_timed_out (Replied place words) = false
+is_timed_out (TimedOut place rounds) = true
+is_timed_out Unsent = false
+is_timed_out (LinkLost place) = false
+
+abbrev pub is_lost : Outcome → Bool
+is_lost (Replied place words) = false
+is_lost (TimedOut place rounds) = false
+is_lost Unsent = false
+is_lost (LinkLost place) = true
+
+-- whether the body was sent
+abbrev pub is_sent : Outcome → Bool
+is_sent outcome = is_some (place_of outcome)

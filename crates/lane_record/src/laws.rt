@@ -1,0 +1,6 @@
+//! Laws of the definitions. These functions do nothing when they run: their clauses are what is proved.
+
+pub mod book;
+pub mod entries;
+pub mod finished;
+pub mod offers;
