@@ -2,3 +2,5 @@ pub mod Order
 pub mod Parts
 pub mod InTurn
 pub mod History
+pub mod Patience
+pub mod Merges

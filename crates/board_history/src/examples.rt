@@ -4,7 +4,7 @@
 ghost use Rattle.std.specs.Prelude.{◌≡◌, ℕ, List, ◌∷◌, []};
 ghost use Rattle.board_bus.specs.declared.kind.RangeKind.TheVariants.{Rw};
 ghost use Rattle.board_bus.specs.Ranges.{opening_bus};
-ghost use Rattle.transcript.specs.declared.outcome.Outcome.TheVariants.{Replied};
+ghost use Rattle.lane_record.specs.declared.outcome.Outcome.TheVariants.{Replied};
 ghost use Rattle.board_history.specs.Order.{order};
 ghost use Rattle.board_history.specs.InTurn.{in_turn};
 

@@ -3,9 +3,10 @@
 ghost use Rattle.std.specs.Prelude.{◌≡◌, ℕ, List, map, length};
 ghost use Rattle.std.specs.List.{flat_map};
 ghost use Rattle.board_bus.specs.Cells.{CellMap};
-ghost use Rattle.transcript.specs.declared.outcome.Outcome.{Outcome};
+ghost use Rattle.lane_record.specs.declared.outcome.Outcome.{Outcome};
 ghost use Rattle.transcript.specs.declared.board_run.BoardRun.{BoardRun};
-ghost use Rattle.transcript.specs.Lines.{is_sent, outcomes_on};
+ghost use Rattle.lane_record.specs.Outcomes.{is_sent};
+ghost use Rattle.transcript.specs.Lines.{outcomes_on};
 ghost use Rattle.transcript.specs.declared.board_run.ClientPart.{ClientPart};
 ghost use Rattle.transcript.specs.Ends.{ends_of};
 ghost use Rattle.transcript.specs.Claims.{HaveOwnPlaces};

@@ -7,9 +7,9 @@ use Rattle.mtu_packer.specs.Packed.{Contents, deal}
 use Rattle.mtu_packer.proofs.Dealing.{joined_deal}
 use Rattle.board_node.specs.declared.spec.BoardSpec.{BoardSpec}
 use Rattle.script_lang.specs.declared.operation.Step.{Step}
-use Rattle.transcript.specs.declared.outcome.Outcome.{Outcome}
-use Rattle.transcript.specs.declared.outcome.Greeting.{Greeting}
-use Rattle.transcript.specs.declared.outcome.Greeting.TheVariants.{Live, Silent, Down}
+use Rattle.lane_record.specs.declared.outcome.Outcome.{Outcome}
+use Rattle.transcript.specs.declared.greeting.Greeting.{Greeting}
+use Rattle.transcript.specs.declared.greeting.Greeting.TheVariants.{Live, Silent, Down}
 use Rattle.transcript.specs.declared.board_run.ClientPart.{ClientPart}
 use Rattle.transcript.specs.declared.board_run.BoardRun.{BoardRun}
 use Rattle.transcript.specs.Plan.{ClientBodies, no_bodies, bodies_in, with_dispatch, all_dispatches, plan, planned_on}

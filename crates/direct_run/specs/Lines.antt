@@ -13,8 +13,8 @@ use Rattle.transcript.specs.declared.line.OpResult.TheVariants.{Value, Done, Was
 use Rattle.transcript.specs.declared.line.OpResult.TheVariants.{LinkLost, Garbled}
 use Rattle.transcript.specs.declared.line.OpLine.{OpLine}
 use Rattle.transcript.specs.Plan.{dispatches, ops_on, operations}
-use Rattle.transcript.specs.declared.outcome.Greeting.{Greeting}
-use Rattle.transcript.specs.declared.outcome.Greeting.TheVariants.{Live, Silent, Down}
+use Rattle.transcript.specs.declared.greeting.Greeting.{Greeting}
+use Rattle.transcript.specs.declared.greeting.Greeting.TheVariants.{Live, Silent, Down}
 use Rattle.board_node.specs.declared.spec.BoardSpec.{BoardSpec}
 use Rattle.direct_run.specs.Runs.{CanRun, greeting_of}
 use Rattle.direct_run.specs.Answering.{OpensWithWords}
