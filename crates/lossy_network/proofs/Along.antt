@@ -1,7 +1,7 @@
 -- What is kept along every list of calls: by each send, by each datagram that is taken from the front, and by each that
 -- is handed out.
-use Rattle.std.proofs.Common.{◌≡◌, ◌⊎◌, inl, inr, ◌∙◌, ℕ, zero, suc, ◌+◌, ◌<◌, ◌≤◌, Bool, true, false, cond, List, []}
-use Rattle.std.proofs.Common.{◌∷◌, ◌++◌, length, nat_lt, Option, Some, None, refl, sym, ap, subst, arith, append_assoc}
+use Rattle.std.proofs.Common.{◌≡◌, ◌⊎◌, inl, inr, ◌∙◌, ℕ, zero, suc, ◌+◌, ◌≤◌, Bool, true, false, cond, List, []}
+use Rattle.std.proofs.Common.{◌∷◌, ◌++◌, length, nat_lt, Option, Some, None, refl, ap, subst, arith, append_assoc}
 use Rattle.std.specs.List.{slice_get}
 use Rattle.std.proofs.lemmas.Bool.{ltb-true}
 use Rattle.std.proofs.lemmas.Bool.Decides.{nat_tests}
@@ -13,7 +13,7 @@ use Rattle.lossy_network.specs.Fates.{fate_at}
 use Rattle.lossy_network.specs.Traffic.{Traffic, put_on}
 use Rattle.lossy_network.specs.Network.{ByBoard, ByHub, Dropped, ForHub, Front, Network, Nothing, Receipt, Taken, Taking}
 use Rattle.lossy_network.specs.Network.{all_taken, called, failed, fails, front, front_of, front_with, hub_bytes}
-use Rattle.lossy_network.specs.Network.{most_takings, put_at, received, sent, takes, with_queue}
+use Rattle.lossy_network.specs.Network.{most_takings, put_at, received, takes, with_queue}
 use Rattle.lossy_network.specs.Receipts.{GotReceipt, QuietReceipt}
 use Rattle.lossy_network.specs.Calls.{Call, Receive, RefusedReceive, RefusedSend, Send, after_call, after_calls, all_takings}
 use Rattle.lossy_network.specs.Calls.{done, handing_out, taken_by, taken_in, takings}
@@ -182,7 +182,6 @@ fates_stay : (net : Network) (call : Call) → (after_call net call).fates ≡ n
 fates_stay net call = ap (λ (p : Fates × List ℕ). p.0) (constants_stay net call)
 
 module _ (fates : Fates) (P : Told → Traffic → List Taking → Type 0) (kept : IsKept fates P) where
-
   one_kept : (net after : Network) (taking : Taking) (ts : List Taking) → net.fates ≡ fates
       → WasDropped net after taking ⊎ WasHeard net after taking → AtLink P net ts
       → AtLink P after (ts ++ taking ∷ [])

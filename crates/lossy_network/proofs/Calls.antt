@@ -1,9 +1,9 @@
 -- What calls leave as it was.
-use Rattle.std.proofs.Common.{◌≡◌, ◌∙◌, ℕ, zero, suc, ◌+◌, ◌≤◌, Bool, true, false, cond, List, [], ◌∷◌, length, nat_lt}
+use Rattle.std.proofs.Common.{◌≡◌, ◌∙◌, ℕ, zero, suc, Bool, true, false, cond, List, [], ◌∷◌, length, nat_lt}
 use Rattle.std.proofs.Common.{Option, Some, None, refl, sym, ap, subst}
 use Rattle.std.specs.List.{slice_get}
 use Rattle.world_model.specs.Links.{Told, heard_by}
-use Rattle.lossy_network.specs.Network.{ForHub, Front, Network, Nothing, Taken, Taking, front, front_of, front_with, heard}
+use Rattle.lossy_network.specs.Network.{ForHub, Front, Network, Nothing, Taken, Taking, front, front_of, front_with}
 use Rattle.lossy_network.specs.Network.{hub_bytes, put_at, takes, with_queue}
 use Rattle.lossy_network.proofs.Takings.{still, takes_one}
 

@@ -1,5 +1,5 @@
 -- The front of the queue, as the code finds it.
-use Rattle.std.proofs.Common.{◌≡◌, ◌∙◌, ℕ, ◌<◌, Bool, true, false, List, [], ◌∷◌, length, nat_lt, Option, Some, None}
+use Rattle.std.proofs.Common.{◌≡◌, ◌∙◌, ℕ, ◌<◌, true, false, List, ◌∷◌, length, nat_lt, Option, Some, None}
 use Rattle.std.proofs.Common.{refl, sym, ap, subst, drop, arith, ◌≤◌}
 use Rattle.std.proofs.lemmas.Bool.{lt-ltb}
 use Rattle.std.proofs.lemmas.Bool.Decides.{nat_tests}
@@ -9,7 +9,7 @@ use Rattle.lossy_network.specs.Fates.{fate_at}
 use Rattle.lossy_network.specs.Traffic.{Traffic, put_on}
 use Rattle.std.specs.List.{slice_get}
 use Rattle.world_model.specs.Links.{Told, heard_by}
-use Rattle.lossy_network.specs.Network.{ByBoard, Dropped, Front, Network, Taken, Taking, dropped, front, front_of, front_with}
+use Rattle.lossy_network.specs.Network.{ByBoard, Dropped, Network, Taken, Taking, dropped, front, front_of, front_with}
 use Rattle.lossy_network.specs.Network.{heard, hub_bytes, put_at, with_queue}
 use Rattle.lossy_network.specs.Inside.{stands}
 
@@ -82,10 +82,12 @@ pub dropped_is : (net : Network) (place : ℕ) (rest queue : List ℕ) (told : T
 dropped_is net place rest queue told before after is none by_board same_told same pop count =
     let left = popped net place rest queue before is same pop in
     let traffic : record net.traffic { queue = rest; held = one_more net.traffic.held } ≡ after =
-    sym (count ∙ ap (λ (t : Traffic). record t { held = one_more t.held }) left) in
-    (Dropped place, taken_too_old net place rest is none by_board ∙ ap (Taken (Dropped place))
-    (record_told net net.told _ after traffic
-    ∙ ap (λ (t : Told). record net { told = t; traffic = after }) (sym same_told)))
+    sym (count ∙ ap (λ (t : Traffic). record t { held = one_more t.held }) left) in (
+      Dropped place,
+      taken_too_old net place rest is none by_board ∙ ap (Taken (Dropped place))
+          (record_told net net.told _ after traffic
+          ∙ ap (λ (t : Told). record net { told = t; traffic = after }) (sym same_told)),
+    )
 
 pub answered_is : (net : Network) (place : ℕ) (rest queue : List ℕ) (told : Told) (before after : Traffic)
     (fate : DatagramFate) (answer : ℕ) → net.traffic.queue ≡ place ∷ rest
@@ -100,11 +102,13 @@ answered_is net place rest queue told before after fate answer is none by_board 
     (record net.traffic { queue = rest }) ≡ after =
     sym (put ∙ (ap (λ (t : Traffic). put_on fate answer t) left
     ∙ (ap (λ (f : DatagramFate). put_on f answer (record net.traffic { queue = rest })) fate_is
-    ∙ ap (λ (n : ℕ). put_on (fate_at net.fates n) n (record net.traffic { queue = rest })) here))) in
-    (ByBoard place, taken_by_board net place rest told is none by_board ∙ ap (Taken (ByBoard place))
-    (heard_answered (with_queue net rest) told
-    (lt-ltb (length net.told.air) (length told.air) (subst (λ (n : ℕ). n < length told.air) here grows))
-    ∙ record_told net told _ after traffic))
+    ∙ ap (λ (n : ℕ). put_on (fate_at net.fates n) n (record net.traffic { queue = rest })) here))) in (
+      ByBoard place,
+      taken_by_board net place rest told is none by_board ∙ ap (Taken (ByBoard place))
+          (heard_answered (with_queue net rest) told
+          (lt-ltb (length net.told.air) (length told.air) (subst (λ (n : ℕ). n < length told.air) here grows))
+          ∙ record_told net told _ after traffic),
+    )
 
 pub unanswered_is : (net : Network) (place : ℕ) (rest queue : List ℕ) (told : Told) (before : Traffic) (answer : ℕ)
     → net.traffic.queue ≡ place ∷ rest → hub_bytes net.told (slice_get net.told.air place) ≡ None
@@ -113,8 +117,10 @@ pub unanswered_is : (net : Network) (place : ℕ) (rest queue : List ℕ) (told 
     → (taking : Taking)
     × (front net ≡ Taken taking (record net { told = told; traffic = record before { queue = queue } }))
 unanswered_is net place rest queue told before answer is none by_board same pop here stays =
-    let left = popped net place rest queue before is same pop in
-    (ByBoard place, taken_by_board net place rest told is none by_board ∙ ap (Taken (ByBoard place))
-    (heard_unanswered (with_queue net rest) told
-    (ge-ltb (length net.told.air) (length told.air) (subst (λ (n : ℕ). length told.air ≤ n) here stays))
-    ∙ record_told net told _ _ (sym left)))
+    let left = popped net place rest queue before is same pop in (
+      ByBoard place,
+      taken_by_board net place rest told is none by_board ∙ ap (Taken (ByBoard place))
+          (heard_unanswered (with_queue net rest) told
+          (ge-ltb (length net.told.air) (length told.air) (subst (λ (n : ℕ). length told.air ≤ n) here stays))
+          ∙ record_told net told _ _ (sym left)),
+    )

@@ -1,5 +1,5 @@
 -- What a datagram at the front of the queue is: one for the hub, or one that the board hears, or neither.
-use Rattle.std.proofs.Common.{◌≡◌, ◌∙◌, ℕ, zero, suc, ◌+◌, ◌≤◌, Bool, true, false, cond, List, [], ◌∷◌, ◌++◌, length}
+use Rattle.std.proofs.Common.{◌≡◌, ℕ, zero, suc, ◌+◌, ◌≤◌, Bool, true, false, cond, List, [], ◌∷◌, length}
 use Rattle.std.proofs.Common.{Option, Some, None, refl, sym, ap, subst, arith, length-append}
 use Rattle.std.specs.Prelude.{is_some, IfNone}
 use Rattle.std.specs.List.{AllByRecursion, slice_get}
@@ -9,7 +9,7 @@ use Rattle.world_model.specs.declared.datagram.Datagram.{Datagram}
 use Rattle.world_model.specs.declared.datagram.Direction.{Direction}
 use Rattle.world_model.specs.declared.datagram.Direction.TheVariants.{ToBoard, ToHub}
 use Rattle.world_model.specs.Air.{goes_to, is_alive}
-use Rattle.world_model.specs.Board.{Board, hear}
+use Rattle.world_model.specs.Board.{hear}
 use Rattle.world_model.specs.World.{answered}
 use Rattle.world_model.specs.Links.{IsHandedAt, Told, first_sends, heard_by, heard_on}
 use Rattle.world_core.specs.declared.link.TheConstants.{MAX_DATAGRAM}
@@ -93,8 +93,12 @@ air_grows told new r e =
     let on = heard_on_is told new r e in
     let more = answered (first_sends told) (hear told.board on.datagram.bytes).answer in
     let size = ap (λ (t : Told). length t.air) on.heard in
-    omega (arith, size, length-append told.air more,
-    answer_grows (first_sends told) (hear told.board on.datagram.bytes).answer)
+    omega (
+      arith,
+      size,
+      length-append told.air more,
+      answer_grows (first_sends told) (hear told.board on.datagram.bytes).answer,
+    )
 
 pub air_longer : (told new : Told) (r : Option Datagram) → heard_by told r ≡ Some new
     → length told.air ≤ length new.air

@@ -7,3 +7,8 @@ mod Calls
 mod Tellings
 mod Makes
 mod Along
+mod Copies
+mod Deliveries
+mod Numbers
+mod Delays
+mod Reached

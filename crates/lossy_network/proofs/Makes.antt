@@ -1,5 +1,5 @@
 -- Why a rack makes no link.
-use Rattle.std.proofs.Common.{◌≡◌, ℕ, ◌+◌, ◌<◌, ◌≤◌, ◌^◌, Bool, true, false, List, length, Result, Ok, Err, refl}
+use Rattle.std.proofs.Common.{◌≡◌, ℕ, ◌<◌, ◌≤◌, ◌^◌, Bool, true, false, List, Result, Ok, Err, refl}
 use Rattle.std.proofs.Common.{arith}
 use Rattle.board_bus.specs.declared.range.Range.{Range}
 use Rattle.board_node.specs.declared.spec.Fates.{Fates}
@@ -19,13 +19,7 @@ pub no_failure : {A : Type 0} (fails : Bool) (result : Result A RackFault) → f
     → (result ≡ Err Failed → ⊥) → (result ≡ Err Failed → fails ≡ true) × (fails ≡ true → result ≡ Err Failed)
 no_failure fails result none other = (λ e. absurd (other e), λ t. absurd cc)
 
--- a make leaves room for what was made, and its faults rise
-pub makes_within : (result : Result Network RackFault) (rack : RackState) → length rack.kept ≤ rack.made
-    → length (after_make result rack).kept ≤ (after_make result rack).made
-makes_within (Ok link) rack within = omega (arith, within)
-makes_within (Err Failed) rack within = within
-makes_within (Err NoMemory) rack within = within
-
+-- the faults rise
 pub faults_rise : (result : Result Network RackFault) (rack : RackState) → rack.faults < 2 ^ 64
     → rack.faults ≤ (after_make result rack).faults
 faults_rise (Ok link) rack small = omega arith

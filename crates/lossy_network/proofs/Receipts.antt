@@ -1,15 +1,15 @@
 -- What a receive comes to: it hands out the datagram that stands in front then, or nothing stands there.
-use Rattle.std.proofs.Common.{◌≡◌, ◌⊎◌, inl, inr, ◌∙◌, ℕ, zero, suc, Bool, true, false, cond, List, [], ◌∷◌, Option, Some}
+use Rattle.std.proofs.Common.{◌≡◌, ◌⊎◌, inl, inr, ◌∙◌, ℕ, true, List, [], ◌∷◌, Option, Some}
 use Rattle.std.proofs.Common.{None, refl, sym, ap}
 use Rattle.std.specs.List.{slice_get}
 use Rattle.world_model.specs.declared.datagram.Datagram.{Datagram}
 use Rattle.world_model.specs.declared.datagram.Direction.{Direction}
 use Rattle.world_model.specs.declared.datagram.Direction.TheVariants.{ToBoard, ToHub}
-use Rattle.world_model.specs.Air.{goes_to, is_alive}
+use Rattle.world_model.specs.Air.{is_alive}
 use Rattle.world_model.specs.Links.{IsHandedAt, Told, first_sends, heard_by}
 use Rattle.world_core.specs.declared.link.Received.TheVariants.{Got, Quiet}
-use Rattle.lossy_network.specs.Network.{ForHub, Front, Network, Nothing, Receipt, Taken, Taking, all_taken, called, front}
-use Rattle.lossy_network.specs.Network.{front_of, front_with, handed_out, hub_bytes, quiet_receipt, receipt_at, received}
+use Rattle.lossy_network.specs.Network.{ForHub, Front, Network, Nothing, Receipt, Taken, all_taken, called, front}
+use Rattle.lossy_network.specs.Network.{front_of, front_with, handed_out, hub_bytes, receipt_at, received}
 use Rattle.lossy_network.specs.Network.{with_queue, without_front}
 use Rattle.lossy_network.specs.Receipts.{GotReceipt, QuietReceipt}
 use Rattle.lossy_network.specs.Inside.{stands}

@@ -1,10 +1,9 @@
 -- Datagrams taken from the front of the queue, one after another: there are no more than `most_takings`.
-use Rattle.std.proofs.Common.{◌≡◌, ◌∙◌, ℕ, zero, suc, ◌+◌, ◌<◌, ◌≤◌, ◌==◌, Bool, true, false, not, cond, List, [], ◌∷◌}
+use Rattle.std.proofs.Common.{◌≡◌, ◌∙◌, ℕ, zero, suc, ◌+◌, ◌<◌, ◌≤◌, Bool, true, false, not, cond, List, [], ◌∷◌}
 use Rattle.std.proofs.Common.{◌++◌, ◌*◌, length, map, nat_lt, Option, Some, None, refl, sym, ap, subst, arith}
 use Rattle.std.specs.List.{filter, slice_get}
 use Rattle.world_model.specs.declared.datagram.Datagram.{Datagram}
-use Rattle.world_model.specs.declared.datagram.Direction.{Direction}
-use Rattle.world_model.specs.declared.datagram.Direction.TheVariants.{ToBoard, ToHub}
+use Rattle.world_model.specs.declared.datagram.Direction.TheVariants.{ToBoard}
 use Rattle.world_model.specs.Air.{goes_to}
 use Rattle.world_model.specs.Board.{hear}
 use Rattle.world_model.specs.World.{answered}
@@ -14,8 +13,8 @@ use Rattle.lossy_network.specs.declared.fates.DatagramFate.TheVariants.{Delivere
 use Rattle.lossy_network.specs.declared.under_way.Late.{Late}
 use Rattle.lossy_network.specs.Fates.{fate_at}
 use Rattle.lossy_network.specs.Traffic.{Traffic, due_at, is_due, meets, place_of, put_on, still_late}
-use Rattle.lossy_network.specs.Network.{ByBoard, Dropped, ForHub, Front, Network, Nothing, Taken, Taking, all_taken}
-use Rattle.lossy_network.specs.Network.{dropped, front, front_of, front_with, heard, hub_bytes, most_takings, put_at}
+use Rattle.lossy_network.specs.Network.{ForHub, Front, Network, Nothing, Taken, Taking, all_taken}
+use Rattle.lossy_network.specs.Network.{front, front_of, front_with, hub_bytes, most_takings, put_at}
 use Rattle.lossy_network.specs.Network.{takes, weight, weight_of, with_queue}
 use Rattle.lossy_network.specs.Inside.{stands}
 use Rattle.lossy_network.proofs.Hearing.{heard_on_is}
@@ -61,7 +60,7 @@ released_weight air place (late ∷ delayed) = weight_split air place late (is_d
 abbrev pub load : List Datagram → Traffic → ℕ
 load air traffic = weight air traffic.queue + weight air (map place_of traffic.delayed)
 
-places-push : (delayed : List Late) (late : Late)
+pub places-push : (delayed : List Late) (late : Late)
     → map place_of (delayed ++ late ∷ []) ≡ map place_of delayed ++ late.place ∷ []
 places-push [] late = refl
 places-push (x ∷ delayed) late = ap (λ (xs : List ℕ). x.place ∷ xs) (places-push delayed late)
@@ -73,15 +72,22 @@ met_load air Lost place traffic = omega arith
 met_load air Repeated place traffic = omega (arith, weight-append air traffic.queue (place ∷ place ∷ []))
 met_load air (Delayed by) place traffic =
     let late : Late = record { place = place; by = by } in
-    omega (arith, ap (weight air) (places-push traffic.delayed late),
-    weight-append air (map place_of traffic.delayed) (place ∷ []))
+    omega (
+      arith,
+      ap (weight air) (places-push traffic.delayed late),
+      weight-append air (map place_of traffic.delayed) (place ∷ []),
+    )
 
 put_load : (air : List Datagram) (fate : DatagramFate) (place : ℕ) (traffic : Traffic)
     → load air (put_on fate place traffic) ≤ load air traffic + 2 * weight_of (slice_get air place)
 put_load air fate place traffic =
     let met = meets fate place traffic in
-    omega (arith, met_load air fate place traffic, released_weight air place met.delayed,
-    weight-append air met.queue (due_at place met.delayed))
+    omega (
+      arith,
+      met_load air fate place traffic,
+      released_weight air place met.delayed,
+      weight-append air met.queue (due_at place met.delayed),
+    )
 
 -- ---- each taking makes the load less
 
@@ -105,8 +111,11 @@ heard_load : (net : Network) (birth : ℕ) (r : Option (List ℕ)) (told : Told)
     → told.air ≡ net.told.air ++ answered birth r
     → most_takings (after_put net told b) ≤ most_takings net + 2
 heard_load net birth r told false air =
-    rw air (omega (arith, same_weight net.told.air birth r net.traffic.queue,
-    same_weight net.told.air birth r (map place_of net.traffic.delayed)))
+    rw air (omega (
+      arith,
+      same_weight net.told.air birth r net.traffic.queue,
+      same_weight net.told.air birth r (map place_of net.traffic.delayed),
+    ))
 heard_load net birth r told true air =
     let place = length net.told.air in
     let one : weight_of (slice_get told.air place) ≡ 1 =
@@ -114,8 +123,11 @@ heard_load net birth r told true air =
     ∙ ap weight_of (past_end net.told.air)) in
     let before : load told.air net.traffic ≡ most_takings net =
     ap (λ (xs : List Datagram). load xs net.traffic) air
-    ∙ omega (arith, same_weight net.told.air birth r net.traffic.queue,
-    same_weight net.told.air birth r (map place_of net.traffic.delayed)) in
+    ∙ omega (
+      arith,
+      same_weight net.told.air birth r net.traffic.queue,
+      same_weight net.told.air birth r (map place_of net.traffic.delayed),
+    ) in
     omega (arith, one, before, put_load told.air (fate_at net.fates place) place net.traffic)
 
 board_weight : (d : Datagram) → goes_to ToBoard d.direction ≡ true → weight_of (Some d) ≡ 3
@@ -135,9 +147,13 @@ less_with net place queue None (Some told) is =
     let on = heard_on_is net.told told (slice_get net.told.air place) is in
     let heavy : weight_of (slice_get net.told.air place) ≡ 3 =
     ap weight_of on.there ∙ board_weight on.datagram on.for_board in
-    omega (arith, heavy, heard_load (with_queue net queue) (first_sends net.told)
-    (hear net.told.board on.datagram.bytes).answer told (nat_lt (length net.told.air) (length told.air))
-    (ap (λ (t : Told). t.air) on.heard))
+    omega (
+      arith,
+      heavy,
+      heard_load (with_queue net queue) (first_sends net.told)
+          (hear net.told.board on.datagram.bytes).answer told (nat_lt (length net.told.air) (length told.air))
+          (ap (λ (t : Told). t.air) on.heard),
+    )
 
 less_of : (net : Network) (queue : List ℕ) → IsLess (most_takings (with_queue net queue)) (front_of net queue)
 less_of net [] = tt

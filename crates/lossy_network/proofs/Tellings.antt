@@ -1,5 +1,5 @@
 -- What a send and a receive of a simulated link do to what it tells.
-use Rattle.std.proofs.Common.{◌≡◌, ◌⊎◌, inl, inr, ◌∙◌, ℕ, zero, suc, ◌+◌, ◌<◌, ◌≤◌, Bool, true, false, cond, List, []}
+use Rattle.std.proofs.Common.{◌≡◌, ◌⊎◌, inl, inr, ◌∙◌, ℕ, zero, suc, ◌<◌, ◌≤◌, Bool, true, false, cond, List, []}
 use Rattle.std.proofs.Common.{◌∷◌, ◌++◌, length, nat_lt, Option, Some, None, Result, Ok, Err, refl, sym, ap, subst, arith, ◌^◌}
 use Rattle.std.specs.Prelude.{IfOk, OnOk, OnErr}
 use Rattle.std.specs.List.{Contains, slice_get}
@@ -7,7 +7,7 @@ use Rattle.std.proofs.lemmas.List.Elements.{Contains-append_left, Contains-appen
 use Rattle.std.proofs.lemmas.List.Elements.{Contains-push, Contains-push_cases}
 use Rattle.std.proofs.lemmas.Bool.{lt-ltb}
 use Rattle.ipb_base.specs.Faults.{Rose, one_more}
-use Rattle.world_model.specs.Links.{IsHandedAt, Told, heard_by, sent_on}
+use Rattle.world_model.specs.Links.{IsHandedAt, Told, heard_by}
 use Rattle.world_core.specs.declared.link.TheConstants.{MAX_DATAGRAM}
 use Rattle.world_core.specs.declared.link.LinkFault.{LinkFault}
 use Rattle.world_core.specs.declared.link.LinkFault.TheVariants.{Failed, NoMemory}
@@ -20,10 +20,10 @@ use Rattle.lossy_network.specs.declared.fates.DatagramFate.TheVariants.{Delivere
 use Rattle.lossy_network.specs.Fates.{fate_at}
 use Rattle.lossy_network.specs.Traffic.{Traffic, due_at, meets, put_on}
 use Rattle.lossy_network.specs.Network.{ForHub, Front, Network, Nothing, Taken, Taking, all_taken, called, dropped, failed}
-use Rattle.lossy_network.specs.Network.{fails, front, front_of, front_with, handed_out, heard, hub_bytes, put_at, received}
+use Rattle.lossy_network.specs.Network.{front, front_of, front_with, handed_out, hub_bytes, put_at, received}
 use Rattle.lossy_network.specs.Network.{Receipt, most_takings, sent, takes, telling_of, with_queue}
 use Rattle.lossy_network.proofs.Takings.{still, takes_one}
-use Rattle.lossy_network.proofs.Calls.{taken_keeps, takes_keep, with_carried}
+use Rattle.lossy_network.proofs.Calls.{takes_keep, with_carried}
 use Rattle.lossy_network.specs.Receipts.{GotReceipt, QuietReceipt}
 use Rattle.lossy_network.proofs.Receipts.{the_got, the_quiet}
 

@@ -1,11 +1,11 @@
 -- Lists of calls of a simulated link, what was taken from the queue meanwhile, and a hub that makes the calls. Profile.
-use Rattle.std.specs.Prelude.{◌≡◌, ℕ, zero, suc, ◌+◌, ◌==◌, ◌<◌, ◌&&◌, Bool, true, false, not, if◌then◌else◌, List, []}
-use Rattle.std.specs.Prelude.{◌∷◌, ◌++◌, length, map, Option, Some, None}
+use Rattle.std.specs.Prelude.{ℕ, zero, suc, ◌+◌, ◌&&◌, Bool, true, false, not, if◌then◌else◌, List, []}
+use Rattle.std.specs.Prelude.{◌∷◌, ◌++◌, map, min, Option, Some, None}
 use Rattle.world_model.specs.declared.offered.Fate.{Fate}
 use Rattle.world_model.specs.declared.offered.Offered.{Offered}
 use Rattle.world_model.specs.Facts.{IsSendable}
 use Rattle.world_model.specs.History.{times}
-use Rattle.world_model.specs.Hub.{Hub, hear_quiet, is_waiting, offer, take_message}
+use Rattle.world_model.specs.Hub.{Hub, hear_quiet, is_waiting, new_hub, offer, take_message}
 use Rattle.world_model.specs.Messages.{to_hub}
 use Rattle.world_model.specs.Sends.{Next, bytes_to_send, next_send}
 use Rattle.world_core.specs.declared.link.Received.{Received}
@@ -38,6 +38,11 @@ after_call net call = if fails net then failed net else done net call
 abbrev pub after_calls : Network → List Call → Network
 after_calls net [] = net
 after_calls net (call ∷ calls) = after_calls (after_call net call) calls
+
+-- how many of the calls fail
+abbrev pub failures : Network → List Call → ℕ
+failures net [] = 0
+failures net (call ∷ calls) = (if fails net then 1 else 0) + failures (after_call net call) calls
 
 -- ---- what was taken from the queue, in order
 
@@ -110,6 +115,14 @@ pub record Ends : Type 0 where
   pub hub : Hub
   pub net : Network
   pub fates : List (ℕ × Fate)
+
+-- a hub of this window that knows a link's fresh board, and has sent nothing
+abbrev pub new_ends : ℕ → ℕ → Network → Ends
+new_ends window rounds net = record {
+  hub = new_hub net.told.board.first (min window net.told.board.buffers) rounds;
+  net = net;
+  fates = [];
+}
 
 -- What a hub does: it takes an offer, it sends the next of what it wants to send, it receives when nothing is left to
 -- send, it is told that memory ran out in a receive that had taken so many datagrams, and it hands out fates.

@@ -1,5 +1,5 @@
 -- A simulated link between a hub and a board: what it is, and what a send and a receive do to it. Profile throughout.
-use Rattle.std.specs.Prelude.{ℕ, zero, suc, ◌+◌, ◌==◌, Bool, true, false, if◌then◌else◌, List, [], ◌∷◌, ◌++◌, length}
+use Rattle.std.specs.Prelude.{ℕ, zero, suc, ◌+◌, ◌==◌, Bool, if◌then◌else◌, List, [], ◌∷◌, ◌++◌, length}
 use Rattle.std.specs.Prelude.{map, nat_lt, Option, Some, None}
 use Rattle.std.specs.List.{list_any, slice_get}
 use Rattle.ipb_base.specs.Faults.{one_more}

@@ -1,5 +1,5 @@
 -- A rack: what makes links and keeps them. Profile.
-use Rattle.std.specs.Prelude.{◌≡◌, ℕ, ◌+◌, ◌≤◌, ◌==◌, ◌||◌, Bool, true, false, List, [], ◌∷◌, ◌++◌, Option, Some}
+use Rattle.std.specs.Prelude.{◌≡◌, ℕ, ◌+◌, ◌==◌, ◌||◌, Bool, List, [], ◌∷◌, ◌++◌, Option, Some}
 use Rattle.std.specs.Prelude.{None, is_none, Result, Ok, Err}
 use Rattle.std.specs.List.{list_any}
 use Rattle.ipb_base.specs.Faults.{one_more}

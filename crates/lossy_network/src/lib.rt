@@ -4,6 +4,7 @@
 //! tells its board and all that it ever carried, and what a hub over it does is a run of `world_model`.
 #![tactic(auto)]
 
+pub mod examples;
 mod fates;
 pub mod laws;
 mod link;

@@ -253,5 +253,4 @@ impl SimLink {
 /// A count is one of 64 bits.
 pub(crate) fn fits(count: u64)
     ensures { count < 2 ^ 64 }
-{
-}
+{}

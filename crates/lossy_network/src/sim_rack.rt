@@ -171,12 +171,7 @@ fn fresh_board(
 }
 
 /// A link to a board with these fates, and with these numbers of calls that fail.
-fn new_link(
-    alloc: Global,
-    board: Board,
-    fates: &Fates,
-    fail: &[u64],
-) -> Result<SimLink, NoMemory>
+fn new_link(alloc: Global, board: Board, fates: &Fates, fail: &[u64]) -> Result<SimLink, NoMemory>
     requires { executed board ≡ [] }
     ensures { IfOk result (λ link. link ≡ new_network board fates.now fail.now) }
 {

@@ -1,4 +1,4 @@
-use Rattle.std.proofs.Common.{◌≡◌, ◌∙◌, sym, ap, Option, Some, ℕ, ◌%◌}
+use Rattle.std.proofs.Common.{◌≡◌, ◌∙◌, sym, ap, Option, ℕ, ◌%◌}
 use Rattle.rand_pcg.specs.Lcg.{Lcg, advance, next}
 use Rattle.rand_pcg.specs.Pcg.{multiplier_64, pcg32}
 use Rattle.lossy_network.specs.Fates.{fate_of_bits, fate_of_word, generator_of}

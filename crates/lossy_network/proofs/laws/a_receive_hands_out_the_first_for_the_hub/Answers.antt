@@ -1,4 +1,3 @@
-use Rattle.lossy_network.proofs.Along.{was_taken, calls_kept}
 use Rattle.lossy_network.proofs.Receipts.{the_got, the_quiet}
 use Rattle.lossy_network.proofs.laws.a_receive_hands_out_the_first_for_the_hub.Goals as goal
 

@@ -1,5 +1,5 @@
 use Rattle.std.proofs.Common.{◌≡◌, ◌∙◌, ap}
-use Rattle.lossy_network.specs.Network.{Network, Receipt, all_taken, called}
+use Rattle.lossy_network.specs.Network.{Receipt, all_taken, called}
 use Rattle.lossy_network.proofs.Receipts.{received_is}
 use Rattle.lossy_network.proofs.link.SimLink.receive.Goals as goal
 

@@ -9,6 +9,7 @@ loop-smaller c =
 
 pub loop-preserved : goal.loop-preserved
 loop-preserved c =
-    let one = rw c.if-not-branch.false at c.in_ok-take_front.ensures.taken in
-    (sym (all_after_one c.loop.self c.take_front.new.self one.0 one.1) ∙ c.loop.invariant.0,
-    some_then c.args.self.now c.loop.self c.take_front.new.self one.0 c.loop.invariant.1 one.1)
+    let one = rw c.if-not-branch.false at c.in_ok-take_front.ensures.taken in (
+      sym (all_after_one c.loop.self c.take_front.new.self one.0 one.1) ∙ c.loop.invariant.0,
+      some_then c.args.self.now c.loop.self c.take_front.new.self one.0 c.loop.invariant.1 one.1,
+    )

@@ -64,8 +64,11 @@ returns-else-answer-len-clause-taken c =
     let heard = rw c.if-not-is_heard.false at c.in_ok-is_heard.ensures.heard in
     subst (λ (net : Network). (taking : Taking) × (front net ≡ Taken taking (record (network_of i) {
       told = c.hear.new.self;
-      traffic = record { queue = c.pop_front.new.self.items; delayed = c.reserve.new.self.delayed.items;
-          held = c.reserve.new.self.held };
+      traffic = record {
+        queue = c.pop_front.new.self.items;
+        delayed = c.reserve.new.self.delayed.items;
+        held = c.reserve.new.self.held;
+      };
     }))) c.self.view_is
     (unanswered_is (network_of i) place found.0 c.pop_front.new.self.items c.hear.new.self
     (traffic_of c.reserve.new.self) c.len-answer.result found.1

@@ -29,12 +29,12 @@ returns-clause-received c = receives (record {
 pub returns-clause-faults : goal.returns-clause-faults
 returns-clause-faults c = rises_by c.args.self.now.faults c.receive.new.self.faults c.counts_fit.ensures.faults
     (counts c.receive.result c.receive.new.into.items c.args.self.now c.receive.new.self (record {
-  after = c.receive.ensures.received;
-  answer = c.receive.ensures.answer;
-  bytes_are = c.receive.ensures.bytes;
-  fault = c.receive.ensures.failed;
-  no_memory = c.receive.ensures.no_memory;
-})).faults
+      after = c.receive.ensures.received;
+      answer = c.receive.ensures.answer;
+      bytes_are = c.receive.ensures.bytes;
+      fault = c.receive.ensures.failed;
+      no_memory = c.receive.ensures.no_memory;
+    })).faults
 
 pub returns-clause-quiets : goal.returns-clause-quiets
 returns-clause-quiets c = (counts c.receive.result c.receive.new.into.items c.args.self.now c.receive.new.self (record {
