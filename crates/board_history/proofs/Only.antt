@@ -19,7 +19,7 @@ use Rattle.board_history.proofs.Turns.{all_of, reply_at, one_later, behind, repl
 
 -- ---- where all are replied to, the bodies that have a place are all of them
 
-client_placed : (bodies : List (List ℕ)) (outcomes : List Outcome) → length outcomes ≡ length bodies
+pub client_placed : (bodies : List (List ℕ)) (outcomes : List Outcome) → length outcomes ≡ length bodies
     → AllByRecursion IsReplied outcomes
     → bodies_of (placed bodies outcomes) ≡ bodies
 client_placed [] outcomes e all = refl

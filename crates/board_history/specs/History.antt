@@ -37,3 +37,8 @@ dispatches_by_client run = map dispatches_of run.parts
 -- What a run shows of a board that opened with this bus is one history.
 abbrev pub ShowsHistory : CellMap → BoardRun → Type 0
 ShowsHistory opening run = IsHistory opening (bodies_by_client run) (outcomes_by_client run)
+
+-- Each body of each client has an outcome, and the places are 1, 2, 3, .., each of one body.
+pub record IsOrdered (run : BoardRun) : Type 0 where
+  pub shape : map length (outcomes_by_client run) ≡ map length (bodies_by_client run)
+  pub one_order : HasOneOrder (bodies_by_client run) (outcomes_by_client run)

@@ -23,7 +23,8 @@ use Rattle.transcript.specs.declared.planned.PieceAt.{PieceAt}
 use Rattle.transcript.specs.Plan.{ClientBodies, no_bodies, moved, begun, dispatches, operations, ops_on, plan}
 use Rattle.transcript.specs.Plan.{with_dispatch, all_dispatches}
 use Rattle.transcript.specs.Lines.{count_on}
-use Rattle.direct_run.specs.Lines.{IsRmw, ArePacked}
+use Rattle.script_lang.specs.Executable.{IsRmw}
+use Rattle.direct_run.proofs.Readiness.{ArePacked}
 
 -- ---- two lists, item by item
 

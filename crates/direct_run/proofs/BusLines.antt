@@ -22,8 +22,8 @@ use Rattle.transcript.specs.Ends.{ends_of, piece_result}
 use Rattle.transcript.specs.Lines.{showing, by_pieces, count_on, lines_behind, lines_from}
 use Rattle.direct_run.specs.Runs.{RunsHere, IsRun, AreRuns, greeting_of, plans_on}
 use Rattle.direct_run.specs.Answering.{AskRequests}
-use Rattle.direct_run.specs.Lines.{IsBusResult, IsBusLine, KeepsVerb, KeepVerbs, ArePacked, ArePackedFor, IsReady}
-use Rattle.direct_run.specs.Lines.{AreReady}
+use Rattle.direct_run.specs.Lines.{IsBusResult, IsBusLine}
+use Rattle.direct_run.proofs.Readiness.{KeepsVerb, KeepVerbs, ArePacked, ArePackedFor, IsReady, AreReady}
 use Rattle.direct_run.proofs.Asking.{both_at, all_at, AreAsked, plan_asked, op_at}
 use Rattle.direct_run.proofs.Answering.{ToldPart}
 use Rattle.direct_run.proofs.BusResults.{Fits, combined_bus}

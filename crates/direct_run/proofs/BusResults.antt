@@ -23,7 +23,8 @@ use Rattle.transcript.specs.declared.board_run.ClientPart.{ClientPart}
 use Rattle.transcript.specs.declared.line.OpResult.{OpResult}
 use Rattle.transcript.specs.Ends.{end_of, ends_of, told_by, told_of, told_at, answered, result_in, piece_result}
 use Rattle.transcript.specs.Results.{is_good, first_fault, values_in, word_before, shown, combined}
-use Rattle.direct_run.specs.Lines.{IsBusResult, IsRmw, FitsVerb}
+use Rattle.script_lang.specs.Executable.{IsRmw, FitsVerb}
+use Rattle.direct_run.specs.Lines.{IsBusResult}
 use Rattle.direct_run.proofs.Answering.{IsTold}
 use Rattle.direct_run.proofs.Asking.{Both, both_at, IsAsked}
 

@@ -3,9 +3,11 @@ mod Exchanges
 mod Sending
 mod Running
 mod Shown
-mod Answering
-mod Shaped
-mod Asking
+pub mod Answering
+pub mod Shaped
+pub mod Asking
 mod BusResults
 mod BusLines
 mod Spelled
+mod Readiness
+mod Placed

@@ -15,7 +15,7 @@ use Rattle.transcript.specs.declared.board_run.BoardRun.{BoardRun}
 use Rattle.transcript.specs.Plan.{ClientBodies, no_bodies, AreSpelled, dispatches, ops_on, planned_on, with_dispatch}
 use Rattle.direct_run.specs.Runs.{AreRuns, greeting_of, plans_on}
 use Rattle.direct_run.specs.Answering.{AsksRequests, AskRequests}
-use Rattle.direct_run.specs.Lines.{ArePackedFor, AreReady}
+use Rattle.direct_run.proofs.Readiness.{ArePackedFor, AreReady}
 use Rattle.direct_run.proofs.Asking.{heads}
 
 abbrev pub Spelling : Type 0

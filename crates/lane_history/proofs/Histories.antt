@@ -116,7 +116,7 @@ reply_in_order opening done all front (TimedOut place rounds) is = tt
 reply_in_order opening done all front Unsent is = tt
 reply_in_order opening done all front (LinkLost place) is = tt
 
-reply_executed : (opening : CellMap) (done : List (List ℕ)) (o : Outcome)
+pub reply_executed : (opening : CellMap) (done : List (List ℕ)) (o : Outcome)
     → IsReplyOf (replay opening done).replies o → IsExecuted (length done) o
 reply_executed opening done (Replied place words) is = subst (λ (n : ℕ). place ≤ n) (replay-length opening done)
     (at_within (replay opening done).replies place words is)

@@ -1,2 +1,12 @@
 mod Own
 mod Rans
+mod Lookups
+mod Opening
+mod Steps
+mod Orders
+mod Histories
+mod Waits
+mod Merges
+mod Calm
+mod InTurn
+mod Live

@@ -23,70 +23,12 @@ use Rattle.lane_record.specs.Offers.{offers_from}
 use Rattle.lane_record.specs.Legal.{IsLegal, IsMade, HasMaker}
 use Rattle.board_history.specs.Merges.{IsSubsequence, Owned, bodies_by, bodies_owned, IsOfClients, AreSubsequences}
 use Rattle.board_history.specs.Merges.{IsMergeOfSome}
+use Rattle.board_history.proofs.Merging.{front_of_merge}
 use Rattle.lane_history.specs.Records.{entries_by, planned_in, bodies_planned, ArePlansOf, IsPartlyPlanned}
 use Rattle.lane_history.specs.Lanes.{bodies_offered}
 use Rattle.lane_history.proofs.Own.{IsBy, all_by, own_found, own_numbers}
 use Rattle.lane_history.proofs.Opening.{IsAskWithin}
 use Rattle.lane_history.proofs.Steps.{seqs_of, claims_seqs, claims_within, step_planned, all_both}
-
--- ---- a front of a merge is a merge
-
-sub_take : {A : Type 0} (n : ℕ) (xs ys : List A) → IsSubsequence xs ys → IsSubsequence (take n xs) ys
-sub_take zero xs ys s = tt
-sub_take (suc n) [] ys s = tt
-sub_take (suc n) (x ∷ xs) [] s = absurd s
-sub_take (suc n) (x ∷ xs) (y ∷ ys) s = elim s [
-    | inl same ↦ inl (same.0, sub_take n xs ys same.1)
-    | inr later ↦ inr (sub_take (suc n) (x ∷ xs) ys later)
-  ]
-
--- those of a client in a front are a front
-front_by : (client n : ℕ) (os : List Owned) → (k : ℕ) × (bodies_by client (take n os) ≡ take k (bodies_by client os))
-front_by client zero os = (0, refl)
-front_by client (suc n) [] = (0, refl)
-front_by client (suc n) (o ∷ os) =
-    let later = front_by client n os in
-    elim (o.client == client) as
-    (λ b. (k : ℕ) × ((if b then o.body ∷ bodies_by client (take n os) else bodies_by client (take n os))
-      ≡ take k (if b then o.body ∷ bodies_by client os else bodies_by client os))) [
-      | true ↦ (suc later.0, ap (λ (bs : List (List ℕ)). o.body ∷ bs) later.1)
-      | false ↦ later
-    ]
-
-fronts : (n client : ℕ) (bodies : List (List (List ℕ))) (os : List Owned) → AreSubsequences client bodies os
-    → AreSubsequences client bodies (take n os)
-fronts n client [] os each = tt
-fronts n client (bs ∷ later) os each =
-    let front = front_by client n os in
-    (
-      subst (λ (xs : List (List ℕ)). IsSubsequence xs bs) (sym front.1)
-      (sub_take front.0 (bodies_by client os) bs each.0),
-      fronts n (client + 1) later os each.1,
-    )
-
-all_take : {A : Type 0} (P : A → Type 0) (n : ℕ) (xs : List A) → AllByRecursion P xs → AllByRecursion P (take n xs)
-all_take P zero xs all = tt
-all_take P (suc n) [] all = tt
-all_take P (suc n) (x ∷ xs) all = (all.0, all_take P n xs all.1)
-
-take_front : (done rest : List (List ℕ)) (os : List Owned) → bodies_owned os ≡ done ++ rest
-    → done ≡ bodies_owned (take (length done) os)
-take_front [] rest os e = refl
-take_front (b ∷ done) rest [] e = absurd cc
-take_front (b ∷ done) rest (o ∷ os) e =
-    let head : o.body ≡ b = cc in
-    let tail : bodies_owned os ≡ done ++ rest = cc in
-    ap (λ (z : List ℕ). z ∷ done) (sym head) ∙ ap (λ (bs : List (List ℕ)). o.body ∷ bs) (take_front done rest os tail)
-
-front_of_merge : (bodies : List (List (List ℕ))) (done : List (List ℕ)) (os : List Owned)
-    → IsPrefix done (bodies_owned os) → AreSubsequences 1 bodies os
-    → AllByRecursion (IsOfClients (length bodies)) os → IsMergeOfSome bodies done
-front_of_merge bodies done os front each nobody_else = record {
-  owned = take (length done) os;
-  same = take_front done front.0 os front.1;
-  each = fronts (length done) 1 bodies os each;
-  nobody_else = all_take (IsOfClients (length bodies)) (length done) os nobody_else;
-}
 
 -- ---- the offers, with their owners
 

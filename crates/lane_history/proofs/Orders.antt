@@ -72,7 +72,7 @@ of_other : (client : ℕ) (s : Step) (ss : List Step) → s.client < client → 
 of_other client s ss h = either (λ (r : List Step). r ≡ of client ss) (s.client == client) (s ∷ of client ss)
     (of client ss) (λ e. absurd (grind (arith, nat_tests))) (λ _. refl)
 
-collected_other : (client many : ℕ) (s : Step) (ss : List Step) → s.client < client
+pub collected_other : (client many : ℕ) (s : Step) (ss : List Step) → s.client < client
     → collected client many (s ∷ ss) ≡ collected client many ss
 collected_other client zero s ss h = refl
 collected_other client (suc many) s ss h =
@@ -115,7 +115,7 @@ one_stands client (suc many) s ss h = either
         ∙ sym (append_assoc (sent (of client ss)) later.front later.back);
       })
 
-none_collected : (client many : ℕ) → collected client many [] ≡ []
+pub none_collected : (client many : ℕ) → collected client many [] ≡ []
 none_collected client zero = refl
 none_collected client (suc many) = none_collected (client + 1) many
 

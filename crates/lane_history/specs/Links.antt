@@ -1,6 +1,9 @@
 -- What a link shows after a run. Profile.
-use Rattle.std.specs.Prelude.{◌≡◌, ℕ, ◌≤◌, true, [], Option, IfSome}
+use Rattle.std.specs.Prelude.{◌≡◌, ℕ, ◌≤◌, true, [], Option, Some, None, IfSome}
+use Rattle.board_bus.specs.Ranges.{opening_bus}
 use Rattle.world_model.specs.Board.{Board, executed}
+use Rattle.board_node.specs.declared.spec.LinkSpec.{LinkSpec}
+use Rattle.board_node.specs.declared.spec.LinkSpec.TheVariants.{Sim, Udp}
 use Rattle.lane_record.specs.declared.outcome.Outcome.{Outcome}
 use Rattle.lane_record.specs.Outcomes.{is_lost}
 
@@ -15,6 +18,16 @@ pub record LinkReport : Type 0 where
 
 abbrev pub HasFailed : LinkReport → Type 0
 HasFailed link = 1 ≤ link.faults
+
+-- The link to a simulated board tells, and its board is that of its document: it opened with the bus of its ranges, and
+-- has its MTU, response buffers and first identifier. One to a UDP port does not tell.
+abbrev pub IsBoardOf : LinkSpec → Option Board → Type 0
+IsBoardOf (Sim mtu buffers first ranges fates) None = ⊥
+IsBoardOf (Sim mtu buffers first ranges fates) (Some board) = board ≡ record {
+  opening = opening_bus ranges; mtu = mtu; buffers = buffers; first = first; log = board.log;
+}
+IsBoardOf (Udp address port wait) None = Unit {0}
+IsBoardOf (Udp address port wait) (Some board) = ⊥
 
 -- a body is lost with the link only where the link failed
 abbrev pub IsLostOnlyIfFailed : LinkReport → Outcome → Type 0

@@ -21,7 +21,7 @@ use Rattle.board_history.specs.History.{bodies_by_client, outcomes_by_client, di
 use Rattle.board_history.specs.Patience.{IsPatient}
 use Rattle.board_history.specs.Merges.{IsMergeOfSome}
 use Rattle.direct_run.specs.Runs.{plans_on, opening_of}
-use Rattle.lane_history.specs.Links.{LinkReport, HasFailed, IsLostOnlyIfFailed, IsUntouched}
+use Rattle.lane_history.specs.Links.{LinkReport, HasFailed, IsBoardOf, IsLostOnlyIfFailed, IsUntouched}
 
 -- ---- what the scripts ask
 
@@ -51,7 +51,7 @@ pub record IsTrueRun (settings : Limits) (opening : CellMap) (run : BoardRun) (h
 -- Of a board that answered the greeting, and its link:
 pub record IsLiveRun (settings : Limits) (spec : BoardSpec) (payload : ℕ) (run : BoardRun) (link : LinkReport)
     : Type 0 where
-  pub payload' : TellsPayload spec.link payload
+  pub packets : TellsPayload spec.link payload
   -- the places are 1, 2, 3, .., and each belongs to one body
   pub one_order : HasOneOrder (bodies_by_client run) (outcomes_by_client run)
   -- the bodies of each client stand in the order of its script
@@ -88,6 +88,7 @@ IsAsTold settings spec run link Down = IsDownRun link
 pub record IsRunOver (settings : Limits) (spec : BoardSpec) (board : ℕ) (scripts : List (List Step)) (run : BoardRun)
     (link : LinkReport) : Type 0 where
   pub scripts' : ShowsScripts spec board scripts run
+  pub board' : IsBoardOf spec.link link.board
   pub as_told : IsAsTold settings spec run link run.greeting
 
 -- The same of all boards, the first of which has this position: there is one run and one link for each.
@@ -101,8 +102,8 @@ AreRunsOver settings board specs scripts runs links = ⊥
 
 -- What the board at this position executed is a merge of bodies that the clients' scripts ask of it, each client's in
 -- its order.
-pub record ExecutedSome (spec : BoardSpec) (board : ℕ) (scripts : List (List Step)) (executed' : List (List ℕ))
+pub record ExecutedSome (spec : BoardSpec) (board : ℕ) (scripts : List (List Step)) (done : List (List ℕ))
     : Type 0 where
   pub payload : ℕ
   pub told : TellsPayload spec.link payload
-  pub merge : IsMergeOfSome (map (λ (p : ClientBodies). p.bodies) (plans_on board (Live payload) scripts)) executed'
+  pub merge : IsMergeOfSome (map (λ (p : ClientBodies). p.bodies) (plans_on board (Live payload) scripts)) done

@@ -6,5 +6,8 @@ pub mod NextEntries
 pub mod Finished
 pub mod Offers
 pub mod Events
+pub mod Hearing
 pub mod Sends
 pub mod Kept
+pub mod Coding
+pub mod Worked

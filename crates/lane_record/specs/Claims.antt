@@ -19,7 +19,9 @@ abbrev pub claim_in : List Item → Item → Option ℕ → List Claim
 claim_in front x None = []
 claim_in front x (Some give_ups) =
     record {
-      client = x.client; seq = x.seq; give_ups = give_ups;
+      client = x.client;
+      seq = x.seq;
+      give_ups = give_ups;
       body = unwrap_or (found plan_in x.client x.seq front) [];
     } ∷ []
 

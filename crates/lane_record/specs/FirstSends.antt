@@ -45,8 +45,11 @@ abbrev pub sent_at : Claim → Outcome → Option ℕ → List Sent
 sent_at claim outcome None = []
 sent_at claim outcome (Some place) =
     record {
-      place = place; client = claim.client; seq = claim.seq;
-      body = claim.body; outcome = outcome;
+      place = place;
+      client = claim.client;
+      seq = claim.seq;
+      body = claim.body;
+      outcome = outcome;
     } ∷ []
 
 abbrev pub sent_as : Claim → Option Outcome → List Sent

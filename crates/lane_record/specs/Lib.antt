@@ -7,3 +7,5 @@ pub mod FirstSends
 pub mod Bounds
 pub mod Offers
 pub mod NextEntry
+pub mod Coding
+pub mod Examples

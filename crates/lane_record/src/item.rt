@@ -1,8 +1,24 @@
 //! What a lane's record lists. A lane is the hub's side of one board: its engine, its link, and the record of what
 //! clients did.
 
+ghost use Rattle.std.specs.Prelude.{◌≡◌};
+ghost use Rattle.lane_record.specs.Coding.{entry_of, kind_of};
+
 use crate::outcome::Outcome;
 use ipb_base::Words;
+use turn_pass::Entry;
+
+/// The kind of an entry by which a body was planned.
+pub const PLAN: u8 = 1;
+
+/// The kind of the entry by which planning was closed.
+pub const SEAL: u8 = 2;
+
+/// The kind of an entry by which a planned body was asked.
+pub const ASK: u8 = 3;
+
+/// The kind of an entry by which an outcome was taken.
+pub const TOOK: u8 = 4;
 
 /// What a call did to a lane (profile).
 #[derive(Debug, Drop)]
@@ -26,4 +42,34 @@ pub struct Item {
     pub seq: u64,
     /// What was done.
     pub what: What,
+}
+
+impl What {
+    /// The number of this kind of entry.
+    pub fn kind(&self) -> u8
+        ensures { result ≡ kind_of self.now }
+    {
+        match self {
+            What::Plan { body: _ } => PLAN,
+            What::Seal => SEAL,
+            What::Ask { give_ups: _ } => ASK,
+            What::Took {
+                outcome: _,
+                give_ups: _,
+            } => TOOK,
+        }
+    }
+}
+
+impl Item {
+    /// The entry without its content.
+    pub fn entry(&self) -> Entry
+        ensures { result ≡ entry_of self.now }
+    {
+        Entry {
+            maker: self.client,
+            kind: self.what.kind(),
+            seq: self.seq,
+        }
+    }
 }

@@ -5,9 +5,10 @@
 //! alone. `laws` says what follows from these definitions.
 #![tactic(auto)]
 
+pub mod examples;
 mod item;
 pub mod laws;
 mod outcome;
 
-pub use item::{Item, What};
+pub use item::{ASK, Item, PLAN, SEAL, TOOK, What};
 pub use outcome::{Outcome, Outcomes};

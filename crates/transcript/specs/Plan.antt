@@ -82,6 +82,10 @@ planned_on board (Live payload) steps = all_dispatches (plan payload board steps
 planned_on board Silent steps = no_bodies
 planned_on board Down steps = no_bodies
 
+-- what the clients ask of a board that told this greeting
+abbrev pub plans_on : ℕ → Greeting → List (List Step) → List ClientBodies
+plans_on board told scripts = map (planned_on board told) scripts
+
 -- what a greeting can tell of the packets of a live board
 abbrev pub IsGreeting : Greeting → Type 0
 IsGreeting (Live payload) = (MIN_PAYLOAD ≤ payload) × (payload ≤ MAX_PAYLOAD)

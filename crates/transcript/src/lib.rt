@@ -15,6 +15,7 @@ pub mod laws;
 mod line;
 mod lines;
 mod listing;
+pub mod place_laws;
 mod planned;
 mod planning;
 mod results;

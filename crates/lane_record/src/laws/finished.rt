@@ -29,7 +29,11 @@ pub fn a_finished_record_tells_all()
         → IsAskOf items k client seq claim → outcome_taken items claim ≡ Some outcome
         → place_of outcome ≡ Some place
         → at_place (first_sends items) place ≡ Some (record {
-            place = place; client = client; seq = seq; body = claim.body; outcome = outcome;
+          place = place;
+          client = client;
+          seq = seq;
+          body = claim.body;
+          outcome = outcome;
         }) }
 {}
 

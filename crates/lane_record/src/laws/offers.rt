@@ -33,7 +33,7 @@ pub fn a_send_settles_nothing()
         → next_send hub ≡ Some next → is_waiting next.hub ≡ is_waiting hub }
 {}
 
-/// A datagram that a hub hears settles Asks by replies alone, and a quiet receive by a give-up alone, of at most as many
+/// A datagram that a hub hears settles Asks by replies alone, a quiet receive by a give-up alone, of at most as many
 /// places as the window has.
 pub fn what_a_hub_hears_settles_asks()
     ensures message { (hub : Hub) (message : Option ToHub) (claims : List Claim) (outcomes : List (Option Outcome))

@@ -21,6 +21,7 @@ returns-clause-ask_in_vain c = λ items outcomes window now client seq is may.
 pub returns-clause-took : goal.returns-clause-took
 returns-clause-took c = λ items outcomes window now client seq outcome is takes.
     kept_took items outcomes window now client seq outcome (record {
-      takes = takes; within = is.within;
+      takes = takes;
+      within = is.within;
       later = is.given_up_before takes.k takes.claim outcome takes.ask.there takes.became;
     }) is

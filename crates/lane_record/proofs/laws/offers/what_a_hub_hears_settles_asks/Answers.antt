@@ -1,4 +1,4 @@
-use Rattle.lane_record.proofs.Events.{message_settles, quiet_settles}
+use Rattle.lane_record.proofs.Hearing.{message_settles, quiet_settles}
 use Rattle.lane_record.proofs.laws.offers.what_a_hub_hears_settles_asks.Goals as goal
 
 pub returns-clause-message : goal.returns-clause-message
