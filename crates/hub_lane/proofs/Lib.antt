@@ -3,3 +3,6 @@ mod Sends
 mod Windows
 mod Linked
 mod Heard
+mod Tables
+mod Ready
+mod ClientRows

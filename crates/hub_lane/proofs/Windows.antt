@@ -1,14 +1,14 @@
 -- What the hub of a lane keeps, whatever the link does: its window, and bodies that can be sent.
 use Rattle.std.proofs.Common.{◌≡◌, ℕ, zero, suc, ◌+◌, ◌≤◌, Bool, true, false, cond, List, [], ◌∷◌, ◌++◌, length, map}
 use Rattle.std.proofs.Common.{Option, Some, None, refl, sym, ap, ◌∙◌, subst, arith, length-append}
-use Rattle.std.specs.Prelude.{IfSome, min}
+use Rattle.std.specs.Prelude.{IfSome, min, ◌||◌}
 use Rattle.std.proofs.lemmas.List.{map-append}
 use Rattle.world_model.specs.declared.offered.Offered.{Offered}
 use Rattle.world_model.specs.declared.offered.OpenPlace.{OpenPlace}
 use Rattle.world_model.specs.Messages.{ToHub}
 use Rattle.world_model.specs.Hub.{Hub, abandoned, hear_quiet, new_hub, offer, place_of, places, recover, take_message}
-use Rattle.world_model.specs.Hub.{want_control, without}
-use Rattle.world_model.specs.Sends.{Next, Wanted, next_send, opened}
+use Rattle.world_model.specs.Hub.{is_waiting, some_queued, some_waited, want_control, without}
+use Rattle.world_model.specs.Sends.{Next, Wanted, after_open, next_send, opened, wanted}
 use Rattle.world_model.specs.Facts.{IsWindow}
 use Rattle.world_model.proofs.Lists.{either}
 use Rattle.world_model.proofs.Places.{less, window_less, window_push}
@@ -62,3 +62,78 @@ send_windowed hub next e is = some_is (λ (n : Next). IsWindowed n.hub) (next_se
 pub new_windowed : (first window rounds : ℕ) → window ≤ 16 → 1 ≤ window → IsWindowed (new_hub first window rounds)
 new_windowed first window rounds few one =
     record { few = few; rising = omega arith; from_one = omega arith; within = omega arith }
+
+-- ---- what a send leaves
+
+or_append : (os ps : List OpenPlace) → some_waited (os ++ ps) ≡ (some_waited os || some_waited ps)
+or_append [] ps = refl
+or_append (o ∷ os) ps = elim o.waited
+    as (λ b. (b || some_waited (os ++ ps)) ≡ ((b || some_waited os) || some_waited ps)) [
+      | true ↦ refl
+      | false ↦ or_append os ps
+    ]
+
+or_true : (b : Bool) → (b || true) ≡ true
+or_true true = refl
+or_true false = refl
+
+abbrev pub SameWaits : List OpenPlace → Option Wanted → Type 0
+SameWaits os None = Unit {0}
+SameWaits os (Some w) = some_waited w.open_places ≡ some_waited os
+
+after_waits : (o : OpenPlace) (os : List OpenPlace) (r : Option Wanted) → SameWaits os r
+    → SameWaits (o ∷ os) (after_open o r)
+after_waits o os None same = tt
+after_waits o os (Some w) same = ap (λ (b : Bool). o.waited || b) same
+
+wanted_waits : (first : ℕ) (os : List OpenPlace) → SameWaits os (wanted first os)
+wanted_waits first [] = tt
+wanted_waits first (o ∷ os) = either (SameWaits (o ∷ os)) o.resend _ _ (λ _. refl)
+    (λ _. either (SameWaits (o ∷ os)) o.control _ _ (λ _. refl)
+    (λ _. after_waits o os (wanted first os) (wanted_waits first os)))
+
+-- the numbers that no send changes, and whether somebody waits
+pub record IsSameBut (hub after : Hub) : Type 0 where
+  pub first : after.first ≡ hub.first
+  pub window : after.window ≡ hub.window
+  pub rounds : after.rounds ≡ hub.rounds
+  pub status_requests : after.status_requests ≡ hub.status_requests
+  pub waits : is_waiting after ≡ is_waiting hub
+
+pub send_same : (hub : Hub) (next : Next) → next_send hub ≡ Some next → IsSameBut hub next.hub
+send_same hub next e = some_is (λ (n : Next). IsSameBut hub n.hub) (next_send hub) next e
+    (send_cases (λ (n : Next). IsSameBut hub n.hub) hub
+    (record { first = refl; window = refl; rounds = refl; status_requests = refl; waits = refl })
+    (λ w is. record {
+      first = refl;
+      window = refl;
+      rounds = refl;
+      status_requests = refl;
+      waits = ap (λ (b : Bool). some_queued hub.queue || b)
+          (subst (SameWaits hub.open_places) is (wanted_waits hub.first hub.open_places));
+    })
+    (λ o later queue room. record {
+      first = refl;
+      window = refl;
+      rounds = refl;
+      status_requests = refl;
+      waits = ap (λ (b : Bool). some_queued later || b)
+          (or_append hub.open_places (opened (length hub.sent + 1) ∷ []) ∙ or_true (some_waited hub.open_places))
+          ∙ (or_true (some_queued later)
+          ∙ sym (ap (λ (queue_is : List Offered). some_queued queue_is || some_waited hub.open_places) queue));
+    }))
+
+pub same_on : (begin hub : Hub) (next : Next) → next_send hub ≡ Some next → IsSameBut begin hub
+    → IsSameBut begin next.hub
+same_on begin hub next e is =
+    let one = send_same hub next e in
+    record {
+      first = one.first ∙ is.first;
+      window = one.window ∙ is.window;
+      rounds = one.rounds ∙ is.rounds;
+      status_requests = one.status_requests ∙ is.status_requests;
+      waits = one.waits ∙ is.waits;
+    }
+
+pub same_here : (hub : Hub) → IsSameBut hub hub
+same_here hub = record { first = refl; window = refl; rounds = refl; status_requests = refl; waits = refl }

@@ -36,6 +36,10 @@ abbrev pub row_at : ℕ → List Row → Option ℕ
 row_at client [] = None
 row_at client (r ∷ rs) = if r.client == client then Some 0 else one_later (row_at client rs)
 
+abbrev pub later_by : ℕ → Option ℕ → Option ℕ
+later_by n None = None
+later_by n (Some at) = Some (n + at)
+
 -- one more Plan of a client, at this place among the entries
 abbrev pub with_plan : ℕ → ℕ → List Row → List Row
 with_plan client place [] = record { client = client; plans = place ∷ []; asked = 0 } ∷ []

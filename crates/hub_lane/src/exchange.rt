@@ -69,6 +69,8 @@ pub(crate) fn exchange<L: Link>(
     ensures quiets_rise { L.quiets link.old ≤ L.quiets link.new }
     ensures gots { IfOk result (λ pumped. L.gots link.new ≡ gots_of pumped (L.gots link.old)) }
     ensures gots_rise { L.gots link.old ≤ L.gots link.new }
+    ensures failed_quiets { result ≡ Err LinkFault.Failed → L.quiets link.new ≡ L.quiets link.old }
+    ensures failed_gots { result ≡ Err LinkFault.Failed → L.gots link.new ≡ L.gots link.old }
     ensures held { L.held link.old ≤ L.held link.new }
 {
     a_send_leaves_the_fates();
@@ -138,6 +140,8 @@ fn receive<L: Link>(
     ensures quiets_rise { L.quiets link.old ≤ L.quiets link.new }
     ensures gots { IfOk result (λ pumped. L.gots link.new ≡ gots_of pumped (L.gots link.old)) }
     ensures gots_rise { L.gots link.old ≤ L.gots link.new }
+    ensures failed_quiets { result ≡ Err LinkFault.Failed → L.quiets link.new ≡ L.quiets link.old }
+    ensures failed_gots { result ≡ Err LinkFault.Failed → L.gots link.new ≡ L.gots link.old }
     ensures held { L.held link.old ≤ L.held link.new }
 {
     each_event_leads_to_a_state_of_a_run();

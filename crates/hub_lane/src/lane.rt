@@ -23,6 +23,7 @@ use crate::exchange::exchange;
 use crate::outcomes::{copy_outcome, copy_words, count_of, lose_all, reply_at};
 use ipb_base::{NoMemory, Words};
 use lane_record::Outcome;
+use packet_ids::Id;
 use reliable_engine::{Engine, Settings};
 use status_packet::Status;
 use std::alloc::Global;
@@ -37,7 +38,9 @@ pub struct Lane<L: Link> {
     alloc: Global,
     link: L,
     settings: Settings,
-    status: Status,
+    mtu: u32,
+    buffers: u32,
+    first: Id,
     engine: Engine,
     buffer: Vec<u8>,
     book: Book,
@@ -48,14 +51,14 @@ pub struct Lane<L: Link> {
 }
 
 impl<L: Link> Model for Lane<L> {
-    ghost use Rattle.hub_lane.specs.Lanes.{IsLane, LaneState, status_of};
+    ghost use Rattle.hub_lane.specs.Lanes.{IsLane, LaneState};
 
     ghost Value = { LaneState L };
 
     ghost view = { λ l. record {
         link = l.link;
         settings = l.settings;
-        status = status_of l.status;
+        status = record { mtu = l.mtu; buffers = l.buffers; next = l.first };
         hub = l.engine;
         items = l.book.items;
         outcomes = l.outcomes.items;
@@ -65,7 +68,7 @@ impl<L: Link> Model for Lane<L> {
     } };
 
     ghost invariant = { λ l. IsLane l.settings
-        (status_of l.status)
+        (record { mtu = l.mtu; buffers = l.buffers; next = l.first })
         l.engine l.book.items l.outcomes.items l.give_ups l.down l.spent (L.telling l.link) (L.faults l.link)
         (L.quiets l.link) };
 }
@@ -94,17 +97,22 @@ impl<L: Link> Lane<L> {
         let Ok(book) = Book::new(alloc) else {
             return Err(link);
         };
+        let _window = settings.window();
+        let first = status.next;
+        let _first = first.get();
+        let mtu = status.mtu;
+        let buffers = status.buffers;
         let Ok(engine) = Engine::new(alloc, settings, status) else {
             return Err(link);
         };
-        let _window = settings.window();
-        let _next = status.next.get();
         each_event_leads_to_a_state_of_a_run();
         Ok(Lane {
             alloc,
             link,
             settings,
-            status,
+            mtu,
+            buffers,
+            first,
             engine,
             buffer: Vec::new(alloc),
             book,
@@ -119,7 +127,7 @@ impl<L: Link> Lane<L> {
     pub fn payload(&self) -> u32
         ensures { result ≡ payload_of self.now.status.mtu }
     {
-        (self.status.mtu - 28) / 4
+        (self.mtu - 28) / 4
     }
 
     /// How many first sends there were: the place of the last one.
@@ -161,7 +169,9 @@ impl<L: Link> Lane<L> {
             alloc: _alloc,
             link,
             settings: _settings,
-            status: _status,
+            mtu: _mtu,
+            buffers: _buffers,
+            first: _first,
             engine: _engine,
             buffer: _buffer,
             book: _book,
@@ -246,7 +256,7 @@ impl<L: Link> Lane<L> {
         }
         match exchange(
             self.alloc,
-            self.status.next,
+            self.first,
             &mut self.engine,
             &mut self.link,
             &mut self.buffer,

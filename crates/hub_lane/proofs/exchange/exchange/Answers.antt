@@ -1,0 +1,35 @@
+use Rattle.std.proofs.Common.{◌≡◌, ◌∙◌, ℕ, ◌≤◌, sym, subst, arith}
+use Rattle.hub_lane.proofs.Ready.{exchanged, ready_sent, same_sent}
+use Rattle.hub_lane.proofs.exchange.exchange.Goals as goal
+
+pub receive-requires-clause-drained : goal.receive-requires-clause-drained
+receive-requires-clause-drained g c =
+    (ready_sent c.a_send_leaves_the_fates.ensures.fates c.only_an_offer_makes_more_bodies.ensures.sent _ c.args.hub.now
+    c.send_all.new.hub c.send_all.ensures.some c.requires.ready).drained
+
+pub receive-requires-clause-waits : goal.receive-requires-clause-waits
+receive-requires-clause-waits g c =
+    (same_sent c.args.hub.now c.send_all.new.hub c.send_all.ensures.some).waits ∙ c.requires.waits
+
+pub receive-requires-clause-first : goal.receive-requires-clause-first
+receive-requires-clause-first g c =
+    c.requires.first ∙ sym (same_sent c.args.hub.now c.send_all.new.hub c.send_all.ensures.some).first
+
+pub receive-requires-clause-window : goal.receive-requires-clause-window
+receive-requires-clause-window g c =
+    (ready_sent c.a_send_leaves_the_fates.ensures.fates c.only_an_offer_makes_more_bodies.ensures.sent _ c.args.hub.now
+    c.send_all.new.hub c.send_all.ensures.some c.requires.ready).window
+
+pub receive-requires-clause-few : goal.receive-requires-clause-few
+receive-requires-clause-few g c =
+    let is = (ready_sent c.a_send_leaves_the_fates.ensures.fates c.only_an_offer_makes_more_bodies.ensures.sent _
+    c.args.hub.now c.send_all.new.hub c.send_all.ensures.some c.requires.ready).bodies.few in
+    let few = c.requires.few in
+    omega (arith, is, few)
+
+pub returns-clause-running : goal.returns-clause-running
+returns-clause-running g c =
+    exchanged c.each_event_leads_to_a_state_of_a_run.ensures.handed_out c.args.hub.now c.send_all.new.hub
+    c.receive.new.hub c.settle.new.hub c.args.outcomes.now.items c.settle.new.outcomes.items
+    (g.L.Link.telling c.args.link.now) (g.L.Link.telling c.send_all.new.link) (g.L.Link.telling c.receive.new.link)
+    c.settle.ensures.hub c.settle.ensures.outcomes c.in_ok-send_all.ensures.running c.receive.ensures.running
