@@ -1,8 +1,9 @@
-mod Standing
-mod Sends
-mod Windows
-mod Linked
-mod Heard
-mod Tables
-mod Ready
 mod ClientRows
+mod Greetings
+mod Heard
+mod Linked
+mod Ready
+mod Sends
+mod Standing
+mod Tables
+mod Windows

@@ -6,3 +6,4 @@ pub mod Plans
 pub mod Calls
 pub mod Entries
 pub mod Books
+pub mod Greeting

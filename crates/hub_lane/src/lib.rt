@@ -4,12 +4,14 @@
 mod answers;
 mod book;
 mod exchange;
+mod greeting;
 mod lane;
 mod outcomes;
 mod rows;
 
 pub use answers::{Asked, BoardState, PlanRefusal, Pumped, Taken};
 pub use book::{MAX_BODIES, MAX_WORDS};
+pub use greeting::{Greeted, MOST_OTHERS};
 pub use ipb_base::{NoMemory, Words};
 pub use lane::Lane;
 pub use lane_record::Outcome;

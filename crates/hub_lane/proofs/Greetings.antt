@@ -1,0 +1,231 @@
+-- Lemmas on the greeting of a board over a link that tells: each datagram is a status reply, and a receive is quiet only
+-- where datagrams were held.
+use Rattle.std.proofs.Common.{◌≡◌, ℕ, zero, suc, ◌+◌, ◌*◌, ◌<◌, ◌≤◌, Bool, true, false, List, [], ◌∷◌, ◌++◌, length, Option, Some, None}
+use Rattle.std.proofs.Common.{refl, sym, ap, ◌∙◌, subst, arith, inl, inr, ◌⊎◌, length-append, if◌then◌else◌}
+use Rattle.std.specs.Prelude.{Result, Ok, Err, IfSome}
+use Rattle.std.specs.List.{Contains, slice_get, slice_index_or, AllByRecursion}
+use Rattle.ipb_base.specs.Faults.{Rose}
+use Rattle.ipb_base.specs.Lists.{IsPrefix}
+use Rattle.packet_codec.specs.Packet.{packet_bytes}
+use Rattle.packet_ids.specs.Identifier.{IsIdentifier}
+use Rattle.status_packet.specs.declared.status.Status.{Status}
+use Rattle.status_packet.specs.Packets.{status_reply, status_request}
+use Rattle.status_packet.specs.Range.{IsBufferCount, IsMtu}
+use Rattle.status_packet.specs.StatusBytes.{IsStatusReply}
+use Rattle.world_model.specs.declared.datagram.Datagram.{Datagram}
+use Rattle.world_model.specs.declared.datagram.Direction.{Direction}
+use Rattle.world_model.specs.declared.datagram.Direction.TheVariants as goes
+use Rattle.world_model.specs.Messages.{ToBoard, StatusRequest, to_board}
+use Rattle.world_model.specs.Board.{Board, expected, hear, hear_message, tell_status}
+use Rattle.world_model.specs.Air.{goes_to, is_alive}
+use Rattle.world_model.specs.World.{answered}
+use Rattle.world_model.specs.Facts.{IsGreeting, IsGreetingOf, IsStart}
+use Rattle.world_model.specs.Links.{Told, IsHanded, IsHandedAt, IsHeard, first_sends, heard_by, heard_on, hears_all, sent_on, then_told}
+use Rattle.world_model.proofs.Lists.{all_get, either, get_front, get_seam, get_within}
+use Rattle.reliable_engine.specs.Settings.{Limits}
+use Rattle.world_core.specs.declared.link.LinkFault.{LinkFault}
+use Rattle.world_core.specs.declared.link.LinkFault.TheVariants as fault
+use Rattle.world_core.specs.declared.link.Received.{Received}
+use Rattle.world_core.specs.declared.link.Received.TheVariants as came
+use Rattle.world_core.specs.Telling.{IfTelling, IsGot, IsQuiet, IsReceived, IsSent, IsSettled, Receives, Telling}
+use Rattle.hub_lane.specs.declared.greeting.Answer.{Answer}
+use Rattle.hub_lane.specs.declared.greeting.Answer.TheVariants as answer
+use Rattle.hub_lane.specs.Greeting.{CanBegin, EndsAskingWith, EndsRoundWith, IsDatagram, IsExpecting, IsHeardFrom, IsTold, StaysFresh}
+use Rattle.hub_lane.specs.Lanes.{IsGreeted, status_of}
+
+-- what the laws of links say of what a board hears
+abbrev pub HeardGoesOn : Type 0
+HeardGoesOn = (window : ℕ) (old new : Told) → IsStart window old.board old.air → IsHeard old new
+    → IsStart window new.board new.air × (new.board ≡ old.board)
+
+abbrev pub AirGrows : Type 0
+AirGrows = (old new : Told) → IsHeard old new → IsPrefix {T = Datagram} old.air new.air
+
+-- ---- over any link
+
+pub on_telling : (P : Telling → Type 0) (R S : Telling → Telling → Type 0) (old new : Option Telling) → ((s t : Telling) → P s → R s t → S s t) → IfSome old P → IfTelling old new R → IfTelling old new S
+on_telling P R S None None f begins is = tt
+on_telling P R S None (Some t) f begins is = is
+on_telling P R S (Some s) None f begins is = is
+on_telling P R S (Some s) (Some t) f begins is = f s t begins is
+
+-- ---- what the board heard
+
+-- the board heard a datagram of the air, and then the others
+record HeardFirst (t u : Told) (k : ℕ) (ks : List ℕ) : Type 0 where
+  d : Datagram
+  there : slice_get t.air k ≡ Some d
+  to_board : d.direction ≡ goes.ToBoard
+  later : hears_all (heard_on t d.bytes) ks ≡ Some u
+
+same_direction : (d : Direction) → goes_to goes.ToBoard d ≡ true → d ≡ goes.ToBoard
+same_direction goes.ToBoard e = refl
+same_direction goes.ToHub e = absurd (cc)
+
+heard_at : (t u : Told) (k : ℕ) (ks : List ℕ) (r : Option Datagram) → slice_get t.air k ≡ r → then_told (heard_by t r) (λ after. hears_all after ks) ≡ Some u → HeardFirst t u k ks
+heard_at t u k ks None there e = absurd (cc)
+heard_at t u k ks (Some d) there e =
+    either (λ (x : Option Told). then_told x (λ after. hears_all after ks) ≡ Some u → HeardFirst t u k ks) (goes_to goes.ToBoard d.direction)
+      (if is_alive (first_sends t) d then Some (heard_on t d.bytes) else None) None
+      (λ way. either (λ (x : Option Told). then_told x (λ after. hears_all after ks) ≡ Some u → HeardFirst t u k ks) (is_alive (first_sends t) d) (Some (heard_on t d.bytes)) None
+        (λ alive e. record { d = d; there = there; to_board = same_direction d.direction way; later = e })
+        (λ dead e. absurd (cc)))
+      (λ other e. absurd (cc))
+      e
+
+heard_first : (t u : Told) (k : ℕ) (ks : List ℕ) → hears_all t (k ∷ ks) ≡ Some u → HeardFirst t u k ks
+heard_first t u k ks e = heard_at t u k ks (slice_get t.air k) refl e
+
+-- a datagram of the air that goes one way
+record GoesThere (way : Direction) (air : List Datagram) (place : ℕ) : Type 0 where
+  d : Datagram
+  there : slice_get air place ≡ Some d
+  direction : d.direction ≡ way
+
+front_goes : (way : Direction) (front all : List Datagram) (place : ℕ) → IsPrefix front all → GoesThere way front place → GoesThere way all place
+front_goes way front all place is at = record {
+    d = at.d;
+    there = ap (λ (l : List Datagram). slice_get l place) is.1 ∙ get_front front is.0 place at.d at.there;
+    direction = at.direction;
+  }
+
+-- what the board heard goes to the board
+heard_goes : AirGrows → (t u : Told) (ks : List ℕ) (place j : ℕ) → hears_all t ks ≡ Some u → slice_get ks j ≡ Some place → GoesThere goes.ToBoard u.air place
+heard_goes grows t u [] place j e at = absurd (cc)
+heard_goes grows t u (k ∷ ks) place zero e at =
+    let h = heard_first t u k ks e in
+    let k_is : k ≡ place = cc in
+    front_goes goes.ToBoard t.air u.air place (grows t u (record { places = k ∷ ks; heard = e }))
+      (record { d = h.d; there = ap (slice_get t.air) (sym k_is) ∙ h.there; direction = h.to_board })
+heard_goes grows t u (k ∷ ks) place (suc j) e at =
+    let h = heard_first t u k ks e in heard_goes grows (heard_on t h.d.bytes) u ks place j h.later at
+
+-- a status request is answered
+request_answered : (board : Board) (birth : ℕ) (air : List Datagram) (message : Option ToBoard) → message ≡ Some StatusRequest
+    → GoesThere goes.ToHub (air ++ answered birth (hear_message board message).answer) (length air)
+request_answered board birth air message e =
+    subst (λ (m : Option ToBoard). GoesThere goes.ToHub (air ++ answered birth (hear_message board m).answer) (length air)) (sym e)
+      (record {
+        d = record { direction = goes.ToHub; bytes = packet_bytes (status_reply board.mtu board.buffers (expected board)); birth = birth };
+        there = get_seam air [] (record { direction = goes.ToHub; bytes = packet_bytes (status_reply board.mtu board.buffers (expected board)); birth = birth });
+        direction = refl;
+      })
+
+asked_in_greeting : (board : Board) (d : Datagram) → IsGreeting board d → d.direction ≡ goes.ToBoard → to_board d.bytes ≡ Some StatusRequest
+asked_in_greeting board d is way = subst (λ (w : Direction). IsGreetingOf board w d.bytes) way is.bytes
+
+-- where the board of a greeting heard anything, its answer stands right behind what was in the air
+answer_there : AirGrows → (window : ℕ) (t u : Told) (k : ℕ) (ks : List ℕ) → IsStart window t.board t.air → hears_all t (k ∷ ks) ≡ Some u → GoesThere goes.ToHub u.air (length t.air)
+answer_there grows window t u k ks is e =
+    let h = heard_first t u k ks e in
+    let asked = asked_in_greeting t.board h.d (all_get (IsGreeting t.board) t.air k h.d is.greetings h.there) h.to_board in
+    front_goes goes.ToHub (heard_on t h.d.bytes).air u.air (length t.air) (grows (heard_on t h.d.bytes) u (record { places = ks; heard = h.later }))
+      (request_answered t.board (first_sends t) t.air (to_board h.d.bytes) asked)
+
+one_way : (air : List Datagram) (place : ℕ) → GoesThere goes.ToBoard air place → GoesThere goes.ToHub air place → ⊥
+one_way air place a b =
+    let same : Some a.d ≡ Some b.d = sym a.there ∙ b.there in
+    let d_is : a.d ≡ b.d = cc in
+    let way : goes.ToBoard ≡ goes.ToHub = sym a.direction ∙ (ap (λ (d : Datagram). d.direction) d_is ∙ b.direction) in
+    absurd (cc)
+
+-- ---- one receive
+
+received_fresh : HeardGoesOn → (settings : Limits) (by_hub : List ℕ) (before now : ℕ) (old new : Telling) → CanBegin settings old → IsReceived by_hub before now old new → StaysFresh settings old new
+received_fresh law settings by_hub before now old new begins is =
+    let on = law settings.window old.told new.told begins is.by_board in
+    record { begins = on.0; same_board = on.1 }
+
+receives_fresh : HeardGoesOn → (settings : Limits) (result : Result Received LinkFault) (bytes : List ℕ) (before now : ℕ) (old new : Telling) → CanBegin settings old → Receives result bytes before now old new
+    → StaysFresh settings old new
+receives_fresh law settings (Ok came.Got) bytes before now old new begins is = received_fresh law settings (is.place ∷ []) before now old new begins is.received
+receives_fresh law settings (Ok came.Quiet) bytes before now old new begins is = received_fresh law settings [] before now old new begins is.received
+receives_fresh law settings (Err fault.Failed) bytes before now old new begins is =
+    record { begins = subst (CanBegin settings) (sym is) begins; same_board = ap (λ (t : Telling). t.told.board) is }
+receives_fresh law settings (Err fault.NoMemory) bytes before now old new begins is = received_fresh law settings [] before now old new begins is
+
+pub fresh_on : HeardGoesOn → (settings : Limits) (result : Result Received LinkFault) (bytes : List ℕ) (before now : ℕ) (old new : Option Telling) → IfSome old (CanBegin settings)
+    → IfTelling old new (Receives result bytes before now) → IfTelling old new (StaysFresh settings)
+fresh_on law settings result bytes before now old new begins is =
+    on_telling (CanBegin settings) (Receives result bytes before now) (StaysFresh settings) old new (receives_fresh law settings result bytes before now) begins is
+
+nothing_due : (due : List ℕ) (place : ℕ) → due ≡ [] → Contains due place → ⊥
+nothing_due due place e is = let few = is.1 in let none : length due ≡ 0 = ap length e in omega (arith, few, none)
+
+get_there : (xs : List ℕ) (j x : ℕ) → j < length xs → slice_index_or xs j x ≡ x → slice_get xs j ≡ Some x
+get_there [] j x lt e = absurd (omega (arith, lt))
+get_there (y ∷ xs) zero x lt e = ap (λ (z : ℕ). Some z) e
+get_there (y ∷ xs) (suc j) x lt e = get_there xs j x (omega (arith, lt)) e
+
+-- the answer to what the board heard is neither still to be heard nor handed out
+answer_rose : AirGrows → (before now : ℕ) (old new : Telling) → IsQuiet before now old new → GoesThere goes.ToHub new.told.air (length old.told.air) → Rose before now
+answer_rose grows before now old new is at =
+    let place = length old.told.air in
+    elim (is.received.joins place (omega arith) (get_within new.told.air place at.d at.there)) [
+      | inl due ↦ absurd (nothing_due new.due place is.none_due due)
+      | inr rest ↦ elim rest [
+        | inl heard ↦ absurd (one_way new.told.air place
+            (heard_goes grows old.told new.told is.received.by_board.places place heard.0 is.received.by_board.heard (get_there is.received.by_board.places heard.0 place heard.1 heard.2)) at)
+        | inr rest ↦ elim rest [
+          | inl handed ↦ absurd (nothing_due [] place refl handed)
+          | inr rose ↦ rose
+        ]
+      ]
+    ]
+
+answer_held : AirGrows → (settings : Limits) (before now : ℕ) (old new : Telling) → CanBegin settings old → IsQuiet before now old new → (places : List ℕ) → hears_all old.told places ≡ Some new.told → (j : ℕ) → j < length places
+    → Rose before now
+answer_held grows settings before now old new begins is [] e j lt = absurd (omega (arith, lt))
+answer_held grows settings before now old new begins is (k ∷ ks) e j lt = answer_rose grows before now old new is (answer_there grows settings.window old.told new.told k ks begins e)
+
+-- what is expected is settled by a quiet receive only where datagrams are held
+quiet_held : HeardGoesOn → AirGrows → (settings : Limits) (before now : ℕ) (old new : Telling) → CanBegin settings old → IsQuiet before now old new → IsExpecting old → Rose before now
+quiet_held law grows settings before now old new begins is expecting =
+    elim (is.received.stays expecting.place expecting.due) [
+      | inl due ↦ absurd (nothing_due new.due expecting.place is.none_due due)
+      | inr rest ↦ elim rest [
+        | inl heard ↦ answer_held grows settings before now old new begins is is.received.by_board.places is.received.by_board.heard heard.0 heard.1
+        | inr rest ↦ elim rest [
+          | inl handed ↦ absurd (nothing_due [] expecting.place refl handed)
+          | inr rose ↦ rose
+        ]
+      ]
+    ]
+
+quiet_on_telling : HeardGoesOn → AirGrows → (settings : Limits) (before now : ℕ) (old new : Telling) → CanBegin settings old → IsQuiet before now old new
+    → IsHeardFrom settings before now answer.Nothing old new
+quiet_on_telling law grows settings before now old new begins is = quiet_held law grows settings before now old new begins is
+
+pub quiet_told : HeardGoesOn → AirGrows → (settings : Limits) (bytes : List ℕ) (before now : ℕ) (old new : Option Telling) → IfSome old (CanBegin settings)
+    → IfTelling old new (Receives (Ok came.Quiet) bytes before now) → IfTelling old new (IsHeardFrom settings before now answer.Nothing)
+quiet_told law grows settings bytes before now old new begins is =
+    on_telling (CanBegin settings) (Receives (Ok came.Quiet) bytes before now) (IsHeardFrom settings before now answer.Nothing) old new (quiet_on_telling law grows settings before now) begins is
+
+-- a datagram of a greeting tells the status of the board
+abbrev pub TellsAll : List ℕ → Answer → Type 0
+TellsAll bytes told = (mtu buffers next : ℕ) → IsMtu mtu → IsBufferCount buffers → IsIdentifier next → IsStatusReply bytes mtu buffers next → IsTold mtu buffers next told
+
+abbrev pub ReplyTells : Type 0
+ReplyTells = (mtu buffers next : ℕ) → IsStatusReply (packet_bytes (status_reply mtu buffers next)) mtu buffers next
+
+told_greeted : (settings : Limits) (before now : ℕ) (old new : Telling) (told : Answer) → CanBegin settings new → IsTold new.told.board.mtu new.told.board.buffers new.told.board.first told
+    → IsHeardFrom settings before now told old new
+told_greeted settings before now old new (answer.Told status) begins is = record { begins = begins; mtu = is.0; buffers = is.1; next = is.2 }
+told_greeted settings before now old new answer.Nothing begins is = absurd is
+told_greeted settings before now old new answer.Other begins is = absurd is
+
+got_greeted : HeardGoesOn → ReplyTells → (settings : Limits) (bytes : List ℕ) (told : Answer) → TellsAll bytes told → (before now : ℕ) (old new : Telling) → CanBegin settings old → IsGot bytes before now old new
+    → IsHeardFrom settings before now told old new
+got_greeted law tells settings bytes told all before now old new begins is =
+    let fresh = received_fresh law settings (is.place ∷ []) before now old new begins is.received in
+    let start = fresh.begins in
+    let board = new.told.board in
+    let greeting = all_get (IsGreeting board) new.told.air is.place (record { direction = goes.ToHub; bytes = bytes; birth = is.there.birth }) start.greetings is.there.there in
+    told_greeted settings before now old new told start
+      (all board.mtu board.buffers board.first start.mtu start.buffers start.first
+        (subst (λ (bs : List ℕ). IsStatusReply bs board.mtu board.buffers board.first) (sym greeting.bytes) (tells board.mtu board.buffers board.first)))
+
+pub got_told : HeardGoesOn → ReplyTells → (settings : Limits) (bytes : List ℕ) (told : Answer) → TellsAll bytes told → (before now : ℕ) (old new : Option Telling) → IfSome old (CanBegin settings)
+    → IfTelling old new (Receives (Ok came.Got) bytes before now) → IfTelling old new (IsHeardFrom settings before now told)
+got_told law tells settings bytes told all before now old new begins is =
+    on_telling (CanBegin settings) (Receives (Ok came.Got) bytes before now) (IsHeardFrom settings before now told) old new (got_greeted law tells settings bytes told all before now) begins is

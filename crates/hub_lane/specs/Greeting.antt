@@ -1,0 +1,129 @@
+-- The greeting of a board: it is asked for its status, round by round, until it tells it. IPbus 2.0, status packet; the
+-- rounds are the profile's.
+use Rattle.std.specs.Prelude.{◌≡◌, ℕ, ◌+◌, ◌*◌, ◌<◌, ◌≤◌, length, Option, Some, None, IfSome}
+use Rattle.std.specs.List.{Contains}
+use Rattle.ipb_base.specs.Faults.{Rose, one_more}
+use Rattle.status_packet.specs.declared.status.Status.{Status}
+use Rattle.world_model.specs.Facts.{IsStart}
+use Rattle.reliable_engine.specs.Settings.{Limits}
+use Rattle.world_core.specs.Telling.{Telling}
+use Rattle.hub_lane.specs.declared.greeting.Answer.{Answer}
+use Rattle.hub_lane.specs.declared.greeting.Answer.TheVariants as answer
+use Rattle.hub_lane.specs.declared.greeting.Greeted.{Greeted}
+use Rattle.hub_lane.specs.declared.greeting.Greeted.TheVariants.{Ready, Silent, Down, NoMemory}
+use Rattle.hub_lane.specs.Lanes.{IsGreeted, LaneState, status_of}
+
+-- a run can begin at this board and this air: nothing was executed, and nothing but greetings is in the air
+abbrev pub CanBegin : Limits → Telling → Type 0
+CanBegin settings t = IsStart settings.window t.told.board t.told.air
+
+-- a run can begin there still, and the board is as it was
+pub record StaysFresh (settings : Limits) (old new : Telling) : Type 0 where
+  pub begins : CanBegin settings new
+  pub same_board : new.told.board ≡ old.told.board
+
+-- some datagram is still to be heard
+pub record IsExpecting (t : Telling) : Type 0 where
+  pub place : ℕ
+  pub due : Contains t.due place
+  pub there : place < length t.told.air
+
+-- no call of the link was counted yet
+pub record IsUnused (faults quiets gots held : ℕ) : Type 0 where
+  pub no_faults : faults ≡ 0
+  pub no_quiets : quiets ≡ 0
+  pub no_gots : gots ≡ 0
+  pub none_held : held ≡ 0
+
+-- ---- one receive
+
+-- a datagram tells this status, and nothing else is told
+abbrev pub IsTold : ℕ → ℕ → ℕ → Answer → Type 0
+IsTold mtu buffers next (answer.Told status) =
+    (status.mtu ≡ mtu) × (status.buffers ≡ buffers) × (status.next ≡ next)
+IsTold mtu buffers next answer.Nothing = ⊥
+IsTold mtu buffers next answer.Other = ⊥
+
+abbrev pub IfTold : Answer → (Status → Type 0) → Type 0
+IfTold (answer.Told status) holds = holds status
+IfTold answer.Nothing holds = Unit {0}
+IfTold answer.Other holds = Unit {0}
+
+abbrev pub IsDatagram : Answer → Type 0
+IsDatagram (answer.Told status) = Unit {0}
+IsDatagram answer.Nothing = ⊥
+IsDatagram answer.Other = Unit {0}
+
+-- Over a link that tells, a datagram is a status reply with the status of the board; and a receive is quiet only where
+-- nothing is expected or datagrams were held. `before` and `now` count those that are held.
+abbrev pub IsHeardFrom : Limits → ℕ → ℕ → Answer → Telling → Telling → Type 0
+IsHeardFrom settings before now (answer.Told status) old new = IsGreeted settings (status_of status) new
+IsHeardFrom settings before now answer.Nothing old new = IsExpecting old → Rose before now
+IsHeardFrom settings before now answer.Other old new = ⊥
+
+abbrev pub quiets_of_answer : Answer → ℕ → ℕ
+quiets_of_answer (answer.Told status) count = count
+quiets_of_answer answer.Nothing count = one_more count
+quiets_of_answer answer.Other count = count
+
+abbrev pub gots_of_answer : Answer → ℕ → ℕ
+gots_of_answer (answer.Told status) count = one_more count
+gots_of_answer answer.Nothing count = count
+gots_of_answer answer.Other count = one_more count
+
+-- ---- a round
+
+-- Over a link that tells, a round ends with the status of the board, or with a quiet receive, and then datagrams were
+-- held where any was expected.
+abbrev pub EndsRoundWith : Limits → ℕ → ℕ → ℕ → ℕ → Option Status → Telling → Telling → Type 0
+EndsRoundWith settings quiets quiets_now held held_now (Some status) old new =
+    IsGreeted settings (status_of status) new
+EndsRoundWith settings quiets quiets_now held held_now None old new =
+    (quiets + 1 ≤ quiets_now) × (IsExpecting old → Rose held held_now)
+
+-- the same of a round with its request, which is expected itself: so datagrams were held
+abbrev pub EndsAskingWith : Limits → ℕ → ℕ → ℕ → ℕ → Option Status → Telling → Telling → Type 0
+EndsAskingWith settings quiets quiets_now held held_now (Some status) old new =
+    IsGreeted settings (status_of status) new
+EndsAskingWith settings quiets quiets_now held held_now None old new = (quiets + 1 ≤ quiets_now) × Rose held held_now
+
+-- a round without a status reply ends at a quiet receive, or after 64 other datagrams
+abbrev pub IsCounted : ℕ → ℕ → ℕ → ℕ → Type 0
+IsCounted quiets quiets_now gots gots_now = 64 + 64 * quiets + gots ≤ 64 * quiets_now + gots_now
+
+abbrev pub IfNotTold : Option Status → Type 0 → Type 0
+IfNotTold None P = P
+IfNotTold (Some status) P = Unit {0}
+
+-- ---- all rounds
+
+-- over a link that tells: the status is that of the board, or each round had a quiet receive and held a datagram
+abbrev pub EndsGreetingWith : Limits → ℕ → ℕ → Option Status → Telling → Type 0
+EndsGreetingWith settings quiets held (Some status) t = IsGreeted settings (status_of status) t
+EndsGreetingWith settings quiets held None t = (settings.rounds ≤ quiets) × (settings.rounds ≤ held)
+
+-- ---- what a greeting comes to
+
+abbrev pub link_of : {L : Type 0} → Greeted L → L
+link_of (Ready lane) = lane.link
+link_of (Silent link rounds) = link
+link_of (Down link) = link
+link_of (NoMemory link) = link
+
+abbrev pub IfReady : {L : Type 0} → Greeted L → (LaneState L → Type 0) → Type 0
+IfReady (Ready lane) holds = holds lane
+IfReady (Silent link rounds) holds = Unit {0}
+IfReady (Down link) holds = Unit {0}
+IfReady (NoMemory link) holds = Unit {0}
+
+abbrev pub IfSilent : {L : Type 0} → Greeted L → (L → ℕ → Type 0) → Type 0
+IfSilent (Ready lane) holds = Unit {0}
+IfSilent (Silent link rounds) holds = holds link rounds
+IfSilent (Down link) holds = Unit {0}
+IfSilent (NoMemory link) holds = Unit {0}
+
+abbrev pub IfDown : {L : Type 0} → Greeted L → (L → Type 0) → Type 0
+IfDown (Ready lane) holds = Unit {0}
+IfDown (Silent link rounds) holds = Unit {0}
+IfDown (Down link) holds = holds link
+IfDown (NoMemory link) holds = Unit {0}

@@ -1,0 +1,212 @@
+//! The greeting of a board: its link is asked for its status, round by round, until the board tells it.
+
+ghost use Rattle.std.specs.Prelude.{◌≡◌, ◌≤◌, ◌+◌, ◌*◌, ℕ, IfSome, IfOk, OnErr, OnOk, Err};
+ghost use Rattle.ipb_base.specs.Faults.{Rose};
+ghost use Rattle.world_core.specs.Telling.{IfTelling};
+ghost use Rattle.packet_ids.specs.Identifier.{IsIdentifier};
+ghost use Rattle.status_packet.specs.Range.{IsBufferCount, IsMtu};
+ghost use Rattle.status_packet.specs.StatusBytes.{IsStatusReply};
+ghost use Rattle.hub_lane.specs.Greeting.{CanBegin, EndsAskingWith, EndsGreetingWith, EndsRoundWith, IfDown, IfNotTold};
+ghost use Rattle.hub_lane.specs.Greeting.{IfReady, IfSilent, IfTold, IsCounted, IsDatagram, IsHeardFrom, IsTold};
+ghost use Rattle.hub_lane.specs.Greeting.{IsUnused, StaysFresh, gots_of_answer, link_of, quiets_of_answer};
+ghost use Rattle.hub_lane.specs.Lanes.{IsGreeted, opened, status_of};
+
+use crate::lane::Lane;
+use reliable_engine::Settings;
+use status_packet::laws::what_is_written_is_known;
+use status_packet::{Status, read_status_reply, write_status_request};
+use std::alloc::Global;
+use world_core::{Link, LinkFault, Received};
+use world_model::laws::links::{a_greeting_goes_on, a_link_forgets_nothing};
+
+/// After so many datagrams that tell no status a round of a greeting ends (profile).
+pub const MOST_OTHERS: usize = 64;
+
+/// What a greeting came to (profile).
+pub enum Greeted<L: Link> {
+    /// The board told its status.
+    Ready(Lane<L>),
+    /// It told none in any round.
+    Silent { link: L, rounds: u8 },
+    /// The link failed.
+    Down { link: L },
+    /// Memory ran out.
+    NoMemory { link: L },
+}
+
+/// What one receive of a greeting came to.
+#[derive(Clone, Copy, Debug, PartialEq, Eq)]
+pub(crate) enum Answer {
+    /// The board told this status.
+    Told(Status),
+    /// No datagram came in the time that the link waits.
+    Nothing,
+    /// A datagram came that tells no status.
+    Other,
+}
+
+impl<L: Link> Lane<L> {
+    /// Greets the board of a link that was not used yet: asks for its status and receives until it is told, a receive is
+    /// quiet or 64 other datagrams came, and so again, at most as many rounds as the settings say. After any answer a
+    /// board that the link tells has executed nothing.
+    pub fn greet(alloc: Global, link: L, settings: Settings) -> Greeted<L>
+        requires unused { IsUnused (L.faults link) (L.quiets link) (L.gots link) (L.held link) }
+        requires begins { IfSome (L.telling link) (CanBegin settings) }
+        ensures fresh { IfTelling (L.telling link) (L.telling (link_of result)) (StaysFresh settings) }
+        ensures ready { IfReady result (λ lane. lane ≡ opened lane.link settings lane.status) }
+        ensures told { IfReady result (λ lane. IfSome (L.telling lane.link) (IsGreeted settings lane.status)) }
+        ensures silent { IfSilent result (λ link rounds. (rounds ≡ settings.rounds)
+            × (64 * settings.rounds ≤ 64 * L.quiets link + L.gots link)) }
+        ensures silent_told { IfSilent result (λ link rounds. IfSome (L.telling link)
+            (λ _. (settings.rounds ≤ L.quiets link) × (settings.rounds ≤ L.held link))) }
+        ensures down { IfDown result (λ after. Rose (L.faults link) (L.faults after)) }
+        ensures faults { L.faults link ≤ L.faults (link_of result) }
+    {
+        let mut link = link;
+        let mut buffer = Vec::new(alloc);
+        match ask_for_status(&mut link, &mut buffer, settings) {
+            Ok(Some(status)) => begin(alloc, link, settings, status),
+            Ok(None) => Greeted::Silent { link, rounds: settings.rounds() },
+            Err(LinkFault::Failed) => Greeted::Down { link },
+            Err(LinkFault::NoMemory) => Greeted::NoMemory { link },
+        }
+    }
+}
+
+/// The lane of a link whose board told its status.
+fn begin<L: Link>(alloc: Global, link: L, settings: Settings, status: Status) -> Greeted<L>
+    requires greeted { IfSome (L.telling link) (IsGreeted settings (status_of status)) }
+    ensures same { link_of result ≡ link }
+    ensures ready { IfReady result (λ lane. lane ≡ opened link settings (status_of status)) }
+    ensures silent { IfSilent result (λ link rounds. ⊥) }
+    ensures down { IfDown result (λ link. ⊥) }
+{
+    match Lane::new(alloc, link, settings, status) {
+        Ok(lane) => Greeted::Ready(lane),
+        Err(link) => Greeted::NoMemory { link },
+    }
+}
+
+/// Asks for the status of the board, round by round.
+fn ask_for_status<L: Link>(
+    link: &mut L,
+    buffer: &mut Vec<u8>,
+    settings: Settings,
+) -> Result<Option<Status>, LinkFault>
+    requires unused { IsUnused (L.faults link.old) (L.quiets link.old) (L.gots link.old) (L.held link.old) }
+    requires begins { IfSome (L.telling link.old) (CanBegin settings) }
+    ensures fresh { IfTelling (L.telling link.old) (L.telling link.new) (StaysFresh settings) }
+    ensures told { IfOk result (λ found. IfSome (L.telling link.new)
+        (EndsGreetingWith settings (L.quiets link.new) (L.held link.new) found)) }
+    ensures silent { IfOk result (λ found. IfNotTold found
+        (64 * settings.rounds ≤ 64 * L.quiets link.new + L.gots link.new)) }
+    ensures failed { result ≡ Err LinkFault.Failed → Rose (L.faults link.old) (L.faults link.new) }
+    ensures faults { L.faults link.old ≤ L.faults link.new }
+{
+    for round in 0..settings.rounds() {
+        if let Some(status) = ask_once(link, buffer, settings)? {
+            return Ok(Some(status));
+        }
+    }
+    Ok(None)
+}
+
+/// One round: asks for the status, and listens.
+fn ask_once<L: Link>(
+    link: &mut L,
+    buffer: &mut Vec<u8>,
+    settings: Settings,
+) -> Result<Option<Status>, LinkFault>
+    requires few_quiets { L.quiets link.old ≤ 255 }
+    requires few_gots { L.gots link.old ≤ 64 * 255 }
+    requires begins { IfSome (L.telling link.old) (CanBegin settings) }
+    ensures fresh { IfTelling (L.telling link.old) (L.telling link.new) (StaysFresh settings) }
+    ensures told { IfOk result (λ found. IfTelling (L.telling link.old) (L.telling link.new)
+        (EndsAskingWith settings (L.quiets link.old) (L.quiets link.new) (L.held link.old) (L.held link.new) found)) }
+    ensures counted { IfOk result (λ found. IfNotTold found
+        (IsCounted (L.quiets link.old) (L.quiets link.new) (L.gots link.old) (L.gots link.new))) }
+    ensures quiets { L.quiets link.new ≤ L.quiets link.old + 1 }
+    ensures quiets_rise { L.quiets link.old ≤ L.quiets link.new }
+    ensures gots { L.gots link.new ≤ L.gots link.old + 64 }
+    ensures gots_rise { L.gots link.old ≤ L.gots link.new }
+    ensures failed { result ≡ Err LinkFault.Failed → Rose (L.faults link.old) (L.faults link.new) }
+    ensures faults { L.faults link.old ≤ L.faults link.new }
+    ensures held { L.held link.old ≤ L.held link.new }
+{
+    a_greeting_goes_on();
+    let request = write_status_request();
+    link.send(&request)?;
+    listen(link, buffer, settings)
+}
+
+/// Receives until the board tells its status, a receive is quiet, or 64 other datagrams came.
+fn listen<L: Link>(
+    link: &mut L,
+    buffer: &mut Vec<u8>,
+    settings: Settings,
+) -> Result<Option<Status>, LinkFault>
+    requires few_quiets { L.quiets link.old ≤ 255 }
+    requires few_gots { L.gots link.old ≤ 64 * 255 }
+    requires begins { IfSome (L.telling link.old) (CanBegin settings) }
+    ensures fresh { IfTelling (L.telling link.old) (L.telling link.new) (StaysFresh settings) }
+    ensures told { IfOk result (λ found. IfTelling (L.telling link.old) (L.telling link.new)
+        (EndsRoundWith settings (L.quiets link.old) (L.quiets link.new) (L.held link.old) (L.held link.new) found)) }
+    ensures counted { IfOk result (λ found. IfNotTold found
+        (IsCounted (L.quiets link.old) (L.quiets link.new) (L.gots link.old) (L.gots link.new))) }
+    ensures quiets { L.quiets link.new ≤ L.quiets link.old + 1 }
+    ensures quiets_rise { L.quiets link.old ≤ L.quiets link.new }
+    ensures gots { L.gots link.new ≤ L.gots link.old + 64 }
+    ensures gots_rise { L.gots link.old ≤ L.gots link.new }
+    ensures failed { result ≡ Err LinkFault.Failed → Rose (L.faults link.old) (L.faults link.new) }
+    ensures faults { L.faults link.old ≤ L.faults link.new }
+    ensures held { L.held link.old ≤ L.held link.new }
+{
+    for other in 0..MOST_OTHERS {
+        match hear_once(link, buffer, settings)? {
+            Answer::Told(status) => return Ok(Some(status)),
+            Answer::Nothing => return Ok(None),
+            Answer::Other => {}
+        }
+    }
+    Ok(None)
+}
+
+/// Receives once.
+fn hear_once<L: Link>(
+    link: &mut L,
+    buffer: &mut Vec<u8>,
+    settings: Settings,
+) -> Result<Answer, LinkFault>
+    requires begins { IfSome (L.telling link.old) (CanBegin settings) }
+    ensures fresh { IfTelling (L.telling link.old) (L.telling link.new) (StaysFresh settings) }
+    ensures told { IfOk result (λ heard. IfTelling (L.telling link.old) (L.telling link.new)
+        (IsHeardFrom settings (L.held link.old) (L.held link.new) heard)) }
+    ensures quiets { IfOk result (λ heard. L.quiets link.new ≡ quiets_of_answer heard (L.quiets link.old)) }
+    ensures same_quiets { OnErr result (L.quiets link.new ≡ L.quiets link.old) }
+    ensures gots { IfOk result (λ heard. L.gots link.new ≡ gots_of_answer heard (L.gots link.old)) }
+    ensures same_gots { OnErr result (L.gots link.new ≡ L.gots link.old) }
+    ensures failed { result ≡ Err LinkFault.Failed → Rose (L.faults link.old) (L.faults link.new) }
+    ensures faults { L.faults link.old ≤ L.faults link.new }
+    ensures held { L.held link.old ≤ L.held link.new }
+{
+    a_greeting_goes_on();
+    a_link_forgets_nothing();
+    what_is_written_is_known();
+    match link.receive(buffer)? {
+        Received::Quiet => Ok(Answer::Nothing),
+        Received::Got => Ok(tell(buffer)),
+    }
+}
+
+/// What a datagram tells.
+fn tell(bytes: &[u8]) -> Answer
+    ensures datagram { IsDatagram result }
+    ensures found { IfTold result (λ status. IsStatusReply bytes.now status.mtu status.buffers status.next) }
+    ensures only { (mtu buffers next : ℕ) → IsMtu mtu → IsBufferCount buffers → IsIdentifier next
+        → IsStatusReply bytes.now mtu buffers next → IsTold mtu buffers next result }
+{
+    match read_status_reply(bytes) {
+        Ok(status) => Answer::Told(status),
+        Err(_bad) => Answer::Other,
+    }
+}
