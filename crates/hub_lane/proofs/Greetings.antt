@@ -1,9 +1,10 @@
--- Lemmas on the greeting of a board over a link that tells: each datagram is a status reply, and a receive is quiet only
--- where datagrams were held.
-use Rattle.std.proofs.Common.{◌≡◌, ℕ, zero, suc, ◌+◌, ◌*◌, ◌<◌, ◌≤◌, Bool, true, false, List, [], ◌∷◌, ◌++◌, length, Option, Some, None}
+-- Lemmas on the greeting of a board over a link that tells: each datagram is a status reply, and a receive is quiet
+-- only where datagrams were held.
+use Rattle.std.proofs.Common.{◌≡◌, ℕ, zero, suc, ◌+◌, ◌*◌, ◌<◌, ◌≤◌, true, List, [], ◌∷◌, ◌++◌, length, Option}
+use Rattle.std.proofs.Common.{Some, None}
 use Rattle.std.proofs.Common.{refl, sym, ap, ◌∙◌, subst, arith, inl, inr, ◌⊎◌, length-append, if◌then◌else◌}
 use Rattle.std.specs.Prelude.{Result, Ok, Err, IfSome}
-use Rattle.std.specs.List.{Contains, slice_get, slice_index_or, AllByRecursion}
+use Rattle.std.specs.List.{Contains, slice_get, slice_index_or}
 use Rattle.ipb_base.specs.Faults.{Rose}
 use Rattle.ipb_base.specs.Lists.{IsPrefix}
 use Rattle.packet_codec.specs.Packet.{packet_bytes}
@@ -16,22 +17,23 @@ use Rattle.world_model.specs.declared.datagram.Datagram.{Datagram}
 use Rattle.world_model.specs.declared.datagram.Direction.{Direction}
 use Rattle.world_model.specs.declared.datagram.Direction.TheVariants as goes
 use Rattle.world_model.specs.Messages.{ToBoard, StatusRequest, to_board}
-use Rattle.world_model.specs.Board.{Board, expected, hear, hear_message, tell_status}
+use Rattle.world_model.specs.Board.{Board, expected, hear_message}
 use Rattle.world_model.specs.Air.{goes_to, is_alive}
 use Rattle.world_model.specs.World.{answered}
 use Rattle.world_model.specs.Facts.{IsGreeting, IsGreetingOf, IsStart}
-use Rattle.world_model.specs.Links.{Told, IsHanded, IsHandedAt, IsHeard, first_sends, heard_by, heard_on, hears_all, sent_on, then_told}
+use Rattle.world_model.specs.Links.{Told, IsHeard, birth_of, first_sends, heard_by, heard_on, hears_all, sent_on}
+use Rattle.world_model.specs.Links.{then_told}
 use Rattle.world_model.proofs.Lists.{all_get, either, get_front, get_seam, get_within}
 use Rattle.reliable_engine.specs.Settings.{Limits}
 use Rattle.world_core.specs.declared.link.LinkFault.{LinkFault}
 use Rattle.world_core.specs.declared.link.LinkFault.TheVariants as fault
 use Rattle.world_core.specs.declared.link.Received.{Received}
 use Rattle.world_core.specs.declared.link.Received.TheVariants as came
-use Rattle.world_core.specs.Telling.{IfTelling, IsGot, IsQuiet, IsReceived, IsSent, IsSettled, Receives, Telling}
+use Rattle.world_core.specs.Telling.{IfTelling, IsGot, IsQuiet, IsReceived, IsSent, Receives, Telling}
 use Rattle.hub_lane.specs.declared.greeting.Answer.{Answer}
 use Rattle.hub_lane.specs.declared.greeting.Answer.TheVariants as answer
-use Rattle.hub_lane.specs.Greeting.{CanBegin, EndsAskingWith, EndsRoundWith, IsDatagram, IsExpecting, IsHeardFrom, IsTold, StaysFresh}
-use Rattle.hub_lane.specs.Lanes.{IsGreeted, status_of}
+use Rattle.hub_lane.specs.Greeting.{CanBegin, EndsAskingWith, EndsGreetingWith, EndsRoundWith, IsExpecting}
+use Rattle.hub_lane.specs.Greeting.{IsHeardFrom, IsTold, StaysFresh}
 
 -- what the laws of links say of what a board hears
 abbrev pub HeardGoesOn : Type 0
@@ -43,7 +45,8 @@ AirGrows = (old new : Told) → IsHeard old new → IsPrefix {T = Datagram} old.
 
 -- ---- over any link
 
-pub on_telling : (P : Telling → Type 0) (R S : Telling → Telling → Type 0) (old new : Option Telling) → ((s t : Telling) → P s → R s t → S s t) → IfSome old P → IfTelling old new R → IfTelling old new S
+pub on_telling : (P : Telling → Type 0) (R S : Telling → Telling → Type 0) (old new : Option Telling)
+    → ((s t : Telling) → P s → R s t → S s t) → IfSome old P → IfTelling old new R → IfTelling old new S
 on_telling P R S None None f begins is = tt
 on_telling P R S None (Some t) f begins is = is
 on_telling P R S (Some s) None f begins is = is
@@ -62,16 +65,19 @@ same_direction : (d : Direction) → goes_to goes.ToBoard d ≡ true → d ≡ g
 same_direction goes.ToBoard e = refl
 same_direction goes.ToHub e = absurd (cc)
 
-heard_at : (t u : Told) (k : ℕ) (ks : List ℕ) (r : Option Datagram) → slice_get t.air k ≡ r → then_told (heard_by t r) (λ after. hears_all after ks) ≡ Some u → HeardFirst t u k ks
+heard_at : (t u : Told) (k : ℕ) (ks : List ℕ) (r : Option Datagram) → slice_get t.air k ≡ r
+    → then_told (heard_by t r) (λ after. hears_all after ks) ≡ Some u → HeardFirst t u k ks
 heard_at t u k ks None there e = absurd (cc)
 heard_at t u k ks (Some d) there e =
-    either (λ (x : Option Told). then_told x (λ after. hears_all after ks) ≡ Some u → HeardFirst t u k ks) (goes_to goes.ToBoard d.direction)
-      (if is_alive (first_sends t) d then Some (heard_on t d.bytes) else None) None
-      (λ way. either (λ (x : Option Told). then_told x (λ after. hears_all after ks) ≡ Some u → HeardFirst t u k ks) (is_alive (first_sends t) d) (Some (heard_on t d.bytes)) None
-        (λ alive e. record { d = d; there = there; to_board = same_direction d.direction way; later = e })
-        (λ dead e. absurd (cc)))
-      (λ other e. absurd (cc))
-      e
+    either (λ (x : Option Told). then_told x (λ after. hears_all after ks) ≡ Some u → HeardFirst t u k ks)
+    (goes_to goes.ToBoard d.direction)
+    (if is_alive (first_sends t) d then Some (heard_on t d.bytes) else None) None
+    (λ way. either (λ (x : Option Told). then_told x (λ after. hears_all after ks) ≡ Some u → HeardFirst t u k ks)
+    (is_alive (first_sends t) d) (Some (heard_on t d.bytes)) None
+    (λ alive e. record { d = d; there = there; to_board = same_direction d.direction way; later = e })
+    (λ dead e. absurd (cc)))
+    (λ other e. absurd (cc))
+    e
 
 heard_first : (t u : Told) (k : ℕ) (ks : List ℕ) → hears_all t (k ∷ ks) ≡ Some u → HeardFirst t u k ks
 heard_first t u k ks e = heard_at t u k ks (slice_get t.air k) refl e
@@ -82,45 +88,63 @@ record GoesThere (way : Direction) (air : List Datagram) (place : ℕ) : Type 0 
   there : slice_get air place ≡ Some d
   direction : d.direction ≡ way
 
-front_goes : (way : Direction) (front all : List Datagram) (place : ℕ) → IsPrefix front all → GoesThere way front place → GoesThere way all place
+front_goes : (way : Direction) (front all : List Datagram) (place : ℕ) → IsPrefix front all
+    → GoesThere way front place → GoesThere way all place
 front_goes way front all place is at = record {
-    d = at.d;
-    there = ap (λ (l : List Datagram). slice_get l place) is.1 ∙ get_front front is.0 place at.d at.there;
-    direction = at.direction;
-  }
+  d = at.d;
+  there = ap (λ (l : List Datagram). slice_get l place) is.1 ∙ get_front front is.0 place at.d at.there;
+  direction = at.direction;
+}
 
 -- what the board heard goes to the board
-heard_goes : AirGrows → (t u : Told) (ks : List ℕ) (place j : ℕ) → hears_all t ks ≡ Some u → slice_get ks j ≡ Some place → GoesThere goes.ToBoard u.air place
+heard_goes : AirGrows → (t u : Told) (ks : List ℕ) (place j : ℕ) → hears_all t ks ≡ Some u
+    → slice_get ks j ≡ Some place → GoesThere goes.ToBoard u.air place
 heard_goes grows t u [] place j e at = absurd (cc)
 heard_goes grows t u (k ∷ ks) place zero e at =
     let h = heard_first t u k ks e in
     let k_is : k ≡ place = cc in
     front_goes goes.ToBoard t.air u.air place (grows t u (record { places = k ∷ ks; heard = e }))
-      (record { d = h.d; there = ap (slice_get t.air) (sym k_is) ∙ h.there; direction = h.to_board })
+    (record { d = h.d; there = ap (slice_get t.air) (sym k_is) ∙ h.there; direction = h.to_board })
 heard_goes grows t u (k ∷ ks) place (suc j) e at =
     let h = heard_first t u k ks e in heard_goes grows (heard_on t h.d.bytes) u ks place j h.later at
 
 -- a status request is answered
-request_answered : (board : Board) (birth : ℕ) (air : List Datagram) (message : Option ToBoard) → message ≡ Some StatusRequest
+request_answered : (board : Board) (birth : ℕ) (air : List Datagram) (message : Option ToBoard)
+    → message ≡ Some StatusRequest
     → GoesThere goes.ToHub (air ++ answered birth (hear_message board message).answer) (length air)
 request_answered board birth air message e =
-    subst (λ (m : Option ToBoard). GoesThere goes.ToHub (air ++ answered birth (hear_message board m).answer) (length air)) (sym e)
-      (record {
-        d = record { direction = goes.ToHub; bytes = packet_bytes (status_reply board.mtu board.buffers (expected board)); birth = birth };
-        there = get_seam air [] (record { direction = goes.ToHub; bytes = packet_bytes (status_reply board.mtu board.buffers (expected board)); birth = birth });
-        direction = refl;
-      })
+    subst (λ (m : Option ToBoard). GoesThere goes.ToHub (air ++ answered birth (hear_message board m).answer)
+    (length air)) (sym e)
+    (record {
+      d = record {
+        direction = goes.ToHub;
+        bytes = packet_bytes
+            (status_reply board.mtu board.buffers (expected board));
+        birth = birth;
+      };
+      there = get_seam air [] (record {
+        direction = goes.ToHub;
+        bytes = packet_bytes
+            (status_reply board.mtu board.buffers (expected board));
+        birth = birth;
+      });
+      direction = refl;
+    })
 
-asked_in_greeting : (board : Board) (d : Datagram) → IsGreeting board d → d.direction ≡ goes.ToBoard → to_board d.bytes ≡ Some StatusRequest
+asked_in_greeting : (board : Board) (d : Datagram) → IsGreeting board d → d.direction ≡ goes.ToBoard
+    → to_board d.bytes ≡ Some StatusRequest
 asked_in_greeting board d is way = subst (λ (w : Direction). IsGreetingOf board w d.bytes) way is.bytes
 
 -- where the board of a greeting heard anything, its answer stands right behind what was in the air
-answer_there : AirGrows → (window : ℕ) (t u : Told) (k : ℕ) (ks : List ℕ) → IsStart window t.board t.air → hears_all t (k ∷ ks) ≡ Some u → GoesThere goes.ToHub u.air (length t.air)
+answer_there : AirGrows → (window : ℕ) (t u : Told) (k : ℕ) (ks : List ℕ) → IsStart window t.board t.air
+    → hears_all t (k ∷ ks) ≡ Some u → GoesThere goes.ToHub u.air (length t.air)
 answer_there grows window t u k ks is e =
     let h = heard_first t u k ks e in
-    let asked = asked_in_greeting t.board h.d (all_get (IsGreeting t.board) t.air k h.d is.greetings h.there) h.to_board in
-    front_goes goes.ToHub (heard_on t h.d.bytes).air u.air (length t.air) (grows (heard_on t h.d.bytes) u (record { places = ks; heard = h.later }))
-      (request_answered t.board (first_sends t) t.air (to_board h.d.bytes) asked)
+    let asked = asked_in_greeting t.board h.d (all_get (IsGreeting t.board) t.air k h.d is.greetings h.there)
+    h.to_board in
+    front_goes goes.ToHub (heard_on t h.d.bytes).air u.air (length t.air)
+    (grows (heard_on t h.d.bytes) u (record { places = ks; heard = h.later }))
+    (request_answered t.board (first_sends t) t.air (to_board h.d.bytes) asked)
 
 one_way : (air : List Datagram) (place : ℕ) → GoesThere goes.ToBoard air place → GoesThere goes.ToHub air place → ⊥
 one_way air place a b =
@@ -131,23 +155,30 @@ one_way air place a b =
 
 -- ---- one receive
 
-received_fresh : HeardGoesOn → (settings : Limits) (by_hub : List ℕ) (before now : ℕ) (old new : Telling) → CanBegin settings old → IsReceived by_hub before now old new → StaysFresh settings old new
+received_fresh : HeardGoesOn → (settings : Limits) (by_hub : List ℕ) (before now : ℕ) (old new : Telling)
+    → CanBegin settings old → IsReceived by_hub before now old new → StaysFresh settings old new
 received_fresh law settings by_hub before now old new begins is =
     let on = law settings.window old.told new.told begins is.by_board in
     record { begins = on.0; same_board = on.1 }
 
-receives_fresh : HeardGoesOn → (settings : Limits) (result : Result Received LinkFault) (bytes : List ℕ) (before now : ℕ) (old new : Telling) → CanBegin settings old → Receives result bytes before now old new
+receives_fresh : HeardGoesOn → (settings : Limits) (result : Result Received LinkFault) (bytes : List ℕ)
+    (before now : ℕ) (old new : Telling) → CanBegin settings old → Receives result bytes before now old new
     → StaysFresh settings old new
-receives_fresh law settings (Ok came.Got) bytes before now old new begins is = received_fresh law settings (is.place ∷ []) before now old new begins is.received
-receives_fresh law settings (Ok came.Quiet) bytes before now old new begins is = received_fresh law settings [] before now old new begins is.received
+receives_fresh law settings (Ok came.Got) bytes before now old new begins is = received_fresh law settings
+    (is.place ∷ []) before now old new begins is.received
+receives_fresh law settings (Ok came.Quiet) bytes before now old new begins is = received_fresh law settings []
+    before now old new begins is.received
 receives_fresh law settings (Err fault.Failed) bytes before now old new begins is =
     record { begins = subst (CanBegin settings) (sym is) begins; same_board = ap (λ (t : Telling). t.told.board) is }
-receives_fresh law settings (Err fault.NoMemory) bytes before now old new begins is = received_fresh law settings [] before now old new begins is
+receives_fresh law settings (Err fault.NoMemory) bytes before now old new begins is = received_fresh law settings []
+    before now old new begins is
 
-pub fresh_on : HeardGoesOn → (settings : Limits) (result : Result Received LinkFault) (bytes : List ℕ) (before now : ℕ) (old new : Option Telling) → IfSome old (CanBegin settings)
+pub fresh_on : HeardGoesOn → (settings : Limits) (result : Result Received LinkFault) (bytes : List ℕ)
+    (before now : ℕ) (old new : Option Telling) → IfSome old (CanBegin settings)
     → IfTelling old new (Receives result bytes before now) → IfTelling old new (StaysFresh settings)
 fresh_on law settings result bytes before now old new begins is =
-    on_telling (CanBegin settings) (Receives result bytes before now) (StaysFresh settings) old new (receives_fresh law settings result bytes before now) begins is
+    on_telling (CanBegin settings) (Receives result bytes before now) (StaysFresh settings) old new
+    (receives_fresh law settings result bytes before now) begins is
 
 nothing_due : (due : List ℕ) (place : ℕ) → due ≡ [] → Contains due place → ⊥
 nothing_due due place e is = let few = is.1 in let none : length due ≡ 0 = ap length e in omega (arith, few, none)
@@ -158,14 +189,16 @@ get_there (y ∷ xs) zero x lt e = ap (λ (z : ℕ). Some z) e
 get_there (y ∷ xs) (suc j) x lt e = get_there xs j x (omega (arith, lt)) e
 
 -- the answer to what the board heard is neither still to be heard nor handed out
-answer_rose : AirGrows → (before now : ℕ) (old new : Telling) → IsQuiet before now old new → GoesThere goes.ToHub new.told.air (length old.told.air) → Rose before now
+answer_rose : AirGrows → (before now : ℕ) (old new : Telling) → IsQuiet before now old new
+    → GoesThere goes.ToHub new.told.air (length old.told.air) → Rose before now
 answer_rose grows before now old new is at =
     let place = length old.told.air in
     elim (is.received.joins place (omega arith) (get_within new.told.air place at.d at.there)) [
       | inl due ↦ absurd (nothing_due new.due place is.none_due due)
       | inr rest ↦ elim rest [
         | inl heard ↦ absurd (one_way new.told.air place
-            (heard_goes grows old.told new.told is.received.by_board.places place heard.0 is.received.by_board.heard (get_there is.received.by_board.places heard.0 place heard.1 heard.2)) at)
+            (heard_goes grows old.told new.told is.received.by_board.places place heard.0 is.received.by_board.heard
+            (get_there is.received.by_board.places heard.0 place heard.1 heard.2)) at)
         | inr rest ↦ elim rest [
           | inl handed ↦ absurd (nothing_due [] place refl handed)
           | inr rose ↦ rose
@@ -173,18 +206,23 @@ answer_rose grows before now old new is at =
       ]
     ]
 
-answer_held : AirGrows → (settings : Limits) (before now : ℕ) (old new : Telling) → CanBegin settings old → IsQuiet before now old new → (places : List ℕ) → hears_all old.told places ≡ Some new.told → (j : ℕ) → j < length places
+answer_held : AirGrows → (settings : Limits) (before now : ℕ) (old new : Telling) → CanBegin settings old
+    → IsQuiet before now old new → (places : List ℕ) → hears_all old.told places ≡ Some new.told → (j : ℕ)
+    → j < length places
     → Rose before now
 answer_held grows settings before now old new begins is [] e j lt = absurd (omega (arith, lt))
-answer_held grows settings before now old new begins is (k ∷ ks) e j lt = answer_rose grows before now old new is (answer_there grows settings.window old.told new.told k ks begins e)
+answer_held grows settings before now old new begins is (k ∷ ks) e j lt = answer_rose grows before now old new is
+    (answer_there grows settings.window old.told new.told k ks begins e)
 
 -- what is expected is settled by a quiet receive only where datagrams are held
-quiet_held : HeardGoesOn → AirGrows → (settings : Limits) (before now : ℕ) (old new : Telling) → CanBegin settings old → IsQuiet before now old new → IsExpecting old → Rose before now
+quiet_held : HeardGoesOn → AirGrows → (settings : Limits) (before now : ℕ) (old new : Telling)
+    → CanBegin settings old → IsQuiet before now old new → IsExpecting old → Rose before now
 quiet_held law grows settings before now old new begins is expecting =
     elim (is.received.stays expecting.place expecting.due) [
       | inl due ↦ absurd (nothing_due new.due expecting.place is.none_due due)
       | inr rest ↦ elim rest [
-        | inl heard ↦ answer_held grows settings before now old new begins is is.received.by_board.places is.received.by_board.heard heard.0 heard.1
+        | inl heard ↦ answer_held grows settings before now old new begins is is.received.by_board.places
+            is.received.by_board.heard heard.0 heard.1
         | inr rest ↦ elim rest [
           | inl handed ↦ absurd (nothing_due [] expecting.place refl handed)
           | inr rose ↦ rose
@@ -192,40 +230,292 @@ quiet_held law grows settings before now old new begins is expecting =
       ]
     ]
 
-quiet_on_telling : HeardGoesOn → AirGrows → (settings : Limits) (before now : ℕ) (old new : Telling) → CanBegin settings old → IsQuiet before now old new
+quiet_on_telling : HeardGoesOn → AirGrows → (settings : Limits) (before now : ℕ) (old new : Telling)
+    → CanBegin settings old → IsQuiet before now old new
     → IsHeardFrom settings before now answer.Nothing old new
-quiet_on_telling law grows settings before now old new begins is = quiet_held law grows settings before now old new begins is
+quiet_on_telling law grows settings before now old new begins is = quiet_held law grows settings before now old new
+    begins is
 
-pub quiet_told : HeardGoesOn → AirGrows → (settings : Limits) (bytes : List ℕ) (before now : ℕ) (old new : Option Telling) → IfSome old (CanBegin settings)
-    → IfTelling old new (Receives (Ok came.Quiet) bytes before now) → IfTelling old new (IsHeardFrom settings before now answer.Nothing)
+pub quiet_told : HeardGoesOn → AirGrows → (settings : Limits) (bytes : List ℕ) (before now : ℕ)
+    (old new : Option Telling) → IfSome old (CanBegin settings)
+    → IfTelling old new (Receives (Ok came.Quiet) bytes before now)
+    → IfTelling old new (IsHeardFrom settings before now answer.Nothing)
 quiet_told law grows settings bytes before now old new begins is =
-    on_telling (CanBegin settings) (Receives (Ok came.Quiet) bytes before now) (IsHeardFrom settings before now answer.Nothing) old new (quiet_on_telling law grows settings before now) begins is
+    on_telling (CanBegin settings) (Receives (Ok came.Quiet) bytes before now)
+    (IsHeardFrom settings before now answer.Nothing) old new
+    (quiet_on_telling law grows settings before now) begins is
 
 -- a datagram of a greeting tells the status of the board
 abbrev pub TellsAll : List ℕ → Answer → Type 0
-TellsAll bytes told = (mtu buffers next : ℕ) → IsMtu mtu → IsBufferCount buffers → IsIdentifier next → IsStatusReply bytes mtu buffers next → IsTold mtu buffers next told
+TellsAll bytes told = (mtu buffers next : ℕ) → IsMtu mtu → IsBufferCount buffers → IsIdentifier next
+    → IsStatusReply bytes mtu buffers next → IsTold mtu buffers next told
 
 abbrev pub ReplyTells : Type 0
 ReplyTells = (mtu buffers next : ℕ) → IsStatusReply (packet_bytes (status_reply mtu buffers next)) mtu buffers next
 
-told_greeted : (settings : Limits) (before now : ℕ) (old new : Telling) (told : Answer) → CanBegin settings new → IsTold new.told.board.mtu new.told.board.buffers new.told.board.first told
+told_greeted : (settings : Limits) (before now : ℕ) (old new : Telling) (told : Answer) → CanBegin settings new
+    → IsTold new.told.board.mtu new.told.board.buffers new.told.board.first told
     → IsHeardFrom settings before now told old new
-told_greeted settings before now old new (answer.Told status) begins is = record { begins = begins; mtu = is.0; buffers = is.1; next = is.2 }
+told_greeted settings before now old new (answer.Told status) begins is = record
+    { begins = begins; mtu = is.0; buffers = is.1; next = is.2 }
 told_greeted settings before now old new answer.Nothing begins is = absurd is
 told_greeted settings before now old new answer.Other begins is = absurd is
 
-got_greeted : HeardGoesOn → ReplyTells → (settings : Limits) (bytes : List ℕ) (told : Answer) → TellsAll bytes told → (before now : ℕ) (old new : Telling) → CanBegin settings old → IsGot bytes before now old new
+got_greeted : HeardGoesOn → ReplyTells → (settings : Limits) (bytes : List ℕ) (told : Answer) → TellsAll bytes told
+    → (before now : ℕ) (old new : Telling) → CanBegin settings old → IsGot bytes before now old new
     → IsHeardFrom settings before now told old new
 got_greeted law tells settings bytes told all before now old new begins is =
     let fresh = received_fresh law settings (is.place ∷ []) before now old new begins is.received in
     let start = fresh.begins in
     let board = new.told.board in
-    let greeting = all_get (IsGreeting board) new.told.air is.place (record { direction = goes.ToHub; bytes = bytes; birth = is.there.birth }) start.greetings is.there.there in
+    let greeting = all_get (IsGreeting board) new.told.air is.place
+    (record { direction = goes.ToHub; bytes = bytes; birth = is.there.birth }) start.greetings is.there.there in
     told_greeted settings before now old new told start
-      (all board.mtu board.buffers board.first start.mtu start.buffers start.first
-        (subst (λ (bs : List ℕ). IsStatusReply bs board.mtu board.buffers board.first) (sym greeting.bytes) (tells board.mtu board.buffers board.first)))
+    (all board.mtu board.buffers board.first start.mtu start.buffers start.first
+    (subst (λ (bs : List ℕ). IsStatusReply bs board.mtu board.buffers board.first) (sym greeting.bytes)
+    (tells board.mtu board.buffers board.first)))
 
-pub got_told : HeardGoesOn → ReplyTells → (settings : Limits) (bytes : List ℕ) (told : Answer) → TellsAll bytes told → (before now : ℕ) (old new : Option Telling) → IfSome old (CanBegin settings)
-    → IfTelling old new (Receives (Ok came.Got) bytes before now) → IfTelling old new (IsHeardFrom settings before now told)
+pub got_told : HeardGoesOn → ReplyTells → (settings : Limits) (bytes : List ℕ) (told : Answer) → TellsAll bytes told
+    → (before now : ℕ) (old new : Option Telling) → IfSome old (CanBegin settings)
+    → IfTelling old new (Receives (Ok came.Got) bytes before now)
+    → IfTelling old new (IsHeardFrom settings before now told)
 got_told law tells settings bytes told all before now old new begins is =
-    on_telling (CanBegin settings) (Receives (Ok came.Got) bytes before now) (IsHeardFrom settings before now told) old new (got_greeted law tells settings bytes told all before now) begins is
+    on_telling (CanBegin settings) (Receives (Ok came.Got) bytes before now)
+    (IsHeardFrom settings before now told) old new (got_greeted law tells settings bytes told all before now)
+    begins is
+
+-- ---- a round
+
+abbrev pub IsSameTelling : Telling → Telling → Type 0
+IsSameTelling old new = new ≡ old
+
+-- other datagrams came so far: over a link that tells there was none
+pub record IsListening (before now : Option Telling) (other quiets quiets_now gots gots_now faults faults_now held
+    held_now : ℕ) : Type 0 where
+  pub same : IfTelling before now IsSameTelling
+  pub first : IfSome before (λ _. (other ≡ 0) × (held_now ≡ held))
+  pub quiet : quiets_now ≡ quiets
+  pub got : gots_now ≡ gots + other
+  pub fault : faults ≤ faults_now
+  pub hold : held ≤ held_now
+
+pub same_telling : (a : Option Telling) → IfTelling a a IsSameTelling
+same_telling None = tt
+same_telling (Some t) = refl
+
+pub begins_still : (settings : Limits) (a b : Option Telling) → IfSome a (CanBegin settings)
+    → IfTelling a b IsSameTelling → IfSome b (CanBegin settings)
+begins_still settings None None begins is = tt
+begins_still settings None (Some t) begins is = absurd is
+begins_still settings (Some s) None begins is = absurd is
+begins_still settings (Some s) (Some t) begins is = subst (CanBegin settings) (sym is) begins
+
+pub fresh_after : (settings : Limits) (a b c : Option Telling) → IfTelling a b IsSameTelling
+    → IfTelling b c (StaysFresh settings) → IfTelling a c (StaysFresh settings)
+fresh_after settings None None c same is = is
+fresh_after settings None (Some t) c same is = absurd same
+fresh_after settings (Some s) None c same is = absurd same
+fresh_after settings (Some s) (Some t) None same is = is
+fresh_after settings (Some s) (Some t) (Some u) same is = record
+    { begins = is.begins; same_board = is.same_board ∙ ap (λ (x : Telling). x.told.board) same }
+
+pub fresh_same : (settings : Limits) (a b : Option Telling) → IfSome a (CanBegin settings)
+    → IfTelling a b IsSameTelling → IfTelling a b (StaysFresh settings)
+fresh_same settings a b begins same = on_telling (CanBegin settings) IsSameTelling (StaysFresh settings) a b
+    (λ s t begin e. record {
+      begins = subst (CanBegin settings) (sym e) begin;
+      same_board = ap
+          (λ (x : Telling). x.told.board) e;
+    }) begins same
+
+-- another datagram came: so the link tells nothing
+pub no_other : (a b c : Option Telling) (P : Type 0) → IfTelling a b IsSameTelling → IfTelling b c (λ s t. ⊥)
+    → IfTelling a c IsSameTelling × IfSome a (λ _. P)
+no_other None None None P same is = (tt, tt)
+no_other None None (Some u) P same is = absurd is
+no_other None (Some t) c P same is = absurd same
+no_other (Some s) None c P same is = absurd same
+no_other (Some s) (Some t) None P same is = absurd is
+no_other (Some s) (Some t) (Some u) P same is = absurd is
+
+told_round : (settings : Limits) (q q' h h' before now : ℕ) (status : Status) (a b c : Option Telling)
+    → IfTelling a b IsSameTelling → IfTelling b c (IsHeardFrom settings before now (answer.Told status))
+    → IfTelling a c (EndsRoundWith settings q q' h h' (Some status))
+told_round settings q q' h h' before now status None None None same is = tt
+told_round settings q q' h h' before now status None None (Some u) same is = absurd is
+told_round settings q q' h h' before now status None (Some t) c same is = absurd same
+told_round settings q q' h h' before now status (Some s) None c same is = absurd same
+told_round settings q q' h h' before now status (Some s) (Some t) None same is = absurd is
+told_round settings q q' h h' before now status (Some s) (Some t) (Some u) same is = is
+
+pub round_told : (settings : Limits) (q q' h h' before now : ℕ) (status : Status) (told : Answer)
+    (a b c : Option Telling) → told ≡ answer.Told status → IfTelling a b IsSameTelling
+    → IfTelling b c (IsHeardFrom settings before now told) → IfTelling a c
+    (EndsRoundWith settings q q' h h' (Some status))
+round_told settings q q' h h' before now status told a b c e same is =
+    told_round settings q q' h h' before now status a b c same
+    (subst (λ (x : Answer). IfTelling b c (IsHeardFrom settings before now x)) e is)
+
+nothing_round : (settings : Limits) (q q' h h' now : ℕ) (a b c : Option Telling) → q + 1 ≤ q'
+    → IfSome a (λ _. now ≡ h) → IfTelling a b IsSameTelling
+    → IfTelling b c (IsHeardFrom settings now h' answer.Nothing) → IfTelling a c (EndsRoundWith settings q q' h h' None)
+nothing_round settings q q' h h' now None None None more first same is = tt
+nothing_round settings q q' h h' now None None (Some u) more first same is = absurd is
+nothing_round settings q q' h h' now None (Some t) c more first same is = absurd same
+nothing_round settings q q' h h' now (Some s) None c more first same is = absurd same
+nothing_round settings q q' h h' now (Some s) (Some t) None more first same is = absurd is
+nothing_round settings q q' h h' now (Some s) (Some t) (Some u) more first same is =
+    (more, λ expecting. subst (λ (n : ℕ). Rose n h') first (is (subst IsExpecting (sym same) expecting)))
+
+pub round_nothing : (settings : Limits) (q q' h h' now : ℕ) (told : Answer) (a b c : Option Telling)
+    → told ≡ answer.Nothing → q + 1 ≤ q' → IfSome a (λ _. now ≡ h) → IfTelling a b IsSameTelling
+    → IfTelling b c (IsHeardFrom settings now h' told) → IfTelling a c (EndsRoundWith settings q q' h h' None)
+round_nothing settings q q' h h' now told a b c e more first same is =
+    nothing_round settings q q' h h' now a b c more first same
+    (subst (λ (x : Answer). IfTelling b c (IsHeardFrom settings now h' x)) e is)
+
+pub held_first : (other held now : ℕ) (a : Option Telling) → IfSome a (λ _. (other ≡ 0) × (now ≡ held))
+    → IfSome a (λ _. now ≡ held)
+held_first other held now None is = tt
+held_first other held now (Some s) is = is.1
+
+-- after 64 others the link tells nothing
+pub no_more : (settings : Limits) (q q' h h' other now : ℕ) (a b : Option Telling) → 1 ≤ other
+    → IfSome a (λ _. (other ≡ 0) × (now ≡ h)) → IfTelling a b IsSameTelling
+    → IfTelling a b (EndsRoundWith settings q q' h h' None)
+no_more settings q q' h h' other now None None some first same = tt
+no_more settings q q' h h' other now None (Some t) some first same = absurd same
+no_more settings q q' h h' other now (Some s) b some first same = absurd (let e = first.0 in omega (arith, e, some))
+
+-- ---- a round with its request
+
+abbrev pub RequestGoesOn : Type 0
+RequestGoesOn = (window : ℕ) (told : Told) → IsStart window told.board told.air
+    → IsStart window told.board (sent_on told (packet_bytes status_request)).air
+
+sent_fresh : RequestGoesOn → (settings : Limits) (bytes : List ℕ) (before now : ℕ) (old new : Telling)
+    → bytes ≡ packet_bytes status_request → CanBegin settings old → IsSent bytes before now old new
+    → StaysFresh settings old new
+sent_fresh law settings bytes before now old new e begins is =
+    let told : new.told ≡ sent_on old.told (packet_bytes status_request) = is.told ∙ ap (sent_on old.told) e in
+    record {
+      begins = subst (λ (t : Told). IsStart settings.window t.board t.air) (sym told)
+          (law settings.window old.told begins);
+      same_board = ap (λ (t : Told). t.board) told;
+    }
+
+pub request_fresh : RequestGoesOn → (settings : Limits) (bytes : List ℕ) (before now : ℕ) (old new : Option Telling)
+    → bytes ≡ packet_bytes status_request → IfSome old (CanBegin settings)
+    → IfTelling old new (IsSent bytes before now) → IfTelling old new (StaysFresh settings)
+request_fresh law settings bytes before now old new e begins is =
+    on_telling (CanBegin settings) (IsSent bytes before now) (StaysFresh settings) old new
+    (λ s t. sent_fresh law settings bytes before now s t e) begins is
+
+pub fresh_begins : (settings : Limits) (old new : Option Telling) → IfTelling old new (StaysFresh settings)
+    → IfSome new (CanBegin settings)
+fresh_begins settings None None is = tt
+fresh_begins settings None (Some t) is = absurd is
+fresh_begins settings (Some s) None is = tt
+fresh_begins settings (Some s) (Some t) is = is.begins
+
+pub fresh_then : (settings : Limits) (a b c : Option Telling) → IfTelling a b (StaysFresh settings)
+    → IfTelling b c (StaysFresh settings) → IfTelling a c (StaysFresh settings)
+fresh_then settings None None c is js = js
+fresh_then settings None (Some t) c is js = absurd is
+fresh_then settings (Some s) None c is js = absurd is
+fresh_then settings (Some s) (Some t) None is js = js
+fresh_then settings (Some s) (Some t) (Some u) is js = record
+    { begins = js.begins; same_board = js.same_board ∙ is.same_board }
+
+longer_air : (told : Told) (bytes : List ℕ) → length (sent_on told bytes).air ≡ length told.air + 1
+longer_air told bytes = length-append told.air (record {
+  direction = goes.ToBoard;
+  bytes = bytes;
+  birth = birth_of
+      told bytes;
+} ∷ [])
+
+-- the request is still to be heard, or datagrams were held
+sent_expects : (bytes : List ℕ) (before now : ℕ) (old new : Telling) → IsSent bytes before now old new
+    → IsExpecting new ⊎ Rose before now
+sent_expects bytes before now old new is = elim is.joins [
+  | inl due ↦ inl (record {
+    place = length old.told.air;
+    due = due;
+    there = (let e = ap (λ (t : Told). length t.air) is.told ∙ longer_air old.told bytes in omega (arith, e));
+  })
+  | inr rose ↦ inr rose
+]
+
+asked_held : (h h1 h' : ℕ) (old new : Telling) (bytes : List ℕ) → h ≤ h1 → h1 ≤ h' → IsSent bytes h h1 old new
+    → (IsExpecting new → Rose h1 h') → Rose h h'
+asked_held h h1 h' old new bytes le more is later = elim (sent_expects bytes h h1 old new is) [
+  | inl expecting ↦ let rose = later expecting in omega (arith, rose, le)
+  | inr rose ↦ omega (arith, rose, more)
+]
+
+round_asked : (settings : Limits) (q q1 q' h h1 h' : ℕ) (bytes : List ℕ) (found : Option Status) (s t u : Telling)
+    → q1 ≡ q → h ≤ h1 → h1 ≤ h' → IsSent bytes h h1 s t → EndsRoundWith settings q1 q' h1 h' found t u
+    → EndsAskingWith settings q q' h h' found s u
+round_asked settings q q1 q' h h1 h' bytes (Some status) s t u same le more sent is = is
+round_asked settings q q1 q' h h1 h' bytes None s t u same le more sent is =
+    (let k = is.0 in omega (arith, k, same), asked_held h h1 h' s t bytes le more sent is.1)
+
+pub asked_round : (settings : Limits) (q q1 q' h h1 h' : ℕ) (bytes : List ℕ) (found : Option Status)
+    (a b c : Option Telling) → q1 ≡ q → h ≤ h1 → h1 ≤ h' → IfTelling a b (IsSent bytes h h1)
+    → IfTelling b c (EndsRoundWith settings q1 q' h1 h' found) → IfTelling a c (EndsAskingWith settings q q' h h' found)
+asked_round settings q q1 q' h h1 h' bytes found None None None same le more sent is = tt
+asked_round settings q q1 q' h h1 h' bytes found None None (Some u) same le more sent is = absurd is
+asked_round settings q q1 q' h h1 h' bytes found None (Some t) c same le more sent is = absurd sent
+asked_round settings q q1 q' h h1 h' bytes found (Some s) None c same le more sent is = absurd sent
+asked_round settings q q1 q' h h1 h' bytes found (Some s) (Some t) None same le more sent is = absurd is
+asked_round settings q q1 q' h h1 h' bytes found (Some s) (Some t)
+    (Some u) same le more sent is = round_asked settings q q1 q' h h1 h' bytes found s t u same le more sent is
+
+-- ---- all rounds
+
+-- over a link that tells each round so far had a quiet receive and held a datagram
+abbrev pub HasPaid : ℕ → ℕ → ℕ → Telling → Type 0
+HasPaid rounds quiets held t = (rounds ≤ quiets) × (rounds ≤ held)
+
+pub record IsAsking (settings : Limits) (before now : Option Telling)
+    (rounds quiets gots held faults faults_now : ℕ) : Type 0 where
+  pub fresh : IfTelling before now (StaysFresh settings)
+  pub paid : IfSome now (HasPaid rounds quiets held)
+  pub few_quiets : quiets ≤ rounds
+  pub few_gots : gots ≤ 64 * rounds
+  pub counted : 64 * rounds ≤ 64 * quiets + gots
+  pub fault : faults ≤ faults_now
+
+pub stays_fresh : (settings : Limits) (a : Option Telling) → IfSome a (CanBegin settings)
+    → IfTelling a a (StaysFresh settings)
+stays_fresh settings None begins = tt
+stays_fresh settings (Some t) begins = record { begins = begins; same_board = refl }
+
+pub paid_first : (quiets held : ℕ) (a : Option Telling) → IfSome a (HasPaid 0 quiets held)
+paid_first quiets held None = tt
+paid_first quiets held (Some t) = (omega arith, omega arith)
+
+pub paid_more : (settings : Limits) (rounds q q' h h' : ℕ) (a b : Option Telling) → rounds ≤ 255
+    → IfSome a (HasPaid rounds q h) → IfTelling a b (EndsAskingWith settings q q' h h' None)
+    → IfSome b (HasPaid (rounds + 1) q' h')
+paid_more settings rounds q q' h h' None None few paid is = tt
+paid_more settings rounds q q' h h' None (Some t) few paid is = absurd is
+paid_more settings rounds q q' h h' (Some s) None few paid is = tt
+paid_more settings rounds q q' h h' (Some s) (Some t) few paid is =
+    let p = paid.0 in let r = paid.1 in let more = is.0 in let rose = is.1 in
+    (omega (arith, p, more), omega (arith, few, r, rose))
+
+pub told_at_last : (settings : Limits) (q q' h h' : ℕ) (status : Status) (a b : Option Telling)
+    → IfTelling a b (EndsAskingWith settings q q' h h' (Some status))
+    → IfSome b (EndsGreetingWith settings q' h' (Some status))
+told_at_last settings q q' h h' status None None is = tt
+told_at_last settings q q' h h' status None (Some t) is = absurd is
+told_at_last settings q q' h h' status (Some s) None is = tt
+told_at_last settings q q' h h' status (Some s) (Some t) is = is
+
+pub never_told : (settings : Limits) (rounds q h : ℕ) (a : Option Telling) → settings.rounds ≤ rounds
+    → IfSome a (HasPaid rounds q h) → IfSome a (EndsGreetingWith settings q h None)
+never_told settings rounds q h None all paid = tt
+never_told settings rounds q h (Some t) all paid = let p = paid.0 in let r = paid.1 in
+    (omega (arith, p, all), omega (arith, r, all))

@@ -7,3 +7,6 @@ mod Sends
 mod Standing
 mod Tables
 mod Windows
+mod Truth
+mod Books
+mod Lanes

@@ -107,3 +107,6 @@ sends_keep Q law (suc count) hub holds =
 pub sent_keeps : (Q : Hub → Type 0) → ((hub : Hub) (next : Next) → next_send hub ≡ Some next → Q hub → Q next.hub)
     → (old new : Hub) → HasSent old new → Q old → Q new
 sent_keeps Q law old new is holds = subst Q (sym is.sends) (sends_keep Q law is.count old holds)
+
+pub one_sent : (hub : Hub) (next : Next) → next_send hub ≡ Some next → HasSent hub next.hub
+one_sent hub next is = record { count = 1; sends = ap (hub_next hub) (sym is) }

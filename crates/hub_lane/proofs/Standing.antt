@@ -445,7 +445,7 @@ lost_stopped limits outcomes hub sent t is = record {
 }
 
 -- one more outcome, or none yet
-pushed_get : (outcomes : List (Option Outcome)) (new : Option Outcome) (k : ℕ) (o : Outcome)
+pub pushed_get : (outcomes : List (Option Outcome)) (new : Option Outcome) (k : ℕ) (o : Outcome)
     → slice_get (outcomes ++ new ∷ []) k ≡ Some (Some o)
     → (new ≡ Some o) ⊎ (slice_get outcomes k ≡ Some (Some o))
 pushed_get [] new zero o is = inl cc

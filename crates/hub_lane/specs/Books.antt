@@ -5,9 +5,10 @@ use Rattle.std.specs.Prelude.{Option, Some, None}
 use Rattle.std.specs.List.{slice_get}
 use Rattle.turn_pass.specs.declared.chronicle.Entry.{Entry}
 use Rattle.lane_record.specs.declared.item.Item.{Item}
-use Rattle.lane_record.specs.Items.{asked, found, is_sealed, plan_in, planned}
+use Rattle.lane_record.specs.Items.{asked, found, is_sealed, numbers, plan_in, planned}
+use Rattle.lane_record.specs.Lists.{CountsFrom}
 use Rattle.lane_record.specs.Claims.{Claim, IsAskOf, claims}
-use Rattle.hub_lane.specs.Entries.{entry_of}
+use Rattle.lane_record.specs.Coding.{entry_of}
 use Rattle.lane_record.specs.NextEntry.{plan_of}
 use Rattle.hub_lane.specs.Plans.{most_bodies, most_words, planned_bodies, planned_words}
 
@@ -26,6 +27,11 @@ pub record Row : Type 0 where
 abbrev pub row_of : ℕ → List Row → Option Row
 row_of client [] = None
 row_of client (r ∷ rs) = if r.client == client then Some r else row_of client rs
+
+-- where the next Plan that was not asked stands
+abbrev pub next_of : Option Row → Option ℕ
+next_of None = None
+next_of (Some r) = slice_get r.plans r.asked
 
 -- where it stands among the rows
 abbrev pub one_later : Option ℕ → Option ℕ
@@ -67,11 +73,15 @@ pub record IsPlanAt (items : List Item) (client seq place : ℕ) : Type 0 where
   pub first : found plan_in client seq items ≡ Some body
 
 -- a row tells the bodies of its client, and where there is no row there are none
+pub record TellsBodies (items : List Item) (client : ℕ) (plans : List ℕ) (asks : ℕ) : Type 0 where
+  pub planned_are : length plans ≡ planned client items
+  pub asked_are : asks ≡ asked client items
+  pub no_more : asks ≤ length plans
+  pub places : (seq place : ℕ) → slice_get plans seq ≡ Some place → IsPlanAt items client seq place
+
 abbrev pub IsRow : List Item → ℕ → Option Row → Type 0
-IsRow items client None = (planned client items ≡ 0) × (asked client items ≡ 0)
-IsRow items client (Some r) =
-    (length r.plans ≡ planned client items) × (r.asked ≡ asked client items)
-    × ((seq place : ℕ) → slice_get r.plans seq ≡ Some place → IsPlanAt items client seq place)
+IsRow items client None = TellsBodies items client [] 0
+IsRow items client (Some r) = TellsBodies items client r.plans r.asked
 
 -- an Ask, by its client and number
 abbrev pub asked_pair : Claim → ℕ × ℕ
@@ -96,6 +106,7 @@ room_of items items_len entries entries_len asks asks_len =
 pub record IsBook (items : List Item) (entries : List Entry) (rows : List Row) (asks : List (ℕ × ℕ))
     (bodies words : ℕ) (closed : Bool) (room : ℕ) : Type 0 where
   pub entries_are : entries ≡ map entry_of items
+  pub plans_count : (client : ℕ) → CountsFrom 0 (numbers plan_in client items)
   pub rows_are : (client : ℕ) → IsRow items client (row_of client rows)
   pub asks_are : asks ≡ map asked_pair (claims items)
   pub bodies_are : bodies ≡ planned_bodies items

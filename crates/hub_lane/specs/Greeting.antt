@@ -1,6 +1,6 @@
 -- The greeting of a board: it is asked for its status, round by round, until it tells it. IPbus 2.0, status packet; the
 -- rounds are the profile's.
-use Rattle.std.specs.Prelude.{◌≡◌, ℕ, ◌+◌, ◌*◌, ◌<◌, ◌≤◌, length, Option, Some, None, IfSome}
+use Rattle.std.specs.Prelude.{◌≡◌, ℕ, ◌+◌, ◌*◌, ◌<◌, ◌≤◌, length, Option, Some, None}
 use Rattle.std.specs.List.{Contains}
 use Rattle.ipb_base.specs.Faults.{Rose, one_more}
 use Rattle.status_packet.specs.declared.status.Status.{Status}

@@ -4,6 +4,6 @@ pub mod Standing
 pub mod Lanes
 pub mod Plans
 pub mod Calls
-pub mod Entries
 pub mod Books
 pub mod Greeting
+pub mod Records

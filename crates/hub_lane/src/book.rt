@@ -1,17 +1,17 @@
 //! What clients planned, asked and took, in the order in which they did, with tables of it.
 
 ghost use Rattle.std.specs.Prelude.{◌≡◌, ◌≤◌, ◌<◌, ◌+◌, ◌∷◌, ◌++◌, [], OnOk, OnErr, IfOk, IfSome, IfNone, map, false, ◌↔◌};
-ghost use Rattle.std.specs.Prelude.{length, IsTrue, Some, ℕ};
+ghost use Rattle.std.specs.Prelude.{length, IsTrue, Some, ℕ, ◌^◌};
 ghost use Rattle.std.specs.List.{slice_get};
 ghost use Rattle.std.specs.Vec.{vec_len, vec_capacity};
 ghost use Rattle.transaction_codec.specs.Answer.{reply_room};
 ghost use Rattle.lane_record.specs.Items.{asked, found, is_sealed, plan_in, planned};
 ghost use Rattle.lane_record.specs.Claims.{claims, IsAskOf};
 ghost use Rattle.lane_record.specs.NextEntry.{ask_of, plan_of, the_seal, took_of};
-ghost use Rattle.hub_lane.specs.Entries.{entry_of};
+ghost use Rattle.lane_record.specs.Coding.{entry_of};
 ghost use Rattle.hub_lane.specs.Plans.{IsFull, most_bodies, most_words, planned_bodies, planned_words};
 
-use crate::rows::{ClientRow, add_ask, add_plan, row_at};
+use crate::rows::{ClientRow, add_ask, add_plan, next_place, row_at};
 use ipb_base::{NoMemory, Words};
 use lane_record::{Item, Outcome, What};
 use std::alloc::Global;
@@ -94,6 +94,7 @@ impl Book {
 
     /// Whether a body and a longest reply of so many words would be too many.
     pub(crate) fn is_full(&self, body: usize, reply: u32) -> bool
+        requires { body < 2 ^ 32 }
         ensures { IsTrue result ↔ IsFull self.now.items body reply }
     {
         self.bodies >= MAX_BODIES || self.words + body as u64 + u64::from(reply) > MAX_WORDS
@@ -125,9 +126,9 @@ impl Book {
             ≡ Some body.now) }
         ensures none { IfNone result (asked client self.now.items ≡ planned client self.now.items) }
     {
-        let at = row_at(&self.rows, client)?;
-        let place = self.rows[at].next()?;
-        match &self.items[place].what {
+        let place = next_place(&self.rows, client)?;
+        let item = &self.items[place];
+        match &item.what {
             What::Plan { body } => Some(body),
             _ => unreachable!(),
         }

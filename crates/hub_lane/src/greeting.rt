@@ -46,9 +46,9 @@ pub(crate) enum Answer {
 }
 
 impl<L: Link> Lane<L> {
-    /// Greets the board of a link that was not used yet: asks for its status and receives until it is told, a receive is
-    /// quiet or 64 other datagrams came, and so again, at most as many rounds as the settings say. After any answer a
-    /// board that the link tells has executed nothing.
+    /// Greets the board of a link that was not used yet: asks for its status and receives until it is told, a receive
+    /// is quiet or 64 other datagrams came, and so again, at most as many rounds as the settings say. After any answer
+    /// a board that the link tells has executed nothing.
     pub fn greet(alloc: Global, link: L, settings: Settings) -> Greeted<L>
         requires unused { IsUnused (L.faults link) (L.quiets link) (L.gots link) (L.held link) }
         requires begins { IfSome (L.telling link) (CanBegin settings) }
@@ -66,7 +66,10 @@ impl<L: Link> Lane<L> {
         let mut buffer = Vec::new(alloc);
         match ask_for_status(&mut link, &mut buffer, settings) {
             Ok(Some(status)) => begin(alloc, link, settings, status),
-            Ok(None) => Greeted::Silent { link, rounds: settings.rounds() },
+            Ok(None) => Greeted::Silent {
+                link,
+                rounds: settings.rounds(),
+            },
             Err(LinkFault::Failed) => Greeted::Down { link },
             Err(LinkFault::NoMemory) => Greeted::NoMemory { link },
         }

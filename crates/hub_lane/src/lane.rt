@@ -6,7 +6,7 @@ ghost use Rattle.ipb_base.specs.Faults.{Rose};
 ghost use Rattle.ipb_base.specs.Numbers.{payload_of};
 ghost use Rattle.transaction_codec.specs.Answer.{reply_room};
 ghost use Rattle.lane_record.specs.Bounds.{timeouts};
-ghost use Rattle.hub_lane.specs.Entries.{entry_of};
+ghost use Rattle.lane_record.specs.Coding.{entry_of};
 ghost use Rattle.std.specs.Vec.{vec_len, vec_capacity};
 ghost use Rattle.world_model.specs.Hub.{offer};
 ghost use Rattle.reliable_engine.specs.Answers.{body_count};
@@ -23,6 +23,8 @@ use crate::exchange::exchange;
 use crate::outcomes::{copy_outcome, copy_words, count_of, lose_all, reply_at};
 use ipb_base::{NoMemory, Words};
 use lane_record::Outcome;
+use lane_record::laws::book::entries_go_into_the_book;
+use lane_record::laws::offers::an_ask_is_an_offer;
 use packet_ids::Id;
 use reliable_engine::{Engine, Settings};
 use status_packet::Status;
@@ -105,7 +107,9 @@ impl<L: Link> Lane<L> {
         let Ok(engine) = Engine::new(alloc, settings, status) else {
             return Err(link);
         };
+        an_ask_is_an_offer();
         each_event_leads_to_a_state_of_a_run();
+        entries_go_into_the_book();
         Ok(Lane {
             alloc,
             link,

@@ -3,6 +3,7 @@
 
 mod answers;
 mod book;
+mod chronicle;
 mod exchange;
 mod greeting;
 mod lane;

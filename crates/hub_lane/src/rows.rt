@@ -1,7 +1,7 @@
 //! The bodies of each client, client by client. A session has at most 64 clients, so rows are looked through.
 
 ghost use Rattle.std.specs.Prelude.{◌≡◌, OnOk, OnErr};
-ghost use Rattle.hub_lane.specs.Books.{HasNext, row_at, with_ask, with_plan};
+ghost use Rattle.hub_lane.specs.Books.{HasNext, next_of, row_at, row_of, with_ask, with_plan};
 
 use ipb_base::NoMemory;
 use std::alloc::Global;
@@ -97,6 +97,16 @@ pub(crate) fn row_at(rows: &[ClientRow], client: u32) -> Option<usize>
         }
     }
     None
+}
+
+/// Where the next Plan of a client that was not asked stands.
+pub(crate) fn next_place(rows: &Vec<ClientRow>, client: u32) -> Option<usize>
+    ensures { result ≡ next_of (row_of client rows.now.items) }
+{
+    match row_at(rows, client) {
+        Some(at) => rows[at].next(),
+        None => None,
+    }
 }
 
 /// Adds a Plan of a client, at this place among the entries.

@@ -1,4 +1,4 @@
-use Rattle.std.proofs.Common.{Ok, subst, ◌≡◌, ℕ, List}
+use Rattle.std.proofs.Common.{Ok, subst, ℕ, List}
 use Rattle.world_core.specs.declared.link.Received.{Received}
 use Rattle.world_core.specs.Telling.{IfTelling, Receives}
 use Rattle.hub_lane.proofs.Greetings.{fresh_on, got_told, quiet_told, TellsAll}

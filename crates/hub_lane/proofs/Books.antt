@@ -1,0 +1,534 @@
+-- The tables of a record, one more entry at a time.
+use Rattle.std.proofs.Common.{◌≡◌, ℕ, zero, suc, ◌+◌, ◌<◌, ◌≤◌, Bool, true, false, cond, ◌==◌, ◌&&◌, ◌||◌, List, [], ◌∷◌}
+use Rattle.std.proofs.Common.{◌++◌, length, map, Option, Some, None, refl, sym, ap, ◌∙◌, subst, arith, inl, inr, ◌⊎◌}
+use Rattle.std.proofs.Common.{length-append, append_assoc}
+use Rattle.std.specs.Prelude.{is_some, IfSome, IfNone}
+use Rattle.std.specs.List.{slice_get}
+use Rattle.std.proofs.lemmas.List.{append-nil, map-append}
+use Rattle.std.proofs.lemmas.Bool.{cases_lt, eqb-true, eq-eqb}
+use Rattle.std.proofs.lemmas.Bool.Decides.{eqb_tells}
+use Rattle.std.specs.Option.{option_or}
+use Rattle.world_model.proofs.Lists.{either, get_front, get_seam, get_within}
+use Rattle.transaction_codec.specs.Answer.{reply_room}
+use Rattle.turn_pass.specs.declared.chronicle.Entry.{Entry}
+use Rattle.lane_record.specs.declared.outcome.Outcome.{Outcome}
+use Rattle.lane_record.specs.declared.item.Item.{Item}
+use Rattle.lane_record.specs.declared.item.What.{What}
+use Rattle.lane_record.specs.declared.item.What.TheVariants.{Plan}
+use Rattle.lane_record.specs.Items.{ask_in, asked, found, is_sealed, numbers, plan_in, planned}
+use Rattle.lane_record.specs.Claims.{Claim, IsAskOf, claim_in, claims}
+use Rattle.lane_record.specs.NextEntry.{ask_of, plan_of, the_seal, took_of}
+use Rattle.lane_record.proofs.Asks.{get_split}
+use Rattle.lane_record.proofs.Lookups.{Count, claims_push, count_push, found_append, found_front, found_other, found_within}
+use Rattle.lane_record.proofs.Lookups.{none_next, numbers_append, sealed_append}
+use Rattle.lane_record.specs.Coding.{entry_of}
+use Rattle.hub_lane.specs.Plans.{IsFull, one_with, planned_bodies, planned_words, words_with}
+use Rattle.hub_lane.specs.Books.{HasMorePlans, HasNext, IsBook, IsPlanAt, IsPosition, IsRow, Row, TellsBodies, asked_pair}
+use Rattle.hub_lane.specs.Books.{next_of}
+use Rattle.hub_lane.specs.Books.{row_of, with_ask, with_plan}
+
+-- ---- numbers of a client, with one more entry
+
+one_number : {A : Type 0} (kind : What → Option A) (client : ℕ) (items : List Item) (x : Item)
+    → length (numbers kind client (items ++ x ∷ []))
+    ≡ length (numbers kind client items) + cond ((x.client == client) && is_some (kind x.what)) 1 0
+one_number kind client items x =
+    ap (λ (ns : List ℕ). length ns) (numbers_append kind client items (x ∷ []))
+    ∙ (length-append (numbers kind client items) (numbers kind client (x ∷ []))
+    ∙ ap (λ (n : ℕ). length (numbers kind client items) + n)
+    (elim ((x.client == client) && is_some (kind x.what))
+    as (λ b. length (cond b (x.seq ∷ []) []) ≡ cond b 1 0) [ true ↦ refl | false ↦ refl ]))
+
+and_false : (b : Bool) → (b && false) ≡ false
+and_false true = refl
+and_false false = refl
+
+and_true : (b : Bool) → (b && true) ≡ b
+and_true true = refl
+and_true false = refl
+
+same_number : {A : Type 0} (kind : What → Option A) (client : ℕ) (items : List Item) (x : Item) → kind x.what ≡ None
+    → length (numbers kind client (items ++ x ∷ [])) ≡ length (numbers kind client items)
+same_number kind client items x none =
+    let told : is_some (kind x.what) ≡ false = ap is_some none in
+    let n = one_number kind client items x in
+    let off : ◌≡◌ {A = ℕ} (cond ((x.client == client) && is_some (kind x.what)) 1 0) 0 =
+    ap (λ (b : Bool). cond ((x.client == client) && b) 1 0) told ∙ ap (λ (b : Bool). cond b 1 0) (and_false (x.client == client)) in
+    omega (arith, n, off)
+
+of_client : (client other : ℕ) → (client == other) ≡ true → client ≡ other
+of_client client other same = eqb-true client other same
+
+-- ---- what a row tells stays so
+
+plan_stays : (items : List Item) (x : Item) (client seq place : ℕ) → IsPlanAt items client seq place
+    → IsPlanAt (items ++ x ∷ []) client seq place
+plan_stays items x client seq place is = record {
+  body = is.body;
+  there = get_front items (x ∷ []) place _ is.there;
+  first = found_front plan_in client seq items (x ∷ []) is.body is.first;
+}
+
+tells_other : (items : List Item) (x : Item) (client : ℕ) (plans : List ℕ) (asks : ℕ)
+    → planned client (items ++ x ∷ []) ≡ planned client items → asked client (items ++ x ∷ []) ≡ asked client items
+    → TellsBodies items client plans asks → TellsBodies (items ++ x ∷ []) client plans asks
+tells_other items x client plans asks plan ask is = record {
+  planned_are = is.planned_are ∙ sym plan;
+  asked_are = is.asked_are ∙ sym ask;
+  no_more = is.no_more;
+  places = λ seq place there. plan_stays items x client seq place (is.places seq place there);
+}
+
+row_other : (items : List Item) (x : Item) (client : ℕ) (row : Option Row)
+    → planned client (items ++ x ∷ []) ≡ planned client items → asked client (items ++ x ∷ []) ≡ asked client items
+    → IsRow items client row → IsRow (items ++ x ∷ []) client row
+row_other items x client None plan ask is = tells_other items x client [] 0 plan ask is
+row_other items x client (Some r) plan ask is = tells_other items x client r.plans r.asked plan ask is
+
+-- ---- one more Plan
+
+plan_for : (client seq other : ℕ) (body : List ℕ) (items : List Item)
+    → planned other (items ++ plan_of client seq body ∷ []) ≡ planned other items + cond (client == other) 1 0
+plan_for client seq other body items = one_number plan_in other items (plan_of client seq body)
+    ∙ ap (λ (b : Bool). planned other items + cond b 1 0) (and_true (client == other))
+
+plan_found : (client : ℕ) (body : List ℕ) (items : List Item) → Count plan_in items
+    → found plan_in client (planned client items) (items ++ plan_of client (planned client items) body ∷ [])
+    ≡ Some body
+plan_found client body items count =
+    let seq = planned client items in
+    let none = none_next plan_in client seq items count (omega arith) in
+    found_append plan_in client seq items (plan_of client seq body ∷ [])
+    ∙ (ap (λ (o : Option (List ℕ)). option_or o (found plan_in client seq (plan_of client seq body ∷ []))) none
+    ∙ (let same = eq-eqb client client refl in let number = eq-eqb seq seq refl in rw (same, number) refl))
+
+differ : (a b : ℕ) → (a ≡ b → ⊥) → (a == b) ≡ false
+differ a b other = elim (eqb_tells a b) [
+  | inl same ↦ absurd (other same.1)
+  | inr apart ↦ apart.0
+]
+
+abbrev pub grown : ℕ → ℕ → Option Row → Row
+grown client place None = record { client = client; plans = place ∷ []; asked = 0 }
+grown client place (Some r) = record r { plans = r.plans ++ place ∷ [] }
+
+row_planned : (client place : ℕ) (rows : List Row)
+    → row_of client (with_plan client place rows) ≡ Some (grown client place (row_of client rows))
+row_planned client place [] = let same = eq-eqb client client refl in rw same refl
+row_planned client place (r ∷ rs) = elim (r.client == client)
+    as (λ b. (r.client == client) ≡ b
+    → row_of client (cond b (record r { plans = r.plans ++ place ∷ [] } ∷ rs) (r ∷ with_plan client place rs))
+    ≡ Some (grown client place (cond b (Some r) (row_of client rs)))) [
+      | true ↦ λ same. rw same refl
+      | false ↦ λ other. rw other (row_planned client place rs)
+    ] refl
+
+row_planned_other : (client place other : ℕ) (rows : List Row) → (client == other) ≡ false
+    → row_of other (with_plan client place rows) ≡ row_of other rows
+row_planned_other client place other [] apart = rw apart refl
+row_planned_other client place other (r ∷ rs) apart = elim (r.client == client)
+    as (λ b. (r.client == client) ≡ b
+    → row_of other (cond b (record r { plans = r.plans ++ place ∷ [] } ∷ rs) (r ∷ with_plan client place rs))
+    ≡ row_of other (r ∷ rs)) [
+      | true ↦ λ same. (let e : (r.client == other) ≡ false = ap (λ (n : ℕ). n == other) (eqb-true _ _ same) ∙ apart in
+          rw e refl)
+      | false ↦ λ _. ap (λ (rest : Option Row). cond (r.client == other) (Some r) rest)
+          (row_planned_other client place other rs apart)
+    ] refl
+
+abbrev pub more_asked : Option Row → Option Row
+more_asked None = None
+more_asked (Some r) = Some (record r { asked = r.asked + 1 })
+
+row_asked : (client : ℕ) (rows : List Row) → row_of client (with_ask client rows) ≡ more_asked (row_of client rows)
+row_asked client [] = refl
+row_asked client (r ∷ rs) = elim (r.client == client)
+    as (λ b. (r.client == client) ≡ b
+    → row_of client (cond b (record r { asked = r.asked + 1 } ∷ rs) (r ∷ with_ask client rs))
+    ≡ more_asked (cond b (Some r) (row_of client rs))) [
+      | true ↦ λ same. rw same refl
+      | false ↦ λ other. rw other (row_asked client rs)
+    ] refl
+
+row_asked_other : (client other : ℕ) (rows : List Row) → (client == other) ≡ false
+    → row_of other (with_ask client rows) ≡ row_of other rows
+row_asked_other client other [] apart = refl
+row_asked_other client other (r ∷ rs) apart = elim (r.client == client)
+    as (λ b. (r.client == client) ≡ b
+    → row_of other (cond b (record r { asked = r.asked + 1 } ∷ rs) (r ∷ with_ask client rs))
+    ≡ row_of other (r ∷ rs)) [
+      | true ↦ λ same. (let e : (r.client == other) ≡ false = ap (λ (n : ℕ). n == other) (eqb-true _ _ same) ∙ apart in
+          rw e refl)
+      | false ↦ λ _. ap (λ (rest : Option Row). cond (r.client == other) (Some r) rest)
+          (row_asked_other client other rs apart)
+    ] refl
+
+-- the row of the client of a new Plan
+tells_plan : (items : List Item) (client : ℕ) (body plans : List ℕ) (asks : ℕ) → Count plan_in items
+    → TellsBodies items client plans asks
+    → TellsBodies (items ++ plan_of client (planned client items) body ∷ []) client (plans ++ length items ∷ []) asks
+tells_plan items client body plans asks count is =
+    let seq = planned client items in
+    let one = plan_for client seq client body items in
+    let own = eq-eqb client client refl in
+    let plus : ◌≡◌ {A = ℕ} (cond (client == client) 1 0) 1 = rw own refl in
+    let longer = length-append plans (length items ∷ []) in
+    let before = is.planned_are in
+    let same = same_number ask_in client items (plan_of client seq body) refl in
+    record {
+      planned_are = omega (arith, longer, one, plus, before);
+      asked_are = is.asked_are ∙ sym same;
+      no_more = (let h = is.no_more in omega (arith, h, longer));
+      places = λ number place there. elim (get_split plans (length items) number place there) [
+        | inl old ↦ plan_stays items (plan_of client seq body) client number place (is.places number place old)
+        | inr new ↦ (
+            let number_is : number ≡ seq = new.0 ∙ before in
+            rw (number_is, new.1) (record {
+              body = body;
+              there = get_seam items [] (plan_of client seq body);
+              first = plan_found client body items count;
+            }))
+      ];
+    }
+
+tells_grown : (items : List Item) (client : ℕ) (body : List ℕ) (row : Option Row) → Count plan_in items
+    → IsRow items client row
+    → IsRow (items ++ plan_of client (planned client items) body ∷ []) client (Some (grown client (length items) row))
+tells_grown items client body None count is = tells_plan items client body [] 0 count is
+tells_grown items client body (Some r) count is = tells_plan items client body r.plans r.asked count is
+
+rows_plan : (items : List Item) (rows : List Row) (client : ℕ) (body : List ℕ) → Count plan_in items
+    → ((c : ℕ) → IsRow items c (row_of c rows))
+    → (other : ℕ) → IsRow (items ++ plan_of client (planned client items) body ∷ []) other
+    (row_of other (with_plan client (length items) rows))
+rows_plan items rows client body count are other = elim (eqb_tells client other) [
+  | inl same ↦ subst (λ (c : ℕ). IsRow (items ++ plan_of client (planned client items) body ∷ []) c
+      (row_of c (with_plan client (length items) rows))) same.1
+      (subst (IsRow (items ++ plan_of client (planned client items) body ∷ []) client)
+      (sym (row_planned client (length items) rows)) (tells_grown items client body (row_of client rows) count (are client)))
+  | inr apart ↦
+      let x = plan_of client (planned client items) body in
+      let one = plan_for client (planned client items) other body items in
+      let off : ◌≡◌ {A = ℕ} (cond (client == other) 1 0) 0 = rw apart.0 refl in
+      let plan : planned other (items ++ x ∷ []) ≡ planned other items = omega (arith, one, off) in
+      subst (IsRow (items ++ x ∷ []) other) (sym (row_planned_other client (length items) other rows apart.0))
+      (row_other items x other (row_of other rows) plan (same_number ask_in other items x refl) (are other))
+]
+
+-- ---- one more Ask
+
+ask_for : (client seq other g : ℕ) (items : List Item)
+    → asked other (items ++ ask_of client seq g ∷ []) ≡ asked other items + cond (client == other) 1 0
+ask_for client seq other g items = one_number ask_in other items (ask_of client seq g)
+    ∙ ap (λ (b : Bool). asked other items + cond b 1 0) (and_true (client == other))
+
+tells_ask : (items : List Item) (client g : ℕ) (plans : List ℕ) (asks : ℕ) → asks < length plans
+    → TellsBodies items client plans asks
+    → TellsBodies (items ++ ask_of client (asked client items) g ∷ []) client plans (asks + 1)
+tells_ask items client g plans asks left is =
+    let x = ask_of client (asked client items) g in
+    let one = ask_for client (asked client items) client g items in
+    let own = eq-eqb client client refl in
+    let plus : ◌≡◌ {A = ℕ} (cond (client == client) 1 0) 1 = rw own refl in
+    let before = is.asked_are in
+    record {
+      planned_are = is.planned_are ∙ sym (same_number plan_in client items x refl);
+      asked_are = omega (arith, one, plus, before);
+      no_more = omega (arith, left);
+      places = λ seq place there. plan_stays items x client seq place (is.places seq place there);
+    }
+
+-- a client with a Plan that was not asked has a row with one
+next_in : (items : List Item) (client : ℕ) (row : Option Row) → IsRow items client row
+    → asked client items < planned client items → (r : Row) × (row ≡ Some r) × (r.asked < length r.plans)
+next_in items client None is left = (let a = is.planned_are in let b = is.asked_are in absurd (omega (arith, a, left)))
+next_in items client (Some r) is left =
+    (r, refl, (let a = is.planned_are in let b = is.asked_are in omega (arith, a, b, left)))
+
+pub has_next : (items : List Item) (rows : List Row) (client : ℕ) → Count plan_in items
+    → ((c : ℕ) → IsRow items c (row_of c rows)) → HasMorePlans client items → HasNext client rows
+has_next items rows client count are more =
+    let left = found_within plan_in client (asked client items) items more.body count more.there in
+    let row = next_in items client (row_of client rows) (are client) left in
+    record { row = row.0; there = row.1; left = row.2 }
+
+tells_asked : (items : List Item) (client g : ℕ) (row : Option Row) (r : Row) → row ≡ Some r
+    → r.asked < length r.plans → IsRow items client row
+    → IsRow (items ++ ask_of client (asked client items) g ∷ []) client (more_asked row)
+tells_asked items client g None r e left is = absurd cc
+tells_asked items client g (Some q) r e left is = (let same : q ≡ r = cc in tells_ask items client g q.plans q.asked
+    (subst (λ (x : Row). x.asked < length x.plans) (sym same) left) is)
+
+rows_ask : (items : List Item) (rows : List Row) (client g : ℕ) → HasNext client rows
+    → ((c : ℕ) → IsRow items c (row_of c rows))
+    → (other : ℕ) → IsRow (items ++ ask_of client (asked client items) g ∷ []) other
+    (row_of other (with_ask client rows))
+rows_ask items rows client g next are other = elim (eqb_tells client other) [
+  | inl same ↦ subst (λ (c : ℕ). IsRow (items ++ ask_of client (asked client items) g ∷ []) c
+      (row_of c (with_ask client rows))) same.1
+      (subst (IsRow (items ++ ask_of client (asked client items) g ∷ []) client)
+      (sym (row_asked client rows))
+      (tells_asked items client g (row_of client rows) next.row next.there next.left (are client)))
+  | inr apart ↦
+      let x = ask_of client (asked client items) g in
+      let one = ask_for client (asked client items) other g items in
+      let off : ◌≡◌ {A = ℕ} (cond (client == other) 1 0) 0 = rw apart.0 refl in
+      let ask : asked other (items ++ x ∷ []) ≡ asked other items = omega (arith, one, off) in
+      subst (IsRow (items ++ x ∷ []) other) (sym (row_asked_other client other rows apart.0))
+      (row_other items x other (row_of other rows) (same_number plan_in other items x refl) ask (are other))
+]
+
+-- ---- the other tables
+
+pub bodies_push : (items : List Item) (x : Item)
+    → planned_bodies (items ++ x ∷ []) ≡ planned_bodies items + one_with (plan_in x.what) 0
+bodies_push [] x = elim (plan_in x.what) as (λ o. one_with o 0 ≡ 0 + one_with o 0) [ None ↦ refl | Some b ↦ refl ]
+bodies_push (y ∷ ys) x = elim (plan_in y.what) as (λ o. one_with o (planned_bodies (ys ++ x ∷ []))
+    ≡ one_with o (planned_bodies ys) + one_with (plan_in x.what) 0) [
+      | None ↦ bodies_push ys x
+      | Some b ↦ (let h = bodies_push ys x in omega (arith, h))
+    ]
+
+pub words_push : (items : List Item) (x : Item)
+    → planned_words (items ++ x ∷ []) ≡ planned_words items + words_with (plan_in x.what) 0
+words_push [] x = elim (plan_in x.what) as (λ o. words_with o 0 ≡ 0 + words_with o 0) [
+  | None ↦ refl
+  | Some b ↦ omega arith
+]
+words_push (y ∷ ys) x = elim (plan_in y.what) as (λ o. words_with o (planned_words (ys ++ x ∷ []))
+    ≡ words_with o (planned_words ys) + words_with (plan_in x.what) 0) [
+      | None ↦ words_push ys x
+      | Some b ↦ (let h = words_push ys x in omega (arith, h))
+    ]
+
+asks_push : (items : List Item) (x : Item) → map asked_pair (claims (items ++ x ∷ []))
+    ≡ map asked_pair (claims items) ++ map asked_pair (claim_in items x (ask_in x.what))
+asks_push items x = ap (map asked_pair) (claims_push items x)
+    ∙ map-append asked_pair (claims items) (claim_in items x (ask_in x.what))
+
+entries_push : (items : List Item) (x : Item) (entries old : List Entry) → old ≡ map entry_of items
+    → entries ≡ old ++ entry_of x ∷ [] → entries ≡ map entry_of (items ++ x ∷ [])
+entries_push items x entries old are new =
+    new ∙ (ap (λ (es : List Entry). es ++ entry_of x ∷ []) are ∙ sym (map-append entry_of items (x ∷ [])))
+
+or_false : (b : Bool) → (b || false) ≡ b
+or_false true = refl
+or_false false = refl
+
+or_true : (b : Bool) → (b || true) ≡ true
+or_true true = refl
+or_true false = refl
+
+module _ (items : List Item) (entries : List Entry) (rows : List Row) (asks : List (ℕ × ℕ)) (bodies words : ℕ)
+    (closed : Bool) (room : ℕ) (is : IsBook items entries rows asks bodies words closed room) where
+  -- an entry that is no Plan, Ask or Seal
+  book_other : (x : Item) (new : List Entry) (after : ℕ) → plan_in x.what ≡ None → ask_in x.what ≡ None
+      → new ≡ entries ++ entry_of x ∷ [] → (sealed : Bool) → sealed ≡ is_sealed (items ++ x ∷ [])
+      → (is_sealed (items ++ x ∷ []) ≡ false → 1 ≤ after)
+      → IsBook (items ++ x ∷ []) new rows asks bodies words sealed after
+  book_other x new after plan ask entry sealed sealed_is fits = record {
+    entries_are = entries_push items x new entries is.entries_are entry;
+    plans_count = count_push plan_in items x is.plans_count
+        (λ some. (let off : is_some (plan_in x.what) ≡ false = ap is_some plan in absurd cc));
+    rows_are = λ client. row_other items x client (row_of client rows) (same_number plan_in client items x plan)
+        (same_number ask_in client items x ask) (is.rows_are client);
+    asks_are = is.asks_are ∙ sym (asks_push items x
+        ∙ (ap (λ (o : Option ℕ). map asked_pair (claims items) ++ map asked_pair (claim_in items x o)) ask
+        ∙ append-nil (map asked_pair (claims items))));
+    bodies_are = (let h = bodies_push items x in let none : one_with (plan_in x.what) 0 ≡ 0 =
+        ap (λ (o : Option (List ℕ)). one_with o 0) plan in let b = is.bodies_are in omega (arith, h, none, b));
+    words_are = (let h = words_push items x in let none : words_with (plan_in x.what) 0 ≡ 0 =
+        ap (λ (o : Option (List ℕ)). words_with o 0) plan in let b = is.words_are in omega (arith, h, none, b));
+    closed_is = sealed_is;
+    few_bodies = is.few_bodies;
+    few_words = is.few_words;
+    seal_fits = fits;
+  }
+
+  pub book_took : (client seq : ℕ) (outcome : Outcome) (g : ℕ) (new : List Entry) (after : ℕ)
+      → new ≡ entries ++ entry_of (took_of client seq outcome g) ∷ [] → 1 ≤ after
+      → IsBook (items ++ took_of client seq outcome g ∷ []) new rows asks bodies words closed after
+  book_took client seq outcome g new after entry one = book_other (took_of client seq outcome g) new after refl refl entry
+      closed (is.closed_is ∙ sym (sealed_append items (took_of client seq outcome g ∷ []) ∙ or_false (is_sealed items)))
+      (λ _. one)
+
+  pub book_seal : (new : List Entry) (after : ℕ) → new ≡ entries ++ entry_of the_seal ∷ []
+      → IsBook (items ++ the_seal ∷ []) new rows asks bodies words true after
+  book_seal new after entry =
+      let sealed : is_sealed (items ++ the_seal ∷ []) ≡ true = sealed_append items (the_seal ∷ []) ∙ or_true (is_sealed items) in
+      book_other the_seal new after refl refl entry true (sym sealed) (λ open_still. absurd cc)
+
+  pub book_ask : (client g : ℕ) (new : List Entry) (after : ℕ) → HasMorePlans client items
+      → new ≡ entries ++ entry_of (ask_of client (asked client items) g) ∷ [] → 1 ≤ after
+      → IsBook (items ++ ask_of client (asked client items) g ∷ []) new (with_ask client rows)
+      (asks ++ (client, asked client items) ∷ []) bodies words closed after
+  book_ask client g new after more entry one =
+      let x = ask_of client (asked client items) g in
+      record {
+        entries_are = entries_push items x new entries is.entries_are entry;
+        plans_count = count_push plan_in items x is.plans_count (λ some. absurd cc);
+        rows_are = rows_ask items rows client g (has_next items rows client is.plans_count is.rows_are more) is.rows_are;
+        asks_are = ap (λ (l : List (ℕ × ℕ)). l ++ (client, asked client items) ∷ []) is.asks_are ∙ sym (asks_push items x);
+        bodies_are = (let h = bodies_push items x in let b = is.bodies_are in omega (arith, h, b));
+        words_are = (let h = words_push items x in let b = is.words_are in omega (arith, h, b));
+        closed_is = is.closed_is ∙ sym (sealed_append items (x ∷ []) ∙ or_false (is_sealed items));
+        few_bodies = is.few_bodies;
+        few_words = is.few_words;
+        seal_fits = λ _. one;
+      }
+
+  pub book_plan : (client : ℕ) (body : List ℕ) (new : List Entry) (more more_words after : ℕ)
+      → ¬ IsFull items (length body) (reply_room body)
+      → new ≡ entries ++ entry_of (plan_of client (planned client items) body) ∷ [] → 1 ≤ after
+      → more ≡ bodies + 1 → more_words ≡ words + (length body + reply_room body)
+      → IsBook (items ++ plan_of client (planned client items) body ∷ []) new (with_plan client (length items) rows)
+      asks more more_words closed after
+  book_plan client body new more more_words after few entry one more_is words_is =
+      let x = plan_of client (planned client items) body in
+      let b = is.bodies_are in
+      let w = is.words_are in
+      record {
+        entries_are = entries_push items x new entries is.entries_are entry;
+        plans_count = count_push plan_in items x is.plans_count (λ _. refl);
+        rows_are = rows_plan items rows client body is.plans_count is.rows_are;
+        asks_are = is.asks_are ∙ sym (asks_push items x ∙ append-nil (map asked_pair (claims items)));
+        bodies_are = (let h = bodies_push items x in omega (arith, h, b, more_is));
+        words_are = (let h = words_push items x in omega (arith, h, w, words_is));
+        closed_is = is.closed_is ∙ sym (sealed_append items (x ∷ []) ∙ or_false (is_sealed items));
+        few_bodies = elim (cases_lt (planned_bodies items) 200000) [
+          | inl less ↦ omega (arith, less, b, more_is)
+          | inr not_less ↦ absurd (few (inl not_less))
+        ];
+        few_words = elim (cases_lt 33554432 (planned_words items + length body + reply_room body)) [
+          | inl less ↦ absurd (few (inr less))
+          | inr not_less ↦ omega (arith, not_less, w, words_is)
+        ];
+        seal_fits = λ _. one;
+      }
+
+-- ---- what is looked up
+
+get_past : (xs : List ℕ) (k : ℕ) → slice_get xs k ≡ None → length xs ≤ k
+get_past [] k is = omega arith
+get_past (x ∷ xs) zero is = absurd cc
+get_past (x ∷ xs) (suc k) is = let h = get_past xs k is in omega (arith, h)
+
+pub next_some : (items : List Item) (client place : ℕ) (row : Option Row) → IsRow items client row
+    → next_of row ≡ Some place → IsPlanAt items client (asked client items) place
+next_some items client place None is there = absurd cc
+next_some items client place (Some r) is there =
+    subst (λ (seq : ℕ). IsPlanAt items client seq place) is.asked_are (is.places r.asked place there)
+
+pub next_none : (items : List Item) (client : ℕ) (row : Option Row) → IsRow items client row → next_of row ≡ None
+    → asked client items ≡ planned client items
+next_none items client None is there = sym is.asked_are ∙ is.planned_are
+next_none items client (Some r) is there =
+    let past = get_past r.plans r.asked there in
+    let a = is.asked_are in
+    let p = is.planned_are in
+    let most = is.no_more in
+    omega (arith, past, a, p, most)
+
+get_map : {A B : Type 0} (f : A → B) (xs : List A) (k : ℕ) (x : A) → slice_get xs k ≡ Some x
+    → slice_get (map f xs) k ≡ Some (f x)
+get_map f [] k x is = absurd cc
+get_map {B = B} f (y ∷ xs) zero x is = (let same : y ≡ x = cc in ap (λ z. Some (f z)) same)
+get_map f (y ∷ xs) (suc k) x is = get_map f xs k x is
+
+map_get : (cs : List Claim) (k : ℕ) (p : ℕ × ℕ) → slice_get (map asked_pair cs) k ≡ Some p
+    → (c : Claim) × (slice_get cs k ≡ Some c) × (asked_pair c ≡ p)
+map_get [] k p is = absurd cc
+map_get (c ∷ cs) zero p is = (c, refl, cc)
+map_get (c ∷ cs) (suc k) p is = map_get cs k p is
+
+pair_is : (a b c d : ℕ) → a ≡ c → b ≡ d → ◌≡◌ {A = ℕ × ℕ} (a, b) (c, d)
+pair_is a b c d e f = ap (λ (x : ℕ). (x, b)) e ∙ ap (λ (x : ℕ). (c, x)) f
+
+pub position_is : (items : List Item) (client seq : ℕ) (asks : List (ℕ × ℕ)) (r : Option ℕ)
+    → asks ≡ map asked_pair (claims items)
+    → IfSome r (λ at. slice_get asks at ≡ Some (client, seq))
+    → IfNone r ((at : ℕ) → slice_get asks at ≡ Some (client, seq) → ⊥) → IsPosition client seq items r
+position_is items client seq asks None are some none = λ k claim is. none k
+    (ap (λ (l : List (ℕ × ℕ)). slice_get l k) are
+    ∙ (get_map asked_pair (claims items) k claim is.there
+    ∙ ap (λ (p : ℕ × ℕ). Some p) (pair_is claim.client claim.seq client seq is.same_client is.same_seq)))
+position_is items client seq asks (Some at) are some none =
+    let found = map_get (claims items) at (client, seq) (sym (ap (λ (l : List (ℕ × ℕ)). slice_get l at) are) ∙ some) in
+    (found.0, record {
+      there = found.1;
+      same_client = ap (λ (p : ℕ × ℕ). p.0) found.2;
+      same_seq = ap (λ (p : ℕ × ℕ). p.1) found.2;
+    })
+
+-- more room
+pub book_room : (items : List Item) (entries : List Entry) (rows : List Row) (asks : List (ℕ × ℕ)) (bodies words : ℕ)
+    (closed : Bool) (room after : ℕ) → room ≤ after → IsBook items entries rows asks bodies words closed room
+    → IsBook items entries rows asks bodies words closed after
+book_room items entries rows asks bodies words closed room after more is = record {
+  entries_are = is.entries_are;
+  plans_count = is.plans_count;
+  rows_are = is.rows_are;
+  asks_are = is.asks_are;
+  bodies_are = is.bodies_are;
+  words_are = is.words_are;
+  closed_is = is.closed_is;
+  few_bodies = is.few_bodies;
+  few_words = is.few_words;
+  seal_fits = λ e. (let h = is.seal_fits e in omega (arith, h, more));
+}
+
+pub plan_same : (item : Item) (client seq : ℕ) (body : List ℕ) → Some item ≡ Some (plan_of client seq body)
+    → plan_in item.what ≡ Some body
+plan_same item client seq body same = (let is : item ≡ plan_of client seq body = cc in ap (λ (x : Item). plan_in x.what) is)
+
+pub book_reserved : (items more : List Item) (entries longer : List Entry) (rows : List Row) (asks wider : List (ℕ × ℕ))
+    (bodies words : ℕ) (closed : Bool) (room after : ℕ) → more ≡ items → longer ≡ entries → wider ≡ asks
+    → room ≤ after → IsBook items entries rows asks bodies words closed room
+    → IsBook more longer rows wider bodies words closed after
+book_reserved items more entries longer rows asks wider bodies words closed room after i e a fits is =
+    subst (λ (xs : List Item). IsBook xs longer rows wider bodies words closed after) (sym i)
+    (subst (λ (es : List Entry). IsBook items es rows wider bodies words closed after) (sym e)
+    (subst (λ (ks : List (ℕ × ℕ)). IsBook items entries rows ks bodies words closed after) (sym a)
+    (book_room items entries rows asks bodies words closed room after fits is)))
+
+pub not_a_plan : (item : Item) (client seq : ℕ) (body : List ℕ) → Some item ≡ Some (plan_of client seq body)
+    → ((b : List ℕ) → item.what ≡ Plan b → ⊥) → ⊥
+not_a_plan item client seq body same other =
+    (let is : item ≡ plan_of client seq body = cc in other body (ap (λ (x : Item). x.what) is))
+
+pub book_asked : (items more : List Item) (entries longer : List Entry) (rows changed : List Row)
+    (asks wider : List (ℕ × ℕ)) (bodies words : ℕ) (closed : Bool) (room after client seq g : ℕ)
+    → IsBook items entries rows asks bodies words closed room → seq ≡ asked client items
+    → HasMorePlans client items → more ≡ items ++ ask_of client seq g ∷ []
+    → longer ≡ entries ++ entry_of (ask_of client seq g) ∷ [] → changed ≡ with_ask client rows
+    → wider ≡ asks ++ (client, seq) ∷ [] → 1 ≤ after
+    → IsBook more longer changed wider bodies words closed after
+book_asked items more entries longer rows changed asks wider bodies words closed room after client seq g is number plans
+    i e r a fits =
+    let seq_item = λ (n : ℕ). items ++ ask_of client n g ∷ [] in
+    let entry = e ∙ ap (λ (n : ℕ). entries ++ entry_of (ask_of client n g) ∷ []) number in
+    subst (λ (xs : List Item). IsBook xs longer changed wider bodies words closed after)
+    (sym (i ∙ ap seq_item number))
+    (subst (λ (rs : List Row). IsBook (seq_item (asked client items)) longer rs wider bodies words closed after) (sym r)
+    (subst (λ (ks : List (ℕ × ℕ)). IsBook (seq_item (asked client items)) longer (with_ask client rows) ks bodies words
+    closed after) (sym (a ∙ ap (λ (n : ℕ). asks ++ (client, n) ∷ []) number))
+    (book_ask items entries rows asks bodies words closed room is client g longer after plans entry fits)))
+
+pub book_planned : (items more : List Item) (entries longer : List Entry) (rows changed : List Row)
+    (asks : List (ℕ × ℕ)) (bodies words count total : ℕ) (closed : Bool) (room after client seq place : ℕ)
+    (body : List ℕ)
+    → IsBook items entries rows asks bodies words closed room → seq ≡ planned client items
+    → ¬ IsFull items (length body) (reply_room body) → more ≡ items ++ plan_of client seq body ∷ []
+    → longer ≡ entries ++ entry_of (plan_of client seq body) ∷ [] → place ≡ length items
+    → changed ≡ with_plan client place rows → count ≡ bodies + 1
+    → total ≡ words + (length body + reply_room body) → 1 ≤ after
+    → IsBook more longer changed asks count total closed after
+book_planned items more entries longer rows changed asks bodies words count total closed room after client seq place body
+    is number few i e at r c t fits =
+    let seq_item = λ (n : ℕ). items ++ plan_of client n body ∷ [] in
+    let entry = e ∙ ap (λ (n : ℕ). entries ++ entry_of (plan_of client n body) ∷ []) number in
+    subst (λ (xs : List Item). IsBook xs longer changed asks count total closed after)
+    (sym (i ∙ ap seq_item number))
+    (subst (λ (rs : List Row). IsBook (seq_item (planned client items)) longer rs asks count total closed after)
+    (sym (r ∙ ap (λ (n : ℕ). with_plan client n rows) at))
+    (book_plan items entries rows asks bodies words closed room is client body longer count total after few entry fits c t))
