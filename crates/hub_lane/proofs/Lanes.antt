@@ -4,7 +4,7 @@ use Rattle.std.proofs.Common.{length, map, Option, Some, None, refl, sym, ap, �
 use Rattle.std.proofs.Common.{inl, inr, ◌⊎◌}
 use Rattle.std.specs.Prelude.{IfSome, min, ◌==◌, nat_lt}
 use Rattle.std.specs.List.{AllByRecursion, slice_get}
-use Rattle.std.specs.Option.{unwrap_or}
+use Rattle.std.specs.Option.{option_or, unwrap_or}
 use Rattle.std.proofs.Math.Nat.{mul-add}
 use Rattle.std.proofs.lemmas.List.{append-nil}
 use Rattle.ipb_base.specs.Faults.{Rose, one_more}
@@ -18,7 +18,7 @@ use Rattle.world_model.specs.declared.offered.OpenPlace.{OpenPlace}
 use Rattle.world_model.specs.Messages.{ToHub, to_hub}
 use Rattle.world_model.specs.Hub.{Hub, abandoned, give_up, hear_quiet, is_waiting, new_hub, offer, places, recover}
 use Rattle.world_model.specs.Hub.{some_queued, some_waited, take_message, want_status, without}
-use Rattle.world_model.specs.Sends.{Next, next_send}
+use Rattle.world_model.specs.Sends.{Next, next_send, pending}
 use Rattle.world_model.specs.Facts.{HasBodies, IsSendable, IsWindow}
 use Rattle.world_model.proofs.Lists.{either}
 use Rattle.world_model.proofs.Flushing.{message_cases, quiet_cases}
@@ -27,7 +27,7 @@ use Rattle.world_core.specs.Telling.{Telling}
 use Rattle.lane_record.specs.declared.outcome.Outcome.{Outcome}
 use Rattle.lane_record.specs.declared.outcome.Outcome.TheVariants as became
 use Rattle.lane_record.specs.declared.item.Item.{Item}
-use Rattle.lane_record.specs.Items.{ask_in, asked, found, is_sealed, plan_in, planned}
+use Rattle.lane_record.specs.Items.{ask_in, asked, found, is_of, is_sealed, plan_in, planned}
 use Rattle.lane_record.specs.Claims.{Claim, claim_in, claims}
 use Rattle.lane_record.specs.Legal.{IsLegal, TakesOf}
 use Rattle.lane_record.specs.FirstSends.{PlacesCount}
@@ -525,6 +525,46 @@ quiet_after settles gave_up settings status mid items outcomes give_ups quiets q
     quiets_now waiting rose more bodies_now window settled is)
     bodies w s
 
+event_after : MessageSettles → RepliedLaw → QuietSettles → GaveUpLaw
+    → (settings : Limits) (status : BoardStatus) (mid : Hub) (bytes : List ℕ) (pumped : Pumped)
+    (items : List Item) (outcomes : List (Option Outcome)) (give_ups quiets : ℕ)
+    → ((message : Option ToHub) → HasBodies (length outcomes) (take_message mid message))
+    → HasBodies (length outcomes) (hear_quiet mid)
+    → is_waiting mid ≡ true → IsEventAs mid bytes pumped
+    → IsAfter settings status mid items outcomes outcomes give_ups quiets
+    → IsAfter settings status (handed_out (hub_after pumped bytes mid)) items outcomes
+    (put_all (hub_after pumped bytes mid).fates outcomes) (give_ups_of pumped (hub_after pumped bytes mid) give_ups)
+    (quiets_of pumped quiets)
+event_after settles replied quiet gave_up settings status mid bytes (Reply place) items outcomes give_ups quiets bodies
+    quiet_bodies waiting event is =
+    message_after settles replied settings status mid (to_hub bytes) items outcomes give_ups quiets (bodies (to_hub bytes)) is
+event_after settles replied quiet gave_up settings status mid bytes Status items outcomes give_ups quiets bodies
+    quiet_bodies waiting event is =
+    message_after settles replied settings status mid (to_hub bytes) items outcomes give_ups quiets (bodies (to_hub bytes)) is
+event_after settles replied quiet gave_up settings status mid bytes Stray items outcomes give_ups quiets bodies
+    quiet_bodies waiting event is =
+    message_after settles replied settings status mid (to_hub bytes) items outcomes give_ups quiets (bodies (to_hub bytes)) is
+event_after settles replied quiet gave_up settings status mid bytes Quiet items outcomes give_ups quiets bodies
+    quiet_bodies waiting event is =
+    quiet_after quiet gave_up settings status mid items outcomes give_ups quiets (one_more quiets) waiting refl
+    quiet_bodies is
+event_after settles replied quiet gave_up settings status mid bytes Idle items outcomes give_ups quiets bodies
+    quiet_bodies waiting event is = absurd event
+event_after settles replied quiet gave_up settings status mid bytes LinkDown items outcomes give_ups quiets bodies
+    quiet_bodies waiting event is = absurd event
+
+more_after : (b : Bool) (n : ℕ) → n ≤ cond b n (n + 1)
+more_after true n = omega arith
+more_after false n = omega arith
+
+more_give_ups : (pumped : Pumped) (event : Hub) (n : ℕ) → n ≤ give_ups_of pumped event n
+more_give_ups (Reply place) event n = omega arith
+more_give_ups Status event n = omega arith
+more_give_ups Stray event n = omega arith
+more_give_ups Quiet event n = more_after (is_waiting event) n
+more_give_ups Idle event n = omega arith
+more_give_ups LinkDown event n = omega arith
+
 pub lane_received : MessageSettles → RepliedLaw → QuietSettles → GaveUpLaw
     → (settings : Limits) (status : BoardStatus) (hub mid new : Hub) (bytes : List ℕ) (pumped : Pumped)
     (items : List Item) (outcomes outcomes_now : List (Option Outcome)) (give_ups give_ups_now : ℕ)
@@ -543,4 +583,294 @@ pub lane_received : MessageSettles → RepliedLaw → QuietSettles → GaveUpLaw
     × KeepsOutcomes outcomes outcomes_now × (give_ups ≤ give_ups_now)
 lane_received message replied quiet gave_up settings status hub mid new bytes pumped items outcomes outcomes_now give_ups
     give_ups_now telling telling_now faults faults_now quiets quiets_now bodies quiet_bodies at waiting event hub_is
-    outcomes_are give_ups_are quiets_are running is = ?
+    outcomes_are give_ups_are quiets_are running is =
+    let before = mid_after settings status hub mid items outcomes give_ups telling faults quiets at is in
+    let done = event_after message replied quiet gave_up settings status mid bytes pumped items outcomes give_ups quiets
+    bodies quiet_bodies (at.same.waits ∙ waiting) event before in
+    let after = subst (λ (h : Hub). IsAfter settings status h items outcomes outcomes_now give_ups_now quiets_now)
+    (sym hub_is) (subst (λ (os : List (Option Outcome)). IsAfter settings status (handed_out (hub_after pumped bytes mid))
+    items outcomes os give_ups_now quiets_now) (sym outcomes_are)
+    (subst (λ (n : ℕ). IsAfter settings status (handed_out (hub_after pumped bytes mid)) items outcomes
+    (put_all (hub_after pumped bytes mid).fates outcomes) n quiets_now) (sym give_ups_are)
+    (subst (λ (q : ℕ). IsAfter settings status (handed_out (hub_after pumped bytes mid)) items outcomes
+    (put_all (hub_after pumped bytes mid).fates outcomes)
+    (give_ups_of pumped (hub_after pumped bytes mid) give_ups) q) (sym quiets_are) done))) in
+    (record {
+      knows = after.knows;
+      ready = after.ready;
+      agrees = after.agrees;
+      kept = after.kept;
+      waited = after.waited;
+      fewer = after.fewer;
+      short = is.short;
+      fault = λ e. absurd cc;
+      lost = after.lost;
+      standing = running;
+    }, after.keeps, (let h = more_give_ups pumped (hub_after pumped bytes mid) give_ups in omega (arith, h, give_ups_are)))
+
+-- ---- an exchange that failed
+
+abbrev pub LostLaw : Type 0
+LostLaw = (items : List Item) (old new : List (Option Outcome)) (window now : ℕ) → IsKept items old window now
+    → KeepsOutcomes old new → AddsOnly is_lost old new → PlacesCount (claims items) new → IsKept items new window now
+
+pub lane_down : LostLaw
+    → ((sent queue : List Offered) (os : List OpenPlace) (cs : List Claim) (outs : List (Option Outcome))
+    → Agrees sent queue os cs outs → Agrees sent [] [] cs (all_lost (length sent) outs))
+    → ((sent : ℕ) (outs : List (Option Outcome)) → KeepsOutcomes outs (all_lost sent outs))
+    → ((sent : ℕ) (outs : List (Option Outcome)) → AddsOnly is_lost outs (all_lost sent outs))
+    → (settings : Limits) (status : BoardStatus) (hub mid : Hub) (items : List Item)
+    (outcomes before_lost outcomes_now : List (Option Outcome)) (give_ups give_ups_now sent : ℕ)
+    (telling telling_now : Option Telling) (faults faults_now quiets quiets_now : ℕ)
+    → IsMid (length outcomes) (claims items) outcomes hub mid
+    → Stops telling hub telling_now mid → Rose faults faults_now → quiets_now ≡ quiets
+    → give_ups_now ≡ give_ups → before_lost ≡ outcomes → sent ≡ length mid.sent
+    → outcomes_now ≡ all_lost sent before_lost
+    → IsLane settings status hub items outcomes give_ups false false telling faults quiets
+    → IsLane settings status mid items outcomes_now give_ups_now true false telling_now faults_now quiets_now
+lane_down lost agrees keeps adds settings status hub mid items outcomes before_lost outcomes_now give_ups give_ups_now
+    sent telling telling_now faults faults_now quiets quiets_now at stops rose same_quiets same_give_ups same_outcomes
+    sent_is outcomes_are is =
+    let before = mid_after settings status hub mid items outcomes give_ups telling faults quiets at is in
+    let new = all_lost (length mid.sent) outcomes in
+    let a = agrees mid.sent mid.queue mid.open_places (claims items) outcomes before.agrees in
+    let same = same_length (claims items) outcomes new before.agrees.counts.each a.counts.each in
+    let new_is : outcomes_now ≡ new = outcomes_are ∙ (ap (λ (n : ℕ). all_lost n before_lost) sent_is
+    ∙ ap (all_lost (length mid.sent)) same_outcomes) in
+    subst (λ (os : List (Option Outcome)). IsLane settings status mid items os give_ups_now true false telling_now
+    faults_now quiets_now) (sym new_is)
+    (subst (λ (g : ℕ). IsLane settings status mid items new g true false telling_now faults_now quiets_now)
+    (sym same_give_ups)
+    (subst (λ (q : ℕ). IsLane settings status mid items new give_ups true false telling_now faults_now q)
+    (sym same_quiets) (record {
+      knows = before.knows;
+      ready = record {
+        drained = before.ready.drained;
+        window = before.ready.window;
+        bodies = record {
+          few = (let h = before.ready.bodies.few in omega (arith, h, same));
+          sent = before.ready.bodies.sent;
+          queue = before.ready.bodies.queue;
+        };
+      };
+      agrees = a;
+      kept = lost items outcomes new mid.window give_ups before.kept (keeps (length mid.sent) outcomes)
+          (adds (length mid.sent) outcomes) a.counts;
+      waited = before.waited;
+      fewer = (let h = before.fewer in omega (arith, h, same));
+      short = is.short;
+      fault = λ e. omega (arith, rose);
+      lost = λ k o e l. refl;
+      standing = if_told (IsStopped settings mid outcomes) (IsStopped settings mid new) telling_now
+          (stops settings outcomes is.standing)
+          (λ t stopped. lost_stopped settings outcomes mid (length mid.sent) t stopped);
+    })))
+
+pub lane_spent : (settings : Limits) (status : BoardStatus) (hub mid : Hub) (items : List Item)
+    (outcomes outcomes_now : List (Option Outcome)) (give_ups give_ups_now : ℕ)
+    (telling telling_now : Option Telling) (faults faults_now quiets quiets_now : ℕ)
+    → IsMid (length outcomes) (claims items) outcomes hub mid
+    → Stops telling hub telling_now mid → quiets ≤ quiets_now
+    → give_ups_now ≡ give_ups → outcomes_now ≡ outcomes
+    → IsLane settings status hub items outcomes give_ups false false telling faults quiets
+    → IsLane settings status mid items outcomes_now give_ups_now false true telling_now faults_now quiets_now
+lane_spent settings status hub mid items outcomes outcomes_now give_ups give_ups_now telling telling_now faults faults_now
+    quiets quiets_now at stops more same_give_ups same_outcomes is =
+    let before = mid_after settings status hub mid items outcomes give_ups telling faults quiets at is in
+    subst (λ (os : List (Option Outcome)). IsLane settings status mid items os give_ups_now false true telling_now
+    faults_now quiets_now) (sym same_outcomes)
+    (subst (λ (g : ℕ). IsLane settings status mid items outcomes g false true telling_now faults_now quiets_now)
+    (sym same_give_ups) (record {
+      knows = before.knows;
+      ready = before.ready;
+      agrees = before.agrees;
+      kept = before.kept;
+      waited = (let w = before.waited in omega (arith, w, more));
+      fewer = before.fewer;
+      short = is.short;
+      fault = λ e. absurd cc;
+      lost = before.lost;
+      standing = stops settings outcomes is.standing;
+    }))
+
+-- ---- an Ask of a lane that is down or not
+
+or_cases : (o p : Option (List ℕ)) (body : List ℕ) (P : Type 0) → (o ≡ Some body → P) → (p ≡ Some body → P)
+    → option_or o p ≡ Some body → P
+or_cases None p body P first later is = later is
+or_cases (Some x) p body P first later is = first is
+
+short_here : (payload : ℕ) (o : Option (List ℕ)) (body : List ℕ) → IfSome o (λ b. length b + 1 ≤ payload)
+    → o ≡ Some body → length body + 1 ≤ payload
+short_here payload o body is e = subst (λ (r : Option (List ℕ)). IfSome r (λ b. length b + 1 ≤ payload)) e is
+
+found_first : (payload : ℕ) (x : Item) (xs : List Item) (client seq : ℕ) (body : List ℕ) → IsShortPlan payload x
+    → (found plan_in client seq xs ≡ Some body → length body + 1 ≤ payload)
+    → found plan_in client seq (x ∷ xs) ≡ Some body → length body + 1 ≤ payload
+found_first payload x xs client seq body short later there =
+    or_cases (cond (is_of client seq x) (plan_in x.what) None) (found plan_in client seq xs) body
+    (length body + 1 ≤ payload)
+    (λ here. either (λ (o : Option (List ℕ)). o ≡ Some body → length body + 1 ≤ payload) (is_of client seq x)
+    (plan_in x.what) None (λ _ e. short_here payload (plan_in x.what) body short e) (λ _ e. absurd cc) here)
+    later there
+
+found_short : (payload : ℕ) (items : List Item) (client seq : ℕ) (body : List ℕ)
+    → AllByRecursion (IsShortPlan payload) items → found plan_in client seq items ≡ Some body
+    → length body + 1 ≤ payload
+found_short payload [] client seq body all there = absurd cc
+found_short payload (x ∷ xs) client seq body all there = found_first payload x xs client seq body all.0
+    (λ later. found_short payload xs client seq body all.1 later) there
+
+pub body_sendable : (mtu : ℕ) (items : List Item) (client seq : ℕ) (body : List ℕ) → IsMtu mtu
+    → AllByRecursion (IsShortPlan (payload_of mtu)) items → found plan_in client seq items ≡ Some body
+    → length body ≤ 2242
+body_sendable mtu items client seq body is all there =
+    let short = found_short (payload_of mtu) items client seq body all there in
+    let most = is.1 in
+    omega (arith, short, most)
+
+pub lane_asks : OfferLaw
+    → ((most : ℕ) (h : Hub) (o : Offered) → IsSendable o.body → HasBodies most h → HasBodies (most + 1) (offer h o))
+    → ((h : Hub) (cs : List Claim) (os : List (Option Outcome)) (c : Claim) → AgreesWith h cs os
+    → AgreesWith (offer h (offer_of (length cs) c)) (cs ++ c ∷ []) (os ++ None ∷ []))
+    → ((sent : List Offered) (cs : List Claim) (os : List (Option Outcome)) (c : Claim) → Agrees sent [] [] cs os
+    → Agrees sent [] [] (cs ++ c ∷ []) (os ++ Some (became.LinkLost None) ∷ []))
+    → (settings : Limits) (status : BoardStatus) (hub new : Hub) (items items_now : List Item)
+    (outcomes outcomes_now : List (Option Outcome)) (give_ups : ℕ) (down spent : Bool) (telling : Option Telling)
+    (faults quiets : ℕ) (client seq : ℕ) (body : List ℕ)
+    → (IsKept items outcomes hub.window give_ups
+    → IsKept (items ++ ask_of client seq give_ups ∷ []) (outcomes ++ None ∷ []) hub.window give_ups)
+    → (IsKept items outcomes hub.window give_ups
+    → IsKept (items ++ ask_of client seq give_ups ∷ []) (outcomes ++ Some (became.LinkLost None) ∷ []) hub.window
+    give_ups)
+    → found plan_in client seq items ≡ Some body → IsSendable body → spent ≡ false
+    → new ≡ cond down hub (offer hub (record { tag = length outcomes; body = body }))
+    → items_now ≡ items ++ ask_of client seq give_ups ∷ []
+    → outcomes_now ≡ outcomes ++ cond down (Some (became.LinkLost None)) None ∷ []
+    → IsLane settings status hub items outcomes give_ups down spent telling faults quiets
+    → IsLane settings status new items_now outcomes_now give_ups down spent telling faults quiets
+lane_asks law bodies agree later settings status hub new items items_now outcomes outcomes_now give_ups true spent
+    telling faults quiets client seq body kept vain there can up hub_is items_are outcomes_are is =
+    subst (λ (h : Hub). IsLane settings status h items_now outcomes_now give_ups true spent telling faults quiets)
+    (sym hub_is)
+    (subst (λ (xs : List Item). IsLane settings status hub xs outcomes_now give_ups true spent telling faults quiets)
+    (sym items_are)
+    (subst (λ (os : List (Option Outcome)). IsLane settings status hub (items ++ ask_of client seq give_ups ∷ []) os
+    give_ups true spent telling faults quiets) (sym outcomes_are)
+    (lane_asked_in_vain settings status hub items outcomes give_ups spent telling faults quiets client seq body later vain
+    there is)))
+lane_asks law bodies agree later settings status hub new items items_now outcomes outcomes_now give_ups false spent
+    telling faults quiets client seq body kept vain there can up hub_is items_are outcomes_are is =
+    let is_up = subst (λ (s : Bool). IsLane settings status hub items outcomes give_ups false s telling faults quiets)
+    up is in
+    let o : Offered = record { tag = length outcomes; body = body } in
+    subst (λ (s : Bool). IsLane settings status new items_now outcomes_now give_ups false s telling faults quiets)
+    (sym up)
+    (subst (λ (h : Hub). IsLane settings status h items_now outcomes_now give_ups false false telling faults quiets)
+    (sym hub_is)
+    (subst (λ (xs : List Item). IsLane settings status (offer hub o) xs outcomes_now give_ups false false telling faults
+    quiets) (sym items_are)
+    (subst (λ (os : List (Option Outcome)). IsLane settings status (offer hub o)
+    (items ++ ask_of client seq give_ups ∷ []) os give_ups false false telling faults quiets) (sym outcomes_are)
+    (lane_offered law settings status hub items outcomes give_ups telling faults quiets client seq body bodies agree kept
+    there can is_up))))
+
+-- ---- a pump
+
+up : (settings : Limits) (status : BoardStatus) (hub : Hub) (items : List Item) (outcomes : List (Option Outcome))
+    (give_ups : ℕ) (down spent : Bool) (telling : Option Telling) (faults quiets : ℕ) → down ≡ false → spent ≡ false
+    → IsLane settings status hub items outcomes give_ups down spent telling faults quiets
+    → IsLane settings status hub items outcomes give_ups false false telling faults quiets
+up settings status hub items outcomes give_ups down spent telling faults quiets d s is =
+    subst (λ (x : Bool). IsLane settings status hub items outcomes give_ups false x telling faults quiets) s
+    (subst (λ (x : Bool). IsLane settings status hub items outcomes give_ups x spent telling faults quiets) d is)
+
+-- what the laws say of a lane's hub in a pump
+pub record PumpLaws : Type 0 where
+  pub fates : SameFates
+  pub bodies : SendKeepsBodies
+  pub agrees : SendAgrees
+  pub message_bodies : (most : ℕ) (h : Hub) (message : Option ToHub) → HasBodies most h
+      → HasBodies most (take_message h message)
+  pub quiet_bodies : (most : ℕ) (h : Hub) → HasBodies most h → HasBodies most (hear_quiet h)
+  pub message : MessageSettles
+  pub quiet : QuietSettles
+  pub replied : RepliedLaw
+  pub gave_up : GaveUpLaw
+  pub lost : LostLaw
+  pub lost_agrees : (sent queue : List Offered) (os : List OpenPlace) (cs : List Claim) (outs : List (Option Outcome))
+      → Agrees sent queue os cs outs → Agrees sent [] [] cs (all_lost (length sent) outs)
+  pub lost_keeps : (sent : ℕ) (outs : List (Option Outcome)) → KeepsOutcomes outs (all_lost sent outs)
+  pub lost_adds : (sent : ℕ) (outs : List (Option Outcome)) → AddsOnly is_lost outs (all_lost sent outs)
+
+pub record Pumps (settings : Limits) (status : BoardStatus) (hub : Hub) (items : List Item)
+    (old outcomes : List (Option Outcome)) (old_give_ups give_ups : ℕ) (down spent : Bool) (telling : Option Telling)
+    (faults quiets : ℕ) : Type 0 where
+  pub lane : IsLane settings status hub items outcomes give_ups down spent telling faults quiets
+  pub keeps : KeepsOutcomes old outcomes
+  pub more : old_give_ups ≤ give_ups
+
+module _ (laws : PumpLaws) (settings : Limits) (status : BoardStatus) (hub : Hub) (items : List Item)
+    (outcomes : List (Option Outcome)) (give_ups : ℕ) (down spent : Bool) (telling : Option Telling)
+    (faults quiets : ℕ) (d : down ≡ false) (s : spent ≡ false)
+    (is : IsLane settings status hub items outcomes give_ups down spent telling faults quiets) where
+  is_up : IsLane settings status hub items outcomes give_ups false false telling faults quiets
+  is_up = up settings status hub items outcomes give_ups down spent telling faults quiets d s is
+
+  at_mid : (mid : Hub) → HasSent hub mid → IsMid (length outcomes) (claims items) outcomes hub mid
+  at_mid mid sent = mid_sent laws.fates laws.bodies laws.agrees (length outcomes) (claims items) outcomes hub mid sent
+      is_up.ready is_up.agrees
+
+  pub pump_received : (new : Hub) (bytes : List ℕ) (pumped : Pumped) (outcomes_now : List (Option Outcome))
+      (give_ups_now : ℕ) (telling_now : Option Telling) (faults_now quiets_now : ℕ)
+      → is_waiting hub ≡ true → IsEventAs (all_sent hub) bytes pumped
+      → new ≡ handed_out (hub_after pumped bytes (all_sent hub))
+      → outcomes_now ≡ put_all (hub_after pumped bytes (all_sent hub)).fates outcomes
+      → give_ups_now ≡ give_ups_of pumped (hub_after pumped bytes (all_sent hub)) give_ups
+      → quiets_now ≡ quiets_of pumped quiets
+      → ((limits : Limits) → IfSome telling (IsRunning limits hub outcomes)
+      → IfSome telling_now (IsRunning limits new outcomes_now))
+      → Pumps settings status new items outcomes outcomes_now give_ups give_ups_now down spent telling_now faults_now
+      quiets_now
+  pump_received new bytes pumped outcomes_now give_ups_now telling_now faults_now quiets_now waiting event hub_is
+      outcomes_are give_ups_are quiets_are running =
+      let mid = all_sent hub in
+      let at = at_mid mid (record { count = pending hub; sends = refl }) in
+      let done = lane_received laws.message laws.replied laws.quiet laws.gave_up settings status hub mid new bytes pumped
+      items outcomes outcomes_now give_ups give_ups_now telling telling_now faults faults_now quiets quiets_now
+      (λ message. laws.message_bodies (length outcomes) mid message at.ready.bodies)
+      (laws.quiet_bodies (length outcomes) mid at.ready.bodies) at waiting event hub_is outcomes_are give_ups_are
+      quiets_are (running settings is_up.standing) is_up in
+      record {
+        lane = subst (λ (x : Bool). IsLane settings status new items outcomes_now give_ups_now x spent telling_now
+            faults_now quiets_now) (sym d)
+            (subst (λ (x : Bool). IsLane settings status new items outcomes_now give_ups_now false x telling_now
+            faults_now quiets_now) (sym s) done.0);
+        keeps = done.1;
+        more = done.2;
+      }
+
+  pub pump_down : (mid : Hub) (before_lost outcomes_now : List (Option Outcome)) (give_ups_now sent : ℕ)
+      (telling_now : Option Telling) (faults_now quiets_now : ℕ)
+      → HasSent hub mid → Stops telling hub telling_now mid → Rose faults faults_now → quiets_now ≡ quiets
+      → give_ups_now ≡ give_ups → before_lost ≡ outcomes → sent ≡ length mid.sent
+      → outcomes_now ≡ all_lost sent before_lost
+      → IsLane settings status mid items outcomes_now give_ups_now true spent telling_now faults_now quiets_now
+  pump_down mid before_lost outcomes_now give_ups_now sent telling_now faults_now quiets_now went stops rose same_quiets
+      same_give_ups same_outcomes sent_is outcomes_are =
+      subst (λ (x : Bool). IsLane settings status mid items outcomes_now give_ups_now true x telling_now
+      faults_now quiets_now) (sym s)
+      (lane_down laws.lost laws.lost_agrees laws.lost_keeps laws.lost_adds settings status hub mid items outcomes
+      before_lost outcomes_now give_ups give_ups_now sent telling telling_now faults faults_now quiets quiets_now
+      (at_mid mid went) stops rose same_quiets same_give_ups same_outcomes sent_is outcomes_are is_up)
+
+  pub pump_spent : (mid : Hub) (outcomes_now : List (Option Outcome)) (give_ups_now : ℕ)
+      (telling_now : Option Telling) (faults_now quiets_now : ℕ)
+      → HasSent hub mid → Stops telling hub telling_now mid → quiets ≤ quiets_now
+      → give_ups_now ≡ give_ups → outcomes_now ≡ outcomes
+      → IsLane settings status mid items outcomes_now give_ups_now down true telling_now faults_now quiets_now
+  pump_spent mid outcomes_now give_ups_now telling_now faults_now quiets_now went stops more same_give_ups same_outcomes =
+      subst (λ (x : Bool). IsLane settings status mid items outcomes_now give_ups_now x true telling_now
+      faults_now quiets_now) (sym d)
+      (lane_spent settings status hub mid items outcomes outcomes_now give_ups give_ups_now telling telling_now faults
+      faults_now quiets quiets_now (at_mid mid went) stops more same_give_ups same_outcomes is_up)

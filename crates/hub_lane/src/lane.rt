@@ -23,16 +23,20 @@ use crate::exchange::exchange;
 use crate::outcomes::{copy_outcome, copy_words, count_of, lose_all, reply_at};
 use ipb_base::{NoMemory, Words};
 use lane_record::Outcome;
-use lane_record::laws::book::entries_go_into_the_book;
-use lane_record::laws::offers::an_ask_is_an_offer;
+use lane_record::laws::book::{entries_go_into_the_book, outcomes_go_into_the_book};
+use lane_record::laws::entries::an_ask_is_of_its_plan;
+use lane_record::laws::offers::{
+    a_failed_link_loses_what_waits, a_send_settles_nothing, an_ask_is_an_offer, what_a_hub_hears_settles_asks,
+};
 use packet_ids::Id;
 use reliable_engine::{Engine, Settings};
 use status_packet::Status;
 use std::alloc::Global;
 use std::marker::Model;
 use turn_pass::Entry;
-use world_core::laws::each_event_leads_to_a_state_of_a_run;
+use world_core::laws::{a_send_leaves_the_fates, each_event_leads_to_a_state_of_a_run};
 use world_core::{Link, LinkFault};
+use world_model::laws::sends::only_an_offer_makes_more_bodies;
 
 /// The hub's side of one board: its engine, its link, and the record of what clients planned, asked and took (profile).
 /// Contracts see it as `LaneState`; what holds of it at the exit of every call is `IsLane`, which `is_sound` tells.
@@ -196,6 +200,7 @@ impl<L: Link> Lane<L> {
         ensures refused { IfErr result (IsRefused self.old.items (payload_of self.old.status.mtu) body) }
         ensures unchanged { OnErr result (self.new ≡ self.old) }
     {
+        entries_go_into_the_book();
         self.check_plan(body.as_slice(), reply_words)?;
         self.book.reserve()?;
         Ok(self.book.plan(client, body, reply_words)?)
@@ -205,6 +210,7 @@ impl<L: Link> Lane<L> {
     pub fn seal(&mut self)
         ensures { self.new ≡ sealed self.old }
     {
+        entries_go_into_the_book();
         if !self.book.is_sealed() {
             self.book.seal();
         }
@@ -217,6 +223,12 @@ impl<L: Link> Lane<L> {
         ensures asked { IfOk result (AsksAs self.old client self.new) }
         ensures unchanged { OnErr result (self.new ≡ self.old) }
     {
+        an_ask_is_an_offer();
+        an_ask_is_of_its_plan();
+        a_failed_link_loses_what_waits();
+        each_event_leads_to_a_state_of_a_run();
+        entries_go_into_the_book();
+        only_an_offer_makes_more_bodies();
         if self.spent {
             return Err(NoMemory);
         }
@@ -249,6 +261,12 @@ impl<L: Link> Lane<L> {
         ensures gots_rise { L.gots self.old.link ≤ L.gots self.new.link }
         ensures held { L.held self.old.link ≤ L.held self.new.link }
     {
+        a_send_leaves_the_fates();
+        only_an_offer_makes_more_bodies();
+        a_send_settles_nothing();
+        what_a_hub_hears_settles_asks();
+        a_failed_link_loses_what_waits();
+        outcomes_go_into_the_book();
         if self.spent {
             return Err(NoMemory);
         }
@@ -288,6 +306,8 @@ impl<L: Link> Lane<L> {
         ensures taken { IfOk result (TakesAs self.old client seq self.new) }
         ensures unchanged { OnErr result (self.new ≡ self.old) }
     {
+        an_ask_is_of_its_plan();
+        entries_go_into_the_book();
         let Some(at) = self.book.ask_at(client, seq) else {
             return Ok(Taken::NotYet);
         };

@@ -1,12 +1,14 @@
 //! What became of the asked bodies, in the order of the Asks.
 
-ghost use Rattle.std.specs.Prelude.{◌≡◌, ◌+◌, ◌<◌, ◌^◌, ℕ, IfOk, IfSome, IfNone, length, count_by, if◌then◌else◌, List};
+ghost use Rattle.std.specs.Prelude.{◌≡◌, ◌+◌, ◌<◌, ◌≤◌, ◌^◌, ℕ, IfOk, IfSome, IfNone, length, count_by, if◌then◌else◌, List};
 ghost use Rattle.lane_record.specs.Bounds.{timeouts};
 ghost use Rattle.lane_record.specs.Offers.{all_lost, lost_after, outcome_of, put, put_all};
 ghost use Rattle.lane_record.specs.Outcomes.{is_sent};
 ghost use Rattle.hub_lane.specs.Hearing.{give_ups_of};
 ghost use Rattle.hub_lane.specs.Calls.{IsReplyAt, IsReplyOf, is_lost_at_place, is_replied};
 ghost use Rattle.hub_lane.specs.Sends.{handed_out};
+ghost use Rattle.packet_codec.specs.declared.packet.TheConstants.{MAX_BODY_WORDS};
+ghost use Rattle.world_model.specs.Facts.{IsSendable};
 
 use crate::answers::Pumped;
 use ipb_base::{NoMemory, Words};
@@ -14,9 +16,10 @@ use lane_record::Outcome;
 use reliable_engine::{Engine, Fate};
 use std::alloc::Global;
 
-/// The same words in memory of their own.
+/// The same words in memory of their own. A packet can carry them, where they are not too many.
 pub(crate) fn copy_words(alloc: Global, words: &[u32]) -> Result<Words, NoMemory>
-    ensures { IfOk result (λ copied. copied ≡ words.now) }
+    ensures copied { IfOk result (λ copied. copied ≡ words.now) }
+    ensures sendable { length words.now ≤ MAX_BODY_WORDS → IsSendable words.now }
 {
     Ok(Words::from_vec(Vec::from_slice(alloc, words)?))
 }

@@ -1,0 +1,128 @@
+use Rattle.std.proofs.Common.{◌≡◌, ◌∙◌, ℕ, List, sym, ap, subst, refl, arith}
+use Rattle.hub_lane.specs.Calls.{IsSameRecord}
+use Rattle.hub_lane.specs.Lanes.{BoardStatus, LaneState}
+use Rattle.hub_lane.proofs.Lanes.{PumpLaws, pump_down, pump_received, pump_spent}
+use Rattle.hub_lane.proofs.lane.Lane.pump.Goals as goal
+
+pub invariant_of-self : goal.invariant_of-self
+invariant_of-self g c =
+    let laws : PumpLaws = record {
+      fates = c.a_send_leaves_the_fates.ensures.fates;
+      bodies = c.only_an_offer_makes_more_bodies.ensures.sent;
+      agrees = c.a_send_settles_nothing.ensures.agrees;
+      message_bodies = c.only_an_offer_makes_more_bodies.ensures.message;
+      quiet_bodies = c.only_an_offer_makes_more_bodies.ensures.quiet;
+      message = c.what_a_hub_hears_settles_asks.ensures.message;
+      quiet = c.what_a_hub_hears_settles_asks.ensures.quiet;
+      replied = c.outcomes_go_into_the_book.ensures.replied;
+      gave_up = c.outcomes_go_into_the_book.ensures.gave_up;
+      lost = c.outcomes_go_into_the_book.ensures.lost;
+      lost_agrees = c.a_failed_link_loses_what_waits.ensures.agrees;
+      lost_keeps = c.a_failed_link_loses_what_waits.ensures.keeps;
+      lost_adds = c.a_failed_link_loses_what_waits.ensures.adds;
+    } in
+    let l = c.self.inside in
+    let status : BoardStatus = record { mtu = l.mtu; buffers = l.buffers; next = l.first } in
+    let telling = g.L.Link.telling in
+    let faults = g.L.Link.faults in
+    let quiets = g.L.Link.quiets in
+    (pump_received laws l.settings status l.engine l.book.items l.outcomes.items l.give_ups l.down l.spent
+    (telling l.link) (faults l.link) (quiets l.link) c.if-self-2.false c.if-self.false c.self.invariant
+    c.exchange.new.hub c.exchange.new.buffer.items c.in-Ok.pumped c.exchange.new.outcomes.items c.exchange.new.give_ups
+    (telling c.exchange.new.link) (faults c.exchange.new.link) (quiets c.exchange.new.link)
+    (sym c.waiting.ensures ∙ c.if-not-waiting.false) c.in-Ok.ensures.event c.in-Ok.ensures.hub c.in-Ok.ensures.outcomes
+    c.in-Ok.ensures.give_ups c.in-Ok.ensures.quiets c.in-Ok.ensures.running).lane
+
+pub invariant_of-self-in-Err-Failed : goal.invariant_of-self-in-Err-Failed
+invariant_of-self-in-Err-Failed g c =
+    let laws : PumpLaws = record {
+      fates = c.a_send_leaves_the_fates.ensures.fates;
+      bodies = c.only_an_offer_makes_more_bodies.ensures.sent;
+      agrees = c.a_send_settles_nothing.ensures.agrees;
+      message_bodies = c.only_an_offer_makes_more_bodies.ensures.message;
+      quiet_bodies = c.only_an_offer_makes_more_bodies.ensures.quiet;
+      message = c.what_a_hub_hears_settles_asks.ensures.message;
+      quiet = c.what_a_hub_hears_settles_asks.ensures.quiet;
+      replied = c.outcomes_go_into_the_book.ensures.replied;
+      gave_up = c.outcomes_go_into_the_book.ensures.gave_up;
+      lost = c.outcomes_go_into_the_book.ensures.lost;
+      lost_agrees = c.a_failed_link_loses_what_waits.ensures.agrees;
+      lost_keeps = c.a_failed_link_loses_what_waits.ensures.keeps;
+      lost_adds = c.a_failed_link_loses_what_waits.ensures.adds;
+    } in
+    let l = c.self.inside in
+    let status : BoardStatus = record { mtu = l.mtu; buffers = l.buffers; next = l.first } in
+    let telling = g.L.Link.telling in
+    let faults = g.L.Link.faults in
+    let quiets = g.L.Link.quiets in
+    pump_down laws l.settings status l.engine l.book.items l.outcomes.items l.give_ups l.down l.spent
+    (telling l.link) (faults l.link) (quiets l.link) c.if-self-2.false c.if-self.false c.self.invariant
+    c.exchange.new.hub c.exchange.new.outcomes.items c.lose_all.new.outcomes.items c.exchange.new.give_ups c.sent.result
+    (telling c.exchange.new.link) (faults c.exchange.new.link) (quiets c.exchange.new.link)
+    c.in-Err-Failed.ensures.sent c.in-Err-Failed.ensures.stopped (c.exchange.ensures.failed (cc))
+    (c.exchange.ensures.failed_quiets (cc))
+    c.in-Err-Failed.ensures.same_give_ups c.in-Err-Failed.ensures.same_outcomes c.sent.ensures c.lose_all.ensures
+
+pub invariant_of-self-in-Err-NoMemory : goal.invariant_of-self-in-Err-NoMemory
+invariant_of-self-in-Err-NoMemory g c =
+    let laws : PumpLaws = record {
+      fates = c.a_send_leaves_the_fates.ensures.fates;
+      bodies = c.only_an_offer_makes_more_bodies.ensures.sent;
+      agrees = c.a_send_settles_nothing.ensures.agrees;
+      message_bodies = c.only_an_offer_makes_more_bodies.ensures.message;
+      quiet_bodies = c.only_an_offer_makes_more_bodies.ensures.quiet;
+      message = c.what_a_hub_hears_settles_asks.ensures.message;
+      quiet = c.what_a_hub_hears_settles_asks.ensures.quiet;
+      replied = c.outcomes_go_into_the_book.ensures.replied;
+      gave_up = c.outcomes_go_into_the_book.ensures.gave_up;
+      lost = c.outcomes_go_into_the_book.ensures.lost;
+      lost_agrees = c.a_failed_link_loses_what_waits.ensures.agrees;
+      lost_keeps = c.a_failed_link_loses_what_waits.ensures.keeps;
+      lost_adds = c.a_failed_link_loses_what_waits.ensures.adds;
+    } in
+    let l = c.self.inside in
+    let status : BoardStatus = record { mtu = l.mtu; buffers = l.buffers; next = l.first } in
+    let telling = g.L.Link.telling in
+    let faults = g.L.Link.faults in
+    let quiets = g.L.Link.quiets in
+    pump_spent laws l.settings status l.engine l.book.items l.outcomes.items l.give_ups l.down l.spent
+    (telling l.link) (faults l.link) (quiets l.link) c.if-self-2.false c.if-self.false c.self.invariant
+    c.exchange.new.hub c.exchange.new.outcomes.items c.exchange.new.give_ups
+    (telling c.exchange.new.link) (faults c.exchange.new.link) (quiets c.exchange.new.link)
+    c.in-Err-NoMemory.ensures.sent c.in-Err-NoMemory.ensures.stopped c.exchange.ensures.quiets_rise
+    c.in-Err-NoMemory.ensures.same_give_ups c.in-Err-NoMemory.ensures.same_outcomes
+
+pub returns-in-Ok-clause-same : goal.returns-in-Ok-clause-same
+returns-in-Ok-clause-same g c =
+    let laws : PumpLaws = record {
+      fates = c.a_send_leaves_the_fates.ensures.fates;
+      bodies = c.only_an_offer_makes_more_bodies.ensures.sent;
+      agrees = c.a_send_settles_nothing.ensures.agrees;
+      message_bodies = c.only_an_offer_makes_more_bodies.ensures.message;
+      quiet_bodies = c.only_an_offer_makes_more_bodies.ensures.quiet;
+      message = c.what_a_hub_hears_settles_asks.ensures.message;
+      quiet = c.what_a_hub_hears_settles_asks.ensures.quiet;
+      replied = c.outcomes_go_into_the_book.ensures.replied;
+      gave_up = c.outcomes_go_into_the_book.ensures.gave_up;
+      lost = c.outcomes_go_into_the_book.ensures.lost;
+      lost_agrees = c.a_failed_link_loses_what_waits.ensures.agrees;
+      lost_keeps = c.a_failed_link_loses_what_waits.ensures.keeps;
+      lost_adds = c.a_failed_link_loses_what_waits.ensures.adds;
+    } in
+    let l = c.self.inside in
+    let status : BoardStatus = record { mtu = l.mtu; buffers = l.buffers; next = l.first } in
+    let telling = g.L.Link.telling in
+    let faults = g.L.Link.faults in
+    let quiets = g.L.Link.quiets in
+    let done = pump_received laws l.settings status l.engine l.book.items l.outcomes.items l.give_ups l.down l.spent
+    (telling l.link) (faults l.link) (quiets l.link) c.if-self-2.false c.if-self.false c.self.invariant
+    c.exchange.new.hub c.exchange.new.buffer.items c.in-Ok.pumped c.exchange.new.outcomes.items c.exchange.new.give_ups
+    (telling c.exchange.new.link) (faults c.exchange.new.link) (quiets c.exchange.new.link)
+    (sym c.waiting.ensures ∙ c.if-not-waiting.false) c.in-Ok.ensures.event c.in-Ok.ensures.hub c.in-Ok.ensures.outcomes
+    c.in-Ok.ensures.give_ups c.in-Ok.ensures.quiets c.in-Ok.ensures.running in
+    subst (λ (v : LaneState _). IsSameRecord v (record {
+      link = c.exchange.new.link; settings = l.settings; status = status; hub = c.exchange.new.hub;
+      items = l.book.items; outcomes = c.exchange.new.outcomes.items; give_ups = c.exchange.new.give_ups;
+      down = l.down; spent = l.spent;
+    })) c.self.view_is
+    (record { settings = refl; status = refl; items = refl; outcomes = done.keeps; give_ups = done.more })

@@ -1,0 +1,77 @@
+use Rattle.std.proofs.Common.{◌≡◌, ◌∙◌, ℕ, ◌<◌, List, sym, ap, subst, refl, arith, length, ◌++◌, ◌∷◌, [], Option, Some}
+use Rattle.std.specs.List.{slice_get}
+use Rattle.std.proofs.lemmas.Option.{slice_get-get_or}
+use Rattle.world_model.proofs.Lists.{get_within}
+use Rattle.lane_record.specs.declared.outcome.Outcome.{Outcome}
+use Rattle.lane_record.specs.declared.item.Item.{Item}
+use Rattle.lane_record.specs.Claims.{claims}
+use Rattle.lane_record.specs.NextEntry.{took_of}
+use Rattle.hub_lane.specs.Books.{IsPosition}
+use Rattle.hub_lane.specs.Calls.{Takes, WasAsked}
+use Rattle.hub_lane.specs.Lanes.{BoardStatus, IsLane, LaneState}
+use Rattle.hub_lane.proofs.Lanes.{lane_entry}
+use Rattle.hub_lane.proofs.lane.Lane.take.Goals as goal
+
+pub invariant_of-self-2 : goal.invariant_of-self-2
+invariant_of-self-2 g c =
+    let l = c.self.inside in
+    let status : BoardStatus = record { mtu = l.mtu; buffers = l.buffers; next = l.first } in
+    let items = l.book.items in
+    let outcomes = l.outcomes.items in
+    let at = c.in-Some.at in
+    let kept_is = c.in_ok-kept.kept in
+    let x = took_of c.args.client c.args.seq kept_is l.give_ups in
+    let asked = subst (λ (v : LaneState _). WasAsked v.items c.args.client c.args.seq) (sym c.self.view_is)
+    c.requires.asked in
+    let place = subst (λ (r : Option ℕ). IsPosition c.args.client c.args.seq items r) c.in-Some.is c.ask_at.ensures in
+    let within : at < length outcomes = (let h = get_within (claims items) at place.0 place.1.there in
+    let e = c.self.invariant.agrees.counts.each in omega (arith, h, e)) in
+    let there : slice_get outcomes at ≡ Some c.index.result.now =
+    slice_get-get_or outcomes at c.index.result.now within ∙ ap (λ (o : Option Outcome). Some o) (sym c.index.ensures) in
+    let became : slice_get outcomes at ≡ Some (Some kept_is) = there ∙ ap (λ (o : Option Outcome). Some o)
+    (c.in-Some-index.is ∙ ap (λ (o : Outcome). Some o) (sym c.in_ok-kept.ensures)) in
+    let entry : c.take.new.self.items ≡ items ++ x ∷ [] =
+    c.take.ensures ∙ ap (λ (xs : List Item). xs ++ x ∷ []) c.in_ok-reserve.ensures.items in
+    subst (λ (xs : List Item). IsLane l.settings status l.engine xs outcomes l.give_ups l.down l.spent
+    (g.L.Link.telling l.link) (g.L.Link.faults l.link) (g.L.Link.quiets l.link)) (sym entry)
+    (lane_entry l.settings status l.engine items outcomes l.give_ups l.down l.spent
+    (g.L.Link.telling l.link) (g.L.Link.faults l.link) (g.L.Link.quiets l.link) x refl tt
+    (λ kept. c.entries_go_into_the_book.ensures.took items outcomes l.engine.window l.give_ups c.args.client c.args.seq
+    kept_is kept (record {
+      k = at; claim = place.0; ask = place.1; once = asked.untaken.once; became = became;
+    })) c.self.invariant)
+
+pub returns-clause-taken : goal.returns-clause-taken
+returns-clause-taken g c =
+    let l = c.self.inside in
+    let status : BoardStatus = record { mtu = l.mtu; buffers = l.buffers; next = l.first } in
+    let items = l.book.items in
+    let outcomes = l.outcomes.items in
+    let at = c.in-Some.at in
+    let answer = c.in_ok-answer.answer in
+    let x = took_of c.args.client c.args.seq answer l.give_ups in
+    let asked = subst (λ (v : LaneState _). WasAsked v.items c.args.client c.args.seq) (sym c.self.view_is)
+    c.requires.asked in
+    let place = subst (λ (r : Option ℕ). IsPosition c.args.client c.args.seq items r) c.in-Some.is c.ask_at.ensures in
+    let within : at < length outcomes = (let h = get_within (claims items) at place.0 place.1.there in
+    let e = c.self.invariant.agrees.counts.each in omega (arith, h, e)) in
+    let there : slice_get outcomes at ≡ Some c.index.result.now =
+    slice_get-get_or outcomes at c.index.result.now within ∙ ap (λ (o : Option Outcome). Some o) (sym c.index.ensures) in
+    let became : slice_get outcomes at ≡ Some (Some answer) = there ∙ ap (λ (o : Option Outcome). Some o)
+    (c.in-Some-index.is ∙ ap (λ (o : Outcome). Some o) (sym c.in_ok-answer.ensures)) in
+    let same : c.in_ok-kept.kept ≡ answer = c.in_ok-kept.ensures ∙ sym c.in_ok-answer.ensures in
+    let entry : c.take.new.self.items ≡ items ++ x ∷ [] =
+    c.take.ensures ∙ (ap (λ (o : Outcome). c.reserve.new.self.items ++ took_of c.args.client c.args.seq o l.give_ups ∷ [])
+    same ∙ ap (λ (xs : List Item). xs ++ x ∷ []) c.in_ok-reserve.ensures.items) in
+    subst (λ (v : LaneState _). Takes v c.args.client c.args.seq (record {
+      link = l.link; settings = l.settings; status = status; hub = l.engine; items = c.take.new.self.items;
+      outcomes = outcomes; give_ups = l.give_ups; down = l.down; spent = l.spent;
+    }) answer) c.self.view_is (record {
+      number = at;
+      untaken = record { claim = place.0; ask = place.1; once = asked.untaken.once };
+      became = became;
+      entry = ap (λ (xs : List Item). record {
+        link = l.link; settings = l.settings; status = status; hub = l.engine; items = xs;
+        outcomes = outcomes; give_ups = l.give_ups; down = l.down; spent = l.spent;
+      }) entry;
+    })
