@@ -1,5 +1,5 @@
 -- What stands in the order of a board is a merge of its clients' bodies.
-use Rattle.std.proofs.Common.{◌≡◌, ℕ, zero, suc, ◌+◌, ◌<◌, ◌≤◌, Bool, true, false, cond, ◌==◌, List, [], ◌∷◌, ◌++◌}
+use Rattle.std.proofs.Common.{◌≡◌, ℕ, zero, suc, ◌+◌, ◌<◌, ◌≤◌, true, false, ◌==◌, List, [], ◌∷◌, ◌++◌}
 use Rattle.std.proofs.Common.{length, map, take, Option, Some, None, refl, sym, ap, ◌∙◌, subst, arith, append_assoc}
 use Rattle.std.proofs.Common.{if◌then◌else◌, append-nil, inl, inr}
 use Rattle.std.specs.Prelude.{nat_le}
@@ -29,9 +29,9 @@ sub_take zero xs ys s = tt
 sub_take (suc n) [] ys s = tt
 sub_take (suc n) (x ∷ xs) [] s = absurd s
 sub_take (suc n) (x ∷ xs) (y ∷ ys) s = elim s [
-    | inl same ↦ inl (same.0, sub_take n xs ys same.1)
-    | inr later ↦ inr (sub_take (suc n) (x ∷ xs) ys later)
-  ]
+  | inl same ↦ inl (same.0, sub_take n xs ys same.1)
+  | inr later ↦ inr (sub_take (suc n) (x ∷ xs) ys later)
+]
 
 -- those of a client in a front are a front
 front_by : (client n : ℕ) (os : List Owned) → (k : ℕ) × (bodies_by client (take n os) ≡ take k (bodies_by client os))
@@ -41,7 +41,7 @@ front_by client (suc n) (o ∷ os) =
     let later = front_by client n os in
     elim (o.client == client) as
     (λ b. (k : ℕ) × ((if b then o.body ∷ bodies_by client (take n os) else bodies_by client (take n os))
-      ≡ take k (if b then o.body ∷ bodies_by client os else bodies_by client os))) [
+    ≡ take k (if b then o.body ∷ bodies_by client os else bodies_by client os))) [
       | true ↦ (suc later.0, ap (λ (bs : List (List ℕ)). o.body ∷ bs) later.1)
       | false ↦ later
     ]
@@ -50,10 +50,9 @@ fronts : (n client : ℕ) (bodies : List (List (List ℕ))) (os : List Owned) �
     → AreSubsequences client bodies (take n os)
 fronts n client [] os each = tt
 fronts n client (bs ∷ later) os each =
-    let front = front_by client n os in
-    (
+    let front = front_by client n os in (
       subst (λ (xs : List (List ℕ)). IsSubsequence xs bs) (sym front.1)
-      (sub_take front.0 (bodies_by client os) bs each.0),
+          (sub_take front.0 (bodies_by client os) bs each.0),
       fronts n (client + 1) later os each.1,
     )
 
@@ -128,8 +127,8 @@ insert_placed : (x : Tagged) (ys : List Tagged)
 insert_placed x [] = refl
 insert_placed x (y ∷ ys) = elim (nat_le x.place y.place) as
     (λ b. map as_placed (if b then x ∷ y ∷ ys else y ∷ tag_insert x ys)
-      ≡ (if b then as_placed x ∷ as_placed y ∷ map as_placed ys
-        else as_placed y ∷ insert (as_placed x) (map as_placed ys))) [
+    ≡ (if b then as_placed x ∷ as_placed y ∷ map as_placed ys
+    else as_placed y ∷ insert (as_placed x) (map as_placed ys))) [
       | true ↦ refl
       | false ↦ ap (λ (ps : List Placed). as_placed y ∷ ps) (insert_placed x ys)
     ]
@@ -203,7 +202,7 @@ insert_sorted x [] s = (tt, tt)
 insert_sorted x (y ∷ ys) s = either AreSorted (nat_le x.place y.place) (x ∷ (y ∷ ys)) (y ∷ tag_insert x ys)
     (λ e. let le : x.place ≤ y.place = grind (arith, nat_tests) in ((le, all_from x.place y.place ys le s.0), s))
     (λ e. let le : y.place ≤ x.place = grind (arith, nat_tests) in
-      (all_inserted (IsFrom y.place) x ys le s.0, insert_sorted x ys s.1))
+    (all_inserted (IsFrom y.place) x ys le s.0, insert_sorted x ys s.1))
 
 sort_sorted : (ts : List Tagged) → AreSorted (tag_sort ts)
 sort_sorted [] = tt
@@ -236,16 +235,16 @@ own_insert client x (y ∷ ys) s mine = either
     (λ (r : List Tagged). own client r ≡ tag_insert x (own client (y ∷ ys))) (nat_le x.place y.place)
     (x ∷ (y ∷ ys)) (y ∷ tag_insert x ys)
     (λ e.
-      let le : x.place ≤ y.place = grind (arith, nat_tests) in
-      let above : AllByRecursion (IsFrom x.place) (y ∷ ys) = (le, all_from x.place y.place ys le s.0) in
-      rw mine (sym (insert_first x (own client (y ∷ ys)) (all_own (IsFrom x.place) client (y ∷ ys) above))))
+    let le : x.place ≤ y.place = grind (arith, nat_tests) in
+    let above : AllByRecursion (IsFrom x.place) (y ∷ ys) = (le, all_from x.place y.place ys le s.0) in
+    rw mine (sym (insert_first x (own client (y ∷ ys)) (all_own (IsFrom x.place) client (y ∷ ys) above))))
     (λ e. elim (y.client == client) as
-      (λ b. (if b then y ∷ own client (tag_insert x ys) else own client (tag_insert x ys))
-        ≡ tag_insert x (if b then y ∷ own client ys else own client ys)) [
-        | true ↦ ap (λ (ts : List Tagged). y ∷ ts) (own_insert client x ys s.1 mine)
-            ∙ sym (insert_later x y (own client ys) e)
-        | false ↦ own_insert client x ys s.1 mine
-      ])
+    (λ b. (if b then y ∷ own client (tag_insert x ys) else own client (tag_insert x ys))
+    ≡ tag_insert x (if b then y ∷ own client ys else own client ys)) [
+      | true ↦ ap (λ (ts : List Tagged). y ∷ ts) (own_insert client x ys s.1 mine)
+          ∙ sym (insert_later x y (own client ys) e)
+      | false ↦ own_insert client x ys s.1 mine
+    ])
 
 other_insert : (client : ℕ) (x : Tagged) (ys : List Tagged) → (x.client == client) ≡ false
     → own client (tag_insert x ys) ≡ own client ys
@@ -254,11 +253,11 @@ other_insert client x (y ∷ ys) other = either (λ (r : List Tagged). own clien
     (nat_le x.place y.place) (x ∷ (y ∷ ys)) (y ∷ tag_insert x ys)
     (λ _. rw other refl)
     (λ _. elim (y.client == client) as
-      (λ b. (if b then y ∷ own client (tag_insert x ys) else own client (tag_insert x ys))
-        ≡ (if b then y ∷ own client ys else own client ys)) [
-        | true ↦ ap (λ (ts : List Tagged). y ∷ ts) (other_insert client x ys other)
-        | false ↦ other_insert client x ys other
-      ])
+    (λ b. (if b then y ∷ own client (tag_insert x ys) else own client (tag_insert x ys))
+    ≡ (if b then y ∷ own client ys else own client ys)) [
+      | true ↦ ap (λ (ts : List Tagged). y ∷ ts) (other_insert client x ys other)
+      | false ↦ other_insert client x ys other
+    ])
 
 own_sorted : (client : ℕ) (ts : List Tagged) → own client (tag_sort ts) ≡ tag_sort (own client ts)
 own_sorted client [] = refl
@@ -285,7 +284,7 @@ own_append : (client : ℕ) (xs ys : List Tagged) → own client (xs ++ ys) ≡ 
 own_append client [] ys = refl
 own_append client (x ∷ xs) ys = elim (x.client == client) as
     (λ b. (if b then x ∷ own client (xs ++ ys) else own client (xs ++ ys))
-      ≡ (if b then x ∷ own client xs else own client xs) ++ own client ys) [
+    ≡ (if b then x ∷ own client xs else own client xs) ++ own client ys) [
       | true ↦ ap (λ (zs : List Tagged). x ∷ zs) (own_append client xs ys)
       | false ↦ own_append client xs ys
     ]
@@ -333,7 +332,7 @@ owned_by : (client : ℕ) (ts : List Tagged) → bodies_by client (map as_owned 
 owned_by client [] = refl
 owned_by client (t ∷ ts) = elim (t.client == client) as
     (λ b. (if b then t.body ∷ bodies_by client (map as_owned ts) else bodies_by client (map as_owned ts))
-      ≡ map body_in (if b then t ∷ own client ts else own client ts)) [
+    ≡ map body_in (if b then t ∷ own client ts else own client ts)) [
       | true ↦ ap (λ (bs : List (List ℕ)). t.body ∷ bs) (owned_by client ts)
       | false ↦ owned_by client ts
     ]
@@ -362,13 +361,13 @@ client_bodies client front bodies later outcomes others none rises =
     let rest = all_tagged (client + 1) later others in
     let all = front ++ (mine ++ rest) in
     let only : own client all ≡ mine =
-        own_append client front (mine ++ rest) ∙ ap (λ (ts : List Tagged). ts ++ own client (mine ++ rest)) none
-        ∙ own_append client mine rest ∙ ap (λ (ts : List Tagged). ts ++ own client rest) (own_tagged client bodies outcomes)
-        ∙ ap (λ (ts : List Tagged). mine ++ ts) (later_tagged client (client + 1) later others (omega arith))
-        ∙ append-nil mine in
+    own_append client front (mine ++ rest) ∙ ap (λ (ts : List Tagged). ts ++ own client (mine ++ rest)) none
+    ∙ own_append client mine rest ∙ ap (λ (ts : List Tagged). ts ++ own client rest) (own_tagged client bodies outcomes)
+    ∙ ap (λ (ts : List Tagged). mine ++ ts) (later_tagged client (client + 1) later others (omega arith))
+    ∙ append-nil mine in
     let again : tag_sort mine ≡ mine =
-        sorted_again 1 mine (subst (λ (ps : List Placed). RisesFrom 1 (places_of ps))
-          (sym (tagged_placed client bodies outcomes)) rises) in
+    sorted_again 1 mine (subst (λ (ps : List Placed). RisesFrom 1 (places_of ps))
+    (sym (tagged_placed client bodies outcomes)) rises) in
     owned_by client (tag_sort all) ∙ ap (map body_in) (own_sorted client all ∙ ap tag_sort only ∙ again)
     ∙ sym (as_bodies mine) ∙ ap bodies_of (tagged_placed client bodies outcomes)
 
@@ -388,16 +387,15 @@ each_sub client front all (bs ∷ later) (os ∷ others) e none shape keeps =
     let mine = tagged client bs os in
     let here = client_bodies client front bs later os others (none client (omega arith)) keeps.0 in
     let next : (other : ℕ) → client + 1 ≤ other → own other (front ++ mine) ≡ [] =
-        λ other le.
-        let apart : (client == other) ≡ false = grind (arith, nat_tests) in
-        own_append other front mine ∙ ap (λ (ts : List Tagged). ts ++ own other mine) (none other (omega (arith, le)))
-        ∙ other_tagged other client bs os apart in
-    (
+    λ other le.
+    let apart : (client == other) ≡ false = grind (arith, nat_tests) in
+    own_append other front mine ∙ ap (λ (ts : List Tagged). ts ++ own other mine) (none other (omega (arith, le)))
+    ∙ other_tagged other client bs os apart in (
       subst (λ (ts : List Tagged). IsSubsequence (bodies_by client (map as_owned (tag_sort ts))) bs) (sym e)
-      (subst (λ (xs : List (List ℕ)). IsSubsequence xs bs) (sym here) (placed_subsequence bs os)),
+          (subst (λ (xs : List (List ℕ)). IsSubsequence xs bs) (sym here) (placed_subsequence bs os)),
       each_sub (client + 1) (front ++ mine) all later others
-      (e ∙ sym (append_assoc front mine (all_tagged (client + 1) later others))) next
-      (one_by_one bs later os others shape).rest keeps.1,
+          (e ∙ sym (append_assoc front mine (all_tagged (client + 1) later others))) next
+          (one_by_one bs later os others shape).rest keeps.1,
     )
 
 each_whole : (client : ℕ) (front all : List Tagged) (bodies : List (List (List ℕ))) (outcomes : List (List Outcome))
@@ -411,15 +409,14 @@ each_whole client front all (bs ∷ later) (os ∷ others) e none shape replied 
     let lengths = one_by_one bs later os others shape in
     let here = client_bodies client front bs later os others (none client (omega arith)) keeps.0 in
     let next : (other : ℕ) → client + 1 ≤ other → own other (front ++ mine) ≡ [] =
-        λ other le.
-        let apart : (client == other) ≡ false = grind (arith, nat_tests) in
-        own_append other front mine ∙ ap (λ (ts : List Tagged). ts ++ own other mine) (none other (omega (arith, le)))
-        ∙ other_tagged other client bs os apart in
-    (
+    λ other le.
+    let apart : (client == other) ≡ false = grind (arith, nat_tests) in
+    own_append other front mine ∙ ap (λ (ts : List Tagged). ts ++ own other mine) (none other (omega (arith, le)))
+    ∙ other_tagged other client bs os apart in (
       ap (λ (ts : List Tagged). bodies_by client (map as_owned (tag_sort ts))) e ∙ here
-      ∙ client_placed bs os lengths.first replied.0,
+          ∙ client_placed bs os lengths.first replied.0,
       each_whole (client + 1) (front ++ mine) all later others
-      (e ∙ sym (append_assoc front mine (all_tagged (client + 1) later others))) next lengths.rest replied.1 keeps.1,
+          (e ∙ sym (append_assoc front mine (all_tagged (client + 1) later others))) next lengths.rest replied.1 keeps.1,
     )
 
 -- ---- nobody else's
@@ -458,7 +455,7 @@ owners : (bodies : List (List (List ℕ))) (outcomes : List (List Outcome))
     → AllByRecursion (IsOfClients (length bodies)) (map as_owned (sorted bodies outcomes))
 owners bodies outcomes = all_owned (length bodies) (sorted bodies outcomes)
     (all_sorted (IsTagOf (length bodies)) (all_tagged 1 bodies outcomes)
-      (all_tags_of (length bodies) 1 bodies outcomes (omega arith) (omega arith)))
+    (all_tags_of (length bodies) 1 bodies outcomes (omega arith) (omega arith)))
 
 -- ---- what was executed
 

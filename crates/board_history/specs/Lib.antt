@@ -4,3 +4,4 @@ pub mod InTurn
 pub mod History
 pub mod Patience
 pub mod Merges
+pub mod Examples

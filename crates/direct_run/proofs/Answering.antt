@@ -116,7 +116,7 @@ module _ (answering : Answering) (any : AnsweringAny) (keeping : Keeping) (keepi
         found = is;
       }
 
-  body_told : (place : ℕ) (cells : CellMap) (body : List ℕ) → HoldsWords cells → SpellsRequests body
+  pub body_told : (place : ℕ) (cells : CellMap) (body : List ℕ) → HoldsWords cells → SpellsRequests body
       → IsTold body (Replied place (run_body cells body).reply)
   body_told place cells body holds spelled =
       let asked = spelled_words body spelled in

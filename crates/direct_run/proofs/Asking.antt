@@ -56,7 +56,7 @@ both_map R S f [] (y ∷ ys) g both = absurd both
 both_map R S f (x ∷ xs) [] g both = absurd both
 both_map R S f (x ∷ xs) (y ∷ ys) g both = (g x y both.0, both_map R S f xs ys g both.1)
 
-both_same : {A B : Type 0} (R S : A → B → Type 0) (xs : List A) (ys : List B)
+pub both_same : {A B : Type 0} (R S : A → B → Type 0) (xs : List A) (ys : List B)
     → ((x : A) (y : B) → R x y → S x y) → Both R xs ys → Both S xs ys
 both_same R S [] [] g both = tt
 both_same R S [] (y ∷ ys) g both = absurd both

@@ -6,8 +6,8 @@ mod Shown
 pub mod Answering
 pub mod Shaped
 pub mod Asking
-mod BusResults
-mod BusLines
-mod Spelled
-mod Readiness
+pub mod BusResults
+pub mod BusLines
+pub mod Spelled
+pub mod Readiness
 mod Placed

@@ -38,7 +38,7 @@ module _ (spelling : Spelling) where
   plan_spelled board Silent steps is = tt
   plan_spelled board Down steps is = tt
 
-  parts_spelled : (board : ℕ) (told : Greeting) (scripts : List (List Step)) (parts : List ClientPart)
+  pub parts_spelled : (board : ℕ) (told : Greeting) (scripts : List (List Step)) (parts : List ClientPart)
       → map (λ (p : ClientPart). p.planned) parts ≡ plans_on board told scripts
       → AllByRecursion (ArePackedFor board told) scripts → AllByRecursion AsksRequests parts
   parts_spelled board told scripts [] plans is = tt

@@ -1,13 +1,12 @@
 -- Over a link that tells: what the board executed, and its replies.
-use Rattle.std.proofs.Common.{◌≡◌, ℕ, zero, suc, ◌+◌, ◌<◌, ◌≤◌, Bool, true, false, cond, List, [], ◌∷◌, ◌++◌, length, map}
-use Rattle.std.proofs.Common.{Option, Some, None, refl, sym, ap, ◌∙◌, subst, arith, if◌then◌else◌}
+use Rattle.std.proofs.Common.{◌≡◌, ℕ, ◌+◌, ◌≤◌, List, [], ◌∷◌, ◌++◌, length, map}
+use Rattle.std.proofs.Common.{Option, Some, None, refl, sym, ap, ◌∙◌, subst, if◌then◌else◌}
 use Rattle.std.specs.Prelude.{is_some, IfSome}
 use Rattle.std.specs.List.{AllByRecursion, slice_get}
-use Rattle.std.proofs.lemmas.List.{map-append}
 use Rattle.ipb_base.specs.Lists.{IsPrefix}
-use Rattle.ipb_base.proofs.AllLemmas.{AllByRecursion-append, all-map}
+use Rattle.ipb_base.proofs.AllLemmas.{all-map}
 use Rattle.board_bus.specs.Cells.{CellMap}
-use Rattle.board_bus.specs.Bodies.{replay, run_body}
+use Rattle.board_bus.specs.Bodies.{replay}
 use Rattle.board_bus.proofs.Bodies.{replay-append-replies, replay-length}
 use Rattle.world_model.specs.declared.offered.Offered.{Offered}
 use Rattle.world_model.specs.Places.{at_place}
@@ -16,14 +15,14 @@ use Rattle.lane_record.specs.declared.outcome.Outcome.{Outcome}
 use Rattle.lane_record.specs.declared.outcome.Outcome.TheVariants.{Replied, TimedOut, Unsent, LinkLost}
 use Rattle.lane_record.specs.declared.item.Item.{Item}
 use Rattle.lane_record.specs.Outcomes.{place_of}
-use Rattle.lane_record.specs.Claims.{Claim, claims, taken, outcome_taken, IsTaken, IsFinished}
+use Rattle.lane_record.specs.Claims.{Claim, claims, taken, outcome_taken, IsFinished}
 use Rattle.lane_record.specs.Legal.{IsLegal}
 use Rattle.lane_record.specs.Offers.{offers_from}
 use Rattle.lane_record.proofs.Finished.{outcomes_taken}
 use Rattle.board_history.specs.Order.{Placed, with_place, order, bodies_of}
 use Rattle.board_history.specs.Parts.{IsReplyOf, IsExecuted, IsExecutedOnce, AreRepliesOf}
 use Rattle.lane_history.specs.Lanes.{bodies_offered, IsTrueOf}
-use Rattle.lane_history.proofs.Steps.{Step, step_for, steps_of, steps, body_in, outcome_in, of, all_of, AreStepsOf, AreOf}
+use Rattle.lane_history.proofs.Steps.{Step, steps_of, steps, outcome_in, of, all_of, AreOf}
 use Rattle.lane_history.proofs.Steps.{AreStepsOfAll, all_at}
 use Rattle.lane_history.proofs.Orders.{sent, AreInOrder, order_is}
 
@@ -70,7 +69,7 @@ pub became_outcomes : (P : Outcome → Type 0) (items : List Item) (became : Lis
     → AllByRecursion (λ (s : Step). P s.outcome) (steps items)
 became_outcomes P items became legal done all = steps_outcomes P (claims items) (taken items)
     (subst (AllByRecursion (λ (o : Option Outcome). IfSome o P)) (outcomes_taken items became legal done)
-      (all_at (λ (o : Option Outcome). IfSome o P) became (λ k o e. if_there P o (λ p same. all k p (e ∙ ap (λ z. Some z) same)))))
+    (all_at (λ (o : Option Outcome). IfSome o P) became (λ k o e. if_there P o (λ p same. all k p (e ∙ ap (λ z. Some z) same)))))
 
 -- ---- what may have been sent was sent
 
@@ -93,9 +92,9 @@ offered_sent n f (c ∷ cs) all =
     let later = one_offered n c.body (place_of all.0.0) (offers_from (n + 1) cs os) (sent (steps_of cs os))
     (offered_sent (n + 1) f cs all.1) in
     subst (λ (o : Option Outcome). map offered_body (offers_from n (c ∷ cs) (o ∷ os))
-      ≡ bodies_of (sent (steps_of (c ∷ cs) (o ∷ os)))) (sym all.0.1)
+    ≡ bodies_of (sent (steps_of (c ∷ cs) (o ∷ os)))) (sym all.0.1)
     (subst (λ (o : Option Outcome). map offered_body (offers_from n (c ∷ cs) (Some all.0.0 ∷ os))
-      ≡ bodies_of (sent (steps_of (c ∷ cs) (Some all.0.0 ∷ os)))) all.0.1 later)
+    ≡ bodies_of (sent (steps_of (c ∷ cs) (Some all.0.0 ∷ os)))) all.0.1 later)
 
 pub offered_are_sent : (items : List Item) (became : List (Option Outcome)) → IsLegal items became → IsFinished items
     → bodies_offered (claims items) became ≡ bodies_of (sent (steps items))
@@ -111,7 +110,7 @@ reply_in_order opening done all front (Replied place words) is =
     let more = (replay (replay opening done).cells front.0).replies in
     subst (λ (bs : List (List ℕ)). at_place (replay opening bs).replies place ≡ Some words) (sym front.1)
     (subst (λ (rs : List (List ℕ)). at_place rs place ≡ Some words) (sym (replay-append-replies opening done front.0))
-      (at_front (replay opening done).replies more place words is))
+    (at_front (replay opening done).replies more place words is))
 reply_in_order opening done all front (TimedOut place rounds) is = tt
 reply_in_order opening done all front Unsent is = tt
 reply_in_order opening done all front (LinkLost place) is = tt
@@ -158,6 +157,6 @@ replies_of bodies outcomes ss opening done are counts is =
     let all = bodies_of (sent ss) in
     subst (λ (ps : List Placed). AreRepliesOf opening ps outcomes) (sym (order_is bodies outcomes ss are counts))
     (each_outcome (IsReplyOf (replay opening all).replies) bodies outcomes ss are
-      (all-map (λ (s : Step). IsReplyOf (replay opening done).replies s.outcome)
-        (λ (s : Step). IsReplyOf (replay opening all).replies s.outcome) ss
-        (λ s r. reply_in_order opening done all is.front s.outcome r) is.replies))
+    (all-map (λ (s : Step). IsReplyOf (replay opening done).replies s.outcome)
+    (λ (s : Step). IsReplyOf (replay opening all).replies s.outcome) ss
+    (λ s r. reply_in_order opening done all is.front s.outcome r) is.replies))

@@ -1,26 +1,22 @@
 -- Clients that asked one after another.
-use Rattle.std.proofs.Common.{◌≡◌, ℕ, zero, suc, ◌+◌, ◌<◌, ◌≤◌, Bool, true, false, cond, ◌==◌, List, [], ◌∷◌, ◌++◌}
+use Rattle.std.proofs.Common.{◌≡◌, ℕ, zero, suc, ◌+◌, ◌<◌, ◌≤◌, ◌==◌, List, [], ◌∷◌, ◌++◌}
 use Rattle.std.proofs.Common.{length, map, Option, Some, None, refl, sym, ap, ◌∙◌, subst, arith, append_assoc}
-use Rattle.std.proofs.Common.{if◌then◌else◌, inl, inr}
-use Rattle.std.specs.Prelude.{is_some}
 use Rattle.std.specs.List.{AllByRecursion}
-use Rattle.std.proofs.lemmas.Bool.{eqb-true, eqb-false, cases_lt}
-use Rattle.std.proofs.lemmas.Bool.Decides.{nat_tests}
+use Rattle.std.proofs.lemmas.Bool.{eqb-true, eqb-false}
 use Rattle.ipb_base.proofs.AllLemmas.{AllByRecursion-append, all-map}
 use Rattle.world_model.proofs.Lists.{either}
 use Rattle.lane_record.specs.declared.outcome.Outcome.{Outcome}
 use Rattle.lane_record.specs.declared.item.Item.{Item}
-use Rattle.lane_record.specs.declared.item.What.{What}
 use Rattle.lane_record.specs.Lists.{CountsFrom, NeverFalls}
 use Rattle.lane_record.specs.Items.{ask_in}
-use Rattle.lane_record.specs.Claims.{Claim, claims, claims_behind, claim_in, taken, outcome_taken, IsFinished}
+use Rattle.lane_record.specs.Claims.{Claim, claims, claims_behind, claim_in, taken}
 use Rattle.lane_record.specs.Legal.{IsLegal}
 use Rattle.lane_record.proofs.Lookups.{claims_append}
 use Rattle.board_history.specs.Order.{Placed, all_placed, places_of}
 use Rattle.board_history.specs.InTurn.{AreInTurn}
 use Rattle.board_history.specs.Patience.{joined}
 use Rattle.lane_history.specs.Records.{plans_from, opening_from, makers, IsClientsRecord}
-use Rattle.lane_history.proofs.Steps.{Step, step_for, steps_of, steps, of, IsWithin, AreStepsOfAll, finished, steps_of_all}
+use Rattle.lane_history.proofs.Steps.{Step, step_for, steps_of, steps, of, IsWithin, finished, steps_of_all}
 use Rattle.lane_history.proofs.Orders.{sent, own_place, collected, collected_other, none_collected}
 use Rattle.lane_history.proofs.Orders.{all_collected, in_order}
 
@@ -69,9 +65,9 @@ asks_in_turn : (bodies : List (List (List ℕ))) (past items : List Item) → it
 asks_in_turn bodies past items opens f =
     let opening = opening_from 1 bodies in
     let only : claims items ≡ claims_behind opening past =
-        ap claims opens ∙ claims_append [] opening past
-        ∙ ap (λ (cs : List Claim). cs ++ claims_behind opening past)
-        (no_claims [] opening (no_asks_in_opening 1 bodies)) in
+    ap claims opens ∙ claims_append [] opening past
+    ∙ ap (λ (cs : List Claim). cs ++ claims_behind opening past)
+    (no_claims [] opening (no_asks_in_opening 1 bodies)) in
     subst (λ (cs : List Claim). NeverFalls 0 (claim_makers cs)) (sym only) (claims_in_turn 0 opening past f)
 
 abbrev pub step_makers : List Step → List ℕ
@@ -112,18 +108,18 @@ first_collected : (client many : ℕ) (s : Step) (ss : List Step) → IsWithin c
 first_collected client zero s ss within from = absurd (omega (arith, within.0, within.1))
 first_collected client (suc many) s ss within from = either
     (λ (r : List Step). sent r ++ collected (client + 1) many (s ∷ ss)
-      ≡ own_place s ++ (sent (of client ss) ++ collected (client + 1) many ss)) (s.client == client)
+    ≡ own_place s ++ (sent (of client ss) ++ collected (client + 1) many ss)) (s.client == client)
     (s ∷ of client ss) (of client ss)
     (λ e. let same = eqb-true s.client client e in
-      ap (λ (ps : List Placed). (own_place s ++ sent (of client ss)) ++ ps)
-      (collected_other (client + 1) many s ss (omega (arith, same)))
-      ∙ append_assoc (own_place s) (sent (of client ss)) (collected (client + 1) many ss))
+    ap (λ (ps : List Placed). (own_place s ++ sent (of client ss)) ++ ps)
+    (collected_other (client + 1) many s ss (omega (arith, same)))
+    ∙ append_assoc (own_place s) (sent (of client ss)) (collected (client + 1) many ss))
     (λ e. let other : s.client ≡ client → ⊥ = eqb-false s.client client e in
-      let above : client < s.client = omega (arith, within.0, other) in
-      let none = none_of client s.client ss above from in
-      ap (λ (r : List Step). sent r ++ collected (client + 1) many (s ∷ ss)) none
-      ∙ first_collected (client + 1) many s ss (omega (arith, above), omega (arith, within.1)) from
-      ∙ ap (λ (r : List Step). own_place s ++ (sent r ++ collected (client + 1) many ss)) (sym none))
+    let above : client < s.client = omega (arith, within.0, other) in
+    let none = none_of client s.client ss above from in
+    ap (λ (r : List Step). sent r ++ collected (client + 1) many (s ∷ ss)) none
+    ∙ first_collected (client + 1) many s ss (omega (arith, above), omega (arith, within.1)) from
+    ∙ ap (λ (r : List Step). own_place s ++ (sent r ++ collected (client + 1) many ss)) (sym none))
 
 collected_in_turn : (k client many : ℕ) (ss : List Step) → AllByRecursion (IsWithin client many) ss
     → NeverFalls k (step_makers ss) → collected client many ss ≡ sent ss
@@ -140,6 +136,6 @@ in_turn bodies outcomes items became is legal f =
     let counts = in_order items became legal (finished bodies outcomes items became is legal) in
     let falls = steps_in_turn 0 (claims items) (taken items) (asks_in_turn bodies is.past items is.opens f) in
     let same : all_placed bodies (map joined outcomes) ≡ sent (steps items) =
-        all_collected 1 bodies (map joined outcomes) (steps items) are.clients
-        ∙ collected_in_turn 0 1 (length bodies) (steps items) are.nobody_else falls in
+    all_collected 1 bodies (map joined outcomes) (steps items) are.clients
+    ∙ collected_in_turn 0 1 (length bodies) (steps items) are.nobody_else falls in
     subst (λ (ps : List Placed). CountsFrom 1 (places_of ps)) (sym same) counts

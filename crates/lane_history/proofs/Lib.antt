@@ -10,3 +10,6 @@ mod Merges
 mod Calm
 mod InTurn
 mod Live
+mod Ungarbled
+mod Shown
+mod Lines

@@ -1,8 +1,8 @@
 -- Look-ups in the entries of a client that ran its dispatches.
-use Rattle.std.proofs.Common.{◌≡◌, ℕ, zero, suc, ◌+◌, ◌-◌, ◌<◌, ◌≤◌, Bool, true, false, cond, ◌==◌, ◌&&◌, List, [], ◌∷◌, ◌++◌}
-use Rattle.std.proofs.Common.{length, map, Option, Some, None, refl, sym, ap, ◌∙◌, subst, arith, length-append, if◌then◌else◌}
+use Rattle.std.proofs.Common.{◌≡◌, ℕ, zero, suc, ◌+◌, ◌-◌, ◌≤◌, Bool, true, false, ◌==◌, ◌&&◌, List, [], ◌∷◌, ◌++◌}
+use Rattle.std.proofs.Common.{length, map, Option, Some, None, refl, sym, ap, ◌∙◌, arith, length-append, if◌then◌else◌}
 use Rattle.std.specs.Prelude.{is_some}
-use Rattle.std.specs.List.{AllByRecursion, flat_map, slice_get}
+use Rattle.std.specs.List.{AllByRecursion, slice_get}
 use Rattle.std.specs.Option.{option_or}
 use Rattle.std.proofs.lemmas.Bool.{eq-eqb}
 use Rattle.std.proofs.lemmas.Bool.Decides.{nat_tests}
@@ -12,11 +12,11 @@ use Rattle.world_model.proofs.Lists.{either}
 use Rattle.lane_record.specs.declared.outcome.Outcome.{Outcome}
 use Rattle.lane_record.specs.declared.item.Item.{Item}
 use Rattle.lane_record.specs.declared.item.What.{What}
-use Rattle.lane_record.specs.declared.item.What.TheVariants.{Plan, Seal, Ask, Took}
-use Rattle.lane_record.specs.Items.{plan_in, ask_in, took_in, numbers, found, is_of, give_ups}
-use Rattle.lane_record.proofs.Lookups.{found_append, numbers_append, give_ups_append}
+use Rattle.lane_record.specs.declared.item.What.TheVariants.{Plan, Ask, Took}
+use Rattle.lane_record.specs.Items.{plan_in, ask_in, took_in, numbers, found, is_of}
+use Rattle.lane_record.proofs.Lookups.{found_append, numbers_append}
 use Rattle.lane_history.specs.Records.{plans_from}
-use Rattle.lane_history.proofs.Rans.{Taking, Ran, outcome_took, outcomes_ran, ask_items, took_items, ran_items, AreWhole}
+use Rattle.lane_history.proofs.Rans.{Taking, Ran, outcome_took, ask_items, took_items, ran_items, AreWhole}
 use Rattle.lane_history.proofs.Rans.{all_asked, all_took}
 
 -- ---- entries of other kinds
@@ -90,11 +90,11 @@ found_rest : {A : Type 0} (kind : What → Option A) (client seq j : ℕ) (what 
 found_rest kind client seq j what rest =
     let on : seq + suc j ≡ seq + 1 + j = omega arith in
     ap (option_or (if is_of client (seq + suc j) (record { client = client; seq = seq; what = what })
-      then kind what else None)) (ap (λ (k : ℕ). found kind client k rest) on)
+    then kind what else None)) (ap (λ (k : ℕ). found kind client k rest) on)
     ∙ (either (λ (o : Option _). option_or o (found kind client (seq + 1 + j) rest)
-      ≡ found kind client (seq + 1 + j) rest)
-      (is_of client (seq + suc j) (record { client = client; seq = seq; what = what })) (kind what) None
-      (λ e. absurd (grind (arith, nat_tests))) (λ _. refl))
+    ≡ found kind client (seq + 1 + j) rest)
+    (is_of client (seq + suc j) (record { client = client; seq = seq; what = what })) (kind what) None
+    (λ e. absurd (grind (arith, nat_tests))) (λ _. refl))
 
 found_plans : (client seq j : ℕ) (bodies : List (List ℕ))
     → found plan_in client (seq + j) (plans_from client seq bodies) ≡ slice_get bodies j
@@ -146,11 +146,11 @@ found_ran client seq j (r ∷ rs) =
     let later_took = map outcome_took (all_took rs) in
     let behind : length (map outcome_took r.took) ≤ j
     → found took_in client (seq + j) later ≡ slice_get later_took (j - length (map outcome_took r.took)) =
-        λ le.
-        let count = length-map r.took outcome_took in
-        let number : seq + j ≡ seq + length r.took + (j - length (map outcome_took r.took)) = omega (arith, le) in
-        ap (λ (k : ℕ). found took_in client k later) number
-        ∙ found_ran client (seq + length r.took) (j - length (map outcome_took r.took)) rs in
+    λ le.
+    let count = length-map r.took outcome_took in
+    let number : seq + j ≡ seq + length r.took + (j - length (map outcome_took r.took)) = omega (arith, le) in
+    ap (λ (k : ℕ). found took_in client k later) number
+    ∙ found_ran client (seq + length r.took) (j - length (map outcome_took r.took)) rs in
     found_append took_in client (seq + j) asks (tooks ++ later)
     ∙ ap (λ (o : Option Outcome). option_or o (found took_in client (seq + j) (tooks ++ later)))
     (none_found took_in client (seq + j) asks (asks_are_not took_in client seq r.asked (λ n. refl)))
@@ -215,7 +215,7 @@ own_took client seq bodies rs =
     found_append took_in client seq (plans_from client 0 bodies) (ran_items client 0 rs)
     ∙ ap (λ (o : Option Outcome). option_or o (found took_in client seq (ran_items client 0 rs)))
     (none_found took_in client seq (plans_from client 0 bodies)
-      (plans_are_not took_in client 0 bodies (λ body. refl)))
+    (plans_are_not took_in client 0 bodies (λ body. refl)))
     ∙ ap (λ (k : ℕ). found took_in client k (ran_items client 0 rs)) same
     ∙ found_ran client 0 seq rs
 

@@ -1,23 +1,19 @@
 -- What each client left in a record that opens with the Plans of all and the Seal.
-use Rattle.std.proofs.Common.{◌≡◌, ℕ, suc, ◌+◌, ◌<◌, ◌≤◌, Bool, true, false, cond, ◌==◌, List, [], ◌∷◌, ◌++◌, length, map}
-use Rattle.std.proofs.Common.{Option, Some, None, refl, sym, ap, ◌∙◌, subst, arith, append_assoc, append-nil, if◌then◌else◌}
+use Rattle.std.proofs.Common.{◌≡◌, ℕ, ◌+◌, ◌<◌, ◌≤◌, true, false, ◌==◌, List, [], ◌∷◌, ◌++◌, length, map}
+use Rattle.std.proofs.Common.{refl, sym, ap, ◌∙◌, subst, arith, append_assoc, append-nil}
 use Rattle.std.specs.Prelude.{is_some}
-use Rattle.std.specs.List.{AllByRecursion, flat_map}
-use Rattle.std.proofs.lemmas.Bool.{eq-eqb, true≢false}
+use Rattle.std.specs.List.{AllByRecursion}
 use Rattle.std.proofs.lemmas.Bool.Decides.{nat_tests}
-use Rattle.std.proofs.lemmas.List.{length-map, map-append}
 use Rattle.ipb_base.proofs.AllLemmas.{AllByRecursion-append, all-map}
 use Rattle.world_model.proofs.Lists.{either}
 use Rattle.lane_record.specs.declared.outcome.Outcome.{Outcome}
 use Rattle.lane_record.specs.declared.item.Item.{Item}
-use Rattle.lane_record.specs.declared.item.What.{What}
-use Rattle.lane_record.specs.declared.item.What.TheVariants.{Plan, Seal, Ask, Took}
 use Rattle.lane_record.specs.Items.{ask_in}
 use Rattle.board_history.specs.Patience.{joined}
-use Rattle.lane_history.specs.Records.{act_of, acts_by, entries_by, plans_from, opening_from, seal, dispatches_from}
+use Rattle.lane_history.specs.Records.{entries_by, plans_from, opening_from, seal}
 use Rattle.lane_history.specs.Records.{DidDispatches, IsOfClient, IsClientsRecord}
 use Rattle.lane_history.proofs.Own.{by_append, all_by, none_by, only_by, IsBy}
-use Rattle.lane_history.proofs.Rans.{Ran, Taking, outcome_took, outcomes_ran, ran_items, AreWhole, rans_in, all_took}
+use Rattle.lane_history.proofs.Rans.{Ran, outcomes_ran, AreWhole, rans_in}
 use Rattle.lane_history.proofs.Lookups.{own_items}
 
 -- ---- the Plans of a client
@@ -91,25 +87,27 @@ all_ran front client (bs ∷ later) (os ∷ others) past items low none parts sh
     let rest = opening_from (client + 1) later in
     let ran = rans_in client 0 os (entries_by client past) (all_by client past) did.0 in
     let own : entries_by client items ≡ own_items client bs ran.rans =
-        ap (entries_by client) parts
-        ∙ by_append client front (opening_from client (bs ∷ later) ++ past)
-        ∙ ap (λ (xs : List Item). xs ++ entries_by client (opening_from client (bs ∷ later) ++ past))
-        (none client (omega arith))
-        ∙ by_append client (opening_from client (bs ∷ later)) past
-        ∙ ap (λ (xs : List Item). xs ++ entries_by client past) (own_opening client bs later low)
-        ∙ ap (λ (xs : List Item). plans ++ xs) ran.items in
+    ap (entries_by client) parts
+    ∙ by_append client front (opening_from client (bs ∷ later) ++ past)
+    ∙ ap (λ (xs : List Item). xs ++ entries_by client (opening_from client (bs ∷ later) ++ past))
+    (none client (omega arith))
+    ∙ by_append client (opening_from client (bs ∷ later)) past
+    ∙ ap (λ (xs : List Item). xs ++ entries_by client past) (own_opening client bs later low)
+    ∙ ap (λ (xs : List Item). plans ++ xs) ran.items in
     let none_next : (other : ℕ) → client + 1 ≤ other → entries_by other (front ++ plans) ≡ [] =
-        λ other h.
-        let apart : (client == other) ≡ false = grind (arith, nat_tests) in
-        by_append other front plans
-        ∙ ap (λ (xs : List Item). xs ++ entries_by other plans) (none other (omega arith))
-        ∙ no_plans other client 0 bs apart in
+    λ other h.
+    let apart : (client == other) ≡ false = grind (arith, nat_tests) in
+    by_append other front plans
+    ∙ ap (λ (xs : List Item). xs ++ entries_by other plans) (none other (omega arith))
+    ∙ no_plans other client 0 bs apart in
     let parts_next : items ≡ (front ++ plans) ++ (rest ++ past) =
-        parts ∙ ap (λ (xs : List Item). front ++ xs) (append_assoc plans rest past)
-        ∙ sym (append_assoc front plans (rest ++ past)) in
-    (
+    parts ∙ ap (λ (xs : List Item). front ++ xs) (append_assoc plans rest past)
+    ∙ sym (append_assoc front plans (rest ++ past)) in (
       record {
-        rans = ran.rans; whole = ran.whole; entries = own; same = ran.same;
+        rans = ran.rans;
+        whole = ran.whole;
+        entries = own;
+        same = ran.same;
         count = let heads : shape_of os ≡ length bs = cc in heads;
       },
       all_ran (front ++ plans) (client + 1) later others past items (omega arith) none_next parts_next (cc) did.1,
@@ -142,5 +140,5 @@ pub only_clients_asked : (bodies : List (List (List ℕ))) (outcomes : List (Lis
 only_clients_asked bodies outcomes items is =
     subst (AllByRecursion (IsAskWithin (length bodies))) (sym is.opens)
     (AllByRecursion-append (IsAskWithin (length bodies)) (opening_from 1 bodies) is.past
-      (no_asks_in_opening (length bodies) 1 bodies)
-      (all-map (IsOfClient (length bodies)) (IsAskWithin (length bodies)) is.past (λ x of _. of) is.nobody_else))
+    (no_asks_in_opening (length bodies) 1 bodies)
+    (all-map (IsOfClient (length bodies)) (IsAskWithin (length bodies)) is.past (λ x of _. of) is.nobody_else))

@@ -1,11 +1,10 @@
 -- The order of a board is the Asks that were sent, in their order.
-use Rattle.std.proofs.Common.{◌≡◌, ℕ, zero, suc, ◌+◌, ◌<◌, ◌≤◌, Bool, true, false, cond, ◌==◌, List, [], ◌∷◌, ◌++◌, length}
-use Rattle.std.proofs.Common.{map, Option, Some, None, refl, sym, ap, ◌∙◌, subst, arith, append_assoc, if◌then◌else◌}
+use Rattle.std.proofs.Common.{◌≡◌, ℕ, zero, suc, ◌+◌, ◌<◌, ◌≤◌, ◌==◌, List, [], ◌∷◌, ◌++◌, length}
+use Rattle.std.proofs.Common.{map, Option, Some, None, refl, sym, ap, ◌∙◌, subst, arith, append_assoc}
 use Rattle.std.specs.Prelude.{nat_le}
 use Rattle.std.specs.List.{AllByRecursion}
 use Rattle.std.proofs.lemmas.Bool.Decides.{nat_tests}
 use Rattle.lane_record.specs.declared.outcome.Outcome.{Outcome}
-use Rattle.lane_record.specs.declared.outcome.Outcome.TheVariants.{Replied, TimedOut, Unsent, LinkLost}
 use Rattle.lane_record.specs.declared.item.Item.{Item}
 use Rattle.lane_record.specs.Outcomes.{place_of}
 use Rattle.lane_record.specs.Lists.{CountsFrom}
@@ -18,7 +17,7 @@ use Rattle.board_history.specs.Order.{Placed, with_place, placed, all_placed, in
 use Rattle.board_history.specs.Order.{bodies_of, RisesFrom}
 use Rattle.board_history.specs.Parts.{HasOneOrder, KeepsScripts}
 use Rattle.board_history.proofs.Sorting.{either, IsAbove, AreAbove, insert_low, counts_above, all_sorted, sorted_all}
-use Rattle.lane_history.proofs.Steps.{Step, step_for, steps_of, steps, body_in, outcome_in, of, all_of, AreStepsOf, AreOf}
+use Rattle.lane_history.proofs.Steps.{Step, steps_of, steps, body_in, outcome_in, of, AreStepsOf, AreOf}
 use Rattle.lane_history.proofs.Steps.{IsWithin, AreStepsOfAll}
 
 -- those that have a place
@@ -44,6 +43,20 @@ sent_places (c ∷ cs) [] = refl
 sent_places (c ∷ cs) (None ∷ os) = sent_places cs os
 sent_places (c ∷ cs) (Some o ∷ os) =
     one_place c o (place_of o) (sent (steps_of cs os)) (sent_of cs os) (sent_places cs os)
+
+one_body : (c : Claim) (o : Outcome) (place : Option ℕ) (ps : List Placed) (ss : List Sent)
+    → bodies_of ps ≡ first.bodies_sent ss
+    → bodies_of (with_place c.body place ++ ps) ≡ first.bodies_sent (sent_at c o place ++ ss)
+one_body c o None ps ss e = e
+one_body c o (Some place) ps ss e = ap (λ (bs : List (List ℕ)). c.body ∷ bs) e
+
+pub sent_bodies : (cs : List Claim) (os : List (Option Outcome))
+    → bodies_of (sent (steps_of cs os)) ≡ first.bodies_sent (sent_of cs os)
+sent_bodies [] os = refl
+sent_bodies (c ∷ cs) [] = refl
+sent_bodies (c ∷ cs) (None ∷ os) = sent_bodies cs os
+sent_bodies (c ∷ cs) (Some o ∷ os) =
+    one_body c o (place_of o) (sent (steps_of cs os)) (sent_of cs os) (sent_bodies cs os)
 
 pub in_order : (items : List Item) (became : List (Option Outcome)) → IsLegal items became → IsFinished items
     → AreInOrder (steps items)
@@ -94,26 +107,26 @@ one_stands : (client many : ℕ) (s : Step) (ss : List Step) → IsWithin client
 one_stands client zero s ss h = absurd (omega (arith, h.0, h.1))
 one_stands client (suc many) s ss h = either
     (λ (r : List Step). Stands (sent r ++ collected (client + 1) many (s ∷ ss)) (own_place s)
-      (sent (of client ss) ++ collected (client + 1) many ss)) (s.client == client) (s ∷ of client ss) (of client ss)
+    (sent (of client ss) ++ collected (client + 1) many ss)) (s.client == client) (s ∷ of client ss) (of client ss)
     (λ e. let below : s.client < client + 1 = grind (arith, nat_tests) in
-      record {
-        front = [];
-        back = sent (of client ss) ++ collected (client + 1) many ss;
-        with_it = append_assoc (own_place s) (sent (of client ss)) (collected (client + 1) many (s ∷ ss))
-        ∙ ap (λ (ps : List Placed). own_place s ++ (sent (of client ss) ++ ps))
-        (collected_other (client + 1) many s ss below);
-        without = refl;
-      })
+    record {
+      front = [];
+      back = sent (of client ss) ++ collected (client + 1) many ss;
+      with_it = append_assoc (own_place s) (sent (of client ss)) (collected (client + 1) many (s ∷ ss))
+          ∙ ap (λ (ps : List Placed). own_place s ++ (sent (of client ss) ++ ps))
+          (collected_other (client + 1) many s ss below);
+      without = refl;
+    })
     (λ e. let apart : client + 1 ≤ s.client = grind (arith, nat_tests, h.0) in
-      let later = one_stands (client + 1) many s ss (apart, omega (arith, h.1)) in
-      record {
-        front = sent (of client ss) ++ later.front;
-        back = later.back;
-        with_it = ap (λ (ps : List Placed). sent (of client ss) ++ ps) later.with_it
-        ∙ sym (append_assoc (sent (of client ss)) later.front (own_place s ++ later.back));
-        without = ap (λ (ps : List Placed). sent (of client ss) ++ ps) later.without
-        ∙ sym (append_assoc (sent (of client ss)) later.front later.back);
-      })
+    let later = one_stands (client + 1) many s ss (apart, omega (arith, h.1)) in
+    record {
+      front = sent (of client ss) ++ later.front;
+      back = later.back;
+      with_it = ap (λ (ps : List Placed). sent (of client ss) ++ ps) later.with_it
+          ∙ sym (append_assoc (sent (of client ss)) later.front (own_place s ++ later.back));
+      without = ap (λ (ps : List Placed). sent (of client ss) ++ ps) later.without
+          ∙ sym (append_assoc (sent (of client ss)) later.front later.back);
+    })
 
 pub none_collected : (client many : ℕ) → collected client many [] ≡ []
 none_collected client zero = refl
@@ -203,7 +216,7 @@ rises_of client k (s ∷ ss) c = either (λ (r : List Step). Rise k (sent r)) (s
     (of client ss)
     (λ _. rising_with k (place_of s.outcome) s.body (sent (of client ss)) (sent ss) c (λ j d. rises_of client j ss d))
     (λ _. rising_without k (place_of s.outcome) s.body (sent (of client ss)) (sent ss) c
-      (λ j d. rises_of client j ss d))
+    (λ j d. rises_of client j ss d))
 
 keeps_from : (client : ℕ) (bodies : List (List (List ℕ))) (outcomes : List (List Outcome)) (ss : List Step)
     → AreOf client bodies outcomes ss → AreInOrder ss → KeepsScripts bodies outcomes

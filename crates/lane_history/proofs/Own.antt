@@ -1,20 +1,18 @@
 -- The entries of one client in a record.
-use Rattle.std.proofs.Common.{◌≡◌, ℕ, ◌+◌, ◌<◌, ◌≤◌, Bool, true, false, cond, ◌==◌, ◌&&◌, List, [], ◌∷◌, ◌++◌, length, map}
-use Rattle.std.proofs.Common.{Option, Some, None, refl, sym, ap, ◌∙◌, subst, arith, if◌then◌else◌}
+use Rattle.std.proofs.Common.{◌≡◌, ℕ, ◌≤◌, Bool, false, cond, ◌==◌, ◌&&◌, List, [], ◌∷◌, ◌++◌, map}
+use Rattle.std.proofs.Common.{Option, Some, None, refl, ap, ◌∙◌, arith, if◌then◌else◌}
 use Rattle.std.specs.Prelude.{is_some}
-use Rattle.std.specs.List.{AllByRecursion, filter}
+use Rattle.std.specs.List.{AllByRecursion}
 use Rattle.std.specs.Option.{option_or}
 use Rattle.std.proofs.lemmas.Bool.{eqb-true, eq-eqb}
-use Rattle.std.proofs.lemmas.Bool.Decides.{nat_tests}
 use Rattle.std.proofs.lemmas.List.Elements.{filter-append}
 use Rattle.std.proofs.lemmas.List.{map-append}
 use Rattle.world_model.proofs.Lists.{either}
 use Rattle.lane_record.specs.declared.item.Item.{Item}
 use Rattle.lane_record.specs.declared.item.What.{What}
-use Rattle.lane_record.specs.declared.item.What.TheVariants.{Plan, Seal, Ask, Took}
 use Rattle.lane_record.specs.Lists.{NeverFalls}
 use Rattle.lane_record.specs.Items.{numbers, found, is_of, give_ups, give_ups_in, and_number}
-use Rattle.lane_history.specs.Records.{Act, act_of, entries_by, acts_by}
+use Rattle.lane_history.specs.Records.{act_of, entries_by, acts_by}
 
 abbrev pub is_by : ℕ → Item → Bool
 is_by client x = x.client == client
@@ -65,7 +63,7 @@ own_numbers kind client (x ∷ xs) = either
     (λ (r : List Item). numbers kind client (x ∷ xs) ≡ numbers kind client r) (x.client == client)
     (x ∷ entries_by client xs) (entries_by client xs)
     (λ _. ap (λ (ns : List ℕ). cond ((x.client == client) && is_some (kind x.what)) (x.seq ∷ ns) ns)
-      (own_numbers kind client xs))
+    (own_numbers kind client xs))
     (λ e. rw e (own_numbers kind client xs))
 
 -- ---- numbers that never fall, and end within
@@ -100,6 +98,6 @@ own_climbs client from to [] c = c
 own_climbs client from to (x ∷ xs) c = either (λ (r : List Item). Climbs from to (give_ups r)) (x.client == client)
     (x ∷ entries_by client xs) (entries_by client xs)
     (λ _. climbs_over from to (give_ups_in x.what) (give_ups xs) (give_ups (entries_by client xs)) c
-      (λ k d. own_climbs client k to xs d))
+    (λ k d. own_climbs client k to xs d))
     (λ _. climbs_past from to (give_ups_in x.what) (give_ups xs) (give_ups (entries_by client xs)) c
-      (λ k d. own_climbs client k to xs d))
+    (λ k d. own_climbs client k to xs d))

@@ -1,13 +1,13 @@
 -- The entries of a client that ran its dispatches, with their numbers of give-ups.
-use Rattle.std.proofs.Common.{◌≡◌, ℕ, suc, ◌+◌, ◌<◌, ◌≤◌, List, [], ◌∷◌, ◌++◌, length, map}
-use Rattle.std.proofs.Common.{Option, Some, None, refl, sym, ap, ◌∙◌, subst, arith, append_assoc, length-append}
+use Rattle.std.proofs.Common.{◌≡◌, ℕ, suc, ◌+◌, List, [], ◌∷◌, ◌++◌, length, map}
+use Rattle.std.proofs.Common.{refl, ap, ◌∙◌, subst}
 use Rattle.std.specs.List.{AllByRecursion, flat_map}
 use Rattle.std.proofs.lemmas.List.{length-map}
 use Rattle.lane_record.specs.declared.outcome.Outcome.{Outcome}
 use Rattle.lane_record.specs.declared.item.Item.{Item}
 use Rattle.lane_record.specs.declared.item.What.{What}
 use Rattle.lane_record.specs.declared.item.What.TheVariants.{Plan, Seal, Ask, Took}
-use Rattle.lane_history.specs.Records.{Deed, Planned, Sealed, Asked, Taken, deed_of, Act, act_of}
+use Rattle.lane_history.specs.Records.{Asked, Taken, deed_of, Act, act_of}
 use Rattle.lane_history.specs.Records.{asks_from, tooks_from, dispatches_from}
 use Rattle.lane_history.proofs.Own.{IsBy}
 
@@ -124,7 +124,7 @@ asks_in client seq (o ∷ os) (x ∷ xs) by e =
     record {
       asked = what.give_ups ∷ later.asked;
       items = ap (λ (y : Item). y ∷ xs) (same_item x client seq (Ask what.give_ups) by.0 s what.same)
-      ∙ ap (λ (ys : List Item). record { client = client; seq = seq; what = Ask what.give_ups } ∷ ys) later.items;
+          ∙ ap (λ (ys : List Item). record { client = client; seq = seq; what = Ask what.give_ups } ∷ ys) later.items;
       count = ap suc later.count;
     }
 
@@ -148,7 +148,7 @@ tooks_in client seq (o ∷ os) (x ∷ xs) by e =
     record {
       took = record { outcome = o; give_ups = what.give_ups } ∷ later.took;
       items = ap (λ (y : Item). y ∷ xs) (same_item x client seq (Took o what.give_ups) by.0 s what.same)
-      ∙ ap (λ (ys : List Item). record { client = client; seq = seq; what = Took o what.give_ups } ∷ ys) later.items;
+          ∙ ap (λ (ys : List Item). record { client = client; seq = seq; what = Took o what.give_ups } ∷ ys) later.items;
       same = ap (λ (zs : List Outcome). o ∷ zs) later.same;
     }
 
@@ -183,7 +183,7 @@ rans_in client seq (outcomes ∷ later) xs by e =
     let asks = asks_in client seq outcomes one.front by_one.0 one.first in
     let tooks = tooks_in client seq outcomes two.front by_two.0 two.first in
     let count : length outcomes ≡ length tooks.took =
-        ap length tooks.same ∙ length-map tooks.took outcome_took in
+    ap length tooks.same ∙ length-map tooks.took outcome_took in
     let rest = rans_in client (seq + length tooks.took) later two.back by_two.1
     (subst (λ (k : ℕ). map act_of two.back ≡ dispatches_from (seq + k) later) count two.second) in
     let run : Ran = record { asked = asks.asked; took = tooks.took } in
@@ -191,9 +191,9 @@ rans_in client seq (outcomes ∷ later) xs by e =
       rans = run ∷ rest.rans;
       whole = (asks.count ∙ count, rest.whole);
       items = one.parts ∙ ap (λ (ys : List Item). ys ++ one.back) asks.items
-      ∙ ap (λ (ys : List Item). ask_items client seq asks.asked ++ ys)
-      (two.parts ∙ ap (λ (ys : List Item). ys ++ two.back) tooks.items
-      ∙ ap (λ (ys : List Item). took_items client seq tooks.took ++ ys) rest.items);
+          ∙ ap (λ (ys : List Item). ask_items client seq asks.asked ++ ys)
+          (two.parts ∙ ap (λ (ys : List Item). ys ++ two.back) tooks.items
+          ∙ ap (λ (ys : List Item). took_items client seq tooks.took ++ ys) rest.items);
       same = ap (λ (os : List Outcome). os ∷ later) tooks.same
-      ∙ ap (λ (oss : List (List Outcome)). map outcome_took tooks.took ∷ oss) rest.same;
+          ∙ ap (λ (oss : List (List Outcome)). map outcome_took tooks.took ∷ oss) rest.same;
     }

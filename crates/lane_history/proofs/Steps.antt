@@ -1,28 +1,25 @@
 -- The bodies that were asked, in the order of the Asks, each with what became of it.
-use Rattle.std.proofs.Common.{◌≡◌, ℕ, zero, suc, ◌+◌, ◌<◌, ◌≤◌, Bool, true, false, cond, ◌==◌, ◌&&◌, List, [], ◌∷◌, ◌++◌}
+use Rattle.std.proofs.Common.{◌≡◌, ℕ, zero, suc, ◌+◌, ◌<◌, ◌≤◌, true, false, cond, ◌==◌, ◌&&◌, List, [], ◌∷◌, ◌++◌}
 use Rattle.std.proofs.Common.{length, map, drop, Option, Some, None, refl, sym, ap, ◌∙◌, subst, arith, if◌then◌else◌}
-use Rattle.std.proofs.Common.{length-append, inl, inr}
+use Rattle.std.proofs.Common.{inl, inr}
 use Rattle.std.specs.Prelude.{is_some}
-use Rattle.std.specs.List.{AllByRecursion, flat_map, slice_get}
+use Rattle.std.specs.List.{AllByRecursion, slice_get}
 use Rattle.std.proofs.lemmas.Bool.{eqb-true, eq-eqb, cases_lt}
 use Rattle.std.proofs.lemmas.List.{length-map, map-append}
 use Rattle.ipb_base.proofs.AllLemmas.{AllByRecursion-append, all-map}
 use Rattle.world_model.proofs.Lists.{either, all_get}
 use Rattle.lane_record.specs.declared.outcome.Outcome.{Outcome}
 use Rattle.lane_record.specs.declared.item.Item.{Item}
-use Rattle.lane_record.specs.declared.item.What.{What}
-use Rattle.lane_record.specs.declared.item.What.TheVariants.{Plan, Seal, Ask, Took}
 use Rattle.lane_record.specs.Lists.{CountsFrom}
 use Rattle.lane_record.specs.Items.{plan_in, ask_in, took_in, numbers, found}
-use Rattle.lane_record.specs.Claims.{Claim, claims, claims_behind, claim_in, IsAskOf, outcome_taken, taken, IsTaken, IsFinished}
+use Rattle.lane_record.specs.Claims.{Claim, claims, claims_behind, claim_in, outcome_taken, taken, IsTaken, IsFinished}
 use Rattle.lane_record.specs.Legal.{IsLegal}
-use Rattle.lane_record.proofs.Lookups.{found_within}
 use Rattle.lane_record.proofs.Finished.{asked_as_planned}
 use Rattle.board_history.specs.Patience.{joined}
-use Rattle.lane_history.specs.Records.{entries_by, IsOfClient, IsClientsRecord}
+use Rattle.lane_history.specs.Records.{IsClientsRecord}
 use Rattle.lane_history.proofs.Own.{own_found, own_numbers}
-use Rattle.lane_history.proofs.Rans.{Ran, Taking, outcome_took, outcomes_ran, ran_items, AreWhole, all_took, all_asked}
-use Rattle.lane_history.proofs.Lookups.{own_items, own_plan, own_took, own_count, same_counts}
+use Rattle.lane_history.proofs.Rans.{Ran, outcome_took, outcomes_ran, all_took}
+use Rattle.lane_history.proofs.Lookups.{own_plan, own_took, own_count, same_counts}
 use Rattle.lane_history.proofs.Opening.{ClientRan, AllRan, IsAskWithin, each_ran, only_clients_asked}
 
 pub record Step : Type 0 where
@@ -58,10 +55,10 @@ pub of_append : (client : ℕ) (xs ys : List Step) → of client (xs ++ ys) ≡ 
 of_append client [] ys = refl
 of_append client (x ∷ xs) ys = elim (x.client == client) as
     (λ b. cond b (x ∷ of client (xs ++ ys)) (of client (xs ++ ys))
-      ≡ cond b (x ∷ of client xs) (of client xs) ++ of client ys) [
-    | true ↦ ap (λ (zs : List Step). x ∷ zs) (of_append client xs ys)
-    | false ↦ of_append client xs ys
-  ]
+    ≡ cond b (x ∷ of client xs) (of client xs) ++ of client ys) [
+      | true ↦ ap (λ (zs : List Step). x ∷ zs) (of_append client xs ys)
+      | false ↦ of_append client xs ys
+    ]
 
 pub all_of : (P : Step → Type 0) (client : ℕ) (ss : List Step) → AllByRecursion P ss → AllByRecursion P (of client ss)
 all_of P client [] all = tt
@@ -97,7 +94,7 @@ claims_of_asks P front [] all = tt
 claims_of_asks P front (x ∷ xs) all = AllByRecursion-append (λ (c : Claim). P c.client)
     (claim_in front x (ask_in x.what)) (claims_behind (front ++ x ∷ []) xs)
     (elim (ask_in x.what) as (λ o. (is_some o ≡ true → P x.client)
-      → AllByRecursion (λ (c : Claim). P c.client) (claim_in front x o)) [
+    → AllByRecursion (λ (c : Claim). P c.client) (claim_in front x o)) [
       | None ↦ λ f. tt
       | Some n ↦ λ f. (f refl, tt)
     ] all.0)
@@ -113,15 +110,15 @@ seq_first : (client : ℕ) (front : List Item) (x : Item) (later : List Claim) (
     ≡ (if (x.client == client) && is_some o then x.seq ∷ seqs_of client later else seqs_of client later)
 seq_first client front x later None = elim (x.client == client) as
     (λ b. seqs_of client later ≡ (if b && false then x.seq ∷ seqs_of client later else seqs_of client later)) [
-    | true ↦ refl
-    | false ↦ refl
-  ]
+      | true ↦ refl
+      | false ↦ refl
+    ]
 seq_first client front x later (Some n) = elim (x.client == client) as
     (λ b. (if b then x.seq ∷ seqs_of client later else seqs_of client later)
-      ≡ (if b && true then x.seq ∷ seqs_of client later else seqs_of client later)) [
-    | true ↦ refl
-    | false ↦ refl
-  ]
+    ≡ (if b && true then x.seq ∷ seqs_of client later else seqs_of client later)) [
+      | true ↦ refl
+      | false ↦ refl
+    ]
 
 pub claims_seqs : (client : ℕ) (front xs : List Item) → seqs_of client (claims_behind front xs) ≡ numbers ask_in client xs
 claims_seqs client front [] = refl
@@ -142,8 +139,8 @@ steps_seqs client f (c ∷ cs) all =
     let s : Step = record { client = c.client; seq = c.seq; body = c.body; outcome = all.0.0 } in
     ap (λ (o : Option Outcome). map seq_in (of client (step_for c o ++ steps_of cs (map f cs)))) all.0.1
     ∙ (elim (c.client == client) as
-      (λ b. map seq_in (if b then s ∷ of client (steps_of cs (map f cs)) else of client (steps_of cs (map f cs)))
-        ≡ (if b then c.seq ∷ seqs_of client cs else seqs_of client cs)) [
+    (λ b. map seq_in (if b then s ∷ of client (steps_of cs (map f cs)) else of client (steps_of cs (map f cs)))
+    ≡ (if b then c.seq ∷ seqs_of client cs else seqs_of client cs)) [
       | true ↦ ap (λ (ns : List ℕ). c.seq ∷ ns) (steps_seqs client f cs all.1)
       | false ↦ steps_seqs client f cs all.1
     ])
@@ -152,13 +149,13 @@ steps_seqs client f (c ∷ cs) all =
 pub steps_all : (P : Step → Type 0) (f : Claim → Option Outcome) (cs : List Claim)
     → AllByRecursion
     (λ (c : Claim). (o : Outcome) → f c ≡ Some o
-      → P (record { client = c.client; seq = c.seq; body = c.body; outcome = o })) cs
+    → P (record { client = c.client; seq = c.seq; body = c.body; outcome = o })) cs
     → AllByRecursion P (steps_of cs (map f cs))
 steps_all P f [] all = tt
 steps_all P f (c ∷ cs) all = AllByRecursion-append P (step_for c (f c)) (steps_of cs (map f cs))
     (elim (f c) as (λ o. ((p : Outcome) → o ≡ Some p
-      → P (record { client = c.client; seq = c.seq; body = c.body; outcome = p }))
-      → AllByRecursion P (step_for c o)) [
+    → P (record { client = c.client; seq = c.seq; body = c.body; outcome = p }))
+    → AllByRecursion P (step_for c o)) [
       | None ↦ λ g. tt
       | Some o ↦ λ g. (g o refl, tt)
     ] all.0)
@@ -185,9 +182,9 @@ read_off f k (s ∷ ss) xs counts all le =
     let here : slice_get xs k ≡ Some (f s) = subst (λ (n : ℕ). slice_get xs n ≡ Some (f s)) counts.0 all.0 in
     let up : k + 1 ≡ suc k = omega arith in
     sym (drop_at k xs (f s) here
-      ∙ ap (λ ys. f s ∷ ys)
-      (ap (λ (n : ℕ). drop n xs) (sym up)
-        ∙ sym (read_off f (k + 1) ss xs counts.1 all.1 (omega (arith, le)))))
+    ∙ ap (λ ys. f s ∷ ys)
+    (ap (λ (n : ℕ). drop n xs) (sym up)
+    ∙ sym (read_off f (k + 1) ss xs counts.1 all.1 (omega (arith, le)))))
 
 -- ---- every Ask has its Took
 
@@ -213,15 +210,15 @@ pub holds : (client : ℕ) (bodies : List (List ℕ)) (dispatches : List (List O
     → ClientRan client bodies dispatches items → Holds client bodies (joined dispatches) items
 holds client bodies dispatches items ran =
     let outcomes : joined dispatches ≡ map outcome_took (all_took ran.rans) =
-        ap joined ran.same ∙ joined_outcomes ran.rans in
+    ap joined ran.same ∙ joined_outcomes ran.rans in
     record {
       plan_is = λ seq. own_found plan_in client seq items ∙ ap (found plan_in client seq) ran.entries
-      ∙ own_plan client seq bodies ran.rans;
+          ∙ own_plan client seq bodies ran.rans;
       took_is = λ seq. own_found took_in client seq items ∙ ap (found took_in client seq) ran.entries
-      ∙ own_took client seq bodies ran.rans ∙ ap (λ (os : List Outcome). slice_get os seq) (sym outcomes);
+          ∙ own_took client seq bodies ran.rans ∙ ap (λ (os : List Outcome). slice_get os seq) (sym outcomes);
       asked = ap length (own_numbers ask_in client items ∙ ap (numbers ask_in client) ran.entries)
-      ∙ own_count client bodies ran.rans ∙ same_counts ran.rans ran.whole
-      ∙ sym (length-map (all_took ran.rans) outcome_took) ∙ ap length (sym outcomes);
+          ∙ own_count client bodies ran.rans ∙ same_counts ran.rans ran.whole
+          ∙ sym (length-map (all_took ran.rans) outcome_took) ∙ ap length (sym outcomes);
       same = ran.count;
     }
 
@@ -237,11 +234,11 @@ pub holds_at : (from client : ℕ) (bodies : List (List (List ℕ))) (outcomes :
 holds_at from client [] outcomes items all low high = absurd (omega (arith, low, high))
 holds_at from client (bs ∷ later) [] items all low high = absurd all
 holds_at from client (bs ∷ later) (os ∷ others) items all low high = elim (cases_lt from client) [
-    | inl after ↦ holds_at (from + 1) client later others items all.1 (omega (arith, after)) (omega (arith, high))
-    | inr here ↦ let same : from ≡ client = omega (arith, low, here) in
-        subst (λ (c : ℕ). HoldsSome c items) same
-        (record { bodies = bs; outcomes = joined os; holds' = holds from bs os items all.0 })
-  ]
+  | inl after ↦ holds_at (from + 1) client later others items all.1 (omega (arith, after)) (omega (arith, high))
+  | inr here ↦ let same : from ≡ client = omega (arith, low, here) in
+      subst (λ (c : ℕ). HoldsSome c items) same
+      (record { bodies = bs; outcomes = joined os; holds' = holds from bs os items all.0 })
+]
 
 -- the number of a client's claim is one of its numbers
 seq_among : (from client : ℕ) (cs : List Claim) (k : ℕ) (c : Claim) → slice_get cs k ≡ Some c → c.client ≡ client
@@ -255,10 +252,10 @@ seq_among from client (d ∷ cs) zero c e s counts =
     rw own (omega (arith, counted.0, seq))
 seq_among from client (d ∷ cs) (suc k) c e s counts = elim (d.client == client) as
     (λ b. CountsFrom from (if b then d.seq ∷ seqs_of client cs else seqs_of client cs)
-      → c.seq < from + length (if b then d.seq ∷ seqs_of client cs else seqs_of client cs)) [
-    | true ↦ λ counted. let later = seq_among (from + 1) client cs k c e s counted.1 in omega (arith, later)
-    | false ↦ λ counted. seq_among from client cs k c e s counted
-  ] counts
+    → c.seq < from + length (if b then d.seq ∷ seqs_of client cs else seqs_of client cs)) [
+      | true ↦ λ counted. let later = seq_among (from + 1) client cs k c e s counted.1 in omega (arith, later)
+      | false ↦ λ counted. seq_among from client cs k c e s counted
+    ] counts
 
 claim_below : (items : List Item) (k : ℕ) (c : Claim) → slice_get (claims items) k ≡ Some c
     → CountsFrom 0 (numbers ask_in c.client items) → c.seq < length (numbers ask_in c.client items)
@@ -276,12 +273,12 @@ pub finished : (bodies : List (List (List ℕ))) (outcomes : List (List (List Ou
 finished bodies outcomes items became is legal =
     let within = claims_within (length bodies) items (only_clients_asked bodies outcomes items is) in
     all_at (IsTaken items) (claims items) (λ k c e.
-      let inside = all_get (λ (d : Claim). (1 ≤ d.client) × (d.client ≤ length bodies)) (claims items) k c within e in
-      let has = holds_at 1 c.client bodies outcomes items (each_ran bodies outcomes items is) inside.0
-      (omega (arith, inside.1)) in
-      let below = claim_below items k c e (legal.asks_follow_plans.count c.client) in
-      let took = get_below has.outcomes c.seq (omega (arith, below, has.holds'.asked)) in
-      (took.0, has.holds'.took_is c.seq ∙ took.1))
+    let inside = all_get (λ (d : Claim). (1 ≤ d.client) × (d.client ≤ length bodies)) (claims items) k c within e in
+    let has = holds_at 1 c.client bodies outcomes items (each_ran bodies outcomes items is) inside.0
+    (omega (arith, inside.1)) in
+    let below = claim_below items k c e (legal.asks_follow_plans.count c.client) in
+    let took = get_below has.outcomes c.seq (omega (arith, below, has.holds'.asked)) in
+    (took.0, has.holds'.took_is c.seq ∙ took.1))
 
 -- ---- the steps of each client
 
@@ -301,9 +298,9 @@ pub steps_found : (items : List Item) (became : List (Option Outcome)) → IsLeg
     → AllByRecursion (IsFoundIn items) (steps items)
 steps_found items became legal = steps_all (IsFoundIn items) (outcome_taken items) (claims items)
     (all-map (λ (c : Claim). found plan_in c.client c.seq items ≡ Some c.body)
-      (λ (c : Claim). (o : Outcome) → outcome_taken items c ≡ Some o
-        → IsFoundIn items (record { client = c.client; seq = c.seq; body = c.body; outcome = o }))
-      (claims items) (λ c plan o took. record { plan = plan; took = took }) (step_planned items became legal))
+    (λ (c : Claim). (o : Outcome) → outcome_taken items c ≡ Some o
+    → IsFoundIn items (record { client = c.client; seq = c.seq; body = c.body; outcome = o }))
+    (claims items) (λ c plan o took. record { plan = plan; took = took }) (step_planned items became legal))
 
 -- these are the bodies and outcomes of a client
 pub record AreStepsOf (client : ℕ) (bodies : List (List ℕ)) (outcomes : List Outcome) (ss : List Step) : Type 0 where
@@ -316,21 +313,21 @@ client_steps : (client : ℕ) (bodies : List (List ℕ)) (outcomes : List Outcom
 client_steps client bodies outcomes items became legal done has =
     let mine = of client (steps items) in
     let numbered : map seq_in mine ≡ numbers ask_in client items =
-        steps_seqs client (outcome_taken items) (claims items) done ∙ claims_seqs client [] items in
+    steps_seqs client (outcome_taken items) (claims items) done ∙ claims_seqs client [] items in
     let counts : CountsFrom 0 (map seq_in mine) =
-        subst (CountsFrom 0) (sym numbered) (legal.asks_follow_plans.count client) in
+    subst (CountsFrom 0) (sym numbered) (legal.asks_follow_plans.count client) in
     let many : length mine ≡ length outcomes = sym (length-map mine seq_in) ∙ ap length numbered ∙ has.asked in
     let both : AllByRecursion (IsFoundIn items) mine =
-        all_of (IsFoundIn items) client (steps items) (steps_found items became legal) in
+    all_of (IsFoundIn items) client (steps items) (steps_found items became legal) in
     let own = of_client client (steps items) in
     let at_bodies : AllByRecursion (λ (s : Step). slice_get bodies s.seq ≡ Some s.body) mine =
-        all_both (IsFoundIn items) (λ (s : Step). s.client ≡ client)
-        (λ (s : Step). slice_get bodies s.seq ≡ Some s.body) mine
-        (λ s f c. sym (has.plan_is s.seq) ∙ ap (λ (k : ℕ). found plan_in k s.seq items) (sym c) ∙ f.plan) both own in
+    all_both (IsFoundIn items) (λ (s : Step). s.client ≡ client)
+    (λ (s : Step). slice_get bodies s.seq ≡ Some s.body) mine
+    (λ s f c. sym (has.plan_is s.seq) ∙ ap (λ (k : ℕ). found plan_in k s.seq items) (sym c) ∙ f.plan) both own in
     let at_outcomes : AllByRecursion (λ (s : Step). slice_get outcomes s.seq ≡ Some s.outcome) mine =
-        all_both (IsFoundIn items) (λ (s : Step). s.client ≡ client)
-        (λ (s : Step). slice_get outcomes s.seq ≡ Some s.outcome) mine
-        (λ s f c. sym (has.took_is s.seq) ∙ ap (λ (k : ℕ). found took_in k s.seq items) (sym c) ∙ f.took) both own in
+    all_both (IsFoundIn items) (λ (s : Step). s.client ≡ client)
+    (λ (s : Step). slice_get outcomes s.seq ≡ Some s.outcome) mine
+    (λ s f c. sym (has.took_is s.seq) ∙ ap (λ (k : ℕ). found took_in k s.seq items) (sym c) ∙ f.took) both own in
     record {
       bodies' = sym (read_off body_in 0 mine bodies counts at_bodies (omega (arith, many, has.same)));
       outcomes' = sym (read_off outcome_in 0 mine outcomes counts at_outcomes (omega (arith, many)));
@@ -371,8 +368,8 @@ steps_of_all bodies outcomes items became is legal =
     record {
       clients = clients_steps 1 bodies outcomes items became legal done (each_ran bodies outcomes items is);
       nobody_else = steps_all (IsWithin 1 (length bodies)) (outcome_taken items) (claims items)
-      (all-map (λ (c : Claim). (1 ≤ c.client) × (c.client ≤ length bodies))
-        (λ (c : Claim). (o : Outcome) → outcome_taken items c ≡ Some o
+          (all-map (λ (c : Claim). (1 ≤ c.client) × (c.client ≤ length bodies))
+          (λ (c : Claim). (o : Outcome) → outcome_taken items c ≡ Some o
           → IsWithin 1 (length bodies) (record { client = c.client; seq = c.seq; body = c.body; outcome = o }))
-        (claims items) (λ c w o _. (w.0, omega (arith, w.1))) within);
+          (claims items) (λ c w o _. (w.0, omega (arith, w.1))) within);
     }

@@ -1,13 +1,13 @@
 -- Who gave up has waited.
-use Rattle.std.proofs.Common.{◌≡◌, ℕ, zero, suc, ◌+◌, ◌*◌, ◌-◌, ◌^◌, ◌<◌, ◌≤◌, Bool, true, false, cond, ◌==◌, ◌&&◌, ◌||◌}
-use Rattle.std.proofs.Common.{List, [], ◌∷◌, ◌++◌, length, map, min, Option, Some, None, refl, sym, ap, ◌∙◌, subst, arith}
-use Rattle.std.proofs.Common.{append_assoc, append-nil, length-append, if◌then◌else◌, inl, inr}
+use Rattle.std.proofs.Common.{◌≡◌, ℕ, zero, suc, ◌+◌, ◌*◌, ◌<◌, ◌≤◌, Bool, true, false, cond, ◌==◌, ◌||◌}
+use Rattle.std.proofs.Common.{List, [], ◌∷◌, ◌++◌, length, map, Option, Some, None, refl, sym, ap, ◌∙◌, subst, arith}
+use Rattle.std.proofs.Common.{append_assoc, append-nil, if◌then◌else◌, inl, inr}
 use Rattle.std.specs.Prelude.{IfSome}
-use Rattle.std.specs.List.{AllByRecursion, count_by, flat_map, list_any, slice_get}
+use Rattle.std.specs.List.{AllByRecursion, count_by, flat_map, slice_get}
 use Rattle.std.specs.Option.{option_or, unwrap_or}
 use Rattle.std.proofs.lemmas.Bool.{eqb-true}
 use Rattle.std.proofs.lemmas.Bool.Decides.{nat_tests}
-use Rattle.std.proofs.lemmas.List.{length-map, map-append}
+use Rattle.std.proofs.lemmas.List.{length-map}
 use Rattle.std.proofs.lemmas.List.Sums.{sum_by-append, sum_by-cons}
 use Rattle.world_model.proofs.Lists.{either}
 use Rattle.lane_record.specs.declared.outcome.Outcome.{Outcome}
@@ -15,11 +15,11 @@ use Rattle.lane_record.specs.declared.item.Item.{Item}
 use Rattle.lane_record.specs.declared.item.What.{What}
 use Rattle.lane_record.specs.declared.item.What.TheVariants.{Plan, Seal, Ask, Took}
 use Rattle.lane_record.specs.Outcomes.{is_given_up, is_timed_out}
-use Rattle.lane_record.specs.Lists.{EachBehind, NeverFalls}
+use Rattle.lane_record.specs.Lists.{EachBehind}
 use Rattle.lane_record.specs.Items.{plan_in, ask_in, found, is_of, give_ups}
-use Rattle.lane_record.specs.Claims.{Claim, claims, claims_behind, claim_in, taken, outcome_taken, IsFinished}
+use Rattle.lane_record.specs.Claims.{Claim, claims, claims_behind, claim_in, taken, outcome_taken}
 use Rattle.lane_record.specs.Legal.{IsLegal, IsLate, IsLateEnough}
-use Rattle.lane_record.specs.Bounds.{IsKept, HasReached, has_timed_out, timeouts}
+use Rattle.lane_record.specs.Bounds.{IsKept, HasReached, timeouts}
 use Rattle.lane_record.proofs.Lookups.{found_append, found_other, first_or, if_some, and_true}
 use Rattle.lane_record.proofs.Sequences.{each_then}
 use Rattle.lane_record.proofs.Finished.{outcomes_taken}
@@ -27,9 +27,9 @@ use Rattle.board_history.specs.Patience.{joined, time_outs, was_given_up, times_
 use Rattle.lane_history.specs.Records.{entries_by, plans_from, IsClientsRecord}
 use Rattle.lane_history.proofs.Own.{by_append, own_found, Climbs, climbs_of, climbs_lower, own_climbs}
 use Rattle.lane_history.proofs.Rans.{Taking, Ran, outcome_took, outcomes_ran, ask_items, took_items, ran_items, AreWhole}
-use Rattle.lane_history.proofs.Lookups.{own_items, plans_are_not, none_found, tooks_are_not, found_asks}
+use Rattle.lane_history.proofs.Lookups.{plans_are_not, none_found, tooks_are_not, found_asks}
 use Rattle.lane_history.proofs.Opening.{ClientRan, AllRan, each_ran}
-use Rattle.lane_history.proofs.Steps.{Step, step_for, steps_of, steps, outcome_in, of, AreOf, IsWithin, AreStepsOfAll}
+use Rattle.lane_history.proofs.Steps.{Step, steps_of, steps, outcome_in, of, AreOf, IsWithin, AreStepsOfAll}
 use Rattle.lane_history.proofs.Steps.{steps_of_all, finished}
 
 -- ---- counts
@@ -58,35 +58,35 @@ uncounted : (p : Outcome → Bool) (client many : ℕ) (s : Step) (ss : List Ste
 uncounted p client zero s ss h = refl
 uncounted p client (suc many) s ss h = either
     (λ (r : List Step). count_by p (map outcome_in r ++ outcomes_from (client + 1) many (s ∷ ss))
-      ≡ count_by p (map outcome_in (of client ss) ++ outcomes_from (client + 1) many ss)) (s.client == client)
+    ≡ count_by p (map outcome_in (of client ss) ++ outcomes_from (client + 1) many ss)) (s.client == client)
     (s ∷ of client ss) (of client ss)
     (λ e. absurd (grind (arith, nat_tests)))
     (λ _.
-      let a = count_append p (map outcome_in (of client ss)) (outcomes_from (client + 1) many (s ∷ ss)) in
-      let b = count_append p (map outcome_in (of client ss)) (outcomes_from (client + 1) many ss) in
-      let c = uncounted p (client + 1) many s ss (omega (arith, h)) in
-      omega (arith, a, b, c))
+    let a = count_append p (map outcome_in (of client ss)) (outcomes_from (client + 1) many (s ∷ ss)) in
+    let b = count_append p (map outcome_in (of client ss)) (outcomes_from (client + 1) many ss) in
+    let c = uncounted p (client + 1) many s ss (omega (arith, h)) in
+    omega (arith, a, b, c))
 
 counted : (p : Outcome → Bool) (client many : ℕ) (s : Step) (ss : List Step) → IsWithin client many s
     → count_by p (outcomes_from client many (s ∷ ss)) ≡ cond (p s.outcome) 1 0 + count_by p (outcomes_from client many ss)
 counted p client zero s ss h = absurd (omega (arith, h.0, h.1))
 counted p client (suc many) s ss h = either
     (λ (r : List Step). count_by p (map outcome_in r ++ outcomes_from (client + 1) many (s ∷ ss))
-      ≡ cond (p s.outcome) 1 0 + count_by p (map outcome_in (of client ss) ++ outcomes_from (client + 1) many ss))
+    ≡ cond (p s.outcome) 1 0 + count_by p (map outcome_in (of client ss) ++ outcomes_from (client + 1) many ss))
     (s.client == client) (s ∷ of client ss) (of client ss)
     (λ e.
-      let below : s.client < client + 1 = grind (arith, nat_tests) in
-      let a = count_cons p s.outcome (map outcome_in (of client ss) ++ outcomes_from (client + 1) many (s ∷ ss)) in
-      let b = count_append p (map outcome_in (of client ss)) (outcomes_from (client + 1) many (s ∷ ss)) in
-      let c = count_append p (map outcome_in (of client ss)) (outcomes_from (client + 1) many ss) in
-      let d = uncounted p (client + 1) many s ss below in
-      omega (arith, a, b, c, d))
+    let below : s.client < client + 1 = grind (arith, nat_tests) in
+    let a = count_cons p s.outcome (map outcome_in (of client ss) ++ outcomes_from (client + 1) many (s ∷ ss)) in
+    let b = count_append p (map outcome_in (of client ss)) (outcomes_from (client + 1) many (s ∷ ss)) in
+    let c = count_append p (map outcome_in (of client ss)) (outcomes_from (client + 1) many ss) in
+    let d = uncounted p (client + 1) many s ss below in
+    omega (arith, a, b, c, d))
     (λ e.
-      let apart : client + 1 ≤ s.client = grind (arith, nat_tests, h.0) in
-      let a = count_append p (map outcome_in (of client ss)) (outcomes_from (client + 1) many (s ∷ ss)) in
-      let b = count_append p (map outcome_in (of client ss)) (outcomes_from (client + 1) many ss) in
-      let c = counted p (client + 1) many s ss (apart, omega (arith, h.1)) in
-      omega (arith, a, b, c))
+    let apart : client + 1 ≤ s.client = grind (arith, nat_tests, h.0) in
+    let a = count_append p (map outcome_in (of client ss)) (outcomes_from (client + 1) many (s ∷ ss)) in
+    let b = count_append p (map outcome_in (of client ss)) (outcomes_from (client + 1) many ss) in
+    let c = counted p (client + 1) many s ss (apart, omega (arith, h.1)) in
+    omega (arith, a, b, c))
 
 none_counted : (p : Outcome → Bool) (client many : ℕ) → count_by p (outcomes_from client many []) ≡ 0
 none_counted p client zero = refl
@@ -174,7 +174,7 @@ ran_numbers client seq (r ∷ rs) =
     ask_numbers client seq r.asked (took_items client seq r.took ++ later)
     ∙ ap (λ (zs : List ℕ). r.asked ++ zs)
     (took_numbers client seq r.took later
-      ∙ ap (λ (zs : List ℕ). map number_took r.took ++ zs) (ran_numbers client (seq + length r.took) rs))
+    ∙ ap (λ (zs : List ℕ). map number_took r.took ++ zs) (ran_numbers client (seq + length r.took) rs))
 
 -- ---- an Ask that is found
 
@@ -199,10 +199,14 @@ found_here client seq number front x later None c s e = absurd cc
 found_here client seq number front x later (Some n) c s e = record {
   k = 0;
   claim = record {
-    client = x.client; seq = x.seq; give_ups = n;
+    client = x.client;
+    seq = x.seq;
+    give_ups = n;
     body = unwrap_or (found plan_in x.client x.seq front) [];
   };
-  there = refl; same_client = c; same_seq = s;
+  there = refl;
+  same_client = c;
+  same_seq = s;
   same_number = let same : n ≡ number = cc in same;
 }
 
@@ -221,9 +225,12 @@ ask_found client seq number front (x ∷ xs) e =
       | inr h ↦
           let later = ask_found client seq number (front ++ x ∷ []) xs h in
           record {
-            k = length here + later.k; claim = later.claim;
+            k = length here + later.k;
+            claim = later.claim;
             there = get_past here rest later.k ∙ later.there;
-            same_client = later.same_client; same_seq = later.same_seq; same_number = later.same_number;
+            same_client = later.same_client;
+            same_seq = later.same_seq;
+            same_number = later.same_number;
           }
     ]
 
@@ -267,7 +274,7 @@ found_late front x Seal late = tt
 found_late front x (Ask n) late = tt
 found_late front x (Took o n) late = λ given.
     elim (found ask_in x.client x.seq front) as (λ z. found ask_in x.client x.seq front ≡ z
-      → IfSome z (λ asked. asked < n)) [
+    → IfSome z (λ asked. asked < n)) [
       | None ↦ λ _. tt
       | Some m ↦ λ e.
           let ask = ask_found x.client x.seq m [] front e in
@@ -283,7 +290,7 @@ late_own client front x Seal e late = tt
 late_own client front x (Ask n) e late = tt
 late_own client front x (Took o n) e late = λ given. subst (λ (z : Option ℕ). IfSome z (λ asked. asked < n))
     (subst (λ (c : ℕ). found ask_in x.client x.seq front ≡ found ask_in x.client x.seq (entries_by c front)) e
-      (own_found ask_in x.client x.seq front)) (late given)
+    (own_found ask_in x.client x.seq front)) (late given)
 
 own_late : (client : ℕ) (front xs : List Item) → EachBehind HasLate front xs
     → EachBehind HasLate (entries_by client front) (entries_by client xs)
@@ -292,10 +299,10 @@ own_late client front (x ∷ xs) late =
     let rest = own_late client (front ++ x ∷ []) xs late.1 in
     let split = by_append client front (x ∷ []) in
     let moved : EachBehind HasLate (entries_by client front ++ entries_by client (x ∷ [])) (entries_by client xs) =
-        subst (λ (zs : List Item). EachBehind HasLate zs (entries_by client xs)) split rest in
+    subst (λ (zs : List Item). EachBehind HasLate zs (entries_by client xs)) split rest in
     elim (x.client == client) as (λ b. (x.client == client) ≡ b
-      → EachBehind HasLate (entries_by client front ++ (if b then x ∷ [] else [])) (entries_by client xs)
-      → EachBehind HasLate (entries_by client front) (if b then x ∷ entries_by client xs else entries_by client xs)) [
+    → EachBehind HasLate (entries_by client front ++ (if b then x ∷ [] else [])) (entries_by client xs)
+    → EachBehind HasLate (entries_by client front) (if b then x ∷ entries_by client xs else entries_by client xs)) [
       | true ↦ λ e m. (late_own client front x x.what (eqb-true x.client client e) late.0, m)
       | false ↦ λ e m. subst (λ (zs : List Item). EachBehind HasLate zs (entries_by client xs))
           (append-nil (entries_by client front)) m
@@ -311,14 +318,13 @@ tooks_late client seq (n ∷ ns) (t ∷ ts) front at late =
     let x : Item = record { client = client; seq = seq; what = Took t.outcome t.give_ups } in
     let same : seq + 0 ≡ seq = omega arith in
     let here : found ask_in client seq front ≡ Some n =
-        subst (λ (k : ℕ). found ask_in client k front ≡ Some n) same (at 0) in
-    (
+    subst (λ (k : ℕ). found ask_in client k front ≡ Some n) same (at 0) in (
       (λ given. subst (λ (z : Option ℕ). IfSome z (λ asked. asked < t.give_ups)) here (late.0 given)),
       tooks_late client (seq + 1) ns ts (front ++ x ∷ [])
-      (λ j. let on : seq + 1 + j ≡ seq + suc j = omega arith in
-        found_other ask_in client (seq + 1 + j) front x refl ∙ ap (λ (k : ℕ). found ask_in client k front) on
-        ∙ at (suc j))
-      late.1,
+          (λ j. let on : seq + 1 + j ≡ seq + suc j = omega arith in
+          found_other ask_in client (seq + 1 + j) front x refl ∙ ap (λ (k : ℕ). found ask_in client k front) on
+          ∙ at (suc j))
+          late.1,
     )
 
 past_end : {A : Type 0} (xs : List A) (j : ℕ) → length xs ≤ j → slice_get xs j ≡ None
@@ -336,22 +342,21 @@ rans_late client seq (r ∷ rs) front whole none late =
     let later = ran_items client (seq + length r.took) rs in
     let behind = each_behind HasLate front asks (tooks ++ later) late in
     let at : (j : ℕ) → found ask_in client (seq + j) (front ++ asks) ≡ slice_get r.asked j =
-        λ j. found_append ask_in client (seq + j) front asks
-        ∙ ap (λ (z : Option ℕ). option_or z (found ask_in client (seq + j) asks)) (none j)
-        ∙ found_asks client seq j r.asked in
+    λ j. found_append ask_in client (seq + j) front asks
+    ∙ ap (λ (z : Option ℕ). option_or z (found ask_in client (seq + j) asks)) (none j)
+    ∙ found_asks client seq j r.asked in
     let next : (j : ℕ) → found ask_in client (seq + length r.took + j) ((front ++ asks) ++ tooks) ≡ None =
-        λ j. let on : seq + length r.took + j ≡ seq + (length r.took + j) = omega arith in
-        found_append ask_in client (seq + length r.took + j) (front ++ asks) tooks
-        ∙ ap (λ (z : Option ℕ). option_or z (found ask_in client (seq + length r.took + j) tooks))
-        (ap (λ (k : ℕ). found ask_in client k (front ++ asks)) on ∙ at (length r.took + j)
-          ∙ past_end r.asked (length r.took + j) (omega (arith, whole.0)))
-        ∙ none_found ask_in client (seq + length r.took + j) tooks
-        (tooks_are_not ask_in client seq r.took (λ o n. refl)) in
-    (
+    λ j. let on : seq + length r.took + j ≡ seq + (length r.took + j) = omega arith in
+    found_append ask_in client (seq + length r.took + j) (front ++ asks) tooks
+    ∙ ap (λ (z : Option ℕ). option_or z (found ask_in client (seq + length r.took + j) tooks))
+    (ap (λ (k : ℕ). found ask_in client k (front ++ asks)) on ∙ at (length r.took + j)
+    ∙ past_end r.asked (length r.took + j) (omega (arith, whole.0)))
+    ∙ none_found ask_in client (seq + length r.took + j) tooks
+    (tooks_are_not ask_in client seq r.took (λ o n. refl)) in (
       tooks_late client seq r.asked r.took (front ++ asks) at
-      (each_before HasLate (front ++ asks) tooks later behind),
+          (each_before HasLate (front ++ asks) tooks later behind),
       rans_late client (seq + length r.took) rs ((front ++ asks) ++ tooks) whole.1 next
-      (each_behind HasLate (front ++ asks) tooks later behind),
+          (each_behind HasLate (front ++ asks) tooks later behind),
     )
 
 -- ---- one dispatch that was given up
@@ -377,7 +382,7 @@ rises_in from mid to [] (t ∷ ts) e c d l g = absurd (omega (arith, e))
 rises_in from mid to (n ∷ ns) [] e c d l g = absurd (omega (arith, e))
 rises_in from mid to (n ∷ ns) (t ∷ ts) e c d l g =
     elim (is_given_up t.outcome) as (λ b. is_given_up t.outcome ≡ b
-      → (b || was_given_up (map outcome_took ts)) ≡ true → from < to) [
+    → (b || was_given_up (map outcome_took ts)) ≡ true → from < to) [
       | true ↦ λ is _.
           let h = l.0 is in
           let end = climbs_end t.give_ups to (map number_took ts) d.1 in
@@ -404,12 +409,12 @@ given_up_at_most from to (r ∷ rs) whole later c =
     let a = climbs_end from mid r.asked first.0 in
     let b = climbs_end mid end (map number_took r.took) second.0 in
     let here : cond (gave_up r) 1 0 + count_by gave_up rs + from ≤ to =
-        elim (gave_up r) as (λ g. gave_up r ≡ g → cond g 1 0 + count_by gave_up rs + from ≤ to) [
-        | true ↦ λ g.
-            let h = rises_in from mid end r.asked r.took whole.0 first.0 second.0 later.0 g in
-            omega (arith, rest, h)
-        | false ↦ λ _. omega (arith, rest, a, b)
-      ] refl in
+    elim (gave_up r) as (λ g. gave_up r ≡ g → cond g 1 0 + count_by gave_up rs + from ≤ to) [
+      | true ↦ λ g.
+          let h = rises_in from mid end r.asked r.took whole.0 first.0 second.0 later.0 g in
+          omega (arith, rest, h)
+      | false ↦ λ _. omega (arith, rest, a, b)
+    ] refl in
     subst (λ (n : ℕ). n + from ≤ to) (sym (count_cons gave_up r rs)) here
 
 -- ---- a client
@@ -424,17 +429,17 @@ client_gave_up client given_up bodies dispatches items climbs late ran =
     let plans = plans_from client 0 bodies in
     let runs = ran_items client 0 ran.rans in
     let numbers : give_ups (entries_by client items) ≡ numbers_ran ran.rans =
-        ap give_ups ran.entries ∙ plan_numbers client 0 bodies runs ∙ ran_numbers client 0 ran.rans in
+    ap give_ups ran.entries ∙ plan_numbers client 0 bodies runs ∙ ran_numbers client 0 ran.rans in
     let own : Climbs 0 given_up (numbers_ran ran.rans) =
-        subst (Climbs 0 given_up) numbers (own_climbs client 0 given_up items climbs) in
+    subst (Climbs 0 given_up) numbers (own_climbs client 0 given_up items climbs) in
     let behind : EachBehind HasLate plans runs =
-        each_behind HasLate [] plans runs
-        (subst (EachBehind HasLate []) ran.entries (own_late client [] items late)) in
+    each_behind HasLate [] plans runs
+    (subst (EachBehind HasLate []) ran.entries (own_late client [] items late)) in
     let later : AllLater ran.rans = rans_late client 0 ran.rans plans ran.whole
-        (λ j. none_found ask_in client (0 + j) plans (plans_are_not ask_in client 0 bodies (λ body. refl))) behind in
+    (λ j. none_found ask_in client (0 + j) plans (plans_are_not ask_in client 0 bodies (λ body. refl))) behind in
     let few = given_up_at_most 0 given_up ran.rans ran.whole later own in
     let same : times_given_up dispatches ≡ count_by gave_up ran.rans =
-        ap times_given_up ran.same ∙ count_map outcomes_ran was_given_up ran.rans in
+    ap times_given_up ran.same ∙ count_map outcomes_ran was_given_up ran.rans in
     omega (arith, few, same)
 
 clients_gave_up : (cost paid given_up client : ℕ) (bodies : List (List (List ℕ)))
@@ -446,8 +451,7 @@ clients_gave_up cost paid given_up client [] (os ∷ others) items enough climbs
 clients_gave_up cost paid given_up client (bs ∷ later) [] items enough climbs late all = absurd all
 clients_gave_up cost paid given_up client (bs ∷ later) (os ∷ others) items enough climbs late all =
     let few = client_gave_up client given_up bs os items climbs late all.0 in
-    let less = times_at_most (times_given_up os) given_up cost few in
-    (
+    let less = times_at_most (times_given_up os) given_up cost few in (
       omega (arith, less, enough),
       clients_gave_up cost paid given_up (client + 1) later others items enough climbs late all.1,
     )
@@ -472,12 +476,12 @@ pub has_waited : (window cost paid given_up : ℕ) (bodies : List (List (List �
 has_waited window cost paid given_up bodies outcomes items became is kept has =
     let climbs = climbs_of 0 given_up (give_ups items) (omega arith) kept.legal.give_ups_rise.rise kept.within in
     let late : EachBehind HasLate [] items = each_then IsLate HasLate [] items
-        (λ before x after _ l. found_late before x x.what l) kept.legal.give_ups_rise.later in
+    (λ before x after _ l. found_late before x x.what l) kept.legal.give_ups_rise.later in
     record {
       bodies = λ exact. subst (λ (n : ℕ). cost * n ≤ window * paid)
-      (sym (time_outs_are bodies outcomes items became is kept.legal))
-      (bodies_at_most window cost paid (timeouts became) given_up kept.few (reached (cost * given_up) paid has exact));
+          (sym (time_outs_are bodies outcomes items became is kept.legal))
+          (bodies_at_most window cost paid (timeouts became) given_up kept.few (reached (cost * given_up) paid has exact));
       dispatches = λ exact. clients_gave_up cost paid given_up 1 bodies outcomes items
-      (reached (cost * given_up) paid has exact) climbs late
-      (each_ran bodies outcomes items is);
+          (reached (cost * given_up) paid has exact) climbs late
+          (each_ran bodies outcomes items is);
     }

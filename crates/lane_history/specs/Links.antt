@@ -24,7 +24,11 @@ HasFailed link = 1 ≤ link.faults
 abbrev pub IsBoardOf : LinkSpec → Option Board → Type 0
 IsBoardOf (Sim mtu buffers first ranges fates) None = ⊥
 IsBoardOf (Sim mtu buffers first ranges fates) (Some board) = board ≡ record {
-  opening = opening_bus ranges; mtu = mtu; buffers = buffers; first = first; log = board.log;
+  opening = opening_bus ranges;
+  mtu = mtu;
+  buffers = buffers;
+  first = first;
+  log = board.log;
 }
 IsBoardOf (Udp address port wait) None = Unit {0}
 IsBoardOf (Udp address port wait) (Some board) = ⊥
@@ -32,6 +36,13 @@ IsBoardOf (Udp address port wait) (Some board) = ⊥
 -- a body is lost with the link only where the link failed
 abbrev pub IsLostOnlyIfFailed : LinkReport → Outcome → Type 0
 IsLostOnlyIfFailed link outcome = is_lost outcome ≡ true → HasFailed link
+
+-- It tells, lost, delayed and dropped no datagram, and never failed.
+pub record IsCalm (link : LinkReport) : Type 0 where
+  pub there : Board
+  pub tells : link.board ≡ Some there
+  pub held' : link.held ≡ 0
+  pub faults' : link.faults ≡ 0
 
 -- where the link tells, its board executed nothing
 abbrev pub IsUntouched : LinkReport → Type 0

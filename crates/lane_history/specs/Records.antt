@@ -1,5 +1,5 @@
 -- What clients leave in the record of a lane. Profile.
-use Rattle.std.specs.Prelude.{◌≡◌, ℕ, ◌+◌, ◌≤◌, ◌==◌, List, [], ◌∷◌, ◌++◌, length, map, Option, None, Some}
+use Rattle.std.specs.Prelude.{◌≡◌, ℕ, ◌+◌, ◌≤◌, ◌==◌, List, [], ◌∷◌, ◌++◌, length, map, Option}
 use Rattle.std.specs.List.{AllByRecursion, filter, filter_map}
 use Rattle.ipb_base.specs.Lists.{IsPrefix}
 use Rattle.lane_record.specs.declared.outcome.Outcome.{Outcome}

@@ -1,5 +1,5 @@
 -- What a run shows of boards whose links may lose, repeat, delay and reorder datagrams, and fail. Profile.
-use Rattle.std.specs.Prelude.{◌≡◌, ℕ, ◌+◌, ◌*◌, ◌≤◌, List, [], ◌∷◌, length, map, IfSome}
+use Rattle.std.specs.Prelude.{◌≡◌, ◌≢◌, ℕ, ◌+◌, ◌*◌, ◌≤◌, List, [], ◌∷◌, length, map, IfSome}
 use Rattle.std.specs.List.{AllByRecursion}
 use Rattle.ipb_base.specs.Numbers.{payload_of}
 use Rattle.mtu_packer.specs.declared.packing.TheConstants.{MIN_PAYLOAD, MAX_PAYLOAD}
@@ -12,23 +12,30 @@ use Rattle.reliable_engine.specs.Settings.{Limits}
 use Rattle.script_lang.specs.declared.operation.Step.{Step}
 use Rattle.transcript.specs.declared.greeting.Greeting.{Greeting}
 use Rattle.transcript.specs.declared.greeting.Greeting.TheVariants.{Live, Silent, Down}
+use Rattle.transcript.specs.declared.body_end.Told.TheVariants.{Garbled}
+use Rattle.transcript.specs.declared.body_end.BodyEnd.{BodyEnd}
+use Rattle.transcript.specs.declared.line.OpResult.TheVariants as result
+use Rattle.transcript.specs.declared.line.OpLine.{OpLine}
 use Rattle.transcript.specs.declared.board_run.ClientPart.{ClientPart}
 use Rattle.transcript.specs.declared.board_run.BoardRun.{BoardRun}
-use Rattle.transcript.specs.Plan.{ClientBodies}
+use Rattle.transcript.specs.Ends.{ends_of}
+use Rattle.transcript.specs.Plan.{ClientBodies, plans_on}
+use Rattle.transcript.specs.Shown.{IsPlanned}
 use Rattle.board_history.specs.Order.{order}
-use Rattle.board_history.specs.Parts.{HasOneOrder, KeepsScripts, AreRepliesOf, IsExecutedOnce}
-use Rattle.board_history.specs.History.{bodies_by_client, outcomes_by_client, dispatches_by_client}
+use Rattle.board_history.specs.Parts.{HasOneOrder, KeepsScripts, AreRepliesOf, IsExecutedOnce, AllReplied}
+use Rattle.board_history.specs.History.{ShowsHistory, bodies_by_client, outcomes_by_client, dispatches_by_client}
 use Rattle.board_history.specs.Patience.{IsPatient}
-use Rattle.board_history.specs.Merges.{IsMergeOfSome}
-use Rattle.direct_run.specs.Runs.{plans_on, opening_of}
-use Rattle.lane_history.specs.Links.{LinkReport, HasFailed, IsBoardOf, IsLostOnlyIfFailed, IsUntouched}
+use Rattle.board_history.specs.Merges.{IsMergeOfSome, IsMergeOfAll}
+use Rattle.direct_run.specs.Runs.{greeting_of, opening_of}
+use Rattle.lane_history.specs.Links.{LinkReport, HasFailed, IsBoardOf, IsLostOnlyIfFailed}
+use Rattle.lane_history.specs.Links.{IsUntouched}
 
 -- ---- what the scripts ask
 
 -- The run is of the board at this position, and shows an outcome for each body that the clients' scripts ask of it.
 pub record ShowsScripts (spec : BoardSpec) (board : ℕ) (scripts : List (List Step)) (run : BoardRun) : Type 0 where
   pub name : run.name ≡ spec.name
-  pub plans : map (λ (part : ClientPart). part.planned) run.parts ≡ plans_on board run.greeting scripts
+  pub plans : IsPlanned board scripts run
   pub shape : map length (outcomes_by_client run) ≡ map length (bodies_by_client run)
 
 -- what a live board told of the packets that it takes: a simulated one takes those of its MTU
@@ -98,6 +105,20 @@ AreRunsOver settings board (spec ∷ specs) scripts (run ∷ runs) (link ∷ lin
     IsRunOver settings spec board scripts run link × AreRunsOver settings (board + 1) specs scripts runs links
 AreRunsOver settings board specs scripts runs links = ⊥
 
+-- ---- replies
+
+-- the words of its reply, where it has one, are a reply to the body
+abbrev pub IsUngarbled : BodyEnd → Type 0
+IsUngarbled end = end.told ≢ Garbled
+
+-- so of no body of the board: each reply answers all transactions of its body
+abbrev pub NoneGarbled : BoardRun → Type 0
+NoneGarbled run = AllByRecursion (λ (part : ClientPart). AllByRecursion IsUngarbled (ends_of part)) run.parts
+
+-- no line of an operation shows so
+abbrev pub IsUngarbledLine : OpLine → Type 0
+IsUngarbledLine line = line.result ≢ result.Garbled
+
 -- ---- at any moment
 
 -- What the board at this position executed is a merge of bodies that the clients' scripts ask of it, each client's in
@@ -107,3 +128,27 @@ pub record ExecutedSome (spec : BoardSpec) (board : ℕ) (scripts : List (List S
   pub payload : ℕ
   pub told : TellsPayload spec.link payload
   pub merge : IsMergeOfSome (map (λ (p : ClientBodies). p.bodies) (plans_on board (Live payload) scripts)) done
+
+-- ---- where nothing was held and nothing failed
+
+-- Each body was replied to, and the board executed all bodies of all clients, each client's in its order.
+pub record IsWholeRun (spec : BoardSpec) (run : BoardRun) (link : LinkReport) : Type 0 where
+  pub greeting : run.greeting ≡ greeting_of spec.link
+  pub replied : AllReplied (outcomes_by_client run)
+  pub history : ShowsHistory (opening_of spec.link) run
+  pub all_executed : IfSome link.board (λ board. IsMergeOfAll (bodies_by_client run) (executed board))
+
+-- the same of all boards
+abbrev pub AreWholeRuns : List BoardSpec → List BoardRun → List LinkReport → Type 0
+AreWholeRuns [] [] [] = Unit {0}
+AreWholeRuns (spec ∷ specs) (run ∷ runs) (link ∷ links) =
+    IsWholeRun spec run link × AreWholeRuns specs runs links
+AreWholeRuns specs runs links = ⊥
+
+-- what each board executed is a merge of what the scripts ask of it
+abbrev pub AllExecutedSome : ℕ → List BoardSpec → List (List Step) → List LinkReport → Type 0
+AllExecutedSome board [] scripts [] = Unit {0}
+AllExecutedSome board (spec ∷ specs) scripts (link ∷ links) =
+    IfSome link.board (λ there. ExecutedSome spec board scripts (executed there))
+    × AllExecutedSome (board + 1) specs scripts links
+AllExecutedSome board specs scripts links = ⊥

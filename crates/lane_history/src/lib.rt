@@ -4,4 +4,6 @@
 //! lane, and what a lane keeps. This library has no code: it has the laws of these definitions.
 #![tactic(auto)]
 
-pub mod laws;
+pub mod lanes;
+pub mod records;
+pub mod runs;

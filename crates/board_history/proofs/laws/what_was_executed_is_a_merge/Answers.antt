@@ -1,4 +1,4 @@
-use Rattle.std.proofs.Common.{List, ℕ, sym, subst}
+use Rattle.std.proofs.Common.{sym, subst}
 use Rattle.board_history.specs.Merges.{IsMergeOfAll}
 use Rattle.board_history.proofs.Merging.{executed_some, executed_whole, order_whole}
 use Rattle.board_history.proofs.laws.what_was_executed_is_a_merge.Goals as goal
