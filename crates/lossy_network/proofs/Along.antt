@@ -11,11 +11,13 @@ use Rattle.board_node.specs.declared.spec.Fates.{Fates}
 use Rattle.world_model.specs.Links.{Told, heard_by, sent_on}
 use Rattle.lossy_network.specs.Fates.{fate_at}
 use Rattle.lossy_network.specs.Traffic.{Traffic, put_on}
-use Rattle.lossy_network.specs.Network.{ByBoard, ByHub, Dropped, ForHub, Front, Network, Nothing, Receipt, Taken, Taking}
+use Rattle.lossy_network.specs.Network.{ByBoard, ByHub, Dropped, ForHub, Front, Network, Nothing, Receipt, Taken}
+use Rattle.lossy_network.specs.Network.{Taking}
 use Rattle.lossy_network.specs.Network.{all_taken, called, failed, fails, front, front_of, front_with, hub_bytes}
 use Rattle.lossy_network.specs.Network.{most_takings, put_at, received, takes, with_queue}
 use Rattle.lossy_network.specs.Receipts.{GotReceipt, QuietReceipt}
-use Rattle.lossy_network.specs.Calls.{Call, Receive, RefusedReceive, RefusedSend, Send, after_call, after_calls, all_takings}
+use Rattle.lossy_network.specs.Calls.{Call, Receive, RefusedReceive, RefusedSend, Send, after_call, after_calls}
+use Rattle.lossy_network.specs.Calls.{all_takings}
 use Rattle.lossy_network.specs.Calls.{done, handing_out, taken_by, taken_in, takings}
 use Rattle.lossy_network.proofs.Hearing.{air_grows, air_longer, hub_bytes_some}
 use Rattle.lossy_network.proofs.Calls.{taken_keeps, takes_keep}
@@ -171,7 +173,8 @@ done_constants net Receive = elim (receipt_cases net) [
 done_constants net RefusedSend = refl
 done_constants net (RefusedReceive taken) = ap constants (takes_keep taken (called net))
 
-constants_by : (net : Network) (call : Call) (b : Bool) → constants (cond b (failed net) (done net call)) ≡ constants net
+constants_by : (net : Network) (call : Call) (b : Bool)
+    → constants (cond b (failed net) (done net call)) ≡ constants net
 constants_by net call true = refl
 constants_by net call false = done_constants net call
 
@@ -189,13 +192,14 @@ module _ (fates : Fates) (P : Told → Traffic → List Taking → Type 0) (kept
       let moved = kept.drops net.told net.traffic ts was.place was.rest was.queue was.no_hub was.no_board is in
       rw (was.told, was.traffic, was.taking_is) moved
   one_kept net after taking ts same (inr was) is = elim was.carried [
-    | inl un ↦ (let moved = kept.hears net.told after.told net.traffic ts was.place was.rest was.queue was.by_board un.size
-        is in rw (un.traffic, was.taking_is) moved)
+    | inl un ↦ (let moved = kept.hears net.told after.told net.traffic ts was.place was.rest was.queue was.by_board
+        un.size is in rw (un.traffic, was.taking_is) moved)
     | inr an ↦ (let moved = kept.answers net.told after.told net.traffic ts was.place was.rest was.queue was.by_board
         an.size is in rw (an.traffic, was.taking_is, same) moved)
   ]
 
-  takes_by : (k : ℕ) (net : Network) (ts : List Taking) (f : Front) → front net ≡ f → net.fates ≡ fates → AtLink P net ts
+  takes_by : (k : ℕ) (net : Network) (ts : List Taking) (f : Front) → front net ≡ f → net.fates ≡ fates
+      → AtLink P net ts
       → ((after : Network) (later : List Taking) → after.fates ≡ fates → AtLink P after later
       → AtLink P (takes k after) (later ++ takings k after))
       → AtLink P (takes (suc k) net) (ts ++ takings (suc k) net)

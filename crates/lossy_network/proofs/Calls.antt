@@ -41,8 +41,8 @@ taken_keeps net after taking is = subst (KeepsRest net) is (keeps_of net net.tra
 keeps_by : (k : ℕ) (net : Network) (f : Front) → front net ≡ f
     → ((after : Network) → takes k after ≡ with_carried after (takes k after))
     → takes (suc k) net ≡ with_carried net (takes (suc k) net)
-keeps_by k net Nothing is later = subst (λ (n : Network). n ≡ with_carried net n) (sym (still (suc k) net Nothing is refl))
-    refl
+keeps_by k net Nothing is later =
+    subst (λ (n : Network). n ≡ with_carried net n) (sym (still (suc k) net Nothing is refl)) refl
 keeps_by k net (ForHub place bytes) is later =
     subst (λ (n : Network). n ≡ with_carried net n) (sym (still (suc k) net (ForHub place bytes) is refl)) refl
 keeps_by k net (Taken taking after) is later =

@@ -17,7 +17,8 @@ use Rattle.lossy_network.specs.declared.under_way.Late.{Late}
 use Rattle.lossy_network.specs.Fates.{fate_at}
 use Rattle.lossy_network.specs.Traffic.{Traffic, due_at, is_due, meets, place_of, put_on, still_late}
 use Rattle.lossy_network.specs.Network.{ByBoard, ByHub, Dropped, Taking, new_network}
-use Rattle.lossy_network.specs.Calls.{Call, after_calls, all_takings, copies, drops, held_of, holds, place_taken, times_of}
+use Rattle.lossy_network.specs.Calls.{Call, after_calls, all_takings, copies, drops, held_of, holds, place_taken}
+use Rattle.lossy_network.specs.Calls.{times_of}
 use Rattle.lossy_network.proofs.Takings.{places-push}
 use Rattle.lossy_network.proofs.Along.{IsKept, calls_kept}
 
@@ -124,7 +125,8 @@ one_longer told bytes = length-append told.air _
 pub copies_kept : (fates : Fates) → IsKept fates (AreCopies fates)
 copies_kept fates = record {
   sends = λ told traffic ts bytes are. λ n.
-      let more = ap (λ (k : ℕ). copies_below fates k n) (one_longer told bytes) ∙ below_more fates (length told.air) n in
+      let more = ap (λ (k : ℕ). copies_below fates k n) (one_longer told bytes)
+      ∙ below_more fates (length told.air) n in
       omega (arith, are n, more, put_times n (fate_at fates (length told.air)) (length told.air) traffic);
   drops = λ told traffic ts place rest queue no_hub no_board are. λ n.
       omega (arith, are n, times_taken n ts (Dropped place), times_queue n place rest traffic.queue queue);
@@ -195,7 +197,8 @@ none_below fates n =
 
 pub sent_copies : (board : Board) (fates : Fates) (fail : List ℕ) (calls : List Call) (place : ℕ)
     → place < length (after_calls (new_network board fates fail) calls).told.air
-    → times_of (after_calls (new_network board fates fail) calls) (all_takings (new_network board fates fail) calls) place
+    → times_of (after_calls (new_network board fates fail) calls)
+    (all_takings (new_network board fates fail) calls) place
     ≡ copies (fate_at fates place)
 sent_copies board fates fail calls place below =
     let are = calls_kept fates (AreCopies fates) (copies_kept fates) calls (new_network board fates fail) [] refl
@@ -207,7 +210,8 @@ sent_copies board fates fail calls place below =
 
 pub unsent_copies : (board : Board) (fates : Fates) (fail : List ℕ) (calls : List Call) (place : ℕ)
     → length (after_calls (new_network board fates fail) calls).told.air ≤ place
-    → times_of (after_calls (new_network board fates fail) calls) (all_takings (new_network board fates fail) calls) place
+    → times_of (after_calls (new_network board fates fail) calls)
+    (all_takings (new_network board fates fail) calls) place
     ≡ 0
 unsent_copies board fates fail calls place past =
     let are = calls_kept fates (AreCopies fates) (copies_kept fates) calls (new_network board fates fail) [] refl

@@ -36,7 +36,8 @@ digit_is character is = grind (arith, nat_tests, is)
 short_character : (character : ℕ) → IsShortDelay (fate_of_character character)
 short_character character = short_or (character == 108) Lost _ (λ _. tt)
     (short_or (character == 114) Repeated _ (λ _. tt)
-    (short_or (nat_le 49 character && nat_le character 57) (Delayed (character - 48)) Delivered (digit_is character) tt))
+    (short_or (nat_le 49 character && nat_le character 57) (Delayed (character - 48)) Delivered
+    (digit_is character) tt))
 
 short_letter : (r : Option ℕ) → IsShortDelay (fate_of_letter r)
 short_letter None = tt
@@ -57,8 +58,8 @@ short_fate (Noise noise) place = short_word (slice_get (words_of noise (place + 
 
 -- ---- what is delayed was sent lately
 
--- In order of sending, and each is still to come where so many were sent: it is delayed to that place or further, and by
--- nine at most. `from` is the least place that the first one may have.
+-- In order of sending, and each is still to come where so many were sent: it is delayed to that place or further, and
+-- by nine at most. `from` is the least place that the first one may have.
 abbrev pub AreLately : ℕ → ℕ → List Late → Type 0
 AreLately count from [] = Unit {0}
 AreLately count from (late ∷ more) =
@@ -134,7 +135,8 @@ delays_kept : (fates : Fates) → IsKept fates IsLately
 delays_kept fates = record {
   sends = λ told traffic ts bytes are.
       let place = length told.air in
-      subst (λ (n : ℕ). AreLately n 0 (put_on (fate_at fates place) place traffic).delayed) (sym (one_longer told bytes))
+      subst (λ (n : ℕ). AreLately n 0 (put_on (fate_at fates place) place traffic).delayed)
+      (sym (one_longer told bytes))
       (put_lately (fate_at fates place) place traffic (short_fate fates place) are);
   drops = λ told traffic ts place rest queue no_hub no_board are. are;
   hears = λ told new traffic ts place rest queue by_board size are.

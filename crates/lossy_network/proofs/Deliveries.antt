@@ -44,7 +44,8 @@ sends_rise first count (x ∷ xs) =
     let b = is_first_send first count x.direction x.bytes in
     omega (arith, one_or_none b count, sends_rise first (cond b (count + 1) count) xs)
 
-longer_air : (first : ℕ) (air more : List Datagram) → first_sends_from first 0 air ≤ first_sends_from first 0 (air ++ more)
+longer_air : (first : ℕ) (air more : List Datagram)
+    → first_sends_from first 0 air ≤ first_sends_from first 0 (air ++ more)
 longer_air first air more =
     omega (arith, sends_append first 0 air more, sends_rise first (first_sends_from first 0 air) more)
 

@@ -14,7 +14,8 @@ use Rattle.world_model.specs.World.{World}
 use Rattle.world_core.specs.States.{IsReached}
 use Rattle.world_core.specs.declared.link.Received.{Received}
 use Rattle.world_core.specs.declared.link.Received.TheVariants.{Got, Quiet}
-use Rattle.lossy_network.specs.Network.{ForHub, Front, Network, Nothing, Receipt, Taken, Taking, all_taken, called, fails}
+use Rattle.lossy_network.specs.Network.{ForHub, Front, Network, Nothing, Receipt, Taken, Taking, all_taken, called}
+use Rattle.lossy_network.specs.Network.{fails}
 use Rattle.lossy_network.specs.Network.{front, most_takings, received, takes}
 use Rattle.lossy_network.specs.Calls.{CannotReceive, Deed, Ends, HandsOut, IsDeed, Offers, Receives, Sends, after_deed}
 use Rattle.lossy_network.specs.Calls.{after_deeds, deeds_on, hears_answer, is_silent, is_told, may_receive, sends_on}

@@ -40,10 +40,12 @@ same_weight_at (d ∷ air) birth r (suc place) = same_weight_at air birth r plac
 same_weight : (air : List Datagram) (birth : ℕ) (r : Option (List ℕ)) (places : List ℕ)
     → weight (air ++ answered birth r) places ≡ weight air places
 same_weight air birth r [] = refl
-same_weight air birth r (place ∷ places) = omega (arith, same_weight_at air birth r place, same_weight air birth r places)
+same_weight air birth r (place ∷ places) =
+    omega (arith, same_weight_at air birth r place, same_weight air birth r places)
 
 weight_split : (air : List Datagram) (place : ℕ) (late : Late) (b : Bool) (due still : List Late)
-    → weight air (map place_of (cond b (late ∷ due) due)) + weight air (map place_of (cond (not b) (late ∷ still) still))
+    → weight air (map place_of (cond b (late ∷ due) due))
+    + weight air (map place_of (cond (not b) (late ∷ still) still))
     ≡ weight_of (slice_get air late.place) + (weight air (map place_of due) + weight air (map place_of still))
 weight_split air place late true due still = omega arith
 weight_split air place late false due still = omega arith

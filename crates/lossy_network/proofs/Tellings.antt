@@ -1,6 +1,7 @@
 -- What a send and a receive of a simulated link do to what it tells.
 use Rattle.std.proofs.Common.{◌≡◌, ◌⊎◌, inl, inr, ◌∙◌, ℕ, zero, suc, ◌<◌, ◌≤◌, Bool, true, false, cond, List, []}
-use Rattle.std.proofs.Common.{◌∷◌, ◌++◌, length, nat_lt, Option, Some, None, Result, Ok, Err, refl, sym, ap, subst, arith, ◌^◌}
+use Rattle.std.proofs.Common.{◌∷◌, ◌++◌, length, nat_lt, Option, Some, None, Result, Ok, Err, refl, sym, ap, subst}
+use Rattle.std.proofs.Common.{arith, ◌^◌}
 use Rattle.std.specs.Prelude.{IfOk, OnOk, OnErr}
 use Rattle.std.specs.List.{Contains, slice_get}
 use Rattle.std.proofs.lemmas.List.Elements.{Contains-append_left, Contains-append_right, Contains-append_cases}
@@ -19,7 +20,8 @@ use Rattle.lossy_network.specs.declared.fates.DatagramFate.{DatagramFate}
 use Rattle.lossy_network.specs.declared.fates.DatagramFate.TheVariants.{Delivered, Lost, Repeated, Delayed}
 use Rattle.lossy_network.specs.Fates.{fate_at}
 use Rattle.lossy_network.specs.Traffic.{Traffic, due_at, meets, put_on}
-use Rattle.lossy_network.specs.Network.{ForHub, Front, Network, Nothing, Taken, Taking, all_taken, called, dropped, failed}
+use Rattle.lossy_network.specs.Network.{ForHub, Front, Network, Nothing, Taken, Taking, all_taken, called, dropped}
+use Rattle.lossy_network.specs.Network.{failed}
 use Rattle.lossy_network.specs.Network.{front, front_of, front_with, handed_out, hub_bytes, put_at, received}
 use Rattle.lossy_network.specs.Network.{Receipt, most_takings, sent, takes, telling_of, with_queue}
 use Rattle.lossy_network.proofs.Takings.{still, takes_one}
@@ -137,7 +139,8 @@ answered_step steps net place queue told is small (inl put) =
     let old = with_queue net (place ∷ queue) in
     let new = put_at answer (record (with_queue net queue) { told = told }) in
     let held = net.traffic.held in
-    let keeps : KeepsBut place (place ∷ queue) new.traffic.queue = (λ other inside. elim (front_cases place queue other inside) [
+    let keeps : KeepsBut place (place ∷ queue) new.traffic.queue =
+    (λ other inside. elim (front_cases place queue other inside) [
       | inl same ↦ inl same
       | inr later ↦ inr (put_keeps fate answer (with_queue net queue).traffic other later)
     ]) in
@@ -166,7 +169,8 @@ answered_step steps net place queue told is small (inr rose) =
       | inr same ↦ inl same
     ]) in
     record {
-      receives = steps.one_then [] held held new.traffic.held (telling_of old) between (telling_of new) (omega arith) rises
+      receives = steps.one_then [] held held new.traffic.held (telling_of old) between (telling_of new) (omega arith)
+          rises
           (steps.one_heard held place (telling_of old) between is refl hears (λ _. Contains-push queue answer))
           (steps.given_up held new.traffic.held answer between (telling_of new) refl refl gives_up rose);
       rises = rises;
@@ -249,7 +253,8 @@ takes_step steps (suc k) net small = steps_by steps k net (front net) refl small
 
 -- ---- a receive
 
-pub received_step : (steps : ReceiveSteps) (old : Network) → IsCount old.traffic.held → IsStep old (all_taken (called old))
+pub received_step : (steps : ReceiveSteps) (old : Network) → IsCount old.traffic.held
+    → IsStep old (all_taken (called old))
 received_step steps old small =
     let one = takes_step steps (most_takings (called old)) (called old) small in
     record { receives = one.receives; rises = one.rises; count = one.count }
@@ -281,7 +286,8 @@ is_quiet : (steps : ReceiveSteps) (old new : Network) → IsCount old.traffic.he
 is_quiet steps old new small after_is quiet =
     let one = received_step steps old small in
     subst (λ (n : Network). IsQuiet old.traffic.held n.traffic.held (telling_of old) (telling_of n))
-    (sym (after_is ∙ ap (λ (r : Receipt). r.after) quiet.is)) (record { received = one.receives; none_due = quiet.none })
+    (sym (after_is ∙ ap (λ (r : Receipt). r.after) quiet.is))
+    (record { received = one.receives; none_due = quiet.none })
 
 -- what a receive of the code says
 pub record IsReceipt (result : Result Received LinkFault) (bytes : List ℕ) (old new : Network) : Type 0 where
@@ -415,7 +421,8 @@ gots_rise (Ok Got) count small = omega arith
 gots_rise (Ok Quiet) count small = omega arith
 gots_rise (Err fault) count small = omega arith
 
-pub sends : (result : Result (Unit {0}) LinkFault) (bytes : List ℕ) (old new : Network) → OnOk result (new ≡ sent old bytes)
+pub sends : (result : Result (Unit {0}) LinkFault) (bytes : List ℕ) (old new : Network)
+    → OnOk result (new ≡ sent old bytes)
     → OnOk result (IsSent bytes old.traffic.held new.traffic.held (telling_of old) (telling_of new))
 sends (Ok unit) bytes old new is = subst
     (λ (n : Network). IsSent bytes old.traffic.held n.traffic.held (telling_of old) (telling_of n)) (sym is)

@@ -16,7 +16,8 @@ use Rattle.lossy_network.specs.declared.fates.DatagramFate.TheVariants.{Delivere
 use Rattle.lossy_network.specs.Fates.{fate_at}
 use Rattle.lossy_network.specs.Traffic.{place_of}
 use Rattle.lossy_network.specs.Network.{Network, Taking, ByBoard, Dropped, ByHub, Front, Nothing, ForHub, Taken}
-use Rattle.lossy_network.specs.Network.{Receipt, all_taken, called, failed, fails, front, most_takings, received, sent, takes}
+use Rattle.lossy_network.specs.Network.{Receipt, all_taken, called, failed, fails, front, most_takings, received}
+use Rattle.lossy_network.specs.Network.{sent, takes}
 
 -- A call: a send of these bytes, a receive, and those for which memory ran out: a send, and a receive that had taken so
 -- many datagrams.

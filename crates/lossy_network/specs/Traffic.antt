@@ -6,8 +6,8 @@ use Rattle.lossy_network.specs.declared.fates.DatagramFate.{DatagramFate}
 use Rattle.lossy_network.specs.declared.fates.DatagramFate.TheVariants.{Delivered, Lost, Repeated, Delayed}
 use Rattle.lossy_network.specs.declared.under_way.Late.{Late}
 
--- The queue of those that are ready to be heard, the next one in front; those that are delayed, in order of sending; and
--- how many were lost, delayed or dropped for age.
+-- The queue of those that are ready to be heard, the next one in front; those that are delayed, in order of sending;
+-- and how many were lost, delayed or dropped for age.
 pub record Traffic : Type 0 where
   pub queue : List ℕ
   pub delayed : List Late
@@ -36,8 +36,8 @@ due_at place delayed = map place_of (filter (is_due place) delayed)
 abbrev pub still_late : ℕ → List Late → List Late
 still_late place delayed = filter (λ late. not (is_due place late)) delayed
 
--- A datagram is sent: its fate is done. Right after it those that are delayed by so many go to the back of the queue, in
--- order of sending.
+-- A datagram is sent: its fate is done. Right after it those that are delayed by so many go to the back of the queue,
+-- in order of sending.
 abbrev pub releases : ℕ → Traffic → Traffic
 releases place traffic = record traffic {
   queue = traffic.queue ++ due_at place traffic.delayed;

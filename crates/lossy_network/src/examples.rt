@@ -1,7 +1,8 @@
-//! Worked examples: how a simulated link stands after each of some calls, and what becomes of datagrams. These functions
-//! do nothing when they run: their clauses are what is proved.
+//! Worked examples: how a simulated link stands after each of some calls, and what becomes of datagrams. These
+//! functions do nothing when they run: their clauses are what is proved.
 //!
-//! A datagram has the place in the air at which it was sent, from 0. The board has 16 words and expects the identifier 1.
+//! A datagram has the place in the air at which it was sent, from 0. The board has 16 words and expects the
+//! identifier 1.
 
 ghost use Rattle.std.specs.Prelude.{◌≡◌, [], ◌∷◌, codes};
 ghost use Rattle.board_node.specs.declared.spec.Fates.TheVariants.{Text, Noise};
@@ -62,8 +63,8 @@ pub fn a_lost_packet_is_sent_again()
         ∷ [] }
 {}
 
-/// `dd2`: the control packet comes two datagrams late, behind the reply to a status request. Sent again meanwhile, it is
-/// executed once.
+/// `dd2`: the control packet comes two datagrams late, behind the reply to a status request. Sent again meanwhile, it
+/// is executed once.
 #[tactic(auto, unfolding(crate::specs::Network::received, world_model::specs::Messages::to_board, packet_codec::specs::Reading::packet_of, packet_codec::specs::Reading::start_of, transaction_codec::specs::Request::request_at))]
 pub fn a_late_packet_is_executed_once()
     ensures { stands (codes "dd2")
@@ -116,7 +117,8 @@ pub fn fates_of_a_text_end_with_deliveries()
 /// The first forty fates of the noise 7.
 #[tactic(auto, unfolding(rand_core::specs::Steps::first_words))]
 pub fn the_first_fates_of_noise_7()
-    ensures { fates_to 40 (Noise 7) ≡ Delivered ∷ Repeated ∷ Repeated ∷ Delivered ∷ Delivered ∷ Delayed 5 ∷ Delayed 2 ∷ Delivered
+    ensures { fates_to 40 (Noise 7)
+        ≡ Delivered ∷ Repeated ∷ Repeated ∷ Delivered ∷ Delivered ∷ Delayed 5 ∷ Delayed 2 ∷ Delivered
         ∷ Delivered ∷ Lost ∷ Delivered ∷ Delivered ∷ Delayed 2 ∷ Delivered ∷ Delivered ∷ Delivered
         ∷ Delivered ∷ Lost ∷ Delivered ∷ Delivered ∷ Delivered ∷ Delivered ∷ Lost ∷ Delivered ∷ Delivered
         ∷ Repeated ∷ Delivered ∷ Delayed 5 ∷ Delivered ∷ Repeated ∷ Repeated ∷ Delayed 2 ∷ Delivered

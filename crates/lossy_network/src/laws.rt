@@ -1,7 +1,8 @@
 //! Laws of a simulated link, for every list of calls. These functions do nothing when they run: their clauses are what
 //! is proved. What a call does is what `SimLink::send` and `SimLink::receive` do.
 
-ghost use Rattle.std.specs.Prelude.{◌≡◌, ◌+◌, ◌-◌, ◌^◌, ◌==◌, ◌++◌, ◌<◌, ◌≤◌, ℕ, true, List, [], length, map, min, Some};
+ghost use Rattle.std.specs.Prelude.{◌≡◌, ◌+◌, ◌-◌, ◌^◌, ◌==◌, ◌++◌, ◌<◌, ◌≤◌, ℕ, true, List, [], length, map, min};
+ghost use Rattle.std.specs.Prelude.{Some};
 ghost use Rattle.std.specs.List.{AllByRecursion, list_all, list_any, range_with_len};
 ghost use Rattle.board_node.specs.declared.spec.Fates.{Fates};
 ghost use Rattle.board_node.specs.declared.spec.Fates.TheVariants.{Text};
@@ -29,8 +30,8 @@ pub fn a_receive_hands_out_the_first_for_the_hub()
     ensures quiet { (link : Network) → Quiet ≡ (received link).answer → QuietReceipt link }
 {}
 
-/// After any calls, those among them for which memory ran out, each datagram was taken from the queue, waits in it or is
-/// delayed as often as its fate says: once where it is delivered or delayed, twice where it is repeated, and never
+/// After any calls, those among them for which memory ran out, each datagram was taken from the queue, waits in it or
+/// is delayed as often as its fate says: once where it is delivered or delayed, twice where it is repeated, and never
 /// where it is lost. Of one that was not sent yet there is none.
 pub fn a_datagram_is_taken_as_often_as_its_fate_says()
     ensures sent { (board : Board) (fates : Fates) (fail : List ℕ) (calls : List Call) (place : ℕ)

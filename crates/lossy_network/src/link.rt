@@ -47,9 +47,9 @@ impl Model for SimLink {
 }
 
 impl SimLink {
-    /// A link to a board that has executed nothing, with an empty air and counts of 0. The calls of `send` and `receive`
-    /// are counted together from 1, and those whose numbers are in `fail` fail. `NoMemory` where memory for what can be
-    /// delayed ran out.
+    /// A link to a board that has executed nothing, with an empty air and counts of 0. The calls of `send` and
+    /// `receive` are counted together from 1, and those whose numbers are in `fail` fail. `NoMemory` where memory for
+    /// what can be delayed ran out.
     pub fn new(
         alloc: Global,
         board: Board,
@@ -132,10 +132,10 @@ impl SimLink {
         Ok(())
     }
 
-    /// Lets the board hear what is ready to be heard, up to a datagram for the hub. That one is put into `into`, in place
-    /// of what stood there; `into` is empty where there is none. `Failed` where the call's number was named. Where memory
-    /// ran out the board has heard some datagrams, each whole, and the others are still to be heard. It costs the
-    /// datagrams that are heard and their answers.
+    /// Lets the board hear what is ready to be heard, up to a datagram for the hub. That one is put into `into`, in
+    /// place of what stood there; `into` is empty where there is none. `Failed` where the call's number was named.
+    /// Where memory ran out the board has heard some datagrams, each whole, and the others are still to be heard. It
+    /// costs the datagrams that are heard and their answers.
     pub fn receive(&mut self, into: &mut Vec<u8>) -> Result<Received, LinkFault>
         ensures received { OnOk result (self.new ≡ (received self.old).after) }
         ensures answer { IfOk result (λ answer. answer ≡ (received self.old).answer) }

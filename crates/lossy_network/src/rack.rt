@@ -48,8 +48,9 @@ pub trait Rack {
     ghost faults: { Self → ℕ };
 
     /// Makes a link for a board, with counts of 0. For a simulated one its ranges are those of a bus, its MTU is 92 to
-    /// 9000 bytes and it has 1 to 64 buffers; the link tells a fresh board and an empty air. One for a board on a network
-    /// does not tell. It takes the room that keeping the link needs. No more links are ever kept than were made.
+    /// 9000 bytes and it has 1 to 64 buffers; the link tells a fresh board and an empty air. One for a board on a
+    /// network does not tell. It takes the room that keeping the link needs. No more links are ever kept than were
+    /// made.
     fn make(&mut self, spec: &BoardSpec) -> Result<Self::L, RackFault>
         requires { IsMakeable spec.now.link }
         ensures told { IfOk result (λ link. Self.L.telling link ≡ telling_for spec.now.link) }

@@ -43,8 +43,8 @@ impl Model for SimRack {
 }
 
 impl SimRack {
-    /// A rack that has made no link. The makes whose numbers, from 1, are in `fail_makes` fail, and on each link the calls
-    /// whose numbers are in `fail_calls`.
+    /// A rack that has made no link. The makes whose numbers, from 1, are in `fail_makes` fail, and on each link the
+    /// calls whose numbers are in `fail_calls`.
     pub fn new(alloc: Global, fail_makes: Vec<u64>, fail_calls: Vec<u64>) -> SimRack
         ensures { result ≡ new_rack fail_makes.items fail_calls.items }
     {
@@ -76,8 +76,8 @@ impl SimRack {
         let _kept = &self.kept;
     }
 
-    /// Makes a link for a simulated board. `Failed` where this make's number was named, and for a board on a network: the
-    /// rack counts it. It takes the room that keeping the link needs.
+    /// Makes a link for a simulated board. `Failed` where this make's number was named, and for a board on a network:
+    /// the rack counts it. It takes the room that keeping the link needs.
     pub fn make(&mut self, spec: &BoardSpec) -> Result<SimLink, RackFault>
         requires { IsMakeable spec.now.link }
         ensures made { IfOk result (λ link. link_for self.old.fail_calls spec.now.link ≡ Some link) }

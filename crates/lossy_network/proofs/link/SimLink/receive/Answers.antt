@@ -13,7 +13,8 @@ pub returns-clause-answer : goal.returns-clause-answer
 returns-clause-answer c =
     let mid : c.take_all.new.self ≡ all_taken (called c.args.self.now) =
     c.in_ok-take_all.ensures.all ∙ ap all_taken c.in_ok-count_call.ensures.ok.1 in
-    c.in_ok-hand_out.ensures.answer ∙ ap (λ (r : Receipt). r.answer) (received_is c.args.self.now c.take_all.new.self mid)
+    c.in_ok-hand_out.ensures.answer
+    ∙ ap (λ (r : Receipt). r.answer) (received_is c.args.self.now c.take_all.new.self mid)
 
 pub returns-clause-bytes : goal.returns-clause-bytes
 returns-clause-bytes c =
