@@ -1,0 +1,21 @@
+//! Tests of the board, of the hub's side of a board, of both together over a link in memory, and of what a session
+//! prints. What their clauses cannot say is run here: that each call succeeds where memory is there, and that the
+//! clauses mean the numbers of worked examples. A link in memory is proved to be a link, and a hub to run over any.
+#![tactic(auto)]
+
+#[cfg(test)]
+mod board_node_tests;
+#[cfg(test)]
+mod direct_run_tests;
+#[cfg(test)]
+mod fixtures;
+#[cfg(test)]
+mod mem_link;
+#[cfg(test)]
+mod pumping;
+#[cfg(test)]
+mod reliable_engine_tests;
+#[cfg(test)]
+mod transcript_tests;
+#[cfg(test)]
+mod world_core_tests;

@@ -1,0 +1,52 @@
+//! What a client asks of a board, and the texts of lines.
+
+ghost use Rattle.std.specs.Prelude.{◌≤◌, ◌∷◌, [], sum_by};
+ghost use Rattle.transaction_codec.specs.Request.{op_count};
+ghost use Rattle.script_lang.specs.Packing.{operations};
+
+use crate::fixtures::add;
+use ipb_base::Text;
+use script_lang::Verb;
+use std::test::Fail;
+use transcript::laws::few_words_are_few_pieces;
+use transcript::{
+    ClientParts, Greeting, LinePlaces, OpLine, OpResult, Outcomes, line_text, plan_on,
+};
+
+#[test]
+fn a_sum_is_planned(rt: HostRuntime) -> Result<(), Fail> {
+    few_words_are_few_pieces();
+    let steps = [add(rt.alloc(), 0, 7)?];
+    let planned = plan_on(rt.alloc(), &steps, 0, Greeting::Live { payload: 16 })?;
+    let [body] = planned.bodies() else {
+        return Err("not one body")?;
+    };
+    assert_eq!(rt; body.as_slice(), [0x2000_015f, 0, 7].as_slice());
+    assert_eq!(rt; planned.counts(), [1usize].as_slice());
+    assert!(rt; planned.pieces(0).is_some_and(|pieces| pieces.len() == 1));
+    Ok(())
+}
+
+#[test]
+fn a_sum_is_printed_with_the_word_before(rt: HostRuntime) -> Result<(), Fail> {
+    let line = OpLine {
+        number: 12,
+        verb: Verb::RmwSum,
+        board: Text::copy_of(rt.alloc(), "b0")?,
+        name: Text::copy_of(rt.alloc(), "a")?,
+        result: OpResult::Was(u32::MAX),
+        places: LinePlaces::from_vec([(1u64, 2u16), (3, 1)].to_vec(rt.alloc())?),
+    };
+    let text = line_text(rt.alloc(), &line)?;
+    let wanted = b"12 rmwsum b0:a was 0xffffffff @1.2,3.1\n";
+    assert_eq!(rt; text.as_slice(), wanted.as_slice());
+    Ok(())
+}
+
+#[test]
+fn lists_are_kept_and_given_back(rt: HostRuntime) {
+    let alloc = rt.alloc();
+    assert!(rt; ClientParts::from_vec(Vec::new(alloc)).into_vec().is_empty());
+    assert!(rt; Outcomes::from_vec(Vec::new(alloc)).into_vec().is_empty());
+    assert!(rt; LinePlaces::from_vec(Vec::new(alloc)).into_vec().is_empty());
+}

@@ -1,0 +1,38 @@
+//! The documents of these tests.
+
+/// A board whose registers stand in a module, and two clients.
+pub(crate) const SESSION: &str = r#"
+rounds = 255
+window = 4
+[[tables.channel]]
+id = "ctrl"
+nodes = [{ id = "gain", mask = "0xf0" }]
+[[tables.channel]]
+id = "buffer"
+address = "0x10"
+mode = "block"
+size = 16
+[[tables.front]]
+id = "ch1"
+address = 0x200
+mode = "hierarchical"
+module = "channel"
+tags = "slow"
+description = "the first channel"
+[[board]]
+name = "fe0"
+table = "front"
+ranges = [{ base = 0x200, size = 32, init = [5] }]
+[[client]]
+script = ["read fe0:ch1.ctrl.gain", "dispatch", "writeblock fe0:ch1.buffer 1 2"]
+[[client]]
+script = []
+"#;
+
+/// Boards on two links: with noise, and behind UDP.
+pub(crate) const LINKS: &str = r#"
+board = [
+  { name = "n", table = "t", first = 9, noise = 8, ranges = [{ base = 1, size = 2 }] },
+  { name = "u", table = "t", link = "udp", address = "10.0.255.1:50001" },
+]
+"#;
