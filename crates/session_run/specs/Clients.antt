@@ -1,0 +1,94 @@
+-- What a client that runs alone leaves in the record of a lane. Profile.
+use Rattle.std.specs.Prelude.{◌≡◌, ℕ, ◌+◌, ◌≤◌, ◌<◌, List, [], ◌∷◌, ◌++◌, length, map, sum, Option, None}
+use Rattle.std.specs.List.{AllByRecursion}
+use Rattle.ipb_base.specs.Lists.{IsPrefix}
+use Rattle.world_core.specs.Telling.{IfTelling, Telling}
+use Rattle.lane_record.specs.declared.outcome.Outcome.{Outcome}
+use Rattle.lane_record.specs.declared.item.Item.{Item}
+use Rattle.lane_record.specs.Items.{asked, found, is_sealed, plan_in, planned, took_in}
+use Rattle.lane_record.specs.NextEntry.{took_of}
+use Rattle.hub_lane.specs.Calls.{WasAsked}
+use Rattle.hub_lane.specs.Lanes.{LaneState}
+use Rattle.board_history.specs.Patience.{joined}
+use Rattle.transcript.specs.Plan.{ClientBodies}
+use Rattle.lane_history.specs.Records.{Act, Asked, act_of, dispatches_from, plans_from, tooks_from}
+
+-- ---- entries
+
+abbrev pub IsBy : ℕ → Item → Type 0
+IsBy client x = x.client ≡ client
+
+-- a record went on by entries of this client alone, which say this
+pub record GoesOnBy (client : ℕ) (acts : List Act) (old new : List Item) : Type 0 where
+  pub more : List Item
+  pub grown : new ≡ old ++ more
+  pub own : AllByRecursion (IsBy client) more
+  pub said : map act_of more ≡ acts
+
+-- an entry of a client that is no Plan
+pub record IsLater (client : ℕ) (x : Item) : Type 0 where
+  pub own : x.client ≡ client
+  pub no_plan : plan_in x.what ≡ None
+
+-- a record went on by entries of this client alone, none of which is a Plan
+pub record GoesOnLater (client : ℕ) (old new : List Item) : Type 0 where
+  pub more : List Item
+  pub grown : new ≡ old ++ more
+  pub each : AllByRecursion (IsLater client) more
+
+-- so many Asks from a number on
+abbrev pub asks_of : ℕ → ℕ → List Act
+asks_of seq 0 = []
+asks_of seq (suc count) = record { seq = seq; deed = Asked } ∷ asks_of (seq + 1) count
+
+-- The client has taken what became of its first bodies, so many, and waits for the others that it asked.
+pub record HasTaken (client taken : ℕ) (items : List Item) : Type 0 where
+  pub waiting : (seq : ℕ) → taken ≤ seq → seq < asked client items → WasAsked items client seq
+  pub untaken : (seq : ℕ) → asked client items ≤ seq → found took_in client seq items ≡ None
+
+-- what became of one body was taken
+pub record TookOne (client seq : ℕ) (old new : List Item) (outcome : Outcome) : Type 0 where
+  pub give_ups : ℕ
+  pub entry : new ≡ old ++ took_of client seq outcome give_ups ∷ []
+
+-- what became of the next bodies was taken, so many
+pub record TookAll (client count : ℕ) (before now : List Outcome) (old new : List Item) : Type 0 where
+  pub came : List Outcome
+  pub pushed : now ≡ before ++ came
+  pub many : length came ≡ count
+  pub entries : GoesOnBy client (tooks_from (length before) came) old new
+
+-- A client asked and took dispatch by dispatch, as many bodies in each as `counts` says.
+pub record RanClient (client : ℕ) (counts : List ℕ) (outcomes : List Outcome) (old new : List Item) : Type 0 where
+  pub dispatches : List (List Outcome)
+  pub same : outcomes ≡ joined dispatches
+  pub cut : map length dispatches ≡ counts
+  pub entries : GoesOnBy client (dispatches_from 0 dispatches) old new
+
+-- ---- the lane around its record
+
+-- the board is the same one, whatever it executed meanwhile
+abbrev pub IsSameBoard : Telling → Telling → Type 0
+IsSameBoard old new = record new.told.board { log = old.told.board.log } ≡ old.told.board
+
+-- the lane is of the same board: `before` and `now` are what its link tells
+pub record KeepsLane {L : Type 0} (old new : LaneState L) (before now : Option Telling) : Type 0 where
+  pub settings : new.settings ≡ old.settings
+  pub status : new.status ≡ old.status
+  pub board : IfTelling before now IsSameBoard
+
+-- the lane but for its record
+abbrev pub with_items : {L : Type 0} → LaneState L → List Item → LaneState L
+with_items lane more = record lane { items = lane.items ++ more }
+
+-- ---- Plans
+
+-- a client planned a front of these bodies, and did nothing else
+pub record PlannedSome {L : Type 0} (client : ℕ) (bodies : List (List ℕ)) (old new : LaneState L) : Type 0 where
+  pub front : List (List ℕ)
+  pub is_front : IsPrefix front bodies
+  pub became : new ≡ with_items old (plans_from client 0 front)
+
+-- a plan cuts its bodies into dispatches, all of them
+abbrev pub HasItsCounts : ClientBodies → Type 0
+HasItsCounts plan = sum plan.counts ≡ length plan.bodies

@@ -1,0 +1,44 @@
+-- What the links of a session show once it ended. Profile.
+use Rattle.std.specs.Prelude.{◌≡◌, ℕ, ◌+◌, List, [], ◌∷◌, ◌++◌, Option, Some, None, IfSome}
+use Rattle.world_model.specs.Board.{Board, executed}
+use Rattle.world_core.specs.Telling.{Telling}
+use Rattle.board_node.specs.declared.spec.BoardSpec.{BoardSpec}
+use Rattle.board_node.specs.declared.spec.LinkSpec.{LinkSpec}
+use Rattle.board_node.specs.declared.spec.LinkSpec.TheVariants.{Sim, Udp}
+use Rattle.direct_run.specs.Runs.{RunsHere}
+use Rattle.script_lang.specs.declared.operation.Step.{Step}
+use Rattle.script_lang.specs.Executable.{OpensOnWords}
+use Rattle.lane_history.specs.Links.{LinkReport}
+use Rattle.lane_history.specs.Runs.{ExecutedSome}
+
+-- the board of a link that tells
+abbrev pub board_there : Option Telling → Option Board
+board_there None = None
+board_there (Some telling) = Some telling.told.board
+
+-- what a link shows, by its four counts and what it tells
+abbrev pub report_of : ℕ → ℕ → ℕ → ℕ → Option Telling → LinkReport
+report_of faults quiets gots held telling =
+    record { faults = faults; quiets = quiets; gots = gots; held = held; board = board_there telling }
+
+-- these links were given back behind those that were kept before, in this order
+abbrev pub Kept : {L : Type 0} → List L → List L → (List L → Type 0) → Type 0
+Kept {L} old new holds = (links : List L) × (new ≡ old ++ links) × holds links
+
+-- a simulated board within the ranges of its numbers, whose ranges open a bus of words of 32 bits; or one behind a port
+abbrev pub CanBeMade : LinkSpec → Type 0
+CanBeMade (Sim mtu buffers first ranges fates) = RunsHere (Sim mtu buffers first ranges fates)
+CanBeMade (Udp address port wait) = Unit {0}
+
+pub record CanBeReached (spec : BoardSpec) : Type 0 where
+  pub made : CanBeMade spec.link
+  pub words : OpensOnWords spec
+
+-- What each board executed, the first of which has this position, is a merge of bodies that the scripts ask of it, each
+-- client's in its order. There may be fewer links than boards.
+abbrev pub HaveExecutedSome : ℕ → List BoardSpec → List (List Step) → List LinkReport → Type 0
+HaveExecutedSome board specs scripts [] = Unit {0}
+HaveExecutedSome board [] scripts (link ∷ links) = ⊥
+HaveExecutedSome board (spec ∷ specs) scripts (link ∷ links) =
+    IfSome link.board (λ there. ExecutedSome spec board scripts (executed there))
+    × HaveExecutedSome (board + 1) specs scripts links
