@@ -1,14 +1,14 @@
 -- The tables of a record, one more entry at a time.
 use Rattle.std.proofs.Common.{◌≡◌, ℕ, zero, suc, ◌+◌, ◌<◌, ◌≤◌, Bool, true, false, cond, ◌==◌, ◌&&◌, ◌||◌, List, [], ◌∷◌}
-use Rattle.std.proofs.Common.{◌++◌, length, map, Option, Some, None, refl, sym, ap, ◌∙◌, subst, arith, inl, inr, ◌⊎◌}
-use Rattle.std.proofs.Common.{length-append, append_assoc}
+use Rattle.std.proofs.Common.{◌++◌, length, map, Option, Some, None, refl, sym, ap, ◌∙◌, subst, arith, inl, inr}
+use Rattle.std.proofs.Common.{length-append}
 use Rattle.std.specs.Prelude.{is_some, IfSome, IfNone}
 use Rattle.std.specs.List.{slice_get}
 use Rattle.std.proofs.lemmas.List.{append-nil, map-append}
 use Rattle.std.proofs.lemmas.Bool.{cases_lt, eqb-true, eq-eqb}
 use Rattle.std.proofs.lemmas.Bool.Decides.{eqb_tells}
 use Rattle.std.specs.Option.{option_or}
-use Rattle.world_model.proofs.Lists.{either, get_front, get_seam, get_within}
+use Rattle.world_model.proofs.Lists.{get_front, get_seam}
 use Rattle.transaction_codec.specs.Answer.{reply_room}
 use Rattle.turn_pass.specs.declared.chronicle.Entry.{Entry}
 use Rattle.lane_record.specs.declared.outcome.Outcome.{Outcome}
@@ -16,10 +16,10 @@ use Rattle.lane_record.specs.declared.item.Item.{Item}
 use Rattle.lane_record.specs.declared.item.What.{What}
 use Rattle.lane_record.specs.declared.item.What.TheVariants.{Plan}
 use Rattle.lane_record.specs.Items.{ask_in, asked, found, is_sealed, numbers, plan_in, planned}
-use Rattle.lane_record.specs.Claims.{Claim, IsAskOf, claim_in, claims}
+use Rattle.lane_record.specs.Claims.{Claim, claim_in, claims}
 use Rattle.lane_record.specs.NextEntry.{ask_of, plan_of, the_seal, took_of}
 use Rattle.lane_record.proofs.Asks.{get_split}
-use Rattle.lane_record.proofs.Lookups.{Count, claims_push, count_push, found_append, found_front, found_other, found_within}
+use Rattle.lane_record.proofs.Lookups.{Count, claims_push, count_push, found_append, found_front, found_within}
 use Rattle.lane_record.proofs.Lookups.{none_next, numbers_append, sealed_append}
 use Rattle.lane_record.specs.Coding.{entry_of}
 use Rattle.hub_lane.specs.Plans.{IsFull, one_with, planned_bodies, planned_words, words_with}
@@ -453,12 +453,14 @@ position_is items client seq asks None are some none = λ k claim is. none k
     ∙ (get_map asked_pair (claims items) k claim is.there
     ∙ ap (λ (p : ℕ × ℕ). Some p) (pair_is claim.client claim.seq client seq is.same_client is.same_seq)))
 position_is items client seq asks (Some at) are some none =
-    let found = map_get (claims items) at (client, seq) (sym (ap (λ (l : List (ℕ × ℕ)). slice_get l at) are) ∙ some) in
-    (found.0, record {
-      there = found.1;
-      same_client = ap (λ (p : ℕ × ℕ). p.0) found.2;
-      same_seq = ap (λ (p : ℕ × ℕ). p.1) found.2;
-    })
+    let found = map_get (claims items) at (client, seq) (sym (ap (λ (l : List (ℕ × ℕ)). slice_get l at) are) ∙ some) in (
+      found.0,
+      record {
+        there = found.1;
+        same_client = ap (λ (p : ℕ × ℕ). p.0) found.2;
+        same_seq = ap (λ (p : ℕ × ℕ). p.1) found.2;
+      },
+    )
 
 -- more room
 pub book_room : (items : List Item) (entries : List Entry) (rows : List Row) (asks : List (ℕ × ℕ)) (bodies words : ℕ)

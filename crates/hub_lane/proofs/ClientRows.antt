@@ -1,11 +1,10 @@
 -- The rows of clients, looked up and changed.
-use Rattle.std.proofs.Common.{◌≡◌, ℕ, zero, suc, ◌+◌, ◌<◌, Bool, true, false, cond, ◌==◌, List, [], ◌∷◌, ◌++◌, length}
-use Rattle.std.proofs.Common.{Option, Some, None, refl, sym, ap, ◌∙◌, subst, arith, set}
+use Rattle.std.proofs.Common.{◌≡◌, ℕ, suc, ◌+◌, ◌<◌, true, false, cond, ◌==◌, List, [], ◌∷◌, ◌++◌, length}
+use Rattle.std.proofs.Common.{Option, Some, None, refl, sym, ap, ◌∙◌, arith, set}
 use Rattle.std.specs.List.{slice_get}
 use Rattle.std.specs.Prelude.{OnOk, Result, Ok, Err}
-use Rattle.std.proofs.lemmas.Bool.{eqb-true, eq-eqb}
-use Rattle.world_model.proofs.Lists.{either}
-use Rattle.hub_lane.specs.Books.{HasNext, Row, one_later, row_at, row_of, with_ask, with_plan}
+use Rattle.std.proofs.lemmas.Bool.{eqb-true}
+use Rattle.hub_lane.specs.Books.{Row, one_later, row_at, row_of, with_ask, with_plan}
 
 -- the first row of a client stands there
 pub record IsFirstAt (client : ℕ) (rows : List Row) (at : ℕ) : Type 0 where

@@ -1,9 +1,9 @@
 -- What holds of a lane, kept by each call.
-use Rattle.std.proofs.Common.{◌≡◌, ℕ, zero, suc, ◌+◌, ◌*◌, ◌-◌, ◌^◌, ◌<◌, ◌≤◌, Bool, true, false, cond, List, [], ◌∷◌, ◌++◌}
+use Rattle.std.proofs.Common.{◌≡◌, ℕ, ◌+◌, ◌*◌, ◌<◌, ◌≤◌, Bool, true, false, cond, List, [], ◌∷◌, ◌++◌}
 use Rattle.std.proofs.Common.{length, map, Option, Some, None, refl, sym, ap, ◌∙◌, subst, arith, length-append, ◌||◌}
-use Rattle.std.proofs.Common.{inl, inr, ◌⊎◌}
+use Rattle.std.proofs.Common.{inl, inr}
 use Rattle.std.specs.Prelude.{IfSome, min, ◌==◌, nat_lt}
-use Rattle.std.specs.List.{AllByRecursion, slice_get}
+use Rattle.std.specs.List.{AllByRecursion}
 use Rattle.std.specs.Option.{option_or, unwrap_or}
 use Rattle.std.proofs.Math.Nat.{mul-add}
 use Rattle.std.proofs.lemmas.List.{append-nil}
@@ -27,22 +27,20 @@ use Rattle.world_core.specs.Telling.{Telling}
 use Rattle.lane_record.specs.declared.outcome.Outcome.{Outcome}
 use Rattle.lane_record.specs.declared.outcome.Outcome.TheVariants as became
 use Rattle.lane_record.specs.declared.item.Item.{Item}
-use Rattle.lane_record.specs.Items.{ask_in, asked, found, is_of, is_sealed, plan_in, planned}
+use Rattle.lane_record.specs.Items.{ask_in, found, is_of, plan_in}
 use Rattle.lane_record.specs.Claims.{Claim, claim_in, claims}
-use Rattle.lane_record.specs.Legal.{IsLegal, TakesOf}
 use Rattle.lane_record.specs.FirstSends.{PlacesCount}
 use Rattle.lane_record.specs.Bounds.{AreLostOnlyIf, HasReached, HasWaited, IsKept, timeouts}
 use Rattle.lane_record.specs.Outcomes.{is_given_up, is_lost, is_replied}
 use Rattle.lane_record.specs.Offers.{AddsOnly, Agrees, AgreesWith, KeepsOutcomes, Settles, all_lost, offer_of, put_all}
-use Rattle.lane_record.specs.NextEntry.{MayAsk, MayPlan, ask_of, plan_of, the_seal, took_of}
+use Rattle.lane_record.specs.NextEntry.{ask_of}
 use Rattle.lane_record.proofs.Lookups.{claims_push}
 use Rattle.hub_lane.specs.declared.answers.Pumped.{Pumped}
 use Rattle.hub_lane.specs.declared.answers.Pumped.TheVariants.{Reply, Status, Stray, Quiet, Idle, LinkDown}
-use Rattle.hub_lane.specs.Books.{HasMorePlans}
 use Rattle.hub_lane.specs.Hearing.{IsEventAs, give_ups_of, hub_after, quiets_of}
 use Rattle.hub_lane.specs.Lanes.{BoardStatus, IsGreeted, IsLane, IsReady, IsShortPlan, KnowsBoard, waits}
 use Rattle.hub_lane.specs.Sends.{HasSent, all_sent, handed_out}
-use Rattle.hub_lane.specs.Standing.{IsRunning, IsStanding, IsStopped, Stops}
+use Rattle.hub_lane.specs.Standing.{IsRunning, IsStopped, Stops}
 use Rattle.hub_lane.proofs.Linked.{SendKeepsBodies}
 use Rattle.hub_lane.proofs.Ready.{ready_sent, same_sent}
 use Rattle.hub_lane.proofs.Sends.{one_sent, sent_keeps}
@@ -74,7 +72,13 @@ lane_begins law settings status telling faults quiets agrees kept limits mtu buf
     let some = buffers.0 in
     record {
       knows = record {
-        limits = limits; mtu = mtu; buffers = buffers; identifier = next; first = refl; window = refl; rounds = refl;
+        limits = limits;
+        mtu = mtu;
+        buffers = buffers;
+        identifier = next;
+        first = refl;
+        window = refl;
+        rounds = refl;
       };
       ready = record {
         drained = refl;
@@ -170,8 +174,13 @@ lane_offered law settings status hub items outcomes give_ups telling faults quie
     let agrees = agree hub (claims items) outcomes (claim_of client seq give_ups body) is.agrees in
     record {
       knows = record {
-        limits = is.knows.limits; mtu = is.knows.mtu; buffers = is.knows.buffers; identifier = is.knows.identifier;
-        first = is.knows.first; window = is.knows.window; rounds = is.knows.rounds;
+        limits = is.knows.limits;
+        mtu = is.knows.mtu;
+        buffers = is.knows.buffers;
+        identifier = is.knows.identifier;
+        first = is.knows.first;
+        window = is.knows.window;
+        rounds = is.knows.rounds;
       };
       ready = record {
         drained = is.ready.drained;
@@ -594,19 +603,22 @@ lane_received message replied quiet gave_up settings status hub mid new bytes pu
     (put_all (hub_after pumped bytes mid).fates outcomes) n quiets_now) (sym give_ups_are)
     (subst (λ (q : ℕ). IsAfter settings status (handed_out (hub_after pumped bytes mid)) items outcomes
     (put_all (hub_after pumped bytes mid).fates outcomes)
-    (give_ups_of pumped (hub_after pumped bytes mid) give_ups) q) (sym quiets_are) done))) in
-    (record {
-      knows = after.knows;
-      ready = after.ready;
-      agrees = after.agrees;
-      kept = after.kept;
-      waited = after.waited;
-      fewer = after.fewer;
-      short = is.short;
-      fault = λ e. absurd cc;
-      lost = after.lost;
-      standing = running;
-    }, after.keeps, (let h = more_give_ups pumped (hub_after pumped bytes mid) give_ups in omega (arith, h, give_ups_are)))
+    (give_ups_of pumped (hub_after pumped bytes mid) give_ups) q) (sym quiets_are) done))) in (
+      record {
+        knows = after.knows;
+        ready = after.ready;
+        agrees = after.agrees;
+        kept = after.kept;
+        waited = after.waited;
+        fewer = after.fewer;
+        short = is.short;
+        fault = λ e. absurd cc;
+        lost = after.lost;
+        standing = running;
+      },
+      after.keeps,
+      (let h = more_give_ups pumped (hub_after pumped bytes mid) give_ups in omega (arith, h, give_ups_are)),
+    )
 
 -- ---- an exchange that failed
 

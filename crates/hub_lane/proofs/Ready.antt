@@ -1,9 +1,8 @@
 -- What some sends leave of a hub that is ready.
-use Rattle.std.proofs.Common.{◌≡◌, ℕ, ◌+◌, ◌≤◌, List, [], length, Option, Some, None, refl, sym, ap, ◌∙◌, subst, arith}
+use Rattle.std.proofs.Common.{◌≡◌, ℕ, List, Option, Some, sym, ◌∙◌, subst}
 use Rattle.std.specs.Prelude.{IfSome}
-use Rattle.world_model.specs.Hub.{Hub, hear_quiet, take_message}
+use Rattle.world_model.specs.Hub.{Hub}
 use Rattle.world_model.specs.Sends.{Next, next_send}
-use Rattle.world_model.specs.Facts.{HasBodies}
 use Rattle.reliable_engine.specs.Settings.{Limits}
 use Rattle.world_core.specs.Telling.{Telling}
 use Rattle.lane_record.specs.declared.outcome.Outcome.{Outcome}
@@ -14,7 +13,7 @@ use Rattle.hub_lane.specs.Standing.{GoesOn, IsRunning, IsStopped, Stops}
 use Rattle.hub_lane.proofs.Linked.{SendKeepsBodies}
 use Rattle.hub_lane.proofs.Sends.{sent_keeps}
 use Rattle.hub_lane.proofs.Standing.{OutLaw, SameFates, drained_running, if_told, stopped_there}
-use Rattle.hub_lane.proofs.Windows.{IsSameBut, IsWindowed, same_here, same_on, send_windowed}
+use Rattle.hub_lane.proofs.Windows.{IsSameBut, same_here, same_on, send_windowed}
 
 ready_send : SameFates → SendKeepsBodies → (asks : ℕ) (hub : Hub) (next : Next) → next_send hub ≡ Some next
     → IsReady asks hub → IsReady asks next.hub

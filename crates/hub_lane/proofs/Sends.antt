@@ -1,11 +1,10 @@
 -- Sends of a hub, one after another.
-use Rattle.std.proofs.Common.{◌≡◌, ℕ, zero, suc, ◌+◌, ◌<◌, ◌≤◌, List, [], ◌∷◌, Option, Some, None, replicate}
+use Rattle.std.proofs.Common.{◌≡◌, ℕ, zero, suc, ◌<◌, ◌≤◌, Option, Some, None}
 use Rattle.std.proofs.Common.{refl, sym, ap, ◌∙◌, subst, arith}
 use Rattle.world_model.specs.declared.sending.Sending.{Sending}
 use Rattle.world_model.specs.Hub.{Hub}
 use Rattle.world_model.specs.Sends.{Next, next_send, pending}
 use Rattle.reliable_engine.specs.Answers.{hub_next, sent_next}
-use Rattle.reliable_engine.specs.Events.{after_events}
 use Rattle.hub_lane.specs.Sends.{HasSent, after_sends, all_sent}
 
 -- ---- a send that was taken

@@ -1,5 +1,5 @@
 -- How a hub stands to a link that tells: what each call keeps of it.
-use Rattle.std.proofs.Common.{◌≡◌, ℕ, zero, suc, ◌+◌, ◌≤◌, Bool, true, false, cond, List, [], ◌∷◌, ◌++◌, length, map}
+use Rattle.std.proofs.Common.{◌≡◌, ℕ, zero, suc, ◌+◌, true, false, cond, List, [], ◌∷◌, ◌++◌, length}
 use Rattle.std.proofs.Common.{Option, Some, None, refl, sym, ap, ◌∙◌, subst, arith, ◌==◌, inl, inr, ◌⊎◌, append_assoc}
 use Rattle.std.specs.Prelude.{IfSome, min, nat_lt}
 use Rattle.std.specs.List.{AllByRecursion, Contains, slice_get}
@@ -17,9 +17,8 @@ use Rattle.world_model.specs.declared.offered.OpenPlace.{OpenPlace}
 use Rattle.world_model.specs.Places.{at_place}
 use Rattle.world_model.specs.Messages.{ToHub, StatusReply, Reply, to_hub}
 use Rattle.world_model.specs.Board.{Board}
-use Rattle.world_model.specs.Hub.{Hub, give_up, hear_quiet, hear_reply, hear_status, insert_fate, is_waiting, new_hub}
-use Rattle.world_model.specs.Hub.{offer, open_with, recovered, settle, tag_of, take_message, time_out, unsent}
-use Rattle.world_model.specs.Hub.{want_status}
+use Rattle.world_model.specs.Hub.{Hub, hear_quiet, insert_fate, is_waiting, new_hub}
+use Rattle.world_model.specs.Hub.{offer, open_with, tag_of, take_message, time_out}
 use Rattle.world_model.specs.Sends.{Next, bytes_to_send, next_send}
 use Rattle.world_model.specs.World.{World, start}
 use Rattle.world_model.specs.Facts.{IsSendable, IsStart}
@@ -33,9 +32,9 @@ use Rattle.world_core.specs.States.{IsReached}
 use Rattle.world_core.specs.Telling.{IfTelling, IsGot, IsQuiet, IsReceived, IsSent, Telling}
 use Rattle.lane_record.specs.declared.outcome.Outcome.{Outcome}
 use Rattle.lane_record.specs.declared.outcome.Outcome.TheVariants as became
-use Rattle.lane_record.specs.Offers.{AreToldBy, IsToldBy, WasHandedOut, all_lost, lost_after, outcome_of, put, put_all}
+use Rattle.lane_record.specs.Offers.{AreToldBy, IsToldBy, all_lost, lost_after, outcome_of, put, put_all}
 use Rattle.lane_record.specs.Outcomes.{is_sent}
-use Rattle.hub_lane.specs.Standing.{IsHandedFate, IsRunning, IsStopped, WasHanded}
+use Rattle.hub_lane.specs.Standing.{IsHandedFate, IsRunning, IsStopped}
 
 -- ---- the laws of world_core and world_model that these rest on
 
@@ -280,9 +279,10 @@ module _ (heard : HeardLaw) (longer : AirGrows) (board : SameBoard) where
       (before now : ℕ) (t u : Telling) → hub.first ≡ u.told.board.first → IsGot bytes before now t u
       → (fates : List (ℕ × Fate)) → AreOfReply hub.first (to_hub bytes) fates → AllByRecursion (IsHandedFate u) fates
   fates_handed limits outcomes hub bytes before now t u first got [] are = tt
-  fates_handed limits outcomes hub bytes before now t u first got (f ∷ fs) are =
-      (fate_handed limits outcomes hub bytes before now t u first got f are.0,
-      fates_handed limits outcomes hub bytes before now t u first got fs are.1)
+  fates_handed limits outcomes hub bytes before now t u first got (f ∷ fs) are = (
+    fate_handed limits outcomes hub bytes before now t u first got f are.0,
+    fates_handed limits outcomes hub bytes before now t u first got fs are.1,
+  )
 
   pub got_running : HandedLaw → (limits : Limits) (outcomes : List (Option Outcome)) (hub : Hub) (bytes : List ℕ)
       (before now : ℕ) (t u : Telling) → next_send hub ≡ None → hub.fates ≡ []

@@ -1,17 +1,17 @@
 -- What the hub of a lane keeps, whatever the link does: its window, and bodies that can be sent.
-use Rattle.std.proofs.Common.{◌≡◌, ℕ, zero, suc, ◌+◌, ◌≤◌, Bool, true, false, cond, List, [], ◌∷◌, ◌++◌, length, map}
+use Rattle.std.proofs.Common.{◌≡◌, ℕ, ◌+◌, ◌≤◌, Bool, true, false, List, [], ◌∷◌, ◌++◌, length}
 use Rattle.std.proofs.Common.{Option, Some, None, refl, sym, ap, ◌∙◌, subst, arith, length-append}
-use Rattle.std.specs.Prelude.{IfSome, min, ◌||◌}
+use Rattle.std.specs.Prelude.{IfSome, ◌||◌}
 use Rattle.std.proofs.lemmas.List.{map-append}
 use Rattle.world_model.specs.declared.offered.Offered.{Offered}
 use Rattle.world_model.specs.declared.offered.OpenPlace.{OpenPlace}
 use Rattle.world_model.specs.Messages.{ToHub}
 use Rattle.world_model.specs.Hub.{Hub, abandoned, hear_quiet, new_hub, offer, place_of, places, recover, take_message}
-use Rattle.world_model.specs.Hub.{is_waiting, some_queued, some_waited, want_control, without}
+use Rattle.world_model.specs.Hub.{is_waiting, some_queued, some_waited, want_control}
 use Rattle.world_model.specs.Sends.{Next, Wanted, after_open, next_send, opened, wanted}
 use Rattle.world_model.specs.Facts.{IsWindow}
 use Rattle.world_model.proofs.Lists.{either}
-use Rattle.world_model.proofs.Places.{less, window_less, window_push}
+use Rattle.world_model.proofs.Places.{window_less, window_push}
 use Rattle.world_model.proofs.Hubs.{IsWantedOr, places_map, places_without, recover_place, wanted_is}
 use Rattle.world_model.proofs.Flushing.{message_cases, quiet_cases, send_cases}
 

@@ -1,15 +1,15 @@
 -- What each call does to a lane. Profile.
-use Rattle.std.specs.Prelude.{◌≡◌, ◌⊎◌, ℕ, ◌+◌, ◌≤◌, Bool, true, false, if◌then◌else◌, List, [], ◌∷◌, ◌++◌, length}
+use Rattle.std.specs.Prelude.{◌≡◌, ◌⊎◌, ℕ, ◌≤◌, Bool, true, false, if◌then◌else◌, List, [], ◌∷◌, ◌++◌, length}
 use Rattle.std.specs.Prelude.{Option, Some, None, IfSome}
 use Rattle.std.specs.List.{slice_get}
 use Rattle.world_model.specs.Hub.{Hub, is_waiting, offer}
 use Rattle.world_core.specs.Telling.{Telling}
 use Rattle.lane_record.specs.declared.outcome.Outcome.{Outcome}
-use Rattle.lane_record.specs.declared.outcome.Outcome.TheVariants.{Replied, TimedOut, LinkLost}
+use Rattle.lane_record.specs.declared.outcome.Outcome.TheVariants.{Replied, LinkLost}
 use Rattle.lane_record.specs.declared.item.Item.{Item}
 use Rattle.lane_record.specs.NextEntry.{ask_of, the_seal, took_of}
-use Rattle.lane_record.specs.Items.{ask_in, asked, found, is_sealed, plan_in, planned, took_in}
-use Rattle.lane_record.specs.Claims.{Claim, IsAskOf, claims}
+use Rattle.lane_record.specs.Items.{asked, found, is_sealed, plan_in, planned, took_in}
+use Rattle.lane_record.specs.Claims.{Claim, IsAskOf}
 use Rattle.lane_record.specs.Offers.{KeepsOutcomes, all_lost, put_all}
 use Rattle.hub_lane.specs.declared.answers.Asked.{Asked}
 use Rattle.hub_lane.specs.declared.answers.Asked.TheVariants as asks

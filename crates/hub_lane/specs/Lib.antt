@@ -5,5 +5,6 @@ pub mod Lanes
 pub mod Plans
 pub mod Calls
 pub mod Books
+pub mod Truth
 pub mod Greeting
 pub mod Records

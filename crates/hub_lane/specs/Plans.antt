@@ -1,5 +1,5 @@
 -- What may be planned on a lane. Profile.
-use Rattle.std.specs.Prelude.{◌≡◌, ◌⊎◌, ℕ, ◌+◌, ◌<◌, ◌≤◌, true, false, List, [], ◌∷◌, ◌++◌, length, Option, Some, None}
+use Rattle.std.specs.Prelude.{◌≡◌, ◌⊎◌, ℕ, ◌+◌, ◌<◌, ◌≤◌, true, false, List, [], ◌∷◌, length, Option, Some, None}
 use Rattle.ipb_base.specs.Numbers.{payload_of}
 use Rattle.transaction_codec.specs.Answer.{reply_room}
 use Rattle.lane_record.specs.declared.item.Item.{Item}

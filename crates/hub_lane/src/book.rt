@@ -45,8 +45,8 @@ impl Model for Book {
     ghost Value = { BookState };
 
     ghost view = { λ b. record {
-        items = b.items.items;
-        room = room_of b.items.cap b.items.len b.entries.cap b.entries.len b.asks.cap b.asks.len;
+      items = b.items.items;
+      room = room_of b.items.cap b.items.len b.entries.cap b.entries.len b.asks.cap b.asks.len;
     } };
 
     ghost invariant = { λ b. IsBook b.items.items b.entries.items b.rows.items b.asks.items b.bodies b.words b.sealed
@@ -167,11 +167,15 @@ impl Book {
         add_plan(self.alloc, &mut self.rows, client, self.items.len())?;
         self.bodies += 1;
         self.words += words;
-        put(&mut self.entries, &mut self.items, Item {
-            client,
-            seq,
-            what: What::Plan { body },
-        });
+        put(
+            &mut self.entries,
+            &mut self.items,
+            Item {
+                client,
+                seq,
+                what: What::Plan { body },
+            },
+        );
         Ok(seq)
     }
 
@@ -181,11 +185,15 @@ impl Book {
         ensures { self.new.items ≡ self.old.items ++ the_seal ∷ [] }
     {
         self.sealed = true;
-        put(&mut self.entries, &mut self.items, Item {
-            client: 0,
-            seq: 0,
-            what: What::Seal,
-        });
+        put(
+            &mut self.entries,
+            &mut self.items,
+            Item {
+                client: 0,
+                seq: 0,
+                what: What::Seal,
+            },
+        );
     }
 
     /// Adds an Ask of the client's next body. Answers its number.
@@ -199,11 +207,15 @@ impl Book {
         let seq = self.asked(client);
         add_ask(&mut self.rows, client);
         self.asks.push_reserved((client, seq));
-        put(&mut self.entries, &mut self.items, Item {
-            client,
-            seq,
-            what: What::Ask { give_ups },
-        });
+        put(
+            &mut self.entries,
+            &mut self.items,
+            Item {
+                client,
+                seq,
+                what: What::Ask { give_ups },
+            },
+        );
         seq
     }
 
@@ -212,11 +224,15 @@ impl Book {
         requires room { 2 ≤ self.old.room }
         ensures { self.new.items ≡ self.old.items ++ took_of client seq outcome give_ups ∷ [] }
     {
-        put(&mut self.entries, &mut self.items, Item {
-            client,
-            seq,
-            what: What::Took { outcome, give_ups },
-        });
+        put(
+            &mut self.entries,
+            &mut self.items,
+            Item {
+                client,
+                seq,
+                what: What::Took { outcome, give_ups },
+            },
+        );
     }
 }
 
@@ -255,12 +271,14 @@ fn put(entries: &mut Vec<Entry>, items: &mut Vec<Item>, item: Item)
     items.push_reserved(item);
 }
 
-/// Where an Ask of this client and number stands.
+/// Where an Ask of this client and number stands. The last ones are looked at first, since a client takes what it asked
+/// last.
 fn position(asks: &[(u32, u64)], client: u32, seq: u64) -> Option<usize>
     ensures some { IfSome result (λ at. slice_get asks.now at ≡ Some (client, seq)) }
     ensures none { IfNone result ((at : ℕ) → ¬ (slice_get asks.now at ≡ Some (client, seq))) }
 {
-    for at in 0..asks.len() {
+    for back in 0..asks.len() {
+        let at = asks.len() - 1 - back;
         let ask = asks[at];
         if ask.0 == client && ask.1 == seq {
             return Some(at);

@@ -15,7 +15,7 @@ ghost use Rattle.hub_lane.specs.Plans.{CanPlan, IsRefused, Plans};
 ghost use Rattle.hub_lane.specs.Hearing.{gots_of, quiets_of};
 ghost use Rattle.hub_lane.specs.Calls.{AsksAs, IsReplyAt, IsSameRecord, IsSpent, PumpsAs, TakesAs, WasAsked};
 ghost use Rattle.hub_lane.specs.Calls.{is_lost_at_place, is_replied, sealed};
-ghost use Rattle.hub_lane.specs.Lanes.{IsGreeted, IsLane, opened, status_of};
+ghost use Rattle.hub_lane.specs.Lanes.{IsGreeted, IsLane, opened, opening_of, status_of};
 
 use crate::answers::{Asked, PlanRefusal, Pumped, Taken};
 use crate::book::Book;
@@ -26,7 +26,8 @@ use lane_record::Outcome;
 use lane_record::laws::book::{entries_go_into_the_book, outcomes_go_into_the_book};
 use lane_record::laws::entries::an_ask_is_of_its_plan;
 use lane_record::laws::offers::{
-    a_failed_link_loses_what_waits, a_send_settles_nothing, an_ask_is_an_offer, what_a_hub_hears_settles_asks,
+    a_failed_link_loses_what_waits, a_send_settles_nothing, an_ask_is_an_offer,
+    what_a_hub_hears_settles_asks,
 };
 use packet_ids::Id;
 use reliable_engine::{Engine, Settings};
@@ -62,15 +63,15 @@ impl<L: Link> Model for Lane<L> {
     ghost Value = { LaneState L };
 
     ghost view = { λ l. record {
-        link = l.link;
-        settings = l.settings;
-        status = record { mtu = l.mtu; buffers = l.buffers; next = l.first };
-        hub = l.engine;
-        items = l.book.items;
-        outcomes = l.outcomes.items;
-        give_ups = l.give_ups;
-        down = l.down;
-        spent = l.spent;
+      link = l.link;
+      settings = l.settings;
+      status = record { mtu = l.mtu; buffers = l.buffers; next = l.first };
+      hub = l.engine;
+      items = l.book.items;
+      outcomes = l.outcomes.items;
+      give_ups = l.give_ups;
+      down = l.down;
+      spent = l.spent;
     } };
 
     ghost invariant = { λ l. IsLane l.settings
@@ -260,6 +261,8 @@ impl<L: Link> Lane<L> {
         ensures gots { IfOk result (λ pumped. L.gots self.new.link ≡ gots_of pumped (L.gots self.old.link)) }
         ensures gots_rise { L.gots self.old.link ≤ L.gots self.new.link }
         ensures held { L.held self.old.link ≤ L.held self.new.link }
+        // So the head of its record stays.
+        ensures opening { opening_of (L.telling self.new.link) ≡ opening_of (L.telling self.old.link) }
     {
         a_send_leaves_the_fates();
         only_an_offer_makes_more_bodies();

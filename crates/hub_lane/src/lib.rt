@@ -7,6 +7,7 @@ mod chronicle;
 mod exchange;
 mod greeting;
 mod lane;
+pub mod laws;
 mod outcomes;
 mod rows;
 

@@ -98,7 +98,10 @@ fn is_sent(outcome: &Outcome) -> bool
 {
     match outcome {
         Outcome::Replied { place: _, words: _ } => true,
-        Outcome::TimedOut { place: _, rounds: _ } => true,
+        Outcome::TimedOut {
+            place: _,
+            rounds: _,
+        } => true,
         Outcome::Unsent => false,
         Outcome::LinkLost { place } => place.is_some(),
     }
@@ -159,7 +162,12 @@ pub(crate) fn count_of(outcomes: &[Option<Outcome>]) -> (u64, u64, u64)
     for outcome in outcomes {
         match outcome {
             Some(Outcome::Replied { place: _, words: _ }) => replied += 1,
-            Some(Outcome::TimedOut { place: _, rounds: _ }) => timed_out += 1,
+            Some(
+                Outcome::TimedOut {
+                    place: _,
+                    rounds: _,
+                },
+            ) => timed_out += 1,
             Some(Outcome::LinkLost { place: Some(_) }) => lost += 1,
             _ => {}
         }

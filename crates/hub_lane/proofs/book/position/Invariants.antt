@@ -1,6 +1,6 @@
-use Rattle.std.proofs.Common.{◌≡◌, ◌<◌, ℕ, Some}
+use Rattle.std.proofs.Common.{◌≡◌, ◌≤◌, ◌+◌, ℕ, Some, length}
 use Rattle.std.specs.List.{slice_get}
 use Rattle.hub_lane.proofs.book.position.Given as goal
 
-abbrev pub invariant-loop-at : goal.invariant-loop-at
-invariant-loop-at l = (k : ℕ) → k < l.at → slice_get l.asks k ≡ Some (l.client, l.seq) → ⊥
+abbrev pub invariant-loop-back : goal.invariant-loop-back
+invariant-loop-back l = (k : ℕ) → length l.asks ≤ k + l.back → slice_get l.asks k ≡ Some (l.client, l.seq) → ⊥

@@ -1,4 +1,4 @@
-use Rattle.std.proofs.Common.{◌≡◌, ◌∙◌, ℕ, ◌≤◌, sym, subst, arith}
+use Rattle.std.proofs.Common.{◌∙◌, sym, arith}
 use Rattle.hub_lane.proofs.Ready.{exchanged, ready_sent, same_sent}
 use Rattle.hub_lane.proofs.exchange.exchange.Goals as goal
 

@@ -1,4 +1,4 @@
-use Rattle.std.proofs.Common.{◌≡◌, ◌∙◌, ℕ, Option, Some, sym, ap, subst, refl}
+use Rattle.std.proofs.Common.{◌≡◌, ◌∙◌, ℕ, Some, ap, refl}
 use Rattle.packet_ids.specs.Identifier.{identifier_at}
 use Rattle.hub_lane.proofs.Heard.{open_near}
 use Rattle.hub_lane.proofs.exchange.hear_reply.Goals as goal

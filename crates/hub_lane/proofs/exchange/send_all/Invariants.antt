@@ -1,4 +1,3 @@
-use Rattle.std.proofs.Common.{ℕ}
 use Rattle.world_model.specs.Sends.{pending}
 use Rattle.hub_lane.proofs.Linked.{IsSending}
 use Rattle.hub_lane.proofs.exchange.send_all.Given as goal

@@ -1,4 +1,4 @@
-use Rattle.std.proofs.Common.{◌≡◌, ◌∙◌, ◌+◌, sym, ap, arith, subst, Option, Some, None, refl, set, ◌<◌, length}
+use Rattle.std.proofs.Common.{◌≡◌, ◌∙◌, ◌+◌, sym, ap, arith, subst, Some, None, set, ◌<◌, length}
 use Rattle.std.proofs.lemmas.Option.{slice_get-get_or}
 use Rattle.hub_lane.specs.Books.{Row, row_at}
 use Rattle.hub_lane.proofs.ClientRows.{ask_changed, found_at, no_row, none_of, set_changed}

@@ -1,5 +1,4 @@
-use Rattle.std.proofs.Common.{◌≡◌, ◌∙◌, ◌++◌, ◌∷◌, [], sym, ap, arith, Option, Some, List, refl, Ok, Err, Result, set}
-use Rattle.std.specs.Prelude.{OnOk}
+use Rattle.std.proofs.Common.{◌≡◌, ◌∙◌, ◌++◌, ◌∷◌, [], sym, ap, arith, Some, set}
 use Rattle.std.proofs.lemmas.Option.{slice_get-get_or}
 use Rattle.hub_lane.specs.Books.{Row, row_at}
 use Rattle.hub_lane.proofs.ClientRows.{first_plan, found_at, on_ok, plan_changed, set_changed}

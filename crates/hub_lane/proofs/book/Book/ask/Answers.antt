@@ -1,7 +1,6 @@
-use Rattle.std.proofs.Common.{◌≡◌, ◌≤◌, ℕ, List, sym, subst, arith, ap, ◌∙◌}
-use Rattle.lane_record.specs.declared.item.Item.{Item}
+use Rattle.std.proofs.Common.{◌≡◌, ◌≤◌, sym, subst, arith, ap, ◌∙◌}
 use Rattle.lane_record.specs.Items.{asked}
-use Rattle.hub_lane.specs.Books.{BookState, HasMorePlans, IsBook, room_of}
+use Rattle.hub_lane.specs.Books.{BookState, HasMorePlans, room_of}
 use Rattle.hub_lane.proofs.Books.{book_asked, has_next}
 use Rattle.hub_lane.proofs.book.Book.ask.Goals as goal
 
@@ -19,9 +18,17 @@ invariant_of-self c =
     let after = room_of c.put.new.items.cap c.put.new.items.len c.put.new.entries.cap c.put.new.entries.len
     c.push_reserved.new.self.cap c.push_reserved.new.self.len in
     let room = ap (λ (v : BookState). v.room) c.self.view_is in
-    let enough : 1 ≤ after = omega (arith, room, c.requires.room, c.put.ensures.items_len, c.put.ensures.entries_len,
-    c.put.ensures.items_capacity, c.put.ensures.entries_capacity, c.push_reserved.ensures.len,
-    c.push_reserved.ensures.capacity) in
+    let enough : 1 ≤ after = omega (
+      arith,
+      room,
+      c.requires.room,
+      c.put.ensures.items_len,
+      c.put.ensures.entries_len,
+      c.put.ensures.items_capacity,
+      c.put.ensures.entries_capacity,
+      c.push_reserved.ensures.len,
+      c.push_reserved.ensures.capacity,
+    ) in
     book_asked b.items.items c.put.new.items.items b.entries.items c.put.new.entries.items b.rows.items
     c.add_ask.new.rows.items b.asks.items c.push_reserved.new.self.items b.bodies b.words b.sealed _ after
     c.args.client c.asked-seq.result c.args.give_ups c.self.invariant seq more c.put.ensures.items c.put.ensures.entries

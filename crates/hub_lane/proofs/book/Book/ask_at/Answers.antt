@@ -1,7 +1,6 @@
-use Rattle.std.proofs.Common.{◌≡◌, ◌∙◌, ℕ, List, Some, sym, ap, subst}
+use Rattle.std.proofs.Common.{◌≡◌, ℕ, List, Some, subst}
 use Rattle.std.specs.Prelude.{IfSome, IfNone}
 use Rattle.std.specs.List.{slice_get}
-use Rattle.lane_record.specs.declared.item.Item.{Item}
 use Rattle.hub_lane.specs.Books.{BookState, IsPosition}
 use Rattle.hub_lane.proofs.Books.{position_is}
 use Rattle.hub_lane.proofs.book.Book.ask_at.Goals as goal

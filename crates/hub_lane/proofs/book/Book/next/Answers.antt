@@ -1,11 +1,10 @@
-use Rattle.std.proofs.Common.{◌≡◌, ◌∙◌, ℕ, ◌<◌, List, sym, ap, arith, subst, Option, Some, None, length}
+use Rattle.std.proofs.Common.{◌≡◌, ◌∙◌, sym, ap, arith, subst, Some, None}
 use Rattle.std.specs.List.{slice_get}
 use Rattle.std.proofs.lemmas.Option.{slice_get-get_or}
 use Rattle.world_model.proofs.Lists.{get_within}
 use Rattle.lane_record.specs.declared.item.Item.{Item}
-use Rattle.lane_record.specs.declared.item.What.{What}
 use Rattle.lane_record.specs.Items.{asked, found, plan_in, planned}
-use Rattle.hub_lane.specs.Books.{BookState, IsPlanAt, Row, next_of, row_of}
+use Rattle.hub_lane.specs.Books.{BookState, next_of, row_of}
 use Rattle.hub_lane.proofs.Books.{next_none, next_some, not_a_plan, plan_same}
 use Rattle.hub_lane.proofs.book.Book.next.Goals as goal
 

@@ -1,10 +1,9 @@
-use Rattle.std.proofs.Common.{◌≡◌, ◌≤◌, ℕ, List, sym, subst, arith, ap, ◌∙◌, refl, ◌+◌}
-use Rattle.lane_record.specs.declared.item.Item.{Item}
+use Rattle.std.proofs.Common.{◌≡◌, ◌≤◌, sym, subst, arith, ap, ◌∙◌, refl, ◌+◌}
 use Rattle.std.proofs.Common.{length}
 use Rattle.transaction_codec.specs.Answer.{reply_room}
 use Rattle.hub_lane.specs.Plans.{IsFull}
 use Rattle.lane_record.specs.Items.{planned}
-use Rattle.hub_lane.specs.Books.{BookState, IsBook, room_of}
+use Rattle.hub_lane.specs.Books.{BookState, room_of}
 use Rattle.hub_lane.proofs.Books.{book_planned}
 use Rattle.hub_lane.proofs.book.Book.plan.Goals as goal
 
@@ -18,8 +17,15 @@ invariant_of-self-2 c =
     let after = room_of c.put.new.items.cap c.put.new.items.len c.put.new.entries.cap c.put.new.entries.len
     b.asks.cap b.asks.len in
     let room = ap (λ (v : BookState). v.room) c.self.view_is in
-    let enough : 1 ≤ after = omega (arith, room, c.requires.room, c.put.ensures.items_len, c.put.ensures.entries_len,
-    c.put.ensures.items_capacity, c.put.ensures.entries_capacity) in
+    let enough : 1 ≤ after = omega (
+      arith,
+      room,
+      c.requires.room,
+      c.put.ensures.items_len,
+      c.put.ensures.entries_len,
+      c.put.ensures.items_capacity,
+      c.put.ensures.entries_capacity,
+    ) in
     book_planned b.items.items c.put.new.items.items b.entries.items c.put.new.entries.items b.rows.items
     c.add_plan.new.rows.items b.asks.items b.bodies b.words (b.bodies + 1) (b.words + (c.len.result + c.from.result))
     b.sealed _ after c.args.client c.planned-seq.result c.len-2.result c.args.body c.self.invariant seq few

@@ -1,4 +1,4 @@
-use Rattle.std.proofs.Common.{◌≡◌, ◌∙◌, ℕ, sym, ap, arith, subst, Option, Some, None, length}
+use Rattle.std.proofs.Common.{◌≡◌, ◌∙◌, sym, ap, arith, subst, Some, length}
 use Rattle.std.proofs.lemmas.Option.{slice_get-get_or}
 use Rattle.lane_record.specs.Items.{planned}
 use Rattle.hub_lane.specs.Books.{BookState, IsRow, Row, row_at}

@@ -1,5 +1,4 @@
-use Rattle.std.proofs.Common.{◌≡◌, ◌≤◌, ℕ, refl, arith}
-use Rattle.hub_lane.specs.Books.{IsBook, room_of}
+use Rattle.std.proofs.Common.{refl, arith}
 use Rattle.hub_lane.proofs.Books.{book_reserved}
 use Rattle.hub_lane.proofs.book.Book.reserve.Goals as goal
 
@@ -8,8 +7,13 @@ invariant_of-self-in_err-reserve-2 c =
     let b = c.self.inside in
     book_reserved b.items.items c.reserve.new.self.items b.entries.items c.reserve-2.new.self.items b.rows.items
     b.asks.items b.asks.items b.bodies b.words b.sealed _ _ c.reserve.ensures.items c.reserve-2.ensures.items refl
-    (omega (arith, c.reserve.ensures.capacity, c.reserve.ensures.len, c.reserve-2.ensures.capacity,
-    c.reserve-2.ensures.len)) c.self.invariant
+    (omega (
+      arith,
+      c.reserve.ensures.capacity,
+      c.reserve.ensures.len,
+      c.reserve-2.ensures.capacity,
+      c.reserve-2.ensures.len,
+    )) c.self.invariant
 
 pub invariant_of-self-in_err-reserve-3 : goal.invariant_of-self-in_err-reserve-3
 invariant_of-self-in_err-reserve-3 c =
@@ -17,8 +21,15 @@ invariant_of-self-in_err-reserve-3 c =
     book_reserved b.items.items c.reserve.new.self.items b.entries.items c.reserve-2.new.self.items b.rows.items
     b.asks.items c.reserve-3.new.self.items b.bodies b.words b.sealed _ _ c.reserve.ensures.items
     c.reserve-2.ensures.items c.reserve-3.ensures.items
-    (omega (arith, c.reserve.ensures.capacity, c.reserve.ensures.len, c.reserve-2.ensures.capacity,
-    c.reserve-2.ensures.len, c.reserve-3.ensures.capacity, c.reserve-3.ensures.len)) c.self.invariant
+    (omega (
+      arith,
+      c.reserve.ensures.capacity,
+      c.reserve.ensures.len,
+      c.reserve-2.ensures.capacity,
+      c.reserve-2.ensures.len,
+      c.reserve-3.ensures.capacity,
+      c.reserve-3.ensures.len,
+    )) c.self.invariant
 
 pub invariant_of-self-2 : goal.invariant_of-self-2
 invariant_of-self-2 c =
@@ -26,5 +37,12 @@ invariant_of-self-2 c =
     book_reserved b.items.items c.reserve.new.self.items b.entries.items c.reserve-2.new.self.items b.rows.items
     b.asks.items c.reserve-3.new.self.items b.bodies b.words b.sealed _ _ c.reserve.ensures.items
     c.reserve-2.ensures.items c.reserve-3.ensures.items
-    (omega (arith, c.reserve.ensures.capacity, c.reserve.ensures.len, c.reserve-2.ensures.capacity,
-    c.reserve-2.ensures.len, c.reserve-3.ensures.capacity, c.reserve-3.ensures.len)) c.self.invariant
+    (omega (
+      arith,
+      c.reserve.ensures.capacity,
+      c.reserve.ensures.len,
+      c.reserve-2.ensures.capacity,
+      c.reserve-2.ensures.len,
+      c.reserve-3.ensures.capacity,
+      c.reserve-3.ensures.len,
+    )) c.self.invariant

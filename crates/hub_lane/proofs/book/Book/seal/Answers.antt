@@ -1,4 +1,4 @@
-use Rattle.std.proofs.Common.{◌≡◌, ℕ, List, true, sym, subst}
+use Rattle.std.proofs.Common.{List, true, sym, subst}
 use Rattle.lane_record.specs.declared.item.Item.{Item}
 use Rattle.hub_lane.specs.Books.{IsBook, room_of}
 use Rattle.hub_lane.proofs.Books.{book_seal}

@@ -1,4 +1,4 @@
-use Rattle.std.proofs.Common.{◌≡◌, ◌≤◌, ℕ, List, sym, subst, arith, ap, ◌∙◌}
+use Rattle.std.proofs.Common.{◌≤◌, List, sym, subst, arith, ap}
 use Rattle.lane_record.specs.declared.item.Item.{Item}
 use Rattle.hub_lane.specs.Books.{BookState, IsBook, room_of}
 use Rattle.hub_lane.proofs.Books.{book_took}
@@ -10,8 +10,15 @@ invariant_of-self c =
     let after = room_of c.put.new.items.cap c.put.new.items.len c.put.new.entries.cap c.put.new.entries.len
     b.asks.cap b.asks.len in
     let room = ap (λ (v : BookState). v.room) c.self.view_is in
-    let enough : 1 ≤ after = omega (arith, room, c.requires.room, c.put.ensures.items_len, c.put.ensures.entries_len,
-    c.put.ensures.items_capacity, c.put.ensures.entries_capacity) in
+    let enough : 1 ≤ after = omega (
+      arith,
+      room,
+      c.requires.room,
+      c.put.ensures.items_len,
+      c.put.ensures.entries_len,
+      c.put.ensures.items_capacity,
+      c.put.ensures.entries_capacity,
+    ) in
     subst (λ (items : List Item). IsBook items c.put.new.entries.items b.rows.items b.asks.items b.bodies b.words b.sealed
     after) (sym c.put.ensures.items)
     (book_took b.items.items b.entries.items b.rows.items b.asks.items b.bodies b.words b.sealed _ c.self.invariant

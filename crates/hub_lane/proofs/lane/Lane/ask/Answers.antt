@@ -1,4 +1,4 @@
-use Rattle.std.proofs.Common.{◌≡◌, ◌∙◌, ℕ, List, sym, ap, subst, refl, arith, length, ◌++◌, ◌∷◌, [], Option, Some, None, ◌≤◌, if◌then◌else◌}
+use Rattle.std.proofs.Common.{◌≡◌, ◌∙◌, ℕ, List, sym, ap, subst, refl, length, ◌++◌, ◌∷◌, [], Option, Some, None, ◌≤◌, if◌then◌else◌}
 use Rattle.world_model.specs.Hub.{offer}
 use Rattle.lane_record.specs.declared.outcome.Outcome.{Outcome}
 use Rattle.lane_record.specs.declared.outcome.Outcome.TheVariants.{LinkLost}

@@ -1,9 +1,4 @@
-use Rattle.std.proofs.Common.{◌≡◌, ◌∙◌, ℕ, List, sym, ap, subst, true, false}
-use Rattle.std.specs.Prelude.{min}
-use Rattle.world_model.specs.Hub.{Hub}
-use Rattle.lane_record.specs.declared.outcome.Outcome.{Outcome}
-use Rattle.lane_record.specs.declared.item.Item.{Item}
-use Rattle.hub_lane.specs.Lanes.{IsLane, status_of}
+use Rattle.hub_lane.specs.Lanes.{status_of}
 use Rattle.hub_lane.proofs.Lanes.{lane_begun}
 use Rattle.hub_lane.proofs.lane.Lane.new.Goals as goal
 

@@ -1,4 +1,4 @@
-use Rattle.std.proofs.Common.{◌≡◌, ◌∙◌, ℕ, List, sym, ap, subst, refl, arith}
+use Rattle.std.proofs.Common.{◌∙◌, sym, subst, refl}
 use Rattle.hub_lane.specs.Calls.{IsSameRecord}
 use Rattle.hub_lane.specs.Lanes.{BoardStatus, LaneState}
 use Rattle.hub_lane.proofs.Lanes.{PumpLaws, pump_down, pump_received, pump_spent}
@@ -121,8 +121,14 @@ returns-in-Ok-clause-same g c =
     (sym c.waiting.ensures ∙ c.if-not-waiting.false) c.in-Ok.ensures.event c.in-Ok.ensures.hub c.in-Ok.ensures.outcomes
     c.in-Ok.ensures.give_ups c.in-Ok.ensures.quiets c.in-Ok.ensures.running in
     subst (λ (v : LaneState _). IsSameRecord v (record {
-      link = c.exchange.new.link; settings = l.settings; status = status; hub = c.exchange.new.hub;
-      items = l.book.items; outcomes = c.exchange.new.outcomes.items; give_ups = c.exchange.new.give_ups;
-      down = l.down; spent = l.spent;
+      link = c.exchange.new.link;
+      settings = l.settings;
+      status = status;
+      hub = c.exchange.new.hub;
+      items = l.book.items;
+      outcomes = c.exchange.new.outcomes.items;
+      give_ups = c.exchange.new.give_ups;
+      down = l.down;
+      spent = l.spent;
     })) c.self.view_is
     (record { settings = refl; status = refl; items = refl; outcomes = done.keeps; give_ups = done.more })

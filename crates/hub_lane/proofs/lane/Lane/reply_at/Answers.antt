@@ -1,4 +1,4 @@
-use Rattle.std.proofs.Common.{◌≡◌, ◌∙◌, ℕ, List, sym, ap, subst, Option}
+use Rattle.std.proofs.Common.{ℕ, List, subst, Option}
 use Rattle.std.specs.Prelude.{IfNone}
 use Rattle.lane_record.specs.declared.outcome.Outcome.{Outcome}
 use Rattle.hub_lane.specs.Lanes.{LaneState}

@@ -38,7 +38,11 @@ invariant_of-self-2 g c =
     (g.L.Link.telling l.link) (g.L.Link.faults l.link) (g.L.Link.quiets l.link) x refl tt
     (λ kept. c.entries_go_into_the_book.ensures.took items outcomes l.engine.window l.give_ups c.args.client c.args.seq
     kept_is kept (record {
-      k = at; claim = place.0; ask = place.1; once = asked.untaken.once; became = became;
+      k = at;
+      claim = place.0;
+      ask = place.1;
+      once = asked.untaken.once;
+      became = became;
     })) c.self.invariant)
 
 pub returns-clause-taken : goal.returns-clause-taken
@@ -64,14 +68,28 @@ returns-clause-taken g c =
     c.take.ensures ∙ (ap (λ (o : Outcome). c.reserve.new.self.items ++ took_of c.args.client c.args.seq o l.give_ups ∷ [])
     same ∙ ap (λ (xs : List Item). xs ++ x ∷ []) c.in_ok-reserve.ensures.items) in
     subst (λ (v : LaneState _). Takes v c.args.client c.args.seq (record {
-      link = l.link; settings = l.settings; status = status; hub = l.engine; items = c.take.new.self.items;
-      outcomes = outcomes; give_ups = l.give_ups; down = l.down; spent = l.spent;
+      link = l.link;
+      settings = l.settings;
+      status = status;
+      hub = l.engine;
+      items = c.take.new.self.items;
+      outcomes = outcomes;
+      give_ups = l.give_ups;
+      down = l.down;
+      spent = l.spent;
     }) answer) c.self.view_is (record {
       number = at;
       untaken = record { claim = place.0; ask = place.1; once = asked.untaken.once };
       became = became;
       entry = ap (λ (xs : List Item). record {
-        link = l.link; settings = l.settings; status = status; hub = l.engine; items = xs;
-        outcomes = outcomes; give_ups = l.give_ups; down = l.down; spent = l.spent;
+        link = l.link;
+        settings = l.settings;
+        status = status;
+        hub = l.engine;
+        items = xs;
+        outcomes = outcomes;
+        give_ups = l.give_ups;
+        down = l.down;
+        spent = l.spent;
       }) entry;
     })

@@ -1,0 +1,46 @@
+-- What a lane over a link that tells is worth, and what any lane is worth once each asked body was taken. Profile.
+use Rattle.std.specs.Prelude.{◌≡◌, ℕ, ◌+◌, ◌*◌, ◌≤◌, List, Option, Some, IfSome}
+use Rattle.std.specs.List.{slice_get}
+use Rattle.ipb_base.specs.Lists.{IsPrefix}
+use Rattle.world_model.specs.declared.offered.Offered.{Offered}
+use Rattle.world_model.specs.Places.{at_place}
+use Rattle.world_model.specs.Board.{executed, replies}
+use Rattle.world_model.specs.Facts.{bodies_of}
+use Rattle.world_core.specs.Telling.{Telling}
+use Rattle.lane_record.specs.declared.outcome.Outcome.{Outcome}
+use Rattle.lane_record.specs.declared.outcome.Outcome.TheVariants.{Replied}
+use Rattle.lane_record.specs.declared.item.Item.{Item}
+use Rattle.lane_record.specs.Lists.{CountsFrom}
+use Rattle.lane_record.specs.Claims.{taken}
+use Rattle.lane_record.specs.Legal.{IsLegal}
+use Rattle.lane_record.specs.FirstSends.{bodies_sent, first_sends, places_of}
+use Rattle.lane_record.specs.Bounds.{AreLostOnlyIf, AreWithin, HasReached, timeouts}
+use Rattle.hub_lane.specs.Standing.{WasHanded}
+
+-- These outcomes have, for each body that was replied, the words that the board gives at its place: those of a bus with a
+-- single thread, when the bodies that the board executed are replayed by place over the bus that it opened with. The
+-- link handed such a reply out.
+pub record AreRightReplies (t : Telling) (outcomes : List (Option Outcome)) : Type 0 where
+  pub right : (k place : ℕ) (words : List ℕ) → slice_get outcomes k ≡ Some (Some (Replied place words))
+      → at_place (replies t.told.board) place ≡ Some words
+  pub handed : (k place : ℕ) (words : List ℕ) → slice_get outcomes k ≡ Some (Some (Replied place words))
+      → WasHanded t place words
+
+-- The board executed a front of the bodies that were sent first, in order, and the replies are right.
+pub record IsTrueTo (t : Telling) (bodies : List (List ℕ)) (outcomes : List (Option Outcome)) : Type 0 where
+  pub in_order : IsPrefix (executed t.told.board) bodies
+  pub replied : AreRightReplies t outcomes
+
+-- What a lane's record says where each Ask has its Took: it is legal; its first sends have the places 1, 2, 3, .. and are
+-- the bodies that the hub sent; what was timed out, and the quiet receives that each give-up took, are within the bounds;
+-- a body is lost only where the link failed; and over a link that tells the record is true.
+pub record IsWhole (items : List Item) (sent : List Offered) (window rounds give_ups faults quiets : ℕ)
+    (telling : Option Telling) : Type 0 where
+  pub legal : IsLegal items (taken items)
+  pub places : CountsFrom 1 (places_of (first_sends items))
+  pub bodies : bodies_of sent ≡ bodies_sent (first_sends items)
+  pub within : AreWithin give_ups items
+  pub few : timeouts (taken items) ≤ window * give_ups
+  pub waited : HasReached ((rounds + 1) * give_ups) quiets
+  pub lost : AreLostOnlyIf (1 ≤ faults) (taken items)
+  pub truth : IfSome telling (λ t. IsTrueTo t (bodies_sent (first_sends items)) (taken items))

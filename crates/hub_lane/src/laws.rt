@@ -1,0 +1,51 @@
+//! Laws of lanes. These functions do nothing when they run: their clauses are what is proved.
+
+ghost use Rattle.std.specs.Prelude.{◌≡◌, ℕ, Bool, List, Option};
+ghost use Rattle.world_model.specs.Hub.{Hub};
+ghost use Rattle.world_model.specs.Facts.{bodies_of};
+ghost use Rattle.reliable_engine.specs.Settings.{Limits};
+ghost use Rattle.world_core.specs.Telling.{Telling};
+ghost use Rattle.lane_record.specs.declared.outcome.Outcome.{Outcome};
+ghost use Rattle.hub_lane.specs.declared.book.TheConstants.{MAX_BODIES, MAX_WORDS};
+ghost use Rattle.hub_lane.specs.Plans.{most_bodies, most_words};
+ghost use Rattle.hub_lane.specs.Standing.{IsStanding};
+ghost use Rattle.hub_lane.specs.Truth.{IsTrueTo, IsWhole};
+ghost use Rattle.hub_lane.specs.Lanes.{BoardStatus, IsLane};
+ghost use Rattle.lane_record.specs.Claims.{IsFinished};
+ghost use Rattle.lane_record.specs.declared.item.Item.{Item};
+
+use crate::book::{MAX_BODIES, MAX_WORDS};
+use lane_record::laws::finished::{
+    a_finished_record_tells_all, a_hub_has_sent_what_a_finished_record_tells,
+};
+use world_core::laws::a_state_of_a_run_tells_the_truth;
+
+/// The limits of what is planned.
+pub fn the_limits_of_a_lane()
+    ensures bodies { MAX_BODIES ≡ most_bodies }
+    ensures words { MAX_WORDS ≡ most_words }
+{}
+
+/// Over a link that tells a lane is true at the exit of every call, also where it is down or spent: the board executed a
+/// front of the bodies that were sent first, in order, and each reply that a client got or will get is the board's at its
+/// place.
+pub fn a_lane_over_a_link_that_tells_is_true()
+    ensures { (stopped : Bool) (limits : Limits) (hub : Hub) (outcomes : List (Option Outcome)) (t : Telling)
+        → IsStanding stopped limits hub outcomes t → IsTrueTo t (bodies_of hub.sent) outcomes }
+{
+    a_state_of_a_run_tells_the_truth();
+}
+
+/// Where each asked body of a lane was taken, the record alone tells the bodies that were sent, by place, and what became
+/// of each; and what holds of the lane is said of this record.
+pub fn a_finished_lane_is_whole()
+    ensures { (settings : Limits) (status : BoardStatus) (hub : Hub) (items : List Item)
+        (outcomes : List (Option Outcome)) (give_ups : ℕ) (down spent : Bool) (telling : Option Telling)
+        (faults quiets : ℕ) → IsFinished items
+        → IsLane settings status hub items outcomes give_ups down spent telling faults quiets
+        → IsWhole items hub.sent hub.window hub.rounds give_ups faults quiets telling }
+{
+    a_finished_record_tells_all();
+    a_hub_has_sent_what_a_finished_record_tells();
+    a_lane_over_a_link_that_tells_is_true();
+}
