@@ -416,7 +416,8 @@ each_whole client front all (bs ∷ later) (os ∷ others) e none shape replied 
       ap (λ (ts : List Tagged). bodies_by client (map as_owned (tag_sort ts))) e ∙ here
           ∙ client_placed bs os lengths.first replied.0,
       each_whole (client + 1) (front ++ mine) all later others
-          (e ∙ sym (append_assoc front mine (all_tagged (client + 1) later others))) next lengths.rest replied.1 keeps.1,
+          (e ∙ sym (append_assoc front mine (all_tagged (client + 1) later others))) next lengths.rest replied.1
+          keeps.1,
     )
 
 -- ---- nobody else's

@@ -175,12 +175,12 @@ module _ (P : OpResult → Type 0) (bus : AllowsBus P) (fitting : Fitting P) whe
       → slice_get scripts client ≡ Some steps → before ++ op ∷ later ≡ operations steps → KeepsVerb op
       → P (showing run client (count_on op.board before) op).0
   showing_allowed scripts run client steps before later op can at ops keeps = elim can [
-      | inl live ↦ live_allowed live.0 scripts run client steps before later op live.1 at ops keeps
-      | inr other ↦ elim other [
-          | inl silent ↦ rw silent.0 silent.1
-          | inr down ↦ rw down.0 down.1
-        ]
+    | inl live ↦ live_allowed live.0 scripts run client steps before later op live.1 at ops keeps
+    | inr other ↦ elim other [
+      | inl silent ↦ rw silent.0 silent.1
+      | inr down ↦ rw down.0 down.1
     ]
+  ]
 
   lines_allowed : (scripts : List (List Step)) (runs : List BoardRun)
       → ((k : ℕ) (run : BoardRun) → slice_get runs k ≡ Some run → CanShow P k scripts run)
@@ -193,7 +193,8 @@ module _ (P : OpResult → Type 0) (bus : AllowsBus P) (fitting : Fitting P) whe
       (append_assoc before (op ∷ []) ops ∙ same) keep.1 in
       elim (slice_get_cases runs op.board).1 [
         | inl (run, within, there, again) ↦
-            rw there (showing_allowed scripts run client steps before ops op (look op.board run there) at same keep.0, later)
+            rw there
+            (showing_allowed scripts run client steps before ops op (look op.board run there) at same keep.0, later)
         | inr (past, none) ↦ rw none later
       ]
 
@@ -206,7 +207,8 @@ module _ (P : OpResult → Type 0) (bus : AllowsBus P) (fitting : Fitting P) whe
   clients_allowed scripts runs look client (steps ∷ rest) at keep =
       let first : client + 0 ≡ client = omega arith in (
         lines_allowed scripts runs look client steps
-            (subst (λ (c : ℕ). slice_get scripts c ≡ Some steps) first (at 0 steps refl)) [] (operations steps) refl keep.0,
+            (subst (λ (c : ℕ). slice_get scripts c ≡ Some steps) first (at 0 steps refl)) [] (operations steps) refl
+            keep.0,
         clients_allowed scripts runs look (client + 1) rest
             (λ j s h.
             let next : client + suc j ≡ client + 1 + j = omega arith in
@@ -222,7 +224,8 @@ module _ (P : OpResult → Type 0) (bus : AllowsBus P) (fitting : Fitting P) whe
       subst (λ (c : ℕ). slice_get scripts c ≡ Some steps) same h)
       keep
 
-pub session_bus : Fitting IsBusResult → Telling → (specs : List BoardSpec) (scripts : List (List Step)) (runs : List BoardRun)
+pub session_bus : Fitting IsBusResult → Telling → (specs : List BoardSpec) (scripts : List (List Step))
+    (runs : List BoardRun)
     → AreRuns 0 specs scripts runs → AreReady 0 specs scripts → AllByRecursion AskRequests runs
     → AllByRecursion KeepVerbs scripts → AllByRecursion (AllByRecursion IsBusLine) (lines_from runs 0 scripts)
 session_bus fitting telling specs scripts runs is ready asks keep =

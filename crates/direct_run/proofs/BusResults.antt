@@ -1,5 +1,5 @@
--- What the pieces of an operation came to, and so the operation, is of an allowed kind: where nothing is lost, a code of
--- the bus at worst.
+-- What the pieces of an operation came to, and so the operation, is of an allowed kind: where nothing is lost, a code
+-- of the bus at worst.
 use Rattle.std.proofs.Common.{◌≡◌, ◌⊎◌, ℕ, zero, suc, ◌<◌, true, false, List, [], ◌∷◌, length, map, Option, Some}
 use Rattle.std.proofs.Common.{None, refl, sym, ap, ◌∙◌, subst, inl, inr, arith, length-append}
 use Rattle.std.specs.Prelude.{unwrap_or}
@@ -102,61 +102,62 @@ OneList = (left right : List Request) → AreRequests left → AreRequests right
     → requests_words left ≡ requests_words right → left ≡ right
 
 module _ (P : OpResult → Type 0) (bus : AllowsBus P) (one_each : OneEach) (each_is : EachIsThat) (one_list : OneList)
-    where
-  joined_length : (requests : List Request) (words : List ℕ) (list : List Answer) → AreRequests requests
-      → IsJoined (requests_words requests) words list → length list ≡ length requests
-  joined_length requests words list ranges joined =
-      let is = joined.0 in
-      ap length joined.1
-      ∙ one_each (requests_words requests) words is
-      ∙ ap length (one_list is.requests requests is.ranges ranges (sym is.asked))
+  where
+    joined_length : (requests : List Request) (words : List ℕ) (list : List Answer) → AreRequests requests
+        → IsJoined (requests_words requests) words list → length list ≡ length requests
+    joined_length requests words list ranges joined =
+        let is = joined.0 in
+        ap length joined.1
+        ∙ one_each (requests_words requests) words is
+        ∙ ap length (one_list is.requests requests is.ranges ranges (sym is.asked))
 
-  answer_at : (op : Op) (requests : List Request) (words : List ℕ) (list : List Answer) (index : ℕ)
-      (request : Request) → AreRequests requests → IsJoined (requests_words requests) words list
-      → slice_get requests index ≡ Some request → (IsRmw op → IsRmw request.op)
-      → Fits P op (answered (slice_get list index))
-  answer_at op requests words list index request ranges joined at rmw =
-      elim (slice_get_cases list index).1 [
-        | inl (one, within, there, again) ↦ subst (λ (o : Option Answer). Fits P op (answered o)) (sym there)
-            (answer_fits P bus op request one rmw (each_is (requests_words requests) words list requests index request one
-            joined ranges refl at there))
-        | inr (past, none) ↦
-            absurd (omega (
-              arith,
-              joined_length requests words list ranges joined,
-              slice_get_within requests index request at,
-            ))
-      ]
+    answer_at : (op : Op) (requests : List Request) (words : List ℕ) (list : List Answer) (index : ℕ)
+        (request : Request) → AreRequests requests → IsJoined (requests_words requests) words list
+        → slice_get requests index ≡ Some request → (IsRmw op → IsRmw request.op)
+        → Fits P op (answered (slice_get list index))
+    answer_at op requests words list index request ranges joined at rmw =
+        elim (slice_get_cases list index).1 [
+          | inl (one, within, there, again) ↦ subst (λ (o : Option Answer). Fits P op (answered o)) (sym there)
+              (answer_fits P bus op request one rmw
+              (each_is (requests_words requests) words list requests index request one
+              joined ranges refl at there))
+          | inr (past, none) ↦
+              absurd (omega (
+                arith,
+                joined_length requests words list ranges joined,
+                slice_get_within requests index request at,
+              ))
+        ]
 
-  piece_fits : (bodies : List (List ℕ)) (outcomes : List Outcome) (op : Op) (body index : ℕ)
-      → Both (IsFine P) bodies outcomes → IsAsked bodies op body index
-      → Fits P op (result_in (slice_get (map end_of (zip bodies outcomes)) body) index)
-  piece_fits bodies outcomes op body index told asked =
-      let words = requests_words asked.requests in
-      let both = both_at (IsFine P) bodies outcomes body words told asked.there in
-      subst (λ (e : Option BodyEnd). Fits P op (result_in e index))
-      (sym (zip_at bodies outcomes body words both.0 asked.there both.1))
-      (elim (both.2) [
-        | inl is ↦
-            (let answer = answer_at op asked.requests is.words is.list index asked.request asked.ranges is.joined
-            asked.at' asked.rmw in
-            subst (λ (o : Outcome). Fits P op (told_at (told_of words o) index)) (sym is.is)
-            (subst (λ (l : Option (List Answer)). Fits P op (told_at (told_by l) index)) (sym is.found) answer))
-        | inr is ↦ record {
-          allowed = is.allowed index;
-          some = λ rmw good. absurd (let bad = is.bad index in cc);
-        }
-      ])
+    piece_fits : (bodies : List (List ℕ)) (outcomes : List Outcome) (op : Op) (body index : ℕ)
+        → Both (IsFine P) bodies outcomes → IsAsked bodies op body index
+        → Fits P op (result_in (slice_get (map end_of (zip bodies outcomes)) body) index)
+    piece_fits bodies outcomes op body index told asked =
+        let words = requests_words asked.requests in
+        let both = both_at (IsFine P) bodies outcomes body words told asked.there in
+        subst (λ (e : Option BodyEnd). Fits P op (result_in e index))
+        (sym (zip_at bodies outcomes body words both.0 asked.there both.1))
+        (elim (both.2) [
+          | inl is ↦
+              (let answer = answer_at op asked.requests is.words is.list index asked.request asked.ranges is.joined
+              asked.at' asked.rmw in
+              subst (λ (o : Outcome). Fits P op (told_at (told_of words o) index)) (sym is.is)
+              (subst (λ (l : Option (List Answer)). Fits P op (told_at (told_by l) index)) (sym is.found) answer))
+          | inr is ↦ record {
+            allowed = is.allowed index;
+            some = λ rmw good. absurd (let bad = is.bad index in cc);
+          }
+        ])
 
-  pub pieces_fit : (part : ClientPart) (op : Op) (pieces : List PieceAt)
-      → Both (IsFine P) part.planned.bodies part.outcomes
-      → AllByRecursion (λ (p : PieceAt). IsAsked part.planned.bodies op p.body p.index) pieces
-      → AllByRecursion (Fits P op) (map (piece_result (ends_of part)) pieces)
-  pieces_fit part op [] told asked = tt
-  pieces_fit part op (p ∷ ps) told asked = (
-    piece_fits part.planned.bodies part.outcomes op p.body p.index told asked.0,
-    pieces_fit part op ps told asked.1,
-  )
+    pub pieces_fit : (part : ClientPart) (op : Op) (pieces : List PieceAt)
+        → Both (IsFine P) part.planned.bodies part.outcomes
+        → AllByRecursion (λ (p : PieceAt). IsAsked part.planned.bodies op p.body p.index) pieces
+        → AllByRecursion (Fits P op) (map (piece_result (ends_of part)) pieces)
+    pieces_fit part op [] told asked = tt
+    pieces_fit part op (p ∷ ps) told asked = (
+      piece_fits part.planned.bodies part.outcomes op p.body p.index told asked.0,
+      pieces_fit part op ps told asked.1,
+    )
 
 -- ---- an operation
 

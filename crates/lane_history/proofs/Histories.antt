@@ -69,7 +69,8 @@ pub became_outcomes : (P : Outcome → Type 0) (items : List Item) (became : Lis
     → AllByRecursion (λ (s : Step). P s.outcome) (steps items)
 became_outcomes P items became legal done all = steps_outcomes P (claims items) (taken items)
     (subst (AllByRecursion (λ (o : Option Outcome). IfSome o P)) (outcomes_taken items became legal done)
-    (all_at (λ (o : Option Outcome). IfSome o P) became (λ k o e. if_there P o (λ p same. all k p (e ∙ ap (λ z. Some z) same)))))
+    (all_at (λ (o : Option Outcome). IfSome o P) became
+    (λ k o e. if_there P o (λ p same. all k p (e ∙ ap (λ z. Some z) same)))))
 
 -- ---- what may have been sent was sent
 

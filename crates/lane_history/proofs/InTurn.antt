@@ -10,12 +10,13 @@ use Rattle.lane_record.specs.declared.item.Item.{Item}
 use Rattle.lane_record.specs.Lists.{CountsFrom, NeverFalls}
 use Rattle.lane_record.specs.Items.{ask_in}
 use Rattle.lane_record.specs.Claims.{Claim, claims, claims_behind, claim_in, taken}
+use Rattle.lane_record.specs.NextEntry.{the_seal}
 use Rattle.lane_record.specs.Legal.{IsLegal}
 use Rattle.lane_record.proofs.Lookups.{claims_append}
 use Rattle.board_history.specs.Order.{Placed, all_placed, places_of}
 use Rattle.board_history.specs.InTurn.{AreInTurn}
 use Rattle.board_history.specs.Patience.{joined}
-use Rattle.lane_history.specs.Records.{plans_from, opening_from, makers, IsClientsRecord}
+use Rattle.lane_history.specs.Records.{plans_from, all_plans_from, makers, IsClientsRecord}
 use Rattle.lane_history.proofs.Steps.{Step, step_for, steps_of, steps, of, IsWithin, finished, steps_of_all}
 use Rattle.lane_history.proofs.Orders.{sent, own_place, collected, collected_other, none_collected}
 use Rattle.lane_history.proofs.Orders.{all_collected, in_order}
@@ -55,20 +56,23 @@ no_asks_in_plans : (client seq : ℕ) (bodies : List (List ℕ)) → AllByRecurs
 no_asks_in_plans client seq [] = tt
 no_asks_in_plans client seq (b ∷ bs) = (refl, no_asks_in_plans client (seq + 1) bs)
 
-no_asks_in_opening : (client : ℕ) (bodies : List (List (List ℕ))) → AllByRecursion IsNoAsk (opening_from client bodies)
-no_asks_in_opening client [] = (refl, tt)
+no_asks_in_opening : (client : ℕ) (bodies : List (List (List ℕ)))
+    → AllByRecursion IsNoAsk (all_plans_from client bodies)
+no_asks_in_opening client [] = tt
 no_asks_in_opening client (bs ∷ later) = AllByRecursion-append IsNoAsk (plans_from client 0 bs)
-    (opening_from (client + 1) later) (no_asks_in_plans client 0 bs) (no_asks_in_opening (client + 1) later)
+    (all_plans_from (client + 1) later) (no_asks_in_plans client 0 bs) (no_asks_in_opening (client + 1) later)
 
-asks_in_turn : (bodies : List (List (List ℕ))) (past items : List Item) → items ≡ opening_from 1 bodies ++ past
-    → NeverFalls 0 (makers past) → NeverFalls 0 (claim_makers (claims items))
+asks_in_turn : (bodies : List (List (List ℕ))) (past items : List Item)
+    → items ≡ all_plans_from 1 bodies ++ the_seal ∷ past → NeverFalls 0 (makers past)
+    → NeverFalls 0 (claim_makers (claims items))
 asks_in_turn bodies past items opens f =
-    let opening = opening_from 1 bodies in
-    let only : claims items ≡ claims_behind opening past =
-    ap claims opens ∙ claims_append [] opening past
-    ∙ ap (λ (cs : List Claim). cs ++ claims_behind opening past)
-    (no_claims [] opening (no_asks_in_opening 1 bodies)) in
-    subst (λ (cs : List Claim). NeverFalls 0 (claim_makers cs)) (sym only) (claims_in_turn 0 opening past f)
+    let plans = all_plans_from 1 bodies in
+    let later = claims_behind (plans ++ the_seal ∷ []) past in
+    let only : claims items ≡ later =
+    ap claims opens ∙ claims_append [] plans (the_seal ∷ past)
+    ∙ ap (λ (cs : List Claim). cs ++ later) (no_claims [] plans (no_asks_in_opening 1 bodies)) in
+    subst (λ (cs : List Claim). NeverFalls 0 (claim_makers cs)) (sym only)
+    (claims_in_turn 0 (plans ++ the_seal ∷ []) past f)
 
 abbrev pub step_makers : List Step → List ℕ
 step_makers ss = map (λ (s : Step). s.client) ss

@@ -9,6 +9,7 @@ mod Waits
 mod Merges
 mod Calm
 mod InTurn
+mod Growing
 mod Live
 mod Ungarbled
 mod Shown

@@ -1,11 +1,10 @@
 -- What the lines of a session show over links that tell.
-use Rattle.std.proofs.Common.{◌≡◌, ◌≢◌, ◌⊎◌, ℕ, zero, suc, ◌+◌, ◌≤◌, false, List, [], ◌∷◌, length, map, Option, Some, None}
+use Rattle.std.proofs.Common.{◌≡◌, ◌≢◌, ◌⊎◌, ℕ, zero, suc, ◌+◌, List, [], ◌∷◌, length, map, Option, Some, None}
 use Rattle.std.proofs.Common.{refl, sym, ap, ◌∙◌, subst, inl, inr, arith}
 use Rattle.std.specs.List.{AllByRecursion, slice_get}
 use Rattle.std.proofs.lemmas.Option.{same_Some}
 use Rattle.ipb_base.specs.Word.{AreWords}
-use Rattle.ipb_base.specs.Numbers.{payload_of}
-use Rattle.ipb_base.proofs.AllLemmas.{front_of_all, back_of_all, all-map}
+use Rattle.ipb_base.proofs.AllLemmas.{front_of_all, back_of_all}
 use Rattle.board_bus.specs.Cells.{CellMap, HoldsWords}
 use Rattle.board_bus.specs.Bodies.{replay}
 use Rattle.board_node.specs.declared.spec.BoardSpec.{BoardSpec}
@@ -25,7 +24,6 @@ use Rattle.transcript.specs.declared.board_run.BoardRun.{BoardRun}
 use Rattle.transcript.specs.declared.line.OpResult.{OpResult}
 use Rattle.transcript.specs.declared.line.OpResult.TheVariants as result
 use Rattle.transcript.specs.Plan.{AreSpelled, plans_on}
-use Rattle.transcript.specs.Lines.{lines_from}
 use Rattle.board_history.specs.Order.{Placed, with_place, placed, all_placed, order, bodies_of}
 use Rattle.board_history.specs.Parts.{IsReplyOf, IsReplied}
 use Rattle.board_history.specs.History.{ShowsHistory, bodies_by_client, outcomes_by_client}
@@ -41,7 +39,7 @@ use Rattle.direct_run.proofs.Readiness.{ArePackedFor, IsReady, AreReady}
 use Rattle.direct_run.proofs.Shaped.{Standing, lengths}
 use Rattle.direct_run.proofs.Spelled.{Spelling, parts_spelled}
 use Rattle.lane_history.specs.Links.{LinkReport, IsBoardOf}
-use Rattle.lane_history.specs.Runs.{TellsPayload, IsLiveRun, IsAsTold, IsRunOver, AreRunsOver, IsWholeRun, AreWholeRuns}
+use Rattle.lane_history.specs.Runs.{TellsPayload, IsLiveRun, IsAsTold, IsRunOver, AreRunsOver, AreWholeRuns}
 use Rattle.lane_history.proofs.Ungarbled.{StandsIn, all_stand, HasWords, all_words, words_of, reply_told}
 use Rattle.lane_history.proofs.Shown.{is_history}
 
@@ -90,7 +88,7 @@ module _ (P : OpResult → Type 0) (answering : Answering) (any : AnsweringAny) 
       → IsReplyOf (replay opening (bodies_of ps)).replies outcome → IsReplied outcome → IsFine P body outcome
   one_fine opening ps body (Replied place words) holds all spelled stand reply replied =
       inl (reply_told answering any keeping keeping_all garbling joins opening (bodies_of ps) place body words holds all
-        spelled.0 (at_map (λ (p : Placed). p.body) ps place (record { place = place; body = body }) stand.0) reply)
+      spelled.0 (at_map (λ (p : Placed). p.body) ps place (record { place = place; body = body }) stand.0) reply)
   one_fine opening ps body (TimedOut place rounds) holds all spelled stand reply replied = absurd replied
   one_fine opening ps body Unsent holds all spelled stand reply replied = absurd replied
   one_fine opening ps body (LinkLost place) holds all spelled stand reply replied = absurd replied
@@ -105,15 +103,14 @@ module _ (P : OpResult → Type 0) (answering : Answering) (any : AnsweringAny) 
   client_fine opening ps (b ∷ bs) [] holds all spelled stand replies may same = absurd (omega (arith, same))
   client_fine opening ps (b ∷ bs) (o ∷ os) holds all spelled stand replies may same =
       let mine = with_place b (place_of o) in
-      let rest = placed bs os in
-      (
+      let rest = placed bs os in (
         elim (may.0 b) [
           | inl replied ↦ one_fine opening ps b o holds all (spelled.0, tt) (front_of_all (StandsIn ps) mine rest stand)
               replies.0 replied
           | inr other ↦ inr other
         ],
         client_fine opening ps bs os holds all spelled.1 (back_of_all (StandsIn ps) mine rest stand) replies.1 may.1
-        (omega (arith, same)),
+            (omega (arith, same)),
       )
 
   parts_fine : (standing : Standing) (opening : CellMap) (ps : List Placed) (parts : List ClientPart)
@@ -129,13 +126,12 @@ module _ (P : OpResult → Type 0) (answering : Answering) (any : AnsweringAny) 
   parts_fine standing opening ps (p ∷ parts) holds all asks stand replies may long =
       let mine = placed p.planned.bodies p.outcomes in
       let rest = all_placed (map (λ (q : ClientPart). q.planned.bodies) parts)
-          (map (λ (q : ClientPart). q.outcomes) parts) in
-      let here = lengths standing p parts long in
-      (
+      (map (λ (q : ClientPart). q.outcomes) parts) in
+      let here = lengths standing p parts long in (
         client_fine opening ps p.planned.bodies p.outcomes holds all asks.0
-        (front_of_all (StandsIn ps) mine rest stand) replies.0 may.0 here.first,
+            (front_of_all (StandsIn ps) mine rest stand) replies.0 may.0 here.first,
         parts_fine standing opening ps parts holds all asks.1 (back_of_all (StandsIn ps) mine rest stand) replies.1
-        may.1 here.rest,
+            may.1 here.rest,
       )
 
   history_fine : (standing : Standing) (opening : CellMap) (run : BoardRun) → HoldsWords opening → AskRequests run
@@ -155,12 +151,13 @@ module _ (P : OpResult → Type 0) (answering : Answering) (any : AnsweringAny) 
       → IsRunOver settings spec board scripts run link → IsReady spec board scripts → IsAllowed P run
       → Shows P board payload scripts run
   live_shows standing spelling settings spec board scripts run link payload greeted is ready may =
-      let live : IsLiveRun settings spec payload run link = subst (IsAsTold settings spec run link) greeted is.as_told in
+      let live : IsLiveRun settings spec payload run link =
+      subst (IsAsTold settings spec run link) greeted is.as_told in
       let told : Live payload ≡ greeting_of spec.link = told_here spec.link payload ready.here live.packets in
       let there = there_is spec.link link.board ready.here is.board' in
       let history = is_history settings spec board scripts run link there.0 payload is greeted there.1 in
       let packed : AllByRecursion (ArePackedFor board (Live payload)) scripts =
-          subst (λ (g : Greeting). AllByRecursion (ArePackedFor board g) scripts) (sym told) ready.packed' in
+      subst (λ (g : Greeting). AllByRecursion (ArePackedFor board g) scripts) (sym told) ready.packed' in
       let plans = is.scripts'.plans ∙ ap (λ (g : Greeting). plans_on board g scripts) greeted in
       let asks = parts_spelled spelling board (Live payload) scripts run.parts plans packed in
       record {
@@ -196,7 +193,8 @@ module _ (P : OpResult → Type 0) (answering : Answering) (any : AnsweringAny) 
       subst (λ (b : ℕ). CanShow P b scripts run) same
       (subst (λ (x : BoardRun). CanShow P board scripts x) (same_Some r run at) here)
   shows_at standing spelling settings board (spec ∷ specs) scripts (r ∷ runs) (l ∷ links) is ready may (suc k) run at =
-      let later = shows_at standing spelling settings (board + 1) specs scripts runs links is.1 ready.1 may.1 k run at in
+      let later =
+      shows_at standing spelling settings (board + 1) specs scripts runs links is.1 ready.1 may.1 k run at in
       let same : board + 1 + k ≡ board + suc k = omega arith in
       subst (λ (b : ℕ). CanShow P b scripts run) same later
 

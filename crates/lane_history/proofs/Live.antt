@@ -20,7 +20,8 @@ use Rattle.transcript.specs.declared.board_run.ClientPart.{ClientPart}
 use Rattle.transcript.specs.declared.board_run.BoardRun.{BoardRun}
 use Rattle.board_history.specs.Order.{order, bodies_of}
 use Rattle.board_history.specs.Parts.{HasOneOrder, KeepsScripts, IsExecutedOnce, AreRepliesOf}
-use Rattle.board_history.specs.History.{IsHistory, bodies_by_client, outcomes_by_client, dispatches_by_client, dispatches_of}
+use Rattle.board_history.specs.History.{IsHistory, bodies_by_client, outcomes_by_client, dispatches_by_client}
+use Rattle.board_history.specs.History.{dispatches_of}
 use Rattle.board_history.specs.Patience.{joined}
 use Rattle.transcript.specs.Plan.{plans_on}
 use Rattle.direct_run.specs.Runs.{opening_of}
@@ -162,9 +163,11 @@ module _ (standing : Standing) where
             (λ (b : Board). HasReached (settings.rounds * given_up) link.held)
             (IsTrueRun settings (opening_of spec.link) run link.held) link.board
             (λ b true' held. record {
-              executed_once = subst (λ (oss : List (List Outcome)). IsExecutedOnce (order bodies oss) oss (executed b)) same
+              executed_once = subst
+                  (λ (oss : List (List Outcome)). IsExecutedOnce (order bodies oss) oss (executed b)) same
                   (done_once bodies outcomes items became (opening_of spec.link) (executed b) is legal true');
-              replies = subst (λ (oss : List (List Outcome)). AreRepliesOf (opening_of spec.link) (order bodies oss) oss) same
+              replies = subst
+                  (λ (oss : List (List Outcome)). AreRepliesOf (opening_of spec.link) (order bodies oss) oss) same
                   (are_replies bodies outcomes items became (opening_of spec.link) (executed b) is legal true');
               held' = has_waited settings.window settings.rounds link.held given_up bodies outcomes items became is
                   lane.kept held;
@@ -177,9 +180,10 @@ module _ (standing : Standing) where
       → TellsPayload spec.link payload → IsClientsRecord (bodies_by_client run) (dispatches_by_client run) items
       → IsSoundLane settings (opening_of spec.link) link items became given_up
       → IsRunOver settings spec board scripts run link
-  run_over settings spec board scripts run link payload items became given_up shows of greeted packets is lane = record {
-    scripts' = shows;
-    board' = of;
-    as_told = subst (IsAsTold settings spec run link) (sym greeted)
-        (live_run settings spec board scripts run link payload items became given_up shows packets is lane);
-  }
+  run_over settings spec board scripts run link payload items became given_up shows of greeted packets is lane =
+      record {
+        scripts' = shows;
+        board' = of;
+        as_told = subst (IsAsTold settings spec run link) (sym greeted)
+            (live_run settings spec board scripts run link payload items became given_up shows packets is lane);
+      }

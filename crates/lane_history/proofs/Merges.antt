@@ -18,6 +18,7 @@ use Rattle.lane_record.specs.declared.item.What.TheVariants.{Plan, Seal, Ask, To
 use Rattle.lane_record.specs.Lists.{CountsFrom}
 use Rattle.lane_record.specs.Items.{plan_in, ask_in, numbers, found, is_of}
 use Rattle.lane_record.specs.Claims.{Claim, claims}
+use Rattle.lane_record.specs.NextEntry.{the_seal}
 use Rattle.lane_record.specs.FirstSends.{may_have_place}
 use Rattle.lane_record.specs.Offers.{offers_from}
 use Rattle.lane_record.specs.Legal.{IsLegal, IsMade, HasMaker}
@@ -25,7 +26,7 @@ use Rattle.board_history.specs.Merges.{IsSubsequence, Owned, bodies_by, bodies_o
 use Rattle.board_history.specs.Merges.{IsMergeOfSome}
 use Rattle.board_history.proofs.Merging.{front_of_merge}
 use Rattle.lane_history.specs.Records.{entries_by, planned_in, bodies_planned, ArePlansOf, IsPartlyPlanned}
-use Rattle.lane_history.specs.Records.{plans_from, opening_from, IsOfClient, IsClientsRecord}
+use Rattle.lane_history.specs.Records.{plans_from, all_plans_from, IsOfClient, IsClientsRecord}
 use Rattle.lane_history.specs.Lanes.{bodies_offered}
 use Rattle.lane_history.proofs.Own.{IsBy, all_by, own_found, own_numbers}
 use Rattle.lane_history.proofs.Rans.{ran_items}
@@ -85,7 +86,8 @@ sub_skip (x ∷ xs) y ys s = inr s
 -- its own offer, or none
 own_offer : (client : ℕ) (c : Claim) (b : Bool) (os : List Owned) (ys : List (List ℕ)) → c.client ≡ client
     → IsSubsequence (bodies_by client os) ys
-    → IsSubsequence (bodies_by client (if b then record { client = c.client; body = c.body } ∷ os else os)) (c.body ∷ ys)
+    → IsSubsequence (bodies_by client (if b then record { client = c.client; body = c.body } ∷ os else os))
+    (c.body ∷ ys)
 own_offer client c true os ys e s =
     let own : (c.client == client) ≡ true = eq-eqb c.client client e in
     rw own (inl (refl, s))
@@ -232,7 +234,7 @@ merge_at bodies items became done legal planned front =
 
 -- ---- the record that clients leave
 
-plans_planned : (client seq : ℕ) (bodies : List (List ℕ)) (rest : List Item)
+pub plans_planned : (client seq : ℕ) (bodies : List (List ℕ)) (rest : List Item)
     → filter_map planned_in (plans_from client seq bodies ++ rest) ≡ bodies ++ filter_map planned_in rest
 plans_planned client seq [] rest = refl
 plans_planned client seq (b ∷ bs) rest =
@@ -268,11 +270,11 @@ plans_at_most : (many client seq : ℕ) (bodies : List (List ℕ)) → client �
 plans_at_most many client seq [] le = tt
 plans_at_most many client seq (b ∷ bs) le = (le, plans_at_most many client (seq + 1) bs le)
 
-opening_at_most : (many client : ℕ) (bodies : List (List (List ℕ))) → client + length bodies ≤ many + 1
-    → AllByRecursion (IsAtMost many) (opening_from client bodies)
-opening_at_most many client [] le = (omega arith, tt)
+pub opening_at_most : (many client : ℕ) (bodies : List (List (List ℕ))) → client + length bodies ≤ many + 1
+    → AllByRecursion (IsAtMost many) (all_plans_from client bodies)
+opening_at_most many client [] le = tt
 opening_at_most many client (bs ∷ later) le =
-    AllByRecursion-append (IsAtMost many) (plans_from client 0 bs) (opening_from (client + 1) later)
+    AllByRecursion-append (IsAtMost many) (plans_from client 0 bs) (all_plans_from (client + 1) later)
     (plans_at_most many client 0 bs (omega (arith, le))) (opening_at_most many (client + 1) later (omega (arith, le)))
 
 pub partly_planned : (bodies : List (List (List ℕ))) (outcomes : List (List (List Outcome))) (items : List Item)
@@ -280,7 +282,9 @@ pub partly_planned : (bodies : List (List (List ℕ))) (outcomes : List (List (L
 partly_planned bodies outcomes items is = record {
   each = all_planned 1 bodies outcomes items (each_ran bodies outcomes items is);
   nobody_else = subst (AllByRecursion (IsAtMost (length bodies))) (sym is.opens)
-      (AllByRecursion-append (IsAtMost (length bodies)) (opening_from 1 bodies) is.past
-      (opening_at_most (length bodies) 1 bodies (omega arith))
-      (all-map (IsOfClient (length bodies)) (IsAtMost (length bodies)) is.past (λ x of. of.1) is.nobody_else));
+      (AllByRecursion-append (IsAtMost (length bodies)) (all_plans_from 1 bodies) (the_seal ∷ is.past)
+      (opening_at_most (length bodies) 1 bodies (omega arith)) (
+        omega arith,
+        all-map (IsOfClient (length bodies)) (IsAtMost (length bodies)) is.past (λ x of. of.1) is.nobody_else,
+      ));
 }

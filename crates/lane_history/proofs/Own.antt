@@ -43,7 +43,8 @@ none_by client (x ∷ xs) all = rw all.0 (none_by client xs all.1)
 -- where all are the client's there are no others
 pub only_by : (client : ℕ) (xs : List Item) → AllByRecursion (IsBy client) xs → entries_by client xs ≡ xs
 only_by client [] all = refl
-only_by client (x ∷ xs) all = rw (eq-eqb x.client client all.0) (ap (λ (ys : List Item). x ∷ ys) (only_by client xs all.1))
+only_by client (x ∷ xs) all =
+    rw (eq-eqb x.client client all.0) (ap (λ (ys : List Item). x ∷ ys) (only_by client xs all.1))
 
 -- ---- look-ups see the client's entries alone
 

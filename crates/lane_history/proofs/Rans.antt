@@ -1,5 +1,5 @@
 -- The entries of a client that ran its dispatches, with their numbers of give-ups.
-use Rattle.std.proofs.Common.{◌≡◌, ℕ, suc, ◌+◌, List, [], ◌∷◌, ◌++◌, length, map}
+use Rattle.std.proofs.Common.{◌≡◌, ℕ, zero, suc, ◌+◌, List, [], ◌∷◌, ◌++◌, length, map}
 use Rattle.std.proofs.Common.{refl, ap, ◌∙◌, subst}
 use Rattle.std.specs.List.{AllByRecursion, flat_map}
 use Rattle.std.proofs.lemmas.List.{length-map}
@@ -95,7 +95,8 @@ is_took : (what : What) (outcome : Outcome) → deed_of what ≡ Taken outcome �
 is_took (Plan body) outcome e = absurd cc
 is_took Seal outcome e = absurd cc
 is_took (Ask n) outcome e = absurd cc
-is_took (Took o n) outcome e = record { give_ups = n; same = let s : o ≡ outcome = cc in ap (λ (z : Outcome). Took z n) s }
+is_took (Took o n) outcome e =
+    record { give_ups = n; same = let s : o ≡ outcome = cc in ap (λ (z : Outcome). Took z n) s }
 
 same_item : (x : Item) (client seq : ℕ) (what : What) → x.client ≡ client → x.seq ≡ seq → x.what ≡ what
     → x ≡ record { client = client; seq = seq; what = what }
@@ -104,23 +105,23 @@ same_item x client seq what c s w =
     ∙ ap (λ (k : ℕ). record { client = client; seq = k; what = x.what }) s
     ∙ ap (λ (k : What). record { client = client; seq = seq; what = k }) w
 
-pub record AsksIn (client seq : ℕ) (outcomes : List Outcome) (xs : List Item) : Type 0 where
+pub record AsksIn (client seq many : ℕ) (xs : List Item) : Type 0 where
   pub asked : List ℕ
   pub items : xs ≡ ask_items client seq asked
-  pub count : length asked ≡ length outcomes
+  pub count : length asked ≡ many
 
-asks_in : (client seq : ℕ) (outcomes : List Outcome) (xs : List Item) → AllByRecursion (IsBy client) xs
-    → map act_of xs ≡ asks_from seq outcomes → AsksIn client seq outcomes xs
-asks_in client seq [] [] by e = record { asked = []; items = refl; count = refl }
-asks_in client seq [] (x ∷ xs) by e = absurd cc
-asks_in client seq (o ∷ os) [] by e = absurd cc
-asks_in client seq (o ∷ os) (x ∷ xs) by e =
+asks_in : (client seq many : ℕ) (xs : List Item) → AllByRecursion (IsBy client) xs → map act_of xs ≡ asks_from seq many
+    → AsksIn client seq many xs
+asks_in client seq zero [] by e = record { asked = []; items = refl; count = refl }
+asks_in client seq zero (x ∷ xs) by e = absurd cc
+asks_in client seq (suc many) [] by e = absurd cc
+asks_in client seq (suc many) (x ∷ xs) by e =
     let head : act_of x ≡ record { seq = seq; deed = Asked } = cc in
     let s : x.seq ≡ seq = ap (λ (a : Act). a.seq) head in
     let d : deed_of x.what ≡ Asked = ap (λ (a : Act). a.deed) head in
-    let tail : map act_of xs ≡ asks_from (seq + 1) os = cc in
+    let tail : map act_of xs ≡ asks_from (seq + 1) many = cc in
     let what = is_ask x.what d in
-    let later = asks_in client (seq + 1) os xs by.1 tail in
+    let later = asks_in client (seq + 1) many xs by.1 tail in
     record {
       asked = what.give_ups ∷ later.asked;
       items = ap (λ (y : Item). y ∷ xs) (same_item x client seq (Ask what.give_ups) by.0 s what.same)
@@ -148,7 +149,8 @@ tooks_in client seq (o ∷ os) (x ∷ xs) by e =
     record {
       took = record { outcome = o; give_ups = what.give_ups } ∷ later.took;
       items = ap (λ (y : Item). y ∷ xs) (same_item x client seq (Took o what.give_ups) by.0 s what.same)
-          ∙ ap (λ (ys : List Item). record { client = client; seq = seq; what = Took o what.give_ups } ∷ ys) later.items;
+          ∙ ap (λ (ys : List Item). record { client = client; seq = seq; what = Took o what.give_ups } ∷ ys)
+          later.items;
       same = ap (λ (zs : List Outcome). o ∷ zs) later.same;
     }
 
@@ -175,12 +177,12 @@ pub rans_in : (client seq : ℕ) (dispatches : List (List Outcome)) (xs : List I
 rans_in client seq [] [] by e = record { rans = []; whole = tt; items = refl; same = refl }
 rans_in client seq [] (x ∷ xs) by e = absurd cc
 rans_in client seq (outcomes ∷ later) xs by e =
-    let one = in_parts xs (asks_from seq outcomes)
+    let one = in_parts xs (asks_from seq (length outcomes))
     (tooks_from seq outcomes ++ dispatches_from (seq + length outcomes) later) e in
     let two = in_parts one.back (tooks_from seq outcomes) (dispatches_from (seq + length outcomes) later) one.second in
     let by_one = front_by client xs one.front one.back one.parts by in
     let by_two = front_by client one.back two.front two.back two.parts by_one.1 in
-    let asks = asks_in client seq outcomes one.front by_one.0 one.first in
+    let asks = asks_in client seq (length outcomes) one.front by_one.0 one.first in
     let tooks = tooks_in client seq outcomes two.front by_two.0 two.first in
     let count : length outcomes ≡ length tooks.took =
     ap length tooks.same ∙ length-map tooks.took outcome_took in

@@ -227,7 +227,8 @@ not_lost : (link : LinkReport) (outcomes : List (List Outcome)) → link.faults 
     → AllByRecursion (AllByRecursion (IsLostOnlyIfFailed link)) outcomes
     → AllByRecursion (AllByRecursion IsNotLost) outcomes
 not_lost link outcomes none = all-map (AllByRecursion (IsLostOnlyIfFailed link)) (AllByRecursion IsNotLost) outcomes
-    (λ os. all-map (IsLostOnlyIfFailed link) IsNotLost os (λ o lost is. let some = lost is in omega (arith, some, none)))
+    (λ os. all-map (IsLostOnlyIfFailed link) IsNotLost os
+    (λ o lost is. let some = lost is in omega (arith, some, none)))
 
 -- a link that tells is to a simulated board
 told_greeting : (spec : LinkSpec) (board : Option Board) (there : Board) (payload : ℕ) → board ≡ Some there
@@ -334,7 +335,7 @@ nothing_garbled : (spec : BoardSpec) (board : ℕ) (told : Greeting) (scripts : 
     → ShowsScripts spec board scripts run → NoneGarbled run
 nothing_garbled spec board told scripts run greeted none shows = no_ends run.parts
     (nothing_planned board told scripts run.parts none
-      (shows.plans ∙ ap (λ (g : Greeting). plans_on board g scripts) greeted))
+    (shows.plans ∙ ap (λ (g : Greeting). plans_on board g scripts) greeted))
 
 module _ (answering : Answering) (any : AnsweringAny) (keeping : Keeping) (keeping_all : KeepingAll)
     (garbling : Garbling) (joins : Joins) where

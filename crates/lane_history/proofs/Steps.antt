@@ -120,7 +120,8 @@ seq_first client front x later (Some n) = elim (x.client == client) as
       | false ↦ refl
     ]
 
-pub claims_seqs : (client : ℕ) (front xs : List Item) → seqs_of client (claims_behind front xs) ≡ numbers ask_in client xs
+pub claims_seqs : (client : ℕ) (front xs : List Item)
+    → seqs_of client (claims_behind front xs) ≡ numbers ask_in client xs
 claims_seqs client front [] = refl
 claims_seqs client front (x ∷ xs) =
     seq_first client front x (claims_behind (front ++ x ∷ []) xs) (ask_in x.what)

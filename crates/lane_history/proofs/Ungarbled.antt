@@ -1,7 +1,7 @@
 -- No reply of a history is garbled.
-use Rattle.std.proofs.Common.{◌≡◌, ◌≢◌, ℕ, zero, suc, ◌+◌, List, [], ◌∷◌, ◌++◌, length, map, take, Option, Some, None, refl}
+use Rattle.std.proofs.Common.{◌≡◌, ◌≢◌, ℕ, zero, suc, ◌+◌, List, [], ◌∷◌, ◌++◌, length, map, take, Option, Some, None}
 use Rattle.std.proofs.Common.{sym, ap, ◌∙◌, subst, arith, append_assoc, length-append}
-use Rattle.std.specs.List.{AllByRecursion, zip, slice_get}
+use Rattle.std.specs.List.{AllByRecursion, zip}
 use Rattle.std.proofs.lemmas.Option.{same_Some}
 use Rattle.ipb_base.specs.Word.{AreWords}
 use Rattle.ipb_base.proofs.AllLemmas.{AllByRecursion-append, front_of_all, back_of_all}
@@ -16,7 +16,6 @@ use Rattle.lane_record.specs.declared.outcome.Outcome.TheVariants.{Replied, Time
 use Rattle.lane_record.specs.Outcomes.{place_of}
 use Rattle.lane_record.specs.Lists.{CountsFrom}
 use Rattle.transcript.specs.declared.body_end.Told.TheVariants.{Garbled}
-use Rattle.transcript.specs.declared.body_end.BodyEnd.{BodyEnd}
 use Rattle.transcript.specs.declared.board_run.ClientPart.{ClientPart}
 use Rattle.transcript.specs.declared.board_run.BoardRun.{BoardRun}
 use Rattle.transcript.specs.Plan.{AreSpelled}
@@ -26,7 +25,8 @@ use Rattle.board_history.specs.Parts.{IsReplyOf}
 use Rattle.board_history.specs.History.{ShowsHistory, bodies_by_client, outcomes_by_client}
 use Rattle.board_history.proofs.Sorting.{all_sorted, sorted_all}
 use Rattle.direct_run.specs.Answering.{AsksRequests, AskRequests}
-use Rattle.direct_run.proofs.Answering.{Answering, AnsweringAny, Keeping, KeepingAll, Garbling, Joins, IsTold, body_told}
+use Rattle.direct_run.proofs.Answering.{Answering, AnsweringAny, Keeping, KeepingAll, Garbling, Joins, IsTold}
+use Rattle.direct_run.proofs.Answering.{body_told}
 use Rattle.direct_run.proofs.Answering.{spelled_words}
 use Rattle.lane_history.specs.Runs.{IsUngarbled, NoneGarbled}
 
@@ -96,7 +96,7 @@ module _ (answering : Answering) (any : AnsweringAny) (keeping : Keeping) (keepi
       let cells = (replay opening (take k bodies)).cells in
       let kept : HoldsWords cells = keeping_all opening (take k bodies) holds (words_take k bodies all) in
       let right : (run_body cells body).reply ≡ words =
-          same_Some (run_body cells body).reply words (sym (replay-place opening bodies k body there) ∙ reply) in
+      same_Some (run_body cells body).reply words (sym (replay-place opening bodies k body there) ∙ reply) in
       subst (λ (ws : List ℕ). IsTold body (Replied (suc k) ws)) right
       (body_told answering any keeping keeping_all garbling joins (suc k) cells body kept spelled)
 
@@ -133,7 +133,7 @@ module _ (answering : Answering) (any : AnsweringAny) (keeping : Keeping) (keepi
   parts_ungarbled opening ps (p ∷ parts) holds all asks stand replies =
       let mine = placed p.planned.bodies p.outcomes in
       let rest = all_placed (map (λ (q : ClientPart). q.planned.bodies) parts)
-          (map (λ (q : ClientPart). q.outcomes) parts) in (
+      (map (λ (q : ClientPart). q.outcomes) parts) in (
         client_ungarbled opening ps p.planned.bodies p.outcomes holds all asks.0
             (front_of_all (StandsIn ps) mine rest stand) replies.0,
         parts_ungarbled opening ps parts holds all asks.1 (back_of_all (StandsIn ps) mine rest stand) replies.1,

@@ -26,7 +26,8 @@ use Rattle.lane_record.proofs.Finished.{outcomes_taken}
 use Rattle.board_history.specs.Patience.{joined, time_outs, was_given_up, times_given_up, IsExact, IsPatient}
 use Rattle.lane_history.specs.Records.{entries_by, plans_from, IsClientsRecord}
 use Rattle.lane_history.proofs.Own.{by_append, own_found, Climbs, climbs_of, climbs_lower, own_climbs}
-use Rattle.lane_history.proofs.Rans.{Taking, Ran, outcome_took, outcomes_ran, ask_items, took_items, ran_items, AreWhole}
+use Rattle.lane_history.proofs.Rans.{Taking, Ran, outcome_took, outcomes_ran, ask_items, took_items, ran_items}
+use Rattle.lane_history.proofs.Rans.{AreWhole}
 use Rattle.lane_history.proofs.Lookups.{plans_are_not, none_found, tooks_are_not, found_asks}
 use Rattle.lane_history.proofs.Opening.{ClientRan, AllRan, each_ran}
 use Rattle.lane_history.proofs.Steps.{Step, steps_of, steps, outcome_in, of, AreOf, IsWithin, AreStepsOfAll}
@@ -34,7 +35,8 @@ use Rattle.lane_history.proofs.Steps.{steps_of_all, finished}
 
 -- ---- counts
 
-pub count_cons : {X : Type 0} (p : X → Bool) (x : X) (xs : List X) → count_by p (x ∷ xs) ≡ cond (p x) 1 0 + count_by p xs
+pub count_cons : {X : Type 0} (p : X → Bool) (x : X) (xs : List X)
+    → count_by p (x ∷ xs) ≡ cond (p x) 1 0 + count_by p xs
 count_cons p x xs = sum_by-cons (λ y. cond (p y) 1 0) x xs
 
 count_append : {X : Type 0} (p : X → Bool) (xs ys : List X) → count_by p (xs ++ ys) ≡ count_by p xs + count_by p ys
@@ -68,7 +70,8 @@ uncounted p client (suc many) s ss h = either
     omega (arith, a, b, c))
 
 counted : (p : Outcome → Bool) (client many : ℕ) (s : Step) (ss : List Step) → IsWithin client many s
-    → count_by p (outcomes_from client many (s ∷ ss)) ≡ cond (p s.outcome) 1 0 + count_by p (outcomes_from client many ss)
+    → count_by p (outcomes_from client many (s ∷ ss))
+    ≡ cond (p s.outcome) 1 0 + count_by p (outcomes_from client many ss)
 counted p client zero s ss h = absurd (omega (arith, h.0, h.1))
 counted p client (suc many) s ss h = either
     (λ (r : List Step). count_by p (map outcome_in r ++ outcomes_from (client + 1) many (s ∷ ss))
@@ -480,7 +483,8 @@ has_waited window cost paid given_up bodies outcomes items became is kept has =
     record {
       bodies = λ exact. subst (λ (n : ℕ). cost * n ≤ window * paid)
           (sym (time_outs_are bodies outcomes items became is kept.legal))
-          (bodies_at_most window cost paid (timeouts became) given_up kept.few (reached (cost * given_up) paid has exact));
+          (bodies_at_most window cost paid (timeouts became) given_up kept.few
+          (reached (cost * given_up) paid has exact));
       dispatches = λ exact. clients_gave_up cost paid given_up 1 bodies outcomes items
           (reached (cost * given_up) paid has exact) climbs late
           (each_ran bodies outcomes items is);

@@ -1,5 +1,5 @@
 -- What clients leave in the record of a lane. Profile.
-use Rattle.std.specs.Prelude.{◌≡◌, ℕ, ◌+◌, ◌≤◌, ◌==◌, List, [], ◌∷◌, ◌++◌, length, map, Option}
+use Rattle.std.specs.Prelude.{◌≡◌, ℕ, zero, suc, ◌+◌, ◌≤◌, ◌==◌, List, [], ◌∷◌, ◌++◌, length, map, Option}
 use Rattle.std.specs.List.{AllByRecursion, filter, filter_map}
 use Rattle.ipb_base.specs.Lists.{IsPrefix}
 use Rattle.lane_record.specs.declared.outcome.Outcome.{Outcome}
@@ -7,6 +7,7 @@ use Rattle.lane_record.specs.declared.item.Item.{Item}
 use Rattle.lane_record.specs.declared.item.What.{What}
 use Rattle.lane_record.specs.declared.item.What.TheVariants.{Plan, Seal, Ask, Took}
 use Rattle.lane_record.specs.Items.{plan_in}
+use Rattle.lane_record.specs.NextEntry.{plan_of, the_seal}
 use Rattle.board_history.specs.Patience.{joined}
 
 -- ---- what each client did
@@ -42,9 +43,9 @@ acts_by client items = map act_of (entries_by client items)
 -- ---- dispatch by dispatch
 
 -- so many Asks from a number on
-abbrev pub asks_from : ℕ → List Outcome → List Act
-asks_from seq [] = []
-asks_from seq (outcome ∷ outcomes) = record { seq = seq; deed = Asked } ∷ asks_from (seq + 1) outcomes
+abbrev pub asks_from : ℕ → ℕ → List Act
+asks_from seq zero = []
+asks_from seq (suc many) = record { seq = seq; deed = Asked } ∷ asks_from (seq + 1) many
 
 -- the Tooks of these outcomes from a number on
 abbrev pub tooks_from : ℕ → List Outcome → List Act
@@ -55,7 +56,7 @@ tooks_from seq (outcome ∷ outcomes) = record { seq = seq; deed = Taken outcome
 abbrev pub dispatches_from : ℕ → List (List Outcome) → List Act
 dispatches_from seq [] = []
 dispatches_from seq (outcomes ∷ later) =
-    asks_from seq outcomes ++ (tooks_from seq outcomes ++ dispatches_from (seq + length outcomes) later)
+    asks_from seq (length outcomes) ++ (tooks_from seq outcomes ++ dispatches_from (seq + length outcomes) later)
 
 -- each client from a number on did so
 abbrev pub DidDispatches : ℕ → List (List (List Outcome)) → List Item → Type 0
@@ -68,16 +69,12 @@ DidDispatches client (dispatches ∷ later) items =
 -- the Plans of a client's bodies from a number on
 abbrev pub plans_from : ℕ → ℕ → List (List ℕ) → List Item
 plans_from client seq [] = []
-plans_from client seq (body ∷ bodies) =
-    record { client = client; seq = seq; what = Plan body } ∷ plans_from client (seq + 1) bodies
+plans_from client seq (body ∷ bodies) = plan_of client seq body ∷ plans_from client (seq + 1) bodies
 
-abbrev pub seal : Item
-seal = record { client = 0; seq = 0; what = Seal }
-
--- the Plans of the clients from a number on, client by client, and then the Seal
-abbrev pub opening_from : ℕ → List (List (List ℕ)) → List Item
-opening_from client [] = seal ∷ []
-opening_from client (bodies ∷ later) = plans_from client 0 bodies ++ opening_from (client + 1) later
+-- the Plans of the clients from a number on, client by client
+abbrev pub all_plans_from : ℕ → List (List (List ℕ)) → List Item
+all_plans_from client [] = []
+all_plans_from client (bodies ∷ later) = plans_from client 0 bodies ++ all_plans_from (client + 1) later
 
 -- the entry is of one of so many clients
 abbrev pub IsOfClient : ℕ → Item → Type 0
@@ -89,9 +86,24 @@ pub record IsClientsRecord (bodies : List (List (List ℕ))) (outcomes : List (L
     (items : List Item) : Type 0 where
   pub shape : map (λ (dispatches : List (List Outcome)). length (joined dispatches)) outcomes ≡ map length bodies
   pub past : List Item
-  pub opens : items ≡ opening_from 1 bodies ++ past
+  pub opens : items ≡ all_plans_from 1 bodies ++ the_seal ∷ past
   pub each : DidDispatches 1 outcomes past
   pub nobody_else : AllByRecursion (IsOfClient (length bodies)) past
+
+-- ---- clients one after another
+
+-- the entries of one client alone, which did these dispatches
+pub record IsBlock (client : ℕ) (dispatches : List (List Outcome)) (block : List Item) : Type 0 where
+  pub own : AllByRecursion (λ (x : Item). x.client ≡ client) block
+  pub acts : map act_of block ≡ dispatches_from 0 dispatches
+
+-- the same of each client from a number on
+abbrev pub AreBlocks : ℕ → List (List (List Outcome)) → List (List Item) → Type 0
+AreBlocks client [] [] = Unit {0}
+AreBlocks client [] (block ∷ blocks) = ⊥
+AreBlocks client (dispatches ∷ later) [] = ⊥
+AreBlocks client (dispatches ∷ later) (block ∷ blocks) =
+    IsBlock client dispatches block × AreBlocks (client + 1) later blocks
 
 -- whose the entries are, in order
 abbrev pub makers : List Item → List ℕ

@@ -16,8 +16,8 @@ ghost use Rattle.lane_history.specs.Lanes.{IsTrueOf};
 
 use world_core::laws::a_state_of_a_run_tells_the_truth;
 
-/// Where a hub that was offered the bodies of the Asks, and its link, are a state of a run of the world, and the outcomes
-/// are the fates of that run, the board executed a front of these bodies and each reply is that of the front.
+/// Where a hub that was offered the bodies of the Asks, and its link, are a state of a run of the world, and the
+/// outcomes are the fates of that run, the board executed a front of these bodies and each reply is that of the front.
 pub fn a_state_of_a_run_is_true_of_its_lane()
     ensures { (window rounds : ℕ) (board : Board) (air : List Datagram) (fates : List (ℕ × Fate)) (hub : Hub)
         (told : Told) (claims : List Claim) (outcomes : List (Option Outcome)) → IsStart window board air →

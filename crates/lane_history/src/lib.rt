@@ -4,6 +4,7 @@
 //! lane, and what a lane keeps. This library has no code: it has the laws of these definitions.
 #![tactic(auto)]
 
+pub mod building;
 pub mod lanes;
 pub mod records;
 pub mod runs;

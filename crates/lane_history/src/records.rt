@@ -22,18 +22,11 @@ ghost use Rattle.transcript.specs.Plan.{ClientBodies, plans_on};
 ghost use Rattle.board_history.specs.Order.{bodies_of, order};
 ghost use Rattle.board_history.specs.Parts.{HasOneOrder, IsExecutedOnce, KeepsScripts};
 ghost use Rattle.board_history.specs.InTurn.{AreInTurn};
-ghost use Rattle.board_history.specs.History.{
-  IsHistory,
-  bodies_by_client,
-  dispatches_by_client,
-  outcomes_by_client,
-};
+ghost use Rattle.board_history.specs.History.{IsHistory, bodies_by_client, dispatches_by_client, outcomes_by_client};
 ghost use Rattle.board_history.specs.Patience.{IsPatient, joined};
 ghost use Rattle.board_history.specs.Merges.{IsMergeOfSome};
 ghost use Rattle.direct_run.specs.Runs.{opening_of};
-ghost use Rattle.lane_history.specs.Links.{
-    HasFailed, IsBoardOf, IsLostOnlyIfFailed, IsUntouched, LinkReport,
-};
+ghost use Rattle.lane_history.specs.Links.{HasFailed, IsBoardOf, IsLostOnlyIfFailed, IsUntouched, LinkReport};
 ghost use Rattle.lane_history.specs.Runs.{ExecutedSome, IsRunOver, ShowsScripts, TellsPayload};
 ghost use Rattle.lane_history.specs.Records.{IsClientsRecord, IsPartlyPlanned, makers};
 ghost use Rattle.lane_history.specs.Lanes.{IsSoundLane, IsTrueOf, bodies_offered};
@@ -102,8 +95,8 @@ pub fn a_board_executes_a_merge_at_any_moment()
         IsClientsRecord bodies outcomes items → IsPartlyPlanned bodies items }
 {}
 
-/// So it is of a lane that was left in the midst of a session, and of a board that was not touched: each executed a merge
-/// of bodies that the scripts ask of it, each client's in its order.
+/// So it is of a lane that was left in the midst of a session, and of a board that was not touched: each executed a
+/// merge of bodies that the scripts ask of it, each client's in its order.
 pub fn a_lane_left_at_any_moment_executed_a_merge()
     ensures lane { (settings : Limits) (spec : BoardSpec) (board : ℕ) (scripts : List (List Step)) (link : LinkReport)
         (payload : ℕ) (items : List Item) (became : List (Option Outcome)) (given_up : ℕ) →

@@ -2,25 +2,27 @@
 //! clauses are what is proved.
 
 ghost use Rattle.std.specs.Prelude.{◌≡◌, ℕ, ◌≤◌, List, Some};
-ghost use Rattle.std.specs.List.{AllByRecursion};
+ghost use Rattle.std.specs.List.{AllByRecursion, count_by};
 ghost use Rattle.board_node.specs.declared.spec.BoardSpec.{BoardSpec};
 ghost use Rattle.world_model.specs.Board.{Board};
 ghost use Rattle.reliable_engine.specs.Settings.{Limits};
 ghost use Rattle.script_lang.specs.Executable.{AreExecutable, OpensOnWords};
 ghost use Rattle.script_lang.specs.declared.operation.Step.{Step};
+ghost use Rattle.lane_record.specs.Outcomes.{is_timed_out};
 ghost use Rattle.transcript.specs.declared.greeting.Greeting.TheVariants.{Live};
 ghost use Rattle.transcript.specs.declared.board_run.BoardRun.{BoardRun};
-ghost use Rattle.transcript.specs.Lines.{transcript_of};
+ghost use Rattle.transcript.specs.Lines.{outcomes_on, transcript_of};
 ghost use Rattle.transcript.specs.Shown.{HaveOwnNames, ShowsAllPlaces};
 ghost use Rattle.board_history.specs.InTurn.{AreInTurn};
-ghost use Rattle.board_history.specs.History.{ShowsHistory, bodies_by_client, outcomes_by_client};
+ghost use Rattle.board_history.specs.History.{ShowsHistory, bodies_by_client, dispatches_by_client};
+ghost use Rattle.board_history.specs.History.{outcomes_by_client};
+ghost use Rattle.board_history.specs.Patience.{time_outs};
 ghost use Rattle.direct_run.specs.Runs.{AreRuns, CanRun, opening_of};
 ghost use Rattle.direct_run.specs.Lines.{IsBusLine};
 ghost use Rattle.direct_run.specs.Answering.{AskRequests, OpensWithWords};
 ghost use Rattle.lane_history.specs.Links.{IsCalm, LinkReport};
-ghost use Rattle.lane_history.specs.Runs.{
-    AllExecutedSome, AreRunsOver, AreWholeRuns, IsRunOver, IsUngarbledLine, NoneGarbled,
-};
+ghost use Rattle.lane_history.specs.Runs.{AllExecutedSome, AreRunsOver, AreWholeRuns, IsRunOver, IsUngarbledLine};
+ghost use Rattle.lane_history.specs.Runs.{NoneGarbled, ShowsScripts};
 
 use board_bus::laws::{a_reply_answers_its_body, words_stay_words};
 use board_history::place_laws::lines_show_all_places;
@@ -58,6 +60,15 @@ pub fn lines_show_the_order_of_each_board()
         ShowsAllPlaces (transcript_of scripts runs) }
 {
     lines_show_all_places();
+}
+
+/// The timeouts that bound the patience of a board are those that its line counts.
+pub fn a_board_line_counts_the_time_outs()
+    ensures { (spec : BoardSpec) (board : ℕ) (scripts : List (List Step)) (run : BoardRun) →
+        ShowsScripts spec board scripts run →
+        time_outs (dispatches_by_client run) ≡ count_by is_timed_out (outcomes_on run) }
+{
+    bodies_stand_dispatch_by_dispatch();
 }
 
 /// What each board executed is a merge of bodies that the scripts ask of it, each client's in its order.
@@ -109,8 +120,8 @@ pub fn no_line_is_garbled()
     operations_of_words_are_packed();
 }
 
-/// Where moreover nothing was held and nothing failed, each line is a value, `done`, `was`, a code of the bus or skipped:
-/// none is garbled, timed out, unsent or lost with its link, in whatever order the clients ran.
+/// Where moreover nothing was held and nothing failed, each line is a value, `done`, `was`, a code of the bus or
+/// skipped: none is garbled, timed out, unsent or lost with its link, in whatever order the clients ran.
 pub fn calm_lines_fail_by_codes_of_the_bus_alone()
     ensures { (settings : Limits) (specs : List BoardSpec) (scripts : List (List Step)) (runs : List BoardRun)
         (links : List LinkReport) → 1 ≤ settings.rounds → AllByRecursion IsCalm links →

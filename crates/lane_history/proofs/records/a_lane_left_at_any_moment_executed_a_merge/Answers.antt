@@ -1,4 +1,4 @@
-use Rattle.std.proofs.Common.{List, map}
+use Rattle.std.proofs.Common.{map}
 use Rattle.world_model.specs.Board.{Board, executed}
 use Rattle.lane_record.specs.Claims.{claims}
 use Rattle.transcript.specs.Plan.{ClientBodies, plans_on}
@@ -18,7 +18,7 @@ returns-clause-lane c = λ settings spec board scripts link payload items became
       payload = payload;
       told = packets;
       merge = merge_at (map (λ (p : ClientBodies). p.bodies) (plans_on board (Live payload) scripts)) items became
-      (executed b) lane.kept.legal planned truth.front;
+          (executed b) lane.kept.legal planned truth.front;
     }) lane.told
 
 pub returns-clause-untouched : goal.returns-clause-untouched
