@@ -7,6 +7,7 @@ use Rattle.status_packet.specs.declared.status.Status.{Status}
 use Rattle.status_packet.specs.Range.{IsBufferCount, IsMtu}
 use Rattle.packet_ids.specs.Identifier.{IsIdentifier}
 use Rattle.board_bus.specs.Cells.{CellMap}
+use Rattle.world_model.specs.Board.{Board}
 use Rattle.world_model.specs.Hub.{Hub, is_waiting, new_hub, places}
 use Rattle.world_model.specs.Facts.{HasBodies, IsStart, IsWindow}
 use Rattle.reliable_engine.specs.Settings.{AreLimits, Limits}
@@ -49,6 +50,11 @@ with_item lane item = record lane { items = lane.items ++ item ∷ [] }
 abbrev pub opening_of : Option Telling → Option CellMap
 opening_of None = None
 opening_of (Some t) = Some t.told.board.opening
+
+-- the board of a link that tells, as it was before it executed anything
+abbrev pub untouched_board : Option Telling → Option Board
+untouched_board None = None
+untouched_board (Some t) = Some (record t.told.board { log = [] })
 
 -- 1 where a body was asked and has no outcome yet
 abbrev pub waits : Hub → ℕ

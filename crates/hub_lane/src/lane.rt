@@ -15,7 +15,7 @@ ghost use Rattle.hub_lane.specs.Plans.{CanPlan, IsRefused, Plans};
 ghost use Rattle.hub_lane.specs.Hearing.{gots_of, quiets_of};
 ghost use Rattle.hub_lane.specs.Calls.{AsksAs, IsReplyAt, IsSameRecord, IsSpent, PumpsAs, TakesAs, WasAsked};
 ghost use Rattle.hub_lane.specs.Calls.{is_lost_at_place, is_replied, sealed};
-ghost use Rattle.hub_lane.specs.Lanes.{IsGreeted, IsLane, opened, opening_of, status_of};
+ghost use Rattle.hub_lane.specs.Lanes.{IsGreeted, IsLane, opened, opening_of, status_of, untouched_board};
 
 use crate::answers::{Asked, PlanRefusal, Pumped, Taken};
 use crate::book::Book;
@@ -41,6 +41,7 @@ use world_model::laws::sends::only_an_offer_makes_more_bodies;
 
 /// The hub's side of one board: its engine, its link, and the record of what clients planned, asked and took (profile).
 /// Contracts see it as `LaneState`; what holds of it at the exit of every call is `IsLane`, which `is_sound` tells.
+#[derive(Drop)]
 pub struct Lane<L: Link> {
     alloc: Global,
     link: L,
@@ -261,7 +262,8 @@ impl<L: Link> Lane<L> {
         ensures gots { IfOk result (λ pumped. L.gots self.new.link ≡ gots_of pumped (L.gots self.old.link)) }
         ensures gots_rise { L.gots self.old.link ≤ L.gots self.new.link }
         ensures held { L.held self.old.link ≤ L.held self.new.link }
-        // So the head of its record stays.
+        // The link is to the same board, and the head of the lane's record stays.
+        ensures board { untouched_board (L.telling self.new.link) ≡ untouched_board (L.telling self.old.link) }
         ensures opening { opening_of (L.telling self.new.link) ≡ opening_of (L.telling self.old.link) }
     {
         a_send_leaves_the_fates();
