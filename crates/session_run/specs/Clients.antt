@@ -1,17 +1,18 @@
 -- What a client that runs alone leaves in the record of a lane. Profile.
-use Rattle.std.specs.Prelude.{◌≡◌, ℕ, ◌+◌, ◌≤◌, ◌<◌, List, [], ◌∷◌, ◌++◌, length, map, sum, Option, None}
+use Rattle.std.specs.Prelude.{◌≡◌, ℕ, ◌+◌, ◌≤◌, ◌<◌, List, [], ◌∷◌, ◌++◌, length}
+use Rattle.std.specs.Prelude.{map, sum, Option, None}
 use Rattle.std.specs.List.{AllByRecursion}
 use Rattle.ipb_base.specs.Lists.{IsPrefix}
-use Rattle.world_core.specs.Telling.{IfTelling, Telling}
+use Rattle.world_core.specs.Telling.{Telling}
 use Rattle.lane_record.specs.declared.outcome.Outcome.{Outcome}
 use Rattle.lane_record.specs.declared.item.Item.{Item}
 use Rattle.lane_record.specs.Items.{asked, found, is_sealed, plan_in, planned, took_in}
 use Rattle.lane_record.specs.NextEntry.{took_of}
 use Rattle.hub_lane.specs.Calls.{WasAsked}
-use Rattle.hub_lane.specs.Lanes.{LaneState}
+use Rattle.hub_lane.specs.Lanes.{LaneState, untouched_board}
 use Rattle.board_history.specs.Patience.{joined}
 use Rattle.transcript.specs.Plan.{ClientBodies}
-use Rattle.lane_history.specs.Records.{Act, Asked, act_of, dispatches_from, plans_from, tooks_from}
+use Rattle.lane_history.specs.Records.{Act, act_of, dispatches_from, plans_from, tooks_from}
 
 -- ---- entries
 
@@ -35,11 +36,6 @@ pub record GoesOnLater (client : ℕ) (old new : List Item) : Type 0 where
   pub more : List Item
   pub grown : new ≡ old ++ more
   pub each : AllByRecursion (IsLater client) more
-
--- so many Asks from a number on
-abbrev pub asks_of : ℕ → ℕ → List Act
-asks_of seq 0 = []
-asks_of seq (suc count) = record { seq = seq; deed = Asked } ∷ asks_of (seq + 1) count
 
 -- The client has taken what became of its first bodies, so many, and waits for the others that it asked.
 pub record HasTaken (client taken : ℕ) (items : List Item) : Type 0 where
@@ -67,15 +63,11 @@ pub record RanClient (client : ℕ) (counts : List ℕ) (outcomes : List Outcome
 
 -- ---- the lane around its record
 
--- the board is the same one, whatever it executed meanwhile
-abbrev pub IsSameBoard : Telling → Telling → Type 0
-IsSameBoard old new = record new.told.board { log = old.told.board.log } ≡ old.told.board
-
 -- the lane is of the same board: `before` and `now` are what its link tells
 pub record KeepsLane {L : Type 0} (old new : LaneState L) (before now : Option Telling) : Type 0 where
   pub settings : new.settings ≡ old.settings
   pub status : new.status ≡ old.status
-  pub board : IfTelling before now IsSameBoard
+  pub board : untouched_board now ≡ untouched_board before
 
 -- the lane but for its record
 abbrev pub with_items : {L : Type 0} → LaneState L → List Item → LaneState L

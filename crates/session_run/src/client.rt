@@ -3,11 +3,12 @@
 ghost use Rattle.std.specs.Prelude.{◌≡◌, ◌≤◌, ◌<◌, ◌+◌, ◌^◌, length, sum, IfOk, OnOk, OnErr};
 ghost use Rattle.lane_record.specs.Items.{asked, planned};
 ghost use Rattle.hub_lane.specs.Calls.{WasAsked};
-ghost use Rattle.session_run.specs.Clients.{asks_of, GoesOnBy, GoesOnLater, HasTaken, KeepsLane, RanClient, TookAll};
-ghost use Rattle.session_run.specs.Clients.{TookOne};
+ghost use Rattle.session_run.specs.Clients.{GoesOnBy, GoesOnLater, HasTaken, KeepsLane, RanClient, TookAll, TookOne};
+ghost use Rattle.lane_history.specs.Records.{asks_from};
 
 use hub_lane::{Asked, Lane, Taken};
 use ipb_base::NoMemory;
+use lane_history::building::one_more_entry_stands_behind;
 use std::alloc::Global;
 use std::sync::Wait;
 use transcript::{Outcome, Outcomes};
@@ -43,12 +44,13 @@ fn ask_all<L: Link>(lane: &mut Lane<L>, client: u32, count: usize) -> Result<(),
     ensures asked { OnOk result (asked client lane.new.items ≡ asked client lane.old.items + count) }
     ensures planned { planned client lane.new.items ≡ planned client lane.old.items }
     ensures taken { HasTaken client (asked client lane.old.items) lane.new.items }
-    ensures entries { OnOk result (GoesOnBy client (asks_of (asked client lane.old.items) count) lane.old.items
+    ensures entries { OnOk result (GoesOnBy client (asks_from (asked client lane.old.items) count) lane.old.items
         lane.new.items) }
     ensures later { GoesOnLater client lane.old.items lane.new.items }
     ensures keeps { KeepsLane lane.old lane.new (L.telling lane.old.link) (L.telling lane.new.link) }
 {
-    for _ in 0..count {
+    one_more_entry_stands_behind();
+    for done in 0..count {
         match lane.ask(client)? {
             Asked::Asked(_) => {}
             Asked::Nothing => unreachable!(),
@@ -76,7 +78,8 @@ fn take_all<L: Link, T: Wait>(
     ensures later { GoesOnLater client lane.old.items lane.new.items }
     ensures keeps { KeepsLane lane.old lane.new (L.telling lane.old.link) (L.telling lane.new.link) }
 {
-    for _ in 0..count {
+    one_more_entry_stands_behind();
+    for done in 0..count {
         let seq = outcomes.len() as u64;
         outcomes.push(wait_for(rt, lane, client, seq)?)?;
     }
@@ -99,6 +102,7 @@ pub(crate) fn run_client<L: Link, T: Wait>(
     ensures later { GoesOnLater client lane.old.items lane.new.items }
     ensures keeps { KeepsLane lane.old lane.new (L.telling lane.old.link) (L.telling lane.new.link) }
 {
+    one_more_entry_stands_behind();
     let mut outcomes = Vec::new(alloc);
     for count in counts {
         ask_all(lane, client, *count)?;
