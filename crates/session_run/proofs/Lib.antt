@@ -1,2 +1,4 @@
 pub mod Entries
 pub mod Asking
+pub mod PlansMade
+pub mod Blocks

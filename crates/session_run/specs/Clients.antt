@@ -1,7 +1,7 @@
 -- What a client that runs alone leaves in the record of a lane. Profile.
 use Rattle.std.specs.Prelude.{◌≡◌, ℕ, ◌+◌, ◌≤◌, ◌<◌, List, [], ◌∷◌, ◌++◌, length}
 use Rattle.std.specs.Prelude.{map, sum, Option, None}
-use Rattle.std.specs.List.{AllByRecursion}
+use Rattle.std.specs.List.{AllByRecursion, flat_map}
 use Rattle.ipb_base.specs.Lists.{IsPrefix}
 use Rattle.world_core.specs.Telling.{Telling}
 use Rattle.lane_record.specs.declared.outcome.Outcome.{Outcome}
@@ -11,8 +11,10 @@ use Rattle.lane_record.specs.NextEntry.{took_of}
 use Rattle.hub_lane.specs.Calls.{WasAsked}
 use Rattle.hub_lane.specs.Lanes.{LaneState, untouched_board}
 use Rattle.board_history.specs.Patience.{joined}
+use Rattle.board_history.specs.History.{dispatches_of}
+use Rattle.transcript.specs.declared.board_run.ClientPart.{ClientPart}
 use Rattle.transcript.specs.Plan.{ClientBodies}
-use Rattle.lane_history.specs.Records.{Act, act_of, dispatches_from, plans_from, tooks_from}
+use Rattle.lane_history.specs.Records.{Act, AreBlocks, act_of, dispatches_from, plans_from, tooks_from}
 
 -- ---- entries
 
@@ -75,12 +77,41 @@ with_items lane more = record lane { items = lane.items ++ more }
 
 -- ---- Plans
 
--- a client planned a front of these bodies, and did nothing else
+-- a client entered a front of the Plans of these bodies, and nothing else
 pub record PlannedSome {L : Type 0} (client : ℕ) (bodies : List (List ℕ)) (old new : LaneState L) : Type 0 where
-  pub front : List (List ℕ)
-  pub is_front : IsPrefix front bodies
-  pub became : new ≡ with_items old (plans_from client 0 front)
+  pub front : List Item
+  pub is_front : IsPrefix front (plans_from client 0 bodies)
+  pub became : new ≡ with_items old front
 
 -- a plan cuts its bodies into dispatches, all of them
 abbrev pub HasItsCounts : ClientBodies → Type 0
 HasItsCounts plan = sum plan.counts ≡ length plan.bodies
+
+-- the bodies of each plan
+abbrev pub bodies_of : List ClientBodies → List (List (List ℕ))
+bodies_of plans = map (λ (p : ClientBodies). p.bodies) plans
+
+-- ---- all clients
+
+-- an entry of one of so many clients that is no Plan
+pub record IsLaterOf (many : ℕ) (x : Item) : Type 0 where
+  pub client' : x.client ≤ many
+  pub no_plan : plan_in x.what ≡ None
+
+-- a record went on by entries of so many clients, none of which is a Plan
+pub record RunLater (many : ℕ) (old new : List Item) : Type 0 where
+  pub more : List Item
+  pub grown : new ≡ old ++ more
+  pub each : AllByRecursion (IsLaterOf many) more
+
+-- what became of each body of a client stands in its part, dispatch by dispatch
+pub record IsWholePart (part : ClientPart) : Type 0 where
+  pub each : length part.outcomes ≡ length part.planned.bodies
+  pub cut : joined (dispatches_of part) ≡ part.outcomes
+
+-- clients ran one after another, and these are their parts
+pub record HaveRun (parts : List ClientPart) (old new : List Item) : Type 0 where
+  pub blocks : List (List Item)
+  pub grown : new ≡ old ++ flat_map (λ block. block) blocks
+  pub each : AreBlocks 1 (map dispatches_of parts) blocks
+  pub whole : AllByRecursion IsWholePart parts

@@ -5,5 +5,6 @@
 #![tactic(auto)]
 
 mod client;
+mod planning;
 
 pub use ipb_base::NoMemory;
