@@ -285,3 +285,25 @@ none_have_run items = record { blocks = []; grown = sym (append-nil items); each
 
 pub none_later : (many : ℕ) (items : List Item) → RunLater many items items
 none_later many items = record { more = []; grown = sym (append-nil items); each = tt }
+
+counts_in : (front : List ClientBodies) (p : ClientBodies) (rest : List ClientBodies)
+    → AllByRecursion HasItsCounts (front ++ p ∷ rest) → HasItsCounts p
+counts_in [] p rest all = all.0
+counts_in (f ∷ front) p rest all = counts_in front p rest all.1
+
+pub counts_at : (front : List ClientBodies) (p : ClientBodies) (rest plans : List ClientBodies)
+    → front ++ p ∷ rest ≡ plans → AllByRecursion HasItsCounts plans → HasItsCounts p
+counts_at front p rest plans cut all = counts_in front p rest (subst (AllByRecursion HasItsCounts) (sym cut) all)
+
+pub number_within : (client : ℕ) (parts : List ClientPart) (plans rest : List ClientBodies) (p : ClientBodies)
+    → map plan_in_part parts ++ p ∷ rest ≡ plans → client ≡ length parts + 1 → client ≤ length plans
+number_within client parts plans rest p cut who =
+    let a = length_map plan_in_part parts in
+    let b = length-append (map plan_in_part parts) (p ∷ rest) in
+    let c = ap (λ (l : List ClientBodies). length l) cut in
+    omega (arith, a, b, c, who)
+
+pub cut_more : (parts : List ClientPart) (part : ClientPart) (rest plans : List ClientBodies)
+    → map plan_in_part parts ++ part.planned ∷ rest ≡ plans → map plan_in_part (parts ++ part ∷ []) ++ rest ≡ plans
+cut_more parts part rest plans cut = ap (λ (l : List ClientBodies). l ++ rest) (map_append plan_in_part parts part)
+    ∙ (append_assoc (map plan_in_part parts) (part.planned ∷ []) rest ∙ cut)
