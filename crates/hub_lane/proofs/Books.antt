@@ -1,5 +1,6 @@
 -- The tables of a record, one more entry at a time.
-use Rattle.std.proofs.Common.{◌≡◌, ℕ, zero, suc, ◌+◌, ◌<◌, ◌≤◌, Bool, true, false, cond, ◌==◌, ◌&&◌, ◌||◌, List, [], ◌∷◌}
+use Rattle.std.proofs.Common.{◌≡◌, ℕ, zero, suc, ◌+◌, ◌<◌, ◌≤◌, Bool, true, false, cond, ◌==◌, ◌&&◌, ◌||◌, List, []}
+use Rattle.std.proofs.Common.{◌∷◌}
 use Rattle.std.proofs.Common.{◌++◌, length, map, Option, Some, None, refl, sym, ap, ◌∙◌, subst, arith, inl, inr}
 use Rattle.std.proofs.Common.{length-append}
 use Rattle.std.specs.Prelude.{is_some, IfSome, IfNone}
@@ -23,7 +24,8 @@ use Rattle.lane_record.proofs.Lookups.{Count, claims_push, count_push, found_app
 use Rattle.lane_record.proofs.Lookups.{none_next, numbers_append, sealed_append}
 use Rattle.lane_record.specs.Coding.{entry_of}
 use Rattle.hub_lane.specs.Plans.{IsFull, one_with, planned_bodies, planned_words, words_with}
-use Rattle.hub_lane.specs.Books.{HasMorePlans, HasNext, IsBook, IsPlanAt, IsPosition, IsRow, Row, TellsBodies, asked_pair}
+use Rattle.hub_lane.specs.Books.{HasMorePlans, HasNext, IsBook, IsPlanAt, IsPosition, IsRow, Row, TellsBodies}
+use Rattle.hub_lane.specs.Books.{asked_pair}
 use Rattle.hub_lane.specs.Books.{next_of}
 use Rattle.hub_lane.specs.Books.{row_of, with_ask, with_plan}
 
@@ -53,7 +55,8 @@ same_number kind client items x none =
     let told : is_some (kind x.what) ≡ false = ap is_some none in
     let n = one_number kind client items x in
     let off : ◌≡◌ {A = ℕ} (cond ((x.client == client) && is_some (kind x.what)) 1 0) 0 =
-    ap (λ (b : Bool). cond ((x.client == client) && b) 1 0) told ∙ ap (λ (b : Bool). cond b 1 0) (and_false (x.client == client)) in
+    ap (λ (b : Bool). cond ((x.client == client) && b) 1 0) told ∙ ap (λ (b : Bool). cond b 1 0) (and_false (x.client
+    == client)) in
     omega (arith, n, off)
 
 of_client : (client other : ℕ) → (client == other) ≡ true → client ≡ other
@@ -205,7 +208,8 @@ rows_plan items rows client body count are other = elim (eqb_tells client other)
   | inl same ↦ subst (λ (c : ℕ). IsRow (items ++ plan_of client (planned client items) body ∷ []) c
       (row_of c (with_plan client (length items) rows))) same.1
       (subst (IsRow (items ++ plan_of client (planned client items) body ∷ []) client)
-      (sym (row_planned client (length items) rows)) (tells_grown items client body (row_of client rows) count (are client)))
+      (sym (row_planned client (length items) rows)) (tells_grown items client body (row_of client rows) count (are
+      client)))
   | inr apart ↦
       let x = plan_of client (planned client items) body in
       let one = plan_for client (planned client items) other body items in
@@ -348,14 +352,16 @@ module _ (items : List Item) (entries : List Entry) (rows : List Row) (asks : Li
   pub book_took : (client seq : ℕ) (outcome : Outcome) (g : ℕ) (new : List Entry) (after : ℕ)
       → new ≡ entries ++ entry_of (took_of client seq outcome g) ∷ [] → 1 ≤ after
       → IsBook (items ++ took_of client seq outcome g ∷ []) new rows asks bodies words closed after
-  book_took client seq outcome g new after entry one = book_other (took_of client seq outcome g) new after refl refl entry
+  book_took client seq outcome g new after entry one = book_other (took_of client seq outcome g) new after refl refl
+      entry
       closed (is.closed_is ∙ sym (sealed_append items (took_of client seq outcome g ∷ []) ∙ or_false (is_sealed items)))
       (λ _. one)
 
   pub book_seal : (new : List Entry) (after : ℕ) → new ≡ entries ++ entry_of the_seal ∷ []
       → IsBook (items ++ the_seal ∷ []) new rows asks bodies words true after
   book_seal new after entry =
-      let sealed : is_sealed (items ++ the_seal ∷ []) ≡ true = sealed_append items (the_seal ∷ []) ∙ or_true (is_sealed items) in
+      let sealed : is_sealed (items ++ the_seal ∷ []) ≡ true = sealed_append items (the_seal ∷ []) ∙ or_true
+      (is_sealed items) in
       book_other the_seal new after refl refl entry true (sym sealed) (λ open_still. absurd cc)
 
   pub book_ask : (client g : ℕ) (new : List Entry) (after : ℕ) → HasMorePlans client items
@@ -367,8 +373,10 @@ module _ (items : List Item) (entries : List Entry) (rows : List Row) (asks : Li
       record {
         entries_are = entries_push items x new entries is.entries_are entry;
         plans_count = count_push plan_in items x is.plans_count (λ some. absurd cc);
-        rows_are = rows_ask items rows client g (has_next items rows client is.plans_count is.rows_are more) is.rows_are;
-        asks_are = ap (λ (l : List (ℕ × ℕ)). l ++ (client, asked client items) ∷ []) is.asks_are ∙ sym (asks_push items x);
+        rows_are = rows_ask items rows client g (has_next items rows client is.plans_count is.rows_are more)
+            is.rows_are;
+        asks_are = ap (λ (l : List (ℕ × ℕ)). l ++ (client, asked client items) ∷ []) is.asks_are ∙ sym (asks_push
+            items x);
         bodies_are = (let h = bodies_push items x in let b = is.bodies_are in omega (arith, h, b));
         words_are = (let h = words_push items x in let b = is.words_are in omega (arith, h, b));
         closed_is = is.closed_is ∙ sym (sealed_append items (x ∷ []) ∙ or_false (is_sealed items));
@@ -453,7 +461,8 @@ position_is items client seq asks None are some none = λ k claim is. none k
     ∙ (get_map asked_pair (claims items) k claim is.there
     ∙ ap (λ (p : ℕ × ℕ). Some p) (pair_is claim.client claim.seq client seq is.same_client is.same_seq)))
 position_is items client seq asks (Some at) are some none =
-    let found = map_get (claims items) at (client, seq) (sym (ap (λ (l : List (ℕ × ℕ)). slice_get l at) are) ∙ some) in (
+    let found = map_get (claims items) at (client, seq) (sym (ap (λ (l : List (ℕ × ℕ)). slice_get l at) are) ∙ some)
+    in (
       found.0,
       record {
         there = found.1;
@@ -481,7 +490,8 @@ book_room items entries rows asks bodies words closed room after more is = recor
 
 pub plan_same : (item : Item) (client seq : ℕ) (body : List ℕ) → Some item ≡ Some (plan_of client seq body)
     → plan_in item.what ≡ Some body
-plan_same item client seq body same = (let is : item ≡ plan_of client seq body = cc in ap (λ (x : Item). plan_in x.what) is)
+plan_same item client seq body same = (let is : item ≡ plan_of client seq body = cc in ap (λ (x : Item). plan_in
+    x.what) is)
 
 pub book_reserved : (items more : List Item) (entries longer : List Entry) (rows : List Row) (asks wider : List (ℕ × ℕ))
     (bodies words : ℕ) (closed : Bool) (room after : ℕ) → more ≡ items → longer ≡ entries → wider ≡ asks
@@ -525,7 +535,8 @@ pub book_planned : (items more : List Item) (entries longer : List Entry) (rows 
     → changed ≡ with_plan client place rows → count ≡ bodies + 1
     → total ≡ words + (length body + reply_room body) → 1 ≤ after
     → IsBook more longer changed asks count total closed after
-book_planned items more entries longer rows changed asks bodies words count total closed room after client seq place body
+book_planned items more entries longer rows changed asks bodies words count total closed room after client seq place
+    body
     is number few i e at r c t fits =
     let seq_item = λ (n : ℕ). items ++ plan_of client n body ∷ [] in
     let entry = e ∙ ap (λ (n : ℕ). entries ++ entry_of (plan_of client n body) ∷ []) number in
@@ -533,4 +544,5 @@ book_planned items more entries longer rows changed asks bodies words count tota
     (sym (i ∙ ap seq_item number))
     (subst (λ (rs : List Row). IsBook (seq_item (planned client items)) longer rs asks count total closed after)
     (sym (r ∙ ap (λ (n : ℕ). with_plan client n rows) at))
-    (book_plan items entries rows asks bodies words closed room is client body longer count total after few entry fits c t))
+    (book_plan items entries rows asks bodies words closed room is client body longer count total after few entry fits
+    c t))

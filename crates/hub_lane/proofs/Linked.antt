@@ -1,6 +1,6 @@
 -- A hub over a link, call by call.
 use Rattle.std.proofs.Common.{◌≡◌, ℕ, ◌+◌, ◌≤◌, true, List, [], ◌∷◌, length}
-use Rattle.std.proofs.Common.{Option, Some, None, refl, sym, ap, subst, arith, ◌∙◌}
+use Rattle.std.proofs.Common.{Option, Some, None, refl, sym, ap, subst, arith}
 use Rattle.std.specs.Prelude.{IfSome}
 use Rattle.std.specs.Prelude.{Result, Ok, Err}
 use Rattle.world_model.specs.Messages.{to_hub}
@@ -9,17 +9,17 @@ use Rattle.world_model.specs.Links.{IsHanded, Told}
 use Rattle.world_model.specs.Sends.{Next, bytes_to_send, next_send}
 use Rattle.world_model.specs.Facts.{AreSendable, HasBodies}
 use Rattle.reliable_engine.specs.Answers.{hub_next}
-use Rattle.board_bus.specs.Cells.{CellMap}
 use Rattle.world_model.specs.Board.{Board}
 use Rattle.world_core.specs.declared.link.Received.{Received}
 use Rattle.world_core.specs.declared.link.Received.TheVariants.{Got, Quiet as received_quiet}
-use Rattle.hub_lane.specs.Lanes.{opening_of, untouched_board}
+use Rattle.hub_lane.specs.Lanes.{board_of}
 use Rattle.world_core.specs.declared.link.LinkFault.{LinkFault}
 use Rattle.world_core.specs.declared.link.LinkFault.TheVariants.{Failed, NoMemory}
 use Rattle.world_core.specs.Telling.{IfTelling, IsGot, IsQuiet, IsReceived, IsSent, Receives, Telling}
 use Rattle.hub_lane.specs.declared.answers.Pumped.{Pumped}
 use Rattle.hub_lane.specs.declared.answers.Pumped.TheVariants.{Reply, Status, Stray, Quiet, Idle, LinkDown}
 use Rattle.hub_lane.specs.Hearing.{IsHeardAs, WasReceived}
+use Rattle.hub_lane.specs.Rounds.{PaysOn}
 use Rattle.hub_lane.specs.Sends.{HasSent, all_sent}
 use Rattle.hub_lane.specs.Standing.{GoesOn, IsRunning, IsStopped, Stops}
 use Rattle.hub_lane.proofs.Standing.{AirGrows, HandedLaw, HeardLaw, QuietLaw, SameBoard, SameFates, SendLaw}
@@ -38,7 +38,8 @@ pub record IsSending (before : Option Telling) (old : Hub) (telling : Option Tel
   pub quiet : quiets_now ≡ quiets
   pub got : gots_now ≡ gots
   pub hold : held ≤ held_now
-  pub board : untouched_board telling ≡ untouched_board before
+  pub pays : PaysOn before old held telling now held_now
+  pub board : board_of telling ≡ board_of before
 
 -- the bodies of the hub after a send
 abbrev pub SendKeepsBodies : Type 0
@@ -142,49 +143,36 @@ was_received bytes pumped hub held now (Some t) None is call = absurd call
 was_received bytes pumped hub held now (Some t) (Some u) is call =
     handed_of u bytes pumped hub is (record { place = call.place; at = call.there })
 
--- ---- the board
+-- ---- the board, whatever it executed
 
-abbrev pub blank : Telling → Board
-blank t = record t.told.board { log = [] }
+abbrev bare : Telling → Board
+bare t = record t.told.board { log = [] }
 
 same_board : (R : Telling → Telling → Type 0) (old new : Option Telling) → IfTelling old new R
-    → ((t u : Telling) → R t u → blank u ≡ blank t) → untouched_board new ≡ untouched_board old
+    → ((t u : Telling) → R t u → bare u ≡ bare t) → board_of new ≡ board_of old
 same_board R None None call same = refl
 same_board R None (Some u) call same = absurd call
 same_board R (Some t) None call same = absurd call
 same_board R (Some t) (Some u) call same = ap (λ (b : Board). Some b) (same t u call)
 
-pub sent_board : (bytes : List ℕ) (held now : ℕ) (old new : Option Telling) → IfTelling old new (IsSent bytes held now)
-    → untouched_board new ≡ untouched_board old
+pub sent_board : (bytes : List ℕ) (held now : ℕ) (old new : Option Telling)
+    → IfTelling old new (IsSent bytes held now)
+    → board_of new ≡ board_of old
 sent_board bytes held now old new call = same_board (IsSent bytes held now) old new call
     (λ t u is. ap (λ (told : Told). record told.board { log = [] }) is.told)
 
 heard_board : SameBoard → (by_hub : List ℕ) (held now : ℕ) (t u : Telling) → IsReceived by_hub held now t u
-    → blank u ≡ blank t
+    → bare u ≡ bare t
 heard_board law by_hub held now t u is = ap (λ (b : Board). record b { log = [] }) (law t.told u.told is.by_board)
 
 receives_board : SameBoard → (result : Result Received LinkFault) (bytes : List ℕ) (held now : ℕ) (t u : Telling)
-    → Receives result bytes held now t u → blank u ≡ blank t
+    → Receives result bytes held now t u → bare u ≡ bare t
 receives_board law (Ok Got) bytes held now t u is = heard_board law _ held now t u is.received
 receives_board law (Ok received_quiet) bytes held now t u is = heard_board law [] held now t u is.received
-receives_board law (Err Failed) bytes held now t u is = ap blank is
+receives_board law (Err Failed) bytes held now t u is = ap (λ (x : Telling). bare x) is
 receives_board law (Err NoMemory) bytes held now t u is = heard_board law [] held now t u is
 
 pub received_board : SameBoard → (result : Result Received LinkFault) (bytes : List ℕ) (held now : ℕ)
-    (old new : Option Telling) → IfTelling old new (Receives result bytes held now)
-    → untouched_board new ≡ untouched_board old
+    (old new : Option Telling) → IfTelling old new (Receives result bytes held now) → board_of new ≡ board_of old
 received_board law result bytes held now old new call =
     same_board (Receives result bytes held now) old new call (receives_board law result bytes held now)
-
-abbrev opened_by : Option Board → Option CellMap
-opened_by None = None
-opened_by (Some b) = Some b.opening
-
-opened_with : (t : Option Telling) → opening_of t ≡ opened_by (untouched_board t)
-opened_with None = refl
-opened_with (Some t) = refl
-
--- so it opened with the same bus
-pub same_opening : (old new : Option Telling) → untouched_board new ≡ untouched_board old
-    → opening_of new ≡ opening_of old
-same_opening old new same = opened_with new ∙ (ap opened_by same ∙ sym (opened_with old))

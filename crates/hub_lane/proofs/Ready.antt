@@ -38,7 +38,8 @@ pub exchanged : OutLaw → (old mid event hub : Hub) (outcomes new : List (Optio
 exchanged law old mid event hub outcomes new before between after hub_is new_is one two limits start =
     subst (λ (h : Hub). IfSome after (IsRunning limits h new)) (sym hub_is)
     (subst (λ (os : List (Option Outcome)). IfSome after (IsRunning limits (handed_out event) os)) (sym new_is)
-    (if_told (IsRunning limits event outcomes) (IsRunning limits (handed_out event) (put_all event.fates outcomes)) after
+    (if_told (IsRunning limits event outcomes) (IsRunning limits (handed_out event) (put_all event.fates outcomes))
+    after
     (two limits outcomes (one limits outcomes start))
     (λ t is. drained_running law limits outcomes event t is)))
 

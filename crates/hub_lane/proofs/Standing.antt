@@ -411,7 +411,8 @@ lost_get others sent (None ∷ xs) k o is = elim (nat_lt others sent)
     as (λ b. slice_get (cond b (Some (became.LinkLost (Some (others + 1))) ∷ lost_after (others + 1) sent xs)
     (Some (became.LinkLost None) ∷ lost_after others sent xs)) k ≡ Some (Some o)
     → ((place : Option ℕ) × (o ≡ became.LinkLost place)) ⊎ (slice_get (None ∷ xs) k ≡ Some (Some o))) [
-      | true ↦ λ e. lost_or_later (became.LinkLost (Some (others + 1))) (Some (others + 1)) (others + 1) sent xs k o refl e
+      | true ↦ λ e. lost_or_later (became.LinkLost (Some (others + 1))) (Some (others + 1)) (others + 1) sent xs k o
+          refl e
           (λ j later. lost_get (others + 1) sent xs j o later)
       | false ↦ λ e. lost_or_later (became.LinkLost None) None others sent xs k o refl e
           (λ j later. lost_get others sent xs j o later)

@@ -92,11 +92,13 @@ abbrev pub SendsMore : Hub → Option Next → Type 0
 SendsMore hub None = Unit {0}
 SendsMore hub (Some next) = (more : List Offered) × (next.hub.sent ≡ hub.sent ++ more)
 
-sends_more : (hub : Hub) → IfSome (next_send hub) (λ (n : Next). (more : List Offered) × (n.hub.sent ≡ hub.sent ++ more))
+sends_more : (hub : Hub) → IfSome (next_send hub) (λ (n : Next). (more : List Offered) × (n.hub.sent ≡ hub.sent ++
+    more))
 sends_more hub = send_cases (λ (n : Next). (more : List Offered) × (n.hub.sent ≡ hub.sent ++ more)) hub
     ([], sym (append-nil hub.sent)) (λ w is. ([], sym (append-nil hub.sent))) (λ o later queue room. (o ∷ [], refl))
 
-next_more : (hub : Hub) (r : Option Next) → IfSome r (λ (n : Next). (more : List Offered) × (n.hub.sent ≡ hub.sent ++ more))
+next_more : (hub : Hub) (r : Option Next)
+    → IfSome r (λ (n : Next). (more : List Offered) × (n.hub.sent ≡ hub.sent ++ more))
     → (more : List Offered) × ((hub_next hub r).sent ≡ hub.sent ++ more)
 next_more hub None is = ([], sym (append-nil hub.sent))
 next_more hub (Some n) is = is
@@ -147,7 +149,8 @@ pub whole : (settings : Limits) (status : BoardStatus) (hub : Hub) (items : List
     → IsFinished items
     → IsLane settings status hub items outcomes give_ups down spent telling faults quiets
     → IsWhole items hub.sent hub.window hub.rounds give_ups faults quiets telling
-whole settings status hub items outcomes give_ups down spent telling faults quiets all_taken places sent true_to finished
+whole settings status hub items outcomes give_ups down spent telling faults quiets all_taken places sent true_to
+    finished
     is =
     let same = all_taken items outcomes is.kept.legal finished in
     let bodies = sent items outcomes hub.sent _ _ is.kept.legal finished is.agrees in

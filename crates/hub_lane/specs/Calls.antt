@@ -83,6 +83,7 @@ pub record HasReceived {L : Type 0} (old : LaneState L) (telling : Option Tellin
 
 -- The link failed after some sends: what was without an outcome is lost, with its place where it was sent.
 pub record GoesDown {L : Type 0} (old new : LaneState L) : Type 0 where
+  pub waited : is_waiting old.hub ≡ true
   pub hub : HasSent old.hub new.hub
   pub outcomes : new.outcomes ≡ all_lost (length new.hub.sent) old.outcomes
   pub give_ups : new.give_ups ≡ old.give_ups
@@ -119,11 +120,12 @@ pub record WasAsked (items : List Item) (client seq : ℕ) : Type 0 where
   pub untaken : IsUntaken items client seq number
 
 -- what became of it, and its Took as the next entry
-pub record Takes {L : Type 0} (old : LaneState L) (client seq : ℕ) (new : LaneState L) (outcome : Outcome) : Type 0 where
-  pub number : ℕ
-  pub untaken : IsUntaken old.items client seq number
-  pub became : slice_get old.outcomes number ≡ Some (Some outcome)
-  pub entry : new ≡ with_item old (took_of client seq outcome old.give_ups)
+pub record Takes {L : Type 0} (old : LaneState L) (client seq : ℕ) (new : LaneState L) (outcome : Outcome) : Type 0
+  where
+    pub number : ℕ
+    pub untaken : IsUntaken old.items client seq number
+    pub became : slice_get old.outcomes number ≡ Some (Some outcome)
+    pub entry : new ≡ with_item old (took_of client seq outcome old.give_ups)
 
 pub record TakesNothing {L : Type 0} (old : LaneState L) (client seq : ℕ) (new : LaneState L) : Type 0 where
   pub number : ℕ

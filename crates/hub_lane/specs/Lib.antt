@@ -2,9 +2,12 @@ pub mod Sends
 pub mod Hearing
 pub mod Standing
 pub mod Lanes
+pub mod Rounds
 pub mod Plans
 pub mod Calls
 pub mod Books
 pub mod Truth
 pub mod Greeting
 pub mod Records
+pub mod Below
+pub mod Step

@@ -5,7 +5,7 @@ use Rattle.transaction_codec.specs.Answer.{reply_room}
 use Rattle.lane_record.specs.declared.item.Item.{Item}
 use Rattle.lane_record.specs.NextEntry.{plan_of}
 use Rattle.lane_record.specs.Items.{is_sealed, plan_in, planned}
-use Rattle.hub_lane.specs.Lanes.{LaneState, with_item}
+use Rattle.hub_lane.specs.Lanes.{FitsBoard, LaneState, with_item}
 use Rattle.hub_lane.specs.declared.answers.PlanRefusal.{PlanRefusal}
 use Rattle.hub_lane.specs.declared.answers.PlanRefusal.TheVariants.{Sealed, TooLong, ReplyTooLong, Overfull, NoMemory}
 
@@ -39,11 +39,6 @@ abbrev pub IsFull : List Item → ℕ → ℕ → Type 0
 IsFull items body reply =
     (most_bodies ≤ planned_bodies items) ⊎ (most_words < planned_words items + body + reply)
 
--- a body with its header, and its longest reply with its header, are packets that the board takes and sends
-pub record FitsBoard (payload : ℕ) (body : List ℕ) : Type 0 where
-  pub short : length body + 1 ≤ payload
-  pub reply_short : reply_room body + 1 ≤ payload
-
 -- a body that may be planned
 pub record CanPlan (items : List Item) (payload : ℕ) (body : List ℕ) : Type 0 where
   pub unsealed : is_sealed items ≡ false
@@ -56,7 +51,8 @@ IsRefused items payload body Sealed = is_sealed items ≡ true
 IsRefused items payload body TooLong = (is_sealed items ≡ false) × (payload < length body + 1)
 IsRefused items payload body ReplyTooLong =
     (is_sealed items ≡ false) × (length body + 1 ≤ payload) × (payload < reply_room body + 1)
-IsRefused items payload body Overfull = (is_sealed items ≡ false) × FitsBoard payload body × IsFull items (length body) (reply_room body)
+IsRefused items payload body Overfull = (is_sealed items ≡ false) × FitsBoard payload body × IsFull items (length
+    body) (reply_room body)
 IsRefused items payload body NoMemory = Unit {0}
 
 -- the body has the next number of its client, and its Plan is the next entry

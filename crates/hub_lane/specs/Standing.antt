@@ -1,5 +1,5 @@
--- How a hub stands to a link that tells: they are a state of a run of the world, whatever the link did to the datagrams.
--- Profile.
+-- How a hub stands to a link that tells: they are a state of a run of the world, whatever the link did to the
+-- datagrams. Profile.
 use Rattle.std.specs.Prelude.{◌≡◌, ◌⊎◌, ℕ, Bool, true, false, List, ◌++◌, Option, Some, IfSome}
 use Rattle.std.specs.List.{AllByRecursion, Contains, slice_get}
 use Rattle.packet_ids.specs.Identifier.{identifier_at}

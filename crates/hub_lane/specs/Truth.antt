@@ -17,8 +17,8 @@ use Rattle.lane_record.specs.FirstSends.{bodies_sent, first_sends, places_of}
 use Rattle.lane_record.specs.Bounds.{AreLostOnlyIf, AreWithin, HasReached, timeouts}
 use Rattle.hub_lane.specs.Standing.{WasHanded}
 
--- These outcomes have, for each body that was replied, the words that the board gives at its place: those of a bus with a
--- single thread, when the bodies that the board executed are replayed by place over the bus that it opened with. The
+-- These outcomes have, for each body that was replied, the words that the board gives at its place: those of a bus with
+-- a single thread, when the bodies that the board executed are replayed by place over the bus that it opened with. The
 -- link handed such a reply out.
 pub record AreRightReplies (t : Telling) (outcomes : List (Option Outcome)) : Type 0 where
   pub right : (k place : ℕ) (words : List ℕ) → slice_get outcomes k ≡ Some (Some (Replied place words))
@@ -31,9 +31,9 @@ pub record IsTrueTo (t : Telling) (bodies : List (List ℕ)) (outcomes : List (O
   pub in_order : IsPrefix (executed t.told.board) bodies
   pub replied : AreRightReplies t outcomes
 
--- What a lane's record says where each Ask has its Took: it is legal; its first sends have the places 1, 2, 3, .. and are
--- the bodies that the hub sent; what was timed out, and the quiet receives that each give-up took, are within the bounds;
--- a body is lost only where the link failed; and over a link that tells the record is true.
+-- What a lane's record says where each Ask has its Took: it is legal; its first sends have the places 1, 2, 3, .. and
+-- are the bodies that the hub sent; what was timed out, and the quiet receives that each give-up took, are within the
+-- bounds; a body is lost only where the link failed; and over a link that tells the record is true.
 pub record IsWhole (items : List Item) (sent : List Offered) (window rounds give_ups faults quiets : ℕ)
     (telling : Option Telling) : Type 0 where
   pub legal : IsLegal items (taken items)

@@ -1,6 +1,7 @@
 //! What clients planned, asked and took, in the order in which they did, with tables of it.
 
-ghost use Rattle.std.specs.Prelude.{◌≡◌, ◌≤◌, ◌<◌, ◌+◌, ◌∷◌, ◌++◌, [], OnOk, OnErr, IfOk, IfSome, IfNone, map, false, ◌↔◌};
+ghost use Rattle.std.specs.Prelude.{◌≡◌, ◌≤◌, ◌<◌, ◌+◌, ◌∷◌, ◌++◌, [], OnOk, OnErr, IfOk, IfSome, IfNone, map, false};
+ghost use Rattle.std.specs.Prelude.{◌↔◌};
 ghost use Rattle.std.specs.Prelude.{length, IsTrue, Some, ℕ, ◌^◌};
 ghost use Rattle.std.specs.List.{slice_get};
 ghost use Rattle.std.specs.Vec.{vec_len, vec_capacity};
@@ -83,6 +84,13 @@ impl Book {
         ensures { result.now ≡ map entry_of self.now.items }
     {
         self.entries.as_slice()
+    }
+
+    /// The entries, with their contents.
+    pub(crate) fn items(&self) -> &[Item]
+        ensures { result.now ≡ self.now.items }
+    {
+        self.items.as_slice()
     }
 
     /// Whether planning was closed.

@@ -26,9 +26,9 @@ pub fn the_limits_of_a_lane()
     ensures words { MAX_WORDS ≡ most_words }
 {}
 
-/// Over a link that tells a lane is true at the exit of every call, also where it is down or spent: the board executed a
-/// front of the bodies that were sent first, in order, and each reply that a client got or will get is the board's at its
-/// place.
+/// Over a link that tells a lane is true at the exit of every call, also where it is down or spent: the board executed
+/// a front of the bodies that were sent first, in order, and each reply that a client got or will get is the board's at
+/// its place.
 pub fn a_lane_over_a_link_that_tells_is_true()
     ensures { (stopped : Bool) (limits : Limits) (hub : Hub) (outcomes : List (Option Outcome)) (t : Telling)
         → IsStanding stopped limits hub outcomes t → IsTrueTo t (bodies_of hub.sent) outcomes }
@@ -36,8 +36,8 @@ pub fn a_lane_over_a_link_that_tells_is_true()
     a_state_of_a_run_tells_the_truth();
 }
 
-/// Where each asked body of a lane was taken, the record alone tells the bodies that were sent, by place, and what became
-/// of each; and what holds of the lane is said of this record.
+/// Where each asked body of a lane was taken, the record alone tells the bodies that were sent, by place, and what
+/// became of each; and what holds of the lane is said of this record.
 pub fn a_finished_lane_is_whole()
     ensures { (settings : Limits) (status : BoardStatus) (hub : Hub) (items : List Item)
         (outcomes : List (Option Outcome)) (give_ups : ℕ) (down spent : Bool) (telling : Option Telling)

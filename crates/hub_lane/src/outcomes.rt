@@ -1,6 +1,7 @@
 //! What became of the asked bodies, in the order of the Asks.
 
-ghost use Rattle.std.specs.Prelude.{◌≡◌, ◌+◌, ◌<◌, ◌≤◌, ◌^◌, ℕ, IfOk, IfSome, IfNone, length, count_by, if◌then◌else◌, List};
+ghost use Rattle.std.specs.Prelude.{◌≡◌, ◌+◌, ◌<◌, ◌≤◌, ◌^◌, ℕ, IfOk, IfSome, IfNone, length, count_by, if◌then◌else◌};
+ghost use Rattle.std.specs.Prelude.{List};
 ghost use Rattle.lane_record.specs.Bounds.{timeouts};
 ghost use Rattle.lane_record.specs.Offers.{all_lost, lost_after, outcome_of, put, put_all};
 ghost use Rattle.lane_record.specs.Outcomes.{is_sent};

@@ -8,7 +8,7 @@ use Rattle.lane_record.specs.declared.item.Item.{Item}
 use Rattle.lane_record.specs.Items.{asked, planned}
 use Rattle.lane_record.specs.NextEntry.{ask_of, took_of}
 use Rattle.hub_lane.specs.Calls.{Asks, asked_in_vain, offered}
-use Rattle.hub_lane.specs.Lanes.{LaneState, untouched_board}
+use Rattle.hub_lane.specs.Lanes.{LaneState, board_of}
 use Rattle.lane_history.specs.Records.{Act, Asked, Taken, asks_from, dispatches_from, tooks_from}
 use Rattle.board_history.specs.Patience.{joined}
 use Rattle.std.proofs.lemmas.List.{append-nil}
@@ -84,7 +84,7 @@ one_ask_more {L} law tells client done seq before old new has asks =
       keeps = record {
         settings = only.settings ∙ has.keeps.settings;
         status = only.status ∙ has.keeps.status;
-        board = ap untouched_board told ∙ has.keeps.board;
+        board = ap board_of told ∙ has.keeps.board;
       };
     }
 

@@ -9,7 +9,7 @@ use Rattle.lane_record.specs.declared.item.Item.{Item}
 use Rattle.lane_record.specs.Items.{asked, found, is_sealed, plan_in, planned, took_in}
 use Rattle.lane_record.specs.NextEntry.{took_of}
 use Rattle.hub_lane.specs.Calls.{WasAsked}
-use Rattle.hub_lane.specs.Lanes.{LaneState, untouched_board}
+use Rattle.hub_lane.specs.Lanes.{LaneState, board_of}
 use Rattle.board_history.specs.Patience.{joined}
 use Rattle.board_history.specs.History.{dispatches_of}
 use Rattle.transcript.specs.declared.board_run.ClientPart.{ClientPart}
@@ -69,7 +69,7 @@ pub record RanClient (client : ℕ) (counts : List ℕ) (outcomes : List Outcome
 pub record KeepsLane {L : Type 0} (old new : LaneState L) (before now : Option Telling) : Type 0 where
   pub settings : new.settings ≡ old.settings
   pub status : new.status ≡ old.status
-  pub board : untouched_board now ≡ untouched_board before
+  pub board : board_of now ≡ board_of before
 
 -- the lane but for its record
 abbrev pub with_items : {L : Type 0} → LaneState L → List Item → LaneState L

@@ -7,6 +7,7 @@ listen-requires-clause-begins g c =
     let old = c.args.link.now in
     let now = c.send.new.self in
     fresh_begins c.args.settings (link.telling old) (link.telling now)
-    (request_fresh c.a_greeting_goes_on.ensures.sent c.args.settings c.write_status_request-request.result (link.held old) (link.held now)
+    (request_fresh c.a_greeting_goes_on.ensures.sent c.args.settings c.write_status_request-request.result (link.held
+    old) (link.held now)
     (link.telling old) (link.telling now) c.write_status_request-request.ensures c.requires.begins
     c.in_ok-send.ensures.sent)

@@ -9,7 +9,10 @@ pub returns : goal.returns
 returns c = subst (λ (v : BookState). IsPosition c.args.client c.args.seq v.items c.position.result) c.self.view_is
     (position_is c.self.inside.items.items c.args.client c.args.seq c.self.inside.asks.items c.position.result
     c.self.invariant.asks_are
-    (subst (λ (asks : List (ℕ × ℕ)). IfSome c.position.result (λ at. slice_get asks at ≡ Some (c.args.client, c.args.seq)))
+    (subst (λ (asks : List (ℕ × ℕ)). IfSome c.position.result (λ at. slice_get asks at ≡ Some (
+      c.args.client,
+      c.args.seq,
+    )))
     c.deref.ensures.value c.position.ensures.some)
     (subst (λ (asks : List (ℕ × ℕ)). IfNone c.position.result ((at : ℕ) → slice_get asks at
     ≡ Some (c.args.client, c.args.seq) → ⊥)) c.deref.ensures.value c.position.ensures.none))

@@ -22,7 +22,8 @@ returns-in-Some c =
     sym (slice_get-get_or rows c.in-Some.at row found.within ∙ ap (λ (r : Row). Some r) (sym c.index.ensures))
     ∙ found.there in
     let same : row ≡ found.row = cc in
-    let tells = subst (IsRow c.self.inside.items.items c.args.client) found.mine (c.self.invariant.rows_are c.args.client) in
+    let tells = subst (IsRow c.self.inside.items.items c.args.client) found.mine (c.self.invariant.rows_are
+    c.args.client) in
     c.asked.ensures ∙ (ap (λ (r : Row). r.asked) same ∙ (tells.asked_are
     ∙ ap (λ (v : BookState). asked c.args.client v.items) c.self.view_is))
 

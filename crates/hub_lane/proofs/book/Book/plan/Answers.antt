@@ -13,7 +13,8 @@ invariant_of-self-2 c =
     let view = sym c.self.view_is in
     let seq : c.planned-seq.result ≡ planned c.args.client b.items.items =
     c.planned-seq.ensures ∙ ap (λ (v : BookState). planned c.args.client v.items) view in
-    let few = subst (λ (v : BookState). ¬ IsFull v.items (length c.args.body) (reply_room c.args.body)) view c.requires.few in
+    let few = subst (λ (v : BookState). ¬ IsFull v.items (length c.args.body) (reply_room c.args.body)) view
+    c.requires.few in
     let after = room_of c.put.new.items.cap c.put.new.items.len c.put.new.entries.cap c.put.new.entries.len
     b.asks.cap b.asks.len in
     let room = ap (λ (v : BookState). v.room) c.self.view_is in

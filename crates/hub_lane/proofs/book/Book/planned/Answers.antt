@@ -22,7 +22,8 @@ returns-in-Some c =
     sym (slice_get-get_or rows c.in-Some.at row found.within ∙ ap (λ (r : Row). Some r) (sym c.index.ensures))
     ∙ found.there in
     let same : row ≡ found.row = cc in
-    let tells = subst (IsRow c.self.inside.items.items c.args.client) found.mine (c.self.invariant.rows_are c.args.client) in
+    let tells = subst (IsRow c.self.inside.items.items c.args.client) found.mine (c.self.invariant.rows_are
+    c.args.client) in
     c.planned.ensures ∙ (ap (λ (r : Row). length r.plans) same ∙ (tells.planned_are
     ∙ ap (λ (v : BookState). planned c.args.client v.items) c.self.view_is))
 

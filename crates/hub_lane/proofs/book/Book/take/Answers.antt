@@ -19,7 +19,8 @@ invariant_of-self c =
       c.put.ensures.items_capacity,
       c.put.ensures.entries_capacity,
     ) in
-    subst (λ (items : List Item). IsBook items c.put.new.entries.items b.rows.items b.asks.items b.bodies b.words b.sealed
+    subst (λ (items : List Item). IsBook items c.put.new.entries.items b.rows.items b.asks.items b.bodies b.words
+    b.sealed
     after) (sym c.put.ensures.items)
     (book_took b.items.items b.entries.items b.rows.items b.asks.items b.bodies b.words b.sealed _ c.self.invariant
     c.args.client c.args.seq c.args.outcome c.args.give_ups c.put.new.entries.items after c.put.ensures.entries enough)
