@@ -6,6 +6,9 @@
 
 mod board;
 mod client;
+mod greeting;
 mod planning;
+mod session;
 
 pub use ipb_base::NoMemory;
+pub use session::{RunFault, run_session};

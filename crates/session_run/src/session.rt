@@ -12,7 +12,7 @@ ghost use Rattle.session_run.specs.Links.{AreLeft, CanBeReached, Keeps};
 
 use board_node::BoardSpec;
 use ipb_base::NoMemory;
-use lossy_network::Rack;
+use lossy_network::{Rack, RackFault};
 use reliable_engine::Settings;
 use script_lang::Steps;
 use std::alloc::Global;
@@ -37,6 +37,20 @@ impl From<NoMemory> for RunFault {
 
     fn from(_error: NoMemory) -> RunFault {
         RunFault::NoMemory
+    }
+}
+
+impl From<RackFault> for RunFault {
+    ghost use Rattle.std.specs.Prelude.{◌≡◌};
+    ghost use Rattle.session_run.specs.Faults.{run_fault};
+
+    ghost from_gives = { λ fault result. result ≡ run_fault fault };
+
+    fn from(fault: RackFault) -> RunFault {
+        match fault {
+            RackFault::Failed => RunFault::Rack,
+            RackFault::NoMemory => RunFault::NoMemory,
+        }
     }
 }
 
