@@ -2,3 +2,4 @@ pub mod Entries
 pub mod Asking
 pub mod PlansMade
 pub mod Blocks
+pub mod LaneRuns

@@ -1,12 +1,15 @@
 -- Boards at their greeting. What private functions promise one another; no public clause speaks of these.
-use Rattle.std.specs.Prelude.{◌≡◌, ◌⊎◌, ℕ, ◌+◌, ◌≤◌, List, [], ◌∷◌, length, Option, IfSome}
+use Rattle.std.specs.Prelude.{◌≡◌, ◌⊎◌, ℕ, ◌+◌, ◌≤◌, List, [], ◌∷◌, length, Option, IfSome, Result, Ok, Err}
 use Rattle.world_core.specs.Telling.{Telling}
 use Rattle.reliable_engine.specs.Settings.{Limits}
 use Rattle.board_node.specs.declared.spec.BoardSpec.{BoardSpec}
 use Rattle.hub_lane.specs.declared.greeting.Greeted.{Greeted}
 use Rattle.hub_lane.specs.declared.greeting.Greeted.TheVariants.{Ready, Silent, Down, NoMemory}
 use Rattle.hub_lane.specs.Greeting.{link_of}
+use Rattle.transcript.specs.declared.greeting.Greeting.{Greeting}
+use Rattle.transcript.specs.declared.greeting.Greeting.TheVariants as greeting
 use Rattle.hub_lane.specs.Lanes.{IsGreeted, LaneState, opened}
+use Rattle.transcript.specs.declared.board_run.BoardRun.{BoardRun}
 use Rattle.sound_lanes.specs.Reports.{report_of}
 use Rattle.lane_history.specs.Links.{IsBoardOf, IsUntouched, LinkReport}
 use Rattle.lane_history.specs.Runs.{IsDownRun, IsSilentRun}
@@ -15,6 +18,12 @@ use Rattle.lane_history.specs.Runs.{IsDownRun, IsSilentRun}
 pub record IsReadyLane {L : Type 0} (settings : Limits) (lane : LaneState L) (telling : Option Telling) : Type 0 where
   pub opened' : lane ≡ opened lane.link settings lane.status
   pub greeted : IfSome telling (IsGreeted settings lane.status)
+
+-- not that of a live board
+abbrev pub IsIdle : Greeting → Type 0
+IsIdle (greeting.Live payload) = ⊥
+IsIdle greeting.Silent = Unit {0}
+IsIdle greeting.Down = Unit {0}
 
 -- what a greeting came to, over a link that tells this and shows this
 abbrev pub IsGreetedAs : {L : Type 0} → Limits → Greeted L → Option Telling → LinkReport → Type 0
@@ -61,3 +70,8 @@ AreUntouched specs [] = Unit {0}
 AreUntouched [] (link ∷ links) = ⊥
 AreUntouched (spec ∷ specs) (link ∷ links) =
     IsBoardOf spec.link link.board × IsUntouched link × AreUntouched specs links
+
+-- there is a run, and it is so
+abbrev pub OnRun : {E : Type 0} → Result BoardRun E → (BoardRun → Type 0) → Type 0
+OnRun (Ok run) holds = holds run
+OnRun (Err fault) holds = ⊥

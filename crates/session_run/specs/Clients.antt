@@ -14,7 +14,9 @@ use Rattle.board_history.specs.Patience.{joined}
 use Rattle.board_history.specs.History.{dispatches_of}
 use Rattle.transcript.specs.declared.board_run.ClientPart.{ClientPart}
 use Rattle.transcript.specs.Plan.{ClientBodies}
-use Rattle.lane_history.specs.Records.{Act, AreBlocks, act_of, dispatches_from, plans_from, tooks_from}
+use Rattle.lane_history.specs.Records.{Act, AreBlocks, IsClientsRecord, act_of, dispatches_from}
+use Rattle.lane_history.specs.Records.{makers, plans_from, tooks_from}
+use Rattle.lane_record.specs.Lists.{NeverFalls}
 
 -- ---- entries
 
@@ -115,3 +117,9 @@ pub record HaveRun (parts : List ClientPart) (old new : List Item) : Type 0 wher
   pub grown : new ≡ old ++ flat_map (λ block. block) blocks
   pub each : AreBlocks 1 (map dispatches_of parts) blocks
   pub whole : AllByRecursion IsWholePart parts
+
+-- what clients left in the record of a lane who ran one after another, the only ones
+pub record RanAlone (parts : List ClientPart) (items : List Item) : Type 0 where
+  pub whole : AllByRecursion IsWholePart parts
+  pub left : IsClientsRecord (map (λ (p : ClientPart). p.planned.bodies) parts) (map dispatches_of parts) items
+  pub in_turn : NeverFalls 0 (makers left.past)
