@@ -3,3 +3,5 @@ pub mod Asking
 pub mod PlansMade
 pub mod Blocks
 pub mod LaneRuns
+pub mod BoardRuns
+pub mod Idle
