@@ -24,7 +24,7 @@ use Rattle.transcript.specs.declared.board_run.BoardRun.{BoardRun}
 use Rattle.transcript.specs.declared.greeting.Greeting.{Greeting}
 use Rattle.transcript.specs.declared.greeting.Greeting.TheVariants.{Live}
 use Rattle.transcript.specs.Plan.{ClientBodies, plans_on}
-use Rattle.lane_history.specs.Links.{IsBoardOf, LinkReport}
+use Rattle.lane_history.specs.Links.{IsBoardOf, IsUntouched, LinkReport}
 use Rattle.lane_history.specs.Records.{IsClientsRecord, IsPartlyPlanned, makers}
 use Rattle.lane_history.specs.Lanes.{IsSoundLane}
 use Rattle.lane_history.specs.Runs.{ExecutedSome, IsRunOver, ShowsScripts, TellsPayload}
@@ -127,3 +127,12 @@ runs_live {L} {E} spec board payload scripts before now parts run same planned r
 pub if_ok : {A E : Type 0} (P Q : A → Type 0) (r : Result A E) → IfOk r P → ((x : A) → P x → Q x) → IfOk r Q
 if_ok P Q (Ok x) p leads = leads x p
 if_ok P Q (Err e) p leads = tt
+
+abbrev pub UntouchedLaw : Type 0
+UntouchedLaw = (spec : BoardSpec) (board : ℕ) (scripts : List (List Step)) (link : LinkReport)
+    → IsUntouched link → IfSome link.board (λ there. ExecutedSome spec board scripts (executed there))
+
+pub untouched_left : UntouchedLaw → (spec : BoardSpec) (board : ℕ) (scripts : List (List Step)) (shown : LinkReport)
+    → IsBoardOf spec.link shown.board → IsUntouched shown → IsLeft spec board scripts shown
+untouched_left law spec board scripts shown is none =
+    record { board' = is; executed_some = law spec board scripts shown none }

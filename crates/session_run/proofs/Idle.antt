@@ -1,5 +1,5 @@
 -- The run of a board that was asked nothing.
-use Rattle.std.proofs.Common.{◌≡◌, ℕ, ◌+◌, ◌<◌, ◌∙◌, List, [], ◌∷◌, ◌++◌, length, map, refl, sym, ap, subst, take, get_or}
+use Rattle.std.proofs.Common.{◌≡◌, ℕ, ◌+◌, ◌<◌, ◌∙◌, List, [], ◌∷◌, ◌++◌, length, map, refl, sym, ap, subst, take, get_or, Ok}
 use Rattle.std.specs.List.{AllByRecursion}
 use Rattle.std.proofs.lemmas.List.{take_more}
 use Rattle.board_node.specs.declared.spec.BoardSpec.{BoardSpec}
@@ -78,3 +78,6 @@ idle_shows spec board told scripts run name greeting planned none = record {
 pub idle_in_turn : (run : BoardRun) → AllByRecursion HasNothing run.parts
     → AreInTurn (bodies_by_client run) (outcomes_by_client run)
 idle_in_turn run none = rw (idle_placed run.parts none) tt
+
+pub same_parts : {E : Type 0} (parts others : List ClientPart) → Ok {E = E} parts ≡ Ok others → parts ≡ others
+same_parts parts others same = cc

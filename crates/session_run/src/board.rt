@@ -154,10 +154,9 @@ fn run_idle(
 {
     let mut parts = Vec::with_capacity(alloc, scripts.len())?;
     for steps in scripts {
-        parts.push(ClientPart {
-            planned: plan_on(alloc, steps.as_slice(), position, greeting)?,
-            outcomes: Outcomes::from_vec(Vec::new(alloc)),
-        })?;
+        let planned = plan_on(alloc, steps.as_slice(), position, greeting)?;
+        let outcomes = Outcomes::from_vec(Vec::new(alloc));
+        parts.push(ClientPart { planned, outcomes })?;
     }
     named(alloc, spec, greeting, Ok(ClientParts::from_vec(parts)))
 }
