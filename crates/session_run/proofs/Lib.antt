@@ -3,3 +3,4 @@ pub mod Asking
 pub mod PlansMade
 pub mod Blocks
 pub mod LaneRuns
+mod Boards

@@ -11,6 +11,7 @@ ghost use Rattle.session_run.specs.Boards.{AreReached, AreUntouched, HasMemory, 
 ghost use Rattle.session_run.specs.Links.{CanBeReached, Keeps};
 
 use crate::session::RunFault;
+use board_bus::laws::words_stay_words;
 use board_node::BoardSpec;
 use hub_lane::{Greeted, Lane};
 use lossy_network::{Rack, RackFault};
@@ -58,6 +59,8 @@ fn greet_board<R: Rack>(
     ensures made { R.made rack.new ≡ made_after result (R.made rack.old) }
     ensures within { length (R.kept rack.old) ≤ R.made rack.old }
 {
+    words_stay_words();
+    let _window = settings.window();
     let link = rack.make(spec)?;
     Ok(Lane::greet(alloc, link, settings))
 }
