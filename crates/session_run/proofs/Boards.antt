@@ -1,6 +1,6 @@
 -- Boards at their greeting.
 use Rattle.std.proofs.Common.{◌≡◌, ℕ, ◌+◌, ◌*◌, ◌≤◌, List, [], ◌∷◌, ◌++◌, length, map, zero, suc}
-use Rattle.std.proofs.Common.{Option, Some, None, refl, sym, ap, ◌∙◌, subst, arith, ◌⊎◌, inl, inr}
+use Rattle.std.proofs.Common.{Option, Some, None, refl, sym, ap, ◌∙◌, subst, arith, ◌⊎◌, inl, inr, append_assoc}
 use Rattle.std.specs.Prelude.{IfSome}
 use Rattle.std.specs.List.{AllByRecursion, slice_get}
 use Rattle.ipb_base.specs.Faults.{Rose}
@@ -21,7 +21,7 @@ use Rattle.hub_lane.specs.declared.greeting.Greeted.TheVariants.{Ready, Silent, 
 use Rattle.hub_lane.specs.Greeting.{CanBegin, IfDown, IfReady, IfSilent, StaysFresh, link_of}
 use Rattle.hub_lane.specs.Lanes.{IsGreeted, LaneState, opened}
 use Rattle.sound_lanes.specs.Reports.{board_there}
-use Rattle.lane_history.specs.Links.{IsBoardOf, IsUntouched}
+use Rattle.lane_history.specs.Links.{IsBoardOf, IsUntouched, LinkReport}
 use Rattle.session_run.specs.Boards.{AreReached, HasRoom, IsGreetedAs, IsReached, shown_by}
 use Rattle.session_run.specs.Links.{CanBeMade}
 
@@ -126,3 +126,41 @@ module _ {L : Type 0} (faults quiets gots held : L → ℕ) (telling : L → Opt
         untouched = untouched;
         as_told = told_as link board ready told silent quiet down untouched;
       }
+
+-- ---- links given back
+
+pub room_for_one : (kept made count : ℕ) → HasRoom kept made (suc count) → kept + 1 ≤ made
+room_for_one kept made count (inl none) = absurd (omega (arith, none))
+room_for_one kept made count (inr room) = omega (arith, room)
+
+pub room_for_less : (kept kept_now made made_now count : ℕ) → kept_now ≡ kept + 1 → made_now ≡ made
+    → HasRoom kept made (suc count) → HasRoom kept_now made_now count
+room_for_less kept kept_now made made_now count one same (inl none) = absurd (omega (arith, none))
+room_for_less kept kept_now made made_now count one same (inr room) = inr (omega (arith, room, one, same))
+
+pub one_kept : {L : Type 0} (before old new : List L) (link : L) (rest all : List L) → new ≡ old ++ link ∷ []
+    → old ++ link ∷ rest ≡ before ++ all → new ++ rest ≡ before ++ all
+one_kept before old new link rest all pushed is =
+    ap (λ (l : List _). l ++ rest) pushed ∙ (append_assoc old (link ∷ []) rest ∙ is)
+
+-- ---- boards greeted one after another
+
+pub reached_more : {L : Type 0} (tells : L → Option Telling) (shows : L → LinkReport) (settings : Limits)
+    (specs : List BoardSpec) (boards : List (Greeted L)) (spec : BoardSpec) (board : Greeted L)
+    → slice_get specs (length boards) ≡ Some spec → AreReached tells shows settings specs boards
+    → IsReached settings spec board (tells (link_of board)) (shows (link_of board))
+    → AreReached tells shows settings specs (boards ++ board ∷ [])
+reached_more tells shows settings [] [] spec board at are is = absurd cc
+reached_more tells shows settings [] (b ∷ boards) spec board at are is = absurd are
+reached_more tells shows settings (s ∷ specs) [] spec board at are is =
+    let same : s ≡ spec = cc in
+    (subst (λ (x : BoardSpec). IsReached settings x board (tells (link_of board)) (shows (link_of board))) (sym same) is, tt)
+reached_more tells shows settings (s ∷ specs) (b ∷ boards) spec board at are is =
+    (are.0, reached_more tells shows settings specs boards spec board at are.1 is)
+
+pub room_for_more : (kept kept_now made made_now count : ℕ) → kept ≤ made → kept_now ≡ kept → made_now ≡ made + 1
+    → HasRoom kept made count → HasRoom kept_now made_now (count + 1)
+room_for_more kept kept_now made made_now count within same one (inl none) =
+    inr (omega (arith, none, within, same, one))
+room_for_more kept kept_now made made_now count within same one (inr room) =
+    inr (omega (arith, room, within, same, one))

@@ -1,6 +1,6 @@
 //! The boards of a session, greeted in order.
 
-ghost use Rattle.std.specs.Prelude.{◌≡◌, ◌≤◌, ◌<◌, ◌+◌, ◌++◌, ◌∷◌, [], Err, length, map, IfOk, OnErr, OnOk};
+ghost use Rattle.std.specs.Prelude.{◌≡◌, ◌≤◌, ◌<◌, ◌+◌, ◌++◌, ◌∷◌, [], Err, length, map, IfOk, OnErr, OnOk, false};
 ghost use Rattle.std.specs.List.{AllByRecursion};
 ghost use Rattle.std.specs.Vec.{vec_capacity, vec_len};
 ghost use Rattle.ipb_base.specs.Faults.{Rose};
@@ -65,6 +65,13 @@ fn greet_board<R: Rack>(
     Ok(Lane::greet(alloc, link, settings))
 }
 
+/// Whether memory ran out at the greeting.
+fn is_out_of_memory<L: Link>(board: &Greeted<L>) -> bool
+    ensures { result ≡ false → HasMemory board.now }
+{
+    matches!(board, Greeted::NoMemory { .. })
+}
+
 /// Greets the boards in order, and puts them into `boards`, which has room for all. One on whose link memory ran out is
 /// the last.
 fn greet_into<R: Rack>(
@@ -89,9 +96,9 @@ fn greet_into<R: Rack>(
 {
     for spec in specs {
         let board = greet_board(alloc, settings, spec, rack)?;
-        let is_out_of_memory = matches!(board, Greeted::NoMemory { .. });
+        let is_last = is_out_of_memory(&board);
         boards.push_reserved(board);
-        if is_out_of_memory {
+        if is_last {
             return Err(RunFault::NoMemory);
         }
     }
