@@ -22,7 +22,7 @@ use Rattle.hub_lane.specs.Greeting.{CanBegin, IfDown, IfReady, IfSilent, StaysFr
 use Rattle.hub_lane.specs.Lanes.{IsGreeted, LaneState, opened}
 use Rattle.sound_lanes.specs.Reports.{board_there}
 use Rattle.lane_history.specs.Links.{IsBoardOf, IsUntouched, LinkReport}
-use Rattle.session_run.specs.Boards.{AreReached, HasRoom, IsGreetedAs, IsReached, shown_by}
+use Rattle.session_run.specs.Boards.{AreReached, AreUntouched, HasRoom, IsGreetedAs, IsReached, shown_by}
 use Rattle.session_run.specs.Links.{CanBeMade}
 
 abbrev pub WordsLaw : Type 0
@@ -164,3 +164,11 @@ room_for_more kept kept_now made made_now count within same one (inl none) =
     inr (omega (arith, none, within, same, one))
 room_for_more kept kept_now made made_now count within same one (inr room) =
     inr (omega (arith, room, within, same, one))
+
+pub untouched_all : {L : Type 0} (tells : L → Option Telling) (shows : L → LinkReport) (settings : Limits)
+    (specs : List BoardSpec) (boards : List (Greeted L)) → AreReached tells shows settings specs boards
+    → AreUntouched specs (map shows (map (λ board. link_of board) boards))
+untouched_all tells shows settings specs [] are = tt
+untouched_all tells shows settings [] (b ∷ boards) are = absurd are
+untouched_all tells shows settings (s ∷ specs) (b ∷ boards) are =
+    (are.0.board', are.0.untouched, untouched_all tells shows settings specs boards are.1)
