@@ -5,3 +5,4 @@ pub mod Blocks
 pub mod LaneRuns
 pub mod BoardRuns
 pub mod Idle
+mod Boards

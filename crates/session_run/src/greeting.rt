@@ -1,6 +1,6 @@
 //! The boards of a session, greeted in order.
 
-ghost use Rattle.std.specs.Prelude.{◌≡◌, ◌≤◌, ◌<◌, ◌+◌, ◌++◌, ◌∷◌, [], Err, length, map, IfOk, OnErr, OnOk};
+ghost use Rattle.std.specs.Prelude.{◌≡◌, ◌≤◌, ◌<◌, ◌+◌, ◌++◌, ◌∷◌, [], Err, length, map, IfOk, OnErr, OnOk, false};
 ghost use Rattle.std.specs.List.{AllByRecursion};
 ghost use Rattle.std.specs.Vec.{vec_capacity, vec_len};
 ghost use Rattle.ipb_base.specs.Faults.{Rose};
@@ -11,6 +11,7 @@ ghost use Rattle.session_run.specs.Boards.{AreReached, AreUntouched, HasMemory, 
 ghost use Rattle.session_run.specs.Links.{CanBeReached, Keeps};
 
 use crate::session::RunFault;
+use board_bus::laws::words_stay_words;
 use board_node::BoardSpec;
 use hub_lane::{Greeted, Lane};
 use lossy_network::{Rack, RackFault};
@@ -58,8 +59,17 @@ fn greet_board<R: Rack>(
     ensures made { R.made rack.new ≡ made_after result (R.made rack.old) }
     ensures within { length (R.kept rack.old) ≤ R.made rack.old }
 {
+    words_stay_words();
+    let _window = settings.window();
     let link = rack.make(spec)?;
     Ok(Lane::greet(alloc, link, settings))
+}
+
+/// Whether memory ran out at the greeting.
+fn is_out_of_memory<L: Link>(board: &Greeted<L>) -> bool
+    ensures { result ≡ false → HasMemory board.now }
+{
+    matches!(board, Greeted::NoMemory { .. })
 }
 
 /// Greets the boards in order, and puts them into `boards`, which has room for all. One on whose link memory ran out is
@@ -86,9 +96,9 @@ fn greet_into<R: Rack>(
 {
     for spec in specs {
         let board = greet_board(alloc, settings, spec, rack)?;
-        let is_out_of_memory = matches!(board, Greeted::NoMemory { .. });
+        let is_last = is_out_of_memory(&board);
         boards.push_reserved(board);
-        if is_out_of_memory {
+        if is_last {
             return Err(RunFault::NoMemory);
         }
     }
