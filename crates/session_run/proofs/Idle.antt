@@ -1,6 +1,7 @@
 -- The run of a board that was asked nothing.
 use Rattle.std.proofs.Common.{◌≡◌, ℕ, ◌+◌, ◌<◌, ◌∙◌, List, [], ◌∷◌, ◌++◌, length, map, refl, sym, ap, subst, take, get_or, Ok}
 use Rattle.std.specs.List.{AllByRecursion}
+use Rattle.std.specs.Prelude.{Result}
 use Rattle.std.proofs.lemmas.List.{take_more}
 use Rattle.board_node.specs.declared.spec.BoardSpec.{BoardSpec}
 use Rattle.lane_record.specs.declared.outcome.Outcome.{Outcome}
@@ -79,5 +80,6 @@ pub idle_in_turn : (run : BoardRun) → AllByRecursion HasNothing run.parts
     → AreInTurn (bodies_by_client run) (outcomes_by_client run)
 idle_in_turn run none = rw (idle_placed run.parts none) tt
 
-pub same_parts : {E : Type 0} (parts others : List ClientPart) → Ok {E = E} parts ≡ Ok others → parts ≡ others
-same_parts parts others same = cc
+pub same_parts : {E : Type 0} (parts others : List ClientPart) (r : Result (List ClientPart) E) → r ≡ Ok parts
+    → r ≡ Ok others → parts ≡ others
+same_parts parts others r one two = cc

@@ -6,3 +6,4 @@ pub mod LaneRuns
 pub mod BoardRuns
 pub mod Idle
 mod Boards
+pub mod Sessions

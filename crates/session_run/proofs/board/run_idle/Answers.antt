@@ -1,4 +1,4 @@
-use Rattle.std.proofs.Common.{◌≡◌, ◌∙◌, Ok, List, ap, map, sym, subst, take}
+use Rattle.std.proofs.Common.{◌≡◌, ◌∙◌, Ok, List, ap, map, refl, sym, subst, take}
 use Rattle.std.specs.List.{AllByRecursion}
 use Rattle.std.proofs.lemmas.List.{take_all}
 use Rattle.script_lang.specs.declared.operation.Step.{Step}
@@ -19,7 +19,7 @@ returns-clause-scripts c =
     let scripts = c.args.scripts.now in
     if_ok (IsNamed c.args.spec.now c.args.greeting (Ok c.from_vec.result))
     (ShowsScripts c.args.spec.now c.args.position scripts) c.named.result c.named.ensures
-    (λ run named. (let parts = same_parts c.from_vec.result run.parts named.parts' in
+    (λ run named. (let parts = same_parts c.from_vec.result run.parts _ refl named.parts' in
     let here = sym parts ∙ c.from_vec.ensures in
     idle_shows c.args.spec.now c.args.position c.args.greeting scripts run named.name' named.greeting'
     (ap (map plan_in_part) here ∙ (c.loop-steps.invariant.planned
@@ -30,6 +30,6 @@ pub returns-clause-in_turn : goal.returns-clause-in_turn
 returns-clause-in_turn c =
     if_ok (IsNamed c.args.spec.now c.args.greeting (Ok c.from_vec.result))
     (λ (run : BoardRun). AreInTurn (bodies_by_client run) (outcomes_by_client run)) c.named.result c.named.ensures
-    (λ run named. (let parts = same_parts c.from_vec.result run.parts named.parts' in
+    (λ run named. (let parts = same_parts c.from_vec.result run.parts _ refl named.parts' in
     idle_in_turn run (subst (AllByRecursion HasNothing) (sym (sym parts ∙ c.from_vec.ensures))
     c.loop-steps.invariant.nothing)))
