@@ -234,7 +234,7 @@ blocks_more from client (e ∷ ds) [] d b all who is = absurd all
 blocks_more from client (e ∷ ds) (c ∷ bs) d b all who is =
     (all.0, blocks_more (from + 1) client ds bs d b all.1 (omega (arith, who)) is)
 
-map_append : {A B : Type 0} (f : A → B) (xs : List A) (x : A) → map f (xs ++ x ∷ []) ≡ map f xs ++ f x ∷ []
+pub map_append : {A B : Type 0} (f : A → B) (xs : List A) (x : A) → map f (xs ++ x ∷ []) ≡ map f xs ++ f x ∷ []
 map_append f [] x = refl
 map_append f (y ∷ xs) x = ap (λ l. f y ∷ l) (map_append f xs x)
 

@@ -1,7 +1,7 @@
 -- A lane from its first entry to the last: what its clients asked of it, and what became of the board.
 use Rattle.std.proofs.Common.{◌≡◌, ℕ, ◌+◌, ◌*◌, ◌≤◌, ◌<◌, ◌∙◌, suc, List, [], ◌∷◌, ◌++◌, length, map, sum, fold, Option, Some, None}
 use Rattle.std.proofs.Common.{refl, sym, ap, subst, arith, append_assoc, append-nil, length-append}
-use Rattle.std.specs.Prelude.{IfSome}
+use Rattle.std.specs.Prelude.{IfSome, IfOk, Result, Ok, Err}
 use Rattle.std.specs.List.{AllByRecursion, flat_map}
 use Rattle.std.proofs.lemmas.List.Sums.{fold-append}
 use Rattle.ipb_base.specs.Numbers.{payload_of}
@@ -179,3 +179,8 @@ pub shows_scripts : (spec : BoardSpec) (board : ℕ) (scripts : List (List Step)
     → ShowsScripts spec board scripts run
 shows_scripts spec board scripts run name plans whole =
     record { name = name; plans = plans; shape = same_shape run.parts whole }
+
+pub both_ok : {A E : Type 0} (P Q R : A → Type 0) (r : Result A E) → IfOk r P → IfOk r Q
+    → ((x : A) → P x → Q x → R x) → IfOk r R
+both_ok P Q R (Ok x) p q leads = leads x p q
+both_ok P Q R (Err e) p q leads = tt

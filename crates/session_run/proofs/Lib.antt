@@ -3,4 +3,6 @@ pub mod Asking
 pub mod PlansMade
 pub mod Blocks
 pub mod LaneRuns
+pub mod BoardRuns
+pub mod Idle
 mod Boards

@@ -10,6 +10,7 @@ use Rattle.transcript.specs.declared.greeting.Greeting.{Greeting}
 use Rattle.transcript.specs.declared.greeting.Greeting.TheVariants as greeting
 use Rattle.hub_lane.specs.Lanes.{IsGreeted, LaneState, opened}
 use Rattle.transcript.specs.declared.board_run.BoardRun.{BoardRun}
+use Rattle.transcript.specs.declared.board_run.ClientPart.{ClientPart}
 use Rattle.sound_lanes.specs.Reports.{report_of}
 use Rattle.lane_history.specs.Links.{IsBoardOf, IsUntouched, LinkReport}
 use Rattle.lane_history.specs.Runs.{IsDownRun, IsSilentRun}
@@ -75,3 +76,10 @@ AreUntouched (spec ∷ specs) (link ∷ links) =
 abbrev pub OnRun : {E : Type 0} → Result BoardRun E → (BoardRun → Type 0) → Type 0
 OnRun (Ok run) holds = holds run
 OnRun (Err fault) holds = ⊥
+
+-- a run has this name and this greeting, and these parts
+pub record IsNamed {E : Type 0} (spec : BoardSpec) (told : Greeting) (parts : Result (List ClientPart) E) (run : BoardRun)
+    : Type 0 where
+  pub name' : run.name ≡ spec.name
+  pub greeting' : run.greeting ≡ told
+  pub parts' : parts ≡ Ok run.parts

@@ -15,7 +15,7 @@ ghost use Rattle.sound_lanes.specs.Reports.{board_there};
 ghost use Rattle.transcript.specs.declared.board_run.ClientPart.{ClientPart};
 ghost use Rattle.transcript.specs.declared.greeting.Greeting.TheVariants.{Live};
 ghost use Rattle.transcript.specs.Plan.{plans_on};
-ghost use Rattle.session_run.specs.Boards.{HasMemory, IsIdle, IsReached, IsReadyLane, shown_by};
+ghost use Rattle.session_run.specs.Boards.{HasMemory, IsIdle, IsNamed, IsReached, IsReadyLane, shown_by};
 ghost use Rattle.session_run.specs.Clients.{HasItsCounts, HaveRun, KeepsLane, RanAlone, RunLater, bodies_of};
 ghost use Rattle.session_run.specs.Links.{IsLeft};
 
@@ -88,15 +88,16 @@ fn run_lane<L: Link, T: Wait>(
     run_clients(rt, alloc, lane, plans)
 }
 
-/// The run of a board under its name.
+/// The run of a board under its name, where it has parts.
 fn named(
     alloc: Global,
     spec: &BoardSpec,
     greeting: Greeting,
-    parts: ClientParts,
+    parts: Result<ClientParts, NoMemory>,
 ) -> Result<BoardRun, NoMemory>
-    ensures { IfOk result (λ run. run ≡ record { name = spec.now.name; greeting = greeting; parts = parts }) }
+    ensures { IfOk result (IsNamed spec.now greeting parts) }
 {
+    let parts = parts?;
     let name = Text::copy_of(alloc, spec.name.as_str())?;
     Ok(BoardRun {
         name,
@@ -132,10 +133,7 @@ fn run_live<L: Link, T: Wait>(
     let parts = run_lane(rt, alloc, &mut lane, position, scripts);
     lane.is_sound();
     lane.has_paid();
-    let run = match parts {
-        Ok(parts) => named(alloc, spec, Greeting::Live { payload }, parts),
-        Err(NoMemory) => Err(NoMemory),
-    };
+    let run = named(alloc, spec, Greeting::Live { payload }, parts);
     (lane.close(), run)
 }
 
@@ -156,12 +154,11 @@ fn run_idle(
 {
     let mut parts = Vec::with_capacity(alloc, scripts.len())?;
     for steps in scripts {
-        parts.push(ClientPart {
-            planned: plan_on(alloc, steps.as_slice(), position, greeting)?,
-            outcomes: Outcomes::from_vec(Vec::new(alloc)),
-        })?;
+        let planned = plan_on(alloc, steps.as_slice(), position, greeting)?;
+        let outcomes = Outcomes::from_vec(Vec::new(alloc));
+        parts.push(ClientPart { planned, outcomes })?;
     }
-    named(alloc, spec, greeting, ClientParts::from_vec(parts))
+    named(alloc, spec, greeting, Ok(ClientParts::from_vec(parts)))
 }
 
 /// Runs all clients on the board at a position, from 0, and gives its link back.
