@@ -242,7 +242,7 @@ one_dispatch_more {L} law client count counts now later' before old mid new told
       };
       many = (let p = took_all.many in let m = run.many in let s = sum_more counts count in omega (arith, p, m, s));
       asked' = (let a = took_all.asked' in let b = asked_all.asked' in let r = run.asked' in let p = took_all.many in
-      omega (arith, a, b, r, p));
+          omega (arith, a, b, r, p));
       planned' = took_all.planned' ∙ (asked_all.planned' ∙ run.planned');
       taken = took_all.taken;
       later = later_then client before.items old.items new.items run.later

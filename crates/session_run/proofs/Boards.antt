@@ -1,6 +1,6 @@
 -- Boards at their greeting.
-use Rattle.std.proofs.Common.{◌≡◌, ℕ, ◌+◌, ◌*◌, ◌≤◌, List, [], ◌∷◌, ◌++◌, length, map, zero, suc}
-use Rattle.std.proofs.Common.{Option, Some, None, refl, sym, ap, ◌∙◌, subst, arith, ◌⊎◌, inl, inr, append_assoc}
+use Rattle.std.proofs.Common.{◌≡◌, ℕ, ◌+◌, ◌*◌, ◌≤◌, List, [], ◌∷◌, ◌++◌, length, map, suc}
+use Rattle.std.proofs.Common.{Option, Some, None, refl, sym, ap, ◌∙◌, subst, arith, inl, inr, append_assoc}
 use Rattle.std.specs.Prelude.{IfSome}
 use Rattle.std.specs.List.{AllByRecursion, slice_get}
 use Rattle.ipb_base.specs.Faults.{Rose}
@@ -15,11 +15,11 @@ use Rattle.world_model.specs.Board.{Board, executed}
 use Rattle.reliable_engine.specs.Settings.{AreLimits, Limits}
 use Rattle.world_core.specs.Telling.{IfTelling, Telling}
 use Rattle.script_lang.specs.Executable.{LinkNamesWords}
-use Rattle.lossy_network.specs.Racks.{fresh_board, telling_for}
+use Rattle.lossy_network.specs.Racks.{telling_for}
 use Rattle.hub_lane.specs.declared.greeting.Greeted.{Greeted}
 use Rattle.hub_lane.specs.declared.greeting.Greeted.TheVariants.{Ready, Silent, Down, NoMemory}
 use Rattle.hub_lane.specs.Greeting.{CanBegin, IfDown, IfReady, IfSilent, StaysFresh, link_of}
-use Rattle.hub_lane.specs.Lanes.{IsGreeted, LaneState, opened}
+use Rattle.hub_lane.specs.Lanes.{IsGreeted, opened}
 use Rattle.sound_lanes.specs.Reports.{board_there}
 use Rattle.lane_history.specs.Links.{IsBoardOf, IsUntouched, LinkReport}
 use Rattle.session_run.specs.Boards.{AreReached, AreUntouched, HasRoom, IsGreetedAs, IsReached, shown_by}
@@ -45,7 +45,8 @@ can_begin law settings (Udp address port wait) limits made words = tt
 pub can_begin_here : WordsLaw → (settings : Limits) (spec : LinkSpec) (telling : Option Telling) → AreLimits settings
     → CanBeMade spec → LinkNamesWords spec → telling ≡ telling_for spec → IfSome telling (CanBegin settings)
 can_begin_here law settings spec telling limits made words is =
-    subst (λ (t : Option Telling). IfSome t (CanBegin settings)) (sym is) (can_begin law settings spec limits made words)
+    subst (λ (t : Option Telling). IfSome t (CanBegin settings)) (sym is) (can_begin law settings spec limits made
+        words)
 
 board_of_spec : (settings : Limits) (spec : LinkSpec) (new : Option Telling)
     → IfTelling (telling_for spec) new (StaysFresh settings) → IsBoardOf spec (board_there new)
@@ -154,7 +155,8 @@ reached_more tells shows settings [] [] spec board at are is = absurd cc
 reached_more tells shows settings [] (b ∷ boards) spec board at are is = absurd are
 reached_more tells shows settings (s ∷ specs) [] spec board at are is =
     let same : s ≡ spec = cc in
-    (subst (λ (x : BoardSpec). IsReached settings x board (tells (link_of board)) (shows (link_of board))) (sym same) is, tt)
+    (subst (λ (x : BoardSpec). IsReached settings x board (tells (link_of board)) (shows (link_of board))) (sym same)
+        is, tt)
 reached_more tells shows settings (s ∷ specs) (b ∷ boards) spec board at are is =
     (are.0, reached_more tells shows settings specs boards spec board at are.1 is)
 

@@ -98,13 +98,12 @@ pub stopped_within : (front later : List (List (List ℕ))) (bodies : List (List
     → IsPrefix (all_plans_from 1 front ++ more) (all_plans_from 1 (front ++ bodies ∷ later))
 stopped_within front later bodies more is =
     let from = 1 + length front in
-    let back = all_plans_from (from + 1) later in
-    (
+    let back = all_plans_from (from + 1) later in (
       is.0 ++ back,
       all_plans_append 1 front (bodies ∷ later)
-      ∙ (ap (λ (l : List Item). all_plans_from 1 front ++ (l ++ back)) is.1
-      ∙ (ap (λ (l : List Item). all_plans_from 1 front ++ l) (append_assoc more is.0 back)
-      ∙ sym (append_assoc (all_plans_from 1 front) more (is.0 ++ back)))),
+          ∙ (ap (λ (l : List Item). all_plans_from 1 front ++ (l ++ back)) is.1
+          ∙ (ap (λ (l : List Item). all_plans_from 1 front ++ l) (append_assoc more is.0 back)
+          ∙ sym (append_assoc (all_plans_from 1 front) more (is.0 ++ back)))),
     )
 
 -- ---- one client

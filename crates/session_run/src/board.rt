@@ -187,9 +187,15 @@ pub(crate) fn run_board<L: Link, T: Wait>(
     match board {
         Greeted::Ready(lane) => run_live(rt, alloc, lane, spec, position, scripts),
         Greeted::Silent { link, rounds: _ } => {
-            (link, run_idle(alloc, spec, position, Greeting::Silent, scripts))
+            (
+                link,
+                run_idle(alloc, spec, position, Greeting::Silent, scripts),
+            )
         }
-        Greeted::Down { link } => (link, run_idle(alloc, spec, position, Greeting::Down, scripts)),
+        Greeted::Down { link } => (
+            link,
+            run_idle(alloc, spec, position, Greeting::Down, scripts),
+        ),
         Greeted::NoMemory { link: _ } => unreachable!(),
     }
 }

@@ -42,7 +42,8 @@ fn plan_body<L: Link>(
     match lane.plan(client, words, reply_words) {
         Ok(_) => Ok(()),
         Err(PlanRefusal::NoMemory | PlanRefusal::Overfull) => Err(NoMemory),
-        Err(PlanRefusal::Sealed | PlanRefusal::TooLong | PlanRefusal::ReplyTooLong) => unreachable!(),
+        Err(PlanRefusal::Sealed | PlanRefusal::TooLong | PlanRefusal::ReplyTooLong) =>
+            unreachable!(),
     }
 }
 
@@ -93,7 +94,12 @@ pub(crate) fn plan_clients<L: Link>(
     let mut plans = Vec::with_capacity(alloc, scripts.len())?;
     for steps in scripts {
         let client = plans.len() as u32 + 1;
-        let planned = plan_on(alloc, steps.as_slice(), position, Greeting::Live { payload })?;
+        let planned = plan_on(
+            alloc,
+            steps.as_slice(),
+            position,
+            Greeting::Live { payload },
+        )?;
         plan_bodies(alloc, lane, client, planned.bodies())?;
         plans.push(planned)?;
     }

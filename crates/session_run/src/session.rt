@@ -19,9 +19,9 @@ use crate::greeting::{greet_boards, into_link};
 use board_node::BoardSpec;
 use hub_lane::Greeted;
 use ipb_base::NoMemory;
-use lossy_network::{Rack, RackFault};
 use lane_history::records::a_lane_left_at_any_moment_executed_a_merge;
 use lane_history::runs::calm_links_in_turn_are_boards_of_this_process;
+use lossy_network::{Rack, RackFault};
 use reliable_engine::Settings;
 use script_lang::Steps;
 use std::alloc::Global;
@@ -139,7 +139,16 @@ fn run_greeted<R: Rack, T: Wait>(
         let Some(board) = rest.next() else {
             unreachable!()
         };
-        let (link, run) = run_next(rt, alloc, settings, board, spec, position as u32, scripts, is_whole);
+        let (link, run) = run_next(
+            rt,
+            alloc,
+            settings,
+            board,
+            spec,
+            position as u32,
+            scripts,
+            is_whole,
+        );
         rack.keep(link);
         is_whole = add_run(&mut runs, run) && is_whole;
     }

@@ -1,9 +1,8 @@
-use Rattle.std.proofs.Common.{◌≡◌, ◌∙◌, ◌++◌, ◌∷◌, ◌+◌, ◌≤◌, ℕ, List, [], Some, ap, length, length-append, subst, sym, arith}
+use Rattle.std.proofs.Common.{◌≡◌, ◌∙◌, ◌∷◌, ◌+◌, ℕ, [], Some, ap, length, length-append, subst, sym, arith}
 use Rattle.std.specs.List.{AllByRecursion, slice_get}
 use Rattle.std.proofs.lemmas.Option.{slice_get-get_or}
 use Rattle.board_node.specs.declared.spec.BoardSpec.{BoardSpec}
 use Rattle.ipb_base.proofs.AllLemmas.{AllByRecursion-append}
-use Rattle.hub_lane.specs.declared.greeting.Greeted.{Greeted}
 use Rattle.session_run.specs.Boards.{AreReached, HasMemory, HasRoom, shown_by}
 use Rattle.session_run.proofs.Boards.{reached_more, room_for_more}
 use Rattle.session_run.proofs.greeting.greet_into.Goals as goal

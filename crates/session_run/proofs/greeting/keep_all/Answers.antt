@@ -1,4 +1,5 @@
-use Rattle.std.proofs.Common.{◌≡◌, ◌∙◌, ◌++◌, ◌∷◌, ◌+◌, ℕ, List, [], ap, length, length-append, map, refl, subst, sym, arith}
+use Rattle.std.proofs.Common.{◌≡◌, ◌∙◌, ◌++◌, ◌∷◌, ◌+◌, ℕ, List, [], ap, length, length-append, map, refl, subst, sym}
+use Rattle.std.proofs.Common.{arith}
 use Rattle.std.specs.Vec.Iter.{into_iter_items}
 use Rattle.hub_lane.specs.declared.greeting.Greeted.{Greeted}
 use Rattle.hub_lane.specs.Greeting.{link_of}
@@ -10,7 +11,8 @@ pub keep-requires : goal.keep-requires
 keep-requires g c =
     let kept = length (g.R.Rack.kept c.loop-board.rack) in
     let made = g.R.Rack.made c.loop-board.rack in
-    let room = subst (λ (n : ℕ). HasRoom kept made n) (ap length c.in-Some.ensures.steps.0) c.loop-board.invariant.room in
+    let room = subst (λ (n : ℕ). HasRoom kept made n) (ap length c.in-Some.ensures.steps.0)
+        c.loop-board.invariant.room in
     let one = room_for_one kept made (length (into_iter_items c.next.new.self)) room in
     omega (arith, one)
 
@@ -25,7 +27,8 @@ loop-board-preserved g c =
     let pushed = c.keep.ensures.kept ∙ ap (λ link. kept ++ link ∷ []) c.into_link.ensures in
     let one : length now ≡ length kept + 1 = ap length pushed ∙ length-append kept (link_of c.in-Some.board ∷ []) in
     record {
-      split = one_kept (g.R.Rack.kept c.args.rack.now) kept now (link_of c.in-Some.board) (map (λ board. link_of board) rest)
+      split = one_kept (g.R.Rack.kept c.args.rack.now) kept now (link_of c.in-Some.board) (map (λ board. link_of
+          board) rest)
           (map (λ board. link_of board) c.args.boards.items) pushed
           (ap (λ (bs : List (Greeted _)). kept ++ map (λ board. link_of board) bs) (sym c.in-Some.ensures.steps.0)
           ∙ c.loop-board.invariant.split);
