@@ -1,8 +1,7 @@
 -- Which answer is owed to an input, and what was written of it.
-use Rattle.std.proofs.Common.{◌≡◌, ℕ, ◌+◌, ◌<◌, ◌≤◌, ◌⊎◌, inl, inr, ⊎_elim, Bool, true, false, if◌then◌else◌, List, [], length, Option, Some, None}
-use Rattle.std.proofs.Common.{refl, sym, ap, ◌∙◌, subst, arith, String, Global, string_bytes, map, ◌==◌}
+use Rattle.std.proofs.Common.{◌≡◌, ℕ, ◌+◌, ◌<◌, ◌≤◌, ◌⊎◌, inl, inr, ⊎_elim, Bool, true, false, if◌then◌else◌, List, [], length, Option}
+use Rattle.std.proofs.Common.{refl, sym, ◌∙◌, subst, arith, String, Global, ◌==◌}
 use Rattle.std.specs.FinMap.{entries}
-use Rattle.std.specs.Io.KnownBytes.{prepend_known, IsAtEnd}
 use Rattle.ipb_base.specs.Faults.{Rose}
 use Rattle.ipb_outside.specs.Told.{AppendsPart, TakesCount}
 use Rattle.node_tree.specs.Overlaps.{overlapping}
@@ -10,15 +9,16 @@ use Rattle.lane_history.specs.Links.{LinkReport}
 use Rattle.session_input.specs.declared.refusal.Refusal.TheVariants.{TooLong}
 use Rattle.session_input.specs.Lines.{refusal_line}
 use Rattle.session_input.specs.Numbers.{document_bytes}
-use Rattle.transcript.specs.Lines.{transcript_of, all_good, run_status}
+use Rattle.transcript.specs.Lines.{transcript_of, all_good}
 use Rattle.ipbus_program.specs.declared.command.Command.{Command}
 use Rattle.ipbus_program.specs.declared.command.Command.TheVariants.{Run, Check}
-use Rattle.ipbus_program.specs.Numbers.{done_status, not_all_done_status, usage_status, refused_status, write_fault_status}
+use Rattle.ipbus_program.specs.Numbers.{usage_status, refused_status, write_fault_status}
 use Rattle.ipbus_program.specs.Commands.{usage_text}
-use Rattle.ipbus_program.specs.Owed.{AreCommand, AreNoCommand, IsReadToEnd, IsRead, IsDone, IsRefused, AnswersInput, OwesDone, OwesRefusal, OwesUsage, OwesWords, OwesText}
-use Rattle.ipbus_program.specs.Owed.{Wrote, WroteOwed, WroteOwedPart, IsStatus}
+use Rattle.ipbus_program.specs.Owed.{AreCommand, AreNoCommand, IsReadToEnd, IsDone, AnswersInput, OwesDone, OwesRefusal, OwesWords, OwesText}
+use Rattle.ipbus_program.specs.Owed.{Wrote, WroteOwed, WroteOwedPart, IsStatus, RanNoneOrSome}
+use Rattle.ipbus_program.specs.Steps.{RanSomeFrom}
 use Rattle.ipbus_program.specs.Outputs.{Delivers}
-use Rattle.ipbus_program.specs.Runs.{IsDoneOf, IsRefusalOf, Owes, breaks_in, listing_status}
+use Rattle.ipbus_program.specs.Runs.{IsDoneOf, Owes}
 
 zero_or_one : (b : Bool) → (if b then 0 else 1) ≤ 1
 zero_or_one true = omega arith
@@ -86,6 +86,25 @@ pub usage_part : (words : List (String Global)) (left : Option (List ℕ)) (link
 usage_part words left links old new met meets result none same (inl (is, wrote)) told = absurd (omega (arith, is, told))
 usage_part words left links old new met meets result none same (inr (is, (rose, part))) told =
     (rose, (usage_text, (usage_status, inr (inr (refl, record { words_are = none; unread = refl; usage = refl }))), subst (AppendsPart old new) same part))
+
+-- the links of a session that ran are those of these words
+pub used_by : (words : List (String Global)) (command : Command) → AreCommand words command
+    → (before now : Option (List ℕ)) (links : List LinkReport) → (links ≡ []) ⊎ RanSomeFrom command before now links
+    → RanNoneOrSome words before now links
+used_by words command are before now links (inl none) = inl none
+used_by words command are before now links (inr ran) =
+    inr (record {
+      asked = subst (AreCommand words) ran.asked are;
+      bytes = ran.bytes;
+      read = ran.read;
+      ran = ran.ran;
+    })
+
+-- where a status was answered that is no fault of the output, it is that of the text
+pub status_is : (status result s : ℕ) (text : List ℕ) (old new : Option (List ℕ)) (met meets : ℕ)
+    → Delivers status text old new met meets result → result ≡ s → (s ≡ write_fault_status → ⊥) → status ≡ s
+status_is status result s text old new met meets (inl (is, wrote)) told other = sym is ∙ told
+status_is status result s text old new met meets (inr (is, part)) told other = absurd (other (sym told ∙ is))
 
 -- `given` is the text as it was handed to the output, `old` and `new` are what the output has, and `met` and `meets` its
 -- faults

@@ -1,6 +1,6 @@
 -- An input that tells its bytes is answered as they deserve.
-use Rattle.std.proofs.Common.{◌≡◌, ℕ, ◌+◌, ◌<◌, ◌≤◌, ◌⊎◌, inl, inr, ⊎_elim, List, ◌++◌, length, Option, Some, None, refl, sym, ap, subst, ◌∙◌}
-use Rattle.std.proofs.Common.{arith, length-append, append-nil, map, string_bytes, String, Global}
+use Rattle.std.proofs.Common.{◌≡◌, ℕ, ◌+◌, ◌<◌, ◌≤◌, ◌⊎◌, inl, inr, ⊎_elim, List, ◌++◌, length, Option, Some, None, sym, ap, subst, ◌∙◌}
+use Rattle.std.proofs.Common.{arith, length-append, append-nil, String, Global}
 use Rattle.std.specs.Io.KnownBytes.{prepend_known, append_known, IsAtEnd}
 use Rattle.std.proofs.lemmas.Option.{none-some, same_Some}
 use Rattle.ipb_base.specs.Faults.{Rose}
@@ -8,17 +8,17 @@ use Rattle.ipb_outside.specs.Told.{TakesCount}
 use Rattle.lane_history.specs.Links.{LinkReport}
 use Rattle.session_input.specs.declared.refusal.Refusal.{Refusal}
 use Rattle.session_input.specs.declared.refusal.Refusal.TheVariants.{TooLong}
-use Rattle.session_input.specs.Deserved.{Deserves}
+use Rattle.session_input.specs.Deserved.{Deserves, IsRunnable}
 use Rattle.session_input.specs.Lines.{refusal_line}
 use Rattle.session_input.specs.Numbers.{document_bytes}
 use Rattle.ipbus_program.specs.declared.command.Command.{Command}
 use Rattle.ipbus_program.specs.declared.command.Command.TheVariants.{Run, Check}
 use Rattle.ipbus_program.specs.Below.{InputLaws}
-use Rattle.ipbus_program.specs.Commands.{command_of}
 use Rattle.ipbus_program.specs.Numbers.{refused_status}
 use Rattle.ipbus_program.specs.Outputs.{Delivers}
-use Rattle.ipbus_program.specs.Owed.{AreCommand, IsReadToEnd, IsRead, IsDone, IsRefused, AnswersInput, Wrote, IsWhole}
-use Rattle.ipbus_program.specs.Runs.{IsDoneOf, IsRefusalOf, breaks_in}
+use Rattle.ipbus_program.specs.Owed.{AreCommand, IsDone, IsRefused, AnswersInput, Wrote, IsWhole}
+use Rattle.ipbus_program.specs.Runs.{IsDoneOf, breaks_in}
+use Rattle.ipbus_program.specs.Steps.{RanSomeFrom}
 use Rattle.ipbus_program.proofs.Causes.{done_small, small_is}
 
 -- words are one command
@@ -93,6 +93,15 @@ module _ (laws : InputLaws) where
     taken_of_long links status text long (inl done) =
         absurd (done_apart command bytes links status text TooLong (done_told links status text done) (inl long))
     taken_of_long links status text long (inr (refused, why)) = taken_by text long why why.read.stopped
+
+    -- a session that ran deserves no refusal
+    pub ran_undeserved : (links : List LinkReport) (r : Refusal) → RanSomeFrom command before now links
+        → Deserves (breaks_in command) bytes r → ⊥
+    ran_undeserved links r ran deserved =
+        let same = told_read before now bytes ran.bytes told ran.read.all ran.read.at_end in
+        laws.run_apart bytes ran.ran.session ran.ran.steps r
+        (subst (λ bs. IsRunnable bs ran.ran.session ran.ran.steps) same ran.ran.runnable)
+        (subst (λ asked. Deserves (breaks_in asked) bytes r) ran.asked deserved)
 
     module _ (links : List LinkReport) (status : ℕ) (text given : List ℕ) (same : given ≡ text) (old new : Option (List ℕ))
         (met meets result : ℕ) where

@@ -1,6 +1,6 @@
 -- What a run leaves, put together from what its steps say.
-use Rattle.std.proofs.Common.{◌≡◌, ◌⊎◌, inl, inr, ℕ, ◌+◌, ◌≤◌, Bool, true, false, if◌then◌else◌, List, [], ◌++◌, length, map, Result, Ok, Err, IfOk}
-use Rattle.std.proofs.Common.{refl, sym, ap, subst, ◌∙◌, append-nil, arith}
+use Rattle.std.proofs.Common.{◌≡◌, inl, inr, ℕ, ◌+◌, ◌≤◌, Bool, true, false, if◌then◌else◌, List, [], length, Result, Ok, Err, IfOk}
+use Rattle.std.proofs.Common.{refl, sym, ap, ◌∙◌, append-nil, arith}
 use Rattle.std.specs.List.{AllByRecursion}
 use Rattle.std.specs.Result.{IsErr, IsErrAnd}
 use Rattle.lane_history.specs.Links.{LinkReport, IsCalm, IsUntouched}
@@ -24,7 +24,7 @@ use Rattle.ipbus_program.specs.Below.{PlacesAreShown}
 use Rattle.ipbus_program.specs.Numbers.{refused_status}
 use Rattle.ipbus_program.specs.Runs.{Owes, breaks_in}
 use Rattle.ipbus_program.specs.Steps.{Prints, RunLeaves, Leaves, RanSomeBy}
-use Rattle.ipbus_program.proofs.Kept.{Told, at_links}
+use Rattle.ipbus_program.proofs.Kept.{Told}
 
 -- ---- a run
 

@@ -4,5 +4,6 @@ pub mod Kept
 pub mod Leaving
 pub mod Names
 pub mod OneAnswer
+pub mod Reading
 pub mod Ready
 pub mod Refusing

@@ -1,10 +1,8 @@
 -- A command owes one answer to bytes.
-use Rattle.std.proofs.Common.{◌≡◌, ℕ, ◌⊎◌, inl, inr, List, refl, sym, ap, subst, ◌∙◌}
+use Rattle.std.proofs.Common.{◌≡◌, ℕ, inl, inr, List, sym, ap, ◌∙◌}
 use Rattle.std.specs.List.{AllByRecursion}
-use Rattle.direct_run.specs.Runs.{AreRuns, runs_from}
+use Rattle.direct_run.specs.Runs.{runs_from}
 use Rattle.lane_history.specs.Links.{LinkReport, IsCalm}
-use Rattle.script_lang.specs.declared.operation.Step.{Step}
-use Rattle.transcript.specs.declared.board_run.BoardRun.{BoardRun}
 use Rattle.transcript.specs.Lines.{transcript_of, run_status}
 use Rattle.transcript.specs.Listing.{listing_text}
 use Rattle.transcript.specs.Text.{transcript_text}
@@ -12,7 +10,7 @@ use Rattle.session_input.specs.Lines.{refusal_line}
 use Rattle.ipbus_program.specs.declared.command.Command.{Command}
 use Rattle.ipbus_program.specs.declared.command.Command.TheVariants.{Run, Check}
 use Rattle.ipbus_program.specs.Below.{InputLaws, TurnLaw}
-use Rattle.ipbus_program.specs.Runs.{IsTranscriptOf, IsListingOf, IsDoneOf, IsRefusalOf, Owes, listing_status}
+use Rattle.ipbus_program.specs.Runs.{IsTranscriptOf, IsListingOf, IsDoneOf, Owes, listing_status}
 use Rattle.ipbus_program.proofs.Deserved.{one_refusal, done_apart}
 
 abbrev Same : ℕ → ℕ → List ℕ → List ℕ → Type 0

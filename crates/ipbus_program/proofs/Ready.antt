@@ -1,5 +1,5 @@
 -- A session that can be run is one whose boards can be reached.
-use Rattle.std.proofs.Common.{◌≡◌, ◌≤◌, ℕ, ◌&&◌, Bool, true, false, List, [], ◌∷◌, length, map, None, arith, refl, ap, sym, ◌∙◌}
+use Rattle.std.proofs.Common.{◌≡◌, ◌≤◌, ℕ, ◌&&◌, Bool, true, false, List, [], ◌∷◌, length, None, arith, refl, ap, ◌∙◌}
 use Rattle.std.proofs.lemmas.List.{length-map}
 use Rattle.std.specs.List.{AllByRecursion, list_all}
 use Rattle.board_bus.specs.Ranges.{refusal_of}
@@ -13,7 +13,6 @@ use Rattle.script_lang.specs.declared.session.Session.{Session}
 use Rattle.script_lang.specs.Executable.{OpensOnWords}
 use Rattle.script_lang.specs.Limits.{IsWithin, KeepsRules, LinkKeepsRules}
 use Rattle.script_lang.specs.Packing.{CanBePacked, HaveFewPieces}
-use Rattle.script_lang.specs.Scripts.{steps_of}
 use Rattle.session_input.specs.Deserved.{HasBus, IsRunnable, is_simulated, ranges_of}
 use Rattle.session_run.specs.Links.{CanBeMade, CanBeReached}
 use Rattle.ipbus_program.specs.Below.{RangesNameWords}
@@ -50,12 +49,12 @@ pub may_run : RangesNameWords → (bytes : List ℕ) (session : Session) (steps 
 may_run words bytes session steps runs within packed few short = record {
   few_boards = let few_boards = within.few_boards in omega arith;
   few_clients =
-  let few_clients = within.few_clients in
-  let many : length steps ≡ length session.scripts = ap length runs.runs.scripts.meant ∙ length-map session.scripts _ in
-  omega (arith, few_clients, many);
+      let few_clients = within.few_clients in
+      let many : length steps ≡ length session.scripts = ap length runs.runs.scripts.meant ∙ length-map session.scripts _ in
+      omega (arith, few_clients, many);
   reached = all_reached session.boards
-  (all_here session.boards within.boards runs.runs.scripts.boards.buses runs.runs.links)
-  (words bytes session runs.stands);
+      (all_here session.boards within.boards runs.runs.scripts.boards.buses runs.runs.links)
+      (words bytes session runs.stands);
   packed = packed;
   few = few;
   short = short;

@@ -16,8 +16,8 @@ use lossy_network::Rack;
 use reliable_engine::Settings;
 use script_lang::Steps;
 use std::alloc::Global;
-use std::sync::Wait;
 use std::marker::Sync;
+use std::sync::Wait;
 use transcript::BoardRun;
 
 /// Why a session has no runs.

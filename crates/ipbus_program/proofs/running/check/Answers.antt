@@ -1,4 +1,4 @@
-use Rattle.std.proofs.Common.{inl, inr, [], rules}
+use Rattle.std.proofs.Common.{[], rules}
 use Rattle.session_input.specs.Deserved.{Deserves, BreaksInCheck, IsListed}
 use Rattle.ipbus_program.specs.declared.command.Command.TheVariants.{Check}
 use Rattle.ipbus_program.proofs.Refusing.{refused_answer, listed_answer}

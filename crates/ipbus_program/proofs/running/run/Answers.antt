@@ -1,5 +1,4 @@
-use Rattle.std.proofs.Common.{List, Ok, Err, IfOk, map, rules, refl, subst}
-use Rattle.script_lang.specs.declared.operation.Step.{Step}
+use Rattle.std.proofs.Common.{map, rules, refl, subst}
 use Rattle.session_input.specs.Deserved.{BreaksInRun, Deserves}
 use Rattle.ipbus_program.specs.declared.command.Command.TheVariants.{Run}
 use Rattle.ipbus_program.specs.Steps.{MayRun, RunLeaves}
@@ -33,9 +32,9 @@ returns-in-Ok-clause-leaves g c =
       left.0,
       left.1,
       run_leaves c.a_runnable_session_shows_all_places.ensures c.args.bytes.now c.in-Ok.read.session
-      c.in-Ok.read.steps.items made makes c.transcript.result (map shown left.0) c.in-Ok.ensures.runnable
-      (subst (λ steps. RunLeaves c.in-Ok.read.session steps made makes c.transcript.result (map shown left.0))
-      c.deref.ensures.value left.2),
+          c.in-Ok.read.steps.items made makes c.transcript.result (map shown left.0) c.in-Ok.ensures.runnable
+          (subst (λ steps. RunLeaves c.in-Ok.read.session steps made makes c.transcript.result (map shown left.0))
+          c.deref.ensures.value left.2),
     )
 
 pub returns-in-Ok-clause-refused : goal.returns-in-Ok-clause-refused
