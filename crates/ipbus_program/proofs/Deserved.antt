@@ -1,23 +1,24 @@
 -- An input that tells its bytes is answered as they deserve.
-use Rattle.std.proofs.Common.{◌≡◌, ℕ, ◌+◌, ◌<◌, ◌≤◌, ◌⊎◌, inl, inr, ⊎_elim, List, ◌++◌, length, Option, Some, None, refl, sym, ap, subst, ◌∙◌}
-use Rattle.std.proofs.Common.{arith, length-append, append-nil, map, string_bytes, String, Global}
+use Rattle.std.proofs.Common.{◌≡◌, ℕ, ◌+◌, ◌<◌, ◌≤◌, ◌⊎◌, inl, inr, ⊎_elim, List, ◌++◌, length, Option, Some, None, sym, ap, subst, ◌∙◌}
+use Rattle.std.proofs.Common.{arith, length-append, append-nil, String, Global}
 use Rattle.std.specs.Io.KnownBytes.{prepend_known, append_known, IsAtEnd}
 use Rattle.std.proofs.lemmas.Option.{none-some, same_Some}
 use Rattle.ipb_base.specs.Faults.{Rose}
 use Rattle.ipb_outside.specs.Told.{TakesCount}
+use Rattle.lane_history.specs.Links.{LinkReport}
 use Rattle.session_input.specs.declared.refusal.Refusal.{Refusal}
 use Rattle.session_input.specs.declared.refusal.Refusal.TheVariants.{TooLong}
-use Rattle.session_input.specs.Deserved.{Deserves}
+use Rattle.session_input.specs.Deserved.{Deserves, IsRunnable}
 use Rattle.session_input.specs.Lines.{refusal_line}
 use Rattle.session_input.specs.Numbers.{document_bytes}
 use Rattle.ipbus_program.specs.declared.command.Command.{Command}
 use Rattle.ipbus_program.specs.declared.command.Command.TheVariants.{Run, Check}
 use Rattle.ipbus_program.specs.Below.{InputLaws}
-use Rattle.ipbus_program.specs.Commands.{command_of}
 use Rattle.ipbus_program.specs.Numbers.{refused_status}
 use Rattle.ipbus_program.specs.Outputs.{Delivers}
-use Rattle.ipbus_program.specs.Owed.{AreCommand, IsReadToEnd, IsRead, IsDone, IsRefused, AnswersInput, Wrote, IsWhole}
-use Rattle.ipbus_program.specs.Runs.{IsDoneOf, IsRefusalOf, breaks_in}
+use Rattle.ipbus_program.specs.Owed.{AreCommand, IsDone, IsRefused, AnswersInput, Wrote, IsWhole}
+use Rattle.ipbus_program.specs.Runs.{IsDoneOf, breaks_in}
+use Rattle.ipbus_program.specs.Steps.{RanSomeFrom}
 use Rattle.ipbus_program.proofs.Causes.{done_small, small_is}
 
 -- words are one command
@@ -46,10 +47,11 @@ module _ (laws : InputLaws) where
   one_refusal Run bytes r q one other = laws.one_run_refusal bytes r q one other
   one_refusal (Check table) bytes r q one other = laws.one_list_refusal bytes table r q one other
 
-  pub done_apart : (command : Command) (bytes : List ℕ) (status : ℕ) (text : List ℕ) (r : Refusal)
-      → IsDoneOf command bytes status text → Deserves (breaks_in command) bytes r → ⊥
-  done_apart Run bytes status text r done deserved = laws.run_apart bytes done.session done.steps r done.runnable deserved
-  done_apart (Check table) bytes status text r done deserved = laws.list_apart bytes table done.registers r done.listed deserved
+  pub done_apart : (command : Command) (bytes : List ℕ) (links : List LinkReport) (status : ℕ) (text : List ℕ) (r : Refusal)
+      → IsDoneOf command bytes links status text → Deserves (breaks_in command) bytes r → ⊥
+  done_apart Run bytes links status text r done deserved =
+      laws.run_apart bytes done.session done.steps r done.runnable deserved
+  done_apart (Check table) bytes links status text r done deserved = laws.list_apart bytes table done.registers r done.listed deserved
 
   -- what is refused of bytes that were read is what all bytes deserve
   module _ (command : Command) (before now : Option (List ℕ)) (bytes : List ℕ) (told : before ≡ Some bytes) where
@@ -71,9 +73,10 @@ module _ (laws : InputLaws) where
         → Deserves (breaks_in command) bytes refused.refused.refusal
     refused_deserves text refused = by_stop text refused refused.read.stopped
 
-    done_told : (status : ℕ) (text : List ℕ) → IsDone command before now status text → IsDoneOf command bytes status text
-    done_told status text done =
-        subst (λ bs. IsDoneOf command bs status text) (told_read before now bytes done.bytes told done.read.all done.read.at_end) done.done
+    done_told : (links : List LinkReport) (status : ℕ) (text : List ℕ) → IsDone command before now links status text
+        → IsDoneOf command bytes links status text
+    done_told links status text done =
+        subst (λ bs. IsDoneOf command bs links status text) (told_read before now bytes done.bytes told done.read.all done.read.at_end) done.done
 
     -- of an input that is longer than a document may be one byte more than that was taken
     taken_by : (text : List ℕ) → document_bytes < length bytes → (why : IsRefused command before now text)
@@ -85,28 +88,38 @@ module _ (laws : InputLaws) where
         let longer : document_bytes < length why.bytes = subst (λ bs. document_bytes < length bs) (sym all) long in
         (why.bytes, omega (arith, most, longer), why.read.taken)
 
-    pub taken_of_long : (status : ℕ) (text : List ℕ) → document_bytes < length bytes → AnswersInput command before now status text
-        → TakesCount (document_bytes + 1) before now
-    taken_of_long status text long (inl done) =
-        absurd (done_apart command bytes status text TooLong (done_told status text done) (inl long))
-    taken_of_long status text long (inr (refused, why)) = taken_by text long why why.read.stopped
+    pub taken_of_long : (links : List LinkReport) (status : ℕ) (text : List ℕ) → document_bytes < length bytes
+        → AnswersInput command before now links status text → TakesCount (document_bytes + 1) before now
+    taken_of_long links status text long (inl done) =
+        absurd (done_apart command bytes links status text TooLong (done_told links status text done) (inl long))
+    taken_of_long links status text long (inr (refused, why)) = taken_by text long why why.read.stopped
 
-    module _ (status : ℕ) (text given : List ℕ) (same : given ≡ text) (old new : Option (List ℕ)) (met meets result : ℕ) where
-      pub accepted_whole : ((r : Refusal) → Deserves (breaks_in command) bytes r → ⊥) → AnswersInput command before now status text
+    -- a session that ran deserves no refusal
+    pub ran_undeserved : (links : List LinkReport) (r : Refusal) → RanSomeFrom command before now links
+        → Deserves (breaks_in command) bytes r → ⊥
+    ran_undeserved links r ran deserved =
+        let same = told_read before now bytes ran.bytes told ran.read.all ran.read.at_end in
+        laws.run_apart bytes ran.ran.session ran.ran.steps r
+        (subst (λ bs. IsRunnable bs ran.ran.session ran.ran.steps) same ran.ran.runnable)
+        (subst (λ asked. Deserves (breaks_in asked) bytes r) ran.asked deserved)
+
+    module _ (links : List LinkReport) (status : ℕ) (text given : List ℕ) (same : given ≡ text) (old new : Option (List ℕ))
+        (met meets result : ℕ) where
+      pub accepted_whole : ((r : Refusal) → Deserves (breaks_in command) bytes r → ⊥) → AnswersInput command before now links status text
           → Delivers status given old new met meets result → ¬ Rose met meets → IsWhole result
       accepted_whole unbroken answers (inr (is, (rose, part))) calm = absurd (calm rose)
       accepted_whole unbroken (inl done) (inl (is, wrote)) calm =
-          let small = done_small command done.bytes status text done.done in
+          let small = done_small command done.bytes links status text done.done in
           ⊎_elim (λ zero. inl (is ∙ zero)) (λ one. inr (inl (is ∙ one))) (small_is status small)
       accepted_whole unbroken (inr (refused, why)) (inl (is, wrote)) calm =
           absurd (unbroken why.refused.refusal (refused_deserves text why))
 
-      pub deserved_refused : (r : Refusal) → Deserves (breaks_in command) bytes r → AnswersInput command before now status text
+      pub deserved_refused : (r : Refusal) → Deserves (breaks_in command) bytes r → AnswersInput command before now links status text
           → Delivers status given old new met meets result → ¬ Rose met meets
           → (result ≡ refused_status) × Wrote old new (refusal_line r)
       deserved_refused r deserved answers (inr (is, (rose, part))) calm = absurd (calm rose)
       deserved_refused r deserved (inl done) (inl (is, wrote)) calm =
-          absurd (done_apart command bytes status text r (done_told status text done) deserved)
+          absurd (done_apart command bytes links status text r (done_told links status text done) deserved)
       deserved_refused r deserved (inr (refused, why)) (inl (is, wrote)) calm =
           let one = one_refusal command bytes why.refused.refusal r (refused_deserves text why) deserved in
           (is ∙ refused, wrote ∙ ap (append_known old) (same ∙ why.refused.line ∙ ap refusal_line one))

@@ -1,5 +1,9 @@
 pub mod Causes
 pub mod Deserved
-pub mod Refusing
-pub mod Ready
+pub mod Kept
+pub mod Leaving
+pub mod Names
 pub mod OneAnswer
+pub mod Reading
+pub mod Ready
+pub mod Refusing

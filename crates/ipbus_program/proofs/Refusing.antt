@@ -1,5 +1,6 @@
 -- Answers to bytes, put together from a status and a text.
 use Rattle.std.proofs.Common.{◌≡◌, ℕ, List, Result, Ok, Err, IfOk, inl, inr}
+use Rattle.lane_history.specs.Links.{LinkReport}
 use Rattle.node_tree.specs.Maps.{RegisterMap}
 use Rattle.session_input.specs.declared.refusal.Refusal.{Refusal}
 use Rattle.session_input.specs.Deserved.{Deserves, IsListed}
@@ -11,18 +12,18 @@ use Rattle.ipbus_program.specs.declared.running.Answer.{Answer}
 use Rattle.ipbus_program.specs.Numbers.{refused_status}
 use Rattle.ipbus_program.specs.Runs.{Owes, breaks_in, listing_status}
 
-pub refused_answer : {E : Type 0} (command : Command) (bytes : List ℕ) (refusal : Refusal) (result : Result Answer E)
+pub refused_answer : {E : Type 0} (command : Command) (bytes : List ℕ) (links : List LinkReport) (refusal : Refusal) (result : Result Answer E)
     → Deserves (breaks_in command) bytes refusal
     → IfOk result (λ answer. answer.status ≡ refused_status) → IfOk result (λ answer. answer.text.items ≡ refusal_line refusal)
-    → IfOk result (λ answer. Owes command bytes answer.status answer.text.items)
-refused_answer command bytes refusal (Ok answer) deserved status text =
+    → IfOk result (λ answer. Owes command bytes links answer.status answer.text.items)
+refused_answer command bytes links refusal (Ok answer) deserved status text =
     inr (status, record { refusal = refusal; deserved = deserved; line = text })
-refused_answer command bytes refusal (Err why) deserved status text = tt
+refused_answer command bytes links refusal (Err why) deserved status text = tt
 
-pub listed_answer : {E : Type 0} (bytes table : List ℕ) (registers : RegisterMap) (result : Result Answer E)
+pub listed_answer : {E : Type 0} (bytes table : List ℕ) (links : List LinkReport) (registers : RegisterMap) (result : Result Answer E)
     → IsListed bytes table registers
     → IfOk result (λ answer. answer.text.items ≡ listing_text registers) → IfOk result (λ answer. answer.status ≡ listing_status registers)
-    → IfOk result (λ answer. Owes (Check table) bytes answer.status answer.text.items)
-listed_answer bytes table registers (Ok answer) listed text status =
+    → IfOk result (λ answer. Owes (Check table) bytes links answer.status answer.text.items)
+listed_answer bytes table links registers (Ok answer) listed text status =
     inl (record { registers = registers; listed = listed; spelled = text; told = status })
-listed_answer bytes table registers (Err why) listed text status = tt
+listed_answer bytes table links registers (Err why) listed text status = tt

@@ -1,11 +1,15 @@
 -- What laws of the crates below say of documents and of boards: no public clause speaks of it.
 use Rattle.std.specs.Prelude.{◌≡◌, ℕ, List}
+use Rattle.std.specs.List.{AllByRecursion}
 use Rattle.board_node.specs.declared.spec.BoardSpec.{BoardSpec}
 use Rattle.direct_run.specs.Runs.{AreRuns, runs_from}
+use Rattle.lane_history.specs.Links.{LinkReport}
+use Rattle.lane_history.specs.Runs.{AreRunsOver}
 use Rattle.node_tree.specs.Maps.{RegisterMap}
 use Rattle.script_lang.specs.declared.operation.Step.{Step}
 use Rattle.script_lang.specs.declared.session.Session.{Session}
-use Rattle.script_lang.specs.Document.{SameSession}
+use Rattle.script_lang.specs.Document.{SameSession, StandsFor}
+use Rattle.script_lang.specs.Executable.{OpensOnWords}
 use Rattle.session_input.specs.declared.refusal.Refusal.{Refusal}
 use Rattle.transcript.specs.declared.board_run.BoardRun.{BoardRun}
 use Rattle.transcript.specs.Lines.{transcript_of}
@@ -27,15 +31,19 @@ pub record InputLaws : Type 0 where
   pub list_apart : (bytes root : List ℕ) (index : RegisterMap) (refusal : Refusal)
       → IsListed bytes root index → ¬ Deserves (BreaksInCheck root) bytes refusal
 
--- clients that run one after another make one run
-pub record TurnLaws : Type 0 where
-  pub there : (specs : List BoardSpec) (scripts : List (List Step)) → AreRuns 0 specs scripts (runs_from 0 specs scripts)
-  pub only : (specs : List BoardSpec) (scripts : List (List Step)) (runs : List BoardRun)
-      → AreRuns 0 specs scripts runs → runs ≡ runs_from 0 specs scripts
+-- clients that run one after another make no other run than this
+abbrev pub TurnLaw : Type 0
+TurnLaw =
+    (specs : List BoardSpec) (scripts : List (List Step)) (runs : List BoardRun)
+    → AreRuns 0 specs scripts runs → runs ≡ runs_from 0 specs scripts
 
 -- the lines of a session that can be run show all places of its boards
 abbrev pub PlacesAreShown : Type 0
 PlacesAreShown =
-    (bytes : List ℕ) (session : Session) (steps : List (List Step)) (runs : List BoardRun)
-    → IsRunnable bytes session steps → AreRuns 0 session.boards steps runs
+    (bytes : List ℕ) (session : Session) (steps : List (List Step)) (runs : List BoardRun) (links : List LinkReport)
+    → IsRunnable bytes session steps → AreRunsOver session.settings 0 session.boards steps runs links
     → ShowsAllPlaces (transcript_of steps runs)
+
+-- and its ranges name words
+abbrev pub RangesNameWords : Type 0
+RangesNameWords = (bytes : List ℕ) (session : Session) → StandsFor bytes session → AllByRecursion OpensOnWords session.boards

@@ -28,3 +28,7 @@ write_fault_status = 5
 -- memory ran out
 abbrev pub no_memory_status : ℕ
 no_memory_status = 6
+
+-- a link could not be made
+abbrev pub rack_fault_status : ℕ
+rack_fault_status = 7

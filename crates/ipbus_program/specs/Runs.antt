@@ -1,7 +1,10 @@
 -- What a command owes to the bytes of a document: a status and a text. Profile.
 use Rattle.std.specs.Prelude.{◌≡◌, ◌⊎◌, ℕ, ◌==◌, if◌then◌else◌, List, [], length}
 use Rattle.std.specs.FinMap.{entries}
+use Rattle.std.specs.List.{AllByRecursion}
 use Rattle.direct_run.specs.Runs.{AreRuns}
+use Rattle.lane_history.specs.Links.{LinkReport, IsCalm}
+use Rattle.lane_history.specs.Runs.{AreRunsOver}
 use Rattle.node_tree.specs.Maps.{RegisterMap}
 use Rattle.node_tree.specs.Overlaps.{overlapping}
 use Rattle.script_lang.specs.declared.operation.Step.{Step}
@@ -9,6 +12,7 @@ use Rattle.script_lang.specs.declared.session.Session.{Session}
 use Rattle.session_input.specs.declared.refusal.Refusal.{Refusal}
 use Rattle.session_input.specs.Deserved.{BreaksInRun, BreaksInCheck, Deserves, IsRunnable, IsListed}
 use Rattle.session_input.specs.Lines.{refusal_line}
+use Rattle.session_run.specs.Links.{AreLeft}
 use Rattle.transcript.specs.declared.board_run.BoardRun.{BoardRun}
 use Rattle.transcript.specs.Lines.{transcript_of, run_status}
 use Rattle.transcript.specs.Listing.{listing_text}
@@ -20,19 +24,29 @@ use Rattle.ipbus_program.specs.Numbers.{done_status, not_all_done_status, refuse
 
 -- ---- run
 
--- The text is the transcript of the session that the bytes stand for, for some outcomes that are one history on each
--- board; the status tells whether every line of an operation is a value, done or was.
-pub record IsTranscriptOf (bytes : List ℕ) (status : ℕ) (text : List ℕ) : Type 0 where
+-- The text is the transcript of the session that the bytes stand for, for some outcomes that the links of its boards
+-- bear out; the status tells whether every line of an operation is a value, done or was.
+pub record IsTranscriptOf (bytes : List ℕ) (links : List LinkReport) (status : ℕ) (text : List ℕ) : Type 0 where
   pub session : Session
   pub steps : List (List Step)
   pub runnable : IsRunnable bytes session steps
   pub runs : List BoardRun
-  -- the bodies of each client's script, and outcomes that are one history on each board
-  pub boards : AreRuns 0 session.boards steps runs
+  -- the bodies of each client's script, and outcomes that are one order on each board and true of its link
+  pub boards : AreRunsOver session.settings 0 session.boards steps runs links
+  -- where nothing was held and nothing failed: those of clients one after another, each body replied to
+  pub calm : AllByRecursion IsCalm links → AreRuns 0 session.boards steps runs
   pub spelled : text ≡ transcript_text (transcript_of steps runs)
   pub told : status ≡ run_status (transcript_of steps runs).clients
   -- the lines of operations show of each board the places 1, 2, .. up to the number in its line, and no other place
   pub places : ShowsAllPlaces (transcript_of steps runs)
+
+-- The bytes stand for a session that can be run, and the links are those of its first boards, in order: what each board
+-- executed is a merge of bodies that the scripts ask of it.
+pub record RanSomeOf (bytes : List ℕ) (links : List LinkReport) : Type 0 where
+  pub session : Session
+  pub steps : List (List Step)
+  pub runnable : IsRunnable bytes session steps
+  pub left : AreLeft 0 session.boards steps links
 
 -- ---- check
 
@@ -50,10 +64,10 @@ pub record IsListingOf (bytes root : List ℕ) (status : ℕ) (text : List ℕ) 
 
 -- ---- any command
 
--- what a command makes of bytes that break none of its rules
-abbrev pub IsDoneOf : Command → List ℕ → ℕ → List ℕ → Type 0
-IsDoneOf Run bytes status text = IsTranscriptOf bytes status text
-IsDoneOf (Check table) bytes status text = IsListingOf bytes table status text
+-- what a command makes of bytes that break none of its rules, over links of which it used these
+abbrev pub IsDoneOf : Command → List ℕ → List LinkReport → ℕ → List ℕ → Type 0
+IsDoneOf Run bytes links status text = IsTranscriptOf bytes links status text
+IsDoneOf (Check table) bytes links status text = IsListingOf bytes table status text
 
 -- the rules of a command on a session
 abbrev pub breaks_in : Command → Session → Refusal → Type 0
@@ -67,6 +81,6 @@ pub record IsRefusalOf (command : Command) (bytes : List ℕ) (text : List ℕ) 
   pub line : text ≡ refusal_line refusal
 
 -- What a command owes to bytes: what it makes of them, or the line of the refusal that they deserve.
-abbrev pub Owes : Command → List ℕ → ℕ → List ℕ → Type 0
-Owes command bytes status text =
-    IsDoneOf command bytes status text ⊎ ((status ≡ refused_status) × IsRefusalOf command bytes text)
+abbrev pub Owes : Command → List ℕ → List LinkReport → ℕ → List ℕ → Type 0
+Owes command bytes links status text =
+    IsDoneOf command bytes links status text ⊎ ((status ≡ refused_status) × IsRefusalOf command bytes text)

@@ -14,3 +14,5 @@ pub const READ_FAULT: u8 = 4;
 pub const WRITE_FAULT: u8 = 5;
 /// Memory ran out; nothing was written.
 pub const NO_MEMORY: u8 = 6;
+/// A link to a board could not be made; nothing was written.
+pub const RACK_FAULT: u8 = 7;

@@ -1,8 +1,8 @@
 //! Laws of the crates below, put together. These functions do nothing when they run.
 
-ghost use Rattle.ipbus_program.specs.Below.{InputLaws, TurnLaws};
+ghost use Rattle.ipbus_program.specs.Below.{InputLaws, TurnLaw};
 
-use direct_run::laws::{a_session_has_one_run, clients_in_turn_are_a_run};
+use direct_run::laws::a_session_has_one_run;
 use session_input::laws::{bytes_have_one_answer_to_check, bytes_have_one_answer_to_run};
 
 /// Bytes have one answer to a command.
@@ -13,10 +13,9 @@ pub(crate) fn input_laws()
     bytes_have_one_answer_to_check();
 }
 
-/// Clients that run one after another make one run.
+/// Clients that run one after another make no other run.
 pub(crate) fn runs_in_turn()
-    ensures { TurnLaws }
+    ensures { TurnLaw }
 {
-    clients_in_turn_are_a_run();
     a_session_has_one_run();
 }

@@ -2,10 +2,12 @@
 
 ghost use Rattle.std.specs.Prelude.{◌≡◌, ℕ, List};
 ghost use Rattle.ipbus_program.specs.declared.answer.TheConstants.{DONE, NOT_ALL_DONE, USAGE, REFUSED, READ_FAULT};
-ghost use Rattle.ipbus_program.specs.declared.answer.TheConstants.{WRITE_FAULT, NO_MEMORY};
+ghost use Rattle.ipbus_program.specs.declared.answer.TheConstants.{WRITE_FAULT, NO_MEMORY, RACK_FAULT};
 ghost use Rattle.ipbus_program.specs.Numbers.{done_status, not_all_done_status, usage_status, refused_status};
-ghost use Rattle.ipbus_program.specs.Numbers.{read_fault_status, write_fault_status, no_memory_status};
+ghost use Rattle.ipbus_program.specs.Numbers.{read_fault_status, write_fault_status, no_memory_status, rack_fault_status};
 ghost use Rattle.ipbus_program.specs.declared.command.Command.{Command as CommandValue};
+ghost use Rattle.std.specs.List.{AllByRecursion};
+ghost use Rattle.lane_history.specs.Links.{IsCalm, LinkReport};
 ghost use Rattle.ipbus_program.specs.Runs.{Owes};
 
 use crate::below::{input_laws, runs_in_turn};
@@ -19,12 +21,15 @@ pub fn the_numbers_of_the_program()
     ensures read_fault { READ_FAULT ≡ read_fault_status }
     ensures write_fault { WRITE_FAULT ≡ write_fault_status }
     ensures no_memory { NO_MEMORY ≡ no_memory_status }
+    ensures rack_fault { RACK_FAULT ≡ rack_fault_status }
 {}
 
-/// A command owes one status and one text to the bytes of a document: so a session has one transcript.
+/// A command owes one status and one text to the bytes of a document over links that tell, where nothing was held and
+/// nothing failed: so a session has one transcript then.
 pub fn one_answer_is_owed()
-    ensures { (command : CommandValue) (bytes : List ℕ) (s t : ℕ) (a b : List ℕ) →
-        Owes command bytes s a → Owes command bytes t b → (s ≡ t) × (a ≡ b) }
+    ensures { (command : CommandValue) (bytes : List ℕ) (links others : List LinkReport) (s t : ℕ) (a b : List ℕ) →
+        AllByRecursion IsCalm links → AllByRecursion IsCalm others →
+        Owes command bytes links s a → Owes command bytes others t b → (s ≡ t) × (a ≡ b) }
 {
     input_laws();
     runs_in_turn();

@@ -12,7 +12,9 @@ mod program;
 mod running;
 pub mod transcript_laws;
 
-pub use answer::{DONE, NO_MEMORY, NOT_ALL_DONE, READ_FAULT, REFUSED, USAGE, WRITE_FAULT};
+pub use answer::{
+    DONE, NO_MEMORY, NOT_ALL_DONE, RACK_FAULT, READ_FAULT, REFUSED, USAGE, WRITE_FAULT,
+};
 pub use command::Command;
 pub use edges::{ReaderSource, WriterSink};
 pub use program::control;

@@ -1,25 +1,33 @@
 //! What a command makes of the bytes of a document.
 
-ghost use Rattle.std.specs.Prelude.{◌≡◌, IfOk, map};
+ghost use Rattle.std.specs.Prelude.{◌≡◌, ◌≤◌, ℕ, List, [], Err, IfOk, map};
+ghost use Rattle.ipb_base.specs.Faults.{Rose};
 ghost use Rattle.session_input.specs.Lines.{refusal_line};
+ghost use Rattle.session_run.specs.Links.{Keeps};
 ghost use Rattle.transcript.specs.Lines as lines;
 ghost use Rattle.transcript.specs.Listing.{listing_text as listed};
+ghost use Rattle.transcript.specs.Text as texts;
 ghost use Rattle.ipbus_program.specs.declared.command.Command.TheVariants.{Run, Check};
 ghost use Rattle.ipbus_program.specs.Runs as spec;
-ghost use Rattle.ipbus_program.specs.Steps.{MayRun, Prints};
+ghost use Rattle.ipbus_program.specs.Steps.{Leaves, MayRun, RunLeaves};
 ghost use Rattle.ipbus_program.specs.Numbers.{refused_status};
 
 use crate::answer::{DONE, NOT_ALL_DONE, REFUSED};
-use crate::below::runs_in_turn;
 use crate::command::Command;
 use crate::transcript_laws::a_runnable_session_shows_all_places;
-use direct_run::run_boards;
 use ipb_base::NoMemory;
+use lossy_network::Rack;
 use node_tree::Index;
+use script_lang::laws::the_ranges_of_a_session_name_words;
 use script_lang::{Session, Steps};
 use session_input::{Refusal, Unread, read_for_check, read_for_run};
+use session_run::{RunFault, run_session};
 use std::alloc::Global;
-use transcript::{OpLine, all_good, board_lines, lines_of_clients, listing_text, transcript_text};
+use std::marker::Sync;
+use std::sync::Wait;
+use transcript::{
+    BoardRun, OpLine, all_good, board_lines, lines_of_clients, listing_text, transcript_text,
+};
 
 /// A status, and the text that goes with it.
 #[derive(Drop)]
@@ -29,18 +37,29 @@ pub(crate) struct Answer {
 }
 
 /// What a command answers to the bytes of a document.
-pub(crate) fn answer_to(alloc: Global, command: &Command, bytes: &[u8]) -> Result<Answer, NoMemory>
-    ensures { IfOk result (λ answer. spec.Owes command.now bytes.now answer.status answer.text.items) }
+pub(crate) fn answer_to<R: Rack, T: Wait + Sync>(
+    rt: &T,
+    alloc: Global,
+    command: &Command,
+    bytes: &[u8],
+    rack: &mut R,
+) -> Result<Answer, RunFault>
+    ensures leaves { Keeps R.L.faults R.L.quiets R.L.gots R.L.held R.L.telling (R.kept rack.old) (R.kept rack.new)
+        (Leaves command.now bytes.now (R.made rack.old) (R.made rack.new) result) }
+    ensures refused { IfOk result (λ answer. answer.status ≡ refused_status → rack.new ≡ rack.old) }
+    ensures checked { (table : List ℕ) → command.now ≡ Check table → rack.new ≡ rack.old }
+    ensures rack_fault { result ≡ Err RunFault.Rack → Rose (R.faults rack.old) (R.faults rack.new) }
+    ensures later { R.faults rack.old ≤ R.faults rack.new }
 {
     match command {
-        Command::Run => run(alloc, bytes),
-        Command::Check { table } => check(alloc, bytes, table.as_str()),
+        Command::Run => run(rt, alloc, bytes, rack),
+        Command::Check { table } => Ok(check(alloc, bytes, table.as_str())?),
     }
 }
 
 /// Lists the registers of a table.
 fn check(alloc: Global, bytes: &[u8], table: &str) -> Result<Answer, NoMemory>
-    ensures { IfOk result (λ answer. spec.Owes (Check table.now) bytes.now answer.status answer.text.items) }
+    ensures { IfOk result (λ answer. spec.Owes (Check table.now) bytes.now [] answer.status answer.text.items) }
 {
     match read_for_check(alloc, bytes, table) {
         Ok(index) => listing(alloc, &index),
@@ -84,26 +103,55 @@ pub(crate) fn refused(alloc: Global, refusal: &Refusal) -> Result<Answer, NoMemo
 }
 
 /// Runs the scripts of a session document on its boards.
-fn run(alloc: Global, bytes: &[u8]) -> Result<Answer, NoMemory>
-    ensures { IfOk result (λ answer. spec.Owes Run bytes.now answer.status answer.text.items) }
+fn run<R: Rack, T: Wait + Sync>(
+    rt: &T,
+    alloc: Global,
+    bytes: &[u8],
+    rack: &mut R,
+) -> Result<Answer, RunFault>
+    ensures leaves { Keeps R.L.faults R.L.quiets R.L.gots R.L.held R.L.telling (R.kept rack.old) (R.kept rack.new)
+        (Leaves Run bytes.now (R.made rack.old) (R.made rack.new) result) }
+    ensures refused { IfOk result (λ answer. answer.status ≡ refused_status → rack.new ≡ rack.old) }
+    ensures rack_fault { result ≡ Err RunFault.Rack → Rose (R.faults rack.old) (R.faults rack.new) }
+    ensures later { R.faults rack.old ≤ R.faults rack.new }
 {
     a_runnable_session_shows_all_places();
+    the_ranges_of_a_session_name_words();
     match read_for_run(alloc, bytes) {
-        Ok(read) => transcript(alloc, &read.session, &read.steps),
-        Err(Unread::Refused(refusal)) => refused(alloc, &refusal),
-        Err(Unread::NoMemory) => Err(NoMemory),
+        Ok(read) => transcript(rt, alloc, &read.session, &read.steps, rack),
+        Err(Unread::Refused(refusal)) => Ok(refused(alloc, &refusal)?),
+        Err(Unread::NoMemory) => Err(RunFault::NoMemory),
     }
 }
 
 /// The transcript of a session, and the status that goes with it.
-fn transcript(alloc: Global, session: &Session, steps: &[Steps]) -> Result<Answer, NoMemory>
+fn transcript<R: Rack, T: Wait + Sync>(
+    rt: &T,
+    alloc: Global,
+    session: &Session,
+    steps: &[Steps],
+    rack: &mut R,
+) -> Result<Answer, RunFault>
     requires { MayRun session.now steps.now }
-    ensures { IfOk result (λ answer. Prints session.now steps.now answer.status answer.text.items) }
+    ensures leaves { Keeps R.L.faults R.L.quiets R.L.gots R.L.held R.L.telling (R.kept rack.old) (R.kept rack.new)
+        (RunLeaves session.now steps.now (R.made rack.old) (R.made rack.new) result) }
+    ensures rack_fault { result ≡ Err RunFault.Rack → Rose (R.faults rack.old) (R.faults rack.new) }
+    ensures later { R.faults rack.old ≤ R.faults rack.new }
 {
-    runs_in_turn();
-    let runs = run_boards(alloc, session.boards.as_slice(), steps)?;
-    let clients = lines_of_clients(alloc, &runs, steps)?;
-    let boards = board_lines(alloc, &runs)?;
+    let boards = session.boards.as_slice();
+    let runs = run_session(rt, alloc, session.settings, boards, steps, rack)?;
+    Ok(printed(alloc, &runs, steps)?)
+}
+
+/// The transcript of runs, and the status that goes with it.
+fn printed(alloc: Global, runs: &[BoardRun], steps: &[Steps]) -> Result<Answer, NoMemory>
+    ensures text { IfOk result (λ answer. answer.text.items
+        ≡ texts.transcript_text (lines.transcript_of steps.now runs.now)) }
+    ensures status { IfOk result (λ answer. answer.status
+        ≡ lines.run_status (lines.transcript_of steps.now runs.now).clients) }
+{
+    let clients = lines_of_clients(alloc, runs, steps)?;
+    let boards = board_lines(alloc, runs)?;
     let text = transcript_text(alloc, &clients, &boards)?;
     let status = run_status(&clients);
     Ok(Answer { status, text })

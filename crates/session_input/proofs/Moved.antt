@@ -14,7 +14,7 @@ use Rattle.script_lang.specs.Document.{SameSession, SameTableAt}
 use Rattle.script_lang.specs.Scripts.{script_faults, steps_of}
 use Rattle.session_input.specs.declared.refusal.Refusal.{Refusal}
 use Rattle.session_input.specs.Below.{TableLaws}
-use Rattle.session_input.specs.Deserved.{IsToldFirst, Compiles, HasIndex, HasBus, AreCompiled, HaveBuses, AreSteps, delivers_all}
+use Rattle.session_input.specs.Deserved.{IsToldFirst, Compiles, HasIndex, HasBus, AreCompiled, HaveBuses, AreSteps}
 use Rattle.session_input.specs.Deserved.{TellsCompile, TellsBus, TellsLine, TellsFirstBus, BreaksCompiling, BreaksBuses, BreaksScripts, BreaksLinks, BreaksInRun}
 use Rattle.session_input.proofs.OneAnswer.{of_table}
 

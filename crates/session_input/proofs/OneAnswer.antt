@@ -15,7 +15,7 @@ use Rattle.script_lang.specs.Scripts.{LineFault, script_faults, steps_of}
 use Rattle.session_input.specs.declared.refusal.Refusal.{Refusal}
 use Rattle.session_input.specs.declared.refusal.Refusal.TheVariants.{TooLong, Document, Table, Compile, Board, Script, NotBuilt}
 use Rattle.session_input.specs.Below.{TableLaws}
-use Rattle.session_input.specs.Deserved.{IsToldFirst, ranges_of, delivers_all, Compiles, HasIndex, HasBus, AreCompiled, HaveBuses, AreSteps}
+use Rattle.session_input.specs.Deserved.{IsToldFirst, ranges_of, is_simulated, Compiles, HasIndex, HasBus, AreCompiled, HaveBuses, AreSteps}
 use Rattle.session_input.specs.Deserved.{CanRun, TellsCompile, TellsBus, TellsLine, BreaksCompiling, TellsFirstBus, BreaksBuses, BreaksScripts}
 use Rattle.session_input.specs.Deserved.{BreaksLinks, BreaksInRun}
 
@@ -202,7 +202,7 @@ module _ (laws : TableLaws) where
     runs_unbroken r steps runs (inr (inl b)) =
         all_right HasBus (λ board. TellsBus board r) (bus_apart r) s.boards runs.scripts.boards.buses b.first
     runs_unbroken r steps runs (inr (inr (inl c))) = not_faulty r steps c runs.scripts
-    runs_unbroken r steps runs (inr (inr (inr d))) = true_false (list_all (λ board. delivers_all board.link) s.boards) runs.links d.link
+    runs_unbroken r steps runs (inr (inr (inr d))) = true_false (list_all (λ board. is_simulated board.link) s.boards) runs.links d.link
 
     pub one_steps : (steps more : List (List Step)) → AreSteps s steps → AreSteps s more → steps ≡ more
     one_steps steps more one other =

@@ -3,7 +3,6 @@ use Rattle.std.specs.Prelude.{◌≡◌, ◌⊎◌, ℕ, ◌≤◌, ◌<◌, Boo
 use Rattle.std.specs.List.{AllByRecursion, AllZip, list_all, slice_get}
 use Rattle.board_bus.specs.declared.range.Range.{Range}
 use Rattle.board_bus.specs.Ranges.{refusal_of}
-use Rattle.board_node.specs.declared.spec.Fates.TheVariants as fates
 use Rattle.board_node.specs.declared.spec.LinkSpec.{LinkSpec}
 use Rattle.board_node.specs.declared.spec.LinkSpec.TheVariants.{Sim, Udp}
 use Rattle.board_node.specs.declared.spec.BoardSpec.{BoardSpec}
@@ -32,12 +31,10 @@ abbrev pub ranges_of : LinkSpec → List Range
 ranges_of (Sim mtu buffers first ranges fates) = ranges
 ranges_of (Udp address port wait) = []
 
--- a simulated link that delivers every datagram
-abbrev pub delivers_all : LinkSpec → Bool
-delivers_all (Sim mtu buffers first ranges (fates.Text [])) = true
-delivers_all (Sim mtu buffers first ranges (fates.Text (fate ∷ more))) = false
-delivers_all (Sim mtu buffers first ranges (fates.Noise seed)) = false
-delivers_all (Udp address port wait) = false
+-- a link to a board in the program's own memory, whatever its network loses
+abbrev pub is_simulated : LinkSpec → Bool
+is_simulated (Sim mtu buffers first ranges fates) = true
+is_simulated (Udp address port wait) = false
 
 -- the board's table is one of these and compiles; the index that it compiles into
 abbrev pub Compiles : TableMap → BoardSpec → Type 0
@@ -67,10 +64,10 @@ pub record AreSteps (session : Session) (steps : List (List Step)) : Type 0 wher
   pub faultless : script_faults session.boards registers session.scripts ≡ []
   pub meant : steps ≡ steps_of session.boards registers session.scripts
 
--- A session can be run: its tables, its boards and its scripts keep the rules, and every link delivers.
+-- A session can be run: its tables, its boards and its scripts keep the rules, and every board is simulated.
 pub record CanRun (session : Session) (steps : List (List Step)) : Type 0 where
   pub scripts : AreSteps session steps
-  pub links : list_all (λ board. delivers_all board.link) session.boards ≡ true
+  pub links : list_all (λ board. is_simulated board.link) session.boards ≡ true
 
 -- what refusals tell of one board, or of one table: the rule that it breaks
 abbrev pub TellsCompile : TableMap → Name → Refusal → Type 0
@@ -87,7 +84,7 @@ TellsLine faults (Script client line why) = slice_get faults 0 ≡ Some (client,
 TellsLine faults _ = ⊥
 
 -- The first rule that a session breaks that is to be run: some table does not compile; or all do, and some board has no
--- bus; or all have one, and a line of a script is faulty; or none is, and some link does not deliver.
+-- bus; or all have one, and a line of a script is faulty; or none is, and some board is not simulated.
 abbrev pub BreaksCompiling : TableMap → List BoardSpec → Refusal → Type 0
 BreaksCompiling tables boards refusal = IsToldFirst (Compiles tables) (λ board. TellsCompile tables board.table refusal) boards
 
@@ -107,7 +104,7 @@ pub record BreaksScripts (session : Session) (refusal : Refusal) : Type 0 where
 pub record BreaksLinks (session : Session) (refusal : Refusal) : Type 0 where
   pub steps : List (List Step)
   pub scripts : AreSteps session steps
-  pub link : list_all (λ board. delivers_all board.link) session.boards ≡ false
+  pub link : list_all (λ board. is_simulated board.link) session.boards ≡ false
   pub refused : refusal ≡ NotBuilt
 
 abbrev pub BreaksInRun : Session → Refusal → Type 0

@@ -9,7 +9,7 @@ ghost use Rattle.session_input.specs.Deserved as spec;
 
 use crate::refusal::{Refusal, Unread};
 use board_bus::{BusRefusal, Range, check_ranges};
-use board_node::{BoardSpec, Fates, LinkSpec};
+use board_node::{BoardSpec, LinkSpec};
 use ipb_base::{NoMemory, Text};
 use node_tree::{CompileRefusal, Index, Tables, compile};
 use std::alloc::Global;
@@ -82,29 +82,22 @@ pub(crate) fn check_buses(alloc: Global, boards: &[BoardSpec]) -> Result<(), Unr
     Ok(())
 }
 
-/// Whether a link delivers every datagram.
-fn delivers_all(link: &LinkSpec) -> bool
-    ensures { result ≡ spec.delivers_all link.now }
+/// Whether a link leads to a board in the program's own memory.
+fn is_simulated(link: &LinkSpec) -> bool
+    ensures { result ≡ spec.is_simulated link.now }
 {
     match link {
-        LinkSpec::Sim {
-            fates: Fates::Text(text),
-            ..
-        } => text.as_slice().is_empty(),
-        LinkSpec::Sim {
-            fates: Fates::Noise(_),
-            ..
-        } => false,
+        LinkSpec::Sim { .. } => true,
         LinkSpec::Udp { .. } => false,
     }
 }
 
-/// Whether every link delivers every datagram.
-pub(crate) fn all_deliver(boards: &[BoardSpec]) -> bool
-    ensures { result ≡ list_all (λ board. spec.delivers_all board.link) boards.now }
+/// Whether every board is in the program's own memory.
+pub(crate) fn all_simulated(boards: &[BoardSpec]) -> bool
+    ensures { result ≡ list_all (λ board. spec.is_simulated board.link) boards.now }
 {
     for board in boards {
-        if !delivers_all(&board.link) {
+        if !is_simulated(&board.link) {
             return false;
         }
     }

@@ -10,7 +10,7 @@ ghost use Rattle.script_lang.specs.Scripts.{script_faults, steps_of as meant_ste
 ghost use Rattle.session_input.specs.Deserved as spec;
 ghost use Rattle.session_input.specs.Numbers.{document_bytes};
 
-use crate::checking::{all_deliver, check_buses, index_of, indexes_of};
+use crate::checking::{all_simulated, check_buses, index_of, indexes_of};
 use crate::refusal::{MAX_DOCUMENT, Refusal, Unread};
 use address_table::TableRefusal;
 use node_tree::Index;
@@ -97,7 +97,7 @@ fn steps_of(alloc: Global, session: &Session) -> Result<Vec<Steps>, Unread>
     let indexes = indexes_of(alloc, &session.tables, boards)?;
     check_buses(alloc, boards)?;
     let steps = compiled(alloc, session, &indexes)?;
-    if all_deliver(boards) {
+    if all_simulated(boards) {
         Ok(steps)
     } else {
         Err(Unread::Refused(Refusal::NotBuilt))

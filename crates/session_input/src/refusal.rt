@@ -46,7 +46,7 @@ pub enum Refusal {
         line: u32,
         why: ScriptWhy,
     },
-    /// The document is in order, and has a link that this program cannot run yet.
+    /// The document is in order, and has a board on a network, which this program cannot run yet.
     NotBuilt,
 }
 

@@ -1,24 +1,55 @@
-use Rattle.std.proofs.Common.{rules}
-use Rattle.session_input.specs.Deserved.{Deserves, BreaksInRun}
+use Rattle.std.proofs.Common.{map, rules, refl, subst}
+use Rattle.session_input.specs.Deserved.{BreaksInRun, Deserves}
 use Rattle.ipbus_program.specs.declared.command.Command.TheVariants.{Run}
-use Rattle.ipbus_program.specs.Steps.{MayRun}
-use Rattle.ipbus_program.proofs.Ready.{may_run, printed}
-use Rattle.ipbus_program.proofs.Refusing.{refused_answer}
+use Rattle.ipbus_program.specs.Steps.{MayRun, RunLeaves}
+use Rattle.ipbus_program.proofs.Kept.{shown_by}
+use Rattle.ipbus_program.proofs.Leaving.{failure_left, kept_unless_refused, no_memory_is_no_rack, nothing_left}
+use Rattle.ipbus_program.proofs.Leaving.{refusal_left, run_leaves}
+use Rattle.ipbus_program.proofs.Ready.{may_run}
 use Rattle.ipbus_program.proofs.running.run.Goals as goal
 
-pub transcript-requires : goal.transcript-requires
-transcript-requires c =
-    let ready : MayRun c.in-Ok.read.session c.in-Ok.read.steps.items =
-    may_run c.args.bytes.now c.in-Ok.read.session c.in-Ok.read.steps.items c.in-Ok.ensures.runnable c.in-Ok.ensures.within
-    c.in-Ok.ensures.packed c.in-Ok.ensures.few in
+pub transcript-requires-after_bounds : goal.transcript-requires-after_bounds
+transcript-requires-after_bounds g c κs within =
+    let steps = c.in-Ok.read.steps.items in
+    let ready : MayRun c.in-Ok.read.session steps =
+    may_run c.the_ranges_of_a_session_name_words.ensures c.args.bytes.now c.in-Ok.read.session steps
+    c.in-Ok.ensures.runnable c.in-Ok.ensures.within c.in-Ok.ensures.packed c.in-Ok.ensures.few c.in-Ok.ensures.short in
     rw c.deref.ensures.value ready
 
-pub returns-in-Ok : goal.returns-in-Ok
-returns-in-Ok c =
-    printed c.a_runnable_session_shows_all_places.ensures c.args.bytes.now c.in-Ok.read.session c.in-Ok.read.steps.items c.transcript.result c.in-Ok.ensures.runnable
-    (rw c.deref.ensures.value at c.transcript.ensures)
+pub returns-in_err-refused-in-Err-Refused-clause-leaves :
+    goal.returns-in_err-refused-in-Err-Refused-clause-leaves
+returns-in_err-refused-in-Err-Refused-clause-leaves g c =
+    let shown = shown_by g.R.L.Link.faults g.R.L.Link.quiets g.R.L.Link.gots g.R.L.Link.held g.R.L.Link.telling in
+    failure_left shown _ Run c.args.bytes.now _ c.from_residual.result _ c.from_residual.ensures.0
+    c.from_residual.ensures.1 (λ rack. no_memory_is_no_rack _ refl rack)
 
-pub returns-in-Err-Refused : goal.returns-in-Err-Refused
-returns-in-Err-Refused c =
+pub returns-in-Ok-clause-leaves : goal.returns-in-Ok-clause-leaves
+returns-in-Ok-clause-leaves g c =
+    let left = c.transcript.ensures.leaves in
+    let shown = shown_by g.R.L.Link.faults g.R.L.Link.quiets g.R.L.Link.gots g.R.L.Link.held g.R.L.Link.telling in
+    let made = g.R.Rack.made c.args.rack.now in
+    let makes = g.R.Rack.made c.transcript.new.rack in (
+      left.0,
+      left.1,
+      run_leaves c.a_runnable_session_shows_all_places.ensures c.args.bytes.now c.in-Ok.read.session
+          c.in-Ok.read.steps.items made makes c.transcript.result (map shown left.0) c.in-Ok.ensures.runnable
+          (subst (λ steps. RunLeaves c.in-Ok.read.session steps made makes c.transcript.result (map shown left.0))
+          c.deref.ensures.value left.2),
+    )
+
+pub returns-in-Ok-clause-refused : goal.returns-in-Ok-clause-refused
+returns-in-Ok-clause-refused g c =
+    kept_unless_refused _ c.in-Ok.read.session c.deref.result.now _ c.transcript.result c.transcript.ensures.leaves.2.prints
+
+pub returns-in_ok-refused-in-Err-Refused-clause-leaves :
+    goal.returns-in_ok-refused-in-Err-Refused-clause-leaves
+returns-in_ok-refused-in-Err-Refused-clause-leaves g c =
+    let shown = shown_by g.R.L.Link.faults g.R.L.Link.quiets g.R.L.Link.gots g.R.L.Link.held g.R.L.Link.telling in
     let deserved : Deserves BreaksInRun c.args.bytes.now c.in-Err-Refused.refusal = search rules in
-    refused_answer Run c.args.bytes.now c.in-Err-Refused.refusal c.refused.result deserved c.refused.ensures.status c.refused.ensures.text
+    refusal_left shown _ Run c.args.bytes.now _ c.in_ok-refused-in-Err-Refused.field-0 c.in-Err-Refused.refusal deserved
+    c.in_ok-refused-in-Err-Refused.ensures.status c.in_ok-refused-in-Err-Refused.ensures.text
+
+pub returns-in-Err-NoMemory-clause-leaves : goal.returns-in-Err-NoMemory-clause-leaves
+returns-in-Err-NoMemory-clause-leaves g c =
+    let shown = shown_by g.R.L.Link.faults g.R.L.Link.quiets g.R.L.Link.gots g.R.L.Link.held g.R.L.Link.telling in
+    nothing_left shown _ Run c.args.bytes.now _ _ tt (λ never. cc)
