@@ -49,6 +49,7 @@ impl<L: Link + Send + Drop> Hub<L> {
     /// as before, with the same records in the same order.
     pub fn new(alloc: Global, mut lanes: Vec<Lane<L>>) -> Result<(Hub<L>, Master), Returned<L>>
         ensures hub { IfOk result (λ made. IsMasterOf made.0 made.1) }
+        ensures boards { IfOk result (λ made. length made.0.turns ≡ length lanes.items) }
         ensures no_seats { IfOk result (λ made. (made.1.seats ≡ 0) × HasTakenIn 1 made.1) }
         ensures master { IfOk result (λ made. made.1.knows ≡ map first_knowledge (map (shown L.telling) lanes.items)) }
         ensures returned { IfErr result (λ returned.
