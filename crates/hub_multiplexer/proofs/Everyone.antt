@@ -1,11 +1,11 @@
 -- Seats that were all taken in.
-use Rattle.std.proofs.Common.{◌≡◌, ℕ, ◌+◌, ◌≤◌, ◌<◌, zero, suc, List, [], ◌∷◌, ◌++◌, length, map, drop, refl, sym, ap, subst, ◌∙◌, arith, lt_of_not-le}
+use Rattle.std.proofs.Common.{◌≡◌, ℕ, ◌+◌, ◌≤◌, ◌<◌, zero, suc, List, [], ◌∷◌, ◌++◌, map, drop, refl, sym, ap, subst, ◌∙◌, arith, lt_of_not-le}
 use mathlib.Core.Logic.{dite}
 use native.Mathlib.Decide.{dec_le}
 use Rattle.std.specs.List.{AllByRecursion, Contains}
 use Rattle.turn_pass.specs.Pass.{Joined, Knowledge, PassState, first_knowledge, kept_of, one_more_made, taking_in}
 use Rattle.turn_pass.specs.Record.{Record}
-use Rattle.hub_multiplexer.specs.Ends.{HasAllJoined, HasJoinedBelow, numbers_joined}
+use Rattle.hub_multiplexer.specs.Ends.{HasAllJoined, HasJoinedBelow}
 use Rattle.hub_multiplexer.specs.Seats.{IsFirst, IsIdle, knows_after_join, knows_of, turns_of}
 
 abbrev numbers : List Joined → List ℕ
