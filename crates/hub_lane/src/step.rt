@@ -12,7 +12,8 @@ use ipb_base::NoMemory;
 use lane_record::Outcome;
 use world_core::Link;
 
-/// The token of a step that found no outcome. A step alone makes one, so whoever has it knows that a lane received once.
+/// The token of a step that found no outcome. A step alone makes one, so whoever has it knows that a lane received
+/// once.
 #[derive(Debug, Drop)]
 pub struct Turned {
     received: (),

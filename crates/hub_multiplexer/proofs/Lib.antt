@@ -1,6 +1,7 @@
 pub mod Lists
 pub mod Joins
 pub mod Ends
+pub mod Everyone
 pub mod OwnItems
 pub mod Grows
 pub mod Adds

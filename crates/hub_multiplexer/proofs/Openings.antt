@@ -115,3 +115,8 @@ master_opened records turns passes room count o fits long = record {
     all_none : (ps : List PassState) → AllByRecursion IsFresh ps → AllByRecursion (λ (p : PassState). p.knows.mine ≡ []) ps
     all_none [] a = tt
     all_none (p ∷ ps) a = (ap (λ (k : Knowledge). k.mine) a.0.knows_opening, all_none ps a.1)
+
+-- as many turns as values
+pub turns_opened : (records : List Record) (turns : List TurnId) (passes : List PassState) → AreOpened records turns passes → length turns ≡ length records
+turns_opened records turns passes opened =
+    ap length (sym opened.are_fresh.same_turns) ∙ (length-map passes (λ (p : PassState). p.turn) ∙ (sym (length-map passes (λ (p : PassState). p.knows.opening)) ∙ ap length opened.openings))

@@ -3,7 +3,7 @@ use Rattle.std.specs.Prelude.{◌≡◌, ℕ, ◌+◌, ◌≤◌, ◌<◌, List,
 use Rattle.std.specs.List.{AllByRecursion, AllZip, Contains}
 use Rattle.turn_pass.specs.Record.{Record, past}
 use Rattle.turn_pass.specs.Pass.{Knowledge, PassState, Told}
-use Rattle.hub_multiplexer.specs.Seats.{IsFirst, IsIdle}
+use Rattle.hub_multiplexer.specs.Seats.{IsFirst, IsIdle, MasterState}
 
 -- the numbers of the passes that were taken in
 abbrev pub numbers_joined : Knowledge → List ℕ
@@ -12,6 +12,14 @@ numbers_joined k = map (λ j. j.number) k.joined
 -- every pass that was made beside the first was taken in
 abbrev pub HasAllJoined : Knowledge → Type 0
 HasAllJoined k = (n : ℕ) → 1 ≤ n → n < k.made → Contains (numbers_joined k) n
+
+-- every pass with a number from 1 and below this one was taken in
+abbrev pub HasJoinedBelow : ℕ → Knowledge → Type 0
+HasJoinedBelow n k = (c : ℕ) → 1 ≤ c → c < n → Contains (numbers_joined k) c
+
+-- the master took in all seats of the clients below this one
+abbrev pub HasTakenIn : ℕ → MasterState → Type 0
+HasTakenIn n master = AllByRecursion (HasJoinedBelow n) master.knows
 
 -- What the first pass of a turn is told of the record at the end: all that a taker is told, and past the opening there
 -- are only entries of passes that were taken in.

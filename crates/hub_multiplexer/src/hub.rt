@@ -1,13 +1,12 @@
 //! The hub: a turn for each board's lane.
 
-ghost use Rattle.std.specs.Prelude.{◌≡◌, ◌<◌, length, map, IfOk, IfErr, OnErr};
-ghost use Rattle.std.specs.List.{AllByRecursion};
+ghost use Rattle.std.specs.Prelude.{◌≡◌, ◌<◌, ◌+◌, length, map, IfOk, IfErr, OnErr};
 ghost use Rattle.transaction_codec.specs.Answer.{reply_room};
 ghost use Rattle.turn_pass.specs.Pass.{first_knowledge};
 ghost use Rattle.hub_multiplexer.specs.Calls.{AskMeans, AskTried, HasSubmitted, IsNone, Made, MadeInTime, PerformMeans};
 ghost use Rattle.hub_multiplexer.specs.Calls.{StepTried, SubmitRefused};
 ghost use Rattle.hub_multiplexer.specs.OwnItems.{HasAskedAll};
-ghost use Rattle.hub_multiplexer.specs.Ends.{AreEnded, HasAllJoined};
+ghost use Rattle.hub_multiplexer.specs.Ends.{AreEnded, HasTakenIn};
 ghost use Rattle.hub_multiplexer.specs.Lanes.{shown};
 ghost use Rattle.hub_multiplexer.specs.Seats.{ChangesAt, IsMasterOf, IsSeatOf};
 
@@ -50,9 +49,11 @@ impl<L: Link + Send + Drop> Hub<L> {
     /// as before, with the same records in the same order.
     pub fn new(alloc: Global, mut lanes: Vec<Lane<L>>) -> Result<(Hub<L>, Master), Returned<L>>
         ensures hub { IfOk result (λ made. IsMasterOf made.0 made.1) }
-        ensures no_seats { IfOk result (λ made. made.1.seats ≡ 0) }
+        ensures boards { IfOk result (λ made. length made.0.turns ≡ length lanes.items) }
+        ensures no_seats { IfOk result (λ made. (made.1.seats ≡ 0) × HasTakenIn 1 made.1) }
         ensures master { IfOk result (λ made. made.1.knows ≡ map first_knowledge (map (shown L.telling) lanes.items)) }
-        ensures returned { IfErr result (λ returned. map (shown L.telling) returned.lanes.items ≡ map (shown L.telling) lanes.items) }
+        ensures returned { IfErr result (λ returned.
+            map (shown L.telling) returned.lanes.items ≡ map (shown L.telling) lanes.items) }
     {
         let Ok((room, room_pass)) = room_for(alloc, lanes.len()) else {
             return Err(Returned { lanes });
@@ -69,7 +70,7 @@ impl<L: Link + Send + Drop> Hub<L> {
     /// only entries of joined seats.
     pub fn finish<R: Wait>(self, rt: &R, master: Master) -> Vec<Lane<L>>
         requires hub { IsMasterOf self master }
-        requires joined { AllByRecursion HasAllJoined master.knows }
+        requires joined { HasTakenIn (master.seats + 1) master }
         ensures { AreEnded master.knows (map (shown L.telling) result.items) }
     {
         let Hub { turns, room } = self;
@@ -92,8 +93,8 @@ impl<L: Link + Send> Hub<L> {
         self.turns.len()
     }
 
-    /// Asks the seat's next planned body on a board, by one exchange. It never waits. `Busy` where another held the lane
-    /// at that exchange. Want of memory adds nothing.
+    /// Asks the seat's next planned body on a board, by one exchange. It never waits. `Busy` where another held the
+    /// lane at that exchange. Want of memory adds nothing.
     #[tactic(auto, using(crate::proofs::Boards::idle_at))]
     pub fn try_ask(&self, seat: &mut Seat, board: usize) -> Result<AskTry, NoMemory>
         requires board { board < length self.now.turns }
@@ -106,8 +107,8 @@ impl<L: Link + Send> Hub<L> {
     }
 
     /// Takes a board's lane, pumps it once where nothing became of the seat's oldest asked and untaken body yet, takes
-    /// what did, and gives the lane back: by one exchange, and it never waits. `Busy` where another held the lane at that
-    /// exchange. Want of memory adds nothing; the lane may have been pumped, or be spent.
+    /// what did, and gives the lane back: by one exchange, and it never waits. `Busy` where another held the lane at
+    /// that exchange. Want of memory adds nothing; the lane may have been pumped, or be spent.
     #[tactic(auto, using(crate::proofs::Boards::idle_at))]
     pub fn try_step(&self, seat: &mut Seat, board: usize) -> Result<StepTry, NoMemory>
         requires board { board < length self.now.turns }
@@ -152,9 +153,9 @@ impl<L: Link + Send> Hub<L> {
         calls::perform(rt, &self.turns[board], &mut seat.passes[board], client)
     }
 
-    /// Plans a body on a board for the seat's client, and asks it, whose number among the client's bodies it answers, from
-    /// 0. `reply_words` is the words of the longest reply to it. It waits for the lane. Every body that was planned for
-    /// the client on that board was asked before. A refusal is that of `Lane::plan` on the record found, and adds
+    /// Plans a body on a board for the seat's client, and asks it, and answers its number among the client's bodies,
+    /// from 0. `reply_words` is the words of the longest reply to it. It waits for the lane. Every body that was planned
+    /// for the client on that board was asked before. A refusal is that of `Lane::plan` on the record found, and adds
     /// nothing; after want of memory the body may stand planned and not asked.
     #[tactic(auto, using(crate::proofs::Boards::idle_at))]
     pub fn submit<R: Wait>(

@@ -12,7 +12,7 @@ mod seat;
 mod turns;
 
 pub use answers::{AskTry, Performed, StepTry};
-pub use hub::Hub;
+pub use hub::{Hub, Returned};
 pub use hub_lane::{Asked, Lane, Link, NoMemory, Outcome, PlanRefusal, Turned, Words};
 pub use master::Master;
 pub use seat::Seat;

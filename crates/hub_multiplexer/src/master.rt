@@ -1,8 +1,8 @@
 //! Who makes the seats, and takes them in.
 
-ghost use Rattle.std.specs.Prelude.{◌≡◌, ◌<◌, ◌+◌, ◌-◌, ◌^◌, map, IfOk, OnErr};
+ghost use Rattle.std.specs.Prelude.{◌≡◌, ◌<◌, ◌+◌, ◌-◌, ◌^◌, ℕ, map, IfOk, OnErr};
 ghost use Rattle.turn_pass.specs.Pass.{newcomer, one_more_made};
-ghost use Rattle.hub_multiplexer.specs.Ends.{IsMaster};
+ghost use Rattle.hub_multiplexer.specs.Ends.{HasTakenIn, IsMaster};
 ghost use Rattle.hub_multiplexer.specs.Seats.{IsMasterOf, IsSeatOf, knows_after_join, knows_of, turns_of};
 
 use crate::hub::Hub;
@@ -58,8 +58,8 @@ impl Master {
         }
     }
 
-    /// One seat more. Its client is its number among the seats, from 1, and the number of its pass on each board. It has
-    /// seen what the master has. Want of memory changes nothing.
+    /// One seat more. Its client is its number among the seats, from 1, and the number of its pass on each board. It
+    /// has seen what the master has. Want of memory changes nothing.
     #[tactic(auto, using(crate::proofs::Seats::idle_split, crate::proofs::Seats::master_split, crate::proofs::Seats::turns_split_off, crate::proofs::Seats::turns_after_split, crate::proofs::Seats::knows_split_off, crate::proofs::Seats::knows_after_split))]
     pub fn seat<L: Link + Send>(&mut self, alloc: Global, hub: &Hub<L>) -> Result<Seat, NoMemory>
         requires hub { IsMasterOf hub.now self.old }
@@ -72,6 +72,7 @@ impl Master {
         ensures made { IfOk result (λ _. self.new ≡
             record self.old { seats = self.old.seats + 1; knows = map one_more_made self.old.knows }) }
         ensures unchanged { OnErr result (self.new ≡ self.old) }
+        ensures taken_in { (n : ℕ) → HasTakenIn n self.old → HasTakenIn n self.new }
     {
         let mut passes = Vec::with_capacity(alloc, hub.turns.len())?;
         let count = u64::from(self.seats) + 1;
@@ -83,12 +84,14 @@ impl Master {
         })
     }
 
-    /// Takes a seat in, with all that it had seen and the entries that it made.
+    /// Takes a seat in, with all that it had seen and the entries that it made. Where seats are joined in the order of
+    /// their clients, all are taken in after the last.
     #[tactic(auto, using(crate::proofs::Seats::master_joined, crate::proofs::Seats::turns_after_join, crate::proofs::Seats::knows_joined))]
     pub fn join<L: Link + Send>(&mut self, hub: &Hub<L>, seat: Seat)
         requires hub { IsMasterOf hub.now self.old }
         requires seat { IsSeatOf hub.now seat }
-        ensures { self.new ≡ record self.old { knows = knows_after_join self.old.knows seat.knows } }
+        ensures joined { self.new ≡ record self.old { knows = knows_after_join self.old.knows seat.knows } }
+        ensures taken_in { HasTakenIn seat.client self.old → HasTakenIn (seat.client + 1) self.new }
     {
         let Seat { client, passes } = seat;
         let count = u64::from(self.seats) + 1;
