@@ -1,0 +1,14 @@
+mod Noise
+mod Hearing
+mod Takings
+mod Fronts
+mod Receipts
+mod Calls
+mod Tellings
+mod Makes
+mod Along
+mod Copies
+mod Deliveries
+mod Numbers
+mod Delays
+mod Reached

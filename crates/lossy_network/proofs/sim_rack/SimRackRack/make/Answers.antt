@@ -1,0 +1,8 @@
+use Rattle.std.proofs.Common.{◌≤◌, subst, sym}
+use Rattle.lossy_network.specs.Racks.{RackState}
+use Rattle.lossy_network.proofs.Makes.{faults_rise}
+use Rattle.lossy_network.proofs.sim_rack.SimRackRack.make.Goals as goal
+
+pub returns-clause-faults : goal.returns-clause-faults
+returns-clause-faults c = subst (λ (rack : RackState). c.args.self.now.faults ≤ rack.faults) (sym c.make.ensures.rack)
+    (faults_rise c.make.result c.args.self.now c.counts_fit.ensures.faults)

@@ -1,0 +1,22 @@
+use Rattle.lossy_network.proofs.Tellings.{rises_by, send_faults, send_holds, sends}
+use Rattle.lossy_network.proofs.telling.SimLinkLink.send.Goals as goal
+
+pub returns-clause-sent : goal.returns-clause-sent
+returns-clause-sent c =
+    sends c.send.result c.args.bytes.now c.args.self.now c.send.new.self c.send.ensures.sent
+
+pub returns-clause-faults : goal.returns-clause-faults
+returns-clause-faults c = rises_by c.args.self.now.faults c.send.new.self.faults c.counts_fit.ensures.faults
+    (send_faults c.send.result c.args.bytes.now c.args.self.now c.send.new.self (record {
+      after = c.send.ensures.sent;
+      fault = c.send.ensures.failed;
+      no_memory = c.send.ensures.no_memory;
+    }))
+
+pub returns-clause-held : goal.returns-clause-held
+returns-clause-held c =
+    send_holds c.send.result c.args.bytes.now c.args.self.now c.send.new.self c.counts_fit.ensures.held (record {
+      after = c.send.ensures.sent;
+      fault = c.send.ensures.failed;
+      no_memory = c.send.ensures.no_memory;
+    })

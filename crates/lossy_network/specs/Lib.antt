@@ -1,0 +1,9 @@
+pub mod Fates
+pub mod Traffic
+pub mod Network
+pub mod Receipts
+pub mod Calls
+pub mod HubSteps
+pub mod Racks
+pub mod Examples
+pub mod Inside

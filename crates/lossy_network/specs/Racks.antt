@@ -1,0 +1,81 @@
+-- A rack: what makes links and keeps them. Profile.
+use Rattle.std.specs.Prelude.{◌≡◌, ℕ, ◌+◌, ◌==◌, ◌||◌, Bool, List, [], ◌∷◌, ◌++◌, Option, Some}
+use Rattle.std.specs.Prelude.{None, is_none, Result, Ok, Err}
+use Rattle.std.specs.List.{list_any}
+use Rattle.ipb_base.specs.Faults.{one_more}
+use Rattle.status_packet.specs.Range.{IsMtu, IsBufferCount}
+use Rattle.board_bus.specs.declared.range.Range.{Range}
+use Rattle.board_bus.specs.Ranges.{opening_bus, refusal_of}
+use Rattle.board_node.specs.declared.spec.LinkSpec.{LinkSpec}
+use Rattle.board_node.specs.declared.spec.LinkSpec.TheVariants.{Sim, Udp}
+use Rattle.world_model.specs.Board.{Board}
+use Rattle.world_core.specs.Telling.{Telling}
+use Rattle.lossy_network.specs.declared.rack.RackFault.{RackFault}
+use Rattle.lossy_network.specs.declared.rack.RackFault.TheVariants.{Failed, NoMemory}
+use Rattle.lossy_network.specs.Network.{Network, new_network}
+
+-- a board that opens with these ranges and has executed nothing
+abbrev pub fresh_board : ℕ → ℕ → ℕ → List Range → Board
+fresh_board mtu buffers first ranges =
+    record { opening = opening_bus ranges; mtu = mtu; buffers = buffers; first = first; log = [] }
+
+-- what a link can be made for: a simulated board's ranges are those of a bus, its MTU and its buffers are in range
+pub record IsSimulable (mtu buffers : ℕ) (ranges : List Range) : Type 0 where
+  pub bus : refusal_of ranges ≡ None
+  pub greatest_packet : IsMtu mtu
+  pub kept_replies : IsBufferCount buffers
+
+abbrev pub IsMakeable : LinkSpec → Type 0
+IsMakeable (Sim mtu buffers first ranges fates) = IsSimulable mtu buffers ranges
+IsMakeable (Udp address port wait) = Unit {0}
+
+-- what a link tells that was just made: a fresh board and an empty air; one to a network tells nothing
+abbrev pub telling_for : LinkSpec → Option Telling
+telling_for (Sim mtu buffers first ranges fates) = Some (record {
+  told = record { board = fresh_board mtu buffers first ranges; air = [] };
+  due = [];
+  handed = [];
+})
+telling_for (Udp address port wait) = None
+
+-- the number of links made, after a make
+abbrev pub made_after : {L E : Type 0} → Result L E → ℕ → ℕ
+made_after (Ok link) made = made + 1
+made_after (Err fault) made = made
+
+-- A rack of simulated links: the numbers, from 1, of the makes that fail, and of the calls that fail on each link; the
+-- makes so far, the links made, the faults, and the links given back, in order.
+pub record RackState : Type 0 where
+  pub fail_makes : List ℕ
+  pub fail_calls : List ℕ
+  pub makes : ℕ
+  pub made : ℕ
+  pub faults : ℕ
+  pub kept : List Network
+
+abbrev pub new_rack : List ℕ → List ℕ → RackState
+new_rack fail_makes fail_calls =
+    record { fail_makes = fail_makes; fail_calls = fail_calls; makes = 0; made = 0; faults = 0; kept = [] }
+
+-- the link that is made for a simulated board; none is made here for one on a network
+abbrev pub link_for : List ℕ → LinkSpec → Option Network
+link_for fail (Sim mtu buffers first ranges fates) =
+    Some (new_network (fresh_board mtu buffers first ranges) fates fail)
+link_for fail (Udp address port wait) = None
+
+-- A make fails where its number is named, and for a board on a network.
+abbrev pub is_named : RackState → Bool
+is_named rack = list_any (λ number. number == one_more rack.makes) rack.fail_makes
+
+abbrev pub fails_to_make : RackState → LinkSpec → Bool
+fails_to_make rack spec = is_named rack || is_none (link_for rack.fail_calls spec)
+
+-- a make is counted, and a link made or a fault
+abbrev pub after_make : Result Network RackFault → RackState → RackState
+after_make (Ok link) rack = record rack { makes = one_more rack.makes; made = rack.made + 1 }
+after_make (Err Failed) rack = record rack { makes = one_more rack.makes; faults = one_more rack.faults }
+after_make (Err NoMemory) rack = record rack { makes = one_more rack.makes }
+
+-- a link given back stands behind the others
+abbrev pub after_keep : Network → RackState → RackState
+after_keep link rack = record rack { kept = rack.kept ++ link ∷ [] }

@@ -1,0 +1,22 @@
+//! A simulated network: links that lose, repeat and delay datagrams as they are told, and racks that make them.
+//!
+//! Contracts see a link as a record of data, `Network`, and a send and a receive as one function each of it. So a link
+//! tells its board and all that it ever carried, and what a hub over it does is a run of `world_model`.
+#![tactic(auto)]
+
+pub mod examples;
+mod fates;
+pub mod laws;
+mod link;
+mod rack;
+mod sim_rack;
+mod telling;
+mod under_way;
+
+pub use board_node::{Board, BoardSpec, Fates};
+pub use fates::DatagramFate;
+pub use ipb_base::NoMemory;
+pub use link::SimLink;
+pub use rack::{Rack, RackFault};
+pub use sim_rack::SimRack;
+pub use world_core::{Link, LinkFault, Received};

@@ -1,0 +1,202 @@
+//! A rack of simulated links.
+
+ghost use Rattle.std.specs.Prelude.{◌≡◌, ◌↔◌, ◌≤◌, ◌<◌, ◌^◌, [], length, true, Some, Err, IfOk, OnOk, IfSome, IfNone};
+ghost use Rattle.std.specs.List.{slice_get};
+ghost use Rattle.std.specs.Vec.{vec_capacity};
+ghost use Rattle.ipb_base.specs.Faults.{one_more};
+ghost use Rattle.world_model.specs.Board.{executed};
+ghost use Rattle.lossy_network.specs.declared.rack.RackFault.TheVariants.{Failed};
+ghost use Rattle.lossy_network.specs.Network.{new_network};
+ghost use Rattle.lossy_network.specs.Racks.{after_keep, after_make, fails_to_make, fresh_board, is_named, IsMakeable};
+ghost use Rattle.lossy_network.specs.Racks.{IsSimulable, link_for, new_rack};
+
+use crate::link::{SimLink, fits};
+use crate::rack::{Rack, RackFault};
+use board_bus::{Bus, BusRefusal};
+use board_node::{Board, BoardSpec, Fates, Id, LinkSpec, Ranges};
+use ipb_base::{NoMemory, Text};
+use std::alloc::Global;
+use std::marker::Model;
+
+/// A rack of simulated links, for tests and for sessions that need no network. Contracts see it as a `RackState`.
+#[derive(Drop)]
+pub struct SimRack {
+    alloc: Global,
+    fail_makes: Vec<u64>,
+    fail_calls: Vec<u64>,
+    kept: Vec<SimLink>,
+    makes: u64,
+    made: usize,
+    faults: u64,
+}
+
+impl Model for SimRack {
+    ghost use Rattle.lossy_network.specs.Racks.{RackState};
+
+    ghost Value = { RackState };
+
+    ghost use Rattle.lossy_network.specs.Inside.{rack_of, IsRack};
+
+    ghost view = { rack_of };
+
+    ghost invariant = { IsRack };
+}
+
+impl SimRack {
+    /// A rack that has made no link. The makes whose numbers, from 1, are in `fail_makes` fail, and on each link the
+    /// calls whose numbers are in `fail_calls`.
+    pub fn new(alloc: Global, fail_makes: Vec<u64>, fail_calls: Vec<u64>) -> SimRack
+        ensures { result ≡ new_rack fail_makes.items fail_calls.items }
+    {
+        SimRack {
+            alloc,
+            fail_makes,
+            fail_calls,
+            kept: Vec::new(alloc),
+            makes: 0,
+            made: 0,
+            faults: 0,
+        }
+    }
+
+    /// The link that was given back as the i-th, from 0.
+    pub fn kept(&self, i: usize) -> Option<&SimLink>
+        ensures some { IfSome result (λ link. slice_get self.now.kept i ≡ Some link.now) }
+        ensures none { IfNone result (length self.now.kept ≤ i) }
+    {
+        self.kept.get(i)
+    }
+
+    /// No more links are kept than were made, and the count of faults is one of 64 bits. It does nothing when it runs.
+    pub fn counts_fit(&self)
+        ensures within { length self.now.kept ≤ self.now.made }
+        ensures faults { self.now.faults < 2 ^ 64 }
+    {
+        fits(self.faults);
+        let _kept = &self.kept;
+    }
+
+    /// Makes a link for a simulated board. `Failed` where this make's number was named, and for a board on a network:
+    /// the rack counts it. It takes the room that keeping the link needs.
+    pub fn make(&mut self, spec: &BoardSpec) -> Result<SimLink, RackFault>
+        requires { IsMakeable spec.now.link }
+        ensures made { IfOk result (λ link. link_for self.old.fail_calls spec.now.link ≡ Some link) }
+        ensures fails { (result ≡ Err Failed) ↔ (fails_to_make self.old spec.now.link ≡ true) }
+        ensures rack { self.new ≡ after_make result self.old }
+    {
+        let is_named = self.is_next_named();
+        self.makes = self.makes.saturating_add(1);
+        let LinkSpec::Sim {
+            mtu,
+            buffers,
+            first,
+            ranges,
+            fates,
+        } = &spec.link
+        else {
+            return Err(self.count_fault());
+        };
+        if is_named {
+            return Err(self.count_fault());
+        }
+        let board = fresh_board(self.alloc, *mtu, *buffers, *first, ranges)?;
+        let link = new_link(self.alloc, board, fates, &self.fail_calls)?;
+        make_room(&mut self.kept, self.made)?;
+        self.made += 1;
+        Ok(link)
+    }
+
+    /// Takes a link back, behind those that were kept before. It takes no memory.
+    pub fn keep(&mut self, link: SimLink)
+        requires { length self.old.kept < self.old.made }
+        ensures { self.new ≡ after_keep link self.old }
+    {
+        self.kept.push_reserved(link);
+    }
+}
+
+impl SimRack {
+    /// Whether the number of the next make is one of those that fail.
+    fn is_next_named(&self) -> bool
+        ensures { result ≡ is_named self.now }
+    {
+        self.fail_makes.contains(&self.makes.saturating_add(1))
+    }
+
+    /// Counts a fault.
+    fn count_fault(&mut self) -> RackFault
+        ensures fault { result ≡ Failed }
+        ensures counted { self.new ≡ record self.old { faults = one_more self.old.faults } }
+    {
+        self.faults = self.faults.saturating_add(1);
+        RackFault::Failed
+    }
+}
+
+impl Rack for SimRack {
+    type L = SimLink;
+
+    ghost kept = { λ rack. rack.kept };
+
+    ghost made = { λ rack. rack.made };
+
+    ghost faults = { λ rack. rack.faults };
+
+    fn make(&mut self, spec: &BoardSpec) -> Result<SimLink, RackFault> {
+        self.counts_fit();
+        SimRack::make(self, spec)
+    }
+
+    fn keep(&mut self, link: SimLink) {
+        SimRack::keep(self, link)
+    }
+}
+
+/// A board that opens with these ranges and has executed nothing.
+fn fresh_board(
+    alloc: Global,
+    mtu: u32,
+    buffers: u32,
+    first: Id,
+    ranges: &Ranges,
+) -> Result<Board, NoMemory>
+    requires { IsSimulable mtu buffers ranges.now }
+    ensures { IfOk result (λ board. board ≡ fresh_board mtu buffers first ranges.now) }
+{
+    match Bus::new(alloc, ranges.as_slice()) {
+        Ok(bus) => Board::new(alloc, bus, mtu, buffers, first),
+        Err(BusRefusal::NoMemory) => Err(NoMemory),
+        Err(_) => unreachable!(),
+    }
+}
+
+/// A link to a board with these fates, and with these numbers of calls that fail.
+fn new_link(alloc: Global, board: Board, fates: &Fates, fail: &[u64]) -> Result<SimLink, NoMemory>
+    requires { executed board ≡ [] }
+    ensures { IfOk result (λ link. link ≡ new_network board fates.now fail.now) }
+{
+    let fates = copy_fates(alloc, fates)?;
+    SimLink::new(alloc, board, fates, Vec::from_slice(alloc, fail)?)
+}
+
+/// The same fates in memory of their own.
+fn copy_fates(alloc: Global, fates: &Fates) -> Result<Fates, NoMemory>
+    ensures { IfOk result (λ copied. copied ≡ fates.now) }
+{
+    match fates {
+        Fates::Text(text) => Ok(Fates::Text(Text::copy_of(alloc, text.as_str())?)),
+        Fates::Noise(noise) => Ok(Fates::Noise(*noise)),
+    }
+}
+
+/// Takes the room to keep one link more than were made.
+fn make_room(kept: &mut Vec<SimLink>, made: usize) -> Result<(), NoMemory>
+    requires within { length kept.old.items ≤ made }
+    requires places { made ≤ vec_capacity kept.old }
+    ensures same { kept.new.items ≡ kept.old.items }
+    ensures room { OnOk result (made < vec_capacity kept.new) }
+    ensures places { made ≤ vec_capacity kept.new }
+{
+    kept.reserve(made - kept.len() + 1)?;
+    Ok(())
+}
