@@ -8,6 +8,7 @@ use Rattle.status_packet.specs.declared.status.Status.{Status}
 use Rattle.status_packet.specs.Range.{IsBufferCount, IsMtu}
 use Rattle.packet_ids.specs.Identifier.{IsIdentifier}
 use Rattle.board_bus.specs.Cells.{CellMap}
+use Rattle.world_model.specs.Board.{Board}
 use Rattle.world_model.specs.Hub.{Hub, is_waiting, new_hub, places}
 use Rattle.world_model.specs.Facts.{HasBodies, IsStart, IsWindow}
 use Rattle.reliable_engine.specs.Settings.{AreLimits, Limits}
@@ -45,6 +46,11 @@ pub record LaneState (L : Type 0) : Type 0 where
 -- one more entry
 abbrev pub with_item : {L : Type 0} → LaneState L → Item → LaneState L
 with_item lane item = record lane { items = lane.items ++ item ∷ [] }
+
+-- the board of a link that tells, as it was before it executed anything
+abbrev pub board_of : Option Telling → Option Board
+board_of None = None
+board_of (Some t) = Some (record t.told.board { log = [] })
 
 -- the opening bus of the board of a link that tells
 abbrev pub opening_of : Option Telling → Option CellMap

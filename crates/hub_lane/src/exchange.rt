@@ -11,7 +11,7 @@ ghost use Rattle.world_model.specs.Sends.{next_send};
 ghost use Rattle.world_model.specs.Facts.{AreSendable, IsWindow};
 ghost use Rattle.reliable_engine.specs.Settings.{Limits};
 ghost use Rattle.lane_record.specs.Offers.{put_all};
-ghost use Rattle.hub_lane.specs.Lanes.{IsReady, opening_of};
+ghost use Rattle.hub_lane.specs.Lanes.{IsReady, board_of};
 ghost use Rattle.hub_lane.specs.Hearing.{IsEventAs, IsHeardAs, WasReceived, give_ups_of, gots_of, hub_after, quiets_of};
 ghost use Rattle.hub_lane.specs.Sends.{HasSent, all_sent, handed_out};
 ghost use Rattle.hub_lane.specs.Standing.{GoesOn, IsRunning, Stops};
@@ -73,7 +73,7 @@ pub(crate) fn exchange<L: Link>(
     ensures failed_quiets { result ≡ Err LinkFault.Failed → L.quiets link.new ≡ L.quiets link.old }
     ensures failed_gots { result ≡ Err LinkFault.Failed → L.gots link.new ≡ L.gots link.old }
     ensures held { L.held link.old ≤ L.held link.new }
-    ensures opening { opening_of (L.telling link.new) ≡ opening_of (L.telling link.old) }
+    ensures board { board_of (L.telling link.new) ≡ board_of (L.telling link.old) }
 {
     a_send_leaves_the_fates();
     each_event_leads_to_a_state_of_a_run();
@@ -98,7 +98,7 @@ fn send_all<L: Link>(alloc: Global, hub: &mut Engine, link: &mut L) -> Result<()
     ensures quiets { L.quiets link.new ≡ L.quiets link.old }
     ensures gots { L.gots link.new ≡ L.gots link.old }
     ensures held { L.held link.old ≤ L.held link.new }
-    ensures opening { opening_of (L.telling link.new) ≡ opening_of (L.telling link.old) }
+    ensures board { board_of (L.telling link.new) ≡ board_of (L.telling link.old) }
 {
     a_send_leaves_the_fates();
     draining_ends();
@@ -142,7 +142,7 @@ fn receive<L: Link>(
     ensures failed_quiets { result ≡ Err LinkFault.Failed → L.quiets link.new ≡ L.quiets link.old }
     ensures failed_gots { result ≡ Err LinkFault.Failed → L.gots link.new ≡ L.gots link.old }
     ensures held { L.held link.old ≤ L.held link.new }
-    ensures opening { opening_of (L.telling link.new) ≡ opening_of (L.telling link.old) }
+    ensures board { board_of (L.telling link.new) ≡ board_of (L.telling link.old) }
 {
     each_event_leads_to_a_state_of_a_run();
     a_link_forgets_nothing();

@@ -16,7 +16,7 @@ ghost use Rattle.hub_lane.specs.Plans.{CanPlan, IsRefused, Plans};
 ghost use Rattle.hub_lane.specs.Hearing.{gots_of, quiets_of};
 ghost use Rattle.hub_lane.specs.Calls.{AsksAs, IsReplyAt, IsSameRecord, IsSpent, PumpsAs, TakesAs, WasAsked};
 ghost use Rattle.hub_lane.specs.Calls.{is_lost_at_place, is_replied, sealed};
-ghost use Rattle.hub_lane.specs.Lanes.{IsGreeted, IsLane, opened, opening_of, status_of};
+ghost use Rattle.hub_lane.specs.Lanes.{IsGreeted, IsLane, board_of, opened, opening_of, status_of};
 
 use crate::answers::{Asked, PlanRefusal, Pumped, Taken};
 use crate::book::Book;
@@ -263,6 +263,7 @@ impl<L: Link> Lane<L> {
         ensures gots { IfOk result (λ pumped. L.gots self.new.link ≡ gots_of pumped (L.gots self.old.link)) }
         ensures gots_rise { L.gots self.old.link ≤ L.gots self.new.link }
         ensures held { L.held self.old.link ≤ L.held self.new.link }
+        ensures board { board_of (L.telling self.new.link) ≡ board_of (L.telling self.old.link) }
         // So the head of its record stays.
         ensures opening { opening_of (L.telling self.new.link) ≡ opening_of (L.telling self.old.link) }
     {

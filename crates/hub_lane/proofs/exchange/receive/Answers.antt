@@ -5,7 +5,7 @@ use Rattle.world_core.specs.Telling.{IfTelling, Receives}
 use Rattle.world_model.specs.Messages.{to_hub}
 use Rattle.hub_lane.specs.Hearing.{IsHeardAs}
 use Rattle.hub_lane.specs.Standing.{GoesOn}
-use Rattle.hub_lane.proofs.Linked.{fault_on, got_on, quiet_on, received_opening, unheard_on, was_received}
+use Rattle.hub_lane.proofs.Linked.{fault_on, got_on, quiet_on, received_board, unheard_on, was_received}
 use Rattle.hub_lane.proofs.exchange.receive.Goals as goal
 
 pub returns-in_err-receive-clause-running : goal.returns-in_err-receive-clause-running
@@ -74,22 +74,22 @@ returns-in-Quiet-clause-running g c =
     (held c.args.link.now) (held c.receive.new.self) (telling c.args.link.now)
     (telling c.receive.new.self) c.requires.none c.requires.drained c.requires.waits quiet)
 
-pub returns-in_err-receive-clause-opening : goal.returns-in_err-receive-clause-opening
-returns-in_err-receive-clause-opening g c = received_opening c.a_link_forgets_nothing.ensures.board c.receive.result
+pub returns-in_err-receive-clause-board : goal.returns-in_err-receive-clause-board
+returns-in_err-receive-clause-board g c = received_board c.a_link_forgets_nothing.ensures.board c.receive.result
     c.receive.new.into.items (g.L.Link.held c.args.link.now) (g.L.Link.held c.receive.new.self)
     (g.L.Link.telling c.args.link.now) (g.L.Link.telling c.receive.new.self) c.receive.ensures.received
 
-pub returns-in_err-hear-in-Got-clause-opening : goal.returns-in_err-hear-in-Got-clause-opening
-returns-in_err-hear-in-Got-clause-opening g c = received_opening c.a_link_forgets_nothing.ensures.board c.receive.result
+pub returns-in_err-hear-in-Got-clause-board : goal.returns-in_err-hear-in-Got-clause-board
+returns-in_err-hear-in-Got-clause-board g c = received_board c.a_link_forgets_nothing.ensures.board c.receive.result
     c.receive.new.into.items (g.L.Link.held c.args.link.now) (g.L.Link.held c.receive.new.self)
     (g.L.Link.telling c.args.link.now) (g.L.Link.telling c.receive.new.self) c.receive.ensures.received
 
-pub returns-in_ok-hear-in-Got-clause-opening : goal.returns-in_ok-hear-in-Got-clause-opening
-returns-in_ok-hear-in-Got-clause-opening g c = received_opening c.a_link_forgets_nothing.ensures.board c.receive.result
+pub returns-in_ok-hear-in-Got-clause-board : goal.returns-in_ok-hear-in-Got-clause-board
+returns-in_ok-hear-in-Got-clause-board g c = received_board c.a_link_forgets_nothing.ensures.board c.receive.result
     c.receive.new.into.items (g.L.Link.held c.args.link.now) (g.L.Link.held c.receive.new.self)
     (g.L.Link.telling c.args.link.now) (g.L.Link.telling c.receive.new.self) c.receive.ensures.received
 
-pub returns-in-Quiet-clause-opening : goal.returns-in-Quiet-clause-opening
-returns-in-Quiet-clause-opening g c = received_opening c.a_link_forgets_nothing.ensures.board c.receive.result
+pub returns-in-Quiet-clause-board : goal.returns-in-Quiet-clause-board
+returns-in-Quiet-clause-board g c = received_board c.a_link_forgets_nothing.ensures.board c.receive.result
     c.receive.new.into.items (g.L.Link.held c.args.link.now) (g.L.Link.held c.receive.new.self)
     (g.L.Link.telling c.args.link.now) (g.L.Link.telling c.receive.new.self) c.receive.ensures.received

@@ -2,7 +2,7 @@ use Rattle.std.proofs.Common.{◌∙◌, ℕ, List, subst, sym, arith}
 use Rattle.world_model.specs.Sends.{Next}
 use Rattle.world_core.specs.Telling.{IfTelling, IsSent}
 use Rattle.hub_lane.proofs.Sends.{all_out, next_is, none_is, one_less, same_hub, sent_more}
-use Rattle.hub_lane.proofs.Linked.{sent_on, sent_opening, still_spelled}
+use Rattle.hub_lane.proofs.Linked.{sent_on, sent_board, still_spelled}
 use Rattle.hub_lane.proofs.exchange.send_all.Goals as goal
 
 pub returns-in_err-bytes-clause-some : goal.returns-in_err-bytes-clause-some
@@ -39,7 +39,7 @@ loop-send-preserved g c =
       fault = (let a = before.invariant.fault in let b = c.send.ensures.faults in omega (arith, a, b));
       quiet = c.send.ensures.quiets ∙ before.invariant.quiet;
       got = c.send.ensures.gots ∙ before.invariant.got;
-      opening = sent_opening _ _ _ _ _ call ∙ before.invariant.opening;
+      board = sent_board _ _ _ _ _ call ∙ before.invariant.board;
       hold = (let a = before.invariant.hold in let b = c.send.ensures.held in omega (arith, a, b));
     }
 
