@@ -3,3 +3,5 @@ mod Turns
 mod Only
 mod Sends
 mod OwnPlaces
+pub mod Merging
+mod PlacesShown

@@ -6,10 +6,12 @@ use Rattle.std.proofs.lemmas.List.{map-append}
 use Rattle.board_bus.specs.Cells.{CellMap}
 use Rattle.board_bus.specs.Bodies.{run_body, replay}
 use Rattle.board_bus.proofs.Bodies.{replay-append-replies}
-use Rattle.transcript.specs.declared.outcome.Outcome.{Outcome}
-use Rattle.transcript.specs.declared.outcome.Outcome.TheVariants.{Replied, TimedOut, Unsent, LinkLost}
-use Rattle.board_history.specs.Order.{Placed, placed, all_placed, order, places_of, bodies_of, CountsFrom}
-use Rattle.board_history.specs.Parts.{at_place, IsReplyOf, IsReplied, AllReplied}
+use Rattle.lane_record.specs.declared.outcome.Outcome.{Outcome}
+use Rattle.lane_record.specs.declared.outcome.Outcome.TheVariants.{Replied, TimedOut, Unsent, LinkLost}
+use Rattle.lane_record.specs.Lists.{CountsFrom}
+use Rattle.board_history.specs.Order.{Placed, placed, all_placed, order, places_of, bodies_of}
+use Rattle.world_model.specs.Places.{at_place}
+use Rattle.board_history.specs.Parts.{IsReplyOf, IsReplied, AllReplied}
 use Rattle.board_history.specs.InTurn.{outcomes_from, in_turn, AreInTurn}
 use Rattle.board_history.specs.History.{IsHistory}
 use Rattle.board_history.proofs.Sorting.{sorted_again}
@@ -17,7 +19,7 @@ use Rattle.board_history.proofs.Turns.{all_of, reply_at, one_later, behind, repl
 
 -- ---- where all are replied to, the bodies that have a place are all of them
 
-client_placed : (bodies : List (List ℕ)) (outcomes : List Outcome) → length outcomes ≡ length bodies
+pub client_placed : (bodies : List (List ℕ)) (outcomes : List Outcome) → length outcomes ≡ length bodies
     → AllByRecursion IsReplied outcomes
     → bodies_of (placed bodies outcomes) ≡ bodies
 client_placed [] outcomes e all = refl

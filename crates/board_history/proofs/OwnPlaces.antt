@@ -5,15 +5,16 @@ use Rattle.std.specs.Prelude.{nat_le}
 use Rattle.std.specs.List.{AllByRecursion, slice_get, zip}
 use Rattle.std.proofs.lemmas.Option.{same_Some}
 use Rattle.ipb_base.proofs.AllLemmas.{front_of_all, back_of_all, all-map}
-use Rattle.transcript.specs.declared.outcome.Outcome.{Outcome}
+use Rattle.lane_record.specs.declared.outcome.Outcome.{Outcome}
 use Rattle.transcript.specs.declared.body_end.BodyEnd.{BodyEnd}
 use Rattle.transcript.specs.declared.board_run.ClientPart.{ClientPart}
-use Rattle.transcript.specs.Ends.{place_of, end_of, ends_of}
+use Rattle.lane_record.specs.Outcomes.{place_of}
+use Rattle.transcript.specs.Ends.{end_of, ends_of}
 use Rattle.transcript.specs.Claims.{Rises, HaveOwnPlaces}
 use Rattle.board_history.specs.Order.{Placed, with_place, placed, all_placed, insert, by_place, order, places_of}
-use Rattle.board_history.specs.Order.{CountsFrom}
+use Rattle.lane_record.specs.Lists.{CountsFrom}
 use Rattle.board_history.specs.Parts.{HasOneOrder}
-use Rattle.board_history.proofs.Sorting.{either, IsAbove, counts_above}
+use Rattle.board_history.proofs.Sorting.{either, IsAbove, counts_above, inserted_all, sorted_all}
 
 abbrev pub IsApart : Placed → Placed → Type 0
 IsApart p q = p.place ≢ q.place
@@ -32,21 +33,6 @@ counting_apart k (p ∷ ps) c = (
 )
 
 -- ---- and so does what was sorted
-
-inserted_all : (P : Placed → Type 0) (x : Placed) (ys : List Placed) → AllByRecursion P (insert x ys)
-    → P x × AllByRecursion P ys
-inserted_all P x [] = λ all. all
-inserted_all P x (y ∷ ys) =
-    either (λ (r : List Placed). AllByRecursion P r → P x × AllByRecursion P (y ∷ ys)) (nat_le x.place y.place)
-    (x ∷ (y ∷ ys)) (y ∷ insert x ys)
-    (λ _ all. all)
-    (λ _ all. let later = inserted_all P x ys all.1 in (later.0, (all.0, later.1)))
-
-sorted_all : (P : Placed → Type 0) (ps : List Placed) → AllByRecursion P (by_place ps) → AllByRecursion P ps
-sorted_all P [] all = tt
-sorted_all P (p ∷ ps) all =
-    let both = inserted_all P p (by_place ps) all in
-    (both.0, sorted_all P ps both.1)
 
 inserted_apart : (x : Placed) (ys : List Placed) → AreApart (insert x ys) → AllByRecursion (IsApart x) ys × AreApart ys
 inserted_apart x [] = λ apart. apart

@@ -4,7 +4,8 @@ use Rattle.std.proofs.Common.{arith}
 use Rattle.std.specs.Prelude.{nat_le}
 use Rattle.std.specs.List.{AllByRecursion}
 use Rattle.std.proofs.lemmas.Bool.Decides.{nat_tests}
-use Rattle.board_history.specs.Order.{Placed, insert, by_place, places_of, CountsFrom}
+use Rattle.lane_record.specs.Lists.{CountsFrom}
+use Rattle.board_history.specs.Order.{Placed, insert, by_place, places_of}
 
 pub either : {A : Type 0} (P : A → Type 0) (b : Bool) (x y : A) → (b ≡ true → P x) → (b ≡ false → P y) → P (cond b x y)
 either P true x y f g = f refl
@@ -45,3 +46,30 @@ insert_length x (y ∷ ys) = either (λ (r : List Placed). length r ≡ suc (len
 pub sorted_length : (ps : List Placed) → length (by_place ps) ≡ length ps
 sorted_length [] = refl
 sorted_length (p ∷ ps) = insert_length p (by_place ps) ∙ ap suc (sorted_length ps)
+
+-- ---- what holds of each before sorting, and after
+
+pub inserted_all : (P : Placed → Type 0) (x : Placed) (ys : List Placed) → AllByRecursion P (insert x ys)
+    → P x × AllByRecursion P ys
+inserted_all P x [] = λ all. all
+inserted_all P x (y ∷ ys) =
+    either (λ (r : List Placed). AllByRecursion P r → P x × AllByRecursion P (y ∷ ys)) (nat_le x.place y.place)
+    (x ∷ (y ∷ ys)) (y ∷ insert x ys)
+    (λ _ all. all)
+    (λ _ all. let later = inserted_all P x ys all.1 in (later.0, (all.0, later.1)))
+
+pub sorted_all : (P : Placed → Type 0) (ps : List Placed) → AllByRecursion P (by_place ps) → AllByRecursion P ps
+sorted_all P [] all = tt
+sorted_all P (p ∷ ps) all =
+    let both = inserted_all P p (by_place ps) all in
+    (both.0, sorted_all P ps both.1)
+
+insert_all : (P : Placed → Type 0) (x : Placed) (ys : List Placed) → P x → AllByRecursion P ys
+    → AllByRecursion P (insert x ys)
+insert_all P x [] p all = (p, tt)
+insert_all P x (y ∷ ys) p all = either (AllByRecursion P) (nat_le x.place y.place) (x ∷ (y ∷ ys)) (y ∷ insert x ys)
+    (λ _. (p, all)) (λ _. (all.0, insert_all P x ys p all.1))
+
+pub all_sorted : (P : Placed → Type 0) (ps : List Placed) → AllByRecursion P ps → AllByRecursion P (by_place ps)
+all_sorted P [] all = tt
+all_sorted P (p ∷ ps) all = insert_all P p (by_place ps) all.0 (all_sorted P ps all.1)

@@ -6,8 +6,10 @@ use Rattle.std.proofs.lemmas.List.{map-append}
 use Rattle.board_bus.specs.Cells.{CellMap}
 use Rattle.board_bus.specs.Bodies.{run_body, replay}
 use Rattle.board_bus.proofs.Bodies.{replay-append-replies, replay-length}
-use Rattle.board_history.specs.Order.{Placed, placed, all_placed, order, places_of, bodies_of, CountsFrom, RisesFrom}
-use Rattle.board_history.specs.Parts.{at_place, KeepsScripts, IsReplyOf, IsExecuted, IsReplied, AllReplied}
+use Rattle.lane_record.specs.Lists.{CountsFrom}
+use Rattle.board_history.specs.Order.{Placed, placed, all_placed, order, places_of, bodies_of, RisesFrom}
+use Rattle.world_model.specs.Places.{at_place}
+use Rattle.board_history.specs.Parts.{KeepsScripts, IsReplyOf, IsExecuted, IsReplied, AllReplied}
 use Rattle.board_history.specs.InTurn.{outcomes_from, in_turn}
 use Rattle.board_history.proofs.Sorting.{sorted_again}
 

@@ -1,7 +1,8 @@
 -- What a run may show of one board: one legal history. Profile.
 use Rattle.std.specs.Prelude.{◌≡◌, ℕ, List, map, length}
 use Rattle.board_bus.specs.Cells.{CellMap}
-use Rattle.transcript.specs.declared.outcome.Outcome.{Outcome}
+use Rattle.mtu_packer.specs.Packed.{deal}
+use Rattle.lane_record.specs.declared.outcome.Outcome.{Outcome}
 use Rattle.transcript.specs.declared.board_run.ClientPart.{ClientPart}
 use Rattle.transcript.specs.declared.board_run.BoardRun.{BoardRun}
 use Rattle.board_history.specs.Order.{order}
@@ -26,6 +27,18 @@ bodies_by_client run = map (λ (part : ClientPart). part.planned.bodies) run.par
 abbrev pub outcomes_by_client : BoardRun → List (List Outcome)
 outcomes_by_client run = map (λ (part : ClientPart). part.outcomes) run.parts
 
+-- the same, dispatch by dispatch
+abbrev pub dispatches_of : ClientPart → List (List Outcome)
+dispatches_of part = deal part.planned.counts part.outcomes
+
+abbrev pub dispatches_by_client : BoardRun → List (List (List Outcome))
+dispatches_by_client run = map dispatches_of run.parts
+
 -- What a run shows of a board that opened with this bus is one history.
 abbrev pub ShowsHistory : CellMap → BoardRun → Type 0
 ShowsHistory opening run = IsHistory opening (bodies_by_client run) (outcomes_by_client run)
+
+-- Each body of each client has an outcome, and the places are 1, 2, 3, .., each of one body.
+pub record IsOrdered (run : BoardRun) : Type 0 where
+  pub shape : map length (outcomes_by_client run) ≡ map length (bodies_by_client run)
+  pub one_order : HasOneOrder (bodies_by_client run) (outcomes_by_client run)

@@ -2,9 +2,10 @@
 use Rattle.std.specs.Prelude.{ℕ, ◌+◌, List, [], ◌∷◌, length}
 use Rattle.board_bus.specs.Cells.{CellMap}
 use Rattle.board_bus.specs.Bodies.{run_body, replay}
-use Rattle.transcript.specs.declared.outcome.Outcome.{Outcome}
-use Rattle.transcript.specs.declared.outcome.Outcome.TheVariants.{Replied}
-use Rattle.board_history.specs.Order.{all_placed, places_of, CountsFrom}
+use Rattle.lane_record.specs.declared.outcome.Outcome.{Outcome}
+use Rattle.lane_record.specs.declared.outcome.Outcome.TheVariants.{Replied}
+use Rattle.lane_record.specs.Lists.{CountsFrom}
+use Rattle.board_history.specs.Order.{all_placed, places_of}
 
 -- What becomes of a client's bodies that are executed one after another from this place on, on this bus: each is
 -- replied to, with the words that the bus gives.

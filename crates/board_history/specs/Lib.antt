@@ -2,3 +2,6 @@ pub mod Order
 pub mod Parts
 pub mod InTurn
 pub mod History
+pub mod Patience
+pub mod Merges
+pub mod Examples

@@ -1,8 +1,8 @@
 -- The one order of a board: the bodies that were sent, by place. A place is the number of a body, from 1, among the
 -- first sends to its board. Profile.
-use Rattle.std.specs.Prelude.{◌≡◌, ℕ, ◌+◌, ◌≤◌, nat_le, if◌then◌else◌, List, [], ◌∷◌, ◌++◌, map, Option, Some, None}
-use Rattle.transcript.specs.declared.outcome.Outcome.{Outcome}
-use Rattle.transcript.specs.Ends.{place_of}
+use Rattle.std.specs.Prelude.{ℕ, ◌+◌, ◌≤◌, nat_le, if◌then◌else◌, List, [], ◌∷◌, ◌++◌, map, Option, Some, None}
+use Rattle.lane_record.specs.declared.outcome.Outcome.{Outcome}
+use Rattle.lane_record.specs.Outcomes.{place_of}
 
 -- a body at its place
 pub record Placed : Type 0 where
@@ -44,11 +44,6 @@ places_of order = map (λ (p : Placed). p.place) order
 
 abbrev pub bodies_of : List Placed → List (List ℕ)
 bodies_of order = map (λ (p : Placed). p.body) order
-
--- k, k + 1, k + 2, ..
-abbrev pub CountsFrom : ℕ → List ℕ → Type 0
-CountsFrom k [] = Unit {0}
-CountsFrom k (n ∷ ns) = (n ≡ k) × CountsFrom (k + 1) ns
 
 -- each is greater than the one before, and the first is at least k
 abbrev pub RisesFrom : ℕ → List ℕ → Type 0

@@ -1,17 +1,14 @@
 -- What holds of the order of a board, part by part. Profile.
-use Rattle.std.specs.Prelude.{◌≡◌, ℕ, zero, suc, ◌≤◌, List, [], ◌∷◌, length, Option, Some, None}
-use Rattle.std.specs.List.{AllByRecursion, slice_get}
+use Rattle.std.specs.Prelude.{◌≡◌, ℕ, ◌≤◌, List, [], ◌∷◌, length, Some}
+use Rattle.std.specs.List.{AllByRecursion}
 use Rattle.ipb_base.specs.Lists.{IsPrefix}
 use Rattle.board_bus.specs.Cells.{CellMap}
 use Rattle.board_bus.specs.Bodies.{replay}
-use Rattle.transcript.specs.declared.outcome.Outcome.{Outcome}
-use Rattle.transcript.specs.declared.outcome.Outcome.TheVariants.{Replied, TimedOut, Unsent, LinkLost}
-use Rattle.board_history.specs.Order.{Placed, placed, order, places_of, bodies_of, CountsFrom, RisesFrom}
-
--- what stands at a place, counted from 1
-abbrev pub at_place : {A : Type 0} → List A → ℕ → Option A
-at_place xs zero = None
-at_place xs (suc k) = slice_get xs k
+use Rattle.lane_record.specs.declared.outcome.Outcome.{Outcome}
+use Rattle.lane_record.specs.declared.outcome.Outcome.TheVariants.{Replied, TimedOut, Unsent, LinkLost}
+use Rattle.lane_record.specs.Lists.{CountsFrom}
+use Rattle.world_model.specs.Places.{at_place}
+use Rattle.board_history.specs.Order.{Placed, placed, order, places_of, bodies_of, RisesFrom}
 
 -- The places on a board are 1, 2, 3, .. up to the number of bodies sent, and each belongs to one body.
 abbrev pub HasOneOrder : List (List (List ℕ)) → List (List Outcome) → Type 0

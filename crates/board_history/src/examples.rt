@@ -1,11 +1,15 @@
-//! A history worked by hand. This function does nothing when it runs: its clauses are what is proved, by computing the
-//! definitions.
+//! Histories worked by hand, and runs that are none. These functions do nothing when they run: their clauses are what
+//! is proved, by computing the definitions.
 
 ghost use Rattle.std.specs.Prelude.{◌≡◌, ℕ, List, ◌∷◌, []};
 ghost use Rattle.board_bus.specs.declared.kind.RangeKind.TheVariants.{Rw};
 ghost use Rattle.board_bus.specs.Ranges.{opening_bus};
-ghost use Rattle.transcript.specs.declared.outcome.Outcome.TheVariants.{Replied};
+ghost use Rattle.lane_record.specs.declared.outcome.Outcome.TheVariants.{Replied, TimedOut};
 ghost use Rattle.board_history.specs.Order.{order};
+ghost use Rattle.board_history.specs.Parts.{AreRepliesOf, HasOneOrder, IsExecutedOnce, KeepsScripts};
+ghost use Rattle.board_history.specs.History.{IsHistory};
+ghost use Rattle.board_history.specs.Patience.{IsPatient};
+ghost use Rattle.board_history.specs.Examples.{one_client, one_read, read_body, reads_at, seven, two_clients};
 ghost use Rattle.board_history.specs.InTurn.{in_turn};
 
 /// Client 1 writes 5 to the register at address 0 and then reads it; client 2 adds 1 to it. In turn client 2's body has
@@ -23,4 +27,20 @@ pub fn two_clients_and_one_register()
         ≡ record { place = 1; body = 0x2000015f ∷ 0 ∷ 1 ∷ [] }
         ∷ record { place = 2; body = 0x2000011f ∷ 0 ∷ 5 ∷ [] }
         ∷ record { place = 3; body = 0x2000010f ∷ 0 ∷ [] } ∷ [] }
+{}
+
+/// Runs of one register that opens with 7, which clients read: no history has a place of two bodies, a place left out,
+/// a script turned round, a body executed twice, a reply of a body that was not executed, or the reply of another bus;
+/// and no hub is patient that times a body out too soon. The last clause is the history that it should have been.
+pub fn wrong_runs_are_refused()
+    ensures two_at_one_place { HasOneOrder two_clients ((reads_at 1 7 ∷ []) ∷ (reads_at 1 7 ∷ []) ∷ []) → ⊥ }
+    ensures place_left_out { HasOneOrder one_client ((reads_at 2 7 ∷ []) ∷ []) → ⊥ }
+    ensures script_turned_round { KeepsScripts ((read_body ∷ read_body ∷ []) ∷ [])
+        ((reads_at 2 7 ∷ reads_at 1 7 ∷ []) ∷ []) → ⊥ }
+    ensures executed_twice { IsExecutedOnce (order one_client one_read) one_read (read_body ∷ read_body ∷ []) → ⊥ }
+    ensures never_executed { IsExecutedOnce (order one_client one_read) one_read [] → ⊥ }
+    ensures another_bus { AreRepliesOf seven (order one_client ((reads_at 1 8 ∷ []) ∷ []))
+        ((reads_at 1 8 ∷ []) ∷ []) → ⊥ }
+    ensures timed_out_too_soon { IsPatient 4 3 2 (((TimedOut 1 2 ∷ []) ∷ []) ∷ []) → ⊥ }
+    ensures right { IsHistory seven one_client one_read }
 {}

@@ -3,15 +3,17 @@
 ghost use Rattle.std.specs.Prelude.{◌≡◌, ℕ, List, map, length};
 ghost use Rattle.std.specs.List.{flat_map};
 ghost use Rattle.board_bus.specs.Cells.{CellMap};
-ghost use Rattle.transcript.specs.declared.outcome.Outcome.{Outcome};
+ghost use Rattle.lane_record.specs.declared.outcome.Outcome.{Outcome};
 ghost use Rattle.transcript.specs.declared.board_run.BoardRun.{BoardRun};
-ghost use Rattle.transcript.specs.Lines.{is_sent, outcomes_on};
+ghost use Rattle.lane_record.specs.Outcomes.{is_sent};
+ghost use Rattle.transcript.specs.Lines.{outcomes_on};
 ghost use Rattle.transcript.specs.declared.board_run.ClientPart.{ClientPart};
 ghost use Rattle.transcript.specs.Ends.{ends_of};
 ghost use Rattle.transcript.specs.Claims.{HaveOwnPlaces};
 ghost use Rattle.std.specs.List.{AllByRecursion, count_by};
 ghost use Rattle.board_history.specs.Order.{bodies_of, order};
-ghost use Rattle.board_history.specs.Parts.{AllReplied, HasOneOrder, IsExecutedOnce};
+ghost use Rattle.board_history.specs.Parts.{AllReplied, HasOneOrder, IsExecutedOnce, KeepsScripts};
+ghost use Rattle.board_history.specs.Merges.{IsMergeOfAll, IsMergeOfSome};
 ghost use Rattle.board_history.specs.InTurn.{AreInTurn, in_turn};
 ghost use Rattle.board_history.specs.History.{IsHistory, bodies_by_client, outcomes_by_client};
 
@@ -50,4 +52,16 @@ pub fn the_first_sends_are_the_order()
 pub fn each_body_has_its_own_place()
     ensures { (run : BoardRun) → HasOneOrder (bodies_by_client run) (outcomes_by_client run) →
         AllByRecursion (λ (part : ClientPart). HaveOwnPlaces (ends_of part)) run.parts }
+{}
+
+/// What a board executed is a merge of subsequences, one of each client's bodies. Where each body was replied to it is
+/// the whole order, and a merge of all bodies of all clients.
+pub fn what_was_executed_is_a_merge()
+    ensures some { (bodies : List (List (List ℕ))) (outcomes : List (List Outcome)) (executed : List (List ℕ)) →
+        map length outcomes ≡ map length bodies → KeepsScripts bodies outcomes →
+        IsExecutedOnce (order bodies outcomes) outcomes executed → IsMergeOfSome bodies executed }
+    ensures all { (bodies : List (List (List ℕ))) (outcomes : List (List Outcome)) (executed : List (List ℕ)) →
+        map length outcomes ≡ map length bodies → HasOneOrder bodies outcomes → KeepsScripts bodies outcomes →
+        AllReplied outcomes → IsExecutedOnce (order bodies outcomes) outcomes executed →
+        IsMergeOfAll bodies executed }
 {}

@@ -18,12 +18,13 @@ use Rattle.board_bus.specs.Cells.{CellMap, HoldsWords}
 use Rattle.board_bus.specs.Bodies.{run_body, replay}
 use Rattle.board_node.specs.declared.spec.BoardSpec.{BoardSpec}
 use Rattle.script_lang.specs.declared.operation.Step.{Step}
-use Rattle.transcript.specs.declared.outcome.Outcome.{Outcome}
-use Rattle.transcript.specs.declared.outcome.Outcome.TheVariants.{Replied}
+use Rattle.lane_record.specs.declared.outcome.Outcome.{Outcome}
+use Rattle.lane_record.specs.declared.outcome.Outcome.TheVariants.{Replied}
 use Rattle.transcript.specs.declared.board_run.ClientPart.{ClientPart}
 use Rattle.transcript.specs.declared.board_run.BoardRun.{BoardRun}
 use Rattle.transcript.specs.Plan.{ClientBodies, AreSpelled}
-use Rattle.transcript.specs.Ends.{place_of, told_of, end_of, told_by}
+use Rattle.lane_record.specs.Outcomes.{place_of}
+use Rattle.transcript.specs.Ends.{told_of, end_of, told_by}
 use Rattle.board_history.specs.InTurn.{outcomes_from}
 use Rattle.direct_run.specs.Runs.{parts_in_turn, plans_on, greeting_of, opening_of, board_run}
 use Rattle.direct_run.specs.Answering.{IsAnswered, AreAnswered, AsksRequests, AskRequests, OpensWithWords}
@@ -115,7 +116,7 @@ module _ (answering : Answering) (any : AnsweringAny) (keeping : Keeping) (keepi
         found = is;
       }
 
-  body_told : (place : ℕ) (cells : CellMap) (body : List ℕ) → HoldsWords cells → SpellsRequests body
+  pub body_told : (place : ℕ) (cells : CellMap) (body : List ℕ) → HoldsWords cells → SpellsRequests body
       → IsTold body (Replied place (run_body cells body).reply)
   body_told place cells body holds spelled =
       let asked = spelled_words body spelled in

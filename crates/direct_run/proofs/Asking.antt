@@ -23,7 +23,8 @@ use Rattle.transcript.specs.declared.planned.PieceAt.{PieceAt}
 use Rattle.transcript.specs.Plan.{ClientBodies, no_bodies, moved, begun, dispatches, operations, ops_on, plan}
 use Rattle.transcript.specs.Plan.{with_dispatch, all_dispatches}
 use Rattle.transcript.specs.Lines.{count_on}
-use Rattle.direct_run.specs.Lines.{IsRmw, ArePacked}
+use Rattle.script_lang.specs.Executable.{IsRmw}
+use Rattle.direct_run.proofs.Readiness.{ArePacked}
 
 -- ---- two lists, item by item
 
@@ -55,7 +56,7 @@ both_map R S f [] (y ∷ ys) g both = absurd both
 both_map R S f (x ∷ xs) [] g both = absurd both
 both_map R S f (x ∷ xs) (y ∷ ys) g both = (g x y both.0, both_map R S f xs ys g both.1)
 
-both_same : {A B : Type 0} (R S : A → B → Type 0) (xs : List A) (ys : List B)
+pub both_same : {A B : Type 0} (R S : A → B → Type 0) (xs : List A) (ys : List B)
     → ((x : A) (y : B) → R x y → S x y) → Both R xs ys → Both S xs ys
 both_same R S [] [] g both = tt
 both_same R S [] (y ∷ ys) g both = absurd both

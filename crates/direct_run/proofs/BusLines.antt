@@ -1,10 +1,11 @@
--- Where nothing is lost, each line shows what the bus answered.
-use Rattle.std.proofs.Common.{◌≡◌, ℕ, zero, suc, ◌+◌, ◌<◌, List, [], ◌∷◌, ◌++◌, map, Some, None, refl, sym, ap}
+-- Each line shows a result of an allowed kind: where nothing is lost, what the bus answered.
+use Rattle.std.proofs.Common.{◌≡◌, ◌⊎◌, ℕ, zero, suc, ◌+◌, ◌<◌, List, [], ◌∷◌, ◌++◌, map, Some, None, refl, sym, ap}
 use Rattle.std.proofs.Common.{◌∙◌, subst, inl, inr, arith, append_assoc}
 use Rattle.std.specs.List.{AllByRecursion, slice_get}
 use Rattle.std.specs.Option.{option_map}
 use Rattle.std.proofs.lemmas.Option.{same_Some, slice_get_cases, slice_get-map}
 use Rattle.std.proofs.lemmas.List.{length-map}
+use Rattle.ipb_base.proofs.AllLemmas.{all-map}
 use Rattle.board_node.specs.declared.spec.BoardSpec.{BoardSpec}
 use Rattle.board_node.specs.declared.spec.LinkSpec.{LinkSpec}
 use Rattle.board_node.specs.declared.spec.LinkSpec.TheVariants.{Sim, Udp}
@@ -13,28 +14,43 @@ use Rattle.transaction_codec.specs.declared.request.Op.{Op}
 use Rattle.script_lang.specs.declared.operation.RegOp.{RegOp}
 use Rattle.script_lang.specs.declared.operation.Step.{Step}
 use Rattle.transcript.specs.declared.planned.PieceAt.{PieceAt}
-use Rattle.transcript.specs.declared.outcome.Greeting.{Greeting}
-use Rattle.transcript.specs.declared.outcome.Greeting.TheVariants.{Live}
+use Rattle.transcript.specs.declared.greeting.Greeting.{Greeting}
+use Rattle.transcript.specs.declared.greeting.Greeting.TheVariants.{Live, Silent, Down}
 use Rattle.transcript.specs.declared.board_run.ClientPart.{ClientPart}
 use Rattle.transcript.specs.declared.board_run.BoardRun.{BoardRun}
+use Rattle.transcript.specs.declared.line.OpResult.{OpResult}
+use Rattle.transcript.specs.declared.line.OpResult.TheVariants.{Unsent, LinkLost}
+use Rattle.transcript.specs.declared.line.OpLine.{OpLine}
+use Rattle.lane_record.specs.declared.outcome.Outcome.{Outcome}
 use Rattle.transcript.specs.Plan.{ClientBodies, operations, ops_on, plan, planned_on, all_dispatches}
 use Rattle.transcript.specs.Ends.{ends_of, piece_result}
 use Rattle.transcript.specs.Lines.{showing, by_pieces, count_on, lines_behind, lines_from}
 use Rattle.direct_run.specs.Runs.{RunsHere, IsRun, AreRuns, greeting_of, plans_on}
 use Rattle.direct_run.specs.Answering.{AskRequests}
-use Rattle.direct_run.specs.Lines.{IsBusResult, IsBusLine, KeepsVerb, KeepVerbs, ArePacked, ArePackedFor, IsReady}
-use Rattle.direct_run.specs.Lines.{AreReady}
-use Rattle.direct_run.proofs.Asking.{both_at, all_at, AreAsked, plan_asked, op_at}
-use Rattle.direct_run.proofs.Answering.{ToldPart}
-use Rattle.direct_run.proofs.BusResults.{Fits, combined_bus}
+use Rattle.direct_run.specs.Lines.{IsBusResult, IsBusLine}
+use Rattle.direct_run.proofs.Readiness.{KeepsVerb, KeepVerbs, ArePacked, ArePackedFor, IsReady, AreReady}
+use Rattle.direct_run.proofs.Asking.{Both, both_at, both_same, all_at, AreAsked, plan_asked, op_at}
+use Rattle.direct_run.proofs.Answering.{IsTold, ToldPart}
+use Rattle.direct_run.proofs.BusResults.{AllowsBus, Fits, IsFine, combined_allowed}
 
 -- ---- a run
 
-pub record Shows (board payload : ℕ) (scripts : List (List Step)) (run : BoardRun) : Type 0 where
+-- each body of a client was told its answers, or what is told of it is allowed
+abbrev pub FinePart : (OpResult → Type 0) → ClientPart → Type 0
+FinePart P part = Both (IsFine P) part.planned.bodies part.outcomes
+
+pub record Shows (P : OpResult → Type 0) (board payload : ℕ) (scripts : List (List Step)) (run : BoardRun)
+    : Type 0 where
   pub live : run.greeting ≡ Live payload
   pub plans' : map (λ (p : ClientPart). p.planned) run.parts ≡ plans_on board (Live payload) scripts
-  pub told : AllByRecursion ToldPart run.parts
+  pub told : AllByRecursion (FinePart P) run.parts
   pub packed' : AllByRecursion (ArePacked payload board) scripts
+
+-- A live board shows so; of one that is not live no body was sent, or its link was lost, which is allowed.
+abbrev pub CanShow : (OpResult → Type 0) → ℕ → List (List Step) → BoardRun → Type 0
+CanShow P board scripts run =
+    ((payload : ℕ) × Shows P board payload scripts run)
+    ⊎ (((run.greeting ≡ Silent) × P Unsent) ⊎ ((run.greeting ≡ Down) × P LinkLost))
 
 live_of : (link : LinkSpec) → RunsHere link → (payload : ℕ) × (greeting_of link ≡ Live payload)
 live_of (Sim mtu buffers first ranges fates) here = (payload_of mtu, refl)
@@ -46,13 +62,19 @@ Telling = (spec : BoardSpec) (board : ℕ) (scripts : List (List Step)) (run : B
     → IsReady spec board scripts → AskRequests run → AllByRecursion ToldPart run.parts
 
 -- what the pieces of an operation came to
-abbrev pub Fitting : Type 0
-Fitting = (part : ClientPart) (op : Op) (pieces : List PieceAt) → ToldPart part
-    → AreAsked part.planned.bodies op pieces → AllByRecursion (Fits op) (map (piece_result (ends_of part)) pieces)
+abbrev pub Fitting : (OpResult → Type 0) → Type 0
+Fitting P = (part : ClientPart) (op : Op) (pieces : List PieceAt) → FinePart P part
+    → AreAsked part.planned.bodies op pieces
+    → AllByRecursion (Fits P op) (map (piece_result (ends_of part)) pieces)
+
+told_fine : (bodies : List (List ℕ)) (outcomes : List Outcome) → Both IsTold bodies outcomes
+    → Both (IsFine IsBusResult) bodies outcomes
+told_fine bodies outcomes told =
+    both_same IsTold (IsFine IsBusResult) bodies outcomes (λ body outcome is. inl is) told
 
 run_shows : Telling → (spec : BoardSpec) (board : ℕ) (scripts : List (List Step)) (run : BoardRun)
     → IsRun spec board scripts run
-    → IsReady spec board scripts → AskRequests run → (payload : ℕ) × Shows board payload scripts run
+    → IsReady spec board scripts → AskRequests run → (payload : ℕ) × Shows IsBusResult board payload scripts run
 run_shows telling spec board scripts run is ready asks =
     let live = live_of spec.link ready.here in
     let told : run.greeting ≡ Live live.0 = is.greeting ∙ live.1 in (
@@ -60,7 +82,9 @@ run_shows telling spec board scripts run is ready asks =
       record {
         live = told;
         plans' = is.plans ∙ ap (λ (g : Greeting). plans_on board g scripts) told;
-        told = telling spec board scripts run is ready asks;
+        told = all-map ToldPart (FinePart IsBusResult) run.parts
+            (λ part told_part. told_fine part.planned.bodies part.outcomes told_part)
+            (telling spec board scripts run is ready asks);
         packed' = subst (λ (g : Greeting). AllByRecursion (ArePackedFor board g) scripts) live.1 ready.packed';
       },
     )
@@ -68,7 +92,7 @@ run_shows telling spec board scripts run is ready asks =
 shows_at : Telling → (board : ℕ) (specs : List BoardSpec) (scripts : List (List Step)) (runs : List BoardRun)
     → AreRuns board specs scripts runs → AreReady board specs scripts → AllByRecursion AskRequests runs → (k : ℕ)
     → (run : BoardRun)
-    → slice_get runs k ≡ Some run → (payload : ℕ) × Shows (board + k) payload scripts run
+    → slice_get runs k ≡ Some run → (payload : ℕ) × Shows IsBusResult (board + k) payload scripts run
 shows_at telling board [] scripts [] is ready asks k run at = absurd cc
 shows_at telling board [] scripts (r ∷ runs) is ready asks k run at = absurd is
 shows_at telling board (spec ∷ specs) scripts [] is ready asks k run at = absurd is
@@ -76,13 +100,13 @@ shows_at telling board (spec ∷ specs) scripts (r ∷ runs) is ready asks zero 
     let here = run_shows telling spec board scripts r is.0 ready.0 asks.0 in
     let same : board ≡ board + 0 = omega arith in (
       here.0,
-      subst (λ (b : ℕ). Shows b here.0 scripts run) same
-          (subst (λ (x : BoardRun). Shows board here.0 scripts x) (same_Some r run at) here.1),
+      subst (λ (b : ℕ). Shows IsBusResult b here.0 scripts run) same
+          (subst (λ (x : BoardRun). Shows IsBusResult board here.0 scripts x) (same_Some r run at) here.1),
     )
 shows_at telling board (spec ∷ specs) scripts (r ∷ runs) is ready asks (suc k) run at =
     let later = shows_at telling (board + 1) specs scripts runs is.1 ready.1 asks.1 k run at in
     let same : board + 1 + k ≡ board + suc k = omega arith in
-    (later.0, subst (λ (b : ℕ). Shows b later.0 scripts run) same later.1)
+    (later.0, subst (λ (b : ℕ). Shows IsBusResult b later.0 scripts run) same later.1)
 
 -- ---- a line
 
@@ -109,26 +133,29 @@ planned_at board told parts scripts client steps plans at =
           sym (found ∙ ap (option_map (λ (p : ClientPart). p.planned)) none) ∙ wanted in absurd cc)
     ]
 
+-- a line whose result is allowed
+abbrev pub IsAllowedLine : (OpResult → Type 0) → OpLine → Type 0
+IsAllowedLine P line = P line.result
+
 record HasPieces (planned : ClientBodies) (k : ℕ) (op : Op) : Type 0 where
   pieces : List PieceAt
   at' : slice_get planned.pieces k ≡ Some pieces
   asked : AreAsked planned.bodies op pieces
 
-module _ (fitting : Fitting) where
-  part_bus : (part : ClientPart) (op : RegOp) (pieces : List PieceAt) → ToldPart part → KeepsVerb op
-      → AreAsked part.planned.bodies op.op pieces
-      → IsBusResult (by_pieces part op (Some pieces)).0
-  part_bus part op pieces told keeps asked =
-      combined_bus op.verb op.mask op.op (map (piece_result (ends_of part)) pieces) keeps
+module _ (P : OpResult → Type 0) (bus : AllowsBus P) (fitting : Fitting P) where
+  part_allowed : (part : ClientPart) (op : RegOp) (pieces : List PieceAt) → FinePart P part → KeepsVerb op
+      → AreAsked part.planned.bodies op.op pieces → P (by_pieces part op (Some pieces)).0
+  part_allowed part op pieces told keeps asked =
+      combined_allowed P bus op.verb op.mask op.op (map (piece_result (ends_of part)) pieces) keeps
       (fitting part op.op pieces told asked)
       (λ rmw. subst (λ (n : ℕ). 0 < n) (sym (length-map pieces (piece_result (ends_of part)))) (asked.some rmw))
 
-  showing_bus : (payload : ℕ) (scripts : List (List Step)) (run : BoardRun) (client : ℕ) (steps : List Step)
-      (before later : List RegOp) (op : RegOp) → Shows op.board payload scripts run
+  live_allowed : (payload : ℕ) (scripts : List (List Step)) (run : BoardRun) (client : ℕ) (steps : List Step)
+      (before later : List RegOp) (op : RegOp) → Shows P op.board payload scripts run
       → slice_get scripts client ≡ Some steps
       → before ++ op ∷ later ≡ operations steps → KeepsVerb op
-      → IsBusResult (showing run client (count_on op.board before) op).0
-  showing_bus payload scripts run client steps before later op shows at ops keeps =
+      → P (showing run client (count_on op.board before) op).0
+  live_allowed payload scripts run client steps before later op shows at ops keeps =
       let k = count_on op.board before in
       let found = planned_at op.board (Live payload) run.parts scripts client steps shows.plans' at in
       let part = found.0 in
@@ -140,52 +167,71 @@ module _ (fitting : Fitting) where
       let both = both_at (AreAsked all.bodies) (ops_on op.board (operations steps)) all.pieces k op.op asked here in
       let has : HasPieces part.planned k op.op = subst (λ (p : ClientBodies). HasPieces p k op.op) (sym found.2)
       (record { pieces = both.0; at' = both.1; asked = both.2 }) in
-      let told = all_at ToldPart run.parts client part shows.told found.1 in
-      rw shows.live (rw found.1 (rw has.at' (part_bus part op has.pieces told keeps has.asked)))
+      let told = all_at (FinePart P) run.parts client part shows.told found.1 in
+      rw shows.live (rw found.1 (rw has.at' (part_allowed part op has.pieces told keeps has.asked)))
 
-  lines_bus : (scripts : List (List Step)) (runs : List BoardRun)
-      → ((k : ℕ) (run : BoardRun) → slice_get runs k ≡ Some run → (payload : ℕ) × Shows k payload scripts run)
+  showing_allowed : (scripts : List (List Step)) (run : BoardRun) (client : ℕ) (steps : List Step)
+      (before later : List RegOp) (op : RegOp) → CanShow P op.board scripts run
+      → slice_get scripts client ≡ Some steps → before ++ op ∷ later ≡ operations steps → KeepsVerb op
+      → P (showing run client (count_on op.board before) op).0
+  showing_allowed scripts run client steps before later op can at ops keeps = elim can [
+    | inl live ↦ live_allowed live.0 scripts run client steps before later op live.1 at ops keeps
+    | inr other ↦ elim other [
+      | inl silent ↦ rw silent.0 silent.1
+      | inr down ↦ rw down.0 down.1
+    ]
+  ]
+
+  lines_allowed : (scripts : List (List Step)) (runs : List BoardRun)
+      → ((k : ℕ) (run : BoardRun) → slice_get runs k ≡ Some run → CanShow P k scripts run)
       → (client : ℕ) (steps : List Step) → slice_get scripts client ≡ Some steps → (before ops : List RegOp)
       → before ++ ops ≡ operations steps
-      → AllByRecursion KeepsVerb ops → AllByRecursion IsBusLine (lines_behind runs client before ops)
-  lines_bus scripts runs look client steps at before [] same keep = tt
-  lines_bus scripts runs look client steps at before (op ∷ ops) same keep =
-      let later = lines_bus scripts runs look client steps at (before ++ op ∷ []) ops
+      → AllByRecursion KeepsVerb ops → AllByRecursion (IsAllowedLine P) (lines_behind runs client before ops)
+  lines_allowed scripts runs look client steps at before [] same keep = tt
+  lines_allowed scripts runs look client steps at before (op ∷ ops) same keep =
+      let later = lines_allowed scripts runs look client steps at (before ++ op ∷ []) ops
       (append_assoc before (op ∷ []) ops ∙ same) keep.1 in
       elim (slice_get_cases runs op.board).1 [
         | inl (run, within, there, again) ↦
-            (let shows = look op.board run there in
-            rw there (showing_bus shows.0 scripts run client steps before ops op shows.1 at same keep.0, later))
+            rw there
+            (showing_allowed scripts run client steps before ops op (look op.board run there) at same keep.0, later)
         | inr (past, none) ↦ rw none later
       ]
 
-  clients_bus : (scripts : List (List Step)) (runs : List BoardRun)
-      → ((k : ℕ) (run : BoardRun) → slice_get runs k ≡ Some run → (payload : ℕ) × Shows k payload scripts run)
+  clients_allowed : (scripts : List (List Step)) (runs : List BoardRun)
+      → ((k : ℕ) (run : BoardRun) → slice_get runs k ≡ Some run → CanShow P k scripts run)
       → (client : ℕ) (rest : List (List Step))
       → ((j : ℕ) (steps : List Step) → slice_get rest j ≡ Some steps → slice_get scripts (client + j) ≡ Some steps)
-      → AllByRecursion KeepVerbs rest → AllByRecursion (AllByRecursion IsBusLine) (lines_from runs client rest)
-  clients_bus scripts runs look client [] at keep = tt
-  clients_bus scripts runs look client (steps ∷ rest) at keep =
+      → AllByRecursion KeepVerbs rest → AllByRecursion (AllByRecursion (IsAllowedLine P)) (lines_from runs client rest)
+  clients_allowed scripts runs look client [] at keep = tt
+  clients_allowed scripts runs look client (steps ∷ rest) at keep =
       let first : client + 0 ≡ client = omega arith in (
-        lines_bus scripts runs look client steps
-            (subst (λ (c : ℕ). slice_get scripts c ≡ Some steps) first (at 0 steps refl)) [] (operations steps) refl keep.0,
-        clients_bus scripts runs look (client + 1) rest
+        lines_allowed scripts runs look client steps
+            (subst (λ (c : ℕ). slice_get scripts c ≡ Some steps) first (at 0 steps refl)) [] (operations steps) refl
+            keep.0,
+        clients_allowed scripts runs look (client + 1) rest
             (λ j s h.
             let next : client + suc j ≡ client + 1 + j = omega arith in
             subst (λ (c : ℕ). slice_get scripts c ≡ Some s) next (at (suc j) s h)) keep.1,
       )
 
-  pub session_bus : Telling → (specs : List BoardSpec) (scripts : List (List Step)) (runs : List BoardRun)
-      → AreRuns 0 specs scripts runs → AreReady 0 specs scripts → AllByRecursion AskRequests runs
-      → AllByRecursion KeepVerbs scripts → AllByRecursion (AllByRecursion IsBusLine) (lines_from runs 0 scripts)
-  session_bus telling specs scripts runs is ready asks keep =
-      clients_bus scripts runs
-      (λ k run at.
-      let found = shows_at telling 0 specs scripts runs is ready asks k run at in
-      let same : 0 + k ≡ k = omega arith in
-      (found.0, subst (λ (b : ℕ). Shows b found.0 scripts run) same found.1))
-      0 scripts
+  pub session_allowed : (scripts : List (List Step)) (runs : List BoardRun)
+      → ((k : ℕ) (run : BoardRun) → slice_get runs k ≡ Some run → CanShow P k scripts run)
+      → AllByRecursion KeepVerbs scripts → AllByRecursion (AllByRecursion (IsAllowedLine P)) (lines_from runs 0 scripts)
+  session_allowed scripts runs look keep = clients_allowed scripts runs look 0 scripts
       (λ j steps h.
       let same : j ≡ 0 + j = omega arith in
       subst (λ (c : ℕ). slice_get scripts c ≡ Some steps) same h)
       keep
+
+pub session_bus : Fitting IsBusResult → Telling → (specs : List BoardSpec) (scripts : List (List Step))
+    (runs : List BoardRun)
+    → AreRuns 0 specs scripts runs → AreReady 0 specs scripts → AllByRecursion AskRequests runs
+    → AllByRecursion KeepVerbs scripts → AllByRecursion (AllByRecursion IsBusLine) (lines_from runs 0 scripts)
+session_bus fitting telling specs scripts runs is ready asks keep =
+    session_allowed IsBusResult (λ r bus. bus) fitting scripts runs
+    (λ k run at.
+    let found = shows_at telling 0 specs scripts runs is ready asks k run at in
+    let same : 0 + k ≡ k = omega arith in
+    inl (found.0, subst (λ (b : ℕ). Shows IsBusResult b found.0 scripts run) same found.1))
+    keep

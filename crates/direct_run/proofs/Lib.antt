@@ -3,9 +3,11 @@ mod Exchanges
 mod Sending
 mod Running
 mod Shown
-mod Answering
-mod Shaped
-mod Asking
-mod BusResults
-mod BusLines
-mod Spelled
+pub mod Answering
+pub mod Shaped
+pub mod Asking
+pub mod BusResults
+pub mod BusLines
+pub mod Spelled
+pub mod Readiness
+mod Placed

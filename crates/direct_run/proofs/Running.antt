@@ -4,14 +4,14 @@ use Rattle.ipb_base.specs.Numbers.{payload_of}
 use Rattle.board_bus.specs.Cells.{CellMap}
 use Rattle.world_model.specs.Board.{Board, executed, present_bus}
 use Rattle.board_node.specs.Hearings.{grown}
-use Rattle.transcript.specs.declared.outcome.Outcome.{Outcome}
+use Rattle.lane_record.specs.declared.outcome.Outcome.{Outcome}
 use Rattle.board_bus.specs.declared.range.Range.{Range}
 use Rattle.board_bus.specs.Ranges.{opening_bus}
 use Rattle.board_node.specs.declared.spec.BoardSpec.{BoardSpec}
 use Rattle.board_node.specs.declared.spec.Fates.{Fates}
 use Rattle.board_node.specs.declared.spec.LinkSpec.TheVariants.{Sim}
-use Rattle.transcript.specs.declared.outcome.Greeting.{Greeting}
-use Rattle.transcript.specs.declared.outcome.Greeting.TheVariants.{Live}
+use Rattle.transcript.specs.declared.greeting.Greeting.{Greeting}
+use Rattle.transcript.specs.declared.greeting.Greeting.TheVariants.{Live}
 use Rattle.script_lang.specs.declared.operation.Step.{Step}
 use Rattle.transcript.specs.declared.board_run.BoardRun.{BoardRun}
 use Rattle.transcript.specs.declared.board_run.ClientPart.{ClientPart}

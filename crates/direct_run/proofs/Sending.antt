@@ -10,8 +10,8 @@ use Rattle.mtu_packer.specs.Packed.{FitsPackets}
 use Rattle.world_model.specs.declared.heard.LogEntry.{LogEntry}
 use Rattle.world_model.specs.Board.{Board, body_of, executed, present_bus}
 use Rattle.board_node.specs.Hearings.{grown}
-use Rattle.transcript.specs.declared.outcome.Outcome.{Outcome}
-use Rattle.transcript.specs.declared.outcome.Outcome.TheVariants.{Replied}
+use Rattle.lane_record.specs.declared.outcome.Outcome.{Outcome}
+use Rattle.lane_record.specs.declared.outcome.Outcome.TheVariants.{Replied}
 use Rattle.board_history.specs.InTurn.{outcomes_from}
 use Rattle.direct_run.specs.Runs.{next_place}
 use Rattle.direct_run.specs.Steps.{entry_of, IsSending}

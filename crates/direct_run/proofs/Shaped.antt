@@ -7,9 +7,9 @@ use Rattle.mtu_packer.specs.Packed.{Contents, deal}
 use Rattle.mtu_packer.proofs.Dealing.{joined_deal}
 use Rattle.board_node.specs.declared.spec.BoardSpec.{BoardSpec}
 use Rattle.script_lang.specs.declared.operation.Step.{Step}
-use Rattle.transcript.specs.declared.outcome.Outcome.{Outcome}
-use Rattle.transcript.specs.declared.outcome.Greeting.{Greeting}
-use Rattle.transcript.specs.declared.outcome.Greeting.TheVariants.{Live, Silent, Down}
+use Rattle.lane_record.specs.declared.outcome.Outcome.{Outcome}
+use Rattle.transcript.specs.declared.greeting.Greeting.{Greeting}
+use Rattle.transcript.specs.declared.greeting.Greeting.TheVariants.{Live, Silent, Down}
 use Rattle.transcript.specs.declared.board_run.ClientPart.{ClientPart}
 use Rattle.transcript.specs.declared.board_run.BoardRun.{BoardRun}
 use Rattle.transcript.specs.Plan.{ClientBodies, no_bodies, bodies_in, with_dispatch, all_dispatches, plan, planned_on}
@@ -47,7 +47,7 @@ dealt_lengths (xs ∷ lists) ts all =
     (dealt_lengths lists (drop (length xs) ts) (omega (arith, both, all, length-drop (length xs) ts)))
 
 module _ (standing : Standing) where
-  is_cut : (board : ℕ) (told : Greeting) (steps : List Step) → IsCut (planned_on board told steps)
+  pub is_cut : (board : ℕ) (told : Greeting) (steps : List Step) → IsCut (planned_on board told steps)
   is_cut board (Live payload) steps =
       let contents = plan payload board steps in
       record {
@@ -60,7 +60,7 @@ module _ (standing : Standing) where
 
   -- ---- one client
 
-  whole_again : (all : ClientBodies) (outcomes : List Outcome) → IsCut all → length outcomes ≡ length all.bodies
+  pub whole_again : (all : ClientBodies) (outcomes : List Outcome) → IsCut all → length outcomes ≡ length all.bodies
       → flat_map (λ dispatch. dispatch) (deal all.counts outcomes) ≡ outcomes
   whole_again all outcomes is long =
       ap (λ (ns : List ℕ). flat_map (λ dispatch. dispatch) (deal ns outcomes)) is.counts'
@@ -83,23 +83,23 @@ module _ (standing : Standing) where
     shape : map (λ (dispatches : List (List Outcome)). map length dispatches) (map dealt parts)
         ≡ map (λ (steps : List Step). (planned_on board told steps).counts) scripts
 
-  record SameHeads (board : ℕ) (told : Greeting) (steps : List Step) (scripts : List (List Step)) (part : ClientPart)
+  pub record SameHeads (board : ℕ) (told : Greeting) (steps : List Step) (scripts : List (List Step)) (part : ClientPart)
       (parts : List ClientPart) : Type 0 where
-    plan' : part.planned ≡ planned_on board told steps
-    plans' : map (λ (p : ClientPart). p.planned) parts ≡ plans_on board told scripts
+    pub plan' : part.planned ≡ planned_on board told steps
+    pub plans' : map (λ (p : ClientPart). p.planned) parts ≡ plans_on board told scripts
 
-  heads : (board : ℕ) (told : Greeting) (steps : List Step) (scripts : List (List Step)) (part : ClientPart)
+  pub heads : (board : ℕ) (told : Greeting) (steps : List Step) (scripts : List (List Step)) (part : ClientPart)
       (parts : List ClientPart)
       → map (λ (p : ClientPart). p.planned) (part ∷ parts) ≡ plans_on board told (steps ∷ scripts)
       → SameHeads board told steps scripts part parts
   heads board told steps scripts part parts e = record { plan' = cc; plans' = cc }
 
-  record SameLengths (part : ClientPart) (parts : List ClientPart) : Type 0 where
-    first : length part.outcomes ≡ length part.planned.bodies
-    rest : map length (map (λ (p : ClientPart). p.outcomes) parts)
+  pub record SameLengths (part : ClientPart) (parts : List ClientPart) : Type 0 where
+    pub first : length part.outcomes ≡ length part.planned.bodies
+    pub rest : map length (map (λ (p : ClientPart). p.outcomes) parts)
         ≡ map length (map (λ (p : ClientPart). p.planned.bodies) parts)
 
-  lengths : (part : ClientPart) (parts : List ClientPart)
+  pub lengths : (part : ClientPart) (parts : List ClientPart)
       → map length (map (λ (p : ClientPart). p.outcomes) (part ∷ parts))
       ≡ map length (map (λ (p : ClientPart). p.planned.bodies) (part ∷ parts)) → SameLengths part parts
   lengths part parts e = record { first = cc; rest = cc }

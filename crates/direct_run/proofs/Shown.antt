@@ -4,8 +4,8 @@ use Rattle.board_bus.specs.Cells.{CellMap}
 use Rattle.board_bus.specs.Bodies.{replay}
 use Rattle.board_node.specs.declared.spec.BoardSpec.{BoardSpec}
 use Rattle.script_lang.specs.declared.operation.Step.{Step}
-use Rattle.transcript.specs.declared.outcome.Outcome.{Outcome}
-use Rattle.transcript.specs.declared.outcome.Greeting.{Greeting}
+use Rattle.lane_record.specs.declared.outcome.Outcome.{Outcome}
+use Rattle.transcript.specs.declared.greeting.Greeting.{Greeting}
 use Rattle.transcript.specs.declared.board_run.ClientPart.{ClientPart}
 use Rattle.transcript.specs.declared.board_run.BoardRun.{BoardRun}
 use Rattle.transcript.specs.Plan.{ClientBodies}

@@ -8,14 +8,14 @@ use Rattle.mtu_packer.specs.Packed.{Contents, IsPacked, packed}
 use Rattle.board_node.specs.declared.spec.BoardSpec.{BoardSpec}
 use Rattle.script_lang.specs.declared.operation.RegOp.{RegOp}
 use Rattle.script_lang.specs.declared.operation.Step.{Step}
-use Rattle.transcript.specs.declared.outcome.Greeting.{Greeting}
-use Rattle.transcript.specs.declared.outcome.Greeting.TheVariants.{Live, Silent, Down}
+use Rattle.transcript.specs.declared.greeting.Greeting.{Greeting}
+use Rattle.transcript.specs.declared.greeting.Greeting.TheVariants.{Live, Silent, Down}
 use Rattle.transcript.specs.declared.board_run.ClientPart.{ClientPart}
 use Rattle.transcript.specs.declared.board_run.BoardRun.{BoardRun}
 use Rattle.transcript.specs.Plan.{ClientBodies, no_bodies, AreSpelled, dispatches, ops_on, planned_on, with_dispatch}
 use Rattle.direct_run.specs.Runs.{AreRuns, greeting_of, plans_on}
 use Rattle.direct_run.specs.Answering.{AsksRequests, AskRequests}
-use Rattle.direct_run.specs.Lines.{ArePackedFor, AreReady}
+use Rattle.direct_run.proofs.Readiness.{ArePackedFor, AreReady}
 use Rattle.direct_run.proofs.Asking.{heads}
 
 abbrev pub Spelling : Type 0
@@ -38,7 +38,7 @@ module _ (spelling : Spelling) where
   plan_spelled board Silent steps is = tt
   plan_spelled board Down steps is = tt
 
-  parts_spelled : (board : ℕ) (told : Greeting) (scripts : List (List Step)) (parts : List ClientPart)
+  pub parts_spelled : (board : ℕ) (told : Greeting) (scripts : List (List Step)) (parts : List ClientPart)
       → map (λ (p : ClientPart). p.planned) parts ≡ plans_on board told scripts
       → AllByRecursion (ArePackedFor board told) scripts → AllByRecursion AsksRequests parts
   parts_spelled board told scripts [] plans is = tt

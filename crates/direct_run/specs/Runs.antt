@@ -9,12 +9,13 @@ use Rattle.board_node.specs.declared.spec.LinkSpec.{LinkSpec}
 use Rattle.board_node.specs.declared.spec.LinkSpec.TheVariants.{Sim, Udp}
 use Rattle.script_lang.specs.declared.operation.Step.{Step}
 use Rattle.script_lang.specs.Limits.{IsSimulated}
-use Rattle.transcript.specs.declared.outcome.Outcome.{Outcome}
-use Rattle.transcript.specs.declared.outcome.Greeting.{Greeting}
-use Rattle.transcript.specs.declared.outcome.Greeting.TheVariants.{Live, Down}
+use Rattle.lane_record.specs.declared.outcome.Outcome.{Outcome}
+use Rattle.transcript.specs.declared.greeting.Greeting.{Greeting}
+use Rattle.transcript.specs.declared.greeting.Greeting.TheVariants.{Live, Down}
 use Rattle.transcript.specs.declared.board_run.ClientPart.{ClientPart}
 use Rattle.transcript.specs.declared.board_run.BoardRun.{BoardRun}
-use Rattle.transcript.specs.Plan.{ClientBodies, planned_on}
+use Rattle.transcript.specs.Plan.{ClientBodies}
+pub use Rattle.transcript.specs.Plan.{plans_on}
 use Rattle.board_history.specs.Parts.{AllReplied}
 use Rattle.board_history.specs.InTurn.{in_turn, AreInTurn}
 use Rattle.board_history.specs.History.{ShowsHistory, bodies_by_client, outcomes_by_client}
@@ -34,10 +35,6 @@ parts_with (planned ∷ later) (outcomes ∷ others) =
 abbrev pub parts_in_turn : ℕ → CellMap → List ClientBodies → List ClientPart
 parts_in_turn place cells planned = parts_with planned
     (in_turn place cells (map (λ (p : ClientBodies). p.bodies) planned))
-
--- what the clients ask of a board that told this greeting
-abbrev pub plans_on : ℕ → Greeting → List (List Step) → List ClientBodies
-plans_on board told scripts = map (planned_on board told) scripts
 
 -- a board in this process is live; one behind a port is not reached
 abbrev pub greeting_of : LinkSpec → Greeting

@@ -7,7 +7,7 @@ use Rattle.packet_codec.specs.declared.packet.Order.TheVariants.{Big}
 use Rattle.world_model.specs.declared.heard.LogEntry.{LogEntry}
 use Rattle.world_model.specs.Board.{Board, executed, present_bus}
 use Rattle.board_node.specs.Hearings.{grown}
-use Rattle.transcript.specs.declared.outcome.Outcome.{Outcome}
+use Rattle.lane_record.specs.declared.outcome.Outcome.{Outcome}
 use Rattle.board_history.specs.InTurn.{outcomes_from}
 use Rattle.transcript.specs.declared.board_run.ClientPart.{ClientPart}
 use Rattle.transcript.specs.Plan.{ClientBodies}

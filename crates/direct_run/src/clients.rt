@@ -8,7 +8,7 @@ ghost use Rattle.board_history.specs.InTurn.{outcomes_from};
 ghost use Rattle.world_model.specs.Board.{executed, present_bus};
 ghost use Rattle.board_node.specs.Hearings.{grown};
 ghost use Rattle.script_lang.specs.Packing.{CanBePacked, HaveFewPieces};
-ghost use Rattle.transcript.specs.declared.outcome.Greeting.TheVariants.{Live};
+ghost use Rattle.transcript.specs.declared.greeting.Greeting.TheVariants.{Live};
 ghost use Rattle.transcript.specs.Plan.{ClientBodies, planned_on};
 ghost use Rattle.direct_run.specs.Runs.{next_place, parts_in_turn, plans_on};
 ghost use Rattle.direct_run.specs.Steps.{entry_of};

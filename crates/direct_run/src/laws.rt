@@ -4,20 +4,21 @@ ghost use Rattle.std.specs.Prelude.{◌≡◌, ℕ, List};
 ghost use Rattle.std.specs.List.{AllByRecursion, flat_map};
 ghost use Rattle.board_node.specs.declared.spec.BoardSpec.{BoardSpec};
 ghost use Rattle.script_lang.specs.declared.operation.Step.{Step};
+ghost use Rattle.script_lang.specs.Executable.{AreExecutable, OpensOnWords};
 ghost use Rattle.transcript.specs.declared.board_run.BoardRun.{BoardRun};
 ghost use Rattle.board_history.specs.Order.{bodies_of, order};
 ghost use Rattle.board_history.specs.History.{bodies_by_client, outcomes_by_client};
-ghost use Rattle.direct_run.specs.Runs.{AreRuns, IsRun, board_run, runs_from};
+ghost use Rattle.direct_run.specs.Runs.{AreRuns, CanRun, IsRun, board_run, runs_from};
 ghost use Rattle.direct_run.specs.Answering.{AreAnswered, AskRequests, OpensWithWords};
 ghost use Rattle.direct_run.specs.Shape.{HaveFates};
 ghost use Rattle.transcript.specs.Lines.{transcript_of};
-ghost use Rattle.direct_run.specs.Lines.{AreReady, IsBusLine, KeepVerbs};
+ghost use Rattle.direct_run.specs.Lines.{IsBusLine};
 
 use board_bus::laws::{a_reply_answers_its_body, words_stay_words};
 use board_history::laws::{
     a_history_of_clients_in_turn_is_the_only_one, clients_in_turn_make_a_history,
 };
-use mtu_packer::laws::packed_bodies_spell_requests;
+use mtu_packer::laws::{operations_of_words_are_packed, packed_bodies_spell_requests};
 use reply_join::laws::{
     each_answer_is_that_of_its_request, each_request_has_one_answer, joining_is_a_function,
 };
@@ -79,10 +80,12 @@ pub fn runs_have_the_shape_of_the_plan()
 }
 
 /// Where nothing is lost, each line of a session is a value, `done`, `was`, a code of the bus or skipped: none is
-/// garbled, timed out, unsent or lost with its link. So status 1 comes from codes of the bus alone.
+/// garbled, timed out, unsent or lost with its link. So status 1 comes from codes of the bus alone. The boards run here
+/// and name words of 32 bits, and the scripts can be executed, as it is of every session that can be run.
 pub fn lines_fail_by_codes_of_the_bus_alone()
     ensures { (specs : List BoardSpec) (scripts : List (List Step)) (runs : List BoardRun) →
-        AreRuns 0 specs scripts runs → AreReady 0 specs scripts → AllByRecursion KeepVerbs scripts →
+        AreRuns 0 specs scripts runs → AllByRecursion CanRun specs → AllByRecursion OpensOnWords specs →
+        AllByRecursion AreExecutable scripts →
         AllByRecursion (AllByRecursion IsBusLine) (transcript_of scripts runs).clients }
 {
     a_history_of_clients_in_turn_is_the_only_one();
@@ -93,4 +96,5 @@ pub fn lines_fail_by_codes_of_the_bus_alone()
     each_answer_is_that_of_its_request();
     one_list_for_words();
     packed_bodies_spell_requests();
+    operations_of_words_are_packed();
 }

@@ -8,6 +8,7 @@ mod boards;
 mod clients;
 mod exchange;
 pub mod laws;
+pub mod place_laws;
 
 pub use boards::{run_board, run_boards};
 pub use clients::run_clients;

@@ -12,6 +12,7 @@ use Rattle.session_input.specs.Deserved.{IsRunnable}
 use Rattle.session_input.specs.Numbers.{document_bytes}
 use Rattle.ipbus_program.specs.declared.command.Command.TheVariants.{Run}
 use Rattle.ipbus_program.specs.Numbers.{done_status}
+use Rattle.ipbus_program.specs.Below.{PlacesAreShown}
 use Rattle.ipbus_program.specs.Runs.{Owes}
 use Rattle.first_form.specs.Below.{LawsBelow}
 use Rattle.first_form.specs.Session.{Register, Session}
@@ -82,9 +83,9 @@ module _ (laws : LawsBelow) (document : Members) (session : Session) (form : IsF
           };
         }
 
-    owed_by : (bytes : List ℕ) → length bytes ≤ document_bytes → IsToml bytes document
+    owed_by : PlacesAreShown → (bytes : List ℕ) → length bytes ≤ document_bytes → IsToml bytes document
         → Owes Run bytes done_status (first_text session)
-    owed_by bytes fits toml = inl (record {
+    owed_by shown bytes fits toml = inl (record {
       session = whole;
       steps = read_script;
       runnable = runnable bytes fits toml;
@@ -92,10 +93,12 @@ module _ (laws : LawsBelow) (document : Members) (session : Session) (form : IsF
       boards = laws.turns whole.boards read_script;
       spelled = sym (reads_printed laws document session form).0;
       told = sym (reads_printed laws document session form).1;
+      places = shown bytes whole read_script (runs_from 0 whole.boards read_script) (runnable bytes fits toml)
+          (laws.turns whole.boards read_script);
     })
 
-  pub owed : (alloc : Global) (bytes : List ℕ) → length bytes ≤ document_bytes → IsToml bytes document
+  pub owed : PlacesAreShown → (alloc : Global) (bytes : List ℕ) → length bytes ≤ document_bytes → IsToml bytes document
       → Owes Run bytes done_status (first_text session)
-  owed alloc bytes fits toml =
+  owed shown alloc bytes fits toml =
       let found = table_there alloc document session form in
-      owed_by found.0 found.1 bytes fits toml
+      owed_by found.0 found.1 shown bytes fits toml

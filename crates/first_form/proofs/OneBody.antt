@@ -1,6 +1,5 @@
 -- A script of at most 100 reads is one dispatch, which is packed into one body.
-use Rattle.std.proofs.Common.{◌≡◌, ℕ, ◌+◌, ◌*◌, ◌≤◌, ◌<◌, List, [], ◌∷◌, ◌++◌, length, map, true, refl, sym, ap}
-use Rattle.std.proofs.Common.{◌∙◌}
+use Rattle.std.proofs.Common.{◌≡◌, ℕ, ◌+◌, ◌*◌, ◌≤◌, ◌<◌, List, [], ◌∷◌, ◌++◌, length, map, true, refl, sym, ap, ◌∙◌}
 use Rattle.std.proofs.Common.{arith, append_assoc, append-nil, length-append}
 use Rattle.std.specs.List.{flat_map, range_with_len}
 use Rattle.std.proofs.lemmas.Bool.{lt-ltb}
@@ -12,11 +11,10 @@ use Rattle.transaction_codec.specs.Request.{requests_words}
 use Rattle.transaction_codec.specs.Answer.{values_done}
 use Rattle.mtu_packer.specs.declared.packed.Piece.{Piece}
 use Rattle.mtu_packer.specs.Cutting.{cut, piece_count}
-use Rattle.mtu_packer.specs.Packing.{requests_from, body_words, longest_reply, takes, parts_from, parts_in}
-use Rattle.mtu_packer.specs.Packing.{parts_of}
+use Rattle.mtu_packer.specs.Packing.{requests_from, body_words, longest_reply, takes, parts_from, parts_in, parts_of}
 use Rattle.mtu_packer.specs.Packed.{Contents, packed, places_in, places_from, deal}
 use Rattle.script_lang.specs.declared.operation.RegOp.{RegOp}
-use Rattle.transcript.specs.declared.outcome.Greeting.TheVariants.{Live}
+use Rattle.transcript.specs.declared.greeting.Greeting.TheVariants.{Live}
 use Rattle.transcript.specs.declared.planned.PieceAt.{PieceAt}
 use Rattle.transcript.specs.Plan.{ClientBodies, operations, begun, dispatches, ops_on, moved, all_dispatches}
 use Rattle.transcript.specs.Plan.{planned_on}

@@ -9,8 +9,8 @@ use Rattle.masked_fields.specs.Field.{field}
 use Rattle.reply_join.specs.ByWords.{answers}
 use Rattle.script_lang.specs.declared.operation.RegOp.{RegOp}
 use Rattle.script_lang.specs.declared.operation.Verb.TheVariants.{Read}
-use Rattle.transcript.specs.declared.outcome.Outcome.TheVariants.{Replied}
-use Rattle.transcript.specs.declared.outcome.Greeting.TheVariants.{Live}
+use Rattle.lane_record.specs.declared.outcome.Outcome.TheVariants.{Replied}
+use Rattle.transcript.specs.declared.greeting.Greeting.TheVariants.{Live}
 use Rattle.transcript.specs.declared.board_run.BoardRun.{BoardRun}
 use Rattle.transcript.specs.declared.line.OpLine.{OpLine}
 use Rattle.transcript.specs.declared.line.OpResult.TheVariants.{Value}

@@ -1,7 +1,6 @@
 -- The run of a session of one script of reads, and its text.
 use Rattle.std.proofs.Common.{◌≡◌, ℕ, ◌+◌, ◌≤◌, ◌↔◌, List, [], ◌∷◌, ◌++◌, codes, length, map, Some, Ok, refl, sym}
-use Rattle.std.proofs.Common.{ap, subst, ◌∙◌}
-use Rattle.std.proofs.Common.{append_assoc, append-nil}
+use Rattle.std.proofs.Common.{ap, subst, ◌∙◌, append_assoc, append-nil}
 use Rattle.std.specs.Fmt.{digits}
 use Rattle.std.specs.List.{AllByRecursion}
 use Rattle.ipb_base.specs.Word.{AreWords}
@@ -13,8 +12,8 @@ use Rattle.masked_fields.specs.Field.{field}
 use Rattle.reply_join.specs.declared.answer.Answer.{Answer}
 use Rattle.reply_join.specs.Joining.{IsJoined}
 use Rattle.reply_join.specs.ByWords.{answers}
-use Rattle.transcript.specs.declared.outcome.Outcome.TheVariants.{Replied}
-use Rattle.transcript.specs.declared.outcome.Greeting.TheVariants.{Live}
+use Rattle.lane_record.specs.declared.outcome.Outcome.TheVariants.{Replied}
+use Rattle.transcript.specs.declared.greeting.Greeting.TheVariants.{Live}
 use Rattle.transcript.specs.declared.board_run.BoardRun.{BoardRun}
 use Rattle.transcript.specs.declared.line.OpLine.{OpLine}
 use Rattle.transcript.specs.Lines.{transcript_of, lines_behind, board_line, run_status}

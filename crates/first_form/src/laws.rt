@@ -25,6 +25,7 @@ ghost use Rattle.first_form.specs.WholeSession.{IsRegisterNode, whole_session};
 
 use crate::below::laws_below;
 use ipbus_program::laws::one_answer_is_owed;
+use ipbus_program::transcript_laws::a_runnable_session_shows_all_places;
 
 /// A document of the first form is a whole session document too, and stands there for the session of its table, its
 /// board and its script: one table, whose nodes are whole words that may be read and written; one simulated board, of
@@ -92,4 +93,5 @@ pub fn a_document_of_the_first_form_runs()
 {
     laws_below();
     one_answer_is_owed();
+    a_runnable_session_shows_all_places();
 }

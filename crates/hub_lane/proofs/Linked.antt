@@ -18,7 +18,9 @@ use Rattle.world_core.specs.declared.link.LinkFault.TheVariants.{Failed, NoMemor
 use Rattle.world_core.specs.Telling.{IfTelling, IsGot, IsQuiet, IsReceived, IsSent, Receives, Telling}
 use Rattle.hub_lane.specs.declared.answers.Pumped.{Pumped}
 use Rattle.hub_lane.specs.declared.answers.Pumped.TheVariants.{Reply, Status, Stray, Quiet, Idle, LinkDown}
+use Rattle.hub_lane.specs.Carrying.{HasPut}
 use Rattle.hub_lane.specs.Hearing.{IsHeardAs, WasReceived}
+use Rattle.hub_lane.specs.Rounds.{PaysOn}
 use Rattle.hub_lane.specs.Sends.{HasSent, all_sent}
 use Rattle.hub_lane.specs.Standing.{GoesOn, IsRunning, IsStopped, Stops}
 use Rattle.hub_lane.proofs.Standing.{AirGrows, HandedLaw, HeardLaw, QuietLaw, SameBoard, SameFates, SendLaw}
@@ -37,7 +39,9 @@ pub record IsSending (before : Option Telling) (old : Hub) (telling : Option Tel
   pub quiet : quiets_now ≡ quiets
   pub got : gots_now ≡ gots
   pub hold : held ≤ held_now
+  pub pays : PaysOn before old held telling now held_now
   pub board : board_of telling ≡ board_of before
+  pub put : IfTelling before telling (HasPut old now)
 
 -- the bodies of the hub after a send
 abbrev pub SendKeepsBodies : Type 0

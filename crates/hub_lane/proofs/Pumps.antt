@@ -410,7 +410,7 @@ lane_received message replied quiet gave_up settings status hub mid new bytes pu
         kept = after.kept;
         waited = after.waited;
         fewer = after.fewer;
-        short = is.short;
+        fits = is.fits;
         fault = λ e. absurd cc;
         lost = after.lost;
         standing = running;
@@ -469,7 +469,7 @@ lane_down lost agrees keeps adds settings status hub mid items outcomes before_l
           (adds (length mid.sent) outcomes) a.counts;
       waited = before.waited;
       fewer = (let h = before.fewer in omega (arith, h, same));
-      short = is.short;
+      fits = is.fits;
       fault = λ e. omega (arith, rose);
       lost = λ k o e l. refl;
       standing = if_told (IsStopped settings mid outcomes) (IsStopped settings mid new) telling_now
@@ -499,7 +499,7 @@ lane_spent settings status hub mid items outcomes outcomes_now give_ups give_ups
       kept = before.kept;
       waited = (let w = before.waited in omega (arith, w, more));
       fewer = before.fewer;
-      short = is.short;
+      fits = is.fits;
       fault = λ e. absurd cc;
       lost = before.lost;
       standing = stops settings outcomes is.standing;

@@ -4,6 +4,7 @@ use Rattle.std.specs.Prelude.{length}
 use Rattle.std.specs.Prelude.{Option, Some, None, IfSome}
 use Rattle.std.specs.List.{AllByRecursion}
 use Rattle.ipb_base.specs.Numbers.{payload_of}
+use Rattle.transaction_codec.specs.Answer.{reply_room}
 use Rattle.status_packet.specs.declared.status.Status.{Status}
 use Rattle.status_packet.specs.Range.{IsBufferCount, IsMtu}
 use Rattle.packet_ids.specs.Identifier.{IsIdentifier}
@@ -61,9 +62,14 @@ opening_of (Some t) = Some t.told.board.opening
 abbrev pub waits : Hub → ℕ
 waits hub = if is_waiting hub then 1 else 0
 
--- a planned body that a packet can carry to the board
-abbrev pub IsShortPlan : ℕ → Item → Type 0
-IsShortPlan payload x = IfSome (plan_in x.what) (λ body. length body + 1 ≤ payload)
+-- a body with its header, and its longest reply with its header, are packets that the board takes and sends
+pub record FitsBoard (payload : ℕ) (body : List ℕ) : Type 0 where
+  pub short : length body + 1 ≤ payload
+  pub reply_short : reply_room body + 1 ≤ payload
+
+-- a planned body that fits
+abbrev pub IsFittingPlan : ℕ → Item → Type 0
+IsFittingPlan payload x = IfSome (plan_in x.what) (FitsBoard payload)
 
 -- a hub that knows a board by this status
 pub record KnowsBoard (settings : Limits) (status : BoardStatus) (hub : Hub) : Type 0 where
@@ -94,7 +100,7 @@ pub record IsLane (settings : Limits) (status : BoardStatus) (hub : Hub) (items 
   pub kept : IsKept items outcomes hub.window give_ups
   pub waited : HasWaited hub.rounds give_ups hub.status_requests quiets
   pub fewer : give_ups + waits hub ≤ length outcomes
-  pub short : AllByRecursion (IsShortPlan (payload_of status.mtu)) items
+  pub fits : AllByRecursion (IsFittingPlan (payload_of status.mtu)) items
   pub fault : down ≡ true → 1 ≤ faults
   pub lost : AreLostOnlyIf (down ≡ true) outcomes
   pub standing : IfSome telling (IsStanding (down || spent) settings hub outcomes)

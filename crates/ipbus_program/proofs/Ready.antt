@@ -1,5 +1,5 @@
 -- A session that can be run is one that the boards of this process can run.
-use Rattle.std.proofs.Common.{◌≡◌, ℕ, ◌<◌, ◌^◌, ◌&&◌, Bool, true, false, List, [], ◌∷◌, length, arith, refl, Result, Ok, Err, IfOk, inl}
+use Rattle.std.proofs.Common.{◌≡◌, ℕ, ◌&&◌, Bool, true, false, List, [], ◌∷◌, arith, refl, Result, Ok, Err, IfOk, inl}
 use Rattle.std.specs.List.{AllByRecursion, list_all}
 use Rattle.board_node.specs.declared.spec.BoardSpec.{BoardSpec}
 use Rattle.board_node.specs.declared.spec.LinkSpec.{LinkSpec}
@@ -14,6 +14,7 @@ use Rattle.session_input.specs.Deserved.{HasBus, IsRunnable, delivers_all, range
 use Rattle.std.proofs.Common.{None}
 use Rattle.ipbus_program.specs.declared.command.Command.TheVariants.{Run}
 use Rattle.ipbus_program.specs.declared.running.Answer.{Answer}
+use Rattle.ipbus_program.specs.Below.{PlacesAreShown}
 use Rattle.ipbus_program.specs.Runs.{Owes}
 use Rattle.ipbus_program.specs.Steps.{MayRun, Prints}
 
@@ -25,7 +26,7 @@ both : (a b : Bool) → (a && b) ≡ true → (a ≡ true) × (b ≡ true)
 both true b h = (refl, h)
 both false b h = let never : ⊥ = cc in absurd never
 
-all_here : (bs : List BoardSpec) → AllByRecursion KeepsRules bs → AllByRecursion HasBus bs → list_all (λ board. delivers_all board.link) bs ≡ true
+pub all_here : (bs : List BoardSpec) → AllByRecursion KeepsRules bs → AllByRecursion HasBus bs → list_all (λ board. delivers_all board.link) bs ≡ true
     → AllByRecursion CanRun bs
 all_here [] kept buses links = tt
 all_here (b ∷ bs) kept buses links =
@@ -41,10 +42,11 @@ may_run bytes session steps runs within packed few = record {
   few = few;
 }
 
-pub printed : {E : Type 0} (bytes : List ℕ) (session : Session) (steps : List (List Step)) (result : Result Answer E)
+pub printed : {E : Type 0} → PlacesAreShown → (bytes : List ℕ) (session : Session) (steps : List (List Step))
+    (result : Result Answer E)
     → IsRunnable bytes session steps → IfOk result (λ answer. Prints session steps answer.status answer.text.items)
     → IfOk result (λ answer. Owes Run bytes answer.status answer.text.items)
-printed bytes session steps (Ok answer) runs prints =
+printed shown bytes session steps (Ok answer) runs prints =
     inl (record {
       session = session;
       steps = steps;
@@ -53,5 +55,6 @@ printed bytes session steps (Ok answer) runs prints =
       boards = prints.boards;
       spelled = prints.spelled;
       told = prints.told;
+      places = shown bytes session steps prints.runs runs prints.boards;
     })
-printed bytes session steps (Err why) runs prints = tt
+printed shown bytes session steps (Err why) runs prints = tt

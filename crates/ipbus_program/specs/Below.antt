@@ -8,6 +8,8 @@ use Rattle.script_lang.specs.declared.session.Session.{Session}
 use Rattle.script_lang.specs.Document.{SameSession}
 use Rattle.session_input.specs.declared.refusal.Refusal.{Refusal}
 use Rattle.transcript.specs.declared.board_run.BoardRun.{BoardRun}
+use Rattle.transcript.specs.Lines.{transcript_of}
+use Rattle.transcript.specs.Shown.{ShowsAllPlaces}
 use Rattle.session_input.specs.Deserved.{BreaksInRun, BreaksInCheck, Deserves, IsRunnable, IsListed}
 
 -- bytes have one answer to a command
@@ -30,3 +32,10 @@ pub record TurnLaws : Type 0 where
   pub there : (specs : List BoardSpec) (scripts : List (List Step)) → AreRuns 0 specs scripts (runs_from 0 specs scripts)
   pub only : (specs : List BoardSpec) (scripts : List (List Step)) (runs : List BoardRun)
       → AreRuns 0 specs scripts runs → runs ≡ runs_from 0 specs scripts
+
+-- the lines of a session that can be run show all places of its boards
+abbrev pub PlacesAreShown : Type 0
+PlacesAreShown =
+    (bytes : List ℕ) (session : Session) (steps : List (List Step)) (runs : List BoardRun)
+    → IsRunnable bytes session steps → AreRuns 0 session.boards steps runs
+    → ShowsAllPlaces (transcript_of steps runs)

@@ -12,6 +12,7 @@ use Rattle.session_input.specs.Lines.{refusal_line}
 use Rattle.transcript.specs.declared.board_run.BoardRun.{BoardRun}
 use Rattle.transcript.specs.Lines.{transcript_of, run_status}
 use Rattle.transcript.specs.Listing.{listing_text}
+use Rattle.transcript.specs.Shown.{ShowsAllPlaces}
 use Rattle.transcript.specs.Text.{transcript_text}
 use Rattle.ipbus_program.specs.declared.command.Command.{Command}
 use Rattle.ipbus_program.specs.declared.command.Command.TheVariants.{Run, Check}
@@ -30,6 +31,8 @@ pub record IsTranscriptOf (bytes : List ℕ) (status : ℕ) (text : List ℕ) : 
   pub boards : AreRuns 0 session.boards steps runs
   pub spelled : text ≡ transcript_text (transcript_of steps runs)
   pub told : status ≡ run_status (transcript_of steps runs).clients
+  -- the lines of operations show of each board the places 1, 2, .. up to the number in its line, and no other place
+  pub places : ShowsAllPlaces (transcript_of steps runs)
 
 -- ---- check
 

@@ -10,6 +10,7 @@ pub mod examples;
 pub mod laws;
 mod program;
 mod running;
+pub mod transcript_laws;
 
 pub use answer::{DONE, NO_MEMORY, NOT_ALL_DONE, READ_FAULT, REFUSED, USAGE, WRITE_FAULT};
 pub use command::Command;

@@ -12,6 +12,7 @@ ghost use Rattle.ipbus_program.specs.Numbers.{refused_status};
 use crate::answer::{DONE, NOT_ALL_DONE, REFUSED};
 use crate::below::runs_in_turn;
 use crate::command::Command;
+use crate::transcript_laws::a_runnable_session_shows_all_places;
 use direct_run::run_boards;
 use ipb_base::NoMemory;
 use node_tree::Index;
@@ -86,6 +87,7 @@ pub(crate) fn refused(alloc: Global, refusal: &Refusal) -> Result<Answer, NoMemo
 fn run(alloc: Global, bytes: &[u8]) -> Result<Answer, NoMemory>
     ensures { IfOk result (λ answer. spec.Owes Run bytes.now answer.status answer.text.items) }
 {
+    a_runnable_session_shows_all_places();
     match read_for_run(alloc, bytes) {
         Ok(read) => transcript(alloc, &read.session, &read.steps),
         Err(Unread::Refused(refusal)) => refused(alloc, &refusal),

@@ -1,6 +1,6 @@
 -- What is answered where all operations are packed.
-use Rattle.std.proofs.Common.{◌≡◌, ℕ, ◌+◌, ◌*◌, ◌^◌, ◌<◌, ◌≤◌, ◌++◌, List, [], ◌∷◌, length, map, if◌then◌else◌, ◌==◌}
-use Rattle.std.proofs.Common.{refl, sym, subst, ap, ◌∙◌, inl, inr, arith, length-append, append-nil, Result, Ok, Err}
+use Rattle.std.proofs.Common.{◌≡◌, ℕ, ◌<◌, ◌≤◌, ◌++◌, List, [], ◌∷◌, length, map, if◌then◌else◌, ◌==◌}
+use Rattle.std.proofs.Common.{refl, sym, subst, ap, ◌∙◌, inl, inr, arith, append-nil, Result, Ok, Err}
 use Rattle.std.proofs.Common.{IfOk, Some}
 use Rattle.std.specs.List.{AllByRecursion, flat_map}
 use Rattle.std.proofs.lemmas.Bool.{cases_eq}
@@ -9,8 +9,7 @@ use Rattle.std.proofs.lemmas.Bool.Decides.{nat_tests}
 use Rattle.ipb_base.specs.Word.{AreWords}
 use Rattle.ipb_base.specs.declared.no_memory.NoMemory.{NoMemory}
 use Rattle.transaction_codec.specs.declared.request.Op.{Op}
-use Rattle.transaction_codec.specs.declared.request.Request.{Request}
-use Rattle.transaction_codec.specs.Request.{AreRequests, request_words, requests_words}
+use Rattle.transaction_codec.specs.Request.{AreRequests}
 use Rattle.transaction_codec.specs.Answer.{reply_room}
 use Rattle.transaction_codec.proofs.Longest.{longest_unique, reply_room_longest}
 use Rattle.mtu_packer.specs.declared.packed.Span.{Span}
@@ -19,9 +18,10 @@ use Rattle.mtu_packer.specs.Packing.{requests_from, body_words, longest_reply, F
 use Rattle.mtu_packer.specs.Packed.{piece_at, pieces_at, places_in, places_from, Contents, IsPacked, FitsPackets}
 use Rattle.mtu_packer.specs.Progress.{Progress, FitsAlone, start, close, all_bodies, run}
 use Rattle.mtu_packer.specs.Span.{span_places}
-use Rattle.ipb_base.proofs.AllLemmas.{AllByRecursion-append, front_of_all, back_of_all, all_of_each}
-use Rattle.mtu_packer.proofs.Steps.{some_words, run-payload}
+use Rattle.ipb_base.proofs.AllLemmas.{AllByRecursion-append, all_of_each}
+use Rattle.mtu_packer.proofs.Steps.{run-payload}
 use Rattle.mtu_packer.proofs.Pieces.{cut_fits, length-cut}
+use Rattle.mtu_packer.proofs.Readable.{all_readable, all_words}
 use Rattle.mtu_packer.proofs.Parts.{Holds, close_represents, close_whole, longest_reply_is_longest, run_holds}
 use Rattle.mtu_packer.proofs.Parts.{start_holds}
 use Rattle.mtu_packer.proofs.Whole.{Over, spans_places}
@@ -29,45 +29,13 @@ use Rattle.mtu_packer.specs.Packed.{deal}
 use Rattle.mtu_packer.proofs.Dealing.{map-deal, deal_joined, joined_deal}
 use Rattle.mtu_packer.proofs.PlaceLemmas.{pieces_stand, length-places_from}
 
--- ---- the requests of the bodies are readable
+-- ---- all pieces fit
 
 pub all_fit : (payload : ℕ) (ops : List Op) → 16 ≤ payload → AllByRecursion (FitsAlone payload)
     (flat_map (cut payload) ops)
 all_fit payload [] low = tt
 all_fit payload (op ∷ ops) low = AllByRecursion-append (FitsAlone payload) (cut payload op)
     (flat_map (cut payload) ops) (cut_fits payload op low) (all_fit payload ops low)
-
-two_words_each : (tid : ℕ) (part : List Op) → 2 * length part ≤ length (requests_words (requests_from tid part))
-two_words_each tid [] = omega arith
-two_words_each tid (op ∷ part) =
-    omega (
-      arith,
-      two_words_each (tid + 1) part,
-      some_words op,
-      length-append
-          (request_words (record { tid = tid; op = op })) (requests_words (requests_from (tid + 1) part)),
-    )
-
-part_readable : (payload tid : ℕ) (part : List Op) → AreWords (requests_words (requests_from tid part))
-    → AllByRecursion (FitsAlone payload) part → tid + length part ≤ 2 ^ 12 → AreRequests (requests_from tid part)
-part_readable payload tid [] words fit few = tt
-part_readable payload tid (op ∷ part) words fit few =
-    let request : Request = record { tid = tid; op = op } in
-    let rest = requests_words (requests_from (tid + 1) part) in
-    let own = front_of_all (λ (n : ℕ). n < 2 ^ 32) (request_words request) rest words in (
-      record { tid = omega arith; count = omega (arith, fit.0.count); words = own.1 },
-      part_readable payload (tid + 1) part (back_of_all (λ (n : ℕ). n < 2 ^ 32) (request_words request) rest words)
-          fit.1 (omega arith),
-    )
-
-all_readable : (payload : ℕ) (parts : List (List Op)) → payload ≤ 2243 → AllByRecursion AreWords
-    (map body_words parts) → AllByRecursion (AllByRecursion (FitsAlone payload)) parts
-    → AllByRecursion (Fits payload) parts → AreReadable parts
-all_readable payload [] high words alone fits = tt
-all_readable payload (part ∷ parts) high words alone fits = (
-  part_readable payload 0 part words.0 alone.0 (omega (arith, two_words_each 0 part, fits.0.request)),
-  all_readable payload parts high words.1 alone.1 fits.1,
-)
 
 -- ---- the last body is closed
 
@@ -183,8 +151,8 @@ over_packed ops payload progress spans contents low high over bodies words piece
     record {
       parts = ended.parts;
       packing = record { whole = ended.whole; filled = ended.filled; fits = ended.fits; full = ended.full };
-      readable = all_readable payload ended.parts high (subst (AllByRecursion AreWords) same_bodies words)
-          (all_of_each (FitsAlone payload) ended.parts (subst (AllByRecursion (FitsAlone payload)) (sym ended.whole)
+      readable = all_readable payload ended.parts high (all_words ended.parts (subst (AllByRecursion AreWords)
+          same_bodies words)) (all_of_each (FitsAlone payload) ended.parts (subst (AllByRecursion (FitsAlone payload)) (sym ended.whole)
           (all_fit payload ops low))) ended.fits;
       bodies = same_bodies;
       pieces = ap (map (pieces_at ended.parts)) dealt ∙ own_pieces payload ops ended.parts ended.whole;

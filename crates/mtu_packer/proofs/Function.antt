@@ -5,13 +5,15 @@ use Rattle.std.specs.List.{AllByRecursion, flat_map}
 use Rattle.std.proofs.lemmas.Bool.Decides.{nat_tests}
 use Rattle.transaction_codec.specs.declared.request.Op.{Op}
 use Rattle.transaction_codec.specs.Request.{op_words}
-use Rattle.mtu_packer.specs.Cutting.{cut}
+use Rattle.ipb_base.proofs.AllLemmas.{all_of_each}
+use Rattle.mtu_packer.specs.Cutting.{CanBeCut, HasWords, cut}
 use Rattle.mtu_packer.specs.Packing.{body_words, longest_reply, Fits, AreFull, AreReadable, IsPacking, takes}
 use Rattle.mtu_packer.specs.Packing.{parts_from}
 use Rattle.mtu_packer.specs.Packing.{parts_in, parts_of}
 use Rattle.mtu_packer.specs.Packed.{Contents, IsPacked, packed}
 use Rattle.mtu_packer.specs.Progress.{FitsAlone}
 use Rattle.mtu_packer.proofs.Finish.{all_fit, own_pieces, all_places}
+use Rattle.mtu_packer.proofs.Readable.{all_readable, cut_has_words}
 use Rattle.mtu_packer.proofs.Unique.{packing_unique, packed_unique}
 
 -- ---- the test of the room
@@ -157,3 +159,20 @@ pub is_packed : (ops : List Op) (payload : ℕ) (contents : Contents) → 16 ≤
     → contents ≡ packed payload ops → IsPacked ops payload contents
 is_packed ops payload contents low readable same = subst (IsPacked ops payload) (sym same)
     (packed_of ops payload low readable)
+
+-- ---- operations of words
+
+readable_of : (ops : List Op) (payload : ℕ) → 16 ≤ payload → payload ≤ 2243 → AllByRecursion CanBeCut ops
+    → AllByRecursion HasWords ops → AreReadable (parts_of payload ops)
+readable_of ops payload low high can words =
+    let packing = packing_of ops payload low in
+    all_readable payload (parts_of payload ops) high
+    (all_of_each HasWords (parts_of payload ops) (subst (AllByRecursion HasWords) (sym packing.whole)
+    (cut_has_words payload ops low can words)))
+    (all_of_each (FitsAlone payload) (parts_of payload ops) (subst (AllByRecursion (FitsAlone payload))
+    (sym packing.whole) (all_fit payload ops low)))
+    packing.fits
+
+pub words_packed : (ops : List Op) (payload : ℕ) → 16 ≤ payload → payload ≤ 2243 → AllByRecursion CanBeCut ops
+    → AllByRecursion HasWords ops → IsPacked ops payload (packed payload ops)
+words_packed ops payload low high can words = packed_of ops payload low (readable_of ops payload low high can words)

@@ -9,3 +9,6 @@ pub mod PlaceLemmas
 pub mod Dealing
 pub mod Function
 pub mod Standing
+pub mod AnyLemmas
+mod EachBody
+mod Readable

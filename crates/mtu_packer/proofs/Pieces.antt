@@ -69,7 +69,7 @@ cut_fits payload op low = pieces_fit payload op 0 (piece_count payload op) low
 div_ceil-le : (n k : ℕ) → 1 ≤ k → div_ceil n k ≤ n
 div_ceil-le n k some = omega (arith, div-add-mod' n k, mul-le-mul_left (n / k) some)
 
-piece_limit-some : (payload : ℕ) (op : Op) → 16 ≤ payload → 1 ≤ piece_limit payload op
+pub piece_limit-some : (payload : ℕ) (op : Op) → 16 ≤ payload → 1 ≤ piece_limit payload op
 piece_limit-some payload (Read base all) low = omega arith
 piece_limit-some payload (ReadPort base all) low = omega arith
 piece_limit-some payload (Write base words) low = omega arith

@@ -3,10 +3,11 @@
 use Rattle.std.specs.Prelude.{ℕ, ◌+◌, ◌-◌, ◌*◌, ◌^◌, ◌≤◌, List, map, length, take, drop, min}
 use Rattle.std.specs.Int.{div_ceil}
 use Rattle.std.specs.List.{range_with_len}
+use Rattle.ipb_base.specs.Word.{AreWords}
 use Rattle.transaction_codec.specs.declared.request.Op.{Op}
 use Rattle.transaction_codec.specs.declared.request.Op.TheVariants.{Read, ReadPort, Write, WritePort, RmwBits, RmwSum}
 use Rattle.transaction_codec.specs.declared.header_word.TheConstants.{MAX_COUNT}
-use Rattle.transaction_codec.specs.Request.{op_count}
+use Rattle.transaction_codec.specs.Request.{op_count, op_words}
 use Rattle.mtu_packer.specs.declared.cutting.TheConstants.{HEADERS, ADDRESS}
 
 -- The most words of one piece. The words field of a header ends at 255. The reply to a read has a packet header and a
@@ -54,3 +55,7 @@ CanBeCut (Write base words) = (1 ≤ length words) × (base + length words ≤ 2
 CanBeCut (WritePort base words) = 1 ≤ length words
 CanBeCut (RmwBits base and_term or_term) = Unit {0}
 CanBeCut (RmwSum base addend) = Unit {0}
+
+-- its address and its words have 32 bits
+abbrev pub HasWords : Op → Type 0
+HasWords op = AreWords (op_words op)

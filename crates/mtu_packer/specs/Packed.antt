@@ -1,7 +1,7 @@
 -- What packing answers: the bodies as words, and for each operation where its pieces stand. Profile.
 use Rattle.std.specs.Prelude.{◌≡◌, ℕ, ◌+◌, ◌≤◌, List, [], ◌∷◌, ◌++◌, map, length, take, drop}
 use Rattle.std.specs.Prelude.{Option, Some, option_and_then, slice_get}
-use Rattle.std.specs.List.{flat_map, range_with_len}
+use Rattle.std.specs.List.{Any, flat_map, range_with_len}
 use Rattle.transaction_codec.specs.declared.request.Op.{Op}
 use Rattle.transaction_codec.specs.Answer.{reply_room}
 use Rattle.mtu_packer.specs.declared.packed.Piece.{Piece}
@@ -56,3 +56,11 @@ packed payload ops = record {
 pub record FitsPackets (payload : ℕ) (body : List ℕ) : Type 0 where
   pub request : length body + 1 ≤ payload
   pub reply : reply_room body + 1 ≤ payload
+
+-- the piece stands in the body of this number
+abbrev pub IsIn : ℕ → Piece → Type 0
+IsIn body place = place.body ≡ body
+
+-- some operation has a piece in the body of this number
+abbrev pub HasPiece : ℕ → List (List Piece) → Type 0
+HasPiece body pieces = Any (Any (IsIn body)) pieces

@@ -1,6 +1,6 @@
 //! Laws of the definitions. These functions do nothing when they run: their clauses are what is proved.
 
-ghost use Rattle.std.specs.Prelude.{◌≡◌, ◌↔◌, ℕ, ◌≤◌, List, [], ◌∷◌, length, map, sum_by, Some, slice_get};
+ghost use Rattle.std.specs.Prelude.{◌≡◌, ◌↔◌, ℕ, ◌<◌, ◌≤◌, List, [], ◌∷◌, length, map, sum_by, Some, slice_get};
 ghost use Rattle.std.specs.List.{AllByRecursion, flat_map, range_with_len};
 ghost use Rattle.ipb_base.specs.Numbers.{least_payload, greatest_payload};
 ghost use Rattle.transaction_codec.specs.declared.request.Op.{Op};
@@ -9,7 +9,7 @@ ghost use Rattle.transaction_codec.specs.declared.request.Request.{Request};
 ghost use Rattle.transaction_codec.specs.Request.{AreRequests, SpellsRequests, op_count, requests_words};
 ghost use Rattle.transaction_codec.specs.Answer.{IsLongestAnswer};
 ghost use Rattle.mtu_packer.specs.Accesses.{accesses};
-ghost use Rattle.mtu_packer.specs.Cutting.{cut};
+ghost use Rattle.mtu_packer.specs.Cutting.{CanBeCut, HasWords, cut};
 ghost use Rattle.mtu_packer.specs.Packing.{
   AreReadable,
   IsPacking,
@@ -18,7 +18,7 @@ ghost use Rattle.mtu_packer.specs.Packing.{
   longest_reply,
   parts_of,
 };
-ghost use Rattle.mtu_packer.specs.Packed.{Contents, IsPacked, packed, piece_at, places_from};
+ghost use Rattle.mtu_packer.specs.Packed.{Contents, HasPiece, IsPacked, packed, piece_at, places_from};
 ghost use Rattle.mtu_packer.specs.declared.packed.Piece.{Piece};
 
 use crate::cutting::{ADDRESS, HEADERS};
@@ -61,6 +61,21 @@ pub fn the_request_at_a_place_is_the_piece()
 {
     one_list_for_words();
 }
+
+/// Operations that can be packed, and whose addresses and words have 32 bits, are packed by that function: every body has
+/// requests that a reader accepts.
+pub fn operations_of_words_are_packed()
+    ensures { (ops : List Op) (payload : ℕ) → MIN_PAYLOAD ≤ payload → payload ≤ MAX_PAYLOAD →
+        AllByRecursion CanBeCut ops → AllByRecursion HasWords ops → IsPacked ops payload (packed payload ops) }
+{}
+
+/// Each body has a piece, so none is sent for nothing.
+pub fn each_body_has_a_piece()
+    ensures packing { (ops : List Op) (payload : ℕ) (contents : Contents) (body : ℕ) → IsPacked ops payload contents →
+        body < length contents.bodies → HasPiece body contents.pieces }
+    ensures function { (ops : List Op) (payload body : ℕ) → body < length (packed payload ops).bodies →
+        HasPiece body (packed payload ops).pieces }
+{}
 
 /// Operations have one packing, and so one list of bodies and of places.
 pub fn a_packing_is_the_only_one()

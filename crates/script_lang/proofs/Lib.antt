@@ -17,3 +17,7 @@ pub mod Packable
 pub mod Asking
 pub mod FewPieces
 pub mod Faultless
+pub mod OwnNames
+pub mod SmallNumbers
+pub mod Registers
+pub mod Executable

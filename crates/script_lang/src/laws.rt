@@ -4,7 +4,15 @@
 ghost use Rattle.std.specs.Prelude.{◌≡◌, ◌≢◌, ◌≤◌, ℕ, List, [], ◌∷◌, Some, None, length, codes, true, false};
 ghost use Rattle.toml.specs.Data.{Members, string, integer};
 ghost use Rattle.script_lang.specs.Document as spec;
+ghost use Rattle.std.specs.List.{AllByRecursion, AllZip};
+ghost use Rattle.board_node.specs.declared.spec.BoardSpec.{BoardSpec};
+ghost use Rattle.node_tree.specs.Maps.{RegisterMap};
+ghost use Rattle.node_tree.specs.Names.{IsIndexOf};
+ghost use Rattle.node_tree.specs.Refusals.{KeepsRules};
+ghost use Rattle.script_lang.specs.Executable.{AreExecutable, OpensOnWords};
+ghost use Rattle.script_lang.specs.Scripts.{steps_of};
 ghost use Rattle.script_lang.specs.Limits.{IsWithin};
+ghost use Rattle.script_lang.specs.OwnNames.{HaveOwnNames};
 ghost use Rattle.script_lang.specs.Paths.{path};
 ghost use Rattle.script_lang.specs.Texts.{endpoint, decimal_between, cut_at};
 ghost use Rattle.script_lang.specs.declared.refusal.SessionRefusal.{SessionRefusal as Refusal};
@@ -38,6 +46,26 @@ pub fn a_first_fault_is_the_only_one()
 /// The numbers of a session lie in the ranges of their keys, and its boards and clients within the limits of a session.
 pub fn a_session_keeps_its_limits()
     ensures { (bytes : List ℕ) (session : Session) → spec.StandsFor bytes session → IsWithin session }
+{}
+
+/// No two boards of a session have one name.
+pub fn the_boards_of_a_session_have_their_own_names()
+    ensures { (bytes : List ℕ) (session : Session) → spec.StandsFor bytes session → HaveOwnNames session.boards }
+{}
+
+/// What the scripts of a session mean can be executed: each operation can be packed for any board, its address and its
+/// words have 32 bits, and it is one that its verb asks for.
+pub fn scripts_ask_what_can_be_executed()
+    ensures { (bytes : List ℕ) (session : Session) (indexes : List RegisterMap) → spec.StandsFor bytes session
+        → AllByRecursion (λ (b : BoardSpec). KeepsRules session.tables b.table) session.boards
+        → AllZip (λ (b : BoardSpec) (index : RegisterMap). IsIndexOf session.tables b.table index) session.boards indexes
+        → AllByRecursion AreExecutable (steps_of session.boards indexes session.scripts) }
+{}
+
+/// The words that the ranges of a session's boards name have 32 bits.
+pub fn the_ranges_of_a_session_name_words()
+    ensures { (bytes : List ℕ) (session : Session) → spec.StandsFor bytes session
+        → AllByRecursion OpensOnWords session.boards }
 {}
 
 /// The limits of a session.

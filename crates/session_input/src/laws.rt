@@ -1,8 +1,10 @@
 //! Laws of the definitions. These functions do nothing when they run: their clauses are what is proved.
 
 ghost use Rattle.std.specs.Prelude.{◌≡◌, ℕ, List};
+ghost use Rattle.std.specs.List.{AllByRecursion};
 ghost use Rattle.node_tree.specs.Maps.{RegisterMap};
 ghost use Rattle.script_lang.specs.Document.{SameSession};
+ghost use Rattle.script_lang.specs.Executable.{AreExecutable};
 ghost use Rattle.script_lang.specs.declared.operation.Step.{Step};
 ghost use Rattle.script_lang.specs.declared.session.Session.{Session};
 ghost use Rattle.session_input.specs.Deserved.{BreaksInCheck, BreaksInRun, Deserves, IsListed, IsRunnable};
@@ -11,6 +13,7 @@ ghost use Rattle.session_input.specs.declared.refusal.Refusal.{Refusal};
 ghost use Rattle.session_input.specs.declared.refusal.TheConstants.{MAX_DOCUMENT};
 
 use crate::below::{document_laws, table_laws};
+use script_lang::laws::scripts_ask_what_can_be_executed;
 
 /// The limit of a document.
 pub fn limits()
@@ -41,4 +44,13 @@ pub fn bytes_have_one_answer_to_check()
 {
     document_laws();
     table_laws();
+}
+
+/// What the scripts of a session ask that can be run can be executed: each operation can be packed for any board, its
+/// address and its words have 32 bits, and it is one that its verb asks for.
+pub fn what_can_be_run_can_be_executed()
+    ensures { (bytes : List ℕ) (session : Session) (steps : List (List Step))
+        → IsRunnable bytes session steps → AllByRecursion AreExecutable steps }
+{
+    scripts_ask_what_can_be_executed();
 }

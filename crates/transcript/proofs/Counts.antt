@@ -2,10 +2,10 @@
 use Rattle.std.proofs.Common.{◌≡◌, ◌+◌, cond, Bool, length, List, [], ◌∷◌, Some, None, refl, arith}
 use Rattle.std.specs.List.{count_by, filter_map}
 use Rattle.std.proofs.lemmas.List.Sums.{sum_by-cons}
-use Rattle.transcript.specs.declared.outcome.Outcome.{Outcome}
-use Rattle.transcript.specs.declared.outcome.Outcome.TheVariants.{Replied, TimedOut, Unsent, LinkLost}
-use Rattle.transcript.specs.Ends.{place_of}
-use Rattle.transcript.specs.Lines.{is_sent, is_replied, is_timed_out, is_lost}
+use Rattle.lane_record.specs.declared.outcome.Outcome.{Outcome}
+use Rattle.lane_record.specs.declared.outcome.Outcome.TheVariants.{Replied, TimedOut, Unsent, LinkLost}
+use Rattle.lane_record.specs.Outcomes.{place_of, is_sent, is_replied, is_timed_out}
+use Rattle.transcript.specs.Lines.{is_lost}
 
 count-cons : (p : Outcome → Bool) (o : Outcome) (os : List Outcome)
     → count_by p (o ∷ os) ≡ cond (p o) 1 0 + count_by p os

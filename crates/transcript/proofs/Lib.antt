@@ -11,3 +11,5 @@ mod Rising
 mod FewWords
 mod Covering
 mod Printed
+mod EachBody
+pub mod ShownLines

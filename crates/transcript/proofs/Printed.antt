@@ -1,9 +1,6 @@
 -- The lines of a run are such as its text tells.
-use Rattle.std.proofs.Common.{◌≡◌, ℕ, ◌+◌, ◌<◌, ◌^◌, ◌==◌, length}
-use Rattle.std.proofs.Common.{map}
-use Rattle.std.proofs.Common.{List, [], ◌∷◌, ◌++◌, Option, Some, None, refl, sym, subst, inl, inr}
-use Rattle.std.proofs.Common.{arith}
-use Rattle.std.proofs.Common.{length-append}
+use Rattle.std.proofs.Common.{◌≡◌, ℕ, ◌+◌, ◌<◌, ◌^◌, ◌==◌, length, map}
+use Rattle.std.proofs.Common.{List, [], ◌∷◌, ◌++◌, Option, Some, None, refl, sym, subst, inl, inr, arith, length-append}
 use Rattle.std.proofs.Math.Nat.{div-le_self}
 use Rattle.std.specs.Int.Bits.{bit_and}
 use Rattle.std.specs.List.{AllByRecursion, flat_map, slice_get, zip}
@@ -26,10 +23,10 @@ use Rattle.script_lang.specs.declared.operation.Verb.{Verb}
 use Rattle.script_lang.specs.declared.operation.Verb.TheVariants.{Read, Write, ReadBlock, WriteBlock, RmwBits, RmwSum}
 use Rattle.script_lang.specs.declared.operation.RegOp.{RegOp}
 use Rattle.script_lang.specs.declared.operation.Step.{Step}
-use Rattle.transcript.specs.declared.outcome.Outcome.{Outcome}
-use Rattle.transcript.specs.declared.outcome.Outcome.TheVariants as became
-use Rattle.transcript.specs.declared.outcome.Greeting.{Greeting}
-use Rattle.transcript.specs.declared.outcome.Greeting.TheVariants.{Live, Silent, Down}
+use Rattle.lane_record.specs.declared.outcome.Outcome.{Outcome}
+use Rattle.lane_record.specs.declared.outcome.Outcome.TheVariants as became
+use Rattle.transcript.specs.declared.greeting.Greeting.{Greeting}
+use Rattle.transcript.specs.declared.greeting.Greeting.TheVariants.{Live, Silent, Down}
 use Rattle.transcript.specs.declared.planned.PieceAt.{PieceAt}
 use Rattle.transcript.specs.declared.body_end.Told.{Told}
 use Rattle.transcript.specs.declared.body_end.Told.TheVariants as told
@@ -40,15 +37,12 @@ use Rattle.transcript.specs.declared.line.OpResult.{OpResult}
 use Rattle.transcript.specs.declared.line.OpResult.TheVariants.{Value, Done, Was, Error, Skipped, TimedOut, Unsent}
 use Rattle.transcript.specs.declared.line.OpResult.TheVariants.{LinkLost, Garbled}
 use Rattle.transcript.specs.Plan.{IsWithinBody, operations}
-use Rattle.transcript.specs.Ends.{told_by, end_of, ends_of, answered, told_at, result_in}
-use Rattle.transcript.specs.Ends.{piece_result}
+use Rattle.transcript.specs.Ends.{told_by, end_of, ends_of, answered, told_at, result_in, piece_result}
 use Rattle.transcript.specs.Ends.{place_at, place_in, piece_place}
-use Rattle.transcript.specs.Results.{is_good, first_fault, values_in, word_before, shown}
-use Rattle.transcript.specs.Results.{op_places}
+use Rattle.transcript.specs.Results.{is_good, first_fault, values_in, word_before, shown, op_places}
 use Rattle.transcript.specs.Lines.{Showing, by_pieces, in_part, showing, line_of, lines_behind, client_lines}
 use Rattle.transcript.specs.Claims.{IsByte, IsPrinted, IsPrintedPlace, IsPrintedLine, IsInRange, IsPartInRange}
-use Rattle.transcript.specs.Claims.{IsRunInRange}
-use Rattle.transcript.specs.Claims.{IsSpaceless}
+use Rattle.transcript.specs.Claims.{IsRunInRange, IsSpaceless}
 use Rattle.transcript.proofs.Lookups.{all_at}
 use Rattle.transcript.proofs.Skipping.{Joins}
 

@@ -6,8 +6,8 @@ use Rattle.reply_join.specs.declared.answer.Answer.{Answer}
 use Rattle.reply_join.specs.declared.answer.Answer.TheVariants as answer
 use Rattle.reply_join.specs.Joining.{IsJoined, IsBehindFault}
 use Rattle.reply_join.specs.ByWords.{answers}
-use Rattle.transcript.specs.declared.outcome.Outcome.{Outcome}
-use Rattle.transcript.specs.declared.outcome.Outcome.TheVariants as became
+use Rattle.lane_record.specs.declared.outcome.Outcome.{Outcome}
+use Rattle.lane_record.specs.declared.outcome.Outcome.TheVariants as became
 use Rattle.transcript.specs.declared.line.OpResult.TheVariants.{Error, Skipped}
 use Rattle.transcript.specs.Ends.{answered, told_by, told_of, told_at}
 use Rattle.transcript.specs.Claims.{HaveWords}

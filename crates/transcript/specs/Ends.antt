@@ -4,8 +4,9 @@ use Rattle.std.specs.List.{zip}
 use Rattle.reply_join.specs.declared.answer.Answer.{Answer}
 use Rattle.reply_join.specs.declared.answer.Answer.TheVariants as answer
 use Rattle.reply_join.specs.ByWords.{answers}
-use Rattle.transcript.specs.declared.outcome.Outcome.{Outcome}
-use Rattle.transcript.specs.declared.outcome.Outcome.TheVariants as became
+use Rattle.lane_record.specs.declared.outcome.Outcome.{Outcome}
+use Rattle.lane_record.specs.declared.outcome.Outcome.TheVariants as became
+use Rattle.lane_record.specs.Outcomes.{place_of}
 use Rattle.transcript.specs.declared.planned.PieceAt.{PieceAt}
 use Rattle.transcript.specs.declared.body_end.Told.{Told}
 use Rattle.transcript.specs.declared.body_end.Told.TheVariants as told
@@ -14,13 +15,6 @@ use Rattle.transcript.specs.declared.board_run.ClientPart.{ClientPart}
 use Rattle.transcript.specs.declared.line.OpResult.{OpResult}
 use Rattle.transcript.specs.declared.line.OpResult.TheVariants.{Value, Done, Error, Skipped, TimedOut, Unsent, LinkLost}
 use Rattle.transcript.specs.declared.line.OpResult.TheVariants.{Garbled}
-
--- the place of a body that has one
-abbrev pub place_of : Outcome → Option ℕ
-place_of (became.Replied place words) = Some place
-place_of (became.TimedOut place rounds) = Some place
-place_of became.Unsent = None
-place_of (became.LinkLost place) = place
 
 -- what words tell that are a reply with these answers, or none
 abbrev pub told_by : Option (List Answer) → Told

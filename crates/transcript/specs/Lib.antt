@@ -8,3 +8,4 @@ pub mod Listing
 pub mod Examples
 pub mod Steps
 pub mod Claims
+pub mod Shown

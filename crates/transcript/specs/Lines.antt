@@ -1,13 +1,13 @@
 -- The lines of a run: a function of each client's steps, and of what became of each board. Profile.
 use Rattle.std.specs.Prelude.{ℕ, ◌+◌, ◌==◌, Bool, true, false, if◌then◌else◌, List, [], ◌∷◌, ◌++◌, length}
-use Rattle.std.specs.Prelude.{map, count_by, slice_get}
-use Rattle.std.specs.Prelude.{Option, Some, None, option_to_list, option_map}
+use Rattle.std.specs.Prelude.{map, count_by, slice_get, Option, Some, None, option_to_list, option_map}
 use Rattle.std.specs.List.{flat_map, list_all}
 use Rattle.script_lang.specs.declared.operation.RegOp.{RegOp}
 use Rattle.script_lang.specs.declared.operation.Step.{Step}
-use Rattle.transcript.specs.declared.outcome.Outcome.{Outcome}
-use Rattle.transcript.specs.declared.outcome.Outcome.TheVariants.{Replied, TimedOut, Unsent, LinkLost}
-use Rattle.transcript.specs.declared.outcome.Greeting.TheVariants as greeting
+use Rattle.lane_record.specs.declared.outcome.Outcome.{Outcome}
+use Rattle.lane_record.specs.declared.outcome.Outcome.TheVariants.{Replied, TimedOut, Unsent, LinkLost}
+use Rattle.lane_record.specs.Outcomes.{is_sent, is_replied, is_timed_out}
+use Rattle.transcript.specs.declared.greeting.Greeting.TheVariants as greeting
 use Rattle.transcript.specs.declared.planned.PieceAt.{PieceAt}
 use Rattle.transcript.specs.declared.board_run.ClientPart.{ClientPart}
 use Rattle.transcript.specs.declared.board_run.BoardRun.{BoardRun}
@@ -76,25 +76,6 @@ lines_from runs client [] = []
 lines_from runs client (steps ∷ scripts) = client_lines runs client steps ∷ lines_from runs (client + 1) scripts
 
 -- ---- boards
-
-abbrev pub is_sent : Outcome → Bool
-is_sent (Replied place words) = true
-is_sent (TimedOut place rounds) = true
-is_sent Unsent = false
-is_sent (LinkLost (Some place)) = true
-is_sent (LinkLost None) = false
-
-abbrev pub is_replied : Outcome → Bool
-is_replied (Replied place words) = true
-is_replied (TimedOut place rounds) = false
-is_replied Unsent = false
-is_replied (LinkLost place) = false
-
-abbrev pub is_timed_out : Outcome → Bool
-is_timed_out (Replied place words) = false
-is_timed_out (TimedOut place rounds) = true
-is_timed_out Unsent = false
-is_timed_out (LinkLost place) = false
 
 -- it was sent, and lost with the link
 abbrev pub is_lost : Outcome → Bool

@@ -11,8 +11,8 @@ use Rattle.mtu_packer.specs.Packed.{Contents, FitsPackets, packed}
 use Rattle.script_lang.specs.declared.operation.RegOp.{RegOp}
 use Rattle.script_lang.specs.declared.operation.Step.{Step}
 use Rattle.script_lang.specs.declared.operation.Step.TheVariants.{Do, Dispatch}
-use Rattle.transcript.specs.declared.outcome.Greeting.{Greeting}
-use Rattle.transcript.specs.declared.outcome.Greeting.TheVariants.{Live, Silent, Down}
+use Rattle.transcript.specs.declared.greeting.Greeting.{Greeting}
+use Rattle.transcript.specs.declared.greeting.Greeting.TheVariants.{Live, Silent, Down}
 use Rattle.transcript.specs.declared.planned.PieceAt.{PieceAt}
 
 -- the operation that a step asks for
@@ -81,6 +81,10 @@ abbrev pub planned_on : ℕ → Greeting → List Step → ClientBodies
 planned_on board (Live payload) steps = all_dispatches (plan payload board steps)
 planned_on board Silent steps = no_bodies
 planned_on board Down steps = no_bodies
+
+-- what the clients ask of a board that told this greeting
+abbrev pub plans_on : ℕ → Greeting → List (List Step) → List ClientBodies
+plans_on board told scripts = map (planned_on board told) scripts
 
 -- what a greeting can tell of the packets of a live board
 abbrev pub IsGreeting : Greeting → Type 0

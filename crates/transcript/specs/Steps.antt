@@ -1,12 +1,11 @@
 -- How the steps of the calls work together: what private functions promise one another. No public clause speaks of
 -- these.
 use Rattle.std.specs.Prelude.{◌≡◌, ℕ, ◌+◌, ◌≤◌, ◌<◌, ◌^◌, Bool, if◌then◌else◌, List, [], ◌∷◌, ◌++◌, length, map, take}
-use Rattle.std.specs.Prelude.{drop, slice_get, slice_set, slice_index}
-use Rattle.std.specs.Prelude.{Option, Some, None}
+use Rattle.std.specs.Prelude.{drop, slice_get, slice_set, slice_index, Option, Some, None}
 use Rattle.std.specs.Option.{option_map_or}
 use Rattle.script_lang.specs.declared.operation.RegOp.{RegOp}
 use Rattle.script_lang.specs.declared.operation.Step.{Step}
-use Rattle.transcript.specs.declared.outcome.Outcome.{Outcome}
+use Rattle.lane_record.specs.declared.outcome.Outcome.{Outcome}
 use Rattle.transcript.specs.declared.body_end.BodyEnd.{BodyEnd}
 use Rattle.transcript.specs.declared.board_run.BoardRun.{BoardRun}
 use Rattle.transcript.specs.declared.line.OpResult.{OpResult}
@@ -25,8 +24,9 @@ use Rattle.transcript.specs.Plan.{ClientBodies, AreSound, operations, dispatches
 use Rattle.transcript.specs.Plan.{all_dispatches}
 use Rattle.transcript.specs.Ends.{ends_of}
 use Rattle.transcript.specs.Results.{is_good}
-use Rattle.transcript.specs.Lines.{showing, line_with, lines_behind, client_lines, count_on, is_sent, is_replied}
-use Rattle.transcript.specs.Lines.{is_timed_out, is_lost}
+use Rattle.lane_record.specs.Outcomes.{is_sent, is_replied, is_timed_out}
+use Rattle.transcript.specs.Lines.{showing, line_with, lines_behind, client_lines, count_on}
+use Rattle.transcript.specs.Lines.{is_lost}
 
 -- what a piece came to, where it failed
 abbrev pub fault_in : OpResult → Option OpResult

@@ -2,9 +2,10 @@
 
 ghost use Rattle.std.specs.Prelude.{◌≡◌};
 
-use crate::outcome::{Greeting, Outcomes};
+use crate::greeting::Greeting;
 use crate::planned::Planned;
 use ipb_base::Text;
+use lane_record::Outcomes;
 use std::marker::Model;
 
 /// What one client asked of a board, and what became of it: the outcomes stand in the order of the bodies.

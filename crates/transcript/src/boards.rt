@@ -1,13 +1,15 @@
 //! The lines of a run's boards.
 
 ghost use Rattle.std.specs.Prelude.{◌≡◌, IfOk, map, count_by};
+ghost use Rattle.lane_record.specs.Outcomes as outcomes;
 ghost use Rattle.transcript.specs.Lines as spec;
 ghost use Rattle.transcript.specs.Steps.{is_of};
 
 use crate::board_run::{BoardRun, ClientPart};
+use crate::greeting::Greeting;
 use crate::line::BoardLine;
-use crate::outcome::{Greeting, Outcome};
 use ipb_base::{NoMemory, Text};
+use lane_record::Outcome;
 use std::alloc::Global;
 
 /// What a board's line counts.
@@ -20,7 +22,7 @@ enum Kind {
 }
 
 fn is_sent(outcome: &Outcome) -> bool
-    ensures { result ≡ spec.is_sent outcome.now }
+    ensures { result ≡ outcomes.is_sent outcome.now }
 {
     match outcome {
         Outcome::Replied { .. } | Outcome::TimedOut { .. } => true,

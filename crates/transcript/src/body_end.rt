@@ -7,8 +7,8 @@ ghost use Rattle.reply_join.specs.ByWords.{answers};
 ghost use Rattle.transcript.specs.Plan.{AreSpelled};
 ghost use Rattle.transcript.specs.Ends as spec;
 
-use crate::outcome::Outcome;
 use ipb_base::{NoMemory, Words};
+use lane_record::Outcome;
 use reply_join::laws::joining_is_a_function;
 use reply_join::{Answer, JoinRefusal, join_reply};
 use std::alloc::Global;

@@ -8,7 +8,7 @@ ghost use Rattle.transaction_codec.specs.Request.{op_count};
 ghost use Rattle.mtu_packer.specs.Packed.{Contents, deal};
 ghost use Rattle.script_lang.specs.Packing.{operations, HaveFewPieces};
 ghost use Rattle.script_lang.specs.declared.operation.Step.{Step};
-ghost use Rattle.transcript.specs.declared.outcome.Outcome.{Outcome as OutcomeValue};
+ghost use Rattle.lane_record.specs.declared.outcome.Outcome.{Outcome as OutcomeValue};
 ghost use Rattle.transcript.specs.declared.line.OpLine.{OpLine as OpLineValue};
 ghost use Rattle.transcript.specs.declared.line.OpResult.TheVariants.{Skipped, Error};
 ghost use Rattle.transcript.specs.declared.planned.PieceAt.{PieceAt as PieceValue};
@@ -16,11 +16,11 @@ ghost use Rattle.transcript.specs.declared.body_end.BodyEnd.{BodyEnd as BodyEndV
 ghost use Rattle.transcript.specs.declared.board_run.BoardRun.{BoardRun as BoardRunValue};
 ghost use Rattle.transcript.specs.Plan as in_order;
 ghost use Rattle.transcript.specs.Plan.{bodies_in, all_dispatches, plan};
-ghost use Rattle.transcript.specs.Ends.{place_of, told_of, told_at};
+ghost use Rattle.lane_record.specs.Outcomes.{place_of, is_sent, is_replied, is_timed_out};
+ghost use Rattle.transcript.specs.Ends.{told_of, told_at};
 ghost use Rattle.transcript.specs.Results.{op_places};
 ghost use Rattle.transcript.specs.Text.{line_text};
-ghost use Rattle.transcript.specs.Lines.{is_sent, is_replied, is_timed_out, is_lost, run_status, client_lines};
-ghost use Rattle.transcript.specs.Lines.{count_on};
+ghost use Rattle.transcript.specs.Lines.{is_lost, run_status, client_lines, count_on};
 ghost use Rattle.transcript.specs.Claims.{IsDone, HaveWords, IsPrintedLine, IsBefore, Rises, IsOther, HaveOwnPlaces};
 ghost use Rattle.transcript.specs.Claims.{AreOnBoards, HaveBodies, IsRunInRange, IsSpaceless};
 

@@ -9,8 +9,8 @@ ghost use Rattle.transcript.specs.Steps.{ends_on, line_on, bumped, AreBelow};
 
 use crate::board_run::{BoardRun, ClientPart};
 use crate::body_end::{BodyEnd, ends_of};
+use crate::greeting::Greeting;
 use crate::line::{LinePlaces, OpLine, OpResult};
-use crate::outcome::Greeting;
 use crate::results::{op_places, op_result};
 use ipb_base::{NoMemory, Text};
 use script_lang::{RegOp, Step, Steps};

@@ -9,7 +9,7 @@ ghost use Rattle.script_lang.specs.Packing.{CanBePacked, HaveFewPieces};
 ghost use Rattle.transcript.specs.Plan as spec;
 ghost use Rattle.transcript.specs.Steps.{so_far};
 
-use crate::outcome::Greeting;
+use crate::greeting::Greeting;
 use crate::planned::{OpPieces, PieceAt, Planned};
 use ipb_base::{NoMemory, Words};
 use mtu_packer::laws::{packed_bodies_spell_requests, packing_is_a_function};

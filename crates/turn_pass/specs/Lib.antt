@@ -1,1 +1,5 @@
 pub mod Record
+pub mod Pass
+pub mod Rule
+pub mod Steps
+pub mod PassInside

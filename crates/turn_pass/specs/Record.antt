@@ -1,5 +1,6 @@
 -- Records of what was done to a value. Profile.
-use Rattle.std.specs.Prelude.{◌≡◌, ℕ, List}
+use Rattle.std.specs.Prelude.{◌≡◌, ◌==◌, ◌++◌, ℕ, List, length, drop}
+use Rattle.std.specs.List.{AllByRecursion, filter}
 use Rattle.ipb_base.specs.Lists.{IsPrefix}
 use Rattle.turn_pass.specs.declared.chronicle.Entry.{Entry}
 
@@ -17,3 +18,22 @@ pub record Record : Type 0 where
 pub record Begins (old new : Record) : Type 0 where
   pub head : new.head ≡ old.head
   pub entries : IsPrefix old.entries new.entries
+
+-- the entries that this maker made, in order
+abbrev pub made_by : ℕ → List Recorded → List Recorded
+made_by maker entries = filter (λ x. x.entry.maker == maker) entries
+
+-- this maker made them all
+abbrev pub AreMadeBy : ℕ → List Recorded → Type 0
+AreMadeBy maker entries = AllByRecursion (λ x. x.entry.maker ≡ maker) entries
+
+-- the entries of a record past those of the record that it opened with
+abbrev pub past : Record → Record → List Recorded
+past opening now = drop (length opening.entries) now.entries
+
+-- a record grew by entries of one maker alone
+pub record GrowsBy (maker : ℕ) (old new : Record) : Type 0 where
+  pub head : new.head ≡ old.head
+  pub added : List Recorded
+  pub entries : new.entries ≡ old.entries ++ added
+  pub makers : AreMadeBy maker added

@@ -1,7 +1,8 @@
 use Rattle.std.proofs.Common.{ℕ, List, [], length, sym, ◌∙◌, subst, arith, append-nil}
 use Rattle.std.specs.List.{AllByRecursion}
 use Rattle.board_bus.specs.Bodies.{replay}
-use Rattle.board_history.specs.Order.{Placed, places_of, CountsFrom}
+use Rattle.lane_record.specs.Lists.{CountsFrom}
+use Rattle.board_history.specs.Order.{Placed, places_of}
 use Rattle.board_history.specs.Parts.{IsReplyOf}
 use Rattle.board_history.specs.InTurn.{in_turn}
 use Rattle.board_history.proofs.Turns.{all_of, same_shape, all_replied, places_count, order_is, scripts_kept}

@@ -1,5 +1,5 @@
 use Rattle.std.proofs.Common.{◌∙◌, ap, List}
-use Rattle.transcript.specs.declared.outcome.Outcome.{Outcome}
+use Rattle.lane_record.specs.declared.outcome.Outcome.{Outcome}
 use Rattle.board_history.specs.Order.{bodies_of, order}
 use Rattle.board_history.specs.History.{bodies_by_client}
 use Rattle.direct_run.specs.Runs.{opening_of}

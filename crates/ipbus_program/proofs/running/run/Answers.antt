@@ -1,7 +1,7 @@
-use Rattle.std.proofs.Common.{subst, rules}
-use Rattle.session_input.specs.Deserved.{Deserves, BreaksInRun, IsRunnable}
+use Rattle.std.proofs.Common.{rules}
+use Rattle.session_input.specs.Deserved.{Deserves, BreaksInRun}
 use Rattle.ipbus_program.specs.declared.command.Command.TheVariants.{Run}
-use Rattle.ipbus_program.specs.Steps.{MayRun, Prints}
+use Rattle.ipbus_program.specs.Steps.{MayRun}
 use Rattle.ipbus_program.proofs.Ready.{may_run, printed}
 use Rattle.ipbus_program.proofs.Refusing.{refused_answer}
 use Rattle.ipbus_program.proofs.running.run.Goals as goal
@@ -15,7 +15,7 @@ transcript-requires c =
 
 pub returns-in-Ok : goal.returns-in-Ok
 returns-in-Ok c =
-    printed c.args.bytes.now c.in-Ok.read.session c.in-Ok.read.steps.items c.transcript.result c.in-Ok.ensures.runnable
+    printed c.a_runnable_session_shows_all_places.ensures c.args.bytes.now c.in-Ok.read.session c.in-Ok.read.steps.items c.transcript.result c.in-Ok.ensures.runnable
     (rw c.deref.ensures.value at c.transcript.ensures)
 
 pub returns-in-Err-Refused : goal.returns-in-Err-Refused

@@ -1,0 +1,265 @@
+-- What the lines of a session show over links that tell.
+use Rattle.std.proofs.Common.{◌≡◌, ◌≢◌, ◌⊎◌, ℕ, zero, suc, ◌+◌, List, [], ◌∷◌, length, map, Option, Some, None}
+use Rattle.std.proofs.Common.{refl, sym, ap, ◌∙◌, subst, inl, inr, arith}
+use Rattle.std.specs.List.{AllByRecursion, slice_get}
+use Rattle.std.proofs.lemmas.Option.{same_Some}
+use Rattle.ipb_base.specs.Word.{AreWords}
+use Rattle.ipb_base.proofs.AllLemmas.{front_of_all, back_of_all}
+use Rattle.board_bus.specs.Cells.{CellMap, HoldsWords}
+use Rattle.board_bus.specs.Bodies.{replay}
+use Rattle.board_node.specs.declared.spec.BoardSpec.{BoardSpec}
+use Rattle.board_node.specs.declared.spec.LinkSpec.{LinkSpec}
+use Rattle.board_node.specs.declared.spec.LinkSpec.TheVariants.{Sim, Udp}
+use Rattle.world_model.specs.Board.{Board}
+use Rattle.world_model.proofs.Lists.{at_map}
+use Rattle.reliable_engine.specs.Settings.{Limits}
+use Rattle.script_lang.specs.declared.operation.Step.{Step}
+use Rattle.lane_record.specs.declared.outcome.Outcome.{Outcome}
+use Rattle.lane_record.specs.declared.outcome.Outcome.TheVariants.{Replied, TimedOut, Unsent, LinkLost}
+use Rattle.lane_record.specs.Outcomes.{place_of}
+use Rattle.transcript.specs.declared.greeting.Greeting.{Greeting}
+use Rattle.transcript.specs.declared.greeting.Greeting.TheVariants.{Live, Silent, Down}
+use Rattle.transcript.specs.declared.board_run.ClientPart.{ClientPart}
+use Rattle.transcript.specs.declared.board_run.BoardRun.{BoardRun}
+use Rattle.transcript.specs.declared.line.OpResult.{OpResult}
+use Rattle.transcript.specs.declared.line.OpResult.TheVariants as result
+use Rattle.transcript.specs.Plan.{AreSpelled, plans_on}
+use Rattle.board_history.specs.Order.{Placed, with_place, placed, all_placed, order, bodies_of}
+use Rattle.board_history.specs.Parts.{IsReplyOf, IsReplied}
+use Rattle.board_history.specs.History.{ShowsHistory, bodies_by_client, outcomes_by_client}
+use Rattle.board_history.proofs.Sorting.{all_sorted, sorted_all}
+use Rattle.direct_run.specs.Runs.{RunsHere, greeting_of, opening_of}
+use Rattle.direct_run.specs.Answering.{AsksRequests, AskRequests}
+use Rattle.direct_run.specs.Lines.{IsBusResult}
+use Rattle.direct_run.proofs.Answering.{Answering, AnsweringAny, Keeping, KeepingAll, Garbling, Joins}
+use Rattle.direct_run.proofs.Asking.{Both}
+use Rattle.direct_run.proofs.BusResults.{IsUntold, IsFine}
+use Rattle.direct_run.proofs.BusLines.{FinePart, Shows, CanShow}
+use Rattle.direct_run.proofs.Readiness.{ArePackedFor, IsReady, AreReady}
+use Rattle.direct_run.proofs.Shaped.{Standing, lengths}
+use Rattle.direct_run.proofs.Spelled.{Spelling, parts_spelled}
+use Rattle.lane_history.specs.Links.{LinkReport, IsBoardOf}
+use Rattle.lane_history.specs.Runs.{TellsPayload, IsLiveRun, IsAsTold, IsRunOver, AreRunsOver, AreWholeRuns}
+use Rattle.lane_history.proofs.Ungarbled.{StandsIn, all_stand, HasWords, all_words, words_of, reply_told}
+use Rattle.lane_history.proofs.Shown.{is_history}
+
+-- what is allowed of the outcome of a body: a reply, or what else may be told of its transactions
+abbrev pub MayBe : (OpResult → Type 0) → Outcome → Type 0
+MayBe P outcome = (body : List ℕ) → IsReplied outcome ⊎ IsUntold P body outcome
+
+-- what is allowed of a run: of each outcome, and of a board that is not live
+pub record IsAllowed (P : OpResult → Type 0) (run : BoardRun) : Type 0 where
+  pub outcomes : AllByRecursion (AllByRecursion (MayBe P)) (outcomes_by_client run)
+  pub silent : run.greeting ≡ Silent → P result.Unsent
+  pub down : run.greeting ≡ Down → P result.LinkLost
+
+abbrev pub AreAllowed : (OpResult → Type 0) → List BoardRun → Type 0
+AreAllowed P runs = AllByRecursion (IsAllowed P) runs
+
+-- ---- a board of this process
+
+told_here : (link : LinkSpec) (payload : ℕ) → RunsHere link → TellsPayload link payload
+    → Live payload ≡ greeting_of link
+told_here (Sim mtu buffers first ranges fates) payload here packets = ap Live packets
+told_here (Udp address port wait) payload here packets = absurd here
+
+never_silent : (link : LinkSpec) → RunsHere link → greeting_of link ≡ Silent → ⊥
+never_silent (Sim mtu buffers first ranges fates) here e = absurd cc
+never_silent (Udp address port wait) here e = here
+
+never_down : (link : LinkSpec) → RunsHere link → greeting_of link ≡ Down → ⊥
+never_down (Sim mtu buffers first ranges fates) here e = absurd cc
+never_down (Udp address port wait) here e = here
+
+-- its link tells
+there_is : (link : LinkSpec) (board : Option Board) → RunsHere link → IsBoardOf link board
+    → (there : Board) × (board ≡ Some there)
+there_is (Sim mtu buffers first ranges fates) None here of = absurd of
+there_is (Sim mtu buffers first ranges fates) (Some there) here of = (there, refl)
+there_is (Udp address port wait) board here of = absurd here
+
+module _ (P : OpResult → Type 0) (answering : Answering) (any : AnsweringAny) (keeping : Keeping)
+    (keeping_all : KeepingAll) (garbling : Garbling) (joins : Joins) where
+  -- ---- a client
+
+  one_fine : (opening : CellMap) (ps : List Placed) (body : List ℕ) (outcome : Outcome) → HoldsWords opening
+      → AllByRecursion AreWords (bodies_of ps) → AreSpelled (body ∷ [])
+      → AllByRecursion (StandsIn ps) (with_place body (place_of outcome))
+      → IsReplyOf (replay opening (bodies_of ps)).replies outcome → IsReplied outcome → IsFine P body outcome
+  one_fine opening ps body (Replied place words) holds all spelled stand reply replied =
+      inl (reply_told answering any keeping keeping_all garbling joins opening (bodies_of ps) place body words holds all
+      spelled.0 (at_map (λ (p : Placed). p.body) ps place (record { place = place; body = body }) stand.0) reply)
+  one_fine opening ps body (TimedOut place rounds) holds all spelled stand reply replied = absurd replied
+  one_fine opening ps body Unsent holds all spelled stand reply replied = absurd replied
+  one_fine opening ps body (LinkLost place) holds all spelled stand reply replied = absurd replied
+
+  client_fine : (opening : CellMap) (ps : List Placed) (bodies : List (List ℕ)) (outcomes : List Outcome)
+      → HoldsWords opening → AllByRecursion AreWords (bodies_of ps) → AreSpelled bodies
+      → AllByRecursion (StandsIn ps) (placed bodies outcomes)
+      → AllByRecursion (IsReplyOf (replay opening (bodies_of ps)).replies) outcomes
+      → AllByRecursion (MayBe P) outcomes → length outcomes ≡ length bodies → Both (IsFine P) bodies outcomes
+  client_fine opening ps [] [] holds all spelled stand replies may same = tt
+  client_fine opening ps [] (o ∷ os) holds all spelled stand replies may same = absurd (omega (arith, same))
+  client_fine opening ps (b ∷ bs) [] holds all spelled stand replies may same = absurd (omega (arith, same))
+  client_fine opening ps (b ∷ bs) (o ∷ os) holds all spelled stand replies may same =
+      let mine = with_place b (place_of o) in
+      let rest = placed bs os in (
+        elim (may.0 b) [
+          | inl replied ↦ one_fine opening ps b o holds all (spelled.0, tt) (front_of_all (StandsIn ps) mine rest stand)
+              replies.0 replied
+          | inr other ↦ inr other
+        ],
+        client_fine opening ps bs os holds all spelled.1 (back_of_all (StandsIn ps) mine rest stand) replies.1 may.1
+            (omega (arith, same)),
+      )
+
+  parts_fine : (standing : Standing) (opening : CellMap) (ps : List Placed) (parts : List ClientPart)
+      → HoldsWords opening → AllByRecursion AreWords (bodies_of ps) → AllByRecursion AsksRequests parts
+      → AllByRecursion (StandsIn ps) (all_placed (map (λ (p : ClientPart). p.planned.bodies) parts)
+      (map (λ (p : ClientPart). p.outcomes) parts))
+      → AllByRecursion (AllByRecursion (IsReplyOf (replay opening (bodies_of ps)).replies))
+      (map (λ (p : ClientPart). p.outcomes) parts)
+      → AllByRecursion (AllByRecursion (MayBe P)) (map (λ (p : ClientPart). p.outcomes) parts)
+      → map length (map (λ (p : ClientPart). p.outcomes) parts)
+      ≡ map length (map (λ (p : ClientPart). p.planned.bodies) parts) → AllByRecursion (FinePart P) parts
+  parts_fine standing opening ps [] holds all asks stand replies may long = tt
+  parts_fine standing opening ps (p ∷ parts) holds all asks stand replies may long =
+      let mine = placed p.planned.bodies p.outcomes in
+      let rest = all_placed (map (λ (q : ClientPart). q.planned.bodies) parts)
+      (map (λ (q : ClientPart). q.outcomes) parts) in
+      let here = lengths standing p parts long in (
+        client_fine opening ps p.planned.bodies p.outcomes holds all asks.0
+            (front_of_all (StandsIn ps) mine rest stand) replies.0 may.0 here.first,
+        parts_fine standing opening ps parts holds all asks.1 (back_of_all (StandsIn ps) mine rest stand) replies.1
+            may.1 here.rest,
+      )
+
+  history_fine : (standing : Standing) (opening : CellMap) (run : BoardRun) → HoldsWords opening → AskRequests run
+      → ShowsHistory opening run → AllByRecursion (AllByRecursion (MayBe P)) (outcomes_by_client run)
+      → AllByRecursion (FinePart P) run.parts
+  history_fine standing opening run holds asks is may =
+      let placed_all = all_placed (bodies_by_client run) (outcomes_by_client run) in
+      let all = order (bodies_by_client run) (outcomes_by_client run) in
+      parts_fine standing opening all run.parts holds
+      (words_of all (all_sorted HasWords placed_all (all_words run.parts asks))) asks
+      (sorted_all (StandsIn all) placed_all (all_stand all is.one_order)) is.replies may is.shape
+
+  -- ---- a board
+
+  live_shows : (standing : Standing) (spelling : Spelling) (settings : Limits) (spec : BoardSpec) (board : ℕ)
+      (scripts : List (List Step)) (run : BoardRun) (link : LinkReport) (payload : ℕ) → run.greeting ≡ Live payload
+      → IsRunOver settings spec board scripts run link → IsReady spec board scripts → IsAllowed P run
+      → Shows P board payload scripts run
+  live_shows standing spelling settings spec board scripts run link payload greeted is ready may =
+      let live : IsLiveRun settings spec payload run link =
+      subst (IsAsTold settings spec run link) greeted is.as_told in
+      let told : Live payload ≡ greeting_of spec.link = told_here spec.link payload ready.here live.packets in
+      let there = there_is spec.link link.board ready.here is.board' in
+      let history = is_history settings spec board scripts run link there.0 payload is greeted there.1 in
+      let packed : AllByRecursion (ArePackedFor board (Live payload)) scripts =
+      subst (λ (g : Greeting). AllByRecursion (ArePackedFor board g) scripts) (sym told) ready.packed' in
+      let plans = is.scripts'.plans ∙ ap (λ (g : Greeting). plans_on board g scripts) greeted in
+      let asks = parts_spelled spelling board (Live payload) scripts run.parts plans packed in
+      record {
+        live = greeted;
+        plans' = plans;
+        told = history_fine standing (opening_of spec.link) run ready.words asks history may.outcomes;
+        packed' = packed;
+      }
+
+  board_shows : (standing : Standing) (spelling : Spelling) (settings : Limits) (spec : BoardSpec) (board : ℕ)
+      (scripts : List (List Step)) (run : BoardRun) (link : LinkReport) (told : Greeting) → run.greeting ≡ told
+      → IsRunOver settings spec board scripts run link → IsReady spec board scripts → IsAllowed P run
+      → CanShow P board scripts run
+  board_shows standing spelling settings spec board scripts run link (Live payload) greeted is ready may =
+      inl (payload, live_shows standing spelling settings spec board scripts run link payload greeted is ready may)
+  board_shows standing spelling settings spec board scripts run link Silent greeted is ready may =
+      inr (inl (greeted, may.silent greeted))
+  board_shows standing spelling settings spec board scripts run link Down greeted is ready may =
+      inr (inr (greeted, may.down greeted))
+
+  pub shows_at : (standing : Standing) (spelling : Spelling) (settings : Limits) (board : ℕ) (specs : List BoardSpec)
+      (scripts : List (List Step)) (runs : List BoardRun) (links : List LinkReport)
+      → AreRunsOver settings board specs scripts runs links → AreReady board specs scripts → AreAllowed P runs
+      → (k : ℕ) (run : BoardRun) → slice_get runs k ≡ Some run → CanShow P (board + k) scripts run
+  shows_at standing spelling settings board [] scripts [] [] is ready may k run at = absurd cc
+  shows_at standing spelling settings board [] scripts [] (l ∷ links) is ready may k run at = absurd is
+  shows_at standing spelling settings board [] scripts (r ∷ runs) links is ready may k run at = absurd is
+  shows_at standing spelling settings board (spec ∷ specs) scripts [] links is ready may k run at = absurd is
+  shows_at standing spelling settings board (spec ∷ specs) scripts (r ∷ runs) [] is ready may k run at = absurd is
+  shows_at standing spelling settings board (spec ∷ specs) scripts (r ∷ runs) (l ∷ links) is ready may zero run at =
+      let here = board_shows standing spelling settings spec board scripts r l r.greeting refl is.0 ready.0 may.0 in
+      let same : board ≡ board + 0 = omega arith in
+      subst (λ (b : ℕ). CanShow P b scripts run) same
+      (subst (λ (x : BoardRun). CanShow P board scripts x) (same_Some r run at) here)
+  shows_at standing spelling settings board (spec ∷ specs) scripts (r ∷ runs) (l ∷ links) is ready may (suc k) run at =
+      let later =
+      shows_at standing spelling settings (board + 1) specs scripts runs links is.1 ready.1 may.1 k run at in
+      let same : board + 1 + k ≡ board + suc k = omega arith in
+      subst (λ (b : ℕ). CanShow P b scripts run) same later
+
+-- ---- no line is garbled
+
+abbrev pub IsNotGarbled : OpResult → Type 0
+IsNotGarbled r = r ≢ result.Garbled
+
+pub bus_is_ungarbled : (r : OpResult) → IsBusResult r → IsNotGarbled r
+bus_is_ungarbled (result.Value words) bus = λ e. absurd cc
+bus_is_ungarbled result.Done bus = λ e. absurd cc
+bus_is_ungarbled (result.Was word) bus = λ e. absurd cc
+bus_is_ungarbled (result.Error code after) bus = λ e. absurd cc
+bus_is_ungarbled result.Skipped bus = λ e. absurd cc
+bus_is_ungarbled (result.TimedOut rounds) bus = absurd bus
+bus_is_ungarbled result.Unsent bus = absurd bus
+bus_is_ungarbled result.LinkLost bus = absurd bus
+bus_is_ungarbled result.Garbled bus = absurd bus
+
+any_outcome : (o : Outcome) → MayBe IsNotGarbled o
+any_outcome (Replied place words) body = inl tt
+any_outcome (TimedOut place rounds) body =
+    inr (record { allowed = λ index e. absurd cc; bad = λ index. refl })
+any_outcome Unsent body = inr (record { allowed = λ index e. absurd cc; bad = λ index. refl })
+any_outcome (LinkLost place) body = inr (record { allowed = λ index e. absurd cc; bad = λ index. refl })
+
+each_outcome : (os : List Outcome) → AllByRecursion (MayBe IsNotGarbled) os
+each_outcome [] = tt
+each_outcome (o ∷ os) = (any_outcome o, each_outcome os)
+
+all_outcomes : (oss : List (List Outcome)) → AllByRecursion (AllByRecursion (MayBe IsNotGarbled)) oss
+all_outcomes [] = tt
+all_outcomes (os ∷ oss) = (each_outcome os, all_outcomes oss)
+
+pub ungarbled_allowed : (runs : List BoardRun) → AreAllowed IsNotGarbled runs
+ungarbled_allowed [] = tt
+ungarbled_allowed (run ∷ runs) = (
+  record { outcomes = all_outcomes (outcomes_by_client run); silent = λ _ e. absurd cc; down = λ _ e. absurd cc },
+  ungarbled_allowed runs,
+)
+
+-- ---- where all were replied to, lines fail by codes of the bus alone
+
+replied_may : (os : List Outcome) → AllByRecursion IsReplied os → AllByRecursion (MayBe IsBusResult) os
+replied_may [] all = tt
+replied_may (o ∷ os) all = ((λ body. inl all.0), replied_may os all.1)
+
+all_may : (oss : List (List Outcome)) → AllByRecursion (AllByRecursion IsReplied) oss
+    → AllByRecursion (AllByRecursion (MayBe IsBusResult)) oss
+all_may [] all = tt
+all_may (os ∷ oss) all = (replied_may os all.0, all_may oss all.1)
+
+pub whole_allowed : (board : ℕ) (specs : List BoardSpec) (scripts : List (List Step)) (runs : List BoardRun)
+    (links : List LinkReport) → AreReady board specs scripts → AreWholeRuns specs runs links
+    → AreAllowed IsBusResult runs
+whole_allowed board [] scripts [] [] ready whole = tt
+whole_allowed board [] scripts [] (l ∷ links) ready whole = absurd whole
+whole_allowed board [] scripts (r ∷ runs) links ready whole = absurd whole
+whole_allowed board (spec ∷ specs) scripts [] links ready whole = absurd whole
+whole_allowed board (spec ∷ specs) scripts (r ∷ runs) [] ready whole = absurd whole
+whole_allowed board (spec ∷ specs) scripts (r ∷ runs) (l ∷ links) ready whole = (
+  record {
+    outcomes = all_may (outcomes_by_client r) whole.0.replied;
+    silent = λ e. absurd (never_silent spec.link ready.0.here (sym whole.0.greeting ∙ e));
+    down = λ e. absurd (never_down spec.link ready.0.here (sym whole.0.greeting ∙ e));
+  },
+  whole_allowed (board + 1) specs scripts runs links ready.1 whole.1,
+)

@@ -1,0 +1,189 @@
+-- A finished lane is a live run of its board.
+use Rattle.std.proofs.Common.{◌≡◌, ℕ, ◌+◌, ◌*◌, List, [], ◌∷◌, length, map, Option, Some, None, refl, sym, ap}
+use Rattle.std.proofs.Common.{◌∙◌, subst}
+use Rattle.std.specs.Prelude.{IfSome}
+use Rattle.std.specs.List.{AllByRecursion}
+use Rattle.board_bus.specs.Cells.{CellMap}
+use Rattle.board_node.specs.declared.spec.BoardSpec.{BoardSpec}
+use Rattle.world_model.specs.Board.{Board, executed}
+use Rattle.reliable_engine.specs.Settings.{Limits}
+use Rattle.script_lang.specs.declared.operation.Step.{Step}
+use Rattle.lane_record.specs.declared.outcome.Outcome.{Outcome}
+use Rattle.lane_record.specs.declared.item.Item.{Item}
+use Rattle.lane_record.specs.Claims.{claims, taken}
+use Rattle.lane_record.specs.FirstSends.{bodies_sent, first_sends}
+use Rattle.lane_record.specs.Legal.{IsLegal}
+use Rattle.lane_record.specs.Bounds.{AreLostOnlyIf, HasReached}
+use Rattle.transcript.specs.declared.greeting.Greeting.{Greeting}
+use Rattle.transcript.specs.declared.greeting.Greeting.TheVariants.{Live}
+use Rattle.transcript.specs.declared.board_run.ClientPart.{ClientPart}
+use Rattle.transcript.specs.declared.board_run.BoardRun.{BoardRun}
+use Rattle.board_history.specs.Order.{order, bodies_of}
+use Rattle.board_history.specs.Parts.{HasOneOrder, KeepsScripts, IsExecutedOnce, AreRepliesOf}
+use Rattle.board_history.specs.History.{IsHistory, bodies_by_client, outcomes_by_client, dispatches_by_client}
+use Rattle.board_history.specs.History.{dispatches_of}
+use Rattle.board_history.specs.Patience.{joined}
+use Rattle.transcript.specs.Plan.{plans_on}
+use Rattle.direct_run.specs.Runs.{opening_of}
+use Rattle.direct_run.proofs.Shaped.{Standing, is_cut, whole_again, heads, lengths, IsCut}
+use Rattle.lane_history.specs.Links.{LinkReport, HasFailed, IsBoardOf, IsLostOnlyIfFailed}
+use Rattle.lane_history.specs.Runs.{ShowsScripts, TellsPayload, IsTrueRun, IsLiveRun, IsAsTold, IsRunOver}
+use Rattle.lane_history.specs.Records.{IsClientsRecord}
+use Rattle.lane_history.specs.Lanes.{IsTrueOf, IsSoundLane}
+use Rattle.lane_history.proofs.Steps.{steps, steps_of_all, finished}
+use Rattle.lane_history.proofs.Orders.{in_order, order_is, one_order, keeps_scripts, sent_bodies}
+use Rattle.lane_history.proofs.Histories.{true_steps, executed_once, replies_of, each_outcome}
+use Rattle.lane_history.proofs.Histories.{became_outcomes}
+use Rattle.lane_history.proofs.Waits.{has_waited}
+
+-- ---- the outcomes of a run, dispatch by dispatch
+
+module _ (standing : Standing) where
+  parts_joined : (board : ℕ) (told : Greeting) (scripts : List (List Step)) (parts : List ClientPart)
+      → map (λ (p : ClientPart). p.planned) parts ≡ plans_on board told scripts
+      → map length (map (λ (p : ClientPart). p.outcomes) parts)
+      ≡ map length (map (λ (p : ClientPart). p.planned.bodies) parts)
+      → map joined (map dispatches_of parts) ≡ map (λ (p : ClientPart). p.outcomes) parts
+  parts_joined board told [] [] plans long = refl
+  parts_joined board told [] (part ∷ parts) plans long = absurd cc
+  parts_joined board told (steps ∷ scripts) [] plans long = absurd cc
+  parts_joined board told (steps ∷ scripts) (part ∷ parts) plans long =
+      let head = heads standing board told steps scripts part parts plans in
+      let here = lengths standing part parts long in
+      let cut = subst IsCut (sym head.plan') (is_cut standing board told steps) in
+      ap (λ (os : List Outcome). os ∷ map joined (map dispatches_of parts))
+      (whole_again standing part.planned part.outcomes cut here.first)
+      ∙ ap (λ (oss : List (List Outcome)). part.outcomes ∷ oss)
+      (parts_joined board told scripts parts head.plans' here.rest)
+
+  pub run_joined : (spec : BoardSpec) (board : ℕ) (scripts : List (List Step)) (run : BoardRun)
+      → ShowsScripts spec board scripts run → map joined (dispatches_by_client run) ≡ outcomes_by_client run
+  run_joined spec board scripts run shows =
+      parts_joined board run.greeting scripts run.parts shows.plans shows.shape
+
+-- ---- the parts
+
+pub in_one_order : (bodies : List (List (List ℕ))) (outcomes : List (List (List Outcome))) (items : List Item)
+    (became : List (Option Outcome)) → IsClientsRecord bodies outcomes items → IsLegal items became
+    → HasOneOrder bodies (map joined outcomes)
+in_one_order bodies outcomes items became is legal =
+    one_order bodies (map joined outcomes) (steps items) (steps_of_all bodies outcomes items became is legal)
+    (in_order items became legal (finished bodies outcomes items became is legal))
+
+pub in_script_order : (bodies : List (List (List ℕ))) (outcomes : List (List (List Outcome))) (items : List Item)
+    (became : List (Option Outcome)) → IsClientsRecord bodies outcomes items → IsLegal items became
+    → KeepsScripts bodies (map joined outcomes)
+in_script_order bodies outcomes items became is legal =
+    keeps_scripts bodies (map joined outcomes) (steps items) (steps_of_all bodies outcomes items became is legal)
+    (in_order items became legal (finished bodies outcomes items became is legal))
+
+pub done_once : (bodies : List (List (List ℕ))) (outcomes : List (List (List Outcome))) (items : List Item)
+    (became : List (Option Outcome)) (opening : CellMap) (done : List (List ℕ)) → IsClientsRecord bodies outcomes items
+    → IsLegal items became → IsTrueOf opening (claims items) became done
+    → IsExecutedOnce (order bodies (map joined outcomes)) (map joined outcomes) done
+done_once bodies outcomes items became opening done is legal true' =
+    let all = finished bodies outcomes items became is legal in
+    executed_once bodies (map joined outcomes) (steps items) opening done
+    (steps_of_all bodies outcomes items became is legal) (in_order items became legal all)
+    (true_steps opening items became done legal all true')
+
+pub are_replies : (bodies : List (List (List ℕ))) (outcomes : List (List (List Outcome))) (items : List Item)
+    (became : List (Option Outcome)) (opening : CellMap) (done : List (List ℕ)) → IsClientsRecord bodies outcomes items
+    → IsLegal items became → IsTrueOf opening (claims items) became done
+    → AreRepliesOf opening (order bodies (map joined outcomes)) (map joined outcomes)
+are_replies bodies outcomes items became opening done is legal true' =
+    let all = finished bodies outcomes items became is legal in
+    replies_of bodies (map joined outcomes) (steps items) opening done
+    (steps_of_all bodies outcomes items became is legal) (in_order items became legal all)
+    (true_steps opening items became done legal all true')
+
+same_lengths : (outcomes : List (List (List Outcome)))
+    → map length (map joined outcomes) ≡ map (λ (dispatches : List (List Outcome)). length (joined dispatches)) outcomes
+same_lengths [] = refl
+same_lengths (os ∷ others) = ap (λ (ns : List ℕ). length (joined os) ∷ ns) (same_lengths others)
+
+pub is_history : (bodies : List (List (List ℕ))) (outcomes : List (List (List Outcome))) (items : List Item)
+    (became : List (Option Outcome)) (opening : CellMap) (done : List (List ℕ)) → IsClientsRecord bodies outcomes items
+    → IsLegal items became → IsTrueOf opening (claims items) became done
+    → IsHistory opening bodies (map joined outcomes)
+is_history bodies outcomes items became opening done is legal true' = record {
+  shape = same_lengths outcomes ∙ is.shape;
+  one_order = in_one_order bodies outcomes items became is legal;
+  script_order = in_script_order bodies outcomes items became is legal;
+  replies = are_replies bodies outcomes items became opening done is legal true';
+}
+
+pub order_sent : (bodies : List (List (List ℕ))) (outcomes : List (List (List Outcome))) (items : List Item)
+    (became : List (Option Outcome)) → IsClientsRecord bodies outcomes items → IsLegal items became
+    → bodies_of (order bodies (map joined outcomes)) ≡ bodies_sent (first_sends items)
+order_sent bodies outcomes items became is legal =
+    ap bodies_of (order_is bodies (map joined outcomes) (steps items)
+    (steps_of_all bodies outcomes items became is legal)
+    (in_order items became legal (finished bodies outcomes items became is legal)))
+    ∙ sent_bodies (claims items) (taken items)
+
+pub only_lost : (bodies : List (List (List ℕ))) (outcomes : List (List (List Outcome))) (items : List Item)
+    (became : List (Option Outcome)) (link : LinkReport) → IsClientsRecord bodies outcomes items → IsLegal items became
+    → AreLostOnlyIf (HasFailed link) became
+    → AllByRecursion (AllByRecursion (IsLostOnlyIfFailed link)) (map joined outcomes)
+only_lost bodies outcomes items became link is legal lost =
+    each_outcome (IsLostOnlyIfFailed link) bodies (map joined outcomes) (steps items)
+    (steps_of_all bodies outcomes items became is legal)
+    (became_outcomes (IsLostOnlyIfFailed link) items became legal
+    (finished bodies outcomes items became is legal) (λ k o e is_so. lost k o e is_so))
+
+-- ---- all of it
+
+told_with : (P Q R : Board → Type 0) (board : Option Board) → ((b : Board) → P b → Q b → R b) → IfSome board P
+    → IfSome board Q → IfSome board R
+told_with P Q R None f p q = tt
+told_with P Q R (Some b) f p q = f b p q
+
+module _ (standing : Standing) where
+  live_run : (settings : Limits) (spec : BoardSpec) (board : ℕ) (scripts : List (List Step)) (run : BoardRun)
+      (link : LinkReport) (payload : ℕ) (items : List Item) (became : List (Option Outcome)) (given_up : ℕ)
+      → ShowsScripts spec board scripts run → TellsPayload spec.link payload
+      → IsClientsRecord (bodies_by_client run) (dispatches_by_client run) items
+      → IsSoundLane settings (opening_of spec.link) link items became given_up
+      → IsLiveRun settings spec payload run link
+  live_run settings spec board scripts run link payload items became given_up shows packets is lane =
+      let bodies = bodies_by_client run in
+      let outcomes = dispatches_by_client run in
+      let legal = lane.kept.legal in
+      let same = run_joined standing spec board scripts run shows in
+      record {
+        packets = packets;
+        one_order = subst (HasOneOrder bodies) same (in_one_order bodies outcomes items became is legal);
+        script_order = subst (KeepsScripts bodies) same (in_script_order bodies outcomes items became is legal);
+        rounds = has_waited settings.window (settings.rounds + 1) link.quiets given_up bodies outcomes items became is
+            lane.kept lane.waited;
+        lost = subst (AllByRecursion (AllByRecursion (IsLostOnlyIfFailed link))) same
+            (only_lost bodies outcomes items became link is legal lane.lost);
+        told = told_with (λ (b : Board). IsTrueOf (opening_of spec.link) (claims items) became (executed b))
+            (λ (b : Board). HasReached (settings.rounds * given_up) link.held)
+            (IsTrueRun settings (opening_of spec.link) run link.held) link.board
+            (λ b true' held. record {
+              executed_once = subst
+                  (λ (oss : List (List Outcome)). IsExecutedOnce (order bodies oss) oss (executed b)) same
+                  (done_once bodies outcomes items became (opening_of spec.link) (executed b) is legal true');
+              replies = subst
+                  (λ (oss : List (List Outcome)). AreRepliesOf (opening_of spec.link) (order bodies oss) oss) same
+                  (are_replies bodies outcomes items became (opening_of spec.link) (executed b) is legal true');
+              held' = has_waited settings.window settings.rounds link.held given_up bodies outcomes items became is
+                  lane.kept held;
+            }) lane.told lane.held;
+      }
+
+  pub run_over : (settings : Limits) (spec : BoardSpec) (board : ℕ) (scripts : List (List Step)) (run : BoardRun)
+      (link : LinkReport) (payload : ℕ) (items : List Item) (became : List (Option Outcome)) (given_up : ℕ)
+      → ShowsScripts spec board scripts run → IsBoardOf spec.link link.board → run.greeting ≡ Live payload
+      → TellsPayload spec.link payload → IsClientsRecord (bodies_by_client run) (dispatches_by_client run) items
+      → IsSoundLane settings (opening_of spec.link) link items became given_up
+      → IsRunOver settings spec board scripts run link
+  run_over settings spec board scripts run link payload items became given_up shows of greeted packets is lane =
+      record {
+        scripts' = shows;
+        board' = of;
+        as_told = subst (IsAsTold settings spec run link) (sym greeted)
+            (live_run settings spec board scripts run link payload items became given_up shows packets is lane);
+      }

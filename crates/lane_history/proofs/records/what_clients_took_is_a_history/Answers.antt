@@ -1,0 +1,8 @@
+use Rattle.lane_history.proofs.Live.{is_history, done_once}
+use Rattle.lane_history.proofs.records.what_clients_took_is_a_history.Goals as goal
+
+pub returns-clause-history : goal.returns-clause-history
+returns-clause-history c = is_history
+
+pub returns-clause-executed : goal.returns-clause-executed
+returns-clause-executed c = done_once

@@ -1,0 +1,41 @@
+-- What the lane of a board keeps at every exit of its calls: of its record, of what became of the Asks so far, and of
+-- its link. Profile.
+use Rattle.std.specs.Prelude.{◌≡◌, ℕ, ◌+◌, ◌*◌, List, map, slice_get, Option, Some, IfSome}
+use Rattle.ipb_base.specs.Lists.{IsPrefix}
+use Rattle.board_bus.specs.Cells.{CellMap}
+use Rattle.board_bus.specs.Bodies.{replay}
+use Rattle.world_model.specs.declared.offered.Offered.{Offered}
+use Rattle.world_model.specs.Board.{Board, executed}
+use Rattle.reliable_engine.specs.Settings.{Limits}
+use Rattle.lane_record.specs.declared.outcome.Outcome.{Outcome}
+use Rattle.lane_record.specs.declared.item.Item.{Item}
+use Rattle.lane_record.specs.Claims.{Claim, claims}
+use Rattle.lane_record.specs.Offers.{offers_from}
+use Rattle.lane_record.specs.Bounds.{IsKept, AreLostOnlyIf, HasReached}
+use Rattle.board_history.specs.Parts.{IsReplyOf}
+use Rattle.lane_history.specs.Links.{LinkReport, HasFailed}
+
+-- the bodies of the Asks that were sent or may still be, in the order of the Asks
+abbrev pub bodies_offered : List Claim → List (Option Outcome) → List (List ℕ)
+bodies_offered claims outcomes = map (λ (o : Offered). o.body) (offers_from 0 claims outcomes)
+
+-- What the board executed is a front of the bodies offered, and each reply is the one that a bus with a single thread
+-- gives at its place when it executes this front.
+pub record IsTrueOf (opening : CellMap) (claims : List Claim) (outcomes : List (Option Outcome))
+    (done : List (List ℕ)) : Type 0 where
+  pub front : IsPrefix done (bodies_offered claims outcomes)
+  pub replies : (k : ℕ) (outcome : Outcome) → slice_get outcomes k ≡ Some (Some outcome)
+      → IsReplyOf (replay opening done).replies outcome
+
+-- A lane that gave up so many times, whose board opened with this bus.
+pub record IsSoundLane (settings : Limits) (opening : CellMap) (link : LinkReport) (items : List Item)
+    (outcomes : List (Option Outcome)) (given_up : ℕ) : Type 0 where
+  -- its record is legal, its numbers of give-ups are at most these, and each ended at most `window` bodies
+  pub kept : IsKept items outcomes settings.window given_up
+  -- each give-up cost `rounds + 1` quiet receives
+  pub waited : HasReached ((settings.rounds + 1) * given_up) link.quiets
+  -- bodies are lost with the link only where the link failed
+  pub lost : AreLostOnlyIf (HasFailed link) outcomes
+  -- over a link that tells
+  pub told : IfSome link.board (λ (board : Board). IsTrueOf opening (claims items) outcomes (executed board))
+  pub held : IfSome link.board (λ (board : Board). HasReached (settings.rounds * given_up) link.held)

@@ -1,0 +1,154 @@
+-- What a run shows of boards whose links may lose, repeat, delay and reorder datagrams, and fail. Profile.
+use Rattle.std.specs.Prelude.{◌≡◌, ◌≢◌, ℕ, ◌+◌, ◌*◌, ◌≤◌, List, [], ◌∷◌, length, map, IfSome}
+use Rattle.std.specs.List.{AllByRecursion}
+use Rattle.ipb_base.specs.Numbers.{payload_of}
+use Rattle.mtu_packer.specs.declared.packing.TheConstants.{MIN_PAYLOAD, MAX_PAYLOAD}
+use Rattle.board_bus.specs.Cells.{CellMap}
+use Rattle.board_node.specs.declared.spec.BoardSpec.{BoardSpec}
+use Rattle.board_node.specs.declared.spec.LinkSpec.{LinkSpec}
+use Rattle.board_node.specs.declared.spec.LinkSpec.TheVariants.{Sim, Udp}
+use Rattle.world_model.specs.Board.{Board, executed}
+use Rattle.reliable_engine.specs.Settings.{Limits}
+use Rattle.script_lang.specs.declared.operation.Step.{Step}
+use Rattle.transcript.specs.declared.greeting.Greeting.{Greeting}
+use Rattle.transcript.specs.declared.greeting.Greeting.TheVariants.{Live, Silent, Down}
+use Rattle.transcript.specs.declared.body_end.Told.TheVariants.{Garbled}
+use Rattle.transcript.specs.declared.body_end.BodyEnd.{BodyEnd}
+use Rattle.transcript.specs.declared.line.OpResult.TheVariants as result
+use Rattle.transcript.specs.declared.line.OpLine.{OpLine}
+use Rattle.transcript.specs.declared.board_run.ClientPart.{ClientPart}
+use Rattle.transcript.specs.declared.board_run.BoardRun.{BoardRun}
+use Rattle.transcript.specs.Ends.{ends_of}
+use Rattle.transcript.specs.Plan.{ClientBodies, plans_on}
+use Rattle.transcript.specs.Shown.{IsPlanned}
+use Rattle.board_history.specs.Order.{order}
+use Rattle.board_history.specs.Parts.{HasOneOrder, KeepsScripts, AreRepliesOf, IsExecutedOnce, AllReplied}
+use Rattle.board_history.specs.History.{ShowsHistory, bodies_by_client, outcomes_by_client, dispatches_by_client}
+use Rattle.board_history.specs.Patience.{IsPatient}
+use Rattle.board_history.specs.Merges.{IsMergeOfSome, IsMergeOfAll}
+use Rattle.direct_run.specs.Runs.{greeting_of, opening_of}
+use Rattle.lane_history.specs.Links.{LinkReport, HasFailed, IsBoardOf, IsLostOnlyIfFailed}
+use Rattle.lane_history.specs.Links.{IsUntouched}
+
+-- ---- what the scripts ask
+
+-- The run is of the board at this position, and shows an outcome for each body that the clients' scripts ask of it.
+pub record ShowsScripts (spec : BoardSpec) (board : ℕ) (scripts : List (List Step)) (run : BoardRun) : Type 0 where
+  pub name : run.name ≡ spec.name
+  pub plans : IsPlanned board scripts run
+  pub shape : map length (outcomes_by_client run) ≡ map length (bodies_by_client run)
+
+-- what a live board told of the packets that it takes: a simulated one takes those of its MTU
+abbrev pub TellsPayload : LinkSpec → ℕ → Type 0
+TellsPayload (Sim mtu buffers first ranges fates) payload = payload ≡ payload_of mtu
+TellsPayload (Udp address port wait) payload = (MIN_PAYLOAD ≤ payload) × (payload ≤ MAX_PAYLOAD)
+
+-- ---- a live board
+
+-- Over a link that tells, so many datagrams having been held:
+pub record IsTrueRun (settings : Limits) (opening : CellMap) (run : BoardRun) (held : ℕ) (board : Board) : Type 0 where
+  -- the board executed a front of the order, each body once, and each body that was replied to
+  pub executed_once : IsExecutedOnce (order (bodies_by_client run) (outcomes_by_client run)) (outcomes_by_client run)
+      (executed board)
+  -- each reply is the one that a bus with a single thread gives at its place
+  pub replies : AreRepliesOf opening (order (bodies_by_client run) (outcomes_by_client run)) (outcomes_by_client run)
+  -- the hub gave up only where datagrams were held in each round
+  pub held' : IsPatient settings.window settings.rounds held (dispatches_by_client run)
+
+-- Of a board that answered the greeting, and its link:
+pub record IsLiveRun (settings : Limits) (spec : BoardSpec) (payload : ℕ) (run : BoardRun) (link : LinkReport)
+    : Type 0 where
+  pub packets : TellsPayload spec.link payload
+  -- the places are 1, 2, 3, .., and each belongs to one body
+  pub one_order : HasOneOrder (bodies_by_client run) (outcomes_by_client run)
+  -- the bodies of each client stand in the order of its script
+  pub script_order : KeepsScripts (bodies_by_client run) (outcomes_by_client run)
+  -- the hub gave up only after the rounds of the settings, each of which ended with a quiet receive
+  pub rounds : IsPatient settings.window (settings.rounds + 1) link.quiets (dispatches_by_client run)
+  -- a body was lost with the link only where the link failed
+  pub lost : AllByRecursion (AllByRecursion (IsLostOnlyIfFailed link)) (outcomes_by_client run)
+  pub told : IfSome link.board (IsTrueRun settings (opening_of spec.link) run link.held)
+
+-- ---- the others
+
+-- A board is silent only where each round of its greeting ended with a quiet receive or 64 datagrams of no use. Over a
+-- link that tells each ended with a quiet receive, datagrams were held in each, and the board executed nothing.
+pub record IsSilentRun (settings : Limits) (link : LinkReport) : Type 0 where
+  pub waited : 64 * settings.rounds ≤ 64 * link.quiets + link.gots
+  pub quiet : IfSome link.board (λ board. settings.rounds ≤ link.quiets)
+  pub held : IfSome link.board (λ board. settings.rounds ≤ link.held)
+  pub untouched : IsUntouched link
+
+-- A board is down only where its link failed at the greeting, and it executed nothing then.
+pub record IsDownRun (link : LinkReport) : Type 0 where
+  pub failed : HasFailed link
+  pub untouched : IsUntouched link
+
+-- ---- every board
+
+abbrev pub IsAsTold : Limits → BoardSpec → BoardRun → LinkReport → Greeting → Type 0
+IsAsTold settings spec run link (Live payload) = IsLiveRun settings spec payload run link
+IsAsTold settings spec run link Silent = IsSilentRun settings link
+IsAsTold settings spec run link Down = IsDownRun link
+
+-- What a run shows of the board at a position of a session, over this link.
+pub record IsRunOver (settings : Limits) (spec : BoardSpec) (board : ℕ) (scripts : List (List Step)) (run : BoardRun)
+    (link : LinkReport) : Type 0 where
+  pub scripts' : ShowsScripts spec board scripts run
+  pub board' : IsBoardOf spec.link link.board
+  pub as_told : IsAsTold settings spec run link run.greeting
+
+-- The same of all boards, the first of which has this position: there is one run and one link for each.
+abbrev pub AreRunsOver : Limits → ℕ → List BoardSpec → List (List Step) → List BoardRun → List LinkReport → Type 0
+AreRunsOver settings board [] scripts [] [] = Unit {0}
+AreRunsOver settings board (spec ∷ specs) scripts (run ∷ runs) (link ∷ links) =
+    IsRunOver settings spec board scripts run link × AreRunsOver settings (board + 1) specs scripts runs links
+AreRunsOver settings board specs scripts runs links = ⊥
+
+-- ---- replies
+
+-- the words of its reply, where it has one, are a reply to the body
+abbrev pub IsUngarbled : BodyEnd → Type 0
+IsUngarbled end = end.told ≢ Garbled
+
+-- so of no body of the board: each reply answers all transactions of its body
+abbrev pub NoneGarbled : BoardRun → Type 0
+NoneGarbled run = AllByRecursion (λ (part : ClientPart). AllByRecursion IsUngarbled (ends_of part)) run.parts
+
+-- no line of an operation shows so
+abbrev pub IsUngarbledLine : OpLine → Type 0
+IsUngarbledLine line = line.result ≢ result.Garbled
+
+-- ---- at any moment
+
+-- What the board at this position executed is a merge of bodies that the clients' scripts ask of it, each client's in
+-- its order.
+pub record ExecutedSome (spec : BoardSpec) (board : ℕ) (scripts : List (List Step)) (done : List (List ℕ))
+    : Type 0 where
+  pub payload : ℕ
+  pub told : TellsPayload spec.link payload
+  pub merge : IsMergeOfSome (map (λ (p : ClientBodies). p.bodies) (plans_on board (Live payload) scripts)) done
+
+-- ---- where nothing was held and nothing failed
+
+-- Each body was replied to, and the board executed all bodies of all clients, each client's in its order.
+pub record IsWholeRun (spec : BoardSpec) (run : BoardRun) (link : LinkReport) : Type 0 where
+  pub greeting : run.greeting ≡ greeting_of spec.link
+  pub replied : AllReplied (outcomes_by_client run)
+  pub history : ShowsHistory (opening_of spec.link) run
+  pub all_executed : IfSome link.board (λ board. IsMergeOfAll (bodies_by_client run) (executed board))
+
+-- the same of all boards
+abbrev pub AreWholeRuns : List BoardSpec → List BoardRun → List LinkReport → Type 0
+AreWholeRuns [] [] [] = Unit {0}
+AreWholeRuns (spec ∷ specs) (run ∷ runs) (link ∷ links) =
+    IsWholeRun spec run link × AreWholeRuns specs runs links
+AreWholeRuns specs runs links = ⊥
+
+-- what each board executed is a merge of what the scripts ask of it
+abbrev pub AllExecutedSome : ℕ → List BoardSpec → List (List Step) → List LinkReport → Type 0
+AllExecutedSome board [] scripts [] = Unit {0}
+AllExecutedSome board (spec ∷ specs) scripts (link ∷ links) =
+    IfSome link.board (λ there. ExecutedSome spec board scripts (executed there))
+    × AllExecutedSome (board + 1) specs scripts links
+AllExecutedSome board specs scripts links = ⊥

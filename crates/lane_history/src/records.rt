@@ -1,0 +1,132 @@
+//! From the record that clients leave to what a run may show. These functions do nothing when they run: their clauses
+//! are what is proved.
+
+ghost use Rattle.std.specs.Prelude.{◌≡◌, ℕ, ◌*◌, List, map, IfSome, Option};
+ghost use Rattle.std.specs.List.{AllByRecursion};
+ghost use Rattle.ipb_base.specs.Lists.{IsPrefix};
+ghost use Rattle.board_bus.specs.Cells.{CellMap};
+ghost use Rattle.board_node.specs.declared.spec.BoardSpec.{BoardSpec};
+ghost use Rattle.world_model.specs.Board.{executed};
+ghost use Rattle.reliable_engine.specs.Settings.{Limits};
+ghost use Rattle.script_lang.specs.declared.operation.Step.{Step};
+ghost use Rattle.lane_record.specs.declared.outcome.Outcome.{Outcome};
+ghost use Rattle.lane_record.specs.declared.item.Item.{Item};
+ghost use Rattle.lane_record.specs.Lists.{NeverFalls};
+ghost use Rattle.lane_record.specs.Claims.{IsFinished, claims};
+ghost use Rattle.lane_record.specs.FirstSends.{bodies_sent, first_sends};
+ghost use Rattle.lane_record.specs.Legal.{IsLegal};
+ghost use Rattle.lane_record.specs.Bounds.{AreLostOnlyIf, HasReached, IsKept};
+ghost use Rattle.transcript.specs.declared.greeting.Greeting.TheVariants.{Live};
+ghost use Rattle.transcript.specs.declared.board_run.BoardRun.{BoardRun};
+ghost use Rattle.transcript.specs.Plan.{ClientBodies, plans_on};
+ghost use Rattle.board_history.specs.Order.{bodies_of, order};
+ghost use Rattle.board_history.specs.Parts.{HasOneOrder, IsExecutedOnce, KeepsScripts};
+ghost use Rattle.board_history.specs.InTurn.{AreInTurn};
+ghost use Rattle.board_history.specs.History.{IsHistory, bodies_by_client, dispatches_by_client, outcomes_by_client};
+ghost use Rattle.board_history.specs.Patience.{IsPatient, joined};
+ghost use Rattle.board_history.specs.Merges.{IsMergeOfSome};
+ghost use Rattle.direct_run.specs.Runs.{opening_of};
+ghost use Rattle.lane_history.specs.Links.{HasFailed, IsBoardOf, IsLostOnlyIfFailed, IsUntouched, LinkReport};
+ghost use Rattle.lane_history.specs.Runs.{ExecutedSome, IsRunOver, ShowsScripts, TellsPayload};
+ghost use Rattle.lane_history.specs.Records.{IsClientsRecord, IsPartlyPlanned, makers};
+ghost use Rattle.lane_history.specs.Lanes.{IsSoundLane, IsTrueOf, bodies_offered};
+
+use transcript::laws::bodies_stand_dispatch_by_dispatch;
+
+/// In the record that clients leave every Ask has its Took.
+pub fn a_clients_record_is_finished()
+    ensures { (bodies : List (List (List ℕ))) (outcomes : List (List (List Outcome))) (items : List Item)
+        (became : List (Option Outcome)) → IsClientsRecord bodies outcomes items → IsLegal items became →
+        IsFinished items }
+{}
+
+/// The order of a board is the first sends that its lane's record tells: the places are 1, 2, 3, .., each of one body,
+/// and each client's bodies stand in the order of its script.
+pub fn the_order_is_the_first_sends()
+    ensures order { (bodies : List (List (List ℕ))) (outcomes : List (List (List Outcome))) (items : List Item)
+        (became : List (Option Outcome)) → IsClientsRecord bodies outcomes items → IsLegal items became →
+        HasOneOrder bodies (map joined outcomes) }
+    ensures scripts { (bodies : List (List (List ℕ))) (outcomes : List (List (List Outcome))) (items : List Item)
+        (became : List (Option Outcome)) → IsClientsRecord bodies outcomes items → IsLegal items became →
+        KeepsScripts bodies (map joined outcomes) }
+    ensures sends { (bodies : List (List (List ℕ))) (outcomes : List (List (List Outcome))) (items : List Item)
+        (became : List (Option Outcome)) → IsClientsRecord bodies outcomes items → IsLegal items became →
+        bodies_of (order bodies (map joined outcomes)) ≡ bodies_sent (first_sends items) }
+{}
+
+/// Over a link that tells, what clients took is one legal history of the board: each packet was executed at most once,
+/// in the one order, and each reply is that of a bus with a single thread.
+pub fn what_clients_took_is_a_history()
+    ensures history { (bodies : List (List (List ℕ))) (outcomes : List (List (List Outcome))) (items : List Item)
+        (became : List (Option Outcome)) (opening : CellMap) (done : List (List ℕ)) →
+        IsClientsRecord bodies outcomes items → IsLegal items became →
+        IsTrueOf opening (claims items) became done → IsHistory opening bodies (map joined outcomes) }
+    ensures executed { (bodies : List (List (List ℕ))) (outcomes : List (List (List Outcome))) (items : List Item)
+        (became : List (Option Outcome)) (opening : CellMap) (done : List (List ℕ)) →
+        IsClientsRecord bodies outcomes items → IsLegal items became →
+        IsTrueOf opening (claims items) became done →
+        IsExecutedOnce (order bodies (map joined outcomes)) (map joined outcomes) done }
+{}
+
+/// Who gave up has waited: where each give-up of the lane cost so much, the timed-out bodies and the dispatches that a
+/// client found given up cost so much in all.
+pub fn who_gave_up_has_waited()
+    ensures { (window cost paid given_up : ℕ) (bodies : List (List (List ℕ)))
+        (outcomes : List (List (List Outcome))) (items : List Item) (became : List (Option Outcome)) →
+        IsClientsRecord bodies outcomes items → IsKept items became window given_up →
+        HasReached (cost * given_up) paid → IsPatient window cost paid outcomes }
+{}
+
+/// Bodies are lost with the link only where it failed.
+pub fn bodies_are_lost_with_a_failed_link()
+    ensures { (bodies : List (List (List ℕ))) (outcomes : List (List (List Outcome))) (items : List Item)
+        (became : List (Option Outcome)) (link : LinkReport) → IsClientsRecord bodies outcomes items →
+        IsLegal items became → AreLostOnlyIf (HasFailed link) became →
+        AllByRecursion (AllByRecursion (IsLostOnlyIfFailed link)) (map joined outcomes) }
+{}
+
+/// At any moment what a board executed is a merge of subsequences, one of each client's bodies, whatever was asked and
+/// taken so far. The record that clients leave is one whose Plans are their bodies.
+pub fn a_board_executes_a_merge_at_any_moment()
+    ensures merge { (bodies : List (List (List ℕ))) (items : List Item) (became : List (Option Outcome))
+        (done : List (List ℕ)) → IsLegal items became → IsPartlyPlanned bodies items →
+        IsPrefix done (bodies_offered (claims items) became) → IsMergeOfSome bodies done }
+    ensures planned { (bodies : List (List (List ℕ))) (outcomes : List (List (List Outcome))) (items : List Item) →
+        IsClientsRecord bodies outcomes items → IsPartlyPlanned bodies items }
+{}
+
+/// So it is of a lane that was left in the midst of a session, and of a board that was not touched: each executed a
+/// merge of bodies that the scripts ask of it, each client's in its order.
+pub fn a_lane_left_at_any_moment_executed_a_merge()
+    ensures lane { (settings : Limits) (spec : BoardSpec) (board : ℕ) (scripts : List (List Step)) (link : LinkReport)
+        (payload : ℕ) (items : List Item) (became : List (Option Outcome)) (given_up : ℕ) →
+        TellsPayload spec.link payload →
+        IsPartlyPlanned (map (λ (p : ClientBodies). p.bodies) (plans_on board (Live payload) scripts)) items →
+        IsSoundLane settings (opening_of spec.link) link items became given_up →
+        IfSome link.board (λ there. ExecutedSome spec board scripts (executed there)) }
+    ensures untouched { (spec : BoardSpec) (board : ℕ) (scripts : List (List Step)) (link : LinkReport) →
+        IsUntouched link → IfSome link.board (λ there. ExecutedSome spec board scripts (executed there)) }
+{}
+
+/// Where the entries stand client by client behind the Plans, the places of the first client's bodies are 1, 2, .., and
+/// those of the next client's go on from there.
+pub fn clients_one_after_another_are_in_turn()
+    ensures { (spec : BoardSpec) (board : ℕ) (scripts : List (List Step)) (run : BoardRun) (items : List Item)
+        (became : List (Option Outcome)) → ShowsScripts spec board scripts run →
+        (is : IsClientsRecord (bodies_by_client run) (dispatches_by_client run) items) → IsLegal items became →
+        NeverFalls 0 (makers is.past) → AreInTurn (bodies_by_client run) (outcomes_by_client run) }
+{
+    bodies_stand_dispatch_by_dispatch();
+}
+
+/// A finished lane is a live run of its board: what its record and its link tell is what the run may show.
+pub fn a_finished_lane_is_a_live_run()
+    ensures { (settings : Limits) (spec : BoardSpec) (board : ℕ) (scripts : List (List Step)) (run : BoardRun)
+        (link : LinkReport) (payload : ℕ) (items : List Item) (became : List (Option Outcome)) (given_up : ℕ) →
+        ShowsScripts spec board scripts run → IsBoardOf spec.link link.board → run.greeting ≡ Live payload →
+        TellsPayload spec.link payload → IsClientsRecord (bodies_by_client run) (dispatches_by_client run) items →
+        IsSoundLane settings (opening_of spec.link) link items became given_up →
+        IsRunOver settings spec board scripts run link }
+{
+    bodies_stand_dispatch_by_dispatch();
+}

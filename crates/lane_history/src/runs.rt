@@ -1,0 +1,141 @@
+//! What follows from what a run shows of its boards and their links. These functions do nothing when they run: their
+//! clauses are what is proved.
+
+ghost use Rattle.std.specs.Prelude.{◌≡◌, ℕ, ◌≤◌, List, Some};
+ghost use Rattle.std.specs.List.{AllByRecursion, count_by};
+ghost use Rattle.board_node.specs.declared.spec.BoardSpec.{BoardSpec};
+ghost use Rattle.world_model.specs.Board.{Board};
+ghost use Rattle.reliable_engine.specs.Settings.{Limits};
+ghost use Rattle.script_lang.specs.Executable.{AreExecutable, OpensOnWords};
+ghost use Rattle.script_lang.specs.declared.operation.Step.{Step};
+ghost use Rattle.lane_record.specs.Outcomes.{is_timed_out};
+ghost use Rattle.transcript.specs.declared.greeting.Greeting.TheVariants.{Live};
+ghost use Rattle.transcript.specs.declared.board_run.BoardRun.{BoardRun};
+ghost use Rattle.transcript.specs.Lines.{outcomes_on, transcript_of};
+ghost use Rattle.transcript.specs.Shown.{HaveOwnNames, ShowsAllPlaces};
+ghost use Rattle.board_history.specs.InTurn.{AreInTurn};
+ghost use Rattle.board_history.specs.History.{ShowsHistory, bodies_by_client, dispatches_by_client};
+ghost use Rattle.board_history.specs.History.{outcomes_by_client};
+ghost use Rattle.board_history.specs.Patience.{time_outs};
+ghost use Rattle.direct_run.specs.Runs.{AreRuns, CanRun, opening_of};
+ghost use Rattle.direct_run.specs.Lines.{IsBusLine};
+ghost use Rattle.direct_run.specs.Answering.{AskRequests, OpensWithWords};
+ghost use Rattle.lane_history.specs.Links.{IsCalm, LinkReport};
+ghost use Rattle.lane_history.specs.Runs.{AllExecutedSome, AreRunsOver, AreWholeRuns, IsRunOver, IsUngarbledLine};
+ghost use Rattle.lane_history.specs.Runs.{NoneGarbled, ShowsScripts};
+
+use board_bus::laws::{a_reply_answers_its_body, words_stay_words};
+use board_history::place_laws::lines_show_all_places;
+use mtu_packer::laws::{operations_of_words_are_packed, packed_bodies_spell_requests};
+use reply_join::laws::{
+    each_answer_is_that_of_its_request, each_request_has_one_answer, joining_is_a_function,
+};
+use transaction_codec::laws::one_list_for_words;
+use transcript::laws::bodies_stand_dispatch_by_dispatch;
+
+/// Over a link that tells, what a run shows of a live board is one legal history of it.
+pub fn a_live_board_shows_a_history()
+    ensures { (settings : Limits) (spec : BoardSpec) (board : ℕ) (scripts : List (List Step)) (run : BoardRun)
+        (link : LinkReport) (there : Board) (payload : ℕ) → IsRunOver settings spec board scripts run link →
+        run.greeting ≡ Live payload → link.board ≡ Some there → ShowsHistory (opening_of spec.link) run }
+{}
+
+/// Over a link that tells no reply is garbled: each answers all transactions of its body. The board opens with words of
+/// 32 bits, and the bodies are those of requests.
+pub fn no_reply_is_garbled()
+    ensures { (settings : Limits) (spec : BoardSpec) (board : ℕ) (scripts : List (List Step)) (run : BoardRun)
+        (link : LinkReport) (there : Board) → IsRunOver settings spec board scripts run link →
+        link.board ≡ Some there → OpensWithWords spec → AskRequests run → NoneGarbled run }
+{
+    a_reply_answers_its_body();
+    words_stay_words();
+    joining_is_a_function();
+}
+
+/// The lines of a session show of each board the places 1, 2, .. up to the number of first sends that its line tells,
+/// each in some line, and no other place. A board that is silent or down shows none.
+pub fn lines_show_the_order_of_each_board()
+    ensures { (settings : Limits) (specs : List BoardSpec) (scripts : List (List Step)) (runs : List BoardRun)
+        (links : List LinkReport) → AreRunsOver settings 0 specs scripts runs links → HaveOwnNames runs →
+        ShowsAllPlaces (transcript_of scripts runs) }
+{
+    lines_show_all_places();
+}
+
+/// The timeouts that bound the patience of a board are those that its line counts.
+pub fn a_board_line_counts_the_time_outs()
+    ensures { (spec : BoardSpec) (board : ℕ) (scripts : List (List Step)) (run : BoardRun) →
+        ShowsScripts spec board scripts run →
+        time_outs (dispatches_by_client run) ≡ count_by is_timed_out (outcomes_on run) }
+{
+    bodies_stand_dispatch_by_dispatch();
+}
+
+/// What each board executed is a merge of bodies that the scripts ask of it, each client's in its order.
+pub fn each_board_executes_a_merge()
+    ensures { (settings : Limits) (board : ℕ) (specs : List BoardSpec) (scripts : List (List Step))
+        (runs : List BoardRun) (links : List LinkReport) → AreRunsOver settings board specs scripts runs links →
+        AllExecutedSome board specs scripts links }
+{}
+
+/// Where every link tells, nothing was held and nothing failed, every body is replied to, what a run shows is one
+/// history, and each board executed all bodies of all clients, each client's in its order.
+pub fn calm_links_answer_all()
+    ensures { (settings : Limits) (board : ℕ) (specs : List BoardSpec) (scripts : List (List Step))
+        (runs : List BoardRun) (links : List LinkReport) → 1 ≤ settings.rounds → AllByRecursion IsCalm links →
+        AreRunsOver settings board specs scripts runs links → AreWholeRuns specs runs links }
+{
+    bodies_stand_dispatch_by_dispatch();
+}
+
+/// Where moreover the clients of each board ran one after another, the runs are those of clients in turn on boards of
+/// this process: so what the session prints is determined.
+pub fn calm_links_in_turn_are_boards_of_this_process()
+    ensures { (settings : Limits) (board : ℕ) (specs : List BoardSpec) (scripts : List (List Step))
+        (runs : List BoardRun) (links : List LinkReport) → 1 ≤ settings.rounds → AllByRecursion IsCalm links →
+        AreRunsOver settings board specs scripts runs links →
+        AllByRecursion (λ (run : BoardRun). AreInTurn (bodies_by_client run) (outcomes_by_client run)) runs →
+        AreRuns board specs scripts runs }
+{
+    bodies_stand_dispatch_by_dispatch();
+}
+
+/// No line of a session is garbled, whatever the links of its boards lose, repeat, delay or reorder, and where they
+/// fail. The boards are simulated and open with words of 32 bits, and the scripts can be executed, as it is of every
+/// session that can be run.
+pub fn no_line_is_garbled()
+    ensures { (settings : Limits) (specs : List BoardSpec) (scripts : List (List Step)) (runs : List BoardRun)
+        (links : List LinkReport) → AreRunsOver settings 0 specs scripts runs links →
+        AllByRecursion CanRun specs → AllByRecursion OpensOnWords specs → AllByRecursion AreExecutable scripts →
+        AllByRecursion (AllByRecursion IsUngarbledLine) (transcript_of scripts runs).clients }
+{
+    bodies_stand_dispatch_by_dispatch();
+    a_reply_answers_its_body();
+    words_stay_words();
+    joining_is_a_function();
+    each_request_has_one_answer();
+    each_answer_is_that_of_its_request();
+    one_list_for_words();
+    packed_bodies_spell_requests();
+    operations_of_words_are_packed();
+}
+
+/// Where moreover nothing was held and nothing failed, each line is a value, `done`, `was`, a code of the bus or
+/// skipped: none is garbled, timed out, unsent or lost with its link, in whatever order the clients ran.
+pub fn calm_lines_fail_by_codes_of_the_bus_alone()
+    ensures { (settings : Limits) (specs : List BoardSpec) (scripts : List (List Step)) (runs : List BoardRun)
+        (links : List LinkReport) → 1 ≤ settings.rounds → AllByRecursion IsCalm links →
+        AreRunsOver settings 0 specs scripts runs links → AllByRecursion CanRun specs →
+        AllByRecursion OpensOnWords specs → AllByRecursion AreExecutable scripts →
+        AllByRecursion (AllByRecursion IsBusLine) (transcript_of scripts runs).clients }
+{
+    bodies_stand_dispatch_by_dispatch();
+    a_reply_answers_its_body();
+    words_stay_words();
+    joining_is_a_function();
+    each_request_has_one_answer();
+    each_answer_is_that_of_its_request();
+    one_list_for_words();
+    packed_bodies_spell_requests();
+    operations_of_words_are_packed();
+}

@@ -1,0 +1,380 @@
+-- The places that lines show are those of bodies.
+use Rattle.std.proofs.Common.{◌≡◌, ◌↔◌, ℕ, zero, suc, ◌+◌, ◌<◌, ◌==◌, cond, List, [], ◌∷◌, ◌++◌, length}
+use Rattle.std.proofs.Common.{map, Option, Some, None, option_to_list, refl, sym, ap, subst, ◌∙◌, inl, inr, arith}
+use Rattle.std.specs.List.{Any, slice_get, zip}
+use Rattle.std.specs.Option.{option_map}
+use Rattle.std.proofs.lemmas.Bool.{cases_Bool, cases_lt}
+use Rattle.std.proofs.lemmas.Bool.Decides.{nat_tests}
+use Rattle.std.proofs.lemmas.List.Sums.{sum_by-cons}
+use Rattle.std.proofs.lemmas.Option.{same_Some, slice_get_within, get_or_from_slice_get}
+use Rattle.mtu_packer.proofs.AnyLemmas.{any_nowhere, any_here, any_later, any_cases, any_front, any_back, any_append}
+use Rattle.mtu_packer.proofs.AnyLemmas.{any_at, at_any}
+use Rattle.script_lang.specs.declared.operation.RegOp.{RegOp}
+use Rattle.script_lang.specs.declared.operation.Step.{Step}
+use Rattle.transcript.specs.declared.greeting.Greeting.{Greeting}
+use Rattle.transcript.specs.declared.greeting.Greeting.TheVariants.{Live, Silent, Down}
+use Rattle.lane_record.specs.declared.outcome.Outcome.{Outcome}
+use Rattle.transcript.specs.declared.planned.PieceAt.{PieceAt}
+use Rattle.transcript.specs.declared.body_end.BodyEnd.{BodyEnd}
+use Rattle.transcript.specs.declared.board_run.ClientPart.{ClientPart}
+use Rattle.transcript.specs.declared.board_run.BoardRun.{BoardRun}
+use Rattle.transcript.specs.declared.line.OpLine.{OpLine}
+use Rattle.transcript.specs.Plan.{ClientBodies, operations, plan, planned_on, all_dispatches}
+use Rattle.transcript.specs.Ends.{end_of, ends_of, place_at, place_in, piece_place}
+use Rattle.transcript.specs.Results.{op_places}
+use Rattle.transcript.specs.Lines.{by_pieces, in_part, showing, count_on, line_of, lines_behind, client_lines, lines_from}
+use Rattle.transcript.specs.Shown.{ShowsPlace, IsShown, EndsAt, HasBodyAt, IsPlaceOn, IsPlanned, ArePlanned}
+use Rattle.transcript.specs.Shown.{HaveOwnNames, HasPiece}
+use Rattle.transcript.proofs.LineLemmas.{count_by-append}
+use Rattle.transcript.proofs.Covering.{each_has_pieces}
+use Rattle.transcript.proofs.EachBody.{BodiesHavePieces, each_body}
+
+abbrev IsAtPlace : ℕ → ℕ × ℕ → Type 0
+IsAtPlace place at = at.0 ≡ place
+
+-- ---- the places of an operation
+
+placed_end : (end : BodyEnd) (place index : ℕ) (found : Option ℕ) → end.place ≡ found
+    → Any (IsAtPlace place) (place_at found index) → EndsAt place end
+placed_end end place index None is any = absurd (any_nowhere (IsAtPlace place) any)
+placed_end end place index (Some here) is any =
+    elim (any_cases (IsAtPlace place) (here, index + 1) [] any) [
+      | inl same ↦ is ∙ ap (λ n. Some n) same
+      | inr none ↦ absurd (any_nowhere (IsAtPlace place) none)
+    ]
+
+piece_end : (ends : List BodyEnd) (place body index : ℕ) (found : Option BodyEnd) → slice_get ends body ≡ found
+    → Any (IsAtPlace place) (place_in found index) → Any (EndsAt place) ends
+piece_end ends place body index None at any = absurd (any_nowhere (IsAtPlace place) any)
+piece_end ends place body index (Some end) at any =
+    any_at (EndsAt place) ends body end at (placed_end end place index end.place refl any)
+
+op_end : (ends : List BodyEnd) (place : ℕ) (pieces : List PieceAt) → Any (IsAtPlace place) (op_places ends pieces)
+    → Any (EndsAt place) ends
+op_end ends place [] any = absurd (any_nowhere (IsAtPlace place) any)
+op_end ends place (p ∷ ps) any =
+    elim (any_append (IsAtPlace place) (piece_place ends p) (op_places ends ps) any) [
+      | inl here ↦ piece_end ends place p.body p.index (slice_get ends p.body) refl here
+      | inr later ↦ op_end ends place ps later
+    ]
+
+end_op : (ends : List BodyEnd) (place body : ℕ) (end : BodyEnd) → slice_get ends body ≡ Some end → EndsAt place end
+    → (pieces : List PieceAt) → Any (λ (p : PieceAt). p.body ≡ body) pieces
+    → Any (IsAtPlace place) (op_places ends pieces)
+end_op ends place body end at is [] any = absurd (any_nowhere (λ (p : PieceAt). p.body ≡ body) any)
+end_op ends place body end at is (p ∷ ps) any =
+    elim (any_cases (λ (q : PieceAt). q.body ≡ body) p ps any) [
+      | inl same ↦
+          let there : slice_get ends p.body ≡ Some end = ap (λ n. slice_get ends n) same ∙ at in
+          any_front (IsAtPlace place) (piece_place ends p) (op_places ends ps)
+          (subst (λ (o : Option BodyEnd). Any (IsAtPlace place) (place_in o p.index)) (sym there)
+          (subst (λ (o : Option ℕ). Any (IsAtPlace place) (place_at o p.index)) (sym is)
+          (any_here (IsAtPlace place) (place, p.index + 1) [] refl)))
+      | inr later ↦ any_back (IsAtPlace place) (piece_place ends p) (op_places ends ps)
+          (end_op ends place body end at is ps later)
+    ]
+
+-- ---- what is told of an operation on a board
+
+pieces_place : (part : ClientPart) (op : RegOp) (place : ℕ) (found : Option (List PieceAt))
+    → Any (IsAtPlace place) (by_pieces part op found).1 → HasBodyAt place part
+pieces_place part op place None any = absurd (any_nowhere (IsAtPlace place) any)
+pieces_place part op place (Some pieces) any = op_end (ends_of part) place pieces any
+
+part_place : (parts : List ClientPart) (client k : ℕ) (op : RegOp) (place : ℕ) (found : Option ClientPart)
+    → slice_get parts client ≡ found → Any (IsAtPlace place) (in_part found k op).1 → Any (HasBodyAt place) parts
+part_place parts client k op place None at any = absurd (any_nowhere (IsAtPlace place) any)
+part_place parts client k op place (Some part) at any =
+    any_at (HasBodyAt place) parts client part at
+    (pieces_place part op place (slice_get part.planned.pieces k) any)
+
+shown_place : (run : BoardRun) (client k : ℕ) (op : RegOp) (place : ℕ) (told : Greeting) → run.greeting ≡ told
+    → Any (IsAtPlace place) (showing run client k op).1 → IsPlaceOn run place
+shown_place run client k op place (Live payload) is any =
+    part_place run.parts client k op place (slice_get run.parts client) refl (rw is at any)
+shown_place run client k op place Silent is any = absurd (any_nowhere (IsAtPlace place) (rw is at any))
+shown_place run client k op place Down is any = absurd (any_nowhere (IsAtPlace place) (rw is at any))
+
+-- ---- lines
+
+module _ (P : OpLine → Type 0) (runs : List BoardRun) (client : ℕ) where
+  record Line : Type 0 where
+    before : List RegOp
+    op : RegOp
+    run : BoardRun
+    there : slice_get runs op.board ≡ Some run
+    holds : P (line_of client before op run)
+
+  one_line : (before : List RegOp) (op : RegOp) (found : Option BoardRun) → slice_get runs op.board ≡ found
+      → Any P (option_to_list (option_map (line_of client before op) found)) → Line
+  one_line before op None at any = absurd (any_nowhere P any)
+  one_line before op (Some run) at any = elim (any_cases P (line_of client before op run) [] any) [
+    | inl here ↦ record { before = before; op = op; run = run; there = at; holds = here }
+    | inr none ↦ absurd (any_nowhere P none)
+  ]
+
+  line_found : (before ops : List RegOp) → Any P (lines_behind runs client before ops) → Line
+  line_found before [] any = absurd (any_nowhere P any)
+  line_found before (op ∷ ops) any =
+      elim (any_append P (option_to_list (option_map (line_of client before op) (slice_get runs op.board)))
+      (lines_behind runs client (before ++ op ∷ []) ops) any) [
+        | inl here ↦ one_line before op (slice_get runs op.board) refl here
+        | inr later ↦ line_found (before ++ op ∷ []) ops later
+      ]
+
+  module _ (board : ℕ) (run : BoardRun) (there : slice_get runs board ≡ Some run) where
+    -- what holds of the line of operation n, from 0, of those on the board that follow some
+    abbrev HoldsAt : ℕ → Type 0
+    HoldsAt n = (before : List RegOp) (op : RegOp) → op.board ≡ board → count_on board before ≡ n
+        → P (line_of client before op run)
+
+    counted : (op : RegOp) (ops : List RegOp) → count_on board (op ∷ ops) ≡ cond (op.board == board) 1 0 + count_on
+        board ops
+    counted op ops = sum_by-cons (λ (o : RegOp). cond (o.board == board) 1 0) op ops
+
+    one_more : (before : List RegOp) (op : RegOp) → count_on board (before ++ op ∷ []) ≡ count_on board before + cond
+        (op.board == board) 1 0
+    one_more before op =
+        let both = count_by-append (λ (o : RegOp). o.board == board) before (op ∷ []) in
+        let last = counted op [] in
+        omega arith
+
+    -- the first of them, or a later one
+    line_there : (before : List RegOp) (op : RegOp) (ops : List RegOp) (k n : ℕ) → op.board ≡ board
+        → count_on board before ≡ n → HoldsAt (n + k)
+        → ((j : ℕ) → k ≡ suc j → Any P (lines_behind runs client (before ++ op ∷ []) ops))
+        → Any P (lines_behind runs client before (op ∷ ops))
+    line_there before op ops zero n same count holds later =
+        let at : slice_get runs op.board ≡ Some run = ap (λ b. slice_get runs b) same ∙ there in
+        any_front P (option_to_list (option_map (line_of client before op) (slice_get runs op.board)))
+        (lines_behind runs client (before ++ op ∷ []) ops)
+        (subst (λ (o : Option BoardRun). Any P (option_to_list (option_map (line_of client before op) o))) (sym at)
+        (any_here P (line_of client before op run) [] (holds before op same (omega arith))))
+    line_there before op ops (suc j) n same count holds later =
+        any_back P (option_to_list (option_map (line_of client before op) (slice_get runs op.board)))
+        (lines_behind runs client (before ++ op ∷ []) ops) (later j refl)
+
+    line_shown : (before ops : List RegOp) (k n : ℕ) → count_on board before ≡ n → k < count_on board ops
+        → HoldsAt (n + k) → Any P (lines_behind runs client before ops)
+    line_shown before [] k n count within holds = absurd (omega arith)
+    line_shown before (op ∷ ops) k n count within holds =
+        let longer = one_more before op in
+        let all = counted op ops in
+        elim (cases_Bool (op.board == board)) [
+          | inl here ↦
+              let same : op.board ≡ board = grind (arith, nat_tests) in
+              let one : cond {A = ℕ} (op.board == board) 1 0 ≡ 1 = ap (λ b. cond {A = ℕ} b 1 0) here in
+              line_there before op ops k n same count holds
+              (λ j is.
+              let next : n + k ≡ (n + 1) + j = omega arith in
+              line_shown (before ++ op ∷ []) ops j (n + 1) (omega arith) (omega arith)
+              (subst (λ m. HoldsAt m) next holds))
+          | inr away ↦
+              let none : cond {A = ℕ} (op.board == board) 1 0 ≡ 0 = ap (λ b. cond {A = ℕ} b 1 0) away in
+              any_back P (option_to_list (option_map (line_of client before op) (slice_get runs op.board)))
+              (lines_behind runs client (before ++ op ∷ []) ops)
+              (line_shown (before ++ op ∷ []) ops k n (omega arith) (omega arith) holds)
+        ]
+
+-- ---- clients
+
+module _ (Q : List OpLine → Type 0) (runs : List BoardRun) where
+  record Client (first : ℕ) (scripts : List (List Step)) : Type 0 where
+    number : ℕ
+    steps : List Step
+    at' : slice_get scripts number ≡ Some steps
+    holds : Q (client_lines runs (first + number) steps)
+
+  client_found : (first : ℕ) (scripts : List (List Step)) → Any Q (lines_from runs first scripts)
+      → Client first scripts
+  client_found first [] any = absurd (any_nowhere Q any)
+  client_found first (steps ∷ scripts) any =
+      let none : first ≡ first + 0 = omega arith in
+      elim (any_cases Q (client_lines runs first steps) (lines_from runs (first + 1) scripts) any) [
+        | inl here ↦ record {
+          number = 0;
+          steps = steps;
+          at' = refl;
+          holds = subst (λ n. Q (client_lines runs n steps)) none here;
+        }
+        | inr later ↦
+            let found = client_found (first + 1) scripts later in
+            let next : first + 1 + found.number ≡ first + suc found.number = omega arith in
+            record {
+              number = suc found.number;
+              steps = found.steps;
+              at' = found.at';
+              holds = subst (λ n. Q (client_lines runs n found.steps)) next found.holds;
+            }
+      ]
+
+  client_shown : (first : ℕ) (scripts : List (List Step)) (number : ℕ) (steps : List Step)
+      → slice_get scripts number ≡ Some steps → Q (client_lines runs (first + number) steps)
+      → Any Q (lines_from runs first scripts)
+  client_shown first [] number steps at holds = absurd cc
+  client_shown first (s ∷ scripts) zero steps at holds =
+      let none : first + 0 ≡ first = omega arith in
+      any_here Q (client_lines runs first s) (lines_from runs (first + 1) scripts)
+      (subst (λ n. Q (client_lines runs n s)) none
+      (subst (λ (x : List Step). Q (client_lines runs (first + 0) x)) (sym (same_Some s steps at)) holds))
+  client_shown first (s ∷ scripts) (suc number) steps at holds =
+      let next : first + suc number ≡ first + 1 + number = omega arith in
+      any_later Q (client_lines runs first s) (lines_from runs (first + 1) scripts)
+      (client_shown (first + 1) scripts number steps at
+      (subst (λ n. Q (client_lines runs n steps)) next holds))
+
+-- ---- boards
+
+-- where two lists read as one, so does the element that the other has at a position
+matched : {A B C : Type 0} (f : A → C) (g : B → C) (xs : List A) (ys : List B) (k : ℕ) (x : A) → map f xs ≡ map g ys
+    → slice_get xs k ≡ Some x → (y : B) × (slice_get ys k ≡ Some y) × (f x ≡ g y)
+matched f g [] ys k x same at = absurd cc
+matched f g (z ∷ xs) [] k x same at = absurd cc
+matched f g (z ∷ xs) (y ∷ ys) zero x same at =
+    let first : f z ≡ g y = cc in
+    (y, refl, ap f (sym (same_Some z x at)) ∙ first)
+matched f g (z ∷ xs) (y ∷ ys) (suc k) x same at =
+    let rest : map f xs ≡ map g ys = cc in
+    matched f g xs ys k x rest at
+
+pub planned_there : (scripts : List (List Step)) (first : ℕ) (runs : List BoardRun) (k : ℕ) (run : BoardRun)
+    → ArePlanned first scripts runs → slice_get runs k ≡ Some run → IsPlanned (first + k) scripts run
+planned_there scripts first [] k run are at = absurd cc
+planned_there scripts first (r ∷ runs) zero run are at =
+    let none : first ≡ first + 0 = omega arith in
+    subst (λ n. IsPlanned n scripts run) none
+    (subst (λ (x : BoardRun). IsPlanned first scripts x) (same_Some r run at) are.0)
+planned_there scripts first (r ∷ runs) (suc k) run are at =
+    let next : first + 1 + k ≡ first + suc k = omega arith in
+    subst (λ n. IsPlanned n scripts run) next (planned_there scripts (first + 1) runs k run are.1 at)
+
+-- boards of one name stand at one position
+one_position : (runs : List BoardRun) → HaveOwnNames runs → (i j : ℕ) (one other : BoardRun)
+    → slice_get runs i ≡ Some one → slice_get runs j ≡ Some other → one.name ≡ other.name → i ≡ j
+one_position runs own i j one other at also same =
+    elim (cases_lt i j) [
+      | inl less ↦ absurd (own i j one less (slice_get_within runs j other also)
+          (ap (λ (r : BoardRun). r.name) (get_or_from_slice_get runs i one one at) ∙ same
+          ∙ sym (ap (λ (r : BoardRun). r.name) (get_or_from_slice_get runs j other one also))))
+      | inr more ↦ elim (cases_lt j i) [
+        | inl less ↦ absurd (own j i one less (slice_get_within runs i one at)
+            (ap (λ (r : BoardRun). r.name) (get_or_from_slice_get runs j other one also) ∙ sym same
+            ∙ sym (ap (λ (r : BoardRun). r.name) (get_or_from_slice_get runs i one one at))))
+        | inr few ↦ omega arith
+      ]
+    ]
+
+-- ---- from lines to bodies
+
+shown_on : (scripts : List (List Step)) (runs : List BoardRun) (board : ℕ) (run : BoardRun) (place : ℕ)
+    → HaveOwnNames runs → slice_get runs board ≡ Some run → IsShown run.name place (lines_from runs 0 scripts)
+    → IsPlaceOn run place
+shown_on scripts runs board run place own at shown =
+    let client = client_found (Any (ShowsPlace run.name place)) runs 0 scripts shown in
+    let number = 0 + client.number in
+    let line = line_found (ShowsPlace run.name place) runs number [] (operations client.steps) client.holds in
+    let here = one_position runs own line.op.board board line.run run line.there at line.holds.board' in
+    let same : line.run ≡ run =
+    same_Some line.run run (sym line.there ∙ ap (λ n. slice_get runs n) here ∙ at) in
+    subst (λ (r : BoardRun). IsPlaceOn r place) same
+    (shown_place line.run number (count_on line.op.board line.before) line.op place line.run.greeting refl
+    line.holds.shown)
+
+-- ---- from bodies to lines
+
+ends_within : (bodies : List (List ℕ)) (outcomes : List Outcome) (j : ℕ) (end : BodyEnd)
+    → slice_get (map end_of (zip bodies outcomes)) j ≡ Some end → j < length bodies
+ends_within [] outcomes j end at = absurd cc
+ends_within (b ∷ bodies) [] j end at = absurd cc
+ends_within (b ∷ bodies) (o ∷ outcomes) zero end at = omega arith
+ends_within (b ∷ bodies) (o ∷ outcomes) (suc j) end at = omega (arith, ends_within bodies outcomes j end at)
+
+not_live : (part : ClientPart) (j : ℕ) (end : BodyEnd) → part.planned.bodies ≡ []
+    → slice_get (ends_of part) j ≡ Some end → ⊥
+not_live part j end none at =
+    let within = ends_within part.planned.bodies part.outcomes j end at in
+    omega (arith, ap length none)
+
+module _ (law : BodiesHavePieces) where
+  live_shown : (scripts : List (List Step)) (runs : List BoardRun) (board : ℕ) (run : BoardRun) (payload client : ℕ)
+      (part : ClientPart) (steps : List Step) (j : ℕ) (end : BodyEnd) (place : ℕ)
+      → slice_get runs board ≡ Some run → run.greeting ≡ Live payload → slice_get run.parts client ≡ Some part
+      → slice_get scripts client ≡ Some steps → part.planned ≡ all_dispatches (plan payload board steps)
+      → slice_get (ends_of part) j ≡ Some end → EndsAt place end
+      → IsShown run.name place (lines_from runs 0 scripts)
+  live_shown scripts runs board run payload client part steps j end place there live at script planned ended is =
+      let within = ends_within part.planned.bodies part.outcomes j end ended in
+      let has : HasPiece j part.planned.pieces =
+      subst (λ (p : ClientBodies). j < length p.bodies → HasPiece j p.pieces) (sym planned)
+      (each_body law payload board steps j) within in
+      let found = at_any (Any (λ (p : PieceAt). p.body ≡ j)) part.planned.pieces has in
+      let k = found.0 in
+      let count : length part.planned.pieces ≡ count_on board (operations steps) =
+      ap (λ (p : ClientBodies). length p.pieces) planned ∙ each_has_pieces payload board steps in
+      let below : k < count_on board (operations steps) =
+      omega (arith, count, slice_get_within part.planned.pieces k found.1 found.2) in
+      let shown = end_op (ends_of part) place j end ended is found.1 found.3 in
+      let number : client ≡ 0 + client = omega arith in
+      client_shown (Any (ShowsPlace run.name place)) runs 0 scripts client steps script
+      (subst (λ n. Any (ShowsPlace run.name place) (client_lines runs n steps)) number
+      (line_shown (ShowsPlace run.name place) runs client board run there [] (operations steps) k 0 refl below
+      (λ before op same counted. record {
+        board' = refl;
+        shown =
+            let same_count : count_on op.board before ≡ k = ap (λ b. count_on b before) same ∙ counted ∙ omega arith in
+            rw live (rw at (rw same_count (rw found.2 shown)));
+      })))
+
+  by_greeting : (scripts : List (List Step)) (runs : List BoardRun) (board : ℕ) (run : BoardRun) (client : ℕ)
+      (part : ClientPart) (steps : List Step) (j : ℕ) (end : BodyEnd) (place : ℕ) (told : Greeting)
+      → slice_get runs board ≡ Some run → run.greeting ≡ told → slice_get run.parts client ≡ Some part
+      → slice_get scripts client ≡ Some steps → part.planned ≡ planned_on board told steps
+      → slice_get (ends_of part) j ≡ Some end → EndsAt place end
+      → IsShown run.name place (lines_from runs 0 scripts)
+  by_greeting scripts runs board run client part steps j end place (Live payload) there live at script planned ended
+      is =
+      live_shown scripts runs board run payload client part steps j end place there live at script planned ended is
+  by_greeting scripts runs board run client part steps j end place Silent there silent at script planned ended is =
+      absurd (not_live part j end (ap (λ (p : ClientBodies). p.bodies) planned) ended)
+  by_greeting scripts runs board run client part steps j end place Down there down at script planned ended is =
+      absurd (not_live part j end (ap (λ (p : ClientBodies). p.bodies) planned) ended)
+
+  placed_shown : (scripts : List (List Step)) (runs : List BoardRun) (board : ℕ) (run : BoardRun) (place : ℕ)
+      → IsPlanned board scripts run → slice_get runs board ≡ Some run → IsPlaceOn run place
+      → IsShown run.name place (lines_from runs 0 scripts)
+  placed_shown scripts runs board run place plans at placed =
+      let part = at_any (HasBodyAt place) run.parts placed in
+      let end = at_any (EndsAt place) (ends_of part.1) part.3 in
+      let steps = matched (λ (p : ClientPart). p.planned) (planned_on board run.greeting) run.parts scripts part.0
+      part.1 plans part.2 in
+      by_greeting scripts runs board run part.0 part.1 steps.0 end.0 end.1 place run.greeting at refl part.2 steps.1
+      steps.2 end.2 end.3
+
+  pub shown_places : (scripts : List (List Step)) (runs : List BoardRun) (board : ℕ) (run : BoardRun) (place : ℕ)
+      → HaveOwnNames runs → ArePlanned 0 scripts runs → slice_get runs board ≡ Some run
+      → (IsShown run.name place (lines_from runs 0 scripts) ↔ IsPlaceOn run place)
+  shown_places scripts runs board run place own plans at =
+      let first : 0 + board ≡ board = omega arith in
+      let planned = subst (λ n. IsPlanned n scripts run) first (planned_there scripts 0 runs board run plans at) in (
+        λ shown. shown_on scripts runs board run place own at shown,
+        λ placed. placed_shown scripts runs board run place planned at placed,
+      )
+
+-- only a live board has places
+live_by : (run : BoardRun) (part : ClientPart) (steps : List Step) (board j : ℕ) (end : BodyEnd) (told : Greeting)
+    → run.greeting ≡ told → part.planned ≡ planned_on board told steps → slice_get (ends_of part) j ≡ Some end
+    → (payload : ℕ) × (run.greeting ≡ Live payload)
+live_by run part steps board j end (Live payload) is planned at = (payload, is)
+live_by run part steps board j end Silent is planned at =
+    absurd (not_live part j end (ap (λ (p : ClientBodies). p.bodies) planned) at)
+live_by run part steps board j end Down is planned at =
+    absurd (not_live part j end (ap (λ (p : ClientBodies). p.bodies) planned) at)
+
+pub place_on_live : (scripts : List (List Step)) (board : ℕ) (run : BoardRun) (place : ℕ) → IsPlanned board scripts run
+    → IsPlaceOn run place → (payload : ℕ) × (run.greeting ≡ Live payload)
+place_on_live scripts board run place plans placed =
+    let part = at_any (HasBodyAt place) run.parts placed in
+    let end = at_any (EndsAt place) (ends_of part.1) part.3 in
+    let steps = matched (λ (p : ClientPart). p.planned) (planned_on board run.greeting) run.parts scripts part.0
+    part.1 plans part.2 in
+    live_by run part.1 steps.0 board end.0 end.1 run.greeting refl steps.2 end.2

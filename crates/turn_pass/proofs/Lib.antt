@@ -1,0 +1,4 @@
+pub mod Records
+pub mod Moves
+pub mod Steps
+pub mod Passes
