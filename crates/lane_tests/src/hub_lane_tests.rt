@@ -1,6 +1,6 @@
 //! A lane over a simulated link: what the fates of its datagrams come to.
 
-ghost use Rattle.std.specs.Prelude.{◌≡◌, ◌≤◌, [], IfOk};
+ghost use Rattle.std.specs.Prelude.{◌≡◌, ◌≤◌, [], length, IfOk};
 ghost use Rattle.world_model.specs.Facts.{IsStart};
 ghost use Rattle.hub_lane.specs.Greeting.{IsUnused};
 
@@ -71,7 +71,8 @@ fn lane(alloc: Global, link: SimLink, rounds: u8, window: u8) -> Result<Lane<Sim
 
 /// Plans a body.
 fn plan(alloc: Global, lane: &mut Lane<SimLink>, client: u32, body: &[u32]) -> Result<(), Fail>
-    requires { 1 ≤ client }
+    requires client { 1 ≤ client }
+    requires short { length body.now ≤ 3 }
 {
     let body = Words::from_vec(body.to_vec(alloc)?);
     let reply_words = reply_room(body.as_slice());
@@ -83,7 +84,8 @@ fn plan(alloc: Global, lane: &mut Lane<SimLink>, client: u32, body: &[u32]) -> R
 
 /// Plans a body and asks it.
 fn dispatch(alloc: Global, lane: &mut Lane<SimLink>, client: u32, body: &[u32]) -> Result<(), Fail>
-    requires { 1 ≤ client }
+    requires client { 1 ≤ client }
+    requires short { length body.now ≤ 3 }
 {
     plan(alloc, lane, client, body)?;
     match lane.ask(client)? {
