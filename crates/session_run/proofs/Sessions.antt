@@ -1,10 +1,11 @@
 -- Boards one after another: the links given back so far, and the runs.
 use Rattle.std.proofs.Common.{◌≡◌, ℕ, ◌+◌, ◌≤◌, ◌<◌, ◌∙◌, ◌⊎◌, inl, inr, Bool, true, false, ◌&&◌, suc, List, [], ◌∷◌, ◌++◌, length, map}
 use Rattle.std.proofs.Common.{Option, Some, None, refl, sym, ap, subst, arith, append_assoc, append-nil, length-append, take, drop, get_or}
-use Rattle.std.specs.Prelude.{IfOk, Result, Ok, Err}
+use Rattle.std.specs.Prelude.{IfOk, IfSome, Result, Ok, Err}
 use Rattle.std.specs.List.{AllByRecursion}
 use Rattle.std.proofs.lemmas.List.{drop_more, length-take-le, take_all, take_more}
 use Rattle.ipb_base.proofs.AllLemmas.{AllByRecursion-append}
+use Rattle.world_model.specs.Board.{executed}
 use Rattle.world_core.specs.Telling.{Telling}
 use Rattle.reliable_engine.specs.Settings.{Limits}
 use Rattle.board_node.specs.declared.spec.BoardSpec.{BoardSpec}
@@ -14,9 +15,9 @@ use Rattle.board_history.specs.History.{bodies_by_client, outcomes_by_client}
 use Rattle.board_history.specs.InTurn.{AreInTurn}
 use Rattle.hub_lane.specs.declared.greeting.Greeted.{Greeted}
 use Rattle.hub_lane.specs.Greeting.{link_of}
-use Rattle.lane_history.specs.Links.{LinkReport}
-use Rattle.lane_history.specs.Runs.{AreRunsOver, IsRunOver}
-use Rattle.session_run.specs.Boards.{AreReached, HasMemory, HasRoom, IsReached, OnRun}
+use Rattle.lane_history.specs.Links.{IsUntouched, LinkReport}
+use Rattle.lane_history.specs.Runs.{AreRunsOver, ExecutedSome, IsRunOver}
+use Rattle.session_run.specs.Boards.{AreReached, AreUntouched, HasMemory, HasRoom, IsReached, OnRun}
 use Rattle.session_run.specs.Links.{AreLeft, IsLeft}
 
 left_more : (board : ℕ) (specs rest : List BoardSpec) (scripts : List (List Step)) (links : List LinkReport)
@@ -85,11 +86,6 @@ length_map : {A B : Type 0} (f : A → B) (xs : List A) → length (map f xs) �
 length_map f [] = refl
 length_map f (x ∷ xs) = ap suc (length_map f xs)
 
-and_both : (a b : Bool) → (a && b) ≡ true → (a ≡ true) × (b ≡ true)
-and_both true true e = (refl, refl)
-and_both true false e = absurd cc
-and_both false b e = absurd cc
-
 pub begins_at : {A : Type 0} (xs : List A) (i : ℕ) (x : A) → i < length xs → x ≡ get_or xs i x
     → drop i xs ≡ x ∷ drop (i + 1) xs
 begins_at xs i x within is = drop_more xs i x within ∙ ap (λ y. y ∷ drop (i + 1) xs) (sym is)
@@ -157,10 +153,10 @@ pub board_more : {L E : Type 0} (shows : L → LinkReport) (settings : Limits) (
     → RanBoards shows settings k specs scripts runs is_whole kept now → k < length specs → spec ≡ get_or specs k spec
     → new ≡ now ++ link ∷ [] → IsLeft spec k scripts (shows link)
     → IfOk result (λ run. IsRunOver settings spec k scripts run (shows link)) → IfOk result IsInTurn
-    → (added ≡ true → OnRun result (λ run. later ≡ runs ++ run ∷ []))
-    → RanBoards shows settings (k + 1) specs scripts later (added && is_whole) kept new
+    → (added ≡ true → is_whole ≡ true) → (added ≡ true → OnRun result (λ run. later ≡ runs ++ run ∷ []))
+    → RanBoards shows settings (k + 1) specs scripts later added kept new
 board_more {L} {E} shows settings k specs scripts runs later is_whole added kept now new spec link result so_far within is
-    push left ran in_turn adds =
+    push left ran in_turn was adds =
     let links = so_far.links in
     let count = length_map shows links in
     let many = so_far.many in
@@ -173,14 +169,31 @@ board_more {L} {E} shows settings k specs scripts runs later is_whole added kept
           (left_more 0 specs (drop (k + 1) specs) scripts (map shows links) spec (shows link) so_far.left
           (ap (λ n. drop n specs) place ∙ begins_at specs k spec within is)
           (subst (λ n. IsLeft spec n scripts (shows link)) (omega (arith, place)) left));
-      ran = λ e. (let both = and_both added is_whole e in
-      run_there (λ (run : BoardRun). IsRunOver settings spec k scripts run (shows link))
+      ran = λ e. run_there (λ (run : BoardRun). IsRunOver settings spec k scripts run (shows link))
       (λ (run : BoardRun). later ≡ runs ++ run ∷ [])
-      (AreRunsOver settings 0 (take (k + 1) specs) scripts later (map shows (links ++ link ∷ []))) result ran (adds both.0)
+      (AreRunsOver settings 0 (take (k + 1) specs) scripts later (map shows (links ++ link ∷ []))) result ran (adds e)
       (λ run over is_later. whole_more shows settings k specs scripts runs later links spec run link
-      (so_far.ran both.1) within is over is_later));
-      in_turn = λ e. (let both = and_both added is_whole e in
-      run_there IsInTurn (λ (run : BoardRun). later ≡ runs ++ run ∷ []) (AllByRecursion IsInTurn later) result in_turn
-      (adds both.0) (λ run turn is_later. subst (AllByRecursion IsInTurn) (sym is_later)
-      (AllByRecursion-append IsInTurn runs (run ∷ []) (so_far.in_turn both.1) (turn, tt))));
+      (so_far.ran (was e)) within is over is_later);
+      in_turn = λ e. run_there IsInTurn (λ (run : BoardRun). later ≡ runs ++ run ∷ []) (AllByRecursion IsInTurn later) result in_turn
+      (adds e) (λ run turn is_later. subst (AllByRecursion IsInTurn) (sym is_later)
+      (AllByRecursion-append IsInTurn runs (run ∷ []) (so_far.in_turn (was e)) (turn, tt)));
     }
+
+abbrev pub UntouchedLaw : Type 0
+UntouchedLaw = (spec : BoardSpec) (board : ℕ) (scripts : List (List Step)) (link : LinkReport)
+    → IsUntouched link → IfSome link.board (λ there. ExecutedSome spec board scripts (executed there))
+
+pub untouched_are_left : UntouchedLaw → (board : ℕ) (specs : List BoardSpec) (scripts : List (List Step))
+    (links : List LinkReport) → AreUntouched specs links → AreLeft board specs scripts links
+untouched_are_left law board specs scripts [] are = tt
+untouched_are_left law board [] scripts (l ∷ links) are = absurd are
+untouched_are_left law board (s ∷ specs) scripts (l ∷ links) are = (
+  record { board' = are.0; executed_some = law s board scripts l are.1 },
+  untouched_are_left law (board + 1) specs scripts links are.2,
+)
+
+pub untouched_all : (specs : List BoardSpec) (links : List LinkReport) → AreUntouched specs links
+    → AllByRecursion IsUntouched links
+untouched_all specs [] are = tt
+untouched_all [] (l ∷ links) are = absurd are
+untouched_all (s ∷ specs) (l ∷ links) are = (are.1, untouched_all specs links are.2)

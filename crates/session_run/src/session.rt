@@ -94,12 +94,13 @@ fn run_next<L: Link, T: Wait>(
     }
 }
 
-/// Adds a run, if there is one, and tells whether it stands there.
-fn add_run(runs: &mut Vec<BoardRun>, run: Result<BoardRun, NoMemory>) -> bool
-    ensures { result ≡ true → OnRun run (λ run. runs.new.items ≡ runs.old.items ++ run ∷ []) }
+/// Adds a run, if there is one, and tells whether it stands behind all that were before: whether they are whole.
+fn add_run(runs: &mut Vec<BoardRun>, run: Result<BoardRun, NoMemory>, is_whole: bool) -> bool
+    ensures whole { result ≡ true → is_whole ≡ true }
+    ensures added { result ≡ true → OnRun run (λ run. runs.new.items ≡ runs.old.items ++ run ∷ []) }
 {
     match run {
-        Ok(run) => runs.push(run).is_ok(),
+        Ok(run) => runs.push(run).is_ok() && is_whole,
         Err(NoMemory) => false,
     }
 }
@@ -150,7 +151,7 @@ fn run_greeted<R: Rack, T: Wait>(
             is_whole,
         );
         rack.keep(link);
-        is_whole = add_run(&mut runs, run) && is_whole;
+        is_whole = add_run(&mut runs, run, is_whole);
     }
     if is_whole { Ok(runs) } else { Err(NoMemory) }
 }
