@@ -5,8 +5,7 @@ use ipb_base::{NoMemory, Words};
 use std::alloc::Global;
 use std::test::Fail;
 use world_core::{
-    Air, Fate, Message, Settings, World, WorldEnd, WorldMove, are_short,
-    read_for_hub, run_world,
+    Air, Fate, Message, Settings, World, WorldEnd, WorldMove, are_short, read_for_hub, run_world,
 };
 
 /// An offer of the read under this tag.

@@ -25,7 +25,7 @@ use Rattle.lane_record.specs.Bounds.{IsKept}
 use Rattle.lane_record.specs.Offers.{Agrees, AgreesWith, offer_of}
 use Rattle.lane_record.specs.NextEntry.{ask_of}
 use Rattle.lane_record.proofs.Lookups.{claims_push}
-use Rattle.hub_lane.specs.Lanes.{BoardStatus, IsGreeted, IsLane, IsShortPlan}
+use Rattle.hub_lane.specs.Lanes.{BoardStatus, IsGreeted, FitsBoard, IsFittingPlan, IsLane}
 use Rattle.hub_lane.specs.Standing.{IsRunning, IsStopped}
 use Rattle.hub_lane.proofs.Standing.{BeginLaw, OfferLaw, asked_lost, asked_running, begins_running, if_told}
 use Rattle.hub_lane.proofs.Standing.{offered_running, pushed_get}
@@ -72,7 +72,7 @@ lane_begins law settings status telling faults quiets agrees kept limits mtu buf
       kept = kept w;
       waited = omega arith;
       fewer = omega arith;
-      short = tt;
+      fits = tt;
       fault = λ e. absurd cc;
       lost = λ k o e is. absurd cc;
       standing = if_told (IsGreeted settings status)
@@ -105,11 +105,11 @@ same_claims items x none = claims_push items x
 
 pub lane_entry : (settings : Limits) (status : BoardStatus) (hub : Hub) (items : List Item)
     (outcomes : List (Option Outcome)) (give_ups : ℕ) (down spent : Bool) (telling : Option Telling)
-    (faults quiets : ℕ) (x : Item) → ask_in x.what ≡ None → IsShortPlan (payload_of status.mtu) x
+    (faults quiets : ℕ) (x : Item) → ask_in x.what ≡ None → IsFittingPlan (payload_of status.mtu) x
     → (IsKept items outcomes hub.window give_ups → IsKept (items ++ x ∷ []) outcomes hub.window give_ups)
     → IsLane settings status hub items outcomes give_ups down spent telling faults quiets
     → IsLane settings status hub (items ++ x ∷ []) outcomes give_ups down spent telling faults quiets
-lane_entry settings status hub items outcomes give_ups down spent telling faults quiets x ask short kept is = record {
+lane_entry settings status hub items outcomes give_ups down spent telling faults quiets x ask fits kept is = record {
   knows = is.knows;
   ready = is.ready;
   agrees = subst (λ (cs : List Claim). Agrees hub.sent (cond down [] hub.queue) (cond down [] hub.open_places) cs
@@ -117,7 +117,7 @@ lane_entry settings status hub items outcomes give_ups down spent telling faults
   kept = kept is.kept;
   waited = is.waited;
   fewer = is.fewer;
-  short = AllByRecursion-append (IsShortPlan (payload_of status.mtu)) items (x ∷ []) is.short (short, tt);
+  fits = AllByRecursion-append (IsFittingPlan (payload_of status.mtu)) items (x ∷ []) is.fits (fits, tt);
   fault = is.fault;
   lost = is.lost;
   standing = is.standing;
@@ -178,8 +178,8 @@ lane_offered law settings status hub items outcomes give_ups telling faults quie
       kept = kept is.kept;
       waited = is.waited;
       fewer = (let h = is.fewer in let w = one_at_most (is_waiting (offer hub o)) in omega (arith, h, longer, w));
-      short = AllByRecursion-append (IsShortPlan (payload_of status.mtu)) items (ask_of client seq give_ups ∷ [])
-          is.short (tt, tt);
+      fits = AllByRecursion-append (IsFittingPlan (payload_of status.mtu)) items (ask_of client seq give_ups ∷ [])
+          is.fits (tt, tt);
       fault = is.fault;
       lost = λ k outcome e lost. elim (pushed_get outcomes None k outcome e) [
         | inl none ↦ absurd cc
@@ -222,8 +222,8 @@ lane_asked_in_vain settings status hub items outcomes give_ups spent telling fau
       kept = kept is.kept;
       waited = is.waited;
       fewer = (let h = is.fewer in omega (arith, h, longer));
-      short = AllByRecursion-append (IsShortPlan (payload_of status.mtu)) items (ask_of client seq give_ups ∷ [])
-          is.short (tt, tt);
+      fits = AllByRecursion-append (IsFittingPlan (payload_of status.mtu)) items (ask_of client seq give_ups ∷ [])
+          is.fits (tt, tt);
       fault = is.fault;
       lost = λ k outcome e lost. refl;
       standing = if_told (IsStopped settings hub outcomes)
@@ -238,34 +238,30 @@ or_cases : (o p : Option (List ℕ)) (body : List ℕ) (P : Type 0) → (o ≡ S
 or_cases None p body P first later is = later is
 or_cases (Some x) p body P first later is = first is
 
-short_here : (payload : ℕ) (o : Option (List ℕ)) (body : List ℕ) → IfSome o (λ b. length b + 1 ≤ payload)
-    → o ≡ Some body → length body + 1 ≤ payload
-short_here payload o body is e = subst (λ (r : Option (List ℕ)). IfSome r (λ b. length b + 1 ≤ payload)) e is
+fits_here : (payload : ℕ) (o : Option (List ℕ)) (body : List ℕ) → IfSome o (FitsBoard payload) → o ≡ Some body
+    → FitsBoard payload body
+fits_here payload o body is e = subst (λ (r : Option (List ℕ)). IfSome r (FitsBoard payload)) e is
 
-found_first : (payload : ℕ) (x : Item) (xs : List Item) (client seq : ℕ) (body : List ℕ) → IsShortPlan payload x
-    → (found plan_in client seq xs ≡ Some body → length body + 1 ≤ payload)
-    → found plan_in client seq (x ∷ xs) ≡ Some body → length body + 1 ≤ payload
-found_first payload x xs client seq body short later there =
+found_first : (payload : ℕ) (x : Item) (xs : List Item) (client seq : ℕ) (body : List ℕ) → IsFittingPlan payload x
+    → (found plan_in client seq xs ≡ Some body → FitsBoard payload body)
+    → found plan_in client seq (x ∷ xs) ≡ Some body → FitsBoard payload body
+found_first payload x xs client seq body fits later there =
     or_cases (cond (is_of client seq x) (plan_in x.what) None) (found plan_in client seq xs) body
-    (length body + 1 ≤ payload)
-    (λ here. either (λ (o : Option (List ℕ)). o ≡ Some body → length body + 1 ≤ payload) (is_of client seq x)
-    (plan_in x.what) None (λ _ e. short_here payload (plan_in x.what) body short e) (λ _ e. absurd cc) here)
+    (FitsBoard payload body)
+    (λ here. either (λ (o : Option (List ℕ)). o ≡ Some body → FitsBoard payload body) (is_of client seq x)
+    (plan_in x.what) None (λ _ e. fits_here payload (plan_in x.what) body fits e) (λ _ e. absurd cc) here)
     later there
 
-found_short : (payload : ℕ) (items : List Item) (client seq : ℕ) (body : List ℕ)
-    → AllByRecursion (IsShortPlan payload) items → found plan_in client seq items ≡ Some body
-    → length body + 1 ≤ payload
-found_short payload [] client seq body all there = absurd cc
-found_short payload (x ∷ xs) client seq body all there = found_first payload x xs client seq body all.0
-    (λ later. found_short payload xs client seq body all.1 later) there
+-- a body that is found in a record fits
+pub found_fits : (payload : ℕ) (items : List Item) (client seq : ℕ) (body : List ℕ)
+    → AllByRecursion (IsFittingPlan payload) items → found plan_in client seq items ≡ Some body
+    → FitsBoard payload body
+found_fits payload [] client seq body all there = absurd cc
+found_fits payload (x ∷ xs) client seq body all there = found_first payload x xs client seq body all.0
+    (λ later. found_fits payload xs client seq body all.1 later) there
 
-pub body_sendable : (mtu : ℕ) (items : List Item) (client seq : ℕ) (body : List ℕ) → IsMtu mtu
-    → AllByRecursion (IsShortPlan (payload_of mtu)) items → found plan_in client seq items ≡ Some body
-    → length body ≤ 2242
-body_sendable mtu items client seq body is all there =
-    let short = found_short (payload_of mtu) items client seq body all there in
-    let most = is.1 in
-    omega (arith, short, most)
+pub body_sendable : (mtu : ℕ) (body : List ℕ) → IsMtu mtu → FitsBoard (payload_of mtu) body → length body ≤ 2242
+body_sendable mtu body is fits = let short = fits.short in let most = is.1 in omega (arith, short, most)
 
 pub lane_asks : OfferLaw
     → ((most : ℕ) (h : Hub) (o : Offered) → IsSendable o.body → HasBodies most h → HasBodies (most + 1) (offer h o))

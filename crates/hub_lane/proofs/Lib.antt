@@ -1,13 +1,17 @@
 mod Standing
 mod Sends
 mod Windows
+mod Carrying
 mod Linked
 mod Heard
 mod Greetings
 mod Truth
 mod Tables
+mod Rounds
 mod Ready
 mod ClientRows
 mod Books
 mod Lanes
 mod Pumps
+mod Untaken
+mod Steps

@@ -9,17 +9,18 @@ use Rattle.world_model.specs.Links.{IsHanded, Told}
 use Rattle.world_model.specs.Sends.{Next, bytes_to_send, next_send}
 use Rattle.world_model.specs.Facts.{AreSendable, HasBodies}
 use Rattle.reliable_engine.specs.Answers.{hub_next}
-use Rattle.board_bus.specs.Cells.{CellMap}
 use Rattle.world_model.specs.Board.{Board}
 use Rattle.world_core.specs.declared.link.Received.{Received}
 use Rattle.world_core.specs.declared.link.Received.TheVariants.{Got, Quiet as received_quiet}
-use Rattle.hub_lane.specs.Lanes.{opening_of}
+use Rattle.hub_lane.specs.Lanes.{board_of}
 use Rattle.world_core.specs.declared.link.LinkFault.{LinkFault}
 use Rattle.world_core.specs.declared.link.LinkFault.TheVariants.{Failed, NoMemory}
 use Rattle.world_core.specs.Telling.{IfTelling, IsGot, IsQuiet, IsReceived, IsSent, Receives, Telling}
 use Rattle.hub_lane.specs.declared.answers.Pumped.{Pumped}
 use Rattle.hub_lane.specs.declared.answers.Pumped.TheVariants.{Reply, Status, Stray, Quiet, Idle, LinkDown}
+use Rattle.hub_lane.specs.Carrying.{HasPut}
 use Rattle.hub_lane.specs.Hearing.{IsHeardAs, WasReceived}
+use Rattle.hub_lane.specs.Rounds.{PaysOn}
 use Rattle.hub_lane.specs.Sends.{HasSent, all_sent}
 use Rattle.hub_lane.specs.Standing.{GoesOn, IsRunning, IsStopped, Stops}
 use Rattle.hub_lane.proofs.Standing.{AirGrows, HandedLaw, HeardLaw, QuietLaw, SameBoard, SameFates, SendLaw}
@@ -38,7 +39,9 @@ pub record IsSending (before : Option Telling) (old : Hub) (telling : Option Tel
   pub quiet : quiets_now ≡ quiets
   pub got : gots_now ≡ gots
   pub hold : held ≤ held_now
-  pub opening : opening_of telling ≡ opening_of before
+  pub pays : PaysOn before old held telling now held_now
+  pub board : board_of telling ≡ board_of before
+  pub put : IfTelling before telling (HasPut old now)
 
 -- the bodies of the hub after a send
 abbrev pub SendKeepsBodies : Type 0
@@ -142,33 +145,36 @@ was_received bytes pumped hub held now (Some t) None is call = absurd call
 was_received bytes pumped hub held now (Some t) (Some u) is call =
     handed_of u bytes pumped hub is (record { place = call.place; at = call.there })
 
--- ---- the bus that the board opened with
+-- ---- the board, whatever it executed
 
-same_opening : (R : Telling → Telling → Type 0) (old new : Option Telling) → IfTelling old new R
-    → ((t u : Telling) → R t u → u.told.board.opening ≡ t.told.board.opening) → opening_of new ≡ opening_of old
-same_opening R None None call same = refl
-same_opening R None (Some u) call same = absurd call
-same_opening R (Some t) None call same = absurd call
-same_opening R (Some t) (Some u) call same = ap (λ (o : CellMap). Some o) (same t u call)
+abbrev bare : Telling → Board
+bare t = record t.told.board { log = [] }
 
-pub sent_opening : (bytes : List ℕ) (held now : ℕ) (old new : Option Telling)
+same_board : (R : Telling → Telling → Type 0) (old new : Option Telling) → IfTelling old new R
+    → ((t u : Telling) → R t u → bare u ≡ bare t) → board_of new ≡ board_of old
+same_board R None None call same = refl
+same_board R None (Some u) call same = absurd call
+same_board R (Some t) None call same = absurd call
+same_board R (Some t) (Some u) call same = ap (λ (b : Board). Some b) (same t u call)
+
+pub sent_board : (bytes : List ℕ) (held now : ℕ) (old new : Option Telling)
     → IfTelling old new (IsSent bytes held now)
-    → opening_of new ≡ opening_of old
-sent_opening bytes held now old new call = same_opening (IsSent bytes held now) old new call
-    (λ t u is. ap (λ (told : Told). told.board.opening) is.told)
+    → board_of new ≡ board_of old
+sent_board bytes held now old new call = same_board (IsSent bytes held now) old new call
+    (λ t u is. ap (λ (told : Told). record told.board { log = [] }) is.told)
 
-heard_opening : SameBoard → (by_hub : List ℕ) (held now : ℕ) (t u : Telling) → IsReceived by_hub held now t u
-    → u.told.board.opening ≡ t.told.board.opening
-heard_opening law by_hub held now t u is = ap (λ (b : Board). b.opening) (law t.told u.told is.by_board)
+heard_board : SameBoard → (by_hub : List ℕ) (held now : ℕ) (t u : Telling) → IsReceived by_hub held now t u
+    → bare u ≡ bare t
+heard_board law by_hub held now t u is = ap (λ (b : Board). record b { log = [] }) (law t.told u.told is.by_board)
 
-receives_opening : SameBoard → (result : Result Received LinkFault) (bytes : List ℕ) (held now : ℕ) (t u : Telling)
-    → Receives result bytes held now t u → u.told.board.opening ≡ t.told.board.opening
-receives_opening law (Ok Got) bytes held now t u is = heard_opening law _ held now t u is.received
-receives_opening law (Ok received_quiet) bytes held now t u is = heard_opening law [] held now t u is.received
-receives_opening law (Err Failed) bytes held now t u is = ap (λ (x : Telling). x.told.board.opening) is
-receives_opening law (Err NoMemory) bytes held now t u is = heard_opening law [] held now t u is
+receives_board : SameBoard → (result : Result Received LinkFault) (bytes : List ℕ) (held now : ℕ) (t u : Telling)
+    → Receives result bytes held now t u → bare u ≡ bare t
+receives_board law (Ok Got) bytes held now t u is = heard_board law _ held now t u is.received
+receives_board law (Ok received_quiet) bytes held now t u is = heard_board law [] held now t u is.received
+receives_board law (Err Failed) bytes held now t u is = ap (λ (x : Telling). bare x) is
+receives_board law (Err NoMemory) bytes held now t u is = heard_board law [] held now t u is
 
-pub received_opening : SameBoard → (result : Result Received LinkFault) (bytes : List ℕ) (held now : ℕ)
-    (old new : Option Telling) → IfTelling old new (Receives result bytes held now) → opening_of new ≡ opening_of old
-received_opening law result bytes held now old new call =
-    same_opening (Receives result bytes held now) old new call (receives_opening law result bytes held now)
+pub received_board : SameBoard → (result : Result Received LinkFault) (bytes : List ℕ) (held now : ℕ)
+    (old new : Option Telling) → IfTelling old new (Receives result bytes held now) → board_of new ≡ board_of old
+received_board law result bytes held now old new call =
+    same_board (Receives result bytes held now) old new call (receives_board law result bytes held now)

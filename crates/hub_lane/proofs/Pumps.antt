@@ -1,7 +1,6 @@
 -- What holds of a lane, kept by a pump.
 use Rattle.std.proofs.Common.{◌≡◌, ℕ, ◌+◌, ◌*◌, ◌<◌, ◌≤◌, Bool, true, false, cond, List, [], ◌∷◌}
-use Rattle.std.proofs.Common.{length, map, Option, Some, refl, sym, ap, ◌∙◌, subst, arith, ◌||◌}
-use Rattle.std.proofs.Common.{inl, inr}
+use Rattle.std.proofs.Common.{length, map, Option, Some, refl, sym, ap, ◌∙◌, subst, arith, inl, inr, ◌||◌}
 use Rattle.std.specs.Prelude.{IfSome, ◌==◌, nat_lt}
 use Rattle.std.proofs.Math.Nat.{mul-add}
 use Rattle.ipb_base.specs.Faults.{Rose, one_more}
@@ -9,7 +8,7 @@ use Rattle.world_model.specs.declared.offered.Fate.{Fate}
 use Rattle.world_model.specs.declared.offered.Offered.{Offered}
 use Rattle.world_model.specs.declared.offered.OpenPlace.{OpenPlace}
 use Rattle.world_model.specs.Messages.{ToHub, to_hub}
-use Rattle.world_model.specs.Hub.{Hub, abandoned, give_up, hear_quiet, is_waiting, places, recover}
+use Rattle.world_model.specs.Hub.{Hub, give_up, hear_quiet, is_waiting, places, recover}
 use Rattle.world_model.specs.Hub.{some_queued, some_waited, take_message, want_status, without}
 use Rattle.world_model.specs.Sends.{Next, next_send, pending}
 use Rattle.world_model.specs.Facts.{HasBodies, IsWindow}
@@ -34,10 +33,9 @@ use Rattle.hub_lane.specs.Standing.{IsRunning, IsStopped, Stops}
 use Rattle.hub_lane.proofs.Linked.{SendKeepsBodies}
 use Rattle.hub_lane.proofs.Ready.{ready_sent, same_sent}
 use Rattle.hub_lane.proofs.Sends.{one_sent, sent_keeps}
-use Rattle.hub_lane.proofs.Standing.{SameFates, if_told}
-use Rattle.hub_lane.proofs.Standing.{lost_stopped}
-use Rattle.hub_lane.proofs.Windows.{IsSameBut, IsWindowed, message_windowed}
-use Rattle.hub_lane.proofs.Windows.{quiet_windowed}
+use Rattle.hub_lane.proofs.Rounds.{none_wait}
+use Rattle.hub_lane.proofs.Standing.{SameFates, if_told, lost_stopped}
+use Rattle.hub_lane.proofs.Windows.{IsSameBut, IsWindowed, message_windowed, quiet_windowed}
 
 -- ---- sends
 
@@ -245,10 +243,6 @@ asked_after settings status mid items outcomes give_ups quiets quiets_now waitin
       keeps = λ k o e. e;
     }))
 
-none_wait : (os : List OpenPlace) → some_waited (map abandoned os) ≡ false
-none_wait [] = refl
-none_wait (o ∷ os) = none_wait os
-
 mul_more : (w g : ℕ) → w * (g + 1) ≡ w * g + w
 mul_more w g = let a : w * 1 ≡ w = omega arith in mul-add w g 1 ∙ ap (λ (z : ℕ). w * g + z) a
 
@@ -388,8 +382,8 @@ pub lane_received : MessageSettles → RepliedLaw → QuietSettles → GaveUpLaw
     → IsLane settings status new items outcomes_now give_ups_now false false telling_now faults_now quiets_now
     × KeepsOutcomes outcomes outcomes_now × (give_ups ≤ give_ups_now)
 lane_received message replied quiet gave_up settings status hub mid new bytes pumped items outcomes outcomes_now
-    give_ups
-    give_ups_now telling telling_now faults faults_now quiets quiets_now bodies quiet_bodies at waiting event hub_is
+    give_ups give_ups_now telling telling_now faults faults_now quiets quiets_now bodies quiet_bodies at waiting event
+    hub_is
     outcomes_are give_ups_are quiets_are running is =
     let before = mid_after settings status hub mid items outcomes give_ups telling faults quiets at is in
     let done = event_after message replied quiet gave_up settings status mid bytes pumped items outcomes give_ups quiets
@@ -410,7 +404,7 @@ lane_received message replied quiet gave_up settings status hub mid new bytes pu
         kept = after.kept;
         waited = after.waited;
         fewer = after.fewer;
-        short = is.short;
+        fits = is.fits;
         fault = λ e. absurd cc;
         lost = after.lost;
         standing = running;
@@ -469,7 +463,7 @@ lane_down lost agrees keeps adds settings status hub mid items outcomes before_l
           (adds (length mid.sent) outcomes) a.counts;
       waited = before.waited;
       fewer = (let h = before.fewer in omega (arith, h, same));
-      short = is.short;
+      fits = is.fits;
       fault = λ e. omega (arith, rose);
       lost = λ k o e l. refl;
       standing = if_told (IsStopped settings mid outcomes) (IsStopped settings mid new) telling_now
@@ -486,8 +480,7 @@ pub lane_spent : (settings : Limits) (status : BoardStatus) (hub mid : Hub) (ite
     → IsLane settings status hub items outcomes give_ups false false telling faults quiets
     → IsLane settings status mid items outcomes_now give_ups_now false true telling_now faults_now quiets_now
 lane_spent settings status hub mid items outcomes outcomes_now give_ups give_ups_now telling telling_now faults
-    faults_now
-    quiets quiets_now at stops more same_give_ups same_outcomes is =
+    faults_now quiets quiets_now at stops more same_give_ups same_outcomes is =
     let before = mid_after settings status hub mid items outcomes give_ups telling faults quiets at is in
     subst (λ (os : List (Option Outcome)). IsLane settings status mid items os give_ups_now false true telling_now
     faults_now quiets_now) (sym same_outcomes)
@@ -499,7 +492,7 @@ lane_spent settings status hub mid items outcomes outcomes_now give_ups give_ups
       kept = before.kept;
       waited = (let w = before.waited in omega (arith, w, more));
       fewer = before.fewer;
-      short = is.short;
+      fits = is.fits;
       fault = λ e. absurd cc;
       lost = before.lost;
       standing = stops settings outcomes is.standing;
@@ -567,8 +560,7 @@ module _ (laws : PumpLaws) (settings : Limits) (status : BoardStatus) (hub : Hub
       let mid = all_sent hub in
       let at = at_mid mid (record { count = pending hub; sends = refl }) in
       let done = lane_received laws.message laws.replied laws.quiet laws.gave_up settings status hub mid new bytes
-      pumped
-      items outcomes outcomes_now give_ups give_ups_now telling telling_now faults faults_now quiets quiets_now
+      pumped items outcomes outcomes_now give_ups give_ups_now telling telling_now faults faults_now quiets quiets_now
       (λ message. laws.message_bodies (length outcomes) mid message at.ready.bodies)
       (laws.quiet_bodies (length outcomes) mid at.ready.bodies) at waiting event hub_is outcomes_are give_ups_are
       quiets_are (running settings is_up.standing) is_up in

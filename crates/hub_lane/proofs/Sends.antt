@@ -80,7 +80,7 @@ all_out hub none = no_more hub (pending hub) none
 pub sent_none : (hub : Hub) → HasSent hub hub
 sent_none hub = record { count = 0; sends = refl }
 
-one_after : (count : ℕ) (hub : Hub) → hub_next (after_sends count hub) (next_send (after_sends count hub))
+pub one_after : (count : ℕ) (hub : Hub) → hub_next (after_sends count hub) (next_send (after_sends count hub))
     ≡ after_sends (suc count) hub
 one_after zero hub = refl
 one_after (suc count) hub = one_after count (hub_next hub (next_send hub))

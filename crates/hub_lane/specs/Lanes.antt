@@ -4,10 +4,12 @@ use Rattle.std.specs.Prelude.{length}
 use Rattle.std.specs.Prelude.{Option, Some, None, IfSome}
 use Rattle.std.specs.List.{AllByRecursion}
 use Rattle.ipb_base.specs.Numbers.{payload_of}
+use Rattle.transaction_codec.specs.Answer.{reply_room}
 use Rattle.status_packet.specs.declared.status.Status.{Status}
 use Rattle.status_packet.specs.Range.{IsBufferCount, IsMtu}
 use Rattle.packet_ids.specs.Identifier.{IsIdentifier}
 use Rattle.board_bus.specs.Cells.{CellMap}
+use Rattle.world_model.specs.Board.{Board}
 use Rattle.world_model.specs.Hub.{Hub, is_waiting, new_hub, places}
 use Rattle.world_model.specs.Facts.{HasBodies, IsStart, IsWindow}
 use Rattle.reliable_engine.specs.Settings.{AreLimits, Limits}
@@ -46,6 +48,11 @@ pub record LaneState (L : Type 0) : Type 0 where
 abbrev pub with_item : {L : Type 0} → LaneState L → Item → LaneState L
 with_item lane item = record lane { items = lane.items ++ item ∷ [] }
 
+-- the board of a link that tells, as it was before it executed anything
+abbrev pub board_of : Option Telling → Option Board
+board_of None = None
+board_of (Some t) = Some (record t.told.board { log = [] })
+
 -- the opening bus of the board of a link that tells
 abbrev pub opening_of : Option Telling → Option CellMap
 opening_of None = None
@@ -55,9 +62,14 @@ opening_of (Some t) = Some t.told.board.opening
 abbrev pub waits : Hub → ℕ
 waits hub = if is_waiting hub then 1 else 0
 
--- a planned body that a packet can carry to the board
-abbrev pub IsShortPlan : ℕ → Item → Type 0
-IsShortPlan payload x = IfSome (plan_in x.what) (λ body. length body + 1 ≤ payload)
+-- a body with its header, and its longest reply with its header, are packets that the board takes and sends
+pub record FitsBoard (payload : ℕ) (body : List ℕ) : Type 0 where
+  pub short : length body + 1 ≤ payload
+  pub reply_short : reply_room body + 1 ≤ payload
+
+-- a planned body that fits
+abbrev pub IsFittingPlan : ℕ → Item → Type 0
+IsFittingPlan payload x = IfSome (plan_in x.what) (FitsBoard payload)
 
 -- a hub that knows a board by this status
 pub record KnowsBoard (settings : Limits) (status : BoardStatus) (hub : Hub) : Type 0 where
@@ -88,7 +100,7 @@ pub record IsLane (settings : Limits) (status : BoardStatus) (hub : Hub) (items 
   pub kept : IsKept items outcomes hub.window give_ups
   pub waited : HasWaited hub.rounds give_ups hub.status_requests quiets
   pub fewer : give_ups + waits hub ≤ length outcomes
-  pub short : AllByRecursion (IsShortPlan (payload_of status.mtu)) items
+  pub fits : AllByRecursion (IsFittingPlan (payload_of status.mtu)) items
   pub fault : down ≡ true → 1 ≤ faults
   pub lost : AreLostOnlyIf (down ≡ true) outcomes
   pub standing : IfSome telling (IsStanding (down || spent) settings hub outcomes)

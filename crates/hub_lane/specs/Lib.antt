@@ -1,10 +1,14 @@
 pub mod Sends
 pub mod Hearing
+pub mod Carrying
 pub mod Standing
 pub mod Lanes
+pub mod Rounds
 pub mod Plans
 pub mod Calls
 pub mod Books
 pub mod Truth
 pub mod Greeting
 pub mod Records
+pub mod Below
+pub mod Step

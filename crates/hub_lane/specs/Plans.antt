@@ -5,7 +5,7 @@ use Rattle.transaction_codec.specs.Answer.{reply_room}
 use Rattle.lane_record.specs.declared.item.Item.{Item}
 use Rattle.lane_record.specs.NextEntry.{plan_of}
 use Rattle.lane_record.specs.Items.{is_sealed, plan_in, planned}
-use Rattle.hub_lane.specs.Lanes.{LaneState, with_item}
+use Rattle.hub_lane.specs.Lanes.{FitsBoard, LaneState, with_item}
 use Rattle.hub_lane.specs.declared.answers.PlanRefusal.{PlanRefusal}
 use Rattle.hub_lane.specs.declared.answers.PlanRefusal.TheVariants.{Sealed, TooLong, ReplyTooLong, Overfull, NoMemory}
 
@@ -38,11 +38,6 @@ planned_words (x ∷ xs) = words_with (plan_in x.what) (planned_words xs)
 abbrev pub IsFull : List Item → ℕ → ℕ → Type 0
 IsFull items body reply =
     (most_bodies ≤ planned_bodies items) ⊎ (most_words < planned_words items + body + reply)
-
--- a body with its header, and its longest reply with its header, are packets that the board takes and sends
-pub record FitsBoard (payload : ℕ) (body : List ℕ) : Type 0 where
-  pub short : length body + 1 ≤ payload
-  pub reply_short : reply_room body + 1 ≤ payload
 
 -- a body that may be planned
 pub record CanPlan (items : List Item) (payload : ℕ) (body : List ℕ) : Type 0 where

@@ -86,6 +86,13 @@ impl Book {
         self.entries.as_slice()
     }
 
+    /// The entries, with their contents.
+    pub(crate) fn items(&self) -> &[Item]
+        ensures { result.now ≡ self.now.items }
+    {
+        self.items.as_slice()
+    }
+
     /// Whether planning was closed.
     pub(crate) fn is_sealed(&self) -> bool
         ensures { result ≡ is_sealed self.now.items }

@@ -11,12 +11,16 @@ ghost use Rattle.world_model.specs.Sends.{next_send};
 ghost use Rattle.world_model.specs.Facts.{AreSendable, IsWindow};
 ghost use Rattle.reliable_engine.specs.Settings.{Limits};
 ghost use Rattle.lane_record.specs.Offers.{put_all};
-ghost use Rattle.hub_lane.specs.Lanes.{IsReady, opening_of};
+ghost use Rattle.hub_lane.specs.Lanes.{IsReady, board_of};
+ghost use Rattle.world_core.specs.Telling.{IfTelling};
+ghost use Rattle.hub_lane.specs.Carrying.{Brings, Carries, HasPut};
 ghost use Rattle.hub_lane.specs.Hearing.{IsEventAs, IsHeardAs, WasReceived, give_ups_of, gots_of, hub_after, quiets_of};
 ghost use Rattle.hub_lane.specs.Sends.{HasSent, all_sent, handed_out};
+ghost use Rattle.hub_lane.specs.Rounds.{PaysFor, PaysOn, PaysRounds};
 ghost use Rattle.hub_lane.specs.Standing.{GoesOn, IsRunning, Stops};
 
 use crate::answers::Pumped;
+use crate::below::laws_of_rounds;
 use crate::outcomes::settle;
 use ipb_base::{NoMemory, Words};
 use lane_record::Outcome;
@@ -60,6 +64,10 @@ pub(crate) fn exchange<L: Link>(
     ensures running { OnOk result ((limits : Limits)
         → IfSome (L.telling link.old) (IsRunning limits hub.old outcomes.old.items)
         → IfSome (L.telling link.new) (IsRunning limits hub.new outcomes.new.items)) }
+    ensures pays { OnOk result ((limits : Limits) (mtu : ℕ)
+        → IfSome (L.telling link.old) (IsRunning limits hub.old outcomes.old.items)
+        → IfSome (L.telling link.old) (PaysRounds mtu hub.old.rounds give_ups.old hub.old (L.held link.old))
+        → IfSome (L.telling link.new) (PaysRounds mtu hub.old.rounds give_ups.new hub.new (L.held link.new))) }
     ensures sent { OnErr result (HasSent hub.old hub.new) }
     ensures same_outcomes { OnErr result (outcomes.new.items ≡ outcomes.old.items) }
     ensures same_give_ups { OnErr result (give_ups.new ≡ give_ups.old) }
@@ -73,7 +81,9 @@ pub(crate) fn exchange<L: Link>(
     ensures failed_quiets { result ≡ Err LinkFault.Failed → L.quiets link.new ≡ L.quiets link.old }
     ensures failed_gots { result ≡ Err LinkFault.Failed → L.gots link.new ≡ L.gots link.old }
     ensures held { L.held link.old ≤ L.held link.new }
-    ensures opening { opening_of (L.telling link.new) ≡ opening_of (L.telling link.old) }
+    ensures board { board_of (L.telling link.new) ≡ board_of (L.telling link.old) }
+    ensures carries { IfOk result (λ pumped. IfTelling (L.telling link.old) (L.telling link.new)
+        (Carries pumped buffer.new.items hub.old)) }
 {
     a_send_leaves_the_fates();
     each_event_leads_to_a_state_of_a_run();
@@ -92,16 +102,20 @@ fn send_all<L: Link>(alloc: Global, hub: &mut Engine, link: &mut L) -> Result<()
     ensures none { OnOk result (next_send hub.new ≡ None) }
     ensures some { HasSent hub.old hub.new }
     ensures running { OnOk result (GoesOn (L.telling link.old) hub.old (L.telling link.new) hub.new) }
+    ensures pays { OnOk result
+        (PaysOn (L.telling link.old) hub.old (L.held link.old) (L.telling link.new) hub.new (L.held link.new)) }
     ensures stopped { OnErr result (Stops (L.telling link.old) hub.old (L.telling link.new) hub.new) }
     ensures failed { result ≡ Err LinkFault.Failed → Rose (L.faults link.old) (L.faults link.new) }
     ensures faults { L.faults link.old ≤ L.faults link.new }
     ensures quiets { L.quiets link.new ≡ L.quiets link.old }
     ensures gots { L.gots link.new ≡ L.gots link.old }
     ensures held { L.held link.old ≤ L.held link.new }
-    ensures opening { opening_of (L.telling link.new) ≡ opening_of (L.telling link.old) }
+    ensures board { board_of (L.telling link.new) ≡ board_of (L.telling link.old) }
+    ensures put { OnOk result (IfTelling (L.telling link.old) (L.telling link.new) (HasPut hub.old hub.new)) }
 {
     a_send_leaves_the_fates();
     draining_ends();
+    laws_of_rounds();
     each_event_leads_to_a_state_of_a_run();
     only_an_offer_makes_more_bodies();
     what_is_wanted_can_be_written();
@@ -133,6 +147,8 @@ fn receive<L: Link>(
     ensures received { IfOk result (λ pumped.
         IfSome (L.telling link.new) (WasReceived pumped buffer.new.items)) }
     ensures running { GoesOn (L.telling link.old) hub.old (L.telling link.new) hub.new }
+    ensures pays { IfOk result (λ pumped.
+        PaysFor pumped (L.telling link.old) hub.old (L.held link.old) (L.telling link.new) hub.new (L.held link.new)) }
     ensures failed { result ≡ Err LinkFault.Failed → Rose (L.faults link.old) (L.faults link.new) }
     ensures faults { L.faults link.old ≤ L.faults link.new }
     ensures quiets { IfOk result (λ pumped. L.quiets link.new ≡ quiets_of pumped (L.quiets link.old)) }
@@ -142,9 +158,12 @@ fn receive<L: Link>(
     ensures failed_quiets { result ≡ Err LinkFault.Failed → L.quiets link.new ≡ L.quiets link.old }
     ensures failed_gots { result ≡ Err LinkFault.Failed → L.gots link.new ≡ L.gots link.old }
     ensures held { L.held link.old ≤ L.held link.new }
-    ensures opening { opening_of (L.telling link.new) ≡ opening_of (L.telling link.old) }
+    ensures board { board_of (L.telling link.new) ≡ board_of (L.telling link.old) }
+    ensures brings { IfOk result (λ pumped. IfTelling (L.telling link.old) (L.telling link.new)
+        (Brings pumped buffer.new.items)) }
 {
     each_event_leads_to_a_state_of_a_run();
+    laws_of_rounds();
     a_link_forgets_nothing();
     match link.receive(buffer)? {
         Received::Got => Ok(hear(alloc, first, hub, buffer)?),

@@ -23,6 +23,7 @@ use world_model::laws::links::{a_greeting_goes_on, a_link_forgets_nothing};
 pub const MOST_OTHERS: usize = 64;
 
 /// What a greeting came to (profile).
+#[derive(Drop)]
 pub enum Greeted<L: Link> {
     /// The board told its status.
     Ready(Lane<L>),

@@ -1,24 +1,27 @@
 //! A lane: the engine and the link of one board, and the record of what clients asked of it.
 
-ghost use Rattle.std.specs.Prelude.{◌≡◌, ◌≤◌, ◌<◌, ◌⊎◌, ◌^◌, ℕ, true, false, length, map, count_by, OnOk, OnErr, IfOk};
-ghost use Rattle.std.specs.Prelude.{IfErr};
+ghost use Rattle.std.specs.Prelude.{◌≡◌, ◌≤◌, ◌<◌, ◌⊎◌, ◌*◌, ◌^◌, ℕ, true, false, length, map, count_by, OnOk, OnErr};
+ghost use Rattle.std.specs.Prelude.{IfOk, IfErr};
 ghost use Rattle.std.specs.Prelude.{IfSome, IfNone, Err, List, if◌then◌else◌, ◌++◌, ◌∷◌, [], Some, None};
 ghost use Rattle.ipb_base.specs.Faults.{Rose};
 ghost use Rattle.ipb_base.specs.Numbers.{payload_of};
 ghost use Rattle.transaction_codec.specs.Answer.{reply_room};
-ghost use Rattle.lane_record.specs.Bounds.{timeouts};
+ghost use Rattle.lane_record.specs.Bounds.{HasReached, timeouts};
 ghost use Rattle.lane_record.specs.Coding.{entry_of};
 ghost use Rattle.std.specs.Vec.{vec_len, vec_capacity};
 ghost use Rattle.world_model.specs.Hub.{offer};
 ghost use Rattle.reliable_engine.specs.Answers.{body_count};
 ghost use Rattle.lane_record.specs.declared.outcome.Outcome.TheVariants.{LinkLost};
 ghost use Rattle.hub_lane.specs.Plans.{CanPlan, IsRefused, Plans};
+ghost use Rattle.world_core.specs.Telling.{IfTelling};
+ghost use Rattle.hub_lane.specs.Carrying.{Pumping};
 ghost use Rattle.hub_lane.specs.Hearing.{gots_of, quiets_of};
 ghost use Rattle.hub_lane.specs.Calls.{AsksAs, IsReplyAt, IsSameRecord, IsSpent, PumpsAs, TakesAs, WasAsked};
 ghost use Rattle.hub_lane.specs.Calls.{is_lost_at_place, is_replied, sealed};
-ghost use Rattle.hub_lane.specs.Lanes.{IsGreeted, IsLane, opened, opening_of, status_of};
+ghost use Rattle.hub_lane.specs.Lanes.{IsGreeted, IsLane, board_of, opened, opening_of, status_of};
 
 use crate::answers::{Asked, PlanRefusal, Pumped, Taken};
+use crate::below::laws_of_rounds;
 use crate::book::Book;
 use crate::exchange::exchange;
 use crate::outcomes::{copy_outcome, copy_words, count_of, lose_all, reply_at};
@@ -52,7 +55,7 @@ pub struct Lane<L: Link> {
     first: Id,
     engine: Engine,
     buffer: Vec<u8>,
-    book: Book,
+    pub(crate) book: Book,
     outcomes: Vec<Option<Outcome>>,
     give_ups: u64,
     down: bool,
@@ -60,7 +63,9 @@ pub struct Lane<L: Link> {
 }
 
 impl<L: Link> Model for Lane<L> {
+    ghost use Rattle.std.specs.Prelude.{IfSome, ◌||◌};
     ghost use Rattle.hub_lane.specs.Lanes.{IsLane, LaneState};
+    ghost use Rattle.hub_lane.specs.Rounds.{HasPaid};
 
     ghost Value = { LaneState L };
 
@@ -79,7 +84,9 @@ impl<L: Link> Model for Lane<L> {
     ghost invariant = { λ l. IsLane l.settings
         (record { mtu = l.mtu; buffers = l.buffers; next = l.first })
         l.engine l.book.items l.outcomes.items l.give_ups l.down l.spent (L.telling l.link) (L.faults l.link)
-        (L.quiets l.link) };
+        (L.quiets l.link)
+        × IfSome (L.telling l.link)
+        (HasPaid (l.down || l.spent) l.mtu l.settings.rounds l.give_ups l.engine (L.held l.link)) };
 }
 
 impl<L: Link> Lane<L> {
@@ -89,6 +96,16 @@ impl<L: Link> Lane<L> {
             self.now.give_ups self.now.down self.now.spent (L.telling self.now.link) (L.faults self.now.link)
             (L.quiets self.now.link) }
     {
+        let _down = &self.down;
+    }
+
+    /// What a lane over a link that tells has paid for its give-ups: at least as many datagrams were held as all their
+    /// rounds. Where none was held it never gave up. It does nothing when it runs.
+    pub fn has_paid(&self)
+        ensures { IfSome (L.telling self.now.link)
+            (λ _. HasReached (self.now.settings.rounds * self.now.give_ups) (L.held self.now.link)) }
+    {
+        laws_of_rounds();
         let _down = &self.down;
     }
 
@@ -117,6 +134,7 @@ impl<L: Link> Lane<L> {
         an_ask_is_an_offer();
         each_event_leads_to_a_state_of_a_run();
         entries_go_into_the_book();
+        laws_of_rounds();
         Ok(Lane {
             alloc,
             link,
@@ -231,6 +249,7 @@ impl<L: Link> Lane<L> {
         a_failed_link_loses_what_waits();
         each_event_leads_to_a_state_of_a_run();
         entries_go_into_the_book();
+        laws_of_rounds();
         only_an_offer_makes_more_bodies();
         if self.spent {
             return Err(NoMemory);
@@ -263,6 +282,9 @@ impl<L: Link> Lane<L> {
         ensures gots { IfOk result (λ pumped. L.gots self.new.link ≡ gots_of pumped (L.gots self.old.link)) }
         ensures gots_rise { L.gots self.old.link ≤ L.gots self.new.link }
         ensures held { L.held self.old.link ≤ L.held self.new.link }
+        ensures board { board_of (L.telling self.new.link) ≡ board_of (L.telling self.old.link) }
+        ensures link { IfOk result (λ pumped. IfTelling (L.telling self.old.link) (L.telling self.new.link)
+            (Pumping pumped self.old.hub self.new.hub)) }
         // So the head of its record stays.
         ensures opening { opening_of (L.telling self.new.link) ≡ opening_of (L.telling self.old.link) }
     {
@@ -272,6 +294,7 @@ impl<L: Link> Lane<L> {
         what_a_hub_hears_settles_asks();
         a_failed_link_loses_what_waits();
         outcomes_go_into_the_book();
+        laws_of_rounds();
         if self.spent {
             return Err(NoMemory);
         }

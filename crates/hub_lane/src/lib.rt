@@ -2,14 +2,17 @@
 #![tactic(auto)]
 
 mod answers;
+mod below;
 mod book;
 mod chronicle;
 mod exchange;
 mod greeting;
 mod lane;
 pub mod laws;
+mod oldest;
 mod outcomes;
 mod rows;
+mod step;
 
 pub use answers::{Asked, BoardState, PlanRefusal, Pumped, Taken};
 pub use book::{MAX_BODIES, MAX_WORDS};
@@ -17,5 +20,6 @@ pub use greeting::{Greeted, MOST_OTHERS};
 pub use ipb_base::{NoMemory, Words};
 pub use lane::Lane;
 pub use lane_record::Outcome;
+pub use step::{Stepped, Turned};
 pub use turn_pass::Entry;
 pub use world_core::{Link, LinkFault, Received, Settings};

@@ -1,1 +1,4 @@
 pub mod Links
+pub mod Clients
+pub mod Boards
+pub mod Faults

@@ -1,7 +1,8 @@
 -- What the links of a session show once it ended. Profile.
 use Rattle.std.specs.Prelude.{◌≡◌, ℕ, ◌+◌, List, [], ◌∷◌, ◌++◌, map, Option, Some, None, IfSome}
-use Rattle.world_model.specs.Board.{Board, executed}
+use Rattle.world_model.specs.Board.{executed}
 use Rattle.world_core.specs.Telling.{Telling}
+use Rattle.sound_lanes.specs.Reports.{report_of}
 use Rattle.board_node.specs.declared.spec.BoardSpec.{BoardSpec}
 use Rattle.board_node.specs.declared.spec.LinkSpec.{LinkSpec}
 use Rattle.board_node.specs.declared.spec.LinkSpec.TheVariants.{Sim, Udp}
@@ -10,16 +11,6 @@ use Rattle.script_lang.specs.declared.operation.Step.{Step}
 use Rattle.script_lang.specs.Executable.{OpensOnWords}
 use Rattle.lane_history.specs.Links.{LinkReport, IsBoardOf}
 use Rattle.lane_history.specs.Runs.{ExecutedSome}
-
--- the board of a link that tells
-abbrev pub board_there : Option Telling → Option Board
-board_there None = None
-board_there (Some telling) = Some telling.told.board
-
--- what a link shows, by its four counts and what it tells
-abbrev pub report_of : ℕ → ℕ → ℕ → ℕ → Option Telling → LinkReport
-report_of faults quiets gots held telling =
-    record { faults = faults; quiets = quiets; gots = gots; held = held; board = board_there telling }
 
 -- These links were given back behind those that were kept before, in this order, and so much holds of what they show.
 -- The first five are what contracts see of a link.

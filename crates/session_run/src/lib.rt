@@ -4,6 +4,10 @@
 //! What a run shows is `AreRunsOver` of `lane_history`. The definitions that contracts cite are in `specs/`.
 #![tactic(auto)]
 
+mod board;
+mod client;
+mod greeting;
+mod planning;
 mod session;
 
 pub use ipb_base::NoMemory;

@@ -1,5 +1,7 @@
 use Rattle.std.proofs.Common.{◌∙◌, sym, arith}
+use Rattle.hub_lane.proofs.Carrying.{carried}
 use Rattle.hub_lane.proofs.Ready.{exchanged, ready_sent, same_sent}
+use Rattle.hub_lane.proofs.Rounds.{exchanged_pays}
 use Rattle.hub_lane.proofs.exchange.exchange.Goals as goal
 
 pub receive-requires-clause-drained : goal.receive-requires-clause-drained
@@ -33,3 +35,19 @@ returns-clause-running g c =
     c.receive.new.hub c.settle.new.hub c.args.outcomes.now.items c.settle.new.outcomes.items
     (g.L.Link.telling c.args.link.now) (g.L.Link.telling c.send_all.new.link) (g.L.Link.telling c.receive.new.link)
     c.settle.ensures.hub c.settle.ensures.outcomes c.in_ok-send_all.ensures.running c.receive.ensures.running
+
+pub returns-clause-carries : goal.returns-clause-carries
+returns-clause-carries g c =
+    carried c.in_ok-pumped.pumped c.receive.new.buffer.items c.args.hub.now c.send_all.new.hub
+    (g.L.Link.telling c.args.link.now) (g.L.Link.telling c.send_all.new.link) (g.L.Link.telling c.receive.new.link)
+    c.in_ok-send_all.ensures.all c.in_ok-send_all.ensures.put c.in_ok-pumped.ensures.brings
+
+pub returns-clause-pays : goal.returns-clause-pays
+returns-clause-pays g c = λ limits mtu start paid.
+    exchanged_pays c.in_ok-pumped.pumped c.args.hub.now c.send_all.new.hub c.receive.new.hub c.settle.new.hub
+    c.args.outcomes.now.items (g.L.Link.telling c.args.link.now) (g.L.Link.telling c.send_all.new.link)
+    (g.L.Link.telling c.receive.new.link) (g.L.Link.held c.args.link.now) (g.L.Link.held c.send_all.new.link)
+    (g.L.Link.held c.receive.new.link) c.args.give_ups.now c.settle.new.give_ups
+    (same_sent c.args.hub.now c.send_all.new.hub c.send_all.ensures.some).rounds c.settle.ensures.hub
+    c.settle.ensures.give_ups c.in_ok-send_all.ensures.running c.in_ok-send_all.ensures.pays
+    c.in_ok-pumped.ensures.pays limits mtu start paid

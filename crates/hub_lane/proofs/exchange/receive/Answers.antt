@@ -4,8 +4,12 @@ use Rattle.world_core.specs.declared.link.Received.{Received}
 use Rattle.world_core.specs.Telling.{IfTelling, Receives}
 use Rattle.world_model.specs.Messages.{to_hub}
 use Rattle.hub_lane.specs.Hearing.{IsHeardAs}
+use Rattle.hub_lane.specs.declared.answers.Pumped.TheVariants.{Quiet}
+use Rattle.hub_lane.specs.Rounds.{PaysFor}
 use Rattle.hub_lane.specs.Standing.{GoesOn}
-use Rattle.hub_lane.proofs.Linked.{fault_on, got_on, quiet_on, received_opening, unheard_on, was_received}
+use Rattle.hub_lane.proofs.Carrying.{got_brings, quiet_brings}
+use Rattle.hub_lane.proofs.Linked.{fault_on, got_on, quiet_on, received_board, unheard_on, was_received}
+use Rattle.hub_lane.proofs.Rounds.{got_for, quiet_for}
 use Rattle.hub_lane.proofs.exchange.receive.Goals as goal
 
 pub returns-in_err-receive-clause-running : goal.returns-in_err-receive-clause-running
@@ -74,22 +78,78 @@ returns-in-Quiet-clause-running g c =
     (held c.args.link.now) (held c.receive.new.self) (telling c.args.link.now)
     (telling c.receive.new.self) c.requires.none c.requires.drained c.requires.waits quiet)
 
-pub returns-in_err-receive-clause-opening : goal.returns-in_err-receive-clause-opening
-returns-in_err-receive-clause-opening g c = received_opening c.a_link_forgets_nothing.ensures.board c.receive.result
+pub returns-in_err-receive-clause-board : goal.returns-in_err-receive-clause-board
+returns-in_err-receive-clause-board g c = received_board c.a_link_forgets_nothing.ensures.board c.receive.result
     c.receive.new.into.items (g.L.Link.held c.args.link.now) (g.L.Link.held c.receive.new.self)
     (g.L.Link.telling c.args.link.now) (g.L.Link.telling c.receive.new.self) c.receive.ensures.received
 
-pub returns-in_err-hear-in-Got-clause-opening : goal.returns-in_err-hear-in-Got-clause-opening
-returns-in_err-hear-in-Got-clause-opening g c = received_opening c.a_link_forgets_nothing.ensures.board c.receive.result
+pub returns-in_err-hear-in-Got-clause-board : goal.returns-in_err-hear-in-Got-clause-board
+returns-in_err-hear-in-Got-clause-board g c = received_board c.a_link_forgets_nothing.ensures.board c.receive.result
     c.receive.new.into.items (g.L.Link.held c.args.link.now) (g.L.Link.held c.receive.new.self)
     (g.L.Link.telling c.args.link.now) (g.L.Link.telling c.receive.new.self) c.receive.ensures.received
 
-pub returns-in_ok-hear-in-Got-clause-opening : goal.returns-in_ok-hear-in-Got-clause-opening
-returns-in_ok-hear-in-Got-clause-opening g c = received_opening c.a_link_forgets_nothing.ensures.board c.receive.result
+pub returns-in_ok-hear-in-Got-clause-board : goal.returns-in_ok-hear-in-Got-clause-board
+returns-in_ok-hear-in-Got-clause-board g c = received_board c.a_link_forgets_nothing.ensures.board c.receive.result
     c.receive.new.into.items (g.L.Link.held c.args.link.now) (g.L.Link.held c.receive.new.self)
     (g.L.Link.telling c.args.link.now) (g.L.Link.telling c.receive.new.self) c.receive.ensures.received
 
-pub returns-in-Quiet-clause-opening : goal.returns-in-Quiet-clause-opening
-returns-in-Quiet-clause-opening g c = received_opening c.a_link_forgets_nothing.ensures.board c.receive.result
+pub returns-in-Quiet-clause-board : goal.returns-in-Quiet-clause-board
+returns-in-Quiet-clause-board g c = received_board c.a_link_forgets_nothing.ensures.board c.receive.result
     c.receive.new.into.items (g.L.Link.held c.args.link.now) (g.L.Link.held c.receive.new.self)
     (g.L.Link.telling c.args.link.now) (g.L.Link.telling c.receive.new.self) c.receive.ensures.received
+
+pub returns-in_ok-hear-in-Got-clause-pays : goal.returns-in_ok-hear-in-Got-clause-pays
+returns-in_ok-hear-in-Got-clause-pays g c =
+    let telling = g.L.Link.telling in
+    let held = g.L.Link.held in
+    let bytes = c.receive.new.into.items in
+    let pumped = c.in_ok-hear-in-Got.field-0 in
+    let got = subst (λ (r : Received). IfTelling (telling c.args.link.now) (telling c.receive.new.self)
+    (Receives (Ok r) bytes (held c.args.link.now) (held c.receive.new.self))) c.in-Got.is
+    c.in_ok-receive.ensures.received in
+    subst (λ (h : Hub). PaysFor pumped (telling c.args.link.now) c.args.hub.now (held c.args.link.now)
+    (telling c.receive.new.self) h (held c.receive.new.self))
+    (sym (c.in_ok-hear-in-Got.ensures.hub
+    ∙ ap (λ (heard : List ℕ). take_message c.args.hub.now (to_hub heard)) c.deref.ensures.value))
+    (got_for c.laws_of_rounds.ensures c.a_link_forgets_nothing.ensures.board pumped c.args.hub.now bytes
+    (held c.args.link.now) (held c.receive.new.self) (telling c.args.link.now) (telling c.receive.new.self)
+    c.receive.ensures.held (subst (λ (heard : List ℕ). IsHeardAs c.args.hub.now (to_hub heard) pumped)
+    c.deref.ensures.value c.in_ok-hear-in-Got.ensures.heard) got)
+
+pub returns-in-Quiet-clause-pays : goal.returns-in-Quiet-clause-pays
+returns-in-Quiet-clause-pays g c =
+    let telling = g.L.Link.telling in
+    let held = g.L.Link.held in
+    let bytes = c.receive.new.into.items in
+    let quiet = subst (λ (r : Received). IfTelling (telling c.args.link.now) (telling c.receive.new.self)
+    (Receives (Ok r) bytes (held c.args.link.now) (held c.receive.new.self))) c.in-Quiet.is
+    c.in_ok-receive.ensures.received in
+    subst (λ (h : Hub). PaysFor Quiet (telling c.args.link.now) c.args.hub.now (held c.args.link.now)
+    (telling c.receive.new.self) h (held c.receive.new.self)) (sym c.on_quiet.ensures.hub)
+    (quiet_for c.laws_of_rounds.ensures c.a_link_forgets_nothing.ensures.board c.args.hub.now
+    (held c.args.link.now) (held c.receive.new.self) (telling c.args.link.now) (telling c.receive.new.self)
+    c.receive.ensures.held c.requires.none c.requires.waits quiet)
+
+pub returns-in_ok-hear-in-Got-clause-brings : goal.returns-in_ok-hear-in-Got-clause-brings
+returns-in_ok-hear-in-Got-clause-brings g c =
+    let telling = g.L.Link.telling in
+    let held = g.L.Link.held in
+    let bytes = c.receive.new.into.items in
+    let got = subst (λ (r : Received). IfTelling (telling c.args.link.now) (telling c.receive.new.self)
+    (Receives (Ok r) bytes (held c.args.link.now) (held c.receive.new.self))) c.in-Got.is
+    c.in_ok-receive.ensures.received in
+    got_brings bytes c.args.hub.now c.in_ok-hear-in-Got.field-0 (held c.args.link.now) (held c.receive.new.self)
+    (telling c.args.link.now) (telling c.receive.new.self)
+    (subst (λ (heard : List ℕ). IsHeardAs c.args.hub.now (to_hub heard) c.in_ok-hear-in-Got.field-0)
+    c.deref.ensures.value c.in_ok-hear-in-Got.ensures.heard) got
+
+pub returns-in-Quiet-clause-brings : goal.returns-in-Quiet-clause-brings
+returns-in-Quiet-clause-brings g c =
+    let telling = g.L.Link.telling in
+    let held = g.L.Link.held in
+    let bytes = c.receive.new.into.items in
+    let quiet = subst (λ (r : Received). IfTelling (telling c.args.link.now) (telling c.receive.new.self)
+    (Receives (Ok r) bytes (held c.args.link.now) (held c.receive.new.self))) c.in-Quiet.is
+    c.in_ok-receive.ensures.received in
+    quiet_brings bytes (held c.args.link.now) (held c.receive.new.self) (telling c.args.link.now)
+    (telling c.receive.new.self) quiet

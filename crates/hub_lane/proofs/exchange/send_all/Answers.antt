@@ -2,7 +2,9 @@ use Rattle.std.proofs.Common.{◌∙◌, ℕ, List, subst, sym, arith}
 use Rattle.world_model.specs.Sends.{Next}
 use Rattle.world_core.specs.Telling.{IfTelling, IsSent}
 use Rattle.hub_lane.proofs.Sends.{all_out, next_is, none_is, one_less, same_hub, sent_more}
-use Rattle.hub_lane.proofs.Linked.{sent_on, sent_opening, still_spelled}
+use Rattle.hub_lane.proofs.Carrying.{put_more}
+use Rattle.hub_lane.proofs.Linked.{sent_on, sent_board, still_spelled}
+use Rattle.hub_lane.proofs.Rounds.{pays_sent}
 use Rattle.hub_lane.proofs.exchange.send_all.Goals as goal
 
 pub returns-in_err-bytes-clause-some : goal.returns-in_err-bytes-clause-some
@@ -37,9 +39,15 @@ loop-send-preserved g c =
           c.args.hub.now old next (held before.link) (held c.send.new.self) (telling c.args.link.now)
           (telling before.link) (telling c.send.new.self) is before.invariant.running call;
       fault = (let a = before.invariant.fault in let b = c.send.ensures.faults in omega (arith, a, b));
+      pays = pays_sent c.laws_of_rounds.ensures
+          c.args.hub.now old next (held c.args.link.now) (held before.link) (held c.send.new.self)
+          (telling c.args.link.now) (telling before.link) (telling c.send.new.self) is c.send.ensures.held
+          before.invariant.running call before.invariant.pays;
       quiet = c.send.ensures.quiets ∙ before.invariant.quiet;
       got = c.send.ensures.gots ∙ before.invariant.got;
-      opening = sent_opening _ _ _ _ _ call ∙ before.invariant.opening;
+      board = sent_board _ _ _ _ _ call ∙ before.invariant.board;
+      put = put_more c.args.hub.now old next (held before.link) (held c.send.new.self) (telling c.args.link.now)
+          (telling before.link) (telling c.send.new.self) is before.invariant.put call;
       hold = (let a = before.invariant.hold in let b = c.send.ensures.held in omega (arith, a, b));
     }
 

@@ -8,7 +8,9 @@ use Rattle.lane_record.specs.declared.item.Item.{Item}
 use Rattle.lane_record.specs.Items.{asked, found, plan_in}
 use Rattle.lane_record.specs.NextEntry.{MayAsk, ask_of}
 use Rattle.hub_lane.specs.Lanes.{BoardStatus}
-use Rattle.hub_lane.proofs.Lanes.{body_sendable, lane_asks}
+use Rattle.ipb_base.specs.Numbers.{payload_of}
+use Rattle.hub_lane.proofs.Lanes.{body_sendable, found_fits, lane_asks}
+use Rattle.hub_lane.proofs.Rounds.{pays_asked}
 use Rattle.hub_lane.proofs.lane.Lane.ask.Goals as goal
 
 pub invariant_of-self-2 : goal.invariant_of-self-2
@@ -24,27 +26,39 @@ invariant_of-self-2 g c =
     planned_there ∙ ap (λ (b : List ℕ). Some b) (sym same) in
     let can : IsSendable c.in_ok-body.body =
     subst IsSendable (sym c.in_ok-body.ensures.copied) (c.copy_words.ensures.sendable
-    (subst (λ (b : List ℕ). length b ≤ 2242) (sym c.as_slice.ensures) (body_sendable l.mtu items client seq
-    c.in-Some.body.now c.self.invariant.knows.mtu c.self.invariant.short planned_there))) in
+    (subst (λ (b : List ℕ). length b ≤ 2242) (sym c.as_slice.ensures) (body_sendable l.mtu c.in-Some.body.now
+    c.self.invariant.0.knows.mtu (found_fits (payload_of l.mtu) items client seq c.in-Some.body.now
+    c.self.invariant.0.fits planned_there)))) in
+    let fits = found_fits (payload_of l.mtu) items client seq c.in_ok-body.body c.self.invariant.0.fits there in
+    let hub_is : c.offer.new.engine ≡ (if l.down then l.engine
+    else offer l.engine (record { tag = length l.outcomes.items; body = c.in_ok-body.body })) =
+    c.in_ok-offer.ensures.engine ∙ ap (λ (os : List (Option Outcome)). if l.down then l.engine
+    else offer l.engine (record { tag = length os; body = c.in_ok-body.body })) c.in_ok-reserve-2.ensures.items in
     let may : MayAsk items client seq l.give_ups = record {
       some_client = c.requires.client;
       next = refl;
       is_planned = c.an_ask_is_of_its_plan.ensures.planned items l.outcomes.items client seq c.in_ok-body.body
-          c.self.invariant.kept.legal there;
-      within = c.self.invariant.kept.within;
+          c.self.invariant.0.kept.legal there;
+      within = c.self.invariant.0.kept.within;
     } in
     let entry : c.ask.new.self.items ≡ items ++ ask_of client seq l.give_ups ∷ [] = c.ask.ensures.entry
-    ∙ ap (λ (xs : List Item). xs ++ ask_of client (asked client xs) l.give_ups ∷ []) c.in_ok-reserve.ensures.items in
-    lane_asks c.each_event_leads_to_a_state_of_a_run.ensures.offered c.only_an_offer_makes_more_bodies.ensures.offered
-    c.an_ask_is_an_offer.ensures.offered c.a_failed_link_loses_what_waits.ensures.later l.settings status l.engine
-    c.offer.new.engine items c.ask.new.self.items l.outcomes.items c.offer.new.outcomes.items l.give_ups l.down l.spent
-    (g.L.Link.telling l.link) (g.L.Link.faults l.link) (g.L.Link.quiets l.link) client seq c.in_ok-body.body
-    (λ kept. c.entries_go_into_the_book.ensures.ask items l.outcomes.items l.engine.window l.give_ups client seq kept
-    may)
-    (λ kept. c.entries_go_into_the_book.ensures.ask_in_vain items l.outcomes.items l.engine.window l.give_ups client seq
-    kept may) there can c.if-self.false
-    (c.in_ok-offer.ensures.engine ∙ ap (λ (os : List (Option Outcome)). if l.down then l.engine
-    else offer l.engine (record { tag = length os; body = c.in_ok-body.body })) c.in_ok-reserve-2.ensures.items)
-    entry
-    (c.in_ok-offer.ensures.outcomes ∙ ap (λ (os : List (Option Outcome)). os
-    ++ (if l.down then Some (LinkLost None) else None) ∷ []) c.in_ok-reserve-2.ensures.items) c.self.invariant
+    ∙ ap (λ (xs : List Item). xs ++ ask_of client (asked client xs) l.give_ups ∷ []) c.in_ok-reserve.ensures.items in (
+      lane_asks c.each_event_leads_to_a_state_of_a_run.ensures.offered c.only_an_offer_makes_more_bodies.ensures.offered
+          c.an_ask_is_an_offer.ensures.offered c.a_failed_link_loses_what_waits.ensures.later l.settings status l.engine
+          c.offer.new.engine items c.ask.new.self.items l.outcomes.items c.offer.new.outcomes.items l.give_ups l.down
+          l.spent
+          (g.L.Link.telling l.link) (g.L.Link.faults l.link) (g.L.Link.quiets l.link) client seq c.in_ok-body.body
+          (λ kept. c.entries_go_into_the_book.ensures.ask items l.outcomes.items l.engine.window l.give_ups client seq
+          kept
+          may)
+          (λ kept. c.entries_go_into_the_book.ensures.ask_in_vain items l.outcomes.items l.engine.window l.give_ups
+          client seq
+          kept may) there can c.if-self.false
+          hub_is entry
+          (c.in_ok-offer.ensures.outcomes ∙ ap (λ (os : List (Option Outcome)). os
+          ++ (if l.down then Some (LinkLost None) else None) ∷ []) c.in_ok-reserve-2.ensures.items) c.self.invariant.0,
+      pays_asked c.laws_of_rounds.ensures l.down l.spent l.mtu l.settings.rounds l.give_ups l.engine c.offer.new.engine
+          (length l.outcomes.items) c.in_ok-body.body (g.L.Link.held l.link) (g.L.Link.telling l.link) c.if-self.false
+          fits
+          hub_is c.self.invariant.1,
+    )

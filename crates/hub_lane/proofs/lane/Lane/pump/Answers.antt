@@ -1,7 +1,13 @@
-use Rattle.std.proofs.Common.{◌∙◌, sym, subst, refl}
+use Rattle.std.proofs.Common.{◌∙◌, sym, subst, refl, Bool, true, ◌||◌}
+use Rattle.std.specs.Prelude.{IfSome}
+use Rattle.world_core.specs.Telling.{IfTelling}
 use Rattle.hub_lane.specs.Calls.{IsSameRecord}
+use Rattle.hub_lane.specs.Carrying.{Pumping}
 use Rattle.hub_lane.specs.Lanes.{BoardStatus, LaneState}
+use Rattle.hub_lane.proofs.Carrying.{pumping}
+use Rattle.hub_lane.specs.Rounds.{HasPaid}
 use Rattle.hub_lane.proofs.Pumps.{PumpLaws, pump_down, pump_received, pump_spent}
+use Rattle.hub_lane.proofs.Rounds.{pays_pumped, pays_stopped, still_up}
 use Rattle.hub_lane.proofs.lane.Lane.pump.Goals as goal
 
 pub invariant_of-self : goal.invariant_of-self
@@ -25,13 +31,22 @@ invariant_of-self g c =
     let status : BoardStatus = record { mtu = l.mtu; buffers = l.buffers; next = l.first } in
     let telling = g.L.Link.telling in
     let faults = g.L.Link.faults in
-    let quiets = g.L.Link.quiets in
-    (pump_received laws l.settings status l.engine l.book.items l.outcomes.items l.give_ups l.down l.spent
-    (telling l.link) (faults l.link) (quiets l.link) c.if-self-2.false c.if-self.false c.self.invariant
-    c.exchange.new.hub c.exchange.new.buffer.items c.in-Ok.pumped c.exchange.new.outcomes.items c.exchange.new.give_ups
-    (telling c.exchange.new.link) (faults c.exchange.new.link) (quiets c.exchange.new.link)
-    (sym c.waiting.ensures ∙ c.if-not-waiting.false) c.in-Ok.ensures.event c.in-Ok.ensures.hub c.in-Ok.ensures.outcomes
-    c.in-Ok.ensures.give_ups c.in-Ok.ensures.quiets c.in-Ok.ensures.running).lane
+    let quiets = g.L.Link.quiets in (
+      (pump_received laws l.settings status l.engine l.book.items l.outcomes.items l.give_ups l.down l.spent
+          (telling l.link) (faults l.link) (quiets l.link) c.if-self-2.false c.if-self.false c.self.invariant.0
+          c.exchange.new.hub c.exchange.new.buffer.items c.in-Ok.pumped c.exchange.new.outcomes.items
+          c.exchange.new.give_ups
+          (telling c.exchange.new.link) (faults c.exchange.new.link) (quiets c.exchange.new.link)
+          (sym c.waiting.ensures ∙ c.if-not-waiting.false) c.in-Ok.ensures.event c.in-Ok.ensures.hub
+          c.in-Ok.ensures.outcomes
+          c.in-Ok.ensures.give_ups c.in-Ok.ensures.quiets c.in-Ok.ensures.running).lane,
+      pays_pumped l.down l.spent l.mtu l.settings.rounds l.give_ups c.exchange.new.give_ups l.engine c.exchange.new.hub
+          (g.L.Link.held l.link) (g.L.Link.held c.exchange.new.link) (telling l.link) (telling c.exchange.new.link)
+          c.if-self-2.false c.if-self.false c.self.invariant.0.knows.rounds (c.in-Ok.ensures.pays l.settings l.mtu
+          (still_up l.down l.spent l.settings l.engine l.outcomes.items (telling l.link) c.if-self-2.false
+          c.if-self.false
+          c.self.invariant.0.standing)) c.self.invariant.1,
+    )
 
 pub invariant_of-self-in-Err-Failed : goal.invariant_of-self-in-Err-Failed
 invariant_of-self-in-Err-Failed g c =
@@ -54,14 +69,22 @@ invariant_of-self-in-Err-Failed g c =
     let status : BoardStatus = record { mtu = l.mtu; buffers = l.buffers; next = l.first } in
     let telling = g.L.Link.telling in
     let faults = g.L.Link.faults in
-    let quiets = g.L.Link.quiets in
-    pump_down laws l.settings status l.engine l.book.items l.outcomes.items l.give_ups l.down l.spent
-    (telling l.link) (faults l.link) (quiets l.link) c.if-self-2.false c.if-self.false c.self.invariant
-    c.exchange.new.hub c.exchange.new.outcomes.items c.lose_all.new.outcomes.items c.exchange.new.give_ups c.sent.result
-    (telling c.exchange.new.link) (faults c.exchange.new.link) (quiets c.exchange.new.link)
-    c.in-Err-Failed.ensures.sent c.in-Err-Failed.ensures.stopped (c.exchange.ensures.failed (cc))
-    (c.exchange.ensures.failed_quiets (cc))
-    c.in-Err-Failed.ensures.same_give_ups c.in-Err-Failed.ensures.same_outcomes c.sent.ensures c.lose_all.ensures
+    let quiets = g.L.Link.quiets in (
+      pump_down laws l.settings status l.engine l.book.items l.outcomes.items l.give_ups l.down l.spent
+          (telling l.link) (faults l.link) (quiets l.link) c.if-self-2.false c.if-self.false c.self.invariant.0
+          c.exchange.new.hub c.exchange.new.outcomes.items c.lose_all.new.outcomes.items c.exchange.new.give_ups
+          c.sent.result
+          (telling c.exchange.new.link) (faults c.exchange.new.link) (quiets c.exchange.new.link)
+          c.in-Err-Failed.ensures.sent c.in-Err-Failed.ensures.stopped (c.exchange.ensures.failed (cc))
+          (c.exchange.ensures.failed_quiets (cc))
+          c.in-Err-Failed.ensures.same_give_ups c.in-Err-Failed.ensures.same_outcomes c.sent.ensures c.lose_all.ensures,
+      pays_stopped c.laws_of_rounds.ensures (l.down || l.spent) l.mtu l.settings.rounds l.give_ups
+          c.exchange.new.give_ups
+          l.engine c.exchange.new.hub (g.L.Link.held l.link) (g.L.Link.held c.exchange.new.link) (telling l.link)
+          (telling c.exchange.new.link) c.exchange.ensures.board c.in-Err-Failed.ensures.same_give_ups
+          c.exchange.ensures.held
+          c.self.invariant.1,
+    )
 
 pub invariant_of-self-in-Err-NoMemory : goal.invariant_of-self-in-Err-NoMemory
 invariant_of-self-in-Err-NoMemory g c =
@@ -84,13 +107,21 @@ invariant_of-self-in-Err-NoMemory g c =
     let status : BoardStatus = record { mtu = l.mtu; buffers = l.buffers; next = l.first } in
     let telling = g.L.Link.telling in
     let faults = g.L.Link.faults in
-    let quiets = g.L.Link.quiets in
-    pump_spent laws l.settings status l.engine l.book.items l.outcomes.items l.give_ups l.down l.spent
-    (telling l.link) (faults l.link) (quiets l.link) c.if-self-2.false c.if-self.false c.self.invariant
-    c.exchange.new.hub c.exchange.new.outcomes.items c.exchange.new.give_ups
-    (telling c.exchange.new.link) (faults c.exchange.new.link) (quiets c.exchange.new.link)
-    c.in-Err-NoMemory.ensures.sent c.in-Err-NoMemory.ensures.stopped c.exchange.ensures.quiets_rise
-    c.in-Err-NoMemory.ensures.same_give_ups c.in-Err-NoMemory.ensures.same_outcomes
+    let quiets = g.L.Link.quiets in (
+      pump_spent laws l.settings status l.engine l.book.items l.outcomes.items l.give_ups l.down l.spent
+          (telling l.link) (faults l.link) (quiets l.link) c.if-self-2.false c.if-self.false c.self.invariant.0
+          c.exchange.new.hub c.exchange.new.outcomes.items c.exchange.new.give_ups
+          (telling c.exchange.new.link) (faults c.exchange.new.link) (quiets c.exchange.new.link)
+          c.in-Err-NoMemory.ensures.sent c.in-Err-NoMemory.ensures.stopped c.exchange.ensures.quiets_rise
+          c.in-Err-NoMemory.ensures.same_give_ups c.in-Err-NoMemory.ensures.same_outcomes,
+      subst (λ (b : Bool). IfSome (telling c.exchange.new.link) (HasPaid (b || true) l.mtu l.settings.rounds
+          c.exchange.new.give_ups c.exchange.new.hub (g.L.Link.held c.exchange.new.link))) (sym c.if-self-2.false)
+          (pays_stopped c.laws_of_rounds.ensures (l.down || l.spent) l.mtu l.settings.rounds l.give_ups
+          c.exchange.new.give_ups l.engine c.exchange.new.hub (g.L.Link.held l.link) (g.L.Link.held c.exchange.new.link)
+          (telling l.link) (telling c.exchange.new.link) c.exchange.ensures.board
+          c.in-Err-NoMemory.ensures.same_give_ups
+          c.exchange.ensures.held c.self.invariant.1),
+    )
 
 pub returns-in-Ok-clause-same : goal.returns-in-Ok-clause-same
 returns-in-Ok-clause-same g c =
@@ -115,7 +146,7 @@ returns-in-Ok-clause-same g c =
     let faults = g.L.Link.faults in
     let quiets = g.L.Link.quiets in
     let done = pump_received laws l.settings status l.engine l.book.items l.outcomes.items l.give_ups l.down l.spent
-    (telling l.link) (faults l.link) (quiets l.link) c.if-self-2.false c.if-self.false c.self.invariant
+    (telling l.link) (faults l.link) (quiets l.link) c.if-self-2.false c.if-self.false c.self.invariant.0
     c.exchange.new.hub c.exchange.new.buffer.items c.in-Ok.pumped c.exchange.new.outcomes.items c.exchange.new.give_ups
     (telling c.exchange.new.link) (faults c.exchange.new.link) (quiets c.exchange.new.link)
     (sym c.waiting.ensures ∙ c.if-not-waiting.false) c.in-Ok.ensures.event c.in-Ok.ensures.hub c.in-Ok.ensures.outcomes
@@ -132,3 +163,12 @@ returns-in-Ok-clause-same g c =
       spent = l.spent;
     })) c.self.view_is
     (record { settings = refl; status = refl; items = refl; outcomes = done.keeps; give_ups = done.more })
+
+pub returns-in-Ok-clause-link : goal.returns-in-Ok-clause-link
+returns-in-Ok-clause-link g c =
+    let l = c.self.inside in
+    let telling = g.L.Link.telling in
+    subst (λ (v : LaneState _). IfTelling (telling v.link) (telling c.exchange.new.link)
+    (Pumping c.in-Ok.pumped v.hub c.exchange.new.hub)) c.self.view_is
+    (pumping c.in-Ok.pumped c.exchange.new.buffer.items l.engine c.exchange.new.hub (telling l.link)
+    (telling c.exchange.new.link) c.in-Ok.ensures.event c.in-Ok.ensures.hub c.in-Ok.ensures.carries)

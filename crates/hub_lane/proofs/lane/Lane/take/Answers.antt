@@ -25,26 +25,29 @@ invariant_of-self-2 g c =
     c.requires.asked in
     let place = subst (λ (r : Option ℕ). IsPosition c.args.client c.args.seq items r) c.in-Some.is c.ask_at.ensures in
     let within : at < length outcomes = (let h = get_within (claims items) at place.0 place.1.there in
-    let e = c.self.invariant.agrees.counts.each in omega (arith, h, e)) in
+    let e = c.self.invariant.0.agrees.counts.each in omega (arith, h, e)) in
     let there : slice_get outcomes at ≡ Some c.index.result.now =
     slice_get-get_or outcomes at c.index.result.now within ∙ ap (λ (o : Option Outcome). Some o) (sym c.index.ensures)
     in
     let became : slice_get outcomes at ≡ Some (Some kept_is) = there ∙ ap (λ (o : Option Outcome). Some o)
     (c.in-Some-index.is ∙ ap (λ (o : Outcome). Some o) (sym c.in_ok-kept.ensures)) in
     let entry : c.take.new.self.items ≡ items ++ x ∷ [] =
-    c.take.ensures ∙ ap (λ (xs : List Item). xs ++ x ∷ []) c.in_ok-reserve.ensures.items in
-    subst (λ (xs : List Item). IsLane l.settings status l.engine xs outcomes l.give_ups l.down l.spent
-    (g.L.Link.telling l.link) (g.L.Link.faults l.link) (g.L.Link.quiets l.link)) (sym entry)
-    (lane_entry l.settings status l.engine items outcomes l.give_ups l.down l.spent
-    (g.L.Link.telling l.link) (g.L.Link.faults l.link) (g.L.Link.quiets l.link) x refl tt
-    (λ kept. c.entries_go_into_the_book.ensures.took items outcomes l.engine.window l.give_ups c.args.client c.args.seq
-    kept_is kept (record {
-      k = at;
-      claim = place.0;
-      ask = place.1;
-      once = asked.untaken.once;
-      became = became;
-    })) c.self.invariant)
+    c.take.ensures ∙ ap (λ (xs : List Item). xs ++ x ∷ []) c.in_ok-reserve.ensures.items in (
+      subst (λ (xs : List Item). IsLane l.settings status l.engine xs outcomes l.give_ups l.down l.spent
+          (g.L.Link.telling l.link) (g.L.Link.faults l.link) (g.L.Link.quiets l.link)) (sym entry)
+          (lane_entry l.settings status l.engine items outcomes l.give_ups l.down l.spent
+          (g.L.Link.telling l.link) (g.L.Link.faults l.link) (g.L.Link.quiets l.link) x refl tt
+          (λ kept. c.entries_go_into_the_book.ensures.took items outcomes l.engine.window l.give_ups c.args.client
+          c.args.seq
+          kept_is kept (record {
+            k = at;
+            claim = place.0;
+            ask = place.1;
+            once = asked.untaken.once;
+            became = became;
+          })) c.self.invariant.0),
+      c.self.invariant.1,
+    )
 
 pub returns-clause-taken : goal.returns-clause-taken
 returns-clause-taken g c =
@@ -59,7 +62,7 @@ returns-clause-taken g c =
     c.requires.asked in
     let place = subst (λ (r : Option ℕ). IsPosition c.args.client c.args.seq items r) c.in-Some.is c.ask_at.ensures in
     let within : at < length outcomes = (let h = get_within (claims items) at place.0 place.1.there in
-    let e = c.self.invariant.agrees.counts.each in omega (arith, h, e)) in
+    let e = c.self.invariant.0.agrees.counts.each in omega (arith, h, e)) in
     let there : slice_get outcomes at ≡ Some c.index.result.now =
     slice_get-get_or outcomes at c.index.result.now within ∙ ap (λ (o : Option Outcome). Some o) (sym c.index.ensures)
     in

@@ -1,0 +1,32 @@
+-- What the laws of rounds say, for the proofs here: no public clause speaks of it.
+use Rattle.std.specs.Prelude.{◌≡◌, ℕ, ◌+◌, ◌*◌, ◌≤◌, true, List, Some, None}
+use Rattle.world_model.specs.declared.offered.Offered.{Offered}
+use Rattle.world_model.specs.Messages.{to_hub}
+use Rattle.world_model.specs.Hub.{Hub, give_up, is_waiting, offer, take_message, want_status}
+use Rattle.world_model.specs.Sends.{Next, bytes_to_send, next_send}
+use Rattle.world_core.specs.Telling.{IsGot, IsQuiet, IsSent, Telling}
+use Rattle.lane_record.specs.Bounds.{HasReached}
+use Rattle.lane_recovery.specs.Rounds.{IsPaid}
+use Rattle.lane_recovery.specs.UnderWay.{CanRecover}
+
+pub record RoundLaws : Type 0 where
+  pub begins : (rounds : ℕ) (hub : Hub) (held : ℕ) (t : Telling) → hub.status_requests ≡ 0
+      → IsPaid rounds 0 hub held t
+  pub offered : (rounds given_up : ℕ) (hub : Hub) (held : ℕ) (t : Telling) (offered : Offered)
+      → IsPaid rounds given_up hub held t → IsPaid rounds given_up (offer hub offered) held t
+  pub sent : (rounds given_up : ℕ) (hub : Hub) (next : Next) (before now : ℕ) (old new : Telling)
+      → CanRecover hub old → before ≤ now → next_send hub ≡ Some next
+      → IsSent (bytes_to_send next.hub next.send) before now old new → IsPaid rounds given_up hub before old
+      → IsPaid rounds given_up next.hub now new
+  pub got : (rounds given_up : ℕ) (hub : Hub) (bytes : List ℕ) (before now : ℕ) (old new : Telling)
+      → CanRecover hub old → before ≤ now → IsGot bytes before now old new
+      → IsPaid rounds given_up hub before old
+      → IsPaid rounds given_up (take_message hub (to_hub bytes)) now new
+  pub quiet : (rounds given_up : ℕ) (hub : Hub) (before now : ℕ) (old new : Telling) → CanRecover hub old
+      → before ≤ now → next_send hub ≡ None → is_waiting hub ≡ true → 1 ≤ hub.window → IsQuiet before now old new
+      → IsPaid rounds given_up hub before old → IsPaid rounds given_up (want_status hub) now new
+  pub gave_up : (rounds given_up : ℕ) (hub : Hub) (before now : ℕ) (old new : Telling) → CanRecover hub old
+      → before ≤ now → next_send hub ≡ None → rounds ≤ hub.status_requests → IsQuiet before now old new
+      → IsPaid rounds given_up hub before old → IsPaid rounds (given_up + 1) (give_up hub) now new
+  pub give_ups : (rounds given_up : ℕ) (hub : Hub) (held : ℕ) (t : Telling) → IsPaid rounds given_up hub held t
+      → HasReached (rounds * given_up) held

@@ -1,0 +1,63 @@
+-- What a step of a client does to a lane. Profile.
+use Rattle.std.specs.Prelude.{◌≡◌, ◌⊎◌, ℕ, ◌+◌, ◌<◌, true, false, None, Some, is_some, List, [], ◌∷◌}
+use Rattle.std.specs.List.{slice_get}
+use Rattle.ipb_base.specs.Faults.{Rose}
+use Rattle.lane_record.specs.declared.outcome.Outcome.{Outcome}
+use Rattle.lane_record.specs.declared.item.Item.{Item}
+use Rattle.lane_record.specs.Claims.{Claim, IsAskOf}
+use Rattle.lane_record.specs.Items.{asked, found, took_in}
+use Rattle.hub_lane.specs.Lanes.{LaneState}
+use Rattle.hub_lane.specs.Calls.{IsSameRecord, Takes}
+use Rattle.hub_lane.specs.declared.step.Stepped.{Stepped}
+use Rattle.hub_lane.specs.declared.step.Stepped.TheVariants as steps
+
+-- a body of a client that was taken
+abbrev pub IsTakenIn : List Item → ℕ → ℕ → Type 0
+IsTakenIn items client seq = is_some (found took_in client seq items) ≡ true
+
+-- the oldest body of a client that was asked and not taken
+pub record IsOldest (items : List Item) (client seq : ℕ) : Type 0 where
+  pub is_asked : seq < asked client items
+  pub untaken : found took_in client seq items ≡ None
+  pub before : (n : ℕ) → n < seq → IsTakenIn items client n
+
+-- the client has no asked body to take
+abbrev pub HasTakenAll : List Item → ℕ → Type 0
+HasTakenAll items client = (n : ℕ) → n < asked client items → IsTakenIn items client n
+
+-- how the code goes over one entry: next is a number below which every body was taken
+abbrev pub IsAfterOne : ℕ → ℕ → ℕ → Item → ℕ → Type 0
+IsAfterOne client asked next x after =
+    ((after ≡ next + 1) × (next < asked) × (is_some (found took_in client next (x ∷ [])) ≡ true))
+    ⊎ ((after ≡ next) × (next < asked → is_some (found took_in client next (x ∷ [])) ≡ false))
+
+-- What became of the client's oldest asked and untaken body was taken, of a lane whose record is the old one, after one
+-- pump at most.
+pub record StepsToOutcome {L : Type 0} (old : LaneState L) (client : ℕ) (outcome : Outcome) (new : LaneState L)
+    : Type 0 where
+  pub seq : ℕ
+  pub oldest : IsOldest old.items client seq
+  pub pumped : LaneState L
+  pub same : IsSameRecord old pumped
+  pub takes : Takes pumped client seq new outcome
+
+-- nothing became of it yet, after one pump
+pub record StepsInVain {L : Type 0} (old : LaneState L) (client : ℕ) (new : LaneState L) : Type 0 where
+  pub seq : ℕ
+  pub oldest : IsOldest old.items client seq
+  pub same : IsSameRecord old new
+  pub number : ℕ
+  pub claim : Claim
+  pub ask : IsAskOf new.items number client seq claim
+  pub none_yet : slice_get new.outcomes number ≡ Some None
+
+abbrev pub StepsAs : {L : Type 0} → LaneState L → ℕ → LaneState L → Stepped → Type 0
+StepsAs old client new (steps.Ready outcome) = StepsToOutcome old client outcome new
+StepsAs old client new (steps.NotYet turned) = StepsInVain old client new
+StepsAs old client new steps.Nothing = (new ≡ old) × HasTakenAll old.items client
+
+-- a step that found no outcome received a datagram, or none in the time that the link waits
+abbrev pub RoseInVain : Stepped → ℕ → ℕ → ℕ → ℕ → Type 0
+RoseInVain (steps.Ready outcome) quiets quiets' gots gots' = Unit {0}
+RoseInVain (steps.NotYet turned) quiets quiets' gots gots' = Rose quiets quiets' ⊎ Rose gots gots'
+RoseInVain steps.Nothing quiets quiets' gots gots' = Unit {0}

@@ -1,0 +1,71 @@
+//! One step of a client.
+
+ghost use Rattle.std.specs.Prelude.{◌≡◌, ◌≤◌, IfOk, IfSome, IfNone, OnErr};
+ghost use Rattle.hub_lane.specs.Calls.{IsSameRecord, WasAsked};
+ghost use Rattle.hub_lane.specs.Lanes.{opening_of};
+ghost use Rattle.hub_lane.specs.Step.{HasTakenAll, IsOldest, RoseInVain, StepsAs};
+
+use crate::answers::Taken;
+use crate::lane::Lane;
+use crate::oldest::oldest_of;
+use ipb_base::NoMemory;
+use lane_record::Outcome;
+use world_core::Link;
+
+/// The token of a step that found no outcome. A step alone makes one, so whoever has it knows that a lane received
+/// once.
+#[derive(Debug, Drop)]
+pub struct Turned {
+    received: (),
+}
+
+/// What a step came to.
+#[derive(Debug, Drop)]
+pub enum Stepped {
+    /// What became of the client's oldest asked and untaken body.
+    Ready(Outcome),
+    /// Nothing became of it yet.
+    NotYet(Turned),
+    /// The client has no asked body to take.
+    Nothing,
+}
+
+impl<L: Link> Lane<L> {
+    /// Pumps once if nothing became of the client's oldest asked and untaken body yet, and then takes what did, if
+    /// anything. After want of memory the lane may have been pumped or be spent, and no entry was added.
+    pub fn step(&mut self, client: u32) -> Result<Stepped, NoMemory>
+        requires client { 1 ≤ client }
+        ensures stepped { IfOk result (λ stepped. StepsAs self.old client self.new stepped) }
+        ensures same { OnErr result (IsSameRecord self.old self.new) }
+        ensures received { IfOk result (λ stepped. RoseInVain stepped (L.quiets self.old.link)
+            (L.quiets self.new.link) (L.gots self.old.link) (L.gots self.new.link)) }
+        ensures faults { L.faults self.old.link ≤ L.faults self.new.link }
+        ensures quiets { L.quiets self.old.link ≤ L.quiets self.new.link }
+        ensures gots { L.gots self.old.link ≤ L.gots self.new.link }
+        ensures held { L.held self.old.link ≤ L.held self.new.link }
+        ensures opening { opening_of (L.telling self.new.link) ≡ opening_of (L.telling self.old.link) }
+    {
+        let Some(seq) = self.oldest(client) else {
+            return Ok(Stepped::Nothing);
+        };
+        match self.take(client, seq)? {
+            Taken::Ready(outcome) => return Ok(Stepped::Ready(outcome)),
+            Taken::NotYet => {}
+        }
+        self.pump()?;
+        self.is_sound();
+        match self.take(client, seq)? {
+            Taken::Ready(outcome) => Ok(Stepped::Ready(outcome)),
+            Taken::NotYet => Ok(Stepped::NotYet(Turned { received: () })),
+        }
+    }
+
+    /// The client's oldest body that was asked and not taken.
+    fn oldest(&self, client: u32) -> Option<u64>
+        ensures some { IfSome result (λ seq. IsOldest self.now.items client seq) }
+        ensures asked { IfSome result (λ seq. WasAsked self.now.items client seq) }
+        ensures none { IfNone result (HasTakenAll self.now.items client) }
+    {
+        oldest_of(self.book.items(), client, self.book.asked(client))
+    }
+}

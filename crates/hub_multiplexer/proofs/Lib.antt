@@ -1,0 +1,13 @@
+pub mod Lists
+pub mod Joins
+pub mod Ends
+pub mod Everyone
+pub mod OwnItems
+pub mod Grows
+pub mod Adds
+pub mod Looks
+pub mod Seats
+pub mod Boards
+pub mod Openings
+pub mod LaneCalls
+pub mod Submits

@@ -1,0 +1,19 @@
+use Rattle.std.proofs.Common.{rules, ◌≡◌, length, vec_len, ap, sym, ◌∙◌}
+use Rattle.std.proofs.lemmas.List.{length-map}
+use Rattle.hub_multiplexer.specs.Lanes.{shown}
+use Rattle.hub_multiplexer.specs.Seats.{MasterState}
+use Rattle.hub_multiplexer.proofs.Openings.{knows_opened, master_opened, turns_opened}
+use Rattle.hub_multiplexer.proofs.hub.Hub.new.Goals as goal
+
+pub returns-clause-master : goal.returns-clause-master
+returns-clause-master g c = ap (λ (m : MasterState). m.knows) c.of.ensures ∙ knows_opened _ _ _ c.in-Ok-open_all.ensures.opened
+
+pub of-requires : goal.of-requires
+of-requires g c =
+    let many : vec_len c.args.lanes ≡ length c.args.lanes.items = search rules in
+    let long = length-map c.args.lanes.items (shown g.L.Link.telling) in
+    master_opened _ _ _ _ c.len.result c.in-Ok-open_all.ensures.opened c.in-Ok.ensures.room (c.len.ensures ∙ (many ∙ sym long))
+
+pub returns-clause-boards : goal.returns-clause-boards
+returns-clause-boards g c =
+    turns_opened _ _ _ c.in-Ok-open_all.ensures.opened ∙ length-map c.args.lanes.items (shown g.L.Link.telling)

@@ -1,0 +1,188 @@
+//! The hub: a turn for each board's lane.
+
+ghost use Rattle.std.specs.Prelude.{◌≡◌, ◌<◌, ◌+◌, length, map, IfOk, IfErr, OnErr};
+ghost use Rattle.transaction_codec.specs.Answer.{reply_room};
+ghost use Rattle.turn_pass.specs.Pass.{first_knowledge};
+ghost use Rattle.hub_multiplexer.specs.Calls.{AskMeans, AskTried, HasSubmitted, IsNone, Made, MadeInTime, PerformMeans};
+ghost use Rattle.hub_multiplexer.specs.Calls.{StepTried, SubmitRefused};
+ghost use Rattle.hub_multiplexer.specs.OwnItems.{HasAskedAll};
+ghost use Rattle.hub_multiplexer.specs.Ends.{AreEnded, HasTakenIn};
+ghost use Rattle.hub_multiplexer.specs.Lanes.{shown};
+ghost use Rattle.hub_multiplexer.specs.Seats.{ChangesAt, IsMasterOf, IsSeatOf};
+
+use crate::answers::{AskTry, Performed, StepTry};
+use crate::calls;
+use crate::master::Master;
+use crate::room::{Room, room_for};
+use crate::seat::Seat;
+use crate::turns::{close_all, open_all};
+use hub_lane::{Asked, Lane, Link, NoMemory, PlanRefusal, Words};
+use std::alloc::Global;
+use std::marker::Model;
+use std::sync::Wait;
+use turn_pass::Turn;
+
+/// A turn for each board's lane, and one for the room in which the lanes are handed back. Threads share it by `&`, each
+/// with a seat of its own.
+#[derive(Drop)]
+pub struct Hub<L: Link> {
+    pub(crate) turns: Vec<Turn<Lane<L>>>,
+    pub(crate) room: Turn<Room<Lane<L>>>,
+}
+
+impl<L: Link> Model for Hub<L> {
+    ghost use Rattle.hub_multiplexer.specs.Seats.{HubState};
+
+    ghost Value = { HubState };
+
+    ghost view = { λ hub. record { turns = hub.turns.items; room = hub.room } };
+}
+
+/// There was no memory for a hub. The lanes come back, in order.
+#[derive(Drop)]
+pub struct Returned<L: Link> {
+    pub lanes: Vec<Lane<L>>,
+}
+
+impl<L: Link + Send + Drop> Hub<L> {
+    /// A hub of these lanes, and its master, who has seen their records. Where memory runs out there are as many lanes
+    /// as before, with the same records in the same order.
+    pub fn new(alloc: Global, mut lanes: Vec<Lane<L>>) -> Result<(Hub<L>, Master), Returned<L>>
+        ensures hub { IfOk result (λ made. IsMasterOf made.0 made.1) }
+        ensures boards { IfOk result (λ made. length made.0.turns ≡ length lanes.items) }
+        ensures no_seats { IfOk result (λ made. (made.1.seats ≡ 0) × HasTakenIn 1 made.1) }
+        ensures master { IfOk result (λ made. made.1.knows ≡ map first_knowledge (map (shown L.telling) lanes.items)) }
+        ensures returned { IfErr result (λ returned.
+            map (shown L.telling) returned.lanes.items ≡ map (shown L.telling) lanes.items) }
+    {
+        let Ok((room, room_pass)) = room_for(alloc, lanes.len()) else {
+            return Err(Returned { lanes });
+        };
+        let Ok((turns, passes)) = open_all(alloc, &mut lanes) else {
+            return Err(Returned { lanes });
+        };
+        let hub = Hub { turns, room };
+        Ok((hub, Master::of(passes, room_pass)))
+    }
+
+    /// Takes the lanes for good, in order, once every seat was joined. It waits for those who hold one. The record of
+    /// each lane begins with that at `new` and with all that the joined seats had seen, and past that at `new` it has
+    /// only entries of joined seats.
+    pub fn finish<R: Wait>(self, rt: &R, master: Master) -> Vec<Lane<L>>
+        requires hub { IsMasterOf self master }
+        requires joined { HasTakenIn (master.seats + 1) master }
+        ensures { AreEnded master.knows (map (shown L.telling) result.items) }
+    {
+        let Hub { turns, room } = self;
+        let Master {
+            passes,
+            room: room_pass,
+            ..
+        } = master;
+        let mut lanes = room.close(rt, room_pass).into_vec();
+        close_all(rt, turns, passes, &mut lanes);
+        lanes
+    }
+}
+
+impl<L: Link + Send> Hub<L> {
+    /// How many boards there are.
+    pub fn boards(&self) -> usize
+        ensures { result ≡ length self.now.turns }
+    {
+        self.turns.len()
+    }
+
+    /// Asks the seat's next planned body on a board, by one exchange. It never waits. `Busy` where another held the
+    /// lane at that exchange. Want of memory adds nothing.
+    #[tactic(auto, using(crate::proofs::Boards::idle_at))]
+    pub fn try_ask(&self, seat: &mut Seat, board: usize) -> Result<AskTry, NoMemory>
+        requires board { board < length self.now.turns }
+        requires seat { IsSeatOf self.now seat.old }
+        ensures tried { IfOk result (λ tried. ChangesAt board seat.old seat.new (λ k. AskTried k tried)) }
+        ensures looked { OnErr result (ChangesAt board seat.old seat.new (λ k. Made k IsNone)) }
+    {
+        let client = seat.client;
+        calls::try_ask(&self.turns[board], &mut seat.passes[board], client)
+    }
+
+    /// Takes a board's lane, pumps it once where nothing became of the seat's oldest asked and untaken body yet, takes
+    /// what did, and gives the lane back: by one exchange, and it never waits. `Busy` where another held the lane at
+    /// that exchange. Want of memory adds nothing; the lane may have been pumped, or be spent.
+    #[tactic(auto, using(crate::proofs::Boards::idle_at))]
+    pub fn try_step(&self, seat: &mut Seat, board: usize) -> Result<StepTry, NoMemory>
+        requires board { board < length self.now.turns }
+        requires seat { IsSeatOf self.now seat.old }
+        ensures tried { IfOk result (λ tried. ChangesAt board seat.old seat.new (λ k. StepTried k tried)) }
+        ensures looked { OnErr result (ChangesAt board seat.old seat.new (λ k. Made k IsNone)) }
+    {
+        let client = seat.client;
+        calls::try_step(&self.turns[board], &mut seat.passes[board], client)
+    }
+
+    /// Asks the seat's next planned body on a board. It waits for the lane. Want of memory adds nothing.
+    #[tactic(auto, using(crate::proofs::Boards::idle_at))]
+    pub fn ask<R: Wait>(&self, rt: &R, seat: &mut Seat, board: usize) -> Result<Asked, NoMemory>
+        requires board { board < length self.now.turns }
+        requires seat { IsSeatOf self.now seat.old }
+        ensures asked { IfOk result (λ asked.
+            ChangesAt board seat.old seat.new (λ k. MadeInTime k (AskMeans k asked))) }
+        ensures looked { OnErr result (ChangesAt board seat.old seat.new (λ k. MadeInTime k IsNone)) }
+    {
+        let client = seat.client;
+        calls::ask(rt, &self.turns[board], &mut seat.passes[board], client)
+    }
+
+    /// Steps on a board until something became of the seat's oldest asked and untaken body, and takes it. It waits for
+    /// the lane, and goes on as long as the board does not answer and the hub does not give up. Want of memory adds
+    /// nothing; the lane may have been pumped, or be spent.
+    #[tactic(auto, using(crate::proofs::Boards::idle_at))]
+    pub fn perform<R: Wait>(
+        &self,
+        rt: &R,
+        seat: &mut Seat,
+        board: usize,
+    ) -> Result<Performed, NoMemory>
+        requires board { board < length self.now.turns }
+        requires seat { IsSeatOf self.now seat.old }
+        ensures performed { IfOk result (λ performed.
+            ChangesAt board seat.old seat.new (λ k. MadeInTime k (PerformMeans k performed))) }
+        ensures looked { OnErr result (ChangesAt board seat.old seat.new (λ k. MadeInTime k IsNone)) }
+    {
+        let client = seat.client;
+        calls::perform(rt, &self.turns[board], &mut seat.passes[board], client)
+    }
+
+    /// Plans a body on a board for the seat's client, and asks it, and answers its number among the client's bodies,
+    /// from 0. `reply_words` is the words of the longest reply to it. It waits for the lane. Every body that was planned
+    /// for the client on that board was asked before. A refusal is that of `Lane::plan` on the record found, and adds
+    /// nothing; after want of memory the body may stand planned and not asked.
+    #[tactic(auto, using(crate::proofs::Boards::idle_at))]
+    pub fn submit<R: Wait>(
+        &self,
+        rt: &R,
+        seat: &mut Seat,
+        board: usize,
+        body: Words,
+        reply_words: u32,
+    ) -> Result<u64, PlanRefusal>
+        requires board { board < length self.now.turns }
+        requires seat { IsSeatOf self.now seat.old }
+        requires reply { reply_words ≡ reply_room body }
+        requires all_asked { HasAskedAll seat.old board }
+        ensures submitted { IfOk result (λ seq.
+            ChangesAt board seat.old seat.new (λ k. MadeInTime k (HasSubmitted k body seq))) }
+        ensures refused { IfErr result (λ why.
+            ChangesAt board seat.old seat.new (λ k. MadeInTime k (SubmitRefused k body why))) }
+    {
+        let client = seat.client;
+        calls::submit(
+            rt,
+            &self.turns[board],
+            &mut seat.passes[board],
+            client,
+            body,
+            reply_words,
+        )
+    }
+}

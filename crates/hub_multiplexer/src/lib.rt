@@ -1,0 +1,18 @@
+//! A hub of many boards for many clients: a turn for each board's lane, and a pass for each client on each of them.
+#![tactic(auto)]
+
+mod answers;
+mod calls;
+mod hub;
+mod master;
+mod own;
+mod passes;
+mod room;
+mod seat;
+mod turns;
+
+pub use answers::{AskTry, Performed, StepTry};
+pub use hub::{Hub, Returned};
+pub use hub_lane::{Asked, Lane, Link, NoMemory, Outcome, PlanRefusal, Turned, Words};
+pub use master::Master;
+pub use seat::Seat;

@@ -1,0 +1,96 @@
+//! What a call on a lane means to a pass of the client.
+
+ghost use Rattle.std.specs.Prelude.{◌≡◌, ◌≤◌, ◌<◌, [], IfOk, IfErr, OnErr};
+ghost use Rattle.transaction_codec.specs.Answer.{reply_room};
+ghost use Rattle.lane_record.specs.Items.{asked, planned};
+ghost use Rattle.turn_pass.specs.Pass.{Knowledge, Told};
+ghost use Rattle.lane_record.specs.Legal.{IsLegal};
+ghost use Rattle.hub_multiplexer.specs.Calls.{AskMeans, HasSubmitted, IsNone, StepMeans, SubmitRefused};
+ghost use Rattle.hub_multiplexer.specs.Lanes.{IsAskedNext, Means, shown};
+ghost use Rattle.hub_lane.specs.declared.answers.PlanRefusal.TheVariants as refusals;
+ghost use Rattle.hub_multiplexer.specs.OwnItems.{of_client, own_items};
+
+use hub_lane::{Asked, Lane, Link, NoMemory, PlanRefusal, Stepped, Words};
+use lane_record::laws::coding::an_entry_is_spelled_by_numbers;
+use lane_record::laws::entries::an_ask_is_of_its_plan;
+
+/// A lane's record is legal, and whoever takes the lane finds there the entries of its own client that it knows, and no
+/// others. It does nothing when it runs.
+pub(crate) fn tells_its_own<L: Link>(lane: &Lane<L>)
+    ensures legal { IsLegal lane.now.items lane.now.outcomes }
+    ensures own { (k : Knowledge) → Told k (shown L.telling lane.now)
+        → own_items k ≡ of_client k.number lane.now.items }
+{
+    lane.is_sound();
+    an_entry_is_spelled_by_numbers();
+}
+
+/// Asks the client's next planned body.
+pub(crate) fn ask_on<L: Link>(lane: &mut Lane<L>, client: u32) -> Result<Asked, NoMemory>
+    requires client { 1 ≤ client }
+    ensures asked { IfOk result (λ asked.
+        Means client (shown L.telling lane.old) (λ k. AskMeans k asked) (shown L.telling lane.new)) }
+    ensures looked { OnErr result (Means client (shown L.telling lane.old) (λ _. IsNone) (shown L.telling lane.new)) }
+{
+    tells_its_own(lane);
+    an_ask_is_of_its_plan();
+    let asked = lane.ask(client);
+    tells_its_own(lane);
+    asked
+}
+
+/// Pumps once at most, and takes what became of the client's oldest asked and untaken body.
+pub(crate) fn step_on<L: Link>(lane: &mut Lane<L>, client: u32) -> Result<Stepped, NoMemory>
+    requires client { 1 ≤ client }
+    ensures stepped { IfOk result (λ stepped.
+        Means client (shown L.telling lane.old) (λ k. StepMeans k stepped) (shown L.telling lane.new)) }
+    ensures looked { OnErr result (Means client (shown L.telling lane.old) (λ _. IsNone) (shown L.telling lane.new)) }
+{
+    tells_its_own(lane);
+    let stepped = lane.step(client);
+    tells_its_own(lane);
+    stepped
+}
+
+/// Plans a body of the client, and asks it. The client has asked all bodies that it planned before.
+pub(crate) fn submit_on<L: Link>(
+    lane: &mut Lane<L>,
+    client: u32,
+    body: Words,
+    reply_words: u32,
+) -> Result<u64, PlanRefusal>
+    requires client { 1 ≤ client }
+    requires reply { reply_words ≡ reply_room body }
+    requires all_asked { asked client lane.old.items ≡ planned client lane.old.items }
+    ensures submitted { IfOk result (λ seq.
+        Means client (shown L.telling lane.old) (λ k. HasSubmitted k body seq) (shown L.telling lane.new)) }
+    ensures refused { IfErr result (λ why.
+        Means client (shown L.telling lane.old) (λ k. SubmitRefused k body why) (shown L.telling lane.new)) }
+{
+    tells_its_own(lane);
+    an_ask_is_of_its_plan();
+    let planned = lane.plan(client, body, reply_words);
+    tells_its_own(lane);
+    match planned {
+        Ok(seq) => {
+            let asked = ask_planned(lane, client, seq);
+            tells_its_own(lane);
+            asked
+        }
+        Err(why) => Err(why),
+    }
+}
+
+/// Asks the body of this number, which is the client's next planned one.
+fn ask_planned<L: Link>(lane: &mut Lane<L>, client: u32, seq: u64) -> Result<u64, PlanRefusal>
+    requires client { 1 ≤ client }
+    requires next { asked client lane.old.items < planned client lane.old.items }
+    ensures asked { IfOk result (λ number. (number ≡ seq) × IsAskedNext lane.old client lane.new) }
+    ensures refused { IfErr result (λ why. (why ≡ refusals.NoMemory) × (lane.new ≡ lane.old)) }
+{
+    match lane.ask(client) {
+        Ok(Asked::Asked(_seq)) => Ok(seq),
+        Ok(Asked::Nothing) => unreachable!(),
+        Err(NoMemory) => Err(PlanRefusal::NoMemory),
+    }
+}

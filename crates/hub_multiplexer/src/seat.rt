@@ -1,0 +1,27 @@
+//! A client's place at a hub.
+
+use std::marker::Model;
+use turn_pass::Pass;
+
+/// A client, from 1, with a pass on each board. The number of each pass is the client's (profile).
+#[derive(Drop)]
+pub struct Seat {
+    pub(crate) client: u32,
+    pub(crate) passes: Vec<Pass>,
+}
+
+impl Model for Seat {
+    ghost use Rattle.std.specs.Prelude.{◌≤◌};
+    ghost use Rattle.std.specs.List.{AllByRecursion};
+    ghost use Rattle.hub_multiplexer.specs.Seats.{IsIdle, SeatState, knows_of, turns_of};
+
+    ghost Value = { SeatState };
+
+    ghost view = { λ seat. record {
+      client = seat.client;
+      turns = turns_of seat.passes.items;
+      knows = knows_of seat.passes.items;
+    } };
+
+    ghost invariant = { λ seat. (1 ≤ seat.client) × AllByRecursion (IsIdle seat.client) seat.passes.items };
+}

@@ -1,0 +1,8 @@
+mod Reading
+mod Answers
+mod Hearing
+pub mod Heard
+mod Receiving
+mod Sending
+mod Lowest
+mod Rounds

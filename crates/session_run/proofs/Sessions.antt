@@ -1,0 +1,199 @@
+-- Boards one after another: the links given back so far, and the runs.
+use Rattle.std.proofs.Common.{◌≡◌, ℕ, ◌+◌, ◌≤◌, ◌<◌, ◌∙◌, ◌⊎◌, inl, inr, Bool, true, false, ◌&&◌, suc, List, [], ◌∷◌, ◌++◌, length, map}
+use Rattle.std.proofs.Common.{Option, Some, None, refl, sym, ap, subst, arith, append_assoc, append-nil, length-append, take, drop, get_or}
+use Rattle.std.specs.Prelude.{IfOk, IfSome, Result, Ok, Err}
+use Rattle.std.specs.List.{AllByRecursion}
+use Rattle.std.proofs.lemmas.List.{drop_more, length-take-le, take_all, take_more}
+use Rattle.ipb_base.proofs.AllLemmas.{AllByRecursion-append}
+use Rattle.world_model.specs.Board.{executed}
+use Rattle.world_core.specs.Telling.{Telling}
+use Rattle.reliable_engine.specs.Settings.{Limits}
+use Rattle.board_node.specs.declared.spec.BoardSpec.{BoardSpec}
+use Rattle.script_lang.specs.declared.operation.Step.{Step}
+use Rattle.transcript.specs.declared.board_run.BoardRun.{BoardRun}
+use Rattle.board_history.specs.History.{bodies_by_client, outcomes_by_client}
+use Rattle.board_history.specs.InTurn.{AreInTurn}
+use Rattle.hub_lane.specs.declared.greeting.Greeted.{Greeted}
+use Rattle.hub_lane.specs.Greeting.{link_of}
+use Rattle.lane_history.specs.Links.{IsUntouched, LinkReport}
+use Rattle.lane_history.specs.Runs.{AreRunsOver, ExecutedSome, IsRunOver}
+use Rattle.session_run.specs.Boards.{AreReached, AreUntouched, HasMemory, HasRoom, IsReached, OnRun}
+use Rattle.session_run.specs.Links.{AreLeft, IsLeft}
+
+left_more : (board : ℕ) (specs rest : List BoardSpec) (scripts : List (List Step)) (links : List LinkReport)
+    (spec : BoardSpec) (link : LinkReport) → AreLeft board specs scripts links → drop (length links) specs ≡ spec ∷ rest
+    → IsLeft spec (board + length links) scripts link → AreLeft board specs scripts (links ++ link ∷ [])
+left_more board [] rest scripts [] spec link left begins is = absurd cc
+left_more board (s ∷ specs) rest scripts [] spec link left begins is =
+    let same : s ≡ spec = cc in
+    (subst (λ (t : BoardSpec). IsLeft t board scripts link) (sym same)
+    (subst (λ n. IsLeft spec n scripts link) (omega arith) is), tt)
+left_more board [] rest scripts (l ∷ links) spec link left begins is = absurd left
+left_more board (s ∷ specs) rest scripts (l ∷ links) spec link left begins is =
+    (left.0, left_more (board + 1) specs rest scripts links spec link left.1 begins
+    (subst (λ n. IsLeft spec n scripts link) (omega arith) is))
+
+runs_more : (settings : Limits) (board : ℕ) (specs : List BoardSpec) (scripts : List (List Step)) (runs : List BoardRun)
+    (links : List LinkReport) (spec : BoardSpec) (run : BoardRun) (link : LinkReport)
+    → AreRunsOver settings board specs scripts runs links → IsRunOver settings spec (board + length specs) scripts run link
+    → AreRunsOver settings board (specs ++ spec ∷ []) scripts (runs ++ run ∷ []) (links ++ link ∷ [])
+runs_more settings board [] scripts [] [] spec run link are is =
+    (subst (λ n. IsRunOver settings spec n scripts run link) (omega arith) is, tt)
+runs_more settings board [] scripts [] (l ∷ links) spec run link are is = absurd are
+runs_more settings board [] scripts (r ∷ runs) links spec run link are is = absurd are
+runs_more settings board (s ∷ specs) scripts [] links spec run link are is = absurd are
+runs_more settings board (s ∷ specs) scripts (r ∷ runs) [] spec run link are is = absurd are
+runs_more settings board (s ∷ specs) scripts (r ∷ runs) (l ∷ links) spec run link are is =
+    (are.0, runs_more settings (board + 1) specs scripts runs links spec run link are.1
+    (subst (λ n. IsRunOver settings spec n scripts run link) (omega arith) is))
+
+abbrev pub IsInTurn : BoardRun → Type 0
+IsInTurn run = AreInTurn (bodies_by_client run) (outcomes_by_client run)
+
+-- so many boards ran, and their links were given back
+pub record RanBoards {L : Type 0} (shows : L → LinkReport) (settings : Limits) (k : ℕ) (specs : List BoardSpec)
+    (scripts : List (List Step)) (runs : List BoardRun) (is_whole : Bool) (kept now : List L) : Type 0 where
+  pub links : List L
+  pub grown : now ≡ kept ++ links
+  pub many : length links ≡ k
+  pub left : AreLeft 0 specs scripts (map shows links)
+  pub ran : is_whole ≡ true → AreRunsOver settings 0 (take k specs) scripts runs (map shows links)
+  pub in_turn : is_whole ≡ true → AllByRecursion IsInTurn runs
+
+-- the boards that are left
+pub record WaitBoards {L : Type 0} (tells : L → Option Telling) (shows : L → LinkReport) (settings : Limits) (k : ℕ)
+    (specs : List BoardSpec) (boards : List (Greeted L)) : Type 0 where
+  pub reached : AreReached tells shows settings (drop k specs) boards
+  pub memory : AllByRecursion HasMemory boards
+  pub many : length boards + k ≡ length specs
+
+pub none_ran : {L : Type 0} (shows : L → LinkReport) (settings : Limits) (specs : List BoardSpec)
+    (scripts : List (List Step)) (kept : List L) → RanBoards shows settings 0 specs scripts [] true kept kept
+none_ran shows settings specs scripts kept = record {
+  links = [];
+  grown = sym (append-nil kept);
+  many = refl;
+  left = tt;
+  ran = λ e. tt;
+  in_turn = λ e. tt;
+}
+
+map_append : {A B : Type 0} (f : A → B) (xs : List A) (x : A) → map f (xs ++ x ∷ []) ≡ map f xs ++ f x ∷ []
+map_append f [] x = refl
+map_append f (y ∷ xs) x = ap (λ l. f y ∷ l) (map_append f xs x)
+
+length_map : {A B : Type 0} (f : A → B) (xs : List A) → length (map f xs) ≡ length xs
+length_map f [] = refl
+length_map f (x ∷ xs) = ap suc (length_map f xs)
+
+pub begins_at : {A : Type 0} (xs : List A) (i : ℕ) (x : A) → i < length xs → x ≡ get_or xs i x
+    → drop i xs ≡ x ∷ drop (i + 1) xs
+begins_at xs i x within is = drop_more xs i x within ∙ ap (λ y. y ∷ drop (i + 1) xs) (sym is)
+
+-- what the next board of those that are left is
+pub record NextBoard {L : Type 0} (tells : L → Option Telling) (shows : L → LinkReport) (settings : Limits) (k : ℕ)
+    (specs : List BoardSpec) (spec : BoardSpec) (board : Greeted L) (others : List (Greeted L)) : Type 0 where
+  pub reached : IsReached settings spec board (tells (link_of board)) (shows (link_of board))
+  pub memory : HasMemory board
+  pub later : WaitBoards tells shows settings (k + 1) specs others
+
+pub next_board : {L : Type 0} (tells : L → Option Telling) (shows : L → LinkReport) (settings : Limits) (k : ℕ)
+    (specs : List BoardSpec) (spec : BoardSpec) (boards others : List (Greeted L)) (board : Greeted L)
+    → WaitBoards tells shows settings k specs boards → k < length specs → spec ≡ get_or specs k spec
+    → boards ≡ board ∷ others → NextBoard tells shows settings k specs spec board others
+next_board {L} tells shows settings k specs spec boards others board wait within is here =
+    let all = subst (λ (bs : List (Greeted L)). WaitBoards tells shows settings k specs bs) here wait in
+    let reached = subst (λ (ss : List BoardSpec). AreReached tells shows settings ss (board ∷ others))
+    (begins_at specs k spec within is) all.reached in
+    let many = all.many in
+    record {
+      reached = reached.0;
+      memory = all.memory.0;
+      later = record { reached = reached.1; memory = all.memory.1; many = omega (arith, many) };
+    }
+
+-- some board is left
+pub some_left : {L : Type 0} (tells : L → Option Telling) (shows : L → LinkReport) (settings : Limits) (k : ℕ)
+    (specs : List BoardSpec) (boards : List (Greeted L)) → WaitBoards tells shows settings k specs boards
+    → k < length specs → boards ≡ [] → ⊥
+some_left tells shows settings k specs boards wait within none =
+    let many = wait.many in let e = ap (λ l. length l) none in omega (arith, many, within, e)
+
+pub room_for_one : {L : Type 0} (shows : L → LinkReport) (settings : Limits) (k : ℕ) (specs : List BoardSpec)
+    (scripts : List (List Step)) (runs : List BoardRun) (is_whole : Bool) (kept now : List L) (made : ℕ)
+    → RanBoards shows settings k specs scripts runs is_whole kept now → HasRoom (length kept) made (length specs)
+    → k < length specs → length now < made
+room_for_one shows settings k specs scripts runs is_whole kept now made so_far (inl none) within =
+    absurd (omega (arith, none, within))
+room_for_one shows settings k specs scripts runs is_whole kept now made so_far (inr room) within =
+    let e = ap (λ l. length l) so_far.grown in let f = length-append kept so_far.links in let m = so_far.many in
+    omega (arith, e, f, m, room, within)
+
+run_there : {E : Type 0} (P : BoardRun → Type 0) (Q : BoardRun → Type 0) (R : Type 0) (result : Result BoardRun E)
+    → IfOk result P → OnRun result Q → ((run : BoardRun) → P run → Q run → R) → R
+run_there P Q R (Ok run) p q leads = leads run p q
+run_there P Q R (Err e) p q leads = absurd q
+
+whole_more : {L : Type 0} (shows : L → LinkReport) (settings : Limits) (k : ℕ) (specs : List BoardSpec)
+    (scripts : List (List Step)) (runs later : List BoardRun) (links : List L) (spec : BoardSpec) (run : BoardRun)
+    (link : L) → AreRunsOver settings 0 (take k specs) scripts runs (map shows links) → k < length specs
+    → spec ≡ get_or specs k spec → IsRunOver settings spec k scripts run (shows link) → later ≡ runs ++ run ∷ []
+    → AreRunsOver settings 0 (take (k + 1) specs) scripts later (map shows (links ++ link ∷ []))
+whole_more {L} shows settings k specs scripts runs later links spec run link are within is over is_later =
+    let few : length (take k specs) ≡ k = length-take-le k specs (omega (arith, within)) in
+    let front : take (k + 1) specs ≡ take k specs ++ spec ∷ [] = take_more specs k spec within
+    ∙ ap (λ (s : BoardSpec). take k specs ++ s ∷ []) (sym is) in
+    rw (front, is_later, map_append shows links link)
+    (runs_more settings 0 (take k specs) scripts runs (map shows links) spec run (shows link) are
+    (subst (λ n. IsRunOver settings spec n scripts run (shows link)) (omega (arith, few)) over))
+
+pub board_more : {L E : Type 0} (shows : L → LinkReport) (settings : Limits) (k : ℕ) (specs : List BoardSpec)
+    (scripts : List (List Step)) (runs later : List BoardRun) (is_whole added : Bool) (kept now new : List L)
+    (spec : BoardSpec) (link : L) (result : Result BoardRun E)
+    → RanBoards shows settings k specs scripts runs is_whole kept now → k < length specs → spec ≡ get_or specs k spec
+    → new ≡ now ++ link ∷ [] → IsLeft spec k scripts (shows link)
+    → IfOk result (λ run. IsRunOver settings spec k scripts run (shows link)) → IfOk result IsInTurn
+    → (added ≡ true → is_whole ≡ true) → (added ≡ true → OnRun result (λ run. later ≡ runs ++ run ∷ []))
+    → RanBoards shows settings (k + 1) specs scripts later added kept new
+board_more {L} {E} shows settings k specs scripts runs later is_whole added kept now new spec link result so_far within is
+    push left ran in_turn was adds =
+    let links = so_far.links in
+    let count = length_map shows links in
+    let many = so_far.many in
+    let place : length (map shows links) ≡ k = count ∙ many in
+    record {
+      links = links ++ link ∷ [];
+      grown = push ∙ (ap (λ (l : List L). l ++ link ∷ []) so_far.grown ∙ append_assoc kept links (link ∷ []));
+      many = length-append links (link ∷ []) ∙ ap (λ n. n + 1) many;
+      left = subst (AreLeft 0 specs scripts) (sym (map_append shows links link))
+          (left_more 0 specs (drop (k + 1) specs) scripts (map shows links) spec (shows link) so_far.left
+          (ap (λ n. drop n specs) place ∙ begins_at specs k spec within is)
+          (subst (λ n. IsLeft spec n scripts (shows link)) (omega (arith, place)) left));
+      ran = λ e. run_there (λ (run : BoardRun). IsRunOver settings spec k scripts run (shows link))
+      (λ (run : BoardRun). later ≡ runs ++ run ∷ [])
+      (AreRunsOver settings 0 (take (k + 1) specs) scripts later (map shows (links ++ link ∷ []))) result ran (adds e)
+      (λ run over is_later. whole_more shows settings k specs scripts runs later links spec run link
+      (so_far.ran (was e)) within is over is_later);
+      in_turn = λ e. run_there IsInTurn (λ (run : BoardRun). later ≡ runs ++ run ∷ []) (AllByRecursion IsInTurn later) result in_turn
+      (adds e) (λ run turn is_later. subst (AllByRecursion IsInTurn) (sym is_later)
+      (AllByRecursion-append IsInTurn runs (run ∷ []) (so_far.in_turn (was e)) (turn, tt)));
+    }
+
+abbrev pub UntouchedLaw : Type 0
+UntouchedLaw = (spec : BoardSpec) (board : ℕ) (scripts : List (List Step)) (link : LinkReport)
+    → IsUntouched link → IfSome link.board (λ there. ExecutedSome spec board scripts (executed there))
+
+pub untouched_are_left : UntouchedLaw → (board : ℕ) (specs : List BoardSpec) (scripts : List (List Step))
+    (links : List LinkReport) → AreUntouched specs links → AreLeft board specs scripts links
+untouched_are_left law board specs scripts [] are = tt
+untouched_are_left law board [] scripts (l ∷ links) are = absurd are
+untouched_are_left law board (s ∷ specs) scripts (l ∷ links) are = (
+  record { board' = are.0; executed_some = law s board scripts l are.1 },
+  untouched_are_left law (board + 1) specs scripts links are.2,
+)
+
+pub untouched_all : (specs : List BoardSpec) (links : List LinkReport) → AreUntouched specs links
+    → AllByRecursion IsUntouched links
+untouched_all specs [] are = tt
+untouched_all [] (l ∷ links) are = absurd are
+untouched_all (s ∷ specs) (l ∷ links) are = (are.1, untouched_all specs links are.2)

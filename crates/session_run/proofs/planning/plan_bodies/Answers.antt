@@ -1,0 +1,23 @@
+use Rattle.std.proofs.Common.{◌≡◌, ◌∙◌, ap, take}
+use Rattle.lane_record.specs.Items.{is_sealed}
+use Rattle.hub_lane.specs.Lanes.{LaneState}
+use Rattle.lane_history.specs.Records.{plans_from}
+use Rattle.session_run.proofs.PlansMade.{plan_more, plans_front, unsealed_more}
+use Rattle.session_run.proofs.planning.plan_bodies.Goals as goal
+
+pub plan_body-requires-clause-unsealed : goal.plan_body-requires-clause-unsealed
+plan_body-requires-clause-unsealed g c = ap (λ (l : LaneState _). is_sealed l.items) c.loop-body.invariant
+    ∙ unsealed_more c.args.client c.args.lane.now.items (take c.loop-body.body-index c.args.bodies.now)
+    c.requires.unsealed
+
+pub returns-in_err-plan_body-clause-some : goal.returns-in_err-plan_body-clause-some
+returns-in_err-plan_body-clause-some g c = record {
+  front = plans_from c.args.client 0 (take c.loop-body.body-index c.args.bodies.now);
+  is_front = plans_front c.args.client c.loop-body.body-index c.args.bodies.now;
+  became = c.in_err-plan_body.ensures.unchanged ∙ c.loop-body.invariant;
+}
+
+pub loop-body-preserved : goal.loop-body-preserved
+loop-body-preserved g c = plan_more c.one_more_entry_stands_behind.ensures.plan c.args.lane.now c.loop-body.lane
+    c.plan_body.new.lane c.args.client c.loop-body.body-index c.args.bodies.now c.body-item.result c.requires.none
+    c.loop-body.invariant c.loop-body-test.true c.body-item.is c.in_ok-plan_body.ensures.planned

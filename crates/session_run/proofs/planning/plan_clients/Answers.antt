@@ -1,0 +1,85 @@
+use Rattle.std.proofs.Common.{◌≡◌, ℕ, List, ◌∙◌, ap, take, length, subst, sym, arith, rules, ◌+◌, ◌++◌, refl, []}
+use Rattle.std.proofs.lemmas.List.{append-nil, length-take-le}
+use Rattle.ipb_base.specs.Lists.{IsPrefix}
+use Rattle.hub_lane.specs.Lanes.{LaneState}
+use Rattle.lane_record.specs.declared.item.Item.{Item}
+use Rattle.lane_record.specs.Items.{is_sealed, numbers, plan_in, planned}
+use Rattle.transcript.specs.declared.greeting.Greeting.{Greeting}
+use Rattle.transcript.specs.declared.greeting.Greeting.TheVariants.{Live}
+use Rattle.transcript.specs.Plan.{ClientBodies, planned_on, plans_on}
+use Rattle.lane_history.specs.Records.{IsPartlyPlanned, all_plans_from, plans_from}
+use Rattle.session_run.specs.Clients.{bodies_of, with_items}
+use Rattle.session_run.proofs.PlansMade.{begins_with, client_planned, partly_between, partly_none}
+use Rattle.session_run.proofs.PlansMade.{all_unsealed, no_plans_yet, partly_stopped, sealed_last, told_bodies}
+use Rattle.session_run.proofs.PlansMade.{unsealed_so_far}
+use Rattle.session_run.proofs.planning.plan_clients.Goals as goal
+
+pub returns-in_err-plans-clause-some : goal.returns-in_err-plans-clause-some
+returns-in_err-plans-clause-some g c =
+    partly_none c.a_record_is_partly_planned_on_its_way.ensures.front c.a_record_is_partly_planned_on_its_way.ensures.plans
+    _ c.args.lane.now.items c.requires.unused
+
+pub returns-in_err-planned-clause-some : goal.returns-in_err-planned-clause-some
+returns-in_err-planned-clause-some g c =
+    let law = c.a_record_is_partly_planned_on_its_way.ensures in
+    let scripts = c.args.scripts.now in
+    let k = c.loop-steps.steps-index in
+    let told = Live c.payload-payload.result in
+    let so_far = c.loop-steps.invariant in
+    let items = unsealed_so_far c.args.lane.now c.loop-steps.lane (bodies_of c.loop-steps.plans.items) c.requires.unused
+    so_far.lane' ∙ ap (λ (p : List ClientBodies). all_plans_from 1 (bodies_of p)) so_far.plans' in
+    subst (λ n. IsPartlyPlanned (bodies_of (plans_on c.args.position (Live n) scripts)) c.loop-steps.lane.items)
+    c.payload-payload.ensures
+    (partly_between law.front law.plans c.args.position told k scripts c.loop-steps.lane.items items)
+
+pub plan_bodies-requires-clause-unsealed : goal.plan_bodies-requires-clause-unsealed
+plan_bodies-requires-clause-unsealed g c =
+    ap is_sealed (unsealed_so_far c.args.lane.now c.loop-steps.lane (bodies_of c.loop-steps.plans.items) c.requires.unused
+    c.loop-steps.invariant.lane') ∙ all_unsealed 1 (bodies_of c.loop-steps.plans.items)
+
+pub plan_bodies-requires-clause-none : goal.plan_bodies-requires-clause-none
+plan_bodies-requires-clause-none g c =
+    let plans = c.loop-steps.plans.items in
+    no_plans_yet c.loop-steps.lane.items plans _ (unsealed_so_far c.args.lane.now c.loop-steps.lane (bodies_of plans)
+    c.requires.unused c.loop-steps.invariant.lane') (search rules)
+
+pub returns-in_err-plan_bodies-clause-some : goal.returns-in_err-plan_bodies-clause-some
+returns-in_err-plan_bodies-clause-some g c =
+    let law = c.a_record_is_partly_planned_on_its_way.ensures in
+    let scripts = c.args.scripts.now in
+    let told = Live c.payload-payload.result in
+    subst (λ n. IsPartlyPlanned (bodies_of (plans_on c.args.position (Live n) scripts)) c.plan_bodies.new.lane.items)
+    c.payload-payload.ensures
+    (partly_stopped law.front law.plans c.args.position told c.loop-steps.steps-index _ scripts c.steps-item.result
+    c.as_slice.result.now c.loop-steps.plans.items c.in_ok-planned.planned c.bodies.result.now c.args.lane.now
+    c.loop-steps.lane c.plan_bodies.new.lane c.loop-steps.invariant c.requires.unused c.loop-steps-test.true
+    c.steps-item.is c.as_slice.ensures c.in_ok-planned.ensures.planned c.bodies.ensures.bodies (search rules)
+    c.plan_bodies.ensures.some)
+
+pub returns-in_err-push-clause-some : goal.returns-in_err-push-clause-some
+returns-in_err-push-clause-some g c =
+    let law = c.a_record_is_partly_planned_on_its_way.ensures in
+    let scripts = c.args.scripts.now in
+    let told = Live c.payload-payload.result in
+    subst (λ n. IsPartlyPlanned (bodies_of (plans_on c.args.position (Live n) scripts)) c.plan_bodies.new.lane.items)
+    c.payload-payload.ensures
+    (partly_stopped law.front law.plans c.args.position told c.loop-steps.steps-index _ scripts c.steps-item.result
+    c.as_slice.result.now c.loop-steps.plans.items c.in_ok-planned.planned c.bodies.result.now c.args.lane.now
+    c.loop-steps.lane c.plan_bodies.new.lane c.loop-steps.invariant c.requires.unused c.loop-steps-test.true
+    c.steps-item.is c.as_slice.ensures c.in_ok-planned.ensures.planned c.bodies.ensures.bodies (search rules)
+    c.plan_bodies.ensures.some)
+
+pub loop-steps-preserved : goal.loop-steps-preserved
+loop-steps-preserved g c =
+    let told = Live c.payload-payload.result in
+    client_planned c.args.position told c.loop-steps.steps-index (c.len.result + 1) c.args.scripts.now c.steps-item.result
+    c.loop-steps.plans.items c.push.new.self.items c.in_ok-planned.planned c.args.lane.now c.loop-steps.lane
+    c.plan_bodies.new.lane c.loop-steps.invariant c.loop-steps-test.true c.steps-item.is
+    (c.in_ok-planned.ensures.planned ∙ ap (planned_on c.args.position told) c.as_slice.ensures) (search rules)
+    (c.in_ok-plan_bodies.ensures.planned ∙ ap (λ (bs : List (List ℕ)). with_items c.loop-steps.lane
+    (plans_from (c.len.result + 1) 0 bs)) c.bodies.ensures.bodies) c.in_ok-push.ensures.items
+
+pub returns-clause-planned : goal.returns-clause-planned
+returns-clause-planned g c =
+    c.seal.ensures ∙ sealed_last c.args.lane.now c.loop-steps.lane (bodies_of c.loop-steps.plans.items) c.requires.unused
+    c.loop-steps.invariant.lane'

@@ -1,0 +1,9 @@
+use Rattle.std.proofs.Common.{take}
+use Rattle.transcript.specs.declared.greeting.Greeting.TheVariants.{Live}
+use Rattle.session_run.proofs.PlansMade.{PlanningClients}
+use Rattle.session_run.proofs.planning.plan_clients.Given as goal
+
+-- the clients so far
+abbrev pub invariant-loop-steps : goal.invariant-loop-steps
+invariant-loop-steps g l = PlanningClients l.position (Live l.payload) (take l.steps-index l.scripts) l.plans.items
+    l.initial.lane l.lane

@@ -1,0 +1,108 @@
+//! The bodies of all clients, planned on a lane.
+
+ghost use Rattle.std.specs.Prelude.{◌≡◌, ◌≤◌, ◌<◌, ◌^◌, ◌++◌, ◌∷◌, [], false, length, IfOk, OnErr, OnOk};
+ghost use Rattle.std.specs.List.{AllByRecursion};
+ghost use Rattle.ipb_base.specs.Numbers.{payload_of};
+ghost use Rattle.mtu_packer.specs.Packed.{FitsPackets};
+ghost use Rattle.mtu_packer.specs.declared.packing.TheConstants.{MAX_PAYLOAD};
+ghost use Rattle.lane_record.specs.Items.{is_sealed, planned};
+ghost use Rattle.lane_record.specs.NextEntry.{the_seal};
+ghost use Rattle.script_lang.specs.Packing.{CanBePacked, HaveFewPieces};
+ghost use Rattle.transcript.specs.declared.greeting.Greeting.TheVariants.{Live};
+ghost use Rattle.transcript.specs.Plan.{plans_on};
+ghost use Rattle.lane_history.specs.Records.{IsPartlyPlanned, all_plans_from, plans_from};
+ghost use Rattle.session_run.specs.Clients.{KeepsLane, PlannedSome, bodies_of, with_items};
+
+use hub_lane::{Lane, PlanRefusal};
+use ipb_base::{NoMemory, Words};
+use lane_history::building::{a_record_is_partly_planned_on_its_way, one_more_entry_stands_behind};
+use script_lang::Steps;
+use std::alloc::Global;
+use transaction_codec::reply_room;
+use transcript::{Greeting, Planned, plan_on};
+use world_core::Link;
+
+/// Plans one body of a client.
+fn plan_body<L: Link>(
+    alloc: Global,
+    lane: &mut Lane<L>,
+    client: u32,
+    body: &Words,
+) -> Result<(), NoMemory>
+    requires client { 1 ≤ client }
+    requires unsealed { is_sealed lane.old.items ≡ false }
+    requires fits { FitsPackets (payload_of lane.old.status.mtu) body.now }
+    ensures planned { OnOk result (lane.new
+        ≡ with_items lane.old (plans_from client (planned client lane.old.items) (body.now ∷ []))) }
+    ensures unchanged { OnErr result (lane.new ≡ lane.old) }
+{
+    lane.is_sound();
+    let words = Words::from_vec(body.as_slice().to_vec(alloc)?);
+    let reply_words = reply_room(words.as_slice());
+    match lane.plan(client, words, reply_words) {
+        Ok(_) => Ok(()),
+        Err(PlanRefusal::NoMemory | PlanRefusal::Overfull) => Err(NoMemory),
+        Err(PlanRefusal::Sealed | PlanRefusal::TooLong | PlanRefusal::ReplyTooLong) =>
+            unreachable!(),
+    }
+}
+
+/// Plans the bodies of a client that planned none so far, in order.
+fn plan_bodies<L: Link>(
+    alloc: Global,
+    lane: &mut Lane<L>,
+    client: u32,
+    bodies: &[Words],
+) -> Result<(), NoMemory>
+    requires client { 1 ≤ client }
+    requires unsealed { is_sealed lane.old.items ≡ false }
+    requires none { planned client lane.old.items ≡ 0 }
+    requires fit { AllByRecursion (FitsPackets (payload_of lane.old.status.mtu)) bodies.now }
+    ensures planned { OnOk result (lane.new ≡ with_items lane.old (plans_from client 0 bodies.now)) }
+    ensures some { PlannedSome client bodies.now lane.old lane.new }
+{
+    one_more_entry_stands_behind();
+    for body in bodies {
+        plan_body(alloc, lane, client, body)?;
+    }
+    Ok(())
+}
+
+/// Packs the operations of each client for the board at a position, from 0, by what its packets carry, and plans the
+/// bodies, client by client. Then planning is closed.
+pub(crate) fn plan_clients<L: Link>(
+    alloc: Global,
+    lane: &mut Lane<L>,
+    position: u32,
+    scripts: &[Steps],
+) -> Result<Vec<Planned>, NoMemory>
+    requires few_clients { length scripts.now < 2 ^ 32 }
+    requires can { AllByRecursion (AllByRecursion CanBePacked) scripts.now }
+    requires few { AllByRecursion HaveFewPieces scripts.now }
+    requires unused { lane.old.items ≡ [] }
+    ensures plans { IfOk result (λ plans. plans.items
+        ≡ plans_on position (Live (payload_of lane.old.status.mtu)) scripts.now) }
+    ensures planned { IfOk result (λ plans. lane.new
+        ≡ with_items lane.old (all_plans_from 1 (bodies_of plans.items) ++ the_seal ∷ [])) }
+    ensures some { IsPartlyPlanned (bodies_of (plans_on position (Live (payload_of lane.old.status.mtu)) scripts.now))
+        lane.new.items }
+    ensures keeps { KeepsLane lane.old lane.new (L.telling lane.old.link) (L.telling lane.new.link) }
+{
+    a_record_is_partly_planned_on_its_way();
+    lane.is_sound();
+    let payload = lane.payload();
+    let mut plans = Vec::with_capacity(alloc, scripts.len())?;
+    for steps in scripts {
+        let client = plans.len() as u32 + 1;
+        let planned = plan_on(
+            alloc,
+            steps.as_slice(),
+            position,
+            Greeting::Live { payload },
+        )?;
+        plan_bodies(alloc, lane, client, planned.bodies())?;
+        plans.push(planned)?;
+    }
+    lane.seal();
+    Ok(plans)
+}
