@@ -1,10 +1,11 @@
 -- What the command `run` owes to a document of the first form.
-use Rattle.std.proofs.Common.{ℕ, ◌≤◌, inl, List, [], ◌∷◌, length, refl, sym, arith}
+use Rattle.std.proofs.Common.{◌≡◌, ℕ, ◌≤◌, inl, inr, List, [], ◌∷◌, length, refl, sym, ap, ◌∙◌, arith}
 use Rattle.std.specs.Global.{Global}
 use Rattle.std.specs.List.{AllByRecursion, AllZip}
 use Rattle.toml.specs.Data.{Data, Members}
 use Rattle.address_table.specs.declared.nodes.Table.{Table}
 use Rattle.direct_run.specs.Runs.{runs_from}
+use Rattle.lane_history.specs.Links.{LinkReport, IsCalm}
 use Rattle.script_lang.specs.declared.operation.Step.{Step}
 use Rattle.script_lang.specs.declared.session.Session.{Session as WholeSession}
 use Rattle.script_lang.specs.Document.{IsToml}
@@ -12,9 +13,11 @@ use Rattle.session_input.specs.Deserved.{IsRunnable}
 use Rattle.session_input.specs.Numbers.{document_bytes}
 use Rattle.ipbus_program.specs.declared.command.Command.TheVariants.{Run}
 use Rattle.ipbus_program.specs.Numbers.{done_status}
-use Rattle.ipbus_program.specs.Below.{PlacesAreShown}
-use Rattle.ipbus_program.specs.Runs.{Owes}
-use Rattle.first_form.specs.Below.{LawsBelow}
+use Rattle.ipbus_program.specs.Runs.{IsTranscriptOf, Owes}
+use Rattle.transcript.specs.declared.board_run.BoardRun.{BoardRun}
+use Rattle.transcript.specs.Lines.{transcript_of, run_status}
+use Rattle.transcript.specs.Text.{transcript_text}
+use Rattle.first_form.specs.Below.{LawsBelow, RunLaws, TurnLaw}
 use Rattle.first_form.specs.Session.{Register, Session}
 use Rattle.first_form.specs.Fields.{values}
 use Rattle.first_form.specs.FirstForm.{IsFirstForm, IsNode, IsNumber, IsRange}
@@ -83,22 +86,39 @@ module _ (laws : LawsBelow) (document : Members) (session : Session) (form : IsF
           };
         }
 
-    owed_by : PlacesAreShown → (bytes : List ℕ) → length bytes ≤ document_bytes → IsToml bytes document
-        → Owes Run bytes done_status (first_text session)
-    owed_by shown bytes fits toml = inl (record {
-      session = whole;
-      steps = read_script;
-      runnable = runnable bytes fits toml;
-      runs = runs_from 0 whole.boards read_script;
-      boards = laws.turns whole.boards read_script;
-      spelled = sym (reads_printed laws document session form).0;
-      told = sym (reads_printed laws document session form).1;
-      places = shown bytes whole read_script (runs_from 0 whole.boards read_script) (runnable bytes fits toml)
-          (laws.turns whole.boards read_script);
-    })
+    abbrev one_run : List BoardRun
+    one_run = runs_from 0 whole.boards read_script
 
-  pub owed : PlacesAreShown → (alloc : Global) (bytes : List ℕ) → length bytes ≤ document_bytes → IsToml bytes document
-      → Owes Run bytes done_status (first_text session)
-  owed shown alloc bytes fits toml =
+    module _ (apart : RunLaws) (only : TurnLaw) (bytes : List ℕ) (fits : length bytes ≤ document_bytes)
+        (toml : IsToml bytes document) (links : List LinkReport) (calm : AllByRecursion IsCalm links) (status : ℕ)
+        (text : List ℕ) where
+      transcribed : IsTranscriptOf bytes links status text → (status ≡ done_status) × (text ≡ first_text session)
+      transcribed is =
+          let same = apart.session bytes is.session whole is.steps read_script is.runnable (runnable bytes fits toml) in
+          let found : is.runs ≡ runs_from 0 is.session.boards is.steps =
+          only.all is.session.boards is.steps is.runs (is.calm calm) in
+          let runs : is.runs ≡ one_run =
+          found ∙ ap (λ boards. runs_from 0 boards is.steps) same.0.boards ∙ ap (runs_from 0 whole.boards) same.1 in
+          let printed : transcript_of is.steps is.runs ≡ transcript_of read_script one_run =
+          ap (λ steps. transcript_of steps is.runs) same.1 ∙ ap (transcript_of read_script) runs in (
+            is.told ∙ ap (λ told. run_status told.clients) printed ∙ (reads_printed laws document session form).1,
+            is.spelled ∙ ap transcript_text printed ∙ (reads_printed laws document session form).0,
+          )
+
+      only_owed : Owes Run bytes links status text → (status ≡ done_status) × (text ≡ first_text session)
+      only_owed (inl is) = transcribed is
+      only_owed (inr (refused, why)) =
+          absurd (apart.not_both bytes whole read_script why.refusal (runnable bytes fits toml) why.deserved)
+
+  pub can_be_run : (alloc : Global) (bytes : List ℕ) → length bytes ≤ document_bytes → IsToml bytes document
+      → (all : WholeSession) × (steps : List (List Step)) × IsRunnable bytes all steps
+  can_be_run alloc bytes fits toml =
       let found = table_there alloc document session form in
-      owed_by found.0 found.1 shown bytes fits toml
+      (whole found.0 found.1, read_script, runnable found.0 found.1 bytes fits toml)
+
+  pub owes_only : RunLaws → TurnLaw → (alloc : Global) (bytes : List ℕ) → length bytes ≤ document_bytes
+      → IsToml bytes document → (links : List LinkReport) → AllByRecursion IsCalm links → (status : ℕ) (text : List ℕ)
+      → Owes Run bytes links status text → (status ≡ done_status) × (text ≡ first_text session)
+  owes_only apart only alloc bytes fits toml links calm status text owes =
+      let found = table_there alloc document session form in
+      only_owed found.0 found.1 apart only bytes fits toml links calm status text owes

@@ -12,10 +12,14 @@ use Rattle.reply_join.specs.declared.answer.Answer.{Answer}
 use Rattle.reply_join.specs.Joining.{IsJoined}
 use Rattle.reply_join.specs.ByWords.{answers}
 use Rattle.script_lang.specs.declared.operation.Step.{Step}
+use Rattle.script_lang.specs.declared.session.Session.{Session}
+use Rattle.script_lang.specs.Document.{SameSession}
+use Rattle.session_input.specs.declared.refusal.Refusal.{Refusal}
+use Rattle.session_input.specs.Deserved.{BreaksInRun, Deserves, IsRunnable}
+use Rattle.transcript.specs.declared.board_run.BoardRun.{BoardRun}
 use Rattle.direct_run.specs.Runs.{AreRuns, runs_from}
 
--- requests are read again, answers are joined, the field of the full mask is the word, a bus opens with its ranges, and
--- clients one after another make a run
+-- requests are read again, answers are joined, the field of the full mask is the word, and a bus opens with its ranges
 pub record LawsBelow : Type 0 where
   pub again : (request : Request) (rest : List ℕ) → IsRequest request
       → request_at (request_words request ++ rest) ≡ Ok (request, rest)
@@ -25,5 +29,15 @@ pub record LawsBelow : Type 0 where
   pub opening : (front back : List Range) (range : Range) (place : ℕ) → refusal_of (front ++ range ∷ back) ≡ None
       → place < range.size → read_word (opening_bus (front ++ range ∷ back)) (range.base + place)
       ≡ unless (read_fault range.kind) (slice_index (opening_words range) place)
-  pub turns : (specs : List BoardSpec) (scripts : List (List Step))
-      → AreRuns 0 specs scripts (runs_from 0 specs scripts)
+
+-- bytes have one answer to `run`
+pub record RunLaws : Type 0 where
+  pub session : (bytes : List ℕ) (s t : Session) (steps more : List (List Step))
+      → IsRunnable bytes s steps → IsRunnable bytes t more → SameSession s t × (steps ≡ more)
+  pub not_both : (bytes : List ℕ) (session : Session) (steps : List (List Step)) (refusal : Refusal)
+      → IsRunnable bytes session steps → ¬ Deserves BreaksInRun bytes refusal
+
+-- clients that run one after another make no other run than this
+pub record TurnLaw : Type 0 where
+  pub all : (specs : List BoardSpec) (scripts : List (List Step)) (runs : List BoardRun)
+      → AreRuns 0 specs scripts runs → runs ≡ runs_from 0 specs scripts

@@ -3,7 +3,6 @@
 ghost use Rattle.first_form.specs.Below.{LawsBelow};
 
 use board_bus::laws::a_bus_opens_with_its_ranges;
-use direct_run::laws::clients_in_turn_are_a_run;
 use masked_fields::laws::the_full_mask_is_the_word;
 use reply_join::laws::joining_is_a_function;
 use transaction_codec::laws::written_is_read_again;
@@ -16,5 +15,4 @@ pub(crate) fn laws_below()
     joining_is_a_function();
     the_full_mask_is_the_word();
     a_bus_opens_with_its_ranges();
-    clients_in_turn_are_a_run();
 }

@@ -1,7 +1,7 @@
 //! Laws of the form. These functions do nothing when they run: their clauses are what is proved.
 
 ghost use Rattle.std.specs.Prelude.{◌≡◌, ◌≤◌, ℕ, List, [], ◌∷◌, length};
-ghost use Rattle.std.specs.List.{AllZip};
+ghost use Rattle.std.specs.List.{AllByRecursion, AllZip};
 ghost use Rattle.std.specs.declared.alloc.Global.{Global};
 ghost use Rattle.toml.specs.Data.{Members};
 ghost use Rattle.address_table.specs.declared.nodes.Table.{Table};
@@ -12,6 +12,9 @@ ghost use Rattle.script_lang.specs.Scripts.{script_faults, steps_of};
 ghost use Rattle.first_form.specs.FirstForm.{IsFirstForm};
 ghost use Rattle.first_form.specs.Session.{Session};
 ghost use Rattle.script_lang.specs.declared.operation.Step.{Step};
+ghost use Rattle.script_lang.specs.declared.session.Session.{Session as WholeSession};
+ghost use Rattle.lane_history.specs.Links.{IsCalm, LinkReport};
+ghost use Rattle.session_input.specs.Deserved.{IsRunnable};
 ghost use Rattle.transcript.specs.Lines.{transcript_of, run_status};
 ghost use Rattle.transcript.specs.Text.{transcript_text};
 ghost use Rattle.direct_run.specs.Runs.{runs_from};
@@ -24,8 +27,8 @@ ghost use Rattle.first_form.specs.FirstTranscript.{first_text};
 ghost use Rattle.first_form.specs.WholeSession.{IsRegisterNode, whole_session};
 
 use crate::below::laws_below;
-use ipbus_program::laws::one_answer_is_owed;
-use ipbus_program::transcript_laws::a_runnable_session_shows_all_places;
+use direct_run::laws::a_session_has_one_run;
+use session_input::laws::bytes_have_one_answer_to_run;
 
 /// A document of the first form is a whole session document too, and stands there for the session of its table, its
 /// board and its script: one table, whose nodes are whole words that may be read and written; one simulated board, of
@@ -80,18 +83,20 @@ pub fn the_first_form_prints_opening_words()
     laws_below();
 }
 
-/// Bytes of a document of the first form, no more than a document may have, break no rule of the command `run`: it owes
-/// status 0 and the words that the board opens with, each in its line's place, and nothing else.
+/// Bytes of a document of the first form, no more than a document may have, stand for a session that can be run. Over
+/// links that tell, where nothing was held and nothing failed, the command `run` owes it status 0 and the words that the
+/// board opens with, each in its line's place, and nothing else.
 pub fn a_document_of_the_first_form_runs()
-    ensures owed { (alloc : Global) (bytes : List ℕ) (document : Members) (session : Session)
+    ensures runnable { (alloc : Global) (bytes : List ℕ) (document : Members) (session : Session)
         → length bytes ≤ document_bytes → IsToml bytes document → IsFirstForm document session
-        → Owes Run bytes done_status (first_text session) }
+        → (whole : WholeSession) × (steps : List (List Step)) × IsRunnable bytes whole steps }
     ensures only { (alloc : Global) (bytes : List ℕ) (document : Members) (session : Session)
         → length bytes ≤ document_bytes → IsToml bytes document → IsFirstForm document session
-        → (status : ℕ) (text : List ℕ) → Owes Run bytes status text
+        → (links : List LinkReport) → AllByRecursion IsCalm links
+        → (status : ℕ) (text : List ℕ) → Owes Run bytes links status text
         → (status ≡ done_status) × (text ≡ first_text session) }
 {
     laws_below();
-    one_answer_is_owed();
-    a_runnable_session_shows_all_places();
+    bytes_have_one_answer_to_run();
+    a_session_has_one_run();
 }

@@ -1,13 +1,19 @@
-//! `ipbus`: reads a session document from standard input, and either runs its scripts on its boards and prints what
-//! they answered, or lists the registers of one of its tables. The exit status is that of `control`; beside some of
-//! them a line on standard error says what happened.
+//! `ipbus`: reads a session document from standard input, and either runs its scripts on its boards over simulated
+//! links and prints what they answered, or lists the registers of one of its tables. The exit status is that of
+//! `control`; beside some of them a line on standard error says what happened.
 #![tactic(auto)]
 
-use ipbus_program::{NO_MEMORY, READ_FAULT, ReaderSource, USAGE, WRITE_FAULT, WriterSink, control};
+use ipbus_program::{
+    NO_MEMORY, RACK_FAULT, READ_FAULT, ReaderSource, USAGE, WRITE_FAULT, WriterSink, control,
+};
+use lossy_network::SimRack;
 use std::alloc::{AllocError, Global};
+use std::env;
+use std::io::{ErrorKind, Read, Write};
+use std::marker::Sync;
 use std::process::ExitCode;
 use std::rt::Env;
-use std::{env, io};
+use std::sync::Wait;
 
 /// The words after the program's name. Words that are not UTF-8 are none that the program knows, as no words are.
 fn words<R: Env + AllocGlobal>(rt: &R) -> Result<Vec<String>, AllocError> {
@@ -16,7 +22,7 @@ fn words<R: Env + AllocGlobal>(rt: &R) -> Result<Vec<String>, AllocError> {
     let arguments = match env::args(rt) {
         Ok(arguments) => arguments,
         Err(error) => {
-            if error.kind() == io::ErrorKind::OutOfMemory {
+            if error.kind() == ErrorKind::OutOfMemory {
                 return Err(AllocError);
             }
             return Ok(words);
@@ -37,23 +43,30 @@ fn note(status: u8) -> Option<&'static str> {
         READ_FAULT => Some("the input could not be read; nothing was written"),
         WRITE_FAULT => Some("the output could not be written; at most a part of the text was"),
         NO_MEMORY => Some("memory ran out; nothing was written"),
+        RACK_FAULT => Some("a link to a board could not be made; nothing was written"),
         _ => None,
     }
 }
 
-/// Does what the words ask, over standard input and output, and answers the status.
-fn answer(rt: &HostRuntime) -> u8 {
-    let words = match words(rt) {
-        Ok(words) => words,
-        Err(_) => return NO_MEMORY,
-    };
-    let mut input = ReaderSource::new(rt.stdin());
-    let mut out = WriterSink::new(rt.stdout());
-    control(rt.alloc(), &words, &mut input, &mut out)
+/// Does what the words ask, over an input, an output and a rack of simulated links, and answers the status.
+fn answer<T: Wait + Sync, R: Read + Drop, W: Write + Drop>(
+    rt: &T,
+    alloc: Global,
+    words: &[String],
+    input: R,
+    output: W,
+) -> u8 {
+    let mut input = ReaderSource::new(input);
+    let mut out = WriterSink::new(output);
+    let mut rack = SimRack::new(alloc, Vec::new(alloc), Vec::new(alloc));
+    control(rt, alloc, words, &mut input, &mut out, &mut rack)
 }
 
 fn main(rt: HostRuntime) -> ExitCode {
-    let status = answer(&rt);
+    let status = match words(&rt) {
+        Ok(words) => answer(&rt, rt.alloc(), &words, rt.stdin(), rt.stdout()),
+        Err(_) => NO_MEMORY,
+    };
     if let Some(note) = note(status) {
         // where standard error cannot be written either, the status says it alone
         let _ = eprintln!(rt; "ipbus: {note}");

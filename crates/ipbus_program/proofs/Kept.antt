@@ -1,14 +1,7 @@
 -- Links that were given back are the same by whatever clause tells of them.
-use Rattle.std.proofs.Common.{◌≡◌, ℕ, List, ◌++◌, map, Option, sym, ◌∙◌, subst}
+use Rattle.std.proofs.Common.{◌≡◌, List, ◌++◌, map, sym, ◌∙◌, subst}
 use Rattle.std.proofs.lemmas.List.{append_cancel_left}
 use Rattle.lane_history.specs.Links.{LinkReport}
-use Rattle.session_run.specs.Links.{report_of}
-use Rattle.world_core.specs.Telling.{Telling}
-
--- what a link shows, by what contracts see of it
-abbrev pub shown_by : {L : Type 0} → (L → ℕ) → (L → ℕ) → (L → ℕ) → (L → ℕ) → (L → Option Telling) → L → LinkReport
-shown_by faults quiets gots held telling link =
-    report_of (faults link) (quiets link) (gots link) (held link) (telling link)
 
 -- what is said of the links that were given back, by what each shows
 abbrev pub Told : {L : Type 0} → (L → LinkReport) → List L → List L → (List LinkReport → Type 0) → Type 0

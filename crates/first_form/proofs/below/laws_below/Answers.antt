@@ -6,5 +6,4 @@ returns c = record {
   joins = c.joining_is_a_function.ensures.joined;
   full = c.the_full_mask_is_the_word.ensures.field;
   opening = c.a_bus_opens_with_its_ranges.ensures.read;
-  turns = c.clients_in_turn_are_a_run.ensures.all;
 }

@@ -1,14 +1,16 @@
-use Rattle.first_form.specs.FirstTranscript.{first_text}
-use Rattle.first_form.proofs.FormRun.{owed}
-use Rattle.ipbus_program.specs.declared.command.Command.TheVariants.{Run}
-use Rattle.ipbus_program.specs.Numbers.{done_status}
+use Rattle.first_form.specs.Below.{RunLaws, TurnLaw}
+use Rattle.first_form.proofs.FormRun.{can_be_run, owes_only}
 use Rattle.first_form.proofs.laws.a_document_of_the_first_form_runs.Goals as goal
 
-pub returns-clause-owed : goal.returns-clause-owed
-returns-clause-owed c alloc bytes document session fits toml form =
-    owed c.laws_below.ensures document session form c.a_runnable_session_shows_all_places.ensures alloc bytes fits toml
+pub returns-clause-runnable : goal.returns-clause-runnable
+returns-clause-runnable c alloc bytes document session fits toml form =
+    can_be_run c.laws_below.ensures document session form alloc bytes fits toml
 
 pub returns-clause-only : goal.returns-clause-only
-returns-clause-only c alloc bytes document session fits toml form status text owes =
-    c.one_answer_is_owed.ensures Run bytes status done_status text (first_text session) owes
-    (owed c.laws_below.ensures document session form c.a_runnable_session_shows_all_places.ensures alloc bytes fits toml)
+returns-clause-only c alloc bytes document session fits toml form links calm status text owes =
+    let apart : RunLaws = record {
+      session = c.bytes_have_one_answer_to_run.ensures.session;
+      not_both = c.bytes_have_one_answer_to_run.ensures.not_both;
+    } in
+    let turn : TurnLaw = record { all = c.a_session_has_one_run.ensures.all } in
+    owes_only c.laws_below.ensures document session form apart turn alloc bytes fits toml links calm status text owes

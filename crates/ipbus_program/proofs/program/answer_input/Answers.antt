@@ -4,7 +4,7 @@ use Rattle.session_input.specs.Numbers.{document_bytes}
 use Rattle.ipbus_program.specs.declared.program.NoAnswer.TheVariants.{NoMemory, ReadFault}
 use Rattle.ipbus_program.specs.Steps.{Leaves}
 use Rattle.ipbus_program.proofs.Causes.{long_answered}
-use Rattle.ipbus_program.proofs.Kept.{shown_by}
+use Rattle.session_run.specs.Boards.{shown_by}
 use Rattle.ipbus_program.proofs.Reading.{failure_untouched, input_done, input_failed, input_untouched}
 use Rattle.ipbus_program.proofs.program.answer_input.Goals as goal
 

@@ -9,7 +9,7 @@ use Rattle.ipbus_program.specs.Runs.{breaks_in}
 use Rattle.ipbus_program.proofs.Causes.{done_whole, refused_whole, part_written, never, some_status, status_is, used_by}
 use Rattle.ipbus_program.proofs.Causes.{usage_part}
 use Rattle.ipbus_program.proofs.Deserved.{one_command, accepted_whole, deserved_refused, ran_undeserved, taken_of_long}
-use Rattle.ipbus_program.proofs.Kept.{shown_by}
+use Rattle.session_run.specs.Boards.{shown_by}
 use Rattle.ipbus_program.proofs.program.control.Goals as goal
 
 pub returns-in-Ok-None-clause-write_fault : goal.returns-in-Ok-None-clause-write_fault

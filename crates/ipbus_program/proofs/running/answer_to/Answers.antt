@@ -1,7 +1,7 @@
 use Rattle.std.proofs.Common.{[], refl, sym, subst, ◌∙◌, ap}
 use Rattle.ipbus_program.specs.declared.command.Command.TheVariants.{Check}
 use Rattle.ipbus_program.specs.Runs.{Owes}
-use Rattle.ipbus_program.proofs.Kept.{shown_by}
+use Rattle.session_run.specs.Boards.{shown_by}
 use Rattle.ipbus_program.proofs.Leaving.{failure_left, no_memory_is_no_rack, nothing_left}
 use Rattle.ipbus_program.proofs.running.answer_to.Goals as goal
 

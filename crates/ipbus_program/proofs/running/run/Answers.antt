@@ -2,7 +2,7 @@ use Rattle.std.proofs.Common.{map, rules, refl, subst}
 use Rattle.session_input.specs.Deserved.{BreaksInRun, Deserves}
 use Rattle.ipbus_program.specs.declared.command.Command.TheVariants.{Run}
 use Rattle.ipbus_program.specs.Steps.{MayRun, RunLeaves}
-use Rattle.ipbus_program.proofs.Kept.{shown_by}
+use Rattle.session_run.specs.Boards.{shown_by}
 use Rattle.ipbus_program.proofs.Leaving.{failure_left, kept_unless_refused, no_memory_is_no_rack, nothing_left}
 use Rattle.ipbus_program.proofs.Leaving.{refusal_left, run_leaves}
 use Rattle.ipbus_program.proofs.Ready.{may_run}

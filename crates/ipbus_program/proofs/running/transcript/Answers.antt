@@ -7,7 +7,8 @@ use Rattle.script_lang.specs.declared.session.Session.{Session}
 use Rattle.session_run.specs.Links.{AreLeft}
 use Rattle.transcript.specs.Lines.{transcript_of, run_status}
 use Rattle.transcript.specs.Text.{transcript_text}
-use Rattle.ipbus_program.proofs.Kept.{at_links, shown_by}
+use Rattle.session_run.specs.Boards.{shown_by}
+use Rattle.ipbus_program.proofs.Kept.{at_links}
 use Rattle.ipbus_program.proofs.Leaving.{run_failed, run_printed, no_memory_is_no_rack}
 use Rattle.ipbus_program.proofs.running.transcript.Goals as goal
 
