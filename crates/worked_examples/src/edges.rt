@@ -1,5 +1,6 @@
 //! A reader as a source, a writer as a sink, and `control` on the two.
 
+use crate::program::rack;
 use ipb_outside::{Failed, Sink, Source, read_all, write_whole};
 use ipbus_program::{ReaderSource, USAGE, WRITE_FAULT, WriterSink, control};
 use std::io::{self, Write};
@@ -78,7 +79,17 @@ fn the_usage_line_to_each_writer(rt: HostRuntime) -> Result<(), Fail> {
         (Way::TakesOne, USAGE),
     ] {
         let mut out = WriterSink::new(writer(way));
-        assert_eq!(rt; control(rt.alloc(), &[], &mut input, &mut out), wanted);
+        assert_eq!(rt;
+            control(
+                &rt,
+                rt.alloc(),
+                &[],
+                &mut input,
+                &mut out,
+                &mut rack(rt.alloc())
+            ),
+            wanted
+        );
     }
     Ok(())
 }
