@@ -79,13 +79,24 @@ class Draw:
         register = register.format(group=self.random.choice(["low", "high"]))
         return f"{verb} {self.random.choice(boards)}:{register} {numbers}".rstrip() if rest else verb
 
+    def network(self):
+        """The fates of a board's datagrams, if its network is not a faithful one."""
+        kind = self.random.choice(["noise", "noise", "noise", "fates", ""])
+        if kind == "noise":
+            return f"noise = {self.random.getrandbits(32)}\n"
+        if kind == "fates":
+            letters = self.random.choice(["ddddl", "dl", "ddddlr123456789", "dddr9", "l"])
+            count = self.random.choice([1, 4, 10, 60, 200])
+            return f'fates = "{"".join(self.random.choices(letters, k=count))}"\n'
+        return ""
+
     def board(self, name):
         mtu = self.random.choice([92, 93, 120, 300, 576, 1500, 9000])
         first = self.random.choice([1, 2, 65530, 65535, self.random.randint(1, 65535)])
         size = self.random.choice([8, 716, 716, 716])
         return (
             f'[[board]]\nname = "{name}"\ntable = "main"\nmtu = {mtu}\nfirst = {first}\n'
-            f"buffers = {self.random.choice([1, 2, 4, 16, 64])}\nranges = [\n"
+            f"buffers = {self.random.choice([1, 2, 4, 16, 64])}\n{self.network()}ranges = [\n"
             f"  {{ base = 0, size = {size}, init = [{self.word()}, 5, {self.word()}] }},\n"
             f'  {{ base = 0x1000, size = 2 }}, {{ base = 0x1002, size = 1, kind = "ro", init = [7] }},\n'
             f'  {{ base = 0x1003, size = 1, kind = "wo" }}, {{ base = 0x1004, size = 712 }},\n'
