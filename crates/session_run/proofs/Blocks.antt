@@ -1,16 +1,12 @@
 -- Clients one after another: what each finds in the record, and what it leaves.
 use Rattle.std.proofs.Common.{◌≡◌, ℕ, ◌+◌, ◌≤◌, ◌<◌, Bool, true, false, ◌==◌, ◌&&◌, cond, suc, List, [], ◌∷◌, ◌++◌, length, map, sum, fold}
-use Rattle.std.proofs.Common.{Option, Some, None, refl, sym, ap, ◌∙◌, subst, arith, append_assoc, length-append, take, drop}
+use Rattle.std.proofs.Common.{Option, Some, None, refl, sym, ap, ◌∙◌, subst, arith, append_assoc, length-append, drop}
 use Rattle.std.specs.Prelude.{is_some}
 use Rattle.std.specs.List.{AllByRecursion, flat_map}
 use Rattle.std.specs.Option.{option_or}
-use Rattle.std.proofs.lemmas.Bool.{eq-eqb}
 use Rattle.std.proofs.lemmas.Bool.Decides.{nat_tests}
 use Rattle.std.proofs.lemmas.List.{append-nil, drop_at, take_at}
-use Rattle.std.proofs.lemmas.List.Sums.{fold-append}
 use Rattle.ipb_base.proofs.AllLemmas.{AllByRecursion-append, all-map}
-use Rattle.world_model.proofs.Lists.{either}
-use Rattle.world_core.specs.Telling.{Telling}
 use Rattle.mtu_packer.specs.Packed.{deal}
 use Rattle.lane_record.specs.declared.outcome.Outcome.{Outcome}
 use Rattle.lane_record.specs.declared.item.Item.{Item}
@@ -18,15 +14,14 @@ use Rattle.lane_record.specs.declared.item.What.{What}
 use Rattle.lane_record.specs.Items.{asked, ask_in, found, is_of, numbers, plan_in, planned, took_in}
 use Rattle.lane_record.specs.NextEntry.{the_seal}
 use Rattle.lane_record.proofs.Lookups.{found_append, numbers_append}
-use Rattle.hub_lane.specs.Lanes.{LaneState}
 use Rattle.board_history.specs.Patience.{joined}
 use Rattle.board_history.specs.History.{dispatches_of}
 use Rattle.transcript.specs.declared.board_run.ClientPart.{ClientPart}
 use Rattle.transcript.specs.Plan.{ClientBodies}
 use Rattle.lane_history.specs.Records.{AreBlocks, IsBlock, all_plans_from, dispatches_from, plans_from}
 use Rattle.session_run.specs.Clients.{GoesOnLater, HasItsCounts, HasTaken, HaveRun, IsLater, IsLaterOf, IsWholePart}
-use Rattle.session_run.specs.Clients.{KeepsLane, RanClient, RunLater, bodies_of}
-use Rattle.session_run.proofs.PlansMade.{no_later_plans, no_plans, plans_count}
+use Rattle.session_run.specs.Clients.{RanClient, RunLater, bodies_of}
+use Rattle.session_run.proofs.PlansMade.{no_plans, plans_count}
 
 -- ---- entries that a look-up passes by
 

@@ -1,8 +1,7 @@
 -- What became of a board whose clients ran on its lane.
-use Rattle.std.proofs.Common.{◌≡◌, ℕ, ◌+◌, ◌*◌, ◌≤◌, ◌∙◌, Bool, List, [], ◌∷◌, ◌++◌, length, map, Option, Some, None}
-use Rattle.std.proofs.Common.{refl, sym, ap, subst, arith}
+use Rattle.std.proofs.Common.{◌≡◌, ℕ, ◌*◌, ◌∙◌, Bool, List, map, Option}
+use Rattle.std.proofs.Common.{sym, ap, subst}
 use Rattle.std.specs.Prelude.{IfSome, IfOk, Result, Ok, Err}
-use Rattle.std.specs.List.{AllByRecursion}
 use Rattle.ipb_base.specs.Numbers.{payload_of}
 use Rattle.status_packet.specs.Range.{IsMtu}
 use Rattle.board_bus.specs.Cells.{CellMap}
@@ -32,7 +31,7 @@ use Rattle.direct_run.specs.Runs.{opening_of}
 use Rattle.sound_lanes.specs.Reports.{OpenedWith, board_there, report_of}
 use Rattle.hub_lane.specs.Lanes.{BoardStatus, IsLane, LaneState}
 use Rattle.session_run.specs.Boards.{IsNamed, IsReadyLane}
-use Rattle.session_run.specs.Clients.{KeepsLane, RanAlone, bodies_of}
+use Rattle.session_run.specs.Clients.{KeepsLane, RanAlone}
 use Rattle.session_run.specs.Links.{IsLeft}
 use Rattle.session_run.proofs.Blocks.{plan_in_part}
 use Rattle.session_run.proofs.LaneRuns.{board_stays, opened_so, shows_scripts, tells_payload}

@@ -46,7 +46,7 @@ pub can_begin_here : WordsLaw → (settings : Limits) (spec : LinkSpec) (telling
     → CanBeMade spec → LinkNamesWords spec → telling ≡ telling_for spec → IfSome telling (CanBegin settings)
 can_begin_here law settings spec telling limits made words is =
     subst (λ (t : Option Telling). IfSome t (CanBegin settings)) (sym is) (can_begin law settings spec limits made
-        words)
+    words)
 
 board_of_spec : (settings : Limits) (spec : LinkSpec) (new : Option Telling)
     → IfTelling (telling_for spec) new (StaysFresh settings) → IsBoardOf spec (board_there new)
@@ -154,9 +154,11 @@ pub reached_more : {L : Type 0} (tells : L → Option Telling) (shows : L → Li
 reached_more tells shows settings [] [] spec board at are is = absurd cc
 reached_more tells shows settings [] (b ∷ boards) spec board at are is = absurd are
 reached_more tells shows settings (s ∷ specs) [] spec board at are is =
-    let same : s ≡ spec = cc in
-    (subst (λ (x : BoardSpec). IsReached settings x board (tells (link_of board)) (shows (link_of board))) (sym same)
-        is, tt)
+    let same : s ≡ spec = cc in (
+      subst (λ (x : BoardSpec). IsReached settings x board (tells (link_of board)) (shows (link_of board))) (sym same)
+          is,
+      tt,
+    )
 reached_more tells shows settings (s ∷ specs) (b ∷ boards) spec board at are is =
     (are.0, reached_more tells shows settings specs boards spec board at are.1 is)
 

@@ -1,27 +1,27 @@
 -- What one more entry, or more of them, do to what a client has asked and taken.
-use Rattle.std.proofs.Common.{◌≡◌, ℕ, ◌+◌, ◌≤◌, ◌<◌, true, false, ◌==◌, ◌&&◌, cond, List, [], ◌∷◌, ◌++◌, length, map}
+use Rattle.std.proofs.Common.{◌≡◌, ℕ, ◌+◌, ◌<◌, true, false, ◌==◌, ◌&&◌, cond, List, [], ◌∷◌, ◌++◌, length, map}
 use Rattle.std.proofs.Common.{Option, Some, None, refl, sym, ap, ◌∙◌, subst, arith, append_assoc, length-append, Bool, inl, inr, ◌⊎◌}
 use Rattle.std.specs.Prelude.{is_some}
-use Rattle.std.specs.List.{AllByRecursion, slice_get}
+use Rattle.std.specs.List.{slice_get}
 use Rattle.std.specs.Option.{option_or, unwrap_or}
 use Rattle.std.proofs.lemmas.Bool.{cases_lt, eq-eqb}
 use Rattle.std.proofs.lemmas.Bool.Decides.{nat_tests}
 use Rattle.std.proofs.lemmas.List.{append-nil, map-append}
 use Rattle.ipb_base.proofs.AllLemmas.{AllByRecursion-append}
-use Rattle.world_model.proofs.Lists.{either, get_front}
+use Rattle.world_model.proofs.Lists.{either}
 use Rattle.world_core.specs.Telling.{Telling}
 use Rattle.lane_record.specs.declared.outcome.Outcome.{Outcome}
 use Rattle.lane_record.specs.declared.item.Item.{Item}
 use Rattle.lane_record.specs.declared.item.What.{What}
 use Rattle.lane_record.specs.Items.{asked, ask_in, found, is_of, numbers, plan_in, planned, took_in}
 use Rattle.lane_record.specs.NextEntry.{ask_of, took_of}
-use Rattle.lane_record.specs.Claims.{Claim, IsAskOf, claim_in, claims}
+use Rattle.lane_record.specs.Claims.{Claim, claims}
 use Rattle.lane_record.proofs.Lookups.{claims_push, found_append, found_other, numbers_append}
 use Rattle.lane_record.proofs.Asks.{ask_front}
-use Rattle.hub_lane.specs.Calls.{IsUntaken, WasAsked}
+use Rattle.hub_lane.specs.Calls.{WasAsked}
 use Rattle.hub_lane.specs.Lanes.{LaneState}
 use Rattle.lane_history.specs.Records.{Act, Asked, Taken, act_of}
-use Rattle.session_run.specs.Clients.{GoesOnBy, GoesOnLater, HasTaken, IsBy, IsLater, KeepsLane, TookOne}
+use Rattle.session_run.specs.Clients.{GoesOnBy, GoesOnLater, HasTaken, IsBy, IsLater, KeepsLane}
 
 -- ---- the lane around its record
 

@@ -1,5 +1,5 @@
 -- The run of a board that was asked nothing.
-use Rattle.std.proofs.Common.{◌≡◌, ℕ, ◌+◌, ◌<◌, ◌∙◌, List, [], ◌∷◌, ◌++◌, length, map, refl, sym, ap, subst, take, get_or, Ok}
+use Rattle.std.proofs.Common.{◌≡◌, ℕ, ◌+◌, ◌<◌, ◌∙◌, List, [], ◌∷◌, ◌++◌, length, map, refl, sym, ap, take, get_or, Ok}
 use Rattle.std.specs.List.{AllByRecursion}
 use Rattle.std.specs.Prelude.{Result}
 use Rattle.std.proofs.lemmas.List.{take_more}
@@ -16,7 +16,6 @@ use Rattle.transcript.specs.declared.greeting.Greeting.TheVariants.{Live, Silent
 use Rattle.transcript.specs.Plan.{ClientBodies, planned_on, plans_on}
 use Rattle.lane_history.specs.Runs.{ShowsScripts}
 use Rattle.session_run.specs.Boards.{IsIdle}
-use Rattle.session_run.specs.Clients.{IsWholePart}
 use Rattle.session_run.proofs.Blocks.{map_append, plan_in_part}
 
 -- a client that asked nothing

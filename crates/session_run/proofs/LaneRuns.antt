@@ -1,16 +1,13 @@
 -- A lane from its first entry to the last: what its clients asked of it, and what became of the board.
-use Rattle.std.proofs.Common.{◌≡◌, ℕ, ◌+◌, ◌*◌, ◌≤◌, ◌<◌, ◌∙◌, suc, List, [], ◌∷◌, ◌++◌, length, map, sum, fold, Option, Some, None}
+use Rattle.std.proofs.Common.{◌≡◌, ℕ, ◌+◌, ◌≤◌, ◌∙◌, List, [], ◌∷◌, ◌++◌, length, map, sum, fold, Option, Some, None}
 use Rattle.std.proofs.Common.{refl, sym, ap, subst, arith, append_assoc, append-nil, length-append}
 use Rattle.std.specs.Prelude.{IfSome, IfOk, Result, Ok, Err}
 use Rattle.std.specs.List.{AllByRecursion, flat_map}
 use Rattle.std.proofs.lemmas.List.Sums.{fold-append}
 use Rattle.ipb_base.specs.Numbers.{payload_of}
-use Rattle.ipb_base.proofs.AllLemmas.{all-map}
-use Rattle.board_bus.specs.Cells.{CellMap}
-use Rattle.board_bus.specs.Ranges.{opening_bus}
 use Rattle.status_packet.specs.Range.{IsMtu}
 use Rattle.mtu_packer.specs.Packed.{Contents}
-use Rattle.world_model.specs.Board.{Board, executed}
+use Rattle.world_model.specs.Board.{Board}
 use Rattle.world_core.specs.Telling.{Telling}
 use Rattle.reliable_engine.specs.Settings.{Limits}
 use Rattle.board_node.specs.declared.spec.BoardSpec.{BoardSpec}
@@ -28,13 +25,13 @@ use Rattle.transcript.specs.declared.board_run.ClientPart.{ClientPart}
 use Rattle.transcript.specs.declared.board_run.BoardRun.{BoardRun}
 use Rattle.transcript.specs.declared.greeting.Greeting.{Greeting}
 use Rattle.transcript.specs.declared.greeting.Greeting.TheVariants.{Live, Silent, Down}
-use Rattle.transcript.specs.Plan.{ClientBodies, all_dispatches, no_bodies, plan, planned_on, plans_on, with_dispatch}
+use Rattle.transcript.specs.Plan.{ClientBodies, no_bodies, plan, planned_on, plans_on, with_dispatch}
 use Rattle.lane_history.specs.Links.{IsBoardOf}
 use Rattle.lane_history.specs.Records.{AreBlocks, IsClientsRecord, IsPartlyPlanned, all_plans_from, makers}
 use Rattle.lane_history.specs.Runs.{ShowsScripts, TellsPayload}
 use Rattle.direct_run.specs.Runs.{opening_of}
 use Rattle.sound_lanes.specs.Reports.{OpenedWith, board_there}
-use Rattle.hub_lane.specs.Lanes.{BoardStatus, IsGreeted, LaneState, board_of}
+use Rattle.hub_lane.specs.Lanes.{BoardStatus, IsGreeted, board_of}
 use Rattle.session_run.specs.Clients.{HasItsCounts, HaveRun, IsLaterOf, IsWholePart, RanAlone, RunLater, bodies_of}
 use Rattle.session_run.proofs.Blocks.{length_map, plan_in_part}
 

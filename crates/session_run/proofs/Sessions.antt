@@ -1,9 +1,9 @@
 -- Boards one after another: the links given back so far, and the runs.
-use Rattle.std.proofs.Common.{◌≡◌, ℕ, ◌+◌, ◌≤◌, ◌<◌, ◌∙◌, ◌⊎◌, inl, inr, Bool, true, false, ◌&&◌, suc, List, [], ◌∷◌, ◌++◌, length, map}
-use Rattle.std.proofs.Common.{Option, Some, None, refl, sym, ap, subst, arith, append_assoc, append-nil, length-append, take, drop, get_or}
+use Rattle.std.proofs.Common.{◌≡◌, ℕ, ◌+◌, ◌<◌, ◌∙◌, inl, inr, Bool, true, suc, List, [], ◌∷◌, ◌++◌, length, map}
+use Rattle.std.proofs.Common.{Option, refl, sym, ap, subst, arith, append_assoc, append-nil, length-append, take, drop, get_or}
 use Rattle.std.specs.Prelude.{IfOk, IfSome, Result, Ok, Err}
 use Rattle.std.specs.List.{AllByRecursion}
-use Rattle.std.proofs.lemmas.List.{drop_more, length-take-le, take_all, take_more}
+use Rattle.std.proofs.lemmas.List.{drop_more, length-take-le, take_more}
 use Rattle.ipb_base.proofs.AllLemmas.{AllByRecursion-append}
 use Rattle.world_model.specs.Board.{executed}
 use Rattle.world_core.specs.Telling.{Telling}
@@ -25,13 +25,17 @@ left_more : (board : ℕ) (specs rest : List BoardSpec) (scripts : List (List St
     → IsLeft spec (board + length links) scripts link → AreLeft board specs scripts (links ++ link ∷ [])
 left_more board [] rest scripts [] spec link left begins is = absurd cc
 left_more board (s ∷ specs) rest scripts [] spec link left begins is =
-    let same : s ≡ spec = cc in
-    (subst (λ (t : BoardSpec). IsLeft t board scripts link) (sym same)
-    (subst (λ n. IsLeft spec n scripts link) (omega arith) is), tt)
+    let same : s ≡ spec = cc in (
+      subst (λ (t : BoardSpec). IsLeft t board scripts link) (sym same)
+          (subst (λ n. IsLeft spec n scripts link) (omega arith) is),
+      tt,
+    )
 left_more board [] rest scripts (l ∷ links) spec link left begins is = absurd left
-left_more board (s ∷ specs) rest scripts (l ∷ links) spec link left begins is =
-    (left.0, left_more (board + 1) specs rest scripts links spec link left.1 begins
-    (subst (λ n. IsLeft spec n scripts link) (omega arith) is))
+left_more board (s ∷ specs) rest scripts (l ∷ links) spec link left begins is = (
+  left.0,
+  left_more (board + 1) specs rest scripts links spec link left.1 begins
+      (subst (λ n. IsLeft spec n scripts link) (omega arith) is),
+)
 
 runs_more : (settings : Limits) (board : ℕ) (specs : List BoardSpec) (scripts : List (List Step)) (runs : List BoardRun)
     (links : List LinkReport) (spec : BoardSpec) (run : BoardRun) (link : LinkReport)
@@ -43,9 +47,11 @@ runs_more settings board [] scripts [] (l ∷ links) spec run link are is = absu
 runs_more settings board [] scripts (r ∷ runs) links spec run link are is = absurd are
 runs_more settings board (s ∷ specs) scripts [] links spec run link are is = absurd are
 runs_more settings board (s ∷ specs) scripts (r ∷ runs) [] spec run link are is = absurd are
-runs_more settings board (s ∷ specs) scripts (r ∷ runs) (l ∷ links) spec run link are is =
-    (are.0, runs_more settings (board + 1) specs scripts runs links spec run link are.1
-    (subst (λ n. IsRunOver settings spec n scripts run link) (omega arith) is))
+runs_more settings board (s ∷ specs) scripts (r ∷ runs) (l ∷ links) spec run link are is = (
+  are.0,
+  runs_more settings (board + 1) specs scripts runs links spec run link are.1
+      (subst (λ n. IsRunOver settings spec n scripts run link) (omega arith) is),
+)
 
 abbrev pub IsInTurn : BoardRun → Type 0
 IsInTurn run = AreInTurn (bodies_by_client run) (outcomes_by_client run)
@@ -170,13 +176,13 @@ board_more {L} {E} shows settings k specs scripts runs later is_whole added kept
           (ap (λ n. drop n specs) place ∙ begins_at specs k spec within is)
           (subst (λ n. IsLeft spec n scripts (shows link)) (omega (arith, place)) left));
       ran = λ e. run_there (λ (run : BoardRun). IsRunOver settings spec k scripts run (shows link))
-      (λ (run : BoardRun). later ≡ runs ++ run ∷ [])
-      (AreRunsOver settings 0 (take (k + 1) specs) scripts later (map shows (links ++ link ∷ []))) result ran (adds e)
-      (λ run over is_later. whole_more shows settings k specs scripts runs later links spec run link
-      (so_far.ran (was e)) within is over is_later);
+          (λ (run : BoardRun). later ≡ runs ++ run ∷ [])
+          (AreRunsOver settings 0 (take (k + 1) specs) scripts later (map shows (links ++ link ∷ []))) result ran (adds e)
+          (λ run over is_later. whole_more shows settings k specs scripts runs later links spec run link
+          (so_far.ran (was e)) within is over is_later);
       in_turn = λ e. run_there IsInTurn (λ (run : BoardRun). later ≡ runs ++ run ∷ []) (AllByRecursion IsInTurn later) result in_turn
-      (adds e) (λ run turn is_later. subst (AllByRecursion IsInTurn) (sym is_later)
-      (AllByRecursion-append IsInTurn runs (run ∷ []) (so_far.in_turn (was e)) (turn, tt)));
+          (adds e) (λ run turn is_later. subst (AllByRecursion IsInTurn) (sym is_later)
+          (AllByRecursion-append IsInTurn runs (run ∷ []) (so_far.in_turn (was e)) (turn, tt)));
     }
 
 abbrev pub UntouchedLaw : Type 0

@@ -1,12 +1,12 @@
 -- What a client that runs alone leaves in the record of a lane. Profile.
-use Rattle.std.specs.Prelude.{◌≡◌, ℕ, ◌+◌, ◌≤◌, ◌<◌, List, [], ◌∷◌, ◌++◌, length}
+use Rattle.std.specs.Prelude.{◌≡◌, ℕ, ◌≤◌, ◌<◌, List, [], ◌∷◌, ◌++◌, length}
 use Rattle.std.specs.Prelude.{map, sum, Option, None}
 use Rattle.std.specs.List.{AllByRecursion, flat_map}
 use Rattle.ipb_base.specs.Lists.{IsPrefix}
 use Rattle.world_core.specs.Telling.{Telling}
 use Rattle.lane_record.specs.declared.outcome.Outcome.{Outcome}
 use Rattle.lane_record.specs.declared.item.Item.{Item}
-use Rattle.lane_record.specs.Items.{asked, found, is_sealed, plan_in, planned, took_in}
+use Rattle.lane_record.specs.Items.{asked, found, plan_in, took_in}
 use Rattle.lane_record.specs.NextEntry.{took_of}
 use Rattle.hub_lane.specs.Calls.{WasAsked}
 use Rattle.hub_lane.specs.Lanes.{LaneState, board_of}

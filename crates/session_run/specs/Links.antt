@@ -1,5 +1,5 @@
 -- What the links of a session show once it ended. Profile.
-use Rattle.std.specs.Prelude.{◌≡◌, ℕ, ◌+◌, List, [], ◌∷◌, ◌++◌, map, Option, Some, None, IfSome}
+use Rattle.std.specs.Prelude.{◌≡◌, ℕ, ◌+◌, List, [], ◌∷◌, ◌++◌, map, Option, IfSome}
 use Rattle.world_model.specs.Board.{executed}
 use Rattle.world_core.specs.Telling.{Telling}
 use Rattle.sound_lanes.specs.Reports.{report_of}

@@ -1,9 +1,9 @@
-use Rattle.std.proofs.Common.{◌≡◌, ◌+◌, ◌∙◌, ◌++◌, List, ap, length, map, sum, sym, subst, rules}
+use Rattle.std.proofs.Common.{◌+◌, ◌∙◌, ◌++◌, List, ap, length, map, sum, sym, subst, rules}
 use Rattle.std.specs.Vec.Iter.{into_iter_items}
 use Rattle.transcript.specs.declared.board_run.ClientPart.{ClientPart}
 use Rattle.transcript.specs.Plan.{ClientBodies}
-use Rattle.session_run.specs.Clients.{HaveRun, RanClient, RunLater}
-use Rattle.session_run.proofs.Blocks.{IsNext, counts_at, cut_more, later_more, next_client, number_within, plan_in_part}
+use Rattle.session_run.specs.Clients.{HaveRun, RanClient}
+use Rattle.session_run.proofs.Blocks.{counts_at, cut_more, later_more, next_client, number_within, plan_in_part}
 use Rattle.session_run.proofs.Blocks.{ran_more}
 use Rattle.session_run.proofs.Entries.{keeps_then}
 use Rattle.session_run.proofs.board.run_clients.Goals as goal

@@ -1,7 +1,6 @@
 use Rattle.std.proofs.Common.{◌≡◌, map, take}
 use Rattle.std.specs.List.{AllByRecursion}
 use Rattle.transcript.specs.Plan.{plans_on}
-use Rattle.session_run.specs.Clients.{IsWholePart}
 use Rattle.session_run.proofs.Blocks.{plan_in_part}
 use Rattle.session_run.proofs.Idle.{HasNothing}
 use Rattle.session_run.proofs.board.run_idle.Given as goal

@@ -1,4 +1,3 @@
-use Rattle.std.proofs.Common.{◌≡◌, ◌∙◌}
 use Rattle.ipb_base.specs.Numbers.{payload_of}
 use Rattle.transcript.specs.declared.board_run.BoardRun.{BoardRun}
 use Rattle.transcript.specs.declared.greeting.Greeting.TheVariants.{Live}
@@ -6,7 +5,6 @@ use Rattle.board_history.specs.History.{bodies_by_client, outcomes_by_client}
 use Rattle.board_history.specs.InTurn.{AreInTurn}
 use Rattle.lane_history.specs.Runs.{IsRunOver}
 use Rattle.session_run.specs.Boards.{IsNamed, shown_by}
-use Rattle.session_run.specs.Links.{IsLeft}
 use Rattle.session_run.proofs.BoardRuns.{after_run, if_ok, runs_live}
 use Rattle.session_run.proofs.board.run_live.Goals as goal
 

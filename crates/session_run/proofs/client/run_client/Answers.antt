@@ -1,4 +1,4 @@
-use Rattle.std.proofs.Common.{◌≡◌, ◌++◌, ◌+◌, ◌∷◌, [], take, get_or, subst, sym}
+use Rattle.std.proofs.Common.{take, get_or, subst, sym}
 use Rattle.std.proofs.lemmas.List.{take_more}
 use Rattle.session_run.proofs.Asking.{IsRunning, one_dispatch_more, took_many}
 use Rattle.session_run.proofs.client.run_client.Goals as goal

@@ -1,7 +1,7 @@
-use Rattle.std.proofs.Common.{◌≡◌, ℕ, ◌<◌, length, ◌∙◌, subst, arith, rules}
+use Rattle.std.proofs.Common.{◌≡◌, ◌<◌, length, ◌∙◌, subst, arith, rules}
 use Rattle.lane_record.specs.Items.{asked}
 use Rattle.session_run.specs.Clients.{TookOne}
-use Rattle.session_run.proofs.Asking.{OneTookMore, one_took_more, taken_more}
+use Rattle.session_run.proofs.Asking.{one_took_more, taken_more}
 use Rattle.session_run.proofs.client.take_all.Goals as goal
 
 pub returns-in_err-push-clause-asked : goal.returns-in_err-push-clause-asked

@@ -5,7 +5,7 @@ pub greet-requires-clause-begins : goal.greet-requires-clause-begins
 greet-requires-clause-begins g c =
     can_begin_here c.words_stay_words.ensures.opening c.args.settings c.args.spec.now.link
     (g.R.L.Link.telling c.in_ok-link.link) c.window-window.ensures.range c.requires.reached.made
-        c.requires.reached.words
+    c.requires.reached.words
     c.in_ok-link.ensures.told
 
 pub returns-clause-reached : goal.returns-clause-reached

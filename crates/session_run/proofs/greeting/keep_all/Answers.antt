@@ -12,7 +12,7 @@ keep-requires g c =
     let kept = length (g.R.Rack.kept c.loop-board.rack) in
     let made = g.R.Rack.made c.loop-board.rack in
     let room = subst (λ (n : ℕ). HasRoom kept made n) (ap length c.in-Some.ensures.steps.0)
-        c.loop-board.invariant.room in
+    c.loop-board.invariant.room in
     let one = room_for_one kept made (length (into_iter_items c.next.new.self)) room in
     omega (arith, one)
 

@@ -1,4 +1,4 @@
-use Rattle.std.proofs.Common.{◌≡◌, ◌∙◌, ap, take}
+use Rattle.std.proofs.Common.{◌∙◌, ap, take}
 use Rattle.lane_record.specs.Items.{is_sealed}
 use Rattle.hub_lane.specs.Lanes.{LaneState}
 use Rattle.lane_history.specs.Records.{plans_from}

@@ -1,16 +1,11 @@
-use Rattle.std.proofs.Common.{◌≡◌, ℕ, List, ◌∙◌, ap, take, length, subst, sym, arith, rules, ◌+◌, ◌++◌, refl, []}
-use Rattle.std.proofs.lemmas.List.{append-nil, length-take-le}
-use Rattle.ipb_base.specs.Lists.{IsPrefix}
-use Rattle.hub_lane.specs.Lanes.{LaneState}
-use Rattle.lane_record.specs.declared.item.Item.{Item}
-use Rattle.lane_record.specs.Items.{is_sealed, numbers, plan_in, planned}
-use Rattle.transcript.specs.declared.greeting.Greeting.{Greeting}
+use Rattle.std.proofs.Common.{ℕ, List, ◌∙◌, ap, subst, rules, ◌+◌}
+use Rattle.lane_record.specs.Items.{is_sealed}
 use Rattle.transcript.specs.declared.greeting.Greeting.TheVariants.{Live}
 use Rattle.transcript.specs.Plan.{ClientBodies, planned_on, plans_on}
 use Rattle.lane_history.specs.Records.{IsPartlyPlanned, all_plans_from, plans_from}
 use Rattle.session_run.specs.Clients.{bodies_of, with_items}
-use Rattle.session_run.proofs.PlansMade.{begins_with, client_planned, partly_between, partly_none}
-use Rattle.session_run.proofs.PlansMade.{all_unsealed, no_plans_yet, partly_stopped, sealed_last, told_bodies}
+use Rattle.session_run.proofs.PlansMade.{client_planned, partly_between, partly_none}
+use Rattle.session_run.proofs.PlansMade.{all_unsealed, no_plans_yet, partly_stopped, sealed_last}
 use Rattle.session_run.proofs.PlansMade.{unsealed_so_far}
 use Rattle.session_run.proofs.planning.plan_clients.Goals as goal
 

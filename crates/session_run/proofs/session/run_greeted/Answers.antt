@@ -1,11 +1,10 @@
-use Rattle.std.proofs.Common.{◌≡◌, ◌∙◌, ◌+◌, List, ap, map, refl, subst, sym, take, arith, rules}
+use Rattle.std.proofs.Common.{◌∙◌, List, map, refl, subst, arith}
 use Rattle.std.specs.Vec.Iter.{into_iter_items}
 use Rattle.std.proofs.lemmas.List.{take_all}
 use Rattle.board_node.specs.declared.spec.BoardSpec.{BoardSpec}
-use Rattle.lane_history.specs.Links.{LinkReport}
 use Rattle.lane_history.specs.Runs.{AreRunsOver}
 use Rattle.session_run.specs.Boards.{shown_by}
-use Rattle.session_run.proofs.Sessions.{WaitBoards, board_more, next_board, none_ran, room_for_one}
+use Rattle.session_run.proofs.Sessions.{board_more, next_board, none_ran, room_for_one}
 use Rattle.session_run.proofs.session.run_greeted.Goals as goal
 
 pub loop-position-init : goal.loop-position-init
@@ -57,13 +56,12 @@ pub returns-then-is_whole-clause-ran : goal.returns-then-is_whole-clause-ran
 returns-then-is_whole-clause-ran g c =
     let link = g.R.L.Link in
     let shows = shown_by link.faults link.quiets link.gots link.held link.telling in
-    let so_far = c.loop-position.invariant.so_far in
-    (
+    let so_far = c.loop-position.invariant.so_far in (
       so_far.links,
       so_far.grown,
       subst (λ (specs : List BoardSpec). AreRunsOver c.args.settings 0 specs c.args.scripts.now c.loop-position.runs.items
-      (map shows so_far.links)) (take_all c.loop-position.position c.args.specs.now c.loop-position-test.false)
-      (so_far.ran c.if-is_whole.true),
+          (map shows so_far.links)) (take_all c.loop-position.position c.args.specs.now c.loop-position-test.false)
+          (so_far.ran c.if-is_whole.true),
     )
 
 pub returns-then-is_whole-clause-in_turn : goal.returns-then-is_whole-clause-in_turn

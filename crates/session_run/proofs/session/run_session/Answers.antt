@@ -1,0 +1,49 @@
+use Rattle.std.proofs.Common.{◌∙◌, ◌+◌, ◌++◌, ◌≤◌, ap, map, sym, rules}
+use Rattle.session_run.specs.Boards.{shown_by}
+use Rattle.session_run.proofs.Sessions.{untouched_all, untouched_are_left}
+use Rattle.session_run.proofs.session.run_session.Goals as goal
+
+pub returns-in_err-boards-clause-left : goal.returns-in_err-boards-clause-left
+returns-in_err-boards-clause-left g c =
+    let link = g.R.L.Link in
+    let shows = shown_by link.faults link.quiets link.gots link.held link.telling in
+    let left = c.in_err-boards.ensures.left in (
+      left.0,
+      left.1,
+      untouched_are_left c.a_lane_left_at_any_moment_executed_a_merge.ensures.untouched 0 c.args.specs.now
+          c.args.scripts.now (map shows left.0) left.2.0,
+    )
+
+pub returns-in_err-boards-clause-untouched : goal.returns-in_err-boards-clause-untouched
+returns-in_err-boards-clause-untouched g c =
+    let link = g.R.L.Link in
+    let shows = shown_by link.faults link.quiets link.gots link.held link.telling in
+    let left = c.in_err-boards.ensures.left in
+    λ fault. (left.0, left.1, untouched_all c.args.specs.now (map shows left.0) left.2.0)
+
+pub returns-clause-calm : goal.returns-clause-calm
+returns-clause-calm g c =
+    let link = g.R.L.Link in
+    let shows = shown_by link.faults link.quiets link.gots link.held link.telling in
+    let ran = c.in_ok-run_greeted.ensures.ran in
+    let rounds : 1 ≤ c.args.settings.rounds = search rules in (
+      ran.0,
+      ran.1 ∙ ap (λ kept. kept ++ ran.0) c.in_ok-boards.ensures.kept,
+      λ calm. c.calm_links_in_turn_are_boards_of_this_process.ensures c.args.settings 0 c.args.specs.now
+          c.args.scripts.now c.in_ok-run_greeted.field-0.items (map shows ran.0) rounds calm ran.2
+          c.in_ok-run_greeted.ensures.in_turn,
+    )
+
+pub returns-clause-left : goal.returns-clause-left
+returns-clause-left g c =
+    let left = c.run_greeted.ensures.left in
+    (left.0, left.1 ∙ ap (λ kept. kept ++ left.0) c.in_ok-boards.ensures.kept, left.2.0)
+
+pub returns-clause-made : goal.returns-clause-made
+returns-clause-made g c =
+    let left = c.run_greeted.ensures.left in (
+      left.0,
+      left.1 ∙ ap (λ kept. kept ++ left.0) c.in_ok-boards.ensures.kept,
+      c.run_greeted.ensures.made ∙ (c.in_ok-boards.ensures.made
+          ∙ ap (λ n. g.R.Rack.made c.args.rack.now + n) (sym left.2.1)),
+    )
