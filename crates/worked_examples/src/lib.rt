@@ -1,4 +1,4 @@
-//! Worked examples that cross crates: the program's call on sources and sinks in memory, and on a reader and a writer,
+//! Worked examples that cross crates: the program's call on sources, sinks and racks in memory, and on a reader and a writer,
 //! a board's bus behind packets, and an engine and a board that lose datagrams.
 #![tactic(auto)]
 

@@ -1,9 +1,14 @@
 //! `control` on a source and a sink in memory.
 
 use ipb_base::NoMemory;
-use ipb_outside::{CalmSource, MemSink, MemSource, read_all};
-use ipbus_program::{DONE, NO_MEMORY, READ_FAULT, REFUSED, USAGE, WRITE_FAULT, control};
+use ipb_outside::{CalmSource, MemSink, MemSource, Sink, Source, read_all};
+use ipbus_program::{
+    DONE, NO_MEMORY, NOT_ALL_DONE, RACK_FAULT, READ_FAULT, REFUSED, USAGE, WRITE_FAULT, control,
+};
+use lossy_network::SimRack;
 use std::alloc::{AllocError, Global};
+use std::marker::Sync;
+use std::sync::Wait;
 use std::test::Fail;
 
 const FIRST: &str = r#"[[tables.main]]
@@ -22,6 +27,11 @@ script = ["read b0:id"]
 
 const TRANSCRIPT: &str =
     "client 1\n1 read b0:id = 0x0000abcd @1.1\nboard b0 places 1 replied 1 timeout 0 lost 0\n";
+
+const GREETED_DOWN: &str = "client 1\n1 read b0:id link lost\nboard b0 down\n";
+
+const LOST: &str =
+    "client 1\n1 read b0:id link lost @1.1\nboard b0 places 1 replied 0 timeout 0 lost 1\n";
 
 const USAGE_LINE: &str = "usage: ipbus run | check TABLE\n";
 
@@ -48,14 +58,27 @@ fn first_session(rt: HostRuntime) -> Result<(), Fail> {
     let alloc = rt.alloc();
     let mut input = calm(alloc, FIRST)?;
     let mut out = MemSink::new(alloc, 1000, Vec::new(alloc))?;
-    let status = control(alloc, &run_word(alloc)?, &mut input, &mut out);
+    let status = over_links(&rt, alloc, &run_word(alloc)?, &mut input, &mut out);
     assert_eq!(rt; status, DONE);
     assert_eq!(rt; out.bytes(), TRANSCRIPT.as_bytes());
     Ok(())
 }
 
+/// `control` over simulated links that never fail.
+pub(crate) fn over_links<S: Source, O: Sink, T: Wait + Sync>(
+    rt: &T,
+    alloc: Global,
+    words: &[String],
+    input: &mut S,
+    out: &mut O,
+) -> u8 {
+    let mut rack = SimRack::new(alloc, Vec::new(alloc), Vec::new(alloc));
+    control(rt, alloc, words, input, out, &mut rack)
+}
+
 /// The status and the text that words get for a document, or want of memory where they are set up.
-pub(crate) fn answer(
+pub(crate) fn answer<T: Wait + Sync>(
+    rt: &T,
     alloc: Global,
     words: &[&str],
     document: &str,
@@ -63,7 +86,7 @@ pub(crate) fn answer(
     let words = words_of(alloc, words)?;
     let mut input = calm(alloc, document)?;
     let mut out = MemSink::new(alloc, 1000, Vec::new(alloc))?;
-    let status = control(alloc, &words, &mut input, &mut out);
+    let status = over_links(rt, alloc, &words, &mut input, &mut out);
     Ok((status, Vec::from_slice(alloc, out.bytes())?))
 }
 
@@ -71,7 +94,7 @@ pub(crate) fn answer(
 /// makes the Nth one fail.
 #[test]
 fn first_session_with_any_memory(rt: HostRuntime) -> Result<(), Fail> {
-    match answer(rt.alloc(), &["run"], FIRST) {
+    match answer(&rt, rt.alloc(), &["run"], FIRST) {
         Ok((NO_MEMORY, text)) => assert_eq!(rt; text.as_slice(), b"".as_slice()),
         Ok((status, text)) => {
             assert_eq!(rt; status, DONE);
@@ -88,7 +111,7 @@ fn a_byte_at_a_time(rt: HostRuntime) -> Result<(), Fail> {
     let bytes = Vec::from_slice(alloc, FIRST.as_bytes())?;
     let mut input = MemSource::new(bytes, 1, Vec::new(alloc));
     let mut out = MemSink::new(alloc, 1, Vec::new(alloc))?;
-    let status = control(alloc, &run_word(alloc)?, &mut input, &mut out);
+    let status = over_links(&rt, alloc, &run_word(alloc)?, &mut input, &mut out);
     assert_eq!(rt; status, DONE);
     assert_eq!(rt; out.bytes(), TRANSCRIPT.as_bytes());
     Ok(())
@@ -99,7 +122,7 @@ fn second_write_fails(rt: HostRuntime) -> Result<(), Fail> {
     let alloc = rt.alloc();
     let mut input = calm(alloc, FIRST)?;
     let mut out = MemSink::new(alloc, 16, [2].to_vec(alloc)?)?;
-    let status = control(alloc, &run_word(alloc)?, &mut input, &mut out);
+    let status = over_links(&rt, alloc, &run_word(alloc)?, &mut input, &mut out);
     assert_eq!(rt; status, WRITE_FAULT);
     assert_eq!(rt; out.bytes(), b"client 1\n1 read ".as_slice());
     Ok(())
@@ -111,7 +134,7 @@ fn first_read_fails(rt: HostRuntime) -> Result<(), Fail> {
     let bytes = Vec::from_slice(alloc, FIRST.as_bytes())?;
     let mut input = MemSource::new(bytes, 1000, [1].to_vec(alloc)?);
     let mut out = MemSink::new(alloc, 1000, Vec::new(alloc))?;
-    let status = control(alloc, &run_word(alloc)?, &mut input, &mut out);
+    let status = over_links(&rt, alloc, &run_word(alloc)?, &mut input, &mut out);
     assert_eq!(rt; status, READ_FAULT);
     assert_eq!(rt; out.bytes(), b"".as_slice());
     Ok(())
@@ -125,7 +148,7 @@ fn each_read_fails_in_turn(rt: HostRuntime) -> Result<(), Fail> {
         let bytes = Vec::from_slice(alloc, FIRST.as_bytes())?;
         let mut input = MemSource::new(bytes, 1, [read as u64].to_vec(alloc)?);
         let mut out = MemSink::new(alloc, 1000, Vec::new(alloc))?;
-        let status = control(alloc, &run_word(alloc)?, &mut input, &mut out);
+        let status = over_links(&rt, alloc, &run_word(alloc)?, &mut input, &mut out);
         assert_eq!(rt; status, READ_FAULT, "read {read}");
         assert_eq!(rt; out.bytes(), b"".as_slice(), "read {read}");
     }
@@ -141,7 +164,7 @@ fn each_write_fails_in_turn(rt: HostRuntime) -> Result<(), Fail> {
         let mut input = calm(alloc, FIRST)?;
         let write = before as u64 + 1;
         let mut out = MemSink::new(alloc, 1, [write].to_vec(alloc)?)?;
-        let status = control(alloc, &run_word(alloc)?, &mut input, &mut out);
+        let status = over_links(&rt, alloc, &run_word(alloc)?, &mut input, &mut out);
         assert_eq!(rt; status, WRITE_FAULT, "write {write}");
         assert_eq!(rt; out.bytes(), &text[..before], "write {write}");
     }
@@ -154,7 +177,7 @@ fn an_input_too_long(rt: HostRuntime) -> Result<(), Fail> {
     let alloc = rt.alloc();
     let mut input = CalmSource::new(vec![in alloc; b'#'; LONGEST + 2]?);
     let mut out = MemSink::new(alloc, 1000, Vec::new(alloc))?;
-    let status = control(alloc, &run_word(alloc)?, &mut input, &mut out);
+    let status = over_links(&rt, alloc, &run_word(alloc)?, &mut input, &mut out);
     assert_eq!(rt; status, REFUSED);
     assert_eq!(rt; out.bytes(), b"refused: document - TooLong\n".as_slice());
     let left = read_all(alloc, &mut input, 2)?;
@@ -163,23 +186,23 @@ fn an_input_too_long(rt: HostRuntime) -> Result<(), Fail> {
 }
 
 /// Whether words get the usage line.
-fn is_usage(alloc: Global, words: &[&str]) -> Result<bool, NoMemory> {
-    let (status, text) = answer(alloc, words, FIRST)?;
+fn is_usage<T: Wait + Sync>(rt: &T, alloc: Global, words: &[&str]) -> Result<bool, NoMemory> {
+    let (status, text) = answer(rt, alloc, words, FIRST)?;
     Ok(status == USAGE && text.as_slice() == USAGE_LINE.as_bytes())
 }
 
 #[test]
 fn words_that_are_no_command(rt: HostRuntime) -> Result<(), Fail> {
-    assert!(rt; is_usage(rt.alloc(), &[])?);
-    assert!(rt; is_usage(rt.alloc(), &["check"])?);
-    assert!(rt; is_usage(rt.alloc(), &["run", "main"])?);
+    assert!(rt; is_usage(&rt, rt.alloc(), &[])?);
+    assert!(rt; is_usage(&rt, rt.alloc(), &["check"])?);
+    assert!(rt; is_usage(&rt, rt.alloc(), &["run", "main"])?);
     Ok(())
 }
 
 #[test]
 fn words_that_are_options(rt: HostRuntime) -> Result<(), Fail> {
-    assert!(rt; is_usage(rt.alloc(), &["-v"])?);
-    assert!(rt; is_usage(rt.alloc(), &["check", "-main"])?);
+    assert!(rt; is_usage(&rt, rt.alloc(), &["-v"])?);
+    assert!(rt; is_usage(&rt, rt.alloc(), &["check", "-main"])?);
     Ok(())
 }
 
@@ -189,13 +212,69 @@ fn the_first_write_fails(rt: HostRuntime) -> Result<(), Fail> {
     let alloc = rt.alloc();
     let mut input = calm(alloc, FIRST)?;
     let mut out = MemSink::new(alloc, 1000, [1].to_vec(alloc)?)?;
-    let usage = control(alloc, &[], &mut input, &mut out);
+    let usage = over_links(&rt, alloc, &[], &mut input, &mut out);
     assert_eq!(rt; usage, WRITE_FAULT);
     assert_eq!(rt; out.bytes(), b"".as_slice());
     let mut other = calm(alloc, "no TOML")?;
     let mut out = MemSink::new(alloc, 1000, [1].to_vec(alloc)?)?;
-    let refusal = control(alloc, &run_word(alloc)?, &mut other, &mut out);
+    let refusal = over_links(&rt, alloc, &run_word(alloc)?, &mut other, &mut out);
     assert_eq!(rt; refusal, WRITE_FAULT);
     assert_eq!(rt; out.bytes(), b"".as_slice());
+    Ok(())
+}
+
+/// What a session gets over a rack whose makes and calls with these numbers fail.
+fn over_failing<T: Wait + Sync>(
+    rt: &T,
+    alloc: Global,
+    makes: &[u64],
+    calls: &[u64],
+) -> Result<(u8, Vec<u8>), NoMemory> {
+    let mut input = calm(alloc, FIRST)?;
+    let mut out = MemSink::new(alloc, 1000, Vec::new(alloc))?;
+    let mut rack = SimRack::new(alloc, makes.to_vec(alloc)?, calls.to_vec(alloc)?);
+    let status = control(
+        rt,
+        alloc,
+        &run_word(alloc)?,
+        &mut input,
+        &mut out,
+        &mut rack,
+    );
+    Ok((status, Vec::from_slice(alloc, out.bytes())?))
+}
+
+#[test]
+fn a_link_that_cannot_be_made(rt: HostRuntime) -> Result<(), Fail> {
+    let (status, text) = over_failing(&rt, rt.alloc(), &[1], &[])?;
+    assert_eq!(rt; status, RACK_FAULT);
+    assert_eq!(rt; text.as_slice(), b"".as_slice());
+    Ok(())
+}
+
+/// The greeting makes the calls 1 and 2 of the link, and the packet with its reply the calls 3 and 4.
+#[test]
+fn a_link_that_fails(rt: HostRuntime) -> Result<(), Fail> {
+    let alloc = rt.alloc();
+    for (call, wanted) in [(1, GREETED_DOWN), (2, GREETED_DOWN), (3, LOST), (4, LOST)] {
+        let (status, text) = over_failing(&rt, alloc, &[], &[call])?;
+        assert_eq!(rt; status, NOT_ALL_DONE, "call {call}");
+        assert_eq!(rt; text.as_slice(), wanted.as_bytes(), "call {call}");
+    }
+    Ok(())
+}
+
+/// The reply is lost, and the packet is sent again.
+#[test]
+fn a_reply_that_is_lost(rt: HostRuntime) -> Result<(), Fail> {
+    let alloc = rt.alloc();
+    let document = FIRST.replace(
+        alloc,
+        "[[board.ranges]]",
+        "fates = \"dddl\"\n[[board.ranges]]",
+    )?;
+    let (status, text) = answer(&rt, alloc, &["run"], document.as_str())?;
+    assert_eq!(rt; status, DONE);
+    assert_eq!(rt; text.as_slice(), TRANSCRIPT.as_bytes());
     Ok(())
 }

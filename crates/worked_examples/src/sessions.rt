@@ -136,15 +136,15 @@ const REFUSALS: [(&str, &str, &str); 7] = [
     ("base = 0x100", "base = 0", "refused: board b0 Overlap\n"),
     ("b0:mem 10", "b0:mem 11", "refused: script 1 1 PastSize\n"),
     (
-        "name = \"b0\"",
-        "name = \"b0\"\nnoise = 1",
+        "ranges = [ { base = 0, size = 1, init = [0xabcd] }, { base = 0x100, size = 8 } ]",
+        "link = \"udp\"\naddress = \"10.0.0.1:50001\"",
         "refused: document - NotBuilt\n",
     ),
 ];
 
 #[test]
 fn several_boards_and_clients(rt: HostRuntime) -> Result<(), Fail> {
-    let (status, text) = answer(rt.alloc(), &["run"], FRONT_ENDS)?;
+    let (status, text) = answer(&rt, rt.alloc(), &["run"], FRONT_ENDS)?;
     assert_eq!(rt; status, DONE);
     assert_eq!(rt; text.as_slice(), FRONT_ENDS_RUN.as_bytes());
     Ok(())
@@ -152,7 +152,7 @@ fn several_boards_and_clients(rt: HostRuntime) -> Result<(), Fail> {
 
 #[test]
 fn a_table_listed(rt: HostRuntime) -> Result<(), Fail> {
-    let (status, text) = answer(rt.alloc(), &["check", "channel"], FRONT_ENDS)?;
+    let (status, text) = answer(&rt, rt.alloc(), &["check", "channel"], FRONT_ENDS)?;
     assert_eq!(rt; status, DONE);
     assert_eq!(rt; text.as_slice(), CHANNEL_LISTED.as_bytes());
     Ok(())
@@ -160,7 +160,7 @@ fn a_table_listed(rt: HostRuntime) -> Result<(), Fail> {
 
 #[test]
 fn a_fault_of_the_board(rt: HostRuntime) -> Result<(), Fail> {
-    let (status, text) = answer(rt.alloc(), &["run"], SHORT_MEMORY)?;
+    let (status, text) = answer(&rt, rt.alloc(), &["run"], SHORT_MEMORY)?;
     assert_eq!(rt; status, NOT_ALL_DONE);
     assert_eq!(rt; text.as_slice(), SHORT_MEMORY_RUN.as_bytes());
     Ok(())
@@ -168,7 +168,7 @@ fn a_fault_of_the_board(rt: HostRuntime) -> Result<(), Fail> {
 
 #[test]
 fn registers_that_overlap(rt: HostRuntime) -> Result<(), Fail> {
-    let (status, text) = answer(rt.alloc(), &["check", "pair"], SHORT_MEMORY)?;
+    let (status, text) = answer(&rt, rt.alloc(), &["check", "pair"], SHORT_MEMORY)?;
     assert_eq!(rt; status, NOT_ALL_DONE);
     assert_eq!(rt; text.as_slice(), PAIR_LISTED.as_bytes());
     Ok(())
@@ -179,7 +179,7 @@ fn a_refusal_by_each_rule(rt: HostRuntime) -> Result<(), Fail> {
     let alloc = rt.alloc();
     for (old, new, line) in REFUSALS {
         let document = SHORT_MEMORY.replace(alloc, old, new)?;
-        let (status, text) = answer(alloc, &["run"], document.as_str())?;
+        let (status, text) = answer(&rt, alloc, &["run"], document.as_str())?;
         assert_eq!(rt; status, REFUSED, "{line}");
         assert_eq!(rt; text.as_slice(), line.as_bytes(), "{line}");
     }
@@ -192,7 +192,7 @@ fn a_listing_of_a_session_that_cannot_run(rt: HostRuntime) -> Result<(), Fail> {
     let alloc = rt.alloc();
     let ranges = SHORT_MEMORY.replace(alloc, "size = 8", "size = 0")?;
     let document = ranges.as_str().replace(alloc, "read b0:id", "reed b0:id")?;
-    let (status, text) = answer(alloc, &["check", "pair"], document.as_str())?;
+    let (status, text) = answer(&rt, alloc, &["check", "pair"], document.as_str())?;
     assert_eq!(rt; status, NOT_ALL_DONE);
     assert_eq!(rt; text.as_slice(), PAIR_LISTED.as_bytes());
     Ok(())
