@@ -1,8 +1,8 @@
 //! A reader as a source, a writer as a sink, and `control` on the two.
 
-use crate::program::rack;
+use crate::program::over_links;
 use ipb_outside::{Failed, Sink, Source, read_all, write_whole};
-use ipbus_program::{ReaderSource, USAGE, WRITE_FAULT, WriterSink, control};
+use ipbus_program::{ReaderSource, USAGE, WRITE_FAULT, WriterSink};
 use std::io::{self, Write};
 use std::test::Fail;
 
@@ -79,17 +79,8 @@ fn the_usage_line_to_each_writer(rt: HostRuntime) -> Result<(), Fail> {
         (Way::TakesOne, USAGE),
     ] {
         let mut out = WriterSink::new(writer(way));
-        assert_eq!(rt;
-            control(
-                &rt,
-                rt.alloc(),
-                &[],
-                &mut input,
-                &mut out,
-                &mut rack(rt.alloc())
-            ),
-            wanted
-        );
+        let status = over_links(&rt, rt.alloc(), &[], &mut input, &mut out);
+        assert_eq!(rt; status, wanted);
     }
     Ok(())
 }

@@ -1,5 +1,5 @@
-//! Worked examples that cross crates: the program's call on sources and sinks in memory, and on a reader and a writer,
-//! a board's bus behind packets, and an engine and a board that lose datagrams.
+//! Worked examples that cross crates: the program's call on sources, sinks and racks in memory, and on a reader and a
+//! writer, a board's bus behind packets, and an engine and a board that lose datagrams.
 #![tactic(auto)]
 
 #[cfg(test)]

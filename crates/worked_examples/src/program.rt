@@ -1,7 +1,7 @@
 //! `control` on a source and a sink in memory.
 
 use ipb_base::NoMemory;
-use ipb_outside::{CalmSource, MemSink, MemSource, read_all};
+use ipb_outside::{CalmSource, MemSink, MemSource, Sink, Source, read_all};
 use ipbus_program::{
     DONE, NO_MEMORY, NOT_ALL_DONE, RACK_FAULT, READ_FAULT, REFUSED, USAGE, WRITE_FAULT, control,
 };
@@ -28,6 +28,11 @@ script = ["read b0:id"]
 const TRANSCRIPT: &str =
     "client 1\n1 read b0:id = 0x0000abcd @1.1\nboard b0 places 1 replied 1 timeout 0 lost 0\n";
 
+const GREETED_DOWN: &str = "client 1\n1 read b0:id link lost\nboard b0 down\n";
+
+const LOST: &str =
+    "client 1\n1 read b0:id link lost @1.1\nboard b0 places 1 replied 0 timeout 0 lost 1\n";
+
 const USAGE_LINE: &str = "usage: ipbus run | check TABLE\n";
 
 const LONGEST: usize = 16_777_216;
@@ -44,11 +49,6 @@ fn run_word(alloc: Global) -> Result<Vec<String>, AllocError> {
     words_of(alloc, &["run"])
 }
 
-/// A rack none of whose makes and calls fails.
-pub(crate) fn rack(alloc: Global) -> SimRack {
-    SimRack::new(alloc, Vec::new(alloc), Vec::new(alloc))
-}
-
 fn calm(alloc: Global, text: &str) -> Result<CalmSource, AllocError> {
     Ok(CalmSource::new(Vec::from_slice(alloc, text.as_bytes())?))
 }
@@ -58,17 +58,22 @@ fn first_session(rt: HostRuntime) -> Result<(), Fail> {
     let alloc = rt.alloc();
     let mut input = calm(alloc, FIRST)?;
     let mut out = MemSink::new(alloc, 1000, Vec::new(alloc))?;
-    let status = control(
-        &rt,
-        alloc,
-        &run_word(alloc)?,
-        &mut input,
-        &mut out,
-        &mut rack(alloc),
-    );
+    let status = over_links(&rt, alloc, &run_word(alloc)?, &mut input, &mut out);
     assert_eq!(rt; status, DONE);
     assert_eq!(rt; out.bytes(), TRANSCRIPT.as_bytes());
     Ok(())
+}
+
+/// `control` over simulated links that never fail.
+pub(crate) fn over_links<S: Source, O: Sink, T: Wait + Sync>(
+    rt: &T,
+    alloc: Global,
+    words: &[String],
+    input: &mut S,
+    out: &mut O,
+) -> u8 {
+    let mut rack = SimRack::new(alloc, Vec::new(alloc), Vec::new(alloc));
+    control(rt, alloc, words, input, out, &mut rack)
 }
 
 /// The status and the text that words get for a document, or want of memory where they are set up.
@@ -81,7 +86,7 @@ pub(crate) fn answer<T: Wait + Sync>(
     let words = words_of(alloc, words)?;
     let mut input = calm(alloc, document)?;
     let mut out = MemSink::new(alloc, 1000, Vec::new(alloc))?;
-    let status = control(rt, alloc, &words, &mut input, &mut out, &mut rack(alloc));
+    let status = over_links(rt, alloc, &words, &mut input, &mut out);
     Ok((status, Vec::from_slice(alloc, out.bytes())?))
 }
 
@@ -106,14 +111,7 @@ fn a_byte_at_a_time(rt: HostRuntime) -> Result<(), Fail> {
     let bytes = Vec::from_slice(alloc, FIRST.as_bytes())?;
     let mut input = MemSource::new(bytes, 1, Vec::new(alloc));
     let mut out = MemSink::new(alloc, 1, Vec::new(alloc))?;
-    let status = control(
-        &rt,
-        alloc,
-        &run_word(alloc)?,
-        &mut input,
-        &mut out,
-        &mut rack(alloc),
-    );
+    let status = over_links(&rt, alloc, &run_word(alloc)?, &mut input, &mut out);
     assert_eq!(rt; status, DONE);
     assert_eq!(rt; out.bytes(), TRANSCRIPT.as_bytes());
     Ok(())
@@ -124,14 +122,7 @@ fn second_write_fails(rt: HostRuntime) -> Result<(), Fail> {
     let alloc = rt.alloc();
     let mut input = calm(alloc, FIRST)?;
     let mut out = MemSink::new(alloc, 16, [2].to_vec(alloc)?)?;
-    let status = control(
-        &rt,
-        alloc,
-        &run_word(alloc)?,
-        &mut input,
-        &mut out,
-        &mut rack(alloc),
-    );
+    let status = over_links(&rt, alloc, &run_word(alloc)?, &mut input, &mut out);
     assert_eq!(rt; status, WRITE_FAULT);
     assert_eq!(rt; out.bytes(), b"client 1\n1 read ".as_slice());
     Ok(())
@@ -143,14 +134,7 @@ fn first_read_fails(rt: HostRuntime) -> Result<(), Fail> {
     let bytes = Vec::from_slice(alloc, FIRST.as_bytes())?;
     let mut input = MemSource::new(bytes, 1000, [1].to_vec(alloc)?);
     let mut out = MemSink::new(alloc, 1000, Vec::new(alloc))?;
-    let status = control(
-        &rt,
-        alloc,
-        &run_word(alloc)?,
-        &mut input,
-        &mut out,
-        &mut rack(alloc),
-    );
+    let status = over_links(&rt, alloc, &run_word(alloc)?, &mut input, &mut out);
     assert_eq!(rt; status, READ_FAULT);
     assert_eq!(rt; out.bytes(), b"".as_slice());
     Ok(())
@@ -164,14 +148,7 @@ fn each_read_fails_in_turn(rt: HostRuntime) -> Result<(), Fail> {
         let bytes = Vec::from_slice(alloc, FIRST.as_bytes())?;
         let mut input = MemSource::new(bytes, 1, [read as u64].to_vec(alloc)?);
         let mut out = MemSink::new(alloc, 1000, Vec::new(alloc))?;
-        let status = control(
-            &rt,
-            alloc,
-            &run_word(alloc)?,
-            &mut input,
-            &mut out,
-            &mut rack(alloc),
-        );
+        let status = over_links(&rt, alloc, &run_word(alloc)?, &mut input, &mut out);
         assert_eq!(rt; status, READ_FAULT, "read {read}");
         assert_eq!(rt; out.bytes(), b"".as_slice(), "read {read}");
     }
@@ -187,14 +164,7 @@ fn each_write_fails_in_turn(rt: HostRuntime) -> Result<(), Fail> {
         let mut input = calm(alloc, FIRST)?;
         let write = before as u64 + 1;
         let mut out = MemSink::new(alloc, 1, [write].to_vec(alloc)?)?;
-        let status = control(
-            &rt,
-            alloc,
-            &run_word(alloc)?,
-            &mut input,
-            &mut out,
-            &mut rack(alloc),
-        );
+        let status = over_links(&rt, alloc, &run_word(alloc)?, &mut input, &mut out);
         assert_eq!(rt; status, WRITE_FAULT, "write {write}");
         assert_eq!(rt; out.bytes(), &text[..before], "write {write}");
     }
@@ -207,14 +177,7 @@ fn an_input_too_long(rt: HostRuntime) -> Result<(), Fail> {
     let alloc = rt.alloc();
     let mut input = CalmSource::new(vec![in alloc; b'#'; LONGEST + 2]?);
     let mut out = MemSink::new(alloc, 1000, Vec::new(alloc))?;
-    let status = control(
-        &rt,
-        alloc,
-        &run_word(alloc)?,
-        &mut input,
-        &mut out,
-        &mut rack(alloc),
-    );
+    let status = over_links(&rt, alloc, &run_word(alloc)?, &mut input, &mut out);
     assert_eq!(rt; status, REFUSED);
     assert_eq!(rt; out.bytes(), b"refused: document - TooLong\n".as_slice());
     let left = read_all(alloc, &mut input, 2)?;
@@ -249,50 +212,69 @@ fn the_first_write_fails(rt: HostRuntime) -> Result<(), Fail> {
     let alloc = rt.alloc();
     let mut input = calm(alloc, FIRST)?;
     let mut out = MemSink::new(alloc, 1000, [1].to_vec(alloc)?)?;
-    let usage = control(&rt, alloc, &[], &mut input, &mut out, &mut rack(alloc));
+    let usage = over_links(&rt, alloc, &[], &mut input, &mut out);
     assert_eq!(rt; usage, WRITE_FAULT);
     assert_eq!(rt; out.bytes(), b"".as_slice());
     let mut other = calm(alloc, "no TOML")?;
     let mut out = MemSink::new(alloc, 1000, [1].to_vec(alloc)?)?;
-    let refusal = control(
-        &rt,
-        alloc,
-        &run_word(alloc)?,
-        &mut other,
-        &mut out,
-        &mut rack(alloc),
-    );
+    let refusal = over_links(&rt, alloc, &run_word(alloc)?, &mut other, &mut out);
     assert_eq!(rt; refusal, WRITE_FAULT);
     assert_eq!(rt; out.bytes(), b"".as_slice());
     Ok(())
 }
 
-/// What a rack whose links fail at one call, or one of whose makes fails, comes to.
+/// What a session gets over a rack whose makes and calls with these numbers fail.
+fn over_failing<T: Wait + Sync>(
+    rt: &T,
+    alloc: Global,
+    makes: &[u64],
+    calls: &[u64],
+) -> Result<(u8, Vec<u8>), NoMemory> {
+    let mut input = calm(alloc, FIRST)?;
+    let mut out = MemSink::new(alloc, 1000, Vec::new(alloc))?;
+    let mut rack = SimRack::new(alloc, makes.to_vec(alloc)?, calls.to_vec(alloc)?);
+    let status = control(
+        rt,
+        alloc,
+        &run_word(alloc)?,
+        &mut input,
+        &mut out,
+        &mut rack,
+    );
+    Ok((status, Vec::from_slice(alloc, out.bytes())?))
+}
+
 #[test]
-fn links_that_fail(rt: HostRuntime) -> Result<(), Fail> {
+fn a_link_that_cannot_be_made(rt: HostRuntime) -> Result<(), Fail> {
+    let (status, text) = over_failing(&rt, rt.alloc(), &[1], &[])?;
+    assert_eq!(rt; status, RACK_FAULT);
+    assert_eq!(rt; text.as_slice(), b"".as_slice());
+    Ok(())
+}
+
+/// The greeting makes the calls 1 and 2 of the link, and the packet with its reply the calls 3 and 4.
+#[test]
+fn a_link_that_fails(rt: HostRuntime) -> Result<(), Fail> {
     let alloc = rt.alloc();
-    let lost =
-        "client 1\n1 read b0:id link lost @1.1\nboard b0 places 1 replied 0 timeout 0 lost 1\n";
-    let down = "client 1\n1 read b0:id link lost\nboard b0 down\n";
-    let cases: [(&[u64], &[u64], u8, &str); 3] = [
-        (&[], &[3], NOT_ALL_DONE, lost),
-        (&[], &[1], NOT_ALL_DONE, down),
-        (&[1], &[], RACK_FAULT, ""),
-    ];
-    for (makes, calls, wanted, text) in cases {
-        let mut input = calm(alloc, FIRST)?;
-        let mut out = MemSink::new(alloc, 1000, Vec::new(alloc))?;
-        let mut rack = SimRack::new(alloc, makes.to_vec(alloc)?, calls.to_vec(alloc)?);
-        let status = control(
-            &rt,
-            alloc,
-            &run_word(alloc)?,
-            &mut input,
-            &mut out,
-            &mut rack,
-        );
-        assert_eq!(rt; status, wanted);
-        assert_eq!(rt; out.bytes(), text.as_bytes());
+    for (call, wanted) in [(1, GREETED_DOWN), (2, GREETED_DOWN), (3, LOST), (4, LOST)] {
+        let (status, text) = over_failing(&rt, alloc, &[], &[call])?;
+        assert_eq!(rt; status, NOT_ALL_DONE, "call {call}");
+        assert_eq!(rt; text.as_slice(), wanted.as_bytes(), "call {call}");
     }
+    Ok(())
+}
+
+/// The reply is lost, and the packet is sent again.
+#[test]
+fn a_reply_that_is_lost(rt: HostRuntime) -> Result<(), Fail> {
+    let alloc = rt.alloc();
+    let document = FIRST.replace(
+        alloc,
+        "[[board.ranges]]",
+        "fates = \"dddl\"\n[[board.ranges]]",
+    )?;
+    let (status, text) = answer(&rt, alloc, &["run"], document.as_str())?;
+    assert_eq!(rt; status, DONE);
+    assert_eq!(rt; text.as_slice(), TRANSCRIPT.as_bytes());
     Ok(())
 }

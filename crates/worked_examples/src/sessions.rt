@@ -135,6 +135,11 @@ const REFUSALS: [(&str, &str, &str); 7] = [
     ("size = 8", "size = 0", "refused: board b0 Empty\n"),
     ("base = 0x100", "base = 0", "refused: board b0 Overlap\n"),
     ("b0:mem 10", "b0:mem 11", "refused: script 1 1 PastSize\n"),
+    (
+        "ranges = [ { base = 0, size = 1, init = [0xabcd] }, { base = 0x100, size = 8 } ]",
+        "link = \"udp\"\naddress = \"10.0.0.1:50001\"",
+        "refused: document - NotBuilt\n",
+    ),
 ];
 
 #[test]
