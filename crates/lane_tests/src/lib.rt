@@ -1,9 +1,7 @@
-//! Tests of lanes, of their records, and of turns. What their clauses cannot say is run here: that each call succeeds
-//! where memory is there, and what lanes come to over simulated links that lose, repeat and delay datagrams.
+//! Tests of records and of turns. What their clauses cannot say is run here: that each call succeeds where memory is
+//! there. Lanes are run by the tests of the program's call and by the documents under `examples/lossy`.
 #![tactic(auto)]
 
-#[cfg(test)]
-mod hub_lane_tests;
 #[cfg(test)]
 mod lane_record_tests;
 #[cfg(test)]
