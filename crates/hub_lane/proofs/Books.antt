@@ -24,10 +24,14 @@ use Rattle.lane_record.proofs.Lookups.{Count, claims_push, count_push, found_app
 use Rattle.lane_record.proofs.Lookups.{none_next, numbers_append, sealed_append}
 use Rattle.lane_record.specs.Coding.{entry_of}
 use Rattle.hub_lane.specs.Plans.{IsFull, one_with, planned_bodies, planned_words, words_with}
-use Rattle.hub_lane.specs.Books.{HasMorePlans, HasNext, IsBook, IsPlanAt, IsPosition, IsRow, Row, TellsBodies}
+use Rattle.hub_lane.specs.Books.{HasMorePlans, HasNext, IsBook, IsPlanAt, IsPosition, IsRow, IsTakenRow, Row}
+use Rattle.hub_lane.specs.Books.{TellsBodies}
 use Rattle.hub_lane.specs.Books.{asked_pair}
 use Rattle.hub_lane.specs.Books.{next_of}
-use Rattle.hub_lane.specs.Books.{row_of, with_ask, with_plan}
+use Rattle.hub_lane.specs.Books.{HasAsked, row_of, with_ask, with_plan, with_took}
+use Rattle.hub_lane.proofs.ClientRows.{grown, more_asked, more_taken, row_asked, row_asked_other, row_planned}
+use Rattle.hub_lane.proofs.ClientRows.{row_planned_other, row_taken, row_taken_other}
+use Rattle.hub_lane.proofs.TakenRows.{taken_ask, taken_plan, taken_seal, taken_took}
 
 -- ---- numbers of a client, with one more entry
 
@@ -104,67 +108,6 @@ plan_found client body items count =
     found_append plan_in client seq items (plan_of client seq body ∷ [])
     ∙ (ap (λ (o : Option (List ℕ)). option_or o (found plan_in client seq (plan_of client seq body ∷ []))) none
     ∙ (let same = eq-eqb client client refl in let number = eq-eqb seq seq refl in rw (same, number) refl))
-
-differ : (a b : ℕ) → (a ≡ b → ⊥) → (a == b) ≡ false
-differ a b other = elim (eqb_tells a b) [
-  | inl same ↦ absurd (other same.1)
-  | inr apart ↦ apart.0
-]
-
-abbrev pub grown : ℕ → ℕ → Option Row → Row
-grown client place None = record { client = client; plans = place ∷ []; asked = 0 }
-grown client place (Some r) = record r { plans = r.plans ++ place ∷ [] }
-
-row_planned : (client place : ℕ) (rows : List Row)
-    → row_of client (with_plan client place rows) ≡ Some (grown client place (row_of client rows))
-row_planned client place [] = let same = eq-eqb client client refl in rw same refl
-row_planned client place (r ∷ rs) = elim (r.client == client)
-    as (λ b. (r.client == client) ≡ b
-    → row_of client (cond b (record r { plans = r.plans ++ place ∷ [] } ∷ rs) (r ∷ with_plan client place rs))
-    ≡ Some (grown client place (cond b (Some r) (row_of client rs)))) [
-      | true ↦ λ same. rw same refl
-      | false ↦ λ other. rw other (row_planned client place rs)
-    ] refl
-
-row_planned_other : (client place other : ℕ) (rows : List Row) → (client == other) ≡ false
-    → row_of other (with_plan client place rows) ≡ row_of other rows
-row_planned_other client place other [] apart = rw apart refl
-row_planned_other client place other (r ∷ rs) apart = elim (r.client == client)
-    as (λ b. (r.client == client) ≡ b
-    → row_of other (cond b (record r { plans = r.plans ++ place ∷ [] } ∷ rs) (r ∷ with_plan client place rs))
-    ≡ row_of other (r ∷ rs)) [
-      | true ↦ λ same. (let e : (r.client == other) ≡ false = ap (λ (n : ℕ). n == other) (eqb-true _ _ same) ∙ apart in
-          rw e refl)
-      | false ↦ λ _. ap (λ (rest : Option Row). cond (r.client == other) (Some r) rest)
-          (row_planned_other client place other rs apart)
-    ] refl
-
-abbrev pub more_asked : Option Row → Option Row
-more_asked None = None
-more_asked (Some r) = Some (record r { asked = r.asked + 1 })
-
-row_asked : (client : ℕ) (rows : List Row) → row_of client (with_ask client rows) ≡ more_asked (row_of client rows)
-row_asked client [] = refl
-row_asked client (r ∷ rs) = elim (r.client == client)
-    as (λ b. (r.client == client) ≡ b
-    → row_of client (cond b (record r { asked = r.asked + 1 } ∷ rs) (r ∷ with_ask client rs))
-    ≡ more_asked (cond b (Some r) (row_of client rs))) [
-      | true ↦ λ same. rw same refl
-      | false ↦ λ other. rw other (row_asked client rs)
-    ] refl
-
-row_asked_other : (client other : ℕ) (rows : List Row) → (client == other) ≡ false
-    → row_of other (with_ask client rows) ≡ row_of other rows
-row_asked_other client other [] apart = refl
-row_asked_other client other (r ∷ rs) apart = elim (r.client == client)
-    as (λ b. (r.client == client) ≡ b
-    → row_of other (cond b (record r { asked = r.asked + 1 } ∷ rs) (r ∷ with_ask client rs))
-    ≡ row_of other (r ∷ rs)) [
-      | true ↦ λ same. (let e : (r.client == other) ≡ false = ap (λ (n : ℕ). n == other) (eqb-true _ _ same) ∙ apart in
-          rw e refl)
-      | false ↦ λ _. ap (λ (rest : Option Row). cond (r.client == other) (Some r) rest)
-          (row_asked_other client other rs apart)
-    ] refl
 
 -- the row of the client of a new Plan
 tells_plan : (items : List Item) (client : ℕ) (body plans : List ℕ) (asks : ℕ) → Count plan_in items
@@ -282,6 +225,37 @@ rows_ask items rows client g next are other = elim (eqb_tells client other) [
       (row_other items x other (row_of other rows) (same_number plan_in other items x refl) ask (are other))
 ]
 
+-- ---- one more Took
+
+asked_row : (items : List Item) (client seq : ℕ) (row : Option Row) → IsRow items client row
+    → seq < asked client items → (r : Row) × (row ≡ Some r) × (seq < r.asked)
+asked_row items client seq None is below = (let a = is.asked_are in absurd (omega (arith, a, below)))
+asked_row items client seq (Some r) is below = (r, refl, (let a = is.asked_are in omega (arith, a, below)))
+
+pub has_asked : (items : List Item) (rows : List Row) (client seq : ℕ)
+    → ((c : ℕ) → IsRow items c (row_of c rows)) → seq < asked client items → HasAsked client seq rows
+has_asked items rows client seq are below =
+    let row = asked_row items client seq (row_of client rows) (are client) below in
+    record { row = row.0; there = row.1; is_asked = row.2 }
+
+row_more_taken : (items : List Item) (client seq : ℕ) (row : Option Row) → IsRow items client row
+    → IsRow items client (more_taken seq row)
+row_more_taken items client seq None is = is
+row_more_taken items client seq (Some r) is = is
+
+rows_took : (items : List Item) (rows : List Row) (client seq : ℕ) (x : Item) → plan_in x.what ≡ None
+    → ask_in x.what ≡ None → ((c : ℕ) → IsRow items c (row_of c rows))
+    → (other : ℕ) → IsRow (items ++ x ∷ []) other (row_of other (with_took client seq rows))
+rows_took items rows client seq x plan ask are other =
+    row_other items x other (row_of other (with_took client seq rows)) (same_number plan_in other items x plan)
+    (same_number ask_in other items x ask)
+    (elim (eqb_tells client other) [
+      | inl same ↦ subst (λ (c : ℕ). IsRow items c (row_of c (with_took client seq rows))) same.1
+          (subst (IsRow items client) (sym (row_taken client seq rows))
+          (row_more_taken items client seq (row_of client rows) (are client)))
+      | inr apart ↦ subst (IsRow items other) (sym (row_taken_other client seq other rows apart.0)) (are other)
+    ])
+
 -- ---- the other tables
 
 pub bodies_push : (items : List Item) (x : Item)
@@ -325,17 +299,19 @@ or_true false = refl
 
 module _ (items : List Item) (entries : List Entry) (rows : List Row) (asks : List (ℕ × ℕ)) (bodies words : ℕ)
     (closed : Bool) (room : ℕ) (is : IsBook items entries rows asks bodies words closed room) where
-  -- an entry that is no Plan, Ask or Seal
-  book_other : (x : Item) (new : List Entry) (after : ℕ) → plan_in x.what ≡ None → ask_in x.what ≡ None
-      → new ≡ entries ++ entry_of x ∷ [] → (sealed : Bool) → sealed ≡ is_sealed (items ++ x ∷ [])
-      → (is_sealed (items ++ x ∷ []) ≡ false → 1 ≤ after)
-      → IsBook (items ++ x ∷ []) new rows asks bodies words sealed after
-  book_other x new after plan ask entry sealed sealed_is fits = record {
+  -- an entry that is no Plan and no Ask
+  book_other : (x : Item) (new : List Entry) (changed : List Row) (after : ℕ) → plan_in x.what ≡ None
+      → ask_in x.what ≡ None → new ≡ entries ++ entry_of x ∷ [] → (sealed : Bool)
+      → sealed ≡ is_sealed (items ++ x ∷ []) → (is_sealed (items ++ x ∷ []) ≡ false → 1 ≤ after)
+      → ((c : ℕ) → IsRow (items ++ x ∷ []) c (row_of c changed))
+      → ((c : ℕ) → IsTakenRow (items ++ x ∷ []) c (row_of c changed))
+      → IsBook (items ++ x ∷ []) new changed asks bodies words sealed after
+  book_other x new changed after plan ask entry sealed sealed_is fits told taken = record {
     entries_are = entries_push items x new entries is.entries_are entry;
     plans_count = count_push plan_in items x is.plans_count
         (λ some. (let off : is_some (plan_in x.what) ≡ false = ap is_some plan in absurd cc));
-    rows_are = λ client. row_other items x client (row_of client rows) (same_number plan_in client items x plan)
-        (same_number ask_in client items x ask) (is.rows_are client);
+    rows_are = told;
+    taken_are = taken;
     asks_are = is.asks_are ∙ sym (asks_push items x
         ∙ (ap (λ (o : Option ℕ). map asked_pair (claims items) ++ map asked_pair (claim_in items x o)) ask
         ∙ append-nil (map asked_pair (claims items))));
@@ -350,19 +326,25 @@ module _ (items : List Item) (entries : List Entry) (rows : List Row) (asks : Li
   }
 
   pub book_took : (client seq : ℕ) (outcome : Outcome) (g : ℕ) (new : List Entry) (after : ℕ)
-      → new ≡ entries ++ entry_of (took_of client seq outcome g) ∷ [] → 1 ≤ after
-      → IsBook (items ++ took_of client seq outcome g ∷ []) new rows asks bodies words closed after
-  book_took client seq outcome g new after entry one = book_other (took_of client seq outcome g) new after refl refl
-      entry
-      closed (is.closed_is ∙ sym (sealed_append items (took_of client seq outcome g ∷ []) ∙ or_false (is_sealed items)))
-      (λ _. one)
+      → seq < asked client items → new ≡ entries ++ entry_of (took_of client seq outcome g) ∷ [] → 1 ≤ after
+      → IsBook (items ++ took_of client seq outcome g ∷ []) new (with_took client seq rows) asks bodies words closed
+      after
+  book_took client seq outcome g new after below entry one =
+      let x = took_of client seq outcome g in
+      book_other x new (with_took client seq rows) after refl refl entry
+      closed (is.closed_is ∙ sym (sealed_append items (x ∷ []) ∙ or_false (is_sealed items)))
+      (λ _. one) (rows_took items rows client seq x refl refl is.rows_are)
+      (taken_took items rows client seq g outcome (has_asked items rows client seq is.rows_are below) is.taken_are)
 
   pub book_seal : (new : List Entry) (after : ℕ) → new ≡ entries ++ entry_of the_seal ∷ []
       → IsBook (items ++ the_seal ∷ []) new rows asks bodies words true after
   book_seal new after entry =
       let sealed : is_sealed (items ++ the_seal ∷ []) ≡ true = sealed_append items (the_seal ∷ []) ∙ or_true
       (is_sealed items) in
-      book_other the_seal new after refl refl entry true (sym sealed) (λ open_still. absurd cc)
+      book_other the_seal new rows after refl refl entry true (sym sealed) (λ open_still. absurd cc)
+      (λ client. row_other items the_seal client (row_of client rows) (same_number plan_in client items the_seal refl)
+      (same_number ask_in client items the_seal refl) (is.rows_are client))
+      (taken_seal items rows is.taken_are)
 
   pub book_ask : (client g : ℕ) (new : List Entry) (after : ℕ) → HasMorePlans client items
       → new ≡ entries ++ entry_of (ask_of client (asked client items) g) ∷ [] → 1 ≤ after
@@ -375,6 +357,7 @@ module _ (items : List Item) (entries : List Entry) (rows : List Row) (asks : Li
         plans_count = count_push plan_in items x is.plans_count (λ some. absurd cc);
         rows_are = rows_ask items rows client g (has_next items rows client is.plans_count is.rows_are more)
             is.rows_are;
+        taken_are = taken_ask items rows client (asked client items) g is.taken_are;
         asks_are = ap (λ (l : List (ℕ × ℕ)). l ++ (client, asked client items) ∷ []) is.asks_are ∙ sym (asks_push
             items x);
         bodies_are = (let h = bodies_push items x in let b = is.bodies_are in omega (arith, h, b));
@@ -399,6 +382,7 @@ module _ (items : List Item) (entries : List Entry) (rows : List Row) (asks : Li
         entries_are = entries_push items x new entries is.entries_are entry;
         plans_count = count_push plan_in items x is.plans_count (λ _. refl);
         rows_are = rows_plan items rows client body is.plans_count is.rows_are;
+        taken_are = taken_plan items rows client (planned client items) (length items) body is.taken_are;
         asks_are = is.asks_are ∙ sym (asks_push items x ∙ append-nil (map asked_pair (claims items)));
         bodies_are = (let h = bodies_push items x in omega (arith, h, b, more_is));
         words_are = (let h = words_push items x in omega (arith, h, w, words_is));
@@ -479,6 +463,7 @@ book_room items entries rows asks bodies words closed room after more is = recor
   entries_are = is.entries_are;
   plans_count = is.plans_count;
   rows_are = is.rows_are;
+  taken_are = is.taken_are;
   asks_are = is.asks_are;
   bodies_are = is.bodies_are;
   words_are = is.words_are;

@@ -5,6 +5,7 @@ use Rattle.std.proofs.Common.{Some, None}
 use Rattle.std.proofs.Common.{refl, sym, ap, ◌∙◌, subst, arith, inl, inr, ◌⊎◌, length-append, if◌then◌else◌}
 use Rattle.std.specs.Prelude.{Result, Ok, Err, IfSome}
 use Rattle.std.specs.List.{Contains, slice_get, slice_index_or}
+use Rattle.std.proofs.lemmas.List.{append-nil}
 use Rattle.ipb_base.specs.Faults.{Rose}
 use Rattle.ipb_base.specs.Lists.{IsPrefix}
 use Rattle.packet_codec.specs.Packet.{packet_bytes}
@@ -33,7 +34,7 @@ use Rattle.world_core.specs.Telling.{IfTelling, IsGot, IsQuiet, IsReceived, IsSe
 use Rattle.hub_lane.specs.declared.greeting.Answer.{Answer}
 use Rattle.hub_lane.specs.declared.greeting.Answer.TheVariants as answer
 use Rattle.hub_lane.specs.Greeting.{CanBegin, EndsAskingWith, EndsGreetingWith, EndsRoundWith, IsExpecting}
-use Rattle.hub_lane.specs.Greeting.{IsHeardFrom, IsTold, StaysFresh}
+use Rattle.hub_lane.specs.Greeting.{HandedOutNone, IsHeardFrom, IsTold, StaysFresh}
 
 -- what the laws of links say of what a board hears
 abbrev pub HeardGoesOn : Type 0
@@ -257,7 +258,7 @@ told_greeted : (settings : Limits) (before now : ℕ) (old new : Telling) (told 
     → IsTold new.told.board.mtu new.told.board.buffers new.told.board.first told
     → IsHeardFrom settings before now told old new
 told_greeted settings before now old new (answer.Told status) begins is = record
-    { begins = begins; mtu = is.0; buffers = is.1; next = is.2 }
+    { begins = begins; told = record { mtu = is.0; buffers = is.1; next = is.2 } }
 told_greeted settings before now old new answer.Nothing begins is = absurd is
 told_greeted settings before now old new answer.Other begins is = absurd is
 
@@ -284,6 +285,36 @@ got_told law tells settings bytes told all before now old new begins is =
     (IsHeardFrom settings before now told) old new (got_greeted law tells settings bytes told all before now)
     begins is
 
+-- ---- what was handed out
+
+pub handed_first : (a : Option Telling) → IfTelling a a HandedOutNone
+handed_first None = tt
+handed_first (Some t) = refl
+
+pub handed_then : (a b c : Option Telling) → IfTelling a b HandedOutNone → IfTelling b c HandedOutNone
+    → IfTelling a c HandedOutNone
+handed_then None None c is js = js
+handed_then None (Some t) c is js = absurd is
+handed_then (Some s) None c is js = absurd is
+handed_then (Some s) (Some t) None is js = js
+handed_then (Some s) (Some t) (Some u) is js = js ∙ is
+
+handed_as : (R : Telling → Telling → Type 0) (a b : Option Telling) → ((s t : Telling) → R s t → HandedOutNone s t)
+    → IfTelling a b R → IfTelling a b HandedOutNone
+handed_as R None None f is = tt
+handed_as R None (Some t) f is = is
+handed_as R (Some s) None f is = is
+handed_as R (Some s) (Some t) f is = f s t is
+
+pub handed_sent : (bytes : List ℕ) (before now : ℕ) (a b : Option Telling) → IfTelling a b (IsSent bytes before now)
+    → IfTelling a b HandedOutNone
+handed_sent bytes before now a b is = handed_as (IsSent bytes before now) a b (λ s t sent. sent.handed) is
+
+pub handed_quiet : (bytes : List ℕ) (before now : ℕ) (a b : Option Telling)
+    → IfTelling a b (Receives (Ok came.Quiet) bytes before now) → IfTelling a b HandedOutNone
+handed_quiet bytes before now a b is = handed_as (Receives (Ok came.Quiet) bytes before now) a b
+    (λ s t quiet. quiet.received.handed ∙ append-nil s.handed) is
+
 -- ---- a round
 
 abbrev pub IsSameTelling : Telling → Telling → Type 0
@@ -302,6 +333,13 @@ pub record IsListening (before now : Option Telling) (other quiets quiets_now go
 pub same_telling : (a : Option Telling) → IfTelling a a IsSameTelling
 same_telling None = tt
 same_telling (Some t) = refl
+
+pub handed_still : (a b : Option Telling) → IfTelling a b IsSameTelling → IfTelling a b HandedOutNone
+handed_still a b is = handed_as IsSameTelling a b (λ s t same. ap (λ (x : Telling). x.handed) same) is
+
+pub handed_after : (a b c : Option Telling) → IfTelling a b IsSameTelling → IfTelling b c HandedOutNone
+    → IfTelling a c HandedOutNone
+handed_after a b c same is = handed_then a b c (handed_still a b same) is
 
 pub begins_still : (settings : Limits) (a b : Option Telling) → IfSome a (CanBegin settings)
     → IfTelling a b IsSameTelling → IfSome b (CanBegin settings)
@@ -481,6 +519,7 @@ HasPaid rounds quiets held t = (rounds ≤ quiets) × (rounds ≤ held)
 pub record IsAsking (settings : Limits) (before now : Option Telling)
     (rounds quiets gots held faults faults_now : ℕ) : Type 0 where
   pub fresh : IfTelling before now (StaysFresh settings)
+  pub handed : IfTelling before now HandedOutNone
   pub paid : IfSome now (HasPaid rounds quiets held)
   pub few_quiets : quiets ≤ rounds
   pub few_gots : gots ≤ 64 * rounds

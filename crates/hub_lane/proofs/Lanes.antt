@@ -11,6 +11,7 @@ use Rattle.ipb_base.proofs.AllLemmas.{AllByRecursion-append}
 use Rattle.packet_ids.specs.Identifier.{IsIdentifier}
 use Rattle.status_packet.specs.Range.{IsBufferCount, IsMtu}
 use Rattle.world_model.specs.declared.offered.Offered.{Offered}
+use Rattle.world_model.specs.Board.{Board}
 use Rattle.world_model.specs.Hub.{Hub, is_waiting, new_hub, offer}
 use Rattle.world_model.specs.Facts.{HasBodies, IsSendable}
 use Rattle.world_model.proofs.Lists.{either}
@@ -25,11 +26,35 @@ use Rattle.lane_record.specs.Bounds.{IsKept}
 use Rattle.lane_record.specs.Offers.{Agrees, AgreesWith, offer_of}
 use Rattle.lane_record.specs.NextEntry.{ask_of}
 use Rattle.lane_record.proofs.Lookups.{claims_push}
-use Rattle.hub_lane.specs.Lanes.{BoardStatus, IsGreeted, FitsBoard, IsFittingPlan, IsLane}
+use Rattle.lane_record.proofs.Rounds.{TellsIfThere}
+use Rattle.hub_lane.specs.Lanes.{BoardStatus, HasToldStatus, IsGreeted, FitsBoard, IsFittingPlan, IsLane, board_of}
 use Rattle.hub_lane.specs.Standing.{IsRunning, IsStopped}
 use Rattle.hub_lane.proofs.Standing.{BeginLaw, OfferLaw, asked_lost, asked_running, begins_running, if_told}
 use Rattle.hub_lane.proofs.Standing.{offered_running, pushed_get}
 use Rattle.hub_lane.proofs.Windows.{new_windowed, offer_windowed}
+
+-- ---- the status that a board told
+
+abbrev pub HasTold : BoardStatus → Telling → Type 0
+HasTold status t = HasToldStatus status t.told.board
+
+told_by : (status : BoardStatus) (old new : Board) → record new { log = [] } ≡ record old { log = [] }
+    → HasToldStatus status old → HasToldStatus status new
+told_by status old new same is = record {
+  mtu = is.mtu ∙ sym (ap (λ (b : Board). b.mtu) same);
+  buffers = is.buffers ∙ sym (ap (λ (b : Board). b.buffers) same);
+  next = is.next ∙ sym (ap (λ (b : Board). b.first) same);
+}
+
+-- the board of a link is the same but for what it executed
+pub told_still : (status : BoardStatus) (old new : Option Telling) → board_of new ≡ board_of old
+    → IfSome old (HasTold status) → IfSome new (HasTold status)
+told_still status None None same is = tt
+told_still status None (Some u) same is = absurd cc
+told_still status (Some t) None same is = tt
+told_still status (Some t) (Some u) same is =
+    let bare : record u.told.board { log = [] } ≡ record t.told.board { log = [] } = cc in
+    told_by status t.told.board u.told.board bare is
 
 -- ---- a lane begins
 
@@ -37,9 +62,9 @@ begins_standing : BeginLaw → (settings : Limits) (status : BoardStatus) (t : T
     → IsRunning settings (new_hub status.next (min settings.window status.buffers) settings.rounds) [] t
 begins_standing law settings status t is =
     subst (λ (next : ℕ). IsRunning settings (new_hub next (min settings.window status.buffers) settings.rounds) [] t)
-    (sym is.next)
+    (sym is.told.next)
     (subst (λ (buffers : ℕ). IsRunning settings (new_hub t.told.board.first (min settings.window buffers)
-    settings.rounds) [] t) (sym is.buffers) (begins_running law settings t is.begins))
+    settings.rounds) [] t) (sym is.told.buffers) (begins_running law settings t is.begins))
 
 pub lane_begins : BeginLaw → (settings : Limits) (status : BoardStatus) (telling : Option Telling) (faults quiets : ℕ)
     → ((first window rounds : ℕ) → AgreesWith (new_hub first window rounds) [] [])
@@ -75,9 +100,11 @@ lane_begins law settings status telling faults quiets agrees kept limits mtu buf
       fits = tt;
       fault = λ e. absurd cc;
       lost = λ k o e is. absurd cc;
+      tells = tt;
       standing = if_told (IsGreeted settings status)
           (IsRunning settings (new_hub status.next w settings.rounds) []) telling greeted
           (λ t is. begins_standing law settings status t is);
+      told = if_told (IsGreeted settings status) (HasTold status) telling greeted (λ t is. is.told);
     }
 
 pub lane_begun : BeginLaw → (settings : Limits) (status : BoardStatus) (hub : Hub) (items : List Item)
@@ -120,7 +147,9 @@ lane_entry settings status hub items outcomes give_ups down spent telling faults
   fits = AllByRecursion-append (IsFittingPlan (payload_of status.mtu)) items (x ∷ []) is.fits (fits, tt);
   fault = is.fault;
   lost = is.lost;
+  tells = is.tells;
   standing = is.standing;
+  told = is.told;
 }
 
 -- ---- an Ask
@@ -185,9 +214,11 @@ lane_offered law settings status hub items outcomes give_ups telling faults quie
         | inl none ↦ absurd cc
         | inr old ↦ is.lost k outcome old lost
       ];
+      tells = AllByRecursion-append (TellsIfThere settings.rounds) outcomes (None ∷ []) is.tells (tt, tt);
       standing = if_told (IsRunning settings hub outcomes) (IsRunning settings (offer hub o) (outcomes ++ None ∷ []))
           telling is.standing (λ t running. asked_running settings outcomes (offer hub o) t
           (offered_running law settings outcomes hub o t can is.ready.drained running));
+      told = is.told;
     }
 
 pub lane_asked_in_vain : (settings : Limits) (status : BoardStatus) (hub : Hub) (items : List Item)
@@ -226,9 +257,12 @@ lane_asked_in_vain settings status hub items outcomes give_ups spent telling fau
           is.fits (tt, tt);
       fault = is.fault;
       lost = λ k outcome e lost. refl;
+      tells = AllByRecursion-append (TellsIfThere settings.rounds) outcomes (Some (became.LinkLost None) ∷ []) is.tells
+          (tt, tt);
       standing = if_told (IsStopped settings hub outcomes)
           (IsStopped settings hub (outcomes ++ Some (became.LinkLost None) ∷ [])) telling is.standing
           (λ t stopped. asked_lost settings outcomes hub t stopped);
+      told = is.told;
     }
 
 -- ---- an Ask of a lane that is down or not

@@ -12,6 +12,9 @@ mod Ready
 mod ClientRows
 mod Books
 mod Lanes
+mod Exchanges
 mod Pumps
 mod Untaken
+mod TakenRows
 mod Steps
+mod Records

@@ -231,9 +231,9 @@ pays_begun laws settings status hub telling held limits buffers hub_is greeted =
     subst (λ (h : Hub). IfSome telling (PaysRounds status.mtu settings.rounds 0 h held)) (sym hub_is)
     (if_told (IsGreeted settings status) (PaysRounds status.mtu settings.rounds 0 begun held) telling greeted
     (λ t is. record {
-      board = sym is.mtu;
+      board = sym is.told.mtu;
       some_window = (let one = limits.some_window in let some = buffers.0 in omega (arith, one, some));
-      holds = (let same = is.buffers in omega (arith, same));
+      holds = (let same = is.told.buffers in omega (arith, same));
       sent = tt;
       queued = tt;
       paid = laws.begins settings.rounds begun held t refl;

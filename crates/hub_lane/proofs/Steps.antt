@@ -9,16 +9,17 @@ use Rattle.world_core.specs.Telling.{Telling}
 use Rattle.lane_record.specs.declared.outcome.Outcome.{Outcome}
 use Rattle.lane_record.specs.declared.item.Item.{Item}
 use Rattle.lane_record.specs.Claims.{Claim, claim_in, claims, claims_behind}
-use Rattle.lane_record.specs.Items.{ask_in, asked, found, is_of, took_in}
+use Rattle.lane_record.specs.Items.{ask_in, asked, found, is_of}
 use Rattle.lane_record.specs.Legal.{IsLegal}
 use Rattle.lane_record.specs.Offers.{Agrees, awaited, tags, unsettled_from}
+use Rattle.lane_record.proofs.Asks.{apart}
 use Rattle.lane_record.proofs.Lookups.{and_true, first_or, found_below, if_some}
 use Rattle.hub_lane.specs.declared.answers.Pumped.{Pumped}
 use Rattle.hub_lane.specs.declared.answers.Pumped.TheVariants.{Reply, Status, Stray, Quiet, Idle, LinkDown}
 use Rattle.hub_lane.specs.Calls.{GoesDown, IsSameRecord, PumpsAs, WasAsked}
 use Rattle.hub_lane.specs.Hearing.{gots_of, quiets_of}
 use Rattle.hub_lane.specs.Lanes.{LaneState}
-use Rattle.hub_lane.specs.Step.{IsOldest, IsTakenIn}
+use Rattle.hub_lane.specs.Step.{IsOldest}
 
 -- ---- an asked body has its Ask
 
@@ -51,10 +52,20 @@ was_asked items outcomes client seq legal oldest =
       untaken = record { claim = at.1; ask = record { there = at.2; same_client = at.3; same_seq = at.4 }; once = oldest.untaken };
     }
 
-pub each_asked : (items : List Item) (outcomes : List (Option Outcome)) (client most : ℕ) (r : Option ℕ) → IsLegal items outcomes → most ≡ asked client items → IfSome r (λ seq. seq < most) → IfSome r (λ seq. found took_in client seq items ≡ None)
-    → IfSome r (λ seq. (n : ℕ) → n < seq → IsTakenIn items client n) → IfSome r (λ seq. WasAsked items client seq)
-each_asked items outcomes client most None legal e below untaken before = tt
-each_asked items outcomes client most (Some seq) legal e below untaken before = was_asked items outcomes client seq legal (record { is_asked = subst (λ n. seq < n) e below; untaken = untaken; before = before })
+pub each_asked : (items : List Item) (outcomes : List (Option Outcome)) (client : ℕ) (r : Option ℕ)
+    → IsLegal items outcomes → IfSome r (λ seq. IsOldest items client seq)
+    → IfSome r (λ seq. WasAsked items client seq)
+each_asked items outcomes client None legal oldest = tt
+each_asked items outcomes client (Some seq) legal oldest = was_asked items outcomes client seq legal oldest
+
+-- an asked body is below the number of those that were asked
+pub asked_below : (items : List Item) (outcomes : List (Option Outcome)) (client seq : ℕ) → IsLegal items outcomes
+    → WasAsked items client seq → seq < asked client items
+asked_below items outcomes client seq legal was =
+    let body = was.untaken in
+    let below = (apart items legal.asks_follow_plans.count).below was.number body.claim body.ask.there in
+    subst (λ (n : ℕ). n < asked client items) body.ask.same_seq
+    (subst (λ (c : ℕ). body.claim.seq < asked c items) body.ask.same_client below)
 
 -- ---- whoever has no outcome is waited for
 

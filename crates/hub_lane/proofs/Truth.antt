@@ -33,7 +33,7 @@ use Rattle.lane_record.specs.Claims.{IsFinished, claims, taken}
 use Rattle.lane_record.specs.Legal.{IsLegal}
 use Rattle.lane_record.specs.FirstSends.{bodies_sent, first_sends, places_of}
 use Rattle.lane_record.specs.Offers.{Agrees}
-use Rattle.lane_record.specs.Bounds.{AreLostOnlyIf, HasReached}
+use Rattle.lane_record.specs.Bounds.{AreLostOnlyIf, HasReached, TellRounds}
 use Rattle.hub_lane.specs.Lanes.{BoardStatus, IsLane}
 use Rattle.hub_lane.specs.Standing.{IsHandedFate, IsRunning, IsStanding}
 use Rattle.hub_lane.specs.Truth.{IsTrueTo, IsWhole}
@@ -162,6 +162,8 @@ whole settings status hub items outcomes give_ups down spent telling faults quie
       few = (let h = is.kept.few in rw (← same) h);
       waited = less_waited ((hub.rounds + 1) * give_ups) hub.status_requests quiets is.waited;
       lost = subst (AreLostOnlyIf (1 ≤ faults)) same (still_lost (down ≡ true) (1 ≤ faults) outcomes is.fault is.lost);
+      tells = subst (λ (r : ℕ). TellRounds r (taken items)) (sym is.knows.rounds)
+          (subst (TellRounds settings.rounds) same is.tells);
       truth = if_told (IsStanding (down || spent) settings hub outcomes)
           (λ t. IsTrueTo t (bodies_sent (first_sends items)) (taken items)) telling is.standing
           (λ t standing. subst (λ (bs : List (List ℕ)). IsTrueTo t bs (taken items)) bodies

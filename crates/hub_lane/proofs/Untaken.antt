@@ -20,11 +20,11 @@ both_and false b c = refl
 pub took_of_one : (client seq : ℕ) (x : Item) → is_some (found took_in client seq (x ∷ [])) ≡ ((x.client == client) && ((x.seq == seq) && is_some (took_in x.what)))
 took_of_one client seq x = one_found ((x.client == client) && (x.seq == seq)) (took_in x.what) ∙ both_and (x.client == client) (x.seq == seq) (is_some (took_in x.what))
 
-or_left : {A : Type 0} (o p : Option A) → is_some o ≡ true → is_some (option_or o p) ≡ true
+pub or_left : {A : Type 0} (o p : Option A) → is_some o ≡ true → is_some (option_or o p) ≡ true
 or_left None p e = cc
 or_left (Some x) p e = refl
 
-or_right : {A : Type 0} (o p : Option A) → is_some p ≡ true → is_some (option_or o p) ≡ true
+pub or_right : {A : Type 0} (o p : Option A) → is_some p ≡ true → is_some (option_or o p) ≡ true
 or_right None p e = e
 or_right (Some x) p e = refl
 

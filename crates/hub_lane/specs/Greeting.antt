@@ -71,6 +71,15 @@ gots_of_answer (answer.Told status) count = one_more count
 gots_of_answer answer.Nothing count = count
 gots_of_answer answer.Other count = one_more count
 
+abbrev pub IfNothing : Answer → Type 0 → Type 0
+IfNothing (answer.Told status) P = Unit {0}
+IfNothing answer.Nothing P = P
+IfNothing answer.Other P = Unit {0}
+
+-- no datagram was handed out
+abbrev pub HandedOutNone : Telling → Telling → Type 0
+HandedOutNone old new = new.handed ≡ old.handed
+
 -- ---- a round
 
 -- Over a link that tells, a round ends with the status of the board, or with a quiet receive, and then datagrams were

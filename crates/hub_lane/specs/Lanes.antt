@@ -18,7 +18,7 @@ use Rattle.lane_record.specs.declared.outcome.Outcome.{Outcome}
 use Rattle.lane_record.specs.declared.item.Item.{Item}
 use Rattle.lane_record.specs.Items.{plan_in}
 use Rattle.lane_record.specs.Claims.{claims}
-use Rattle.lane_record.specs.Bounds.{AreLostOnlyIf, HasWaited, IsKept}
+use Rattle.lane_record.specs.Bounds.{AreLostOnlyIf, HasWaited, IsKept, TellRounds}
 use Rattle.lane_record.specs.Offers.{Agrees}
 use Rattle.hub_lane.specs.Standing.{IsStanding}
 
@@ -30,6 +30,12 @@ pub record BoardStatus : Type 0 where
 
 abbrev pub status_of : Status → BoardStatus
 status_of s = record { mtu = s.mtu; buffers = s.buffers; next = s.next }
+
+-- This board told this status before it executed anything.
+pub record HasToldStatus (status : BoardStatus) (board : Board) : Type 0 where
+  pub mtu : status.mtu ≡ board.mtu
+  pub buffers : status.buffers ≡ board.buffers
+  pub next : status.next ≡ board.first
 
 -- A lane: its link, the settings and the status told at the greeting, its engine's hub, its record, what became of each
 -- Ask in order, how often it gave up, whether its link failed, and whether it ran out of memory in a pump.
@@ -89,7 +95,8 @@ pub record IsReady (asks : ℕ) (hub : Hub) : Type 0 where
 
 -- What holds of a lane. The record is legal, and gives up, times out and waits by the numbers of its link; the hub was
 -- offered the bodies of the Asks in order, and waits for those without an outcome, unless its link failed; a body is
--- lost only where the link failed; and over a link that tells, hub, board and air are a state of a run of the world.
+-- lost only where the link failed, and one that was timed out tells the rounds of the settings; and over a link that
+-- tells, hub, board and air are a state of a run of the world, and the status is that of the board.
 pub record IsLane (settings : Limits) (status : BoardStatus) (hub : Hub) (items : List Item)
     (outcomes : List (Option Outcome)) (give_ups : ℕ) (down spent : Bool) (telling : Option Telling)
     (faults quiets : ℕ) : Type 0 where
@@ -103,14 +110,14 @@ pub record IsLane (settings : Limits) (status : BoardStatus) (hub : Hub) (items 
   pub fits : AllByRecursion (IsFittingPlan (payload_of status.mtu)) items
   pub fault : down ≡ true → 1 ≤ faults
   pub lost : AreLostOnlyIf (down ≡ true) outcomes
+  pub tells : TellRounds settings.rounds outcomes
   pub standing : IfSome telling (IsStanding (down || spent) settings hub outcomes)
+  pub told : IfSome telling (λ (t : Telling). HasToldStatus status t.told.board)
 
 -- a link that tells, after a greeting in which its board told this status: a run can begin there
 pub record IsGreeted (settings : Limits) (status : BoardStatus) (t : Telling) : Type 0 where
   pub begins : IsStart settings.window t.told.board t.told.air
-  pub mtu : status.mtu ≡ t.told.board.mtu
-  pub buffers : status.buffers ≡ t.told.board.buffers
-  pub next : status.next ≡ t.told.board.first
+  pub told : HasToldStatus status t.told.board
 
 -- a lane before its first entry
 abbrev pub opened : {L : Type 0} → L → Limits → BoardStatus → LaneState L

@@ -14,7 +14,7 @@ use Rattle.lane_record.specs.Lists.{CountsFrom}
 use Rattle.lane_record.specs.Claims.{taken}
 use Rattle.lane_record.specs.Legal.{IsLegal}
 use Rattle.lane_record.specs.FirstSends.{bodies_sent, first_sends, places_of}
-use Rattle.lane_record.specs.Bounds.{AreLostOnlyIf, AreWithin, HasReached, timeouts}
+use Rattle.lane_record.specs.Bounds.{AreLostOnlyIf, AreWithin, HasReached, TellRounds, timeouts}
 use Rattle.hub_lane.specs.Standing.{WasHanded}
 
 -- These outcomes have, for each body that was replied, the words that the board gives at its place: those of a bus with
@@ -33,7 +33,8 @@ pub record IsTrueTo (t : Telling) (bodies : List (List ℕ)) (outcomes : List (O
 
 -- What a lane's record says where each Ask has its Took: it is legal; its first sends have the places 1, 2, 3, .. and
 -- are the bodies that the hub sent; what was timed out, and the quiet receives that each give-up took, are within the
--- bounds; a body is lost only where the link failed; and over a link that tells the record is true.
+-- bounds; a body is lost only where the link failed, and one that was timed out tells the rounds of the hub; and over a
+-- link that tells the record is true.
 pub record IsWhole (items : List Item) (sent : List Offered) (window rounds give_ups faults quiets : ℕ)
     (telling : Option Telling) : Type 0 where
   pub legal : IsLegal items (taken items)
@@ -43,4 +44,5 @@ pub record IsWhole (items : List Item) (sent : List Offered) (window rounds give
   pub few : timeouts (taken items) ≤ window * give_ups
   pub waited : HasReached ((rounds + 1) * give_ups) quiets
   pub lost : AreLostOnlyIf (1 ≤ faults) (taken items)
+  pub tells : TellRounds rounds (taken items)
   pub truth : IfSome telling (λ t. IsTrueTo t (bodies_sent (first_sends items)) (taken items))

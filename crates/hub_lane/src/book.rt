@@ -12,7 +12,8 @@ ghost use Rattle.lane_record.specs.NextEntry.{ask_of, plan_of, the_seal, took_of
 ghost use Rattle.lane_record.specs.Coding.{entry_of};
 ghost use Rattle.hub_lane.specs.Plans.{IsFull, most_bodies, most_words, planned_bodies, planned_words};
 
-use crate::rows::{ClientRow, add_ask, add_plan, next_place, row_at};
+use crate::oldest::oldest_of;
+use crate::rows::{ClientRow, add_ask, add_plan, add_took, next_place, row_at};
 use ipb_base::{NoMemory, Words};
 use lane_record::{Item, Outcome, What};
 use std::alloc::Global;
@@ -56,6 +57,7 @@ impl Model for Book {
 
 impl Book {
     ghost use Rattle.hub_lane.specs.Books.{IsPosition, HasMorePlans};
+    ghost use Rattle.hub_lane.specs.Step.{HasTakenAll, IsOldest};
 
     /// A record without entries, with room for the Seal.
     pub(crate) fn new(alloc: Global) -> Result<Book, NoMemory>
@@ -84,13 +86,6 @@ impl Book {
         ensures { result.now ≡ map entry_of self.now.items }
     {
         self.entries.as_slice()
-    }
-
-    /// The entries, with their contents.
-    pub(crate) fn items(&self) -> &[Item]
-        ensures { result.now ≡ self.now.items }
-    {
-        self.items.as_slice()
     }
 
     /// Whether planning was closed.
@@ -139,6 +134,17 @@ impl Book {
         match &item.what {
             What::Plan { body } => Some(body),
             _ => unreachable!(),
+        }
+    }
+
+    /// The client's oldest body that was asked and not taken.
+    pub(crate) fn oldest(&self, client: u32) -> Option<u64>
+        ensures some { IfSome result (λ seq. IsOldest self.now.items client seq) }
+        ensures none { IfNone result (HasTakenAll self.now.items client) }
+    {
+        match row_at(&self.rows, client) {
+            Some(at) => oldest_of(&self.items, client, &self.rows[at]),
+            None => None,
         }
     }
 
@@ -227,11 +233,13 @@ impl Book {
         seq
     }
 
-    /// Adds a Took.
+    /// Adds a Took of a body that was asked.
     pub(crate) fn take(&mut self, client: u32, seq: u64, outcome: Outcome, give_ups: u64)
         requires room { 2 ≤ self.old.room }
+        requires asked { seq < asked client self.old.items }
         ensures { self.new.items ≡ self.old.items ++ took_of client seq outcome give_ups ∷ [] }
     {
+        add_took(&mut self.rows, client, seq);
         put(
             &mut self.entries,
             &mut self.items,

@@ -8,7 +8,8 @@ ghost use Rattle.status_packet.specs.Range.{IsBufferCount, IsMtu};
 ghost use Rattle.status_packet.specs.StatusBytes.{IsStatusReply};
 ghost use Rattle.hub_lane.specs.Greeting.{CanBegin, EndsAskingWith, EndsGreetingWith, EndsRoundWith, IfDown, IfNotTold};
 ghost use Rattle.hub_lane.specs.Greeting.{IfReady, IfSilent, IfTold, IsCounted, IsDatagram, IsHeardFrom, IsTold};
-ghost use Rattle.hub_lane.specs.Greeting.{IsUnused, StaysFresh, gots_of_answer, link_of, quiets_of_answer};
+ghost use Rattle.hub_lane.specs.Greeting.{HandedOutNone, IfNothing, IsUnused, StaysFresh, gots_of_answer, link_of};
+ghost use Rattle.hub_lane.specs.Greeting.{quiets_of_answer};
 ghost use Rattle.hub_lane.specs.Lanes.{IsGreeted, opened, status_of};
 
 use crate::lane::Lane;
@@ -60,6 +61,12 @@ impl<L: Link> Lane<L> {
             × (64 * settings.rounds ≤ 64 * L.quiets link + L.gots link)) }
         ensures silent_told { IfSilent result (λ link rounds. IfSome (L.telling link)
             (λ _. (settings.rounds ≤ L.quiets link) × (settings.rounds ≤ L.held link))) }
+        // All that a link that tells hands out in a greeting are status replies of its board.
+        ensures silent_heard { IfSilent result (λ after rounds.
+            IfTelling (L.telling link) (L.telling after) HandedOutNone) }
+        ensures heard { IfReady result (λ lane. 1 ≤ L.gots lane.link) }
+        ensures most_quiets { L.quiets (link_of result) ≤ settings.rounds }
+        ensures most_gots { L.gots (link_of result) ≤ 64 * settings.rounds }
         ensures down { IfDown result (λ after. Rose (L.faults link) (L.faults after)) }
         ensures faults { L.faults link ≤ L.faults (link_of result) }
     {
@@ -104,6 +111,11 @@ fn ask_for_status<L: Link>(
         (EndsGreetingWith settings (L.quiets link.new) (L.held link.new) found)) }
     ensures silent { IfOk result (λ found. IfNotTold found
         (64 * settings.rounds ≤ 64 * L.quiets link.new + L.gots link.new)) }
+    ensures handed { IfOk result (λ found. IfNotTold found
+        (IfTelling (L.telling link.old) (L.telling link.new) HandedOutNone)) }
+    ensures heard { IfOk result (λ found. IfSome found (λ _. 1 ≤ L.gots link.new)) }
+    ensures most_quiets { L.quiets link.new ≤ settings.rounds }
+    ensures most_gots { L.gots link.new ≤ 64 * settings.rounds }
     ensures failed { result ≡ Err LinkFault.Failed → Rose (L.faults link.old) (L.faults link.new) }
     ensures faults { L.faults link.old ≤ L.faults link.new }
 {
@@ -129,6 +141,9 @@ fn ask_once<L: Link>(
         (EndsAskingWith settings (L.quiets link.old) (L.quiets link.new) (L.held link.old) (L.held link.new) found)) }
     ensures counted { IfOk result (λ found. IfNotTold found
         (IsCounted (L.quiets link.old) (L.quiets link.new) (L.gots link.old) (L.gots link.new))) }
+    ensures handed { IfOk result (λ found. IfNotTold found
+        (IfTelling (L.telling link.old) (L.telling link.new) HandedOutNone)) }
+    ensures heard { IfOk result (λ found. IfSome found (λ _. L.gots link.old + 1 ≤ L.gots link.new)) }
     ensures quiets { L.quiets link.new ≤ L.quiets link.old + 1 }
     ensures quiets_rise { L.quiets link.old ≤ L.quiets link.new }
     ensures gots { L.gots link.new ≤ L.gots link.old + 64 }
@@ -157,6 +172,9 @@ fn listen<L: Link>(
         (EndsRoundWith settings (L.quiets link.old) (L.quiets link.new) (L.held link.old) (L.held link.new) found)) }
     ensures counted { IfOk result (λ found. IfNotTold found
         (IsCounted (L.quiets link.old) (L.quiets link.new) (L.gots link.old) (L.gots link.new))) }
+    ensures handed { IfOk result (λ found. IfNotTold found
+        (IfTelling (L.telling link.old) (L.telling link.new) HandedOutNone)) }
+    ensures heard { IfOk result (λ found. IfSome found (λ _. L.gots link.old + 1 ≤ L.gots link.new)) }
     ensures quiets { L.quiets link.new ≤ L.quiets link.old + 1 }
     ensures quiets_rise { L.quiets link.old ≤ L.quiets link.new }
     ensures gots { L.gots link.new ≤ L.gots link.old + 64 }
@@ -189,6 +207,8 @@ fn hear_once<L: Link>(
     ensures same_quiets { OnErr result (L.quiets link.new ≡ L.quiets link.old) }
     ensures gots { IfOk result (λ heard. L.gots link.new ≡ gots_of_answer heard (L.gots link.old)) }
     ensures same_gots { OnErr result (L.gots link.new ≡ L.gots link.old) }
+    ensures handed { IfOk result (λ heard. IfNothing heard
+        (IfTelling (L.telling link.old) (L.telling link.new) HandedOutNone)) }
     ensures failed { result ≡ Err LinkFault.Failed → Rose (L.faults link.old) (L.faults link.new) }
     ensures faults { L.faults link.old ≤ L.faults link.new }
     ensures held { L.held link.old ≤ L.held link.new }

@@ -337,7 +337,7 @@ impl<L: Link> Lane<L> {
         an_ask_is_of_its_plan();
         entries_go_into_the_book();
         let Some(at) = self.book.ask_at(client, seq) else {
-            return Ok(Taken::NotYet);
+            unreachable!()
         };
         let Some(outcome) = &self.outcomes[at] else {
             return Ok(Taken::NotYet);

@@ -1,6 +1,7 @@
 //! Laws of lanes. These functions do nothing when they run: their clauses are what is proved.
 
 ghost use Rattle.std.specs.Prelude.{◌≡◌, ℕ, Bool, List, Option};
+ghost use Rattle.hub_lane.specs.Records.{record_shown};
 ghost use Rattle.world_model.specs.Hub.{Hub};
 ghost use Rattle.world_model.specs.Facts.{bodies_of};
 ghost use Rattle.reliable_engine.specs.Settings.{Limits};
@@ -10,11 +11,12 @@ ghost use Rattle.hub_lane.specs.declared.book.TheConstants.{MAX_BODIES, MAX_WORD
 ghost use Rattle.hub_lane.specs.Plans.{most_bodies, most_words};
 ghost use Rattle.hub_lane.specs.Standing.{IsStanding};
 ghost use Rattle.hub_lane.specs.Truth.{IsTrueTo, IsWhole};
-ghost use Rattle.hub_lane.specs.Lanes.{BoardStatus, IsLane};
+ghost use Rattle.hub_lane.specs.Lanes.{BoardStatus, IsLane, opening_of};
 ghost use Rattle.lane_record.specs.Claims.{IsFinished};
 ghost use Rattle.lane_record.specs.declared.item.Item.{Item};
 
 use crate::book::{MAX_BODIES, MAX_WORDS};
+use lane_record::laws::coding::{a_head_is_spelled_by_numbers, an_entry_is_spelled_by_numbers};
 use lane_record::laws::finished::{
     a_finished_record_tells_all, a_hub_has_sent_what_a_finished_record_tells,
 };
@@ -48,4 +50,18 @@ pub fn a_finished_lane_is_whole()
     a_finished_record_tells_all();
     a_hub_has_sent_what_a_finished_record_tells();
     a_lane_over_a_link_that_tells_is_true();
+}
+
+/// The record of a lane, as whoever hands lanes on sees it, tells the settings, the status that the board told, the bus
+/// with which the board of a link that tells opened, and the entries: lanes with the same record have all these alike.
+pub fn a_record_tells_its_lane()
+    ensures { (settings other_settings : Limits) (status other_status : BoardStatus)
+        (telling other_telling : Option Telling) (items other_items : List Item)
+        → record_shown settings status telling items
+        ≡ record_shown other_settings other_status other_telling other_items
+        → (settings ≡ other_settings) × (status ≡ other_status) × (opening_of telling ≡ opening_of other_telling)
+        × (items ≡ other_items) }
+{
+    a_head_is_spelled_by_numbers();
+    an_entry_is_spelled_by_numbers();
 }

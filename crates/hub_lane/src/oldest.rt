@@ -2,19 +2,41 @@
 
 ghost use Rattle.std.specs.Prelude.{◌≡◌, ◌<◌, ◌≤◌, ℕ, [], ◌∷◌, None, is_some, IfSome, IfNone};
 ghost use Rattle.lane_record.specs.Items.{found, took_in};
+ghost use Rattle.hub_lane.specs.Books.{TellsTaken};
 ghost use Rattle.hub_lane.specs.Step.{IsAfterOne, IsTakenIn};
 
+use crate::rows::ClientRow;
 use lane_record::{Item, What};
 
-/// The least number below `asked` of a body that the client did not take. A client that takes in order costs two looks
-/// through the entries.
-pub(crate) fn oldest_of(items: &[Item], client: u32, asked: u64) -> Option<u64>
+/// The least number of an asked body that the client of this row did not take. A client that takes in order costs no
+/// look through the entries.
+pub(crate) fn oldest_of(items: &[Item], client: u32, row: &ClientRow) -> Option<u64>
+    requires taken { TellsTaken items.now client row.now.taken row.now.is_in_order }
+    ensures below { IfSome result (λ seq. seq < row.now.asked) }
+    ensures untaken { IfSome result (λ seq. found took_in client seq items.now ≡ None) }
+    ensures before { IfSome result (λ seq. (n : ℕ) → n < seq → IsTakenIn items.now client n) }
+    ensures all { IfNone result ((n : ℕ) → n < row.now.asked → IsTakenIn items.now client n) }
+{
+    let asked = row.asked() as u64;
+    let taken = row.taken();
+    if asked <= taken {
+        return None;
+    }
+    if row.is_in_order() {
+        return Some(taken);
+    }
+    oldest_from(items, client, taken, asked)
+}
+
+/// The least number below `asked` of a body that the client did not take. Every body below `from` was taken.
+fn oldest_from(items: &[Item], client: u32, from: u64, asked: u64) -> Option<u64>
+    requires taken { (n : ℕ) → n < from → IsTakenIn items.now client n }
     ensures below { IfSome result (λ seq. seq < asked) }
     ensures untaken { IfSome result (λ seq. found took_in client seq items.now ≡ None) }
     ensures before { IfSome result (λ seq. (n : ℕ) → n < seq → IsTakenIn items.now client n) }
     ensures all { IfNone result ((n : ℕ) → n < asked → IsTakenIn items.now client n) }
 {
-    let mut seq = 0;
+    let mut seq = from;
     while seq < asked {
         let next = after_taken(items, client, seq, asked);
         if next == seq {

@@ -4,7 +4,6 @@ ghost use Rattle.std.specs.Prelude.{◌≡◌, ◌+◌, ◌<◌, ◌≤◌, ◌^
 ghost use Rattle.std.specs.Prelude.{List};
 ghost use Rattle.lane_record.specs.Bounds.{timeouts};
 ghost use Rattle.lane_record.specs.Offers.{all_lost, lost_after, outcome_of, put, put_all};
-ghost use Rattle.lane_record.specs.Outcomes.{is_sent};
 ghost use Rattle.hub_lane.specs.Hearing.{give_ups_of};
 ghost use Rattle.hub_lane.specs.Calls.{IsReplyAt, IsReplyOf, is_lost_at_place, is_replied};
 ghost use Rattle.hub_lane.specs.Sends.{handed_out};
@@ -81,7 +80,7 @@ pub(crate) fn lose_all(outcomes: &mut Vec<Option<Outcome>>, sent: u64)
     let mut place = 0;
     for at in 0..outcomes.len() {
         if let Some(outcome) = &outcomes[at] {
-            if is_sent(outcome) {
+            if outcome.is_sent() {
                 place += 1;
             }
         } else if place < sent {
@@ -90,21 +89,6 @@ pub(crate) fn lose_all(outcomes: &mut Vec<Option<Outcome>>, sent: u64)
         } else {
             outcomes[at] = Some(Outcome::LinkLost { place: None });
         }
-    }
-}
-
-/// Whether a body with this outcome was sent.
-fn is_sent(outcome: &Outcome) -> bool
-    ensures { result ≡ is_sent outcome.now }
-{
-    match outcome {
-        Outcome::Replied { place: _, words: _ } => true,
-        Outcome::TimedOut {
-            place: _,
-            rounds: _,
-        } => true,
-        Outcome::Unsent => false,
-        Outcome::LinkLost { place } => place.is_some(),
     }
 }
 

@@ -1,18 +1,21 @@
 //! The bodies of each client, client by client. A session has at most 64 clients, so rows are looked through.
 
 ghost use Rattle.std.specs.Prelude.{◌≡◌, OnOk, OnErr};
-ghost use Rattle.hub_lane.specs.Books.{HasNext, next_of, row_at, row_of, with_ask, with_plan};
+ghost use Rattle.hub_lane.specs.Books.{HasAsked, HasNext, next_of, row_at, row_of, with_ask, with_plan, with_took};
 
 use ipb_base::NoMemory;
 use std::alloc::Global;
 use std::marker::Model;
 
-/// The bodies of one client: where each of its Plans stands among the entries, and how many were asked.
+/// The bodies of one client: where each of its Plans stands among the entries, how many were asked, and a number below
+/// which every body was taken. While the client takes in order, no body from that number on was taken.
 #[derive(Drop)]
 pub(crate) struct ClientRow {
     client: u32,
     plans: Vec<usize>,
     asked: usize,
+    taken: u64,
+    is_in_order: bool,
 }
 
 impl Model for ClientRow {
@@ -20,16 +23,23 @@ impl Model for ClientRow {
 
     ghost Value = { Row };
 
-    ghost view = { λ r. record { client = r.client; plans = r.plans.items; asked = r.asked } };
+    ghost view = { λ r. record {
+      client = r.client;
+      plans = r.plans.items;
+      asked = r.asked;
+      taken = r.taken;
+      is_in_order = r.is_in_order;
+    } };
 }
 
 impl ClientRow {
     ghost use Rattle.std.specs.Prelude.{◌++◌, ◌∷◌, [], ◌+◌, ◌<◌, ◌^◌, IfOk, length, IfSome, IfNone, ◌≤◌};
     ghost use Rattle.std.specs.List.{slice_get};
+    ghost use Rattle.hub_lane.specs.Books.{after_took, first_row};
 
     /// The row of a client with one Plan.
     fn new(alloc: Global, client: u32, place: usize) -> Result<ClientRow, NoMemory>
-        ensures { IfOk result (λ row. row ≡ record { client = client; plans = place ∷ []; asked = 0 }) }
+        ensures { IfOk result (λ row. row ≡ first_row client place) }
     {
         let mut plans = Vec::new(alloc);
         plans.push(place)?;
@@ -37,6 +47,8 @@ impl ClientRow {
             client,
             plans,
             asked: 0,
+            taken: 0,
+            is_in_order: true,
         })
     }
 
@@ -58,6 +70,18 @@ impl ClientRow {
         self.asked += 1;
     }
 
+    /// Adds a Took of a body that was asked.
+    fn add_took(&mut self, seq: u64)
+        requires { seq < self.old.asked }
+        ensures { self.new ≡ after_took seq self.old }
+    {
+        let _asked = self.asked();
+        self.is_in_order = self.is_in_order && seq == self.taken;
+        if self.is_in_order {
+            self.taken += 1;
+        }
+    }
+
     /// Whose it is.
     pub(crate) fn client(&self) -> u32
         ensures { result ≡ self.now.client }
@@ -77,6 +101,20 @@ impl ClientRow {
         ensures { result ≡ self.now.asked }
     {
         self.asked
+    }
+
+    /// A number below which every body was taken.
+    pub(crate) fn taken(&self) -> u64
+        ensures { result ≡ self.now.taken }
+    {
+        self.taken
+    }
+
+    /// Whether no body from that number on was taken.
+    pub(crate) fn is_in_order(&self) -> bool
+        ensures { result ≡ self.now.is_in_order }
+    {
+        self.is_in_order
     }
 
     /// Where the next Plan that was not asked stands.
@@ -140,5 +178,16 @@ pub(crate) fn add_ask(rows: &mut Vec<ClientRow>, client: u32)
     if let Some(at) = row_at(rows, client) {
         let row = &mut rows[at];
         row.add_ask();
+    }
+}
+
+/// Adds a Took of a client's body, which was asked.
+pub(crate) fn add_took(rows: &mut Vec<ClientRow>, client: u32, seq: u64)
+    requires { HasAsked client seq rows.old.items }
+    ensures { rows.new.items ≡ with_took client seq rows.old.items }
+{
+    if let Some(at) = row_at(rows, client) {
+        let row = &mut rows[at];
+        row.add_took(seq);
     }
 }

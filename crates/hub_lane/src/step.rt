@@ -7,7 +7,6 @@ ghost use Rattle.hub_lane.specs.Step.{HasTakenAll, IsOldest, RoseInVain, StepsAs
 
 use crate::answers::Taken;
 use crate::lane::Lane;
-use crate::oldest::oldest_of;
 use ipb_base::NoMemory;
 use lane_record::Outcome;
 use world_core::Link;
@@ -66,6 +65,6 @@ impl<L: Link> Lane<L> {
         ensures asked { IfSome result (λ seq. WasAsked self.now.items client seq) }
         ensures none { IfNone result (HasTakenAll self.now.items client) }
     {
-        oldest_of(self.book.items(), client, self.book.asked(client))
+        self.book.oldest(client)
     }
 }

@@ -11,3 +11,4 @@ pub mod Boards
 pub mod Openings
 pub mod LaneCalls
 pub mod Submits
+pub mod AskedAll

@@ -1,8 +1,8 @@
 -- The passes of seats and of the master.
-use Rattle.std.proofs.Common.{◌≡◌, ◌+◌, ℕ, suc, List, [], ◌∷◌, length, map, refl, sym, ap, subst}
+use Rattle.std.proofs.Common.{◌≡◌, ◌+◌, ℕ, suc, List, [], ◌∷◌, length, map, refl, sym, ap, ◌∙◌, subst}
 use Rattle.std.specs.List.{AllByRecursion}
 use Rattle.std.proofs.lemmas.List.{length-map}
-use Rattle.turn_pass.specs.Pass.{PassState, newcomer, one_more_made, taking_in}
+use Rattle.turn_pass.specs.Pass.{Knowledge, PassState, newcomer, one_more_made, taking_in}
 use Rattle.hub_multiplexer.specs.Ends.{HasAllJoined, IsLast, IsMaster, IsRoomPass}
 use Rattle.hub_multiplexer.specs.Seats.{IsFirst, IsIdle, after_join, after_split, knows_after_join, knows_of, split_off, turns_of}
 
@@ -66,6 +66,14 @@ pub knows_joined : (passes others : List PassState) → knows_of (after_join pas
 knows_joined [] others = refl
 knows_joined (p ∷ ps) [] = refl
 knows_joined (p ∷ ps) (q ∷ qs) = ap (λ l. taking_in p.knows q.knows ∷ l) (knows_joined ps qs)
+
+-- what the passes of a client know has its number, and there is something known of each turn
+pub numbers_idle : (client : ℕ) (passes : List PassState) → AllByRecursion (IsIdle client) passes → AllByRecursion (λ (k : Knowledge). k.number ≡ client) (knows_of passes)
+numbers_idle client [] a = tt
+numbers_idle client (p ∷ ps) a = (a.0.has_number, numbers_idle client ps a.1)
+
+pub as_many_known : (passes : List PassState) → length (knows_of passes) ≡ length (turns_of passes)
+as_many_known passes = length-map passes (λ (p : PassState). p.knows) ∙ sym (length-map passes (λ (p : PassState). p.turn))
 
 -- at the end
 pub last_of : (made : ℕ) (passes : List PassState) → AllByRecursion (IsFirst made) passes → AllByRecursion (λ (p : PassState). p.knows.mine ≡ []) passes → AllByRecursion HasAllJoined (knows_of passes) → AllByRecursion IsLast passes

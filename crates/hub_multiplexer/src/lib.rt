@@ -4,6 +4,7 @@
 mod answers;
 mod calls;
 mod hub;
+pub mod laws;
 mod master;
 mod own;
 mod passes;

@@ -1,6 +1,6 @@
 //! Who makes the seats, and takes them in.
 
-ghost use Rattle.std.specs.Prelude.{◌≡◌, ◌<◌, ◌+◌, ◌-◌, ◌^◌, ℕ, map, IfOk, OnErr};
+ghost use Rattle.std.specs.Prelude.{◌≡◌, ◌<◌, ◌+◌, ◌-◌, ◌^◌, ℕ, length, map, IfOk, OnErr};
 ghost use Rattle.turn_pass.specs.Pass.{newcomer, one_more_made};
 ghost use Rattle.hub_multiplexer.specs.Ends.{HasTakenIn, IsMaster};
 ghost use Rattle.hub_multiplexer.specs.Seats.{IsMasterOf, IsSeatOf, knows_after_join, knows_of, turns_of};
@@ -56,6 +56,13 @@ impl Master {
             passes,
             room,
         }
+    }
+
+    /// The master knows of each turn. It does nothing when it runs.
+    pub fn knows_each_turn(&self)
+        ensures { length self.now.knows ≡ length self.now.turns }
+    {
+        let _ = &self.seats;
     }
 
     /// One seat more. Its client is its number among the seats, from 1, and the number of its pass on each board. It

@@ -1,5 +1,8 @@
 //! A client's place at a hub.
 
+ghost use Rattle.std.specs.Prelude.{◌≡◌, length};
+ghost use Rattle.std.specs.List.{AllByRecursion};
+
 use std::marker::Model;
 use turn_pass::Pass;
 
@@ -24,4 +27,15 @@ impl Model for Seat {
     } };
 
     ghost invariant = { λ seat. (1 ≤ seat.client) × AllByRecursion (IsIdle seat.client) seat.passes.items };
+}
+
+impl Seat {
+    /// The pass on each board has the number of the seat's client, and there is a pass for each turn. It does nothing
+    /// when it runs.
+    pub fn is_of_its_client(&self)
+        ensures numbers { AllByRecursion (λ k. k.number ≡ self.now.client) self.now.knows }
+        ensures boards { length self.now.knows ≡ length self.now.turns }
+    {
+        let _ = &self.client;
+    }
 }

@@ -7,6 +7,7 @@ pub mod Finished
 pub mod Offers
 pub mod Events
 pub mod Hearing
+pub mod Rounds
 pub mod Sends
 pub mod Kept
 pub mod Coding

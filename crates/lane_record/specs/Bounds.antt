@@ -1,10 +1,10 @@
 -- What a lane keeps of its give-ups. Profile.
 use Rattle.std.specs.Prelude.{◌≡◌, ℕ, ◌+◌, ◌*◌, ◌-◌, ◌^◌, ◌≤◌, ◌<◌, min, Bool, true, false, List, Option, Some}
-use Rattle.std.specs.Prelude.{None, [], ◌∷◌, if◌then◌else◌}
+use Rattle.std.specs.Prelude.{None, IfSome, [], ◌∷◌, if◌then◌else◌}
 use Rattle.std.specs.List.{AllByRecursion, slice_get}
 use Rattle.lane_record.specs.declared.outcome.Outcome.{Outcome}
 use Rattle.lane_record.specs.declared.item.Item.{Item}
-use Rattle.lane_record.specs.Outcomes.{is_given_up, is_timed_out, is_lost}
+use Rattle.lane_record.specs.Outcomes.{TellsRounds, is_given_up, is_timed_out, is_lost}
 use Rattle.lane_record.specs.Items.{give_ups}
 use Rattle.lane_record.specs.Claims.{Claim, claims}
 use Rattle.lane_record.specs.Legal.{IsLegal}
@@ -26,6 +26,10 @@ has_timed_out (Some outcome) = is_timed_out outcome
 abbrev pub timeouts : List (Option Outcome) → ℕ
 timeouts [] = 0
 timeouts (o ∷ os) = if has_timed_out o then 1 + timeouts os else timeouts os
+
+-- each body that was timed out tells so many rounds
+abbrev pub TellRounds : ℕ → List (Option Outcome) → Type 0
+TellRounds rounds outcomes = AllByRecursion (λ (o : Option Outcome). IfSome o (TellsRounds rounds)) outcomes
 
 -- a body is lost with the link only where this holds
 abbrev pub AreLostOnlyIf : Type 0 → List (Option Outcome) → Type 0

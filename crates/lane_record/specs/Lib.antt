@@ -7,5 +7,6 @@ pub mod FirstSends
 pub mod Bounds
 pub mod Offers
 pub mod NextEntry
+pub mod Dispatches
 pub mod Coding
 pub mod Examples

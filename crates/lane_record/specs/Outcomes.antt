@@ -1,5 +1,5 @@
 -- What an outcome tells of its body. Profile.
-use Rattle.std.specs.Prelude.{ℕ, Bool, true, false, Option, Some, None, is_some}
+use Rattle.std.specs.Prelude.{◌≡◌, ℕ, Bool, true, false, Option, Some, None, is_some}
 use Rattle.lane_record.specs.declared.outcome.Outcome.{Outcome}
 use Rattle.lane_record.specs.declared.outcome.Outcome.TheVariants.{Replied, TimedOut, Unsent, LinkLost}
 
@@ -34,6 +34,13 @@ is_lost (Replied place words) = false
 is_lost (TimedOut place rounds) = false
 is_lost Unsent = false
 is_lost (LinkLost place) = true
+
+-- A body that was timed out tells so many rounds: those after each of which nothing had come of it.
+abbrev pub TellsRounds : ℕ → Outcome → Type 0
+TellsRounds rounds (Replied place words) = Unit {0}
+TellsRounds rounds (TimedOut place told) = told ≡ rounds
+TellsRounds rounds Unsent = Unit {0}
+TellsRounds rounds (LinkLost place) = Unit {0}
 
 -- whether the body was sent
 abbrev pub is_sent : Outcome → Bool

@@ -19,6 +19,25 @@ pub enum Outcome {
     LinkLost { place: Option<u64> },
 }
 
+impl Outcome {
+    ghost use Rattle.lane_record.specs.Outcomes.{is_sent};
+
+    /// Whether the body was sent: then it has a place.
+    pub fn is_sent(&self) -> bool
+        ensures { result ≡ is_sent self.now }
+    {
+        match self {
+            Outcome::Replied { place: _, words: _ } => true,
+            Outcome::TimedOut {
+                place: _,
+                rounds: _,
+            } => true,
+            Outcome::Unsent => false,
+            Outcome::LinkLost { place } => place.is_some(),
+        }
+    }
+}
+
 /// What became of some bodies, in order. Contracts see that list.
 #[derive(Debug, Drop)]
 pub struct Outcomes {

@@ -1,7 +1,7 @@
 use Rattle.std.proofs.Common.{Ok, subst, ℕ, List}
 use Rattle.world_core.specs.declared.link.Received.{Received}
 use Rattle.world_core.specs.Telling.{IfTelling, Receives}
-use Rattle.hub_lane.proofs.Greetings.{fresh_on, got_told, quiet_told, TellsAll}
+use Rattle.hub_lane.proofs.Greetings.{fresh_on, got_told, handed_quiet, quiet_told, TellsAll}
 use Rattle.hub_lane.proofs.greeting.hear_once.Goals as goal
 
 pub returns-in_err-receive-clause-fresh : goal.returns-in_err-receive-clause-fresh
@@ -45,3 +45,13 @@ returns-in-Got-clause-told g c =
     (subst (λ (bytes : List ℕ). TellsAll bytes c.tell.result) c.deref.ensures.value c.tell.ensures.only)
     (held c.args.link.now) (held c.receive.new.self) (telling c.args.link.now)
     (telling c.receive.new.self) c.requires.begins got
+
+pub returns-in-Quiet-clause-handed : goal.returns-in-Quiet-clause-handed
+returns-in-Quiet-clause-handed g c =
+    let telling = g.L.Link.telling in
+    let held = g.L.Link.held in
+    handed_quiet c.receive.new.into.items (held c.args.link.now) (held c.receive.new.self) (telling c.args.link.now)
+    (telling c.receive.new.self)
+    (subst (λ (r : Received). IfTelling (telling c.args.link.now) (telling c.receive.new.self)
+    (Receives (Ok r) c.receive.new.into.items (held c.args.link.now) (held c.receive.new.self))) c.in-Quiet.is
+    c.in_ok-receive.ensures.received)

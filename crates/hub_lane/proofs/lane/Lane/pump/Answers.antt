@@ -39,7 +39,7 @@ invariant_of-self g c =
           (telling c.exchange.new.link) (faults c.exchange.new.link) (quiets c.exchange.new.link)
           (sym c.waiting.ensures ∙ c.if-not-waiting.false) c.in-Ok.ensures.event c.in-Ok.ensures.hub
           c.in-Ok.ensures.outcomes
-          c.in-Ok.ensures.give_ups c.in-Ok.ensures.quiets c.in-Ok.ensures.running).lane,
+          c.in-Ok.ensures.give_ups c.in-Ok.ensures.quiets c.in-Ok.ensures.running c.exchange.ensures.board).lane,
       pays_pumped l.down l.spent l.mtu l.settings.rounds l.give_ups c.exchange.new.give_ups l.engine c.exchange.new.hub
           (g.L.Link.held l.link) (g.L.Link.held c.exchange.new.link) (telling l.link) (telling c.exchange.new.link)
           c.if-self-2.false c.if-self.false c.self.invariant.0.knows.rounds (c.in-Ok.ensures.pays l.settings l.mtu
@@ -77,7 +77,8 @@ invariant_of-self-in-Err-Failed g c =
           (telling c.exchange.new.link) (faults c.exchange.new.link) (quiets c.exchange.new.link)
           c.in-Err-Failed.ensures.sent c.in-Err-Failed.ensures.stopped (c.exchange.ensures.failed (cc))
           (c.exchange.ensures.failed_quiets (cc))
-          c.in-Err-Failed.ensures.same_give_ups c.in-Err-Failed.ensures.same_outcomes c.sent.ensures c.lose_all.ensures,
+          c.in-Err-Failed.ensures.same_give_ups c.in-Err-Failed.ensures.same_outcomes c.sent.ensures c.lose_all.ensures
+          c.exchange.ensures.board,
       pays_stopped c.laws_of_rounds.ensures (l.down || l.spent) l.mtu l.settings.rounds l.give_ups
           c.exchange.new.give_ups
           l.engine c.exchange.new.hub (g.L.Link.held l.link) (g.L.Link.held c.exchange.new.link) (telling l.link)
@@ -113,7 +114,7 @@ invariant_of-self-in-Err-NoMemory g c =
           c.exchange.new.hub c.exchange.new.outcomes.items c.exchange.new.give_ups
           (telling c.exchange.new.link) (faults c.exchange.new.link) (quiets c.exchange.new.link)
           c.in-Err-NoMemory.ensures.sent c.in-Err-NoMemory.ensures.stopped c.exchange.ensures.quiets_rise
-          c.in-Err-NoMemory.ensures.same_give_ups c.in-Err-NoMemory.ensures.same_outcomes,
+          c.in-Err-NoMemory.ensures.same_give_ups c.in-Err-NoMemory.ensures.same_outcomes c.exchange.ensures.board,
       subst (λ (b : Bool). IfSome (telling c.exchange.new.link) (HasPaid (b || true) l.mtu l.settings.rounds
           c.exchange.new.give_ups c.exchange.new.hub (g.L.Link.held c.exchange.new.link))) (sym c.if-self-2.false)
           (pays_stopped c.laws_of_rounds.ensures (l.down || l.spent) l.mtu l.settings.rounds l.give_ups
@@ -150,7 +151,8 @@ returns-in-Ok-clause-same g c =
     c.exchange.new.hub c.exchange.new.buffer.items c.in-Ok.pumped c.exchange.new.outcomes.items c.exchange.new.give_ups
     (telling c.exchange.new.link) (faults c.exchange.new.link) (quiets c.exchange.new.link)
     (sym c.waiting.ensures ∙ c.if-not-waiting.false) c.in-Ok.ensures.event c.in-Ok.ensures.hub c.in-Ok.ensures.outcomes
-    c.in-Ok.ensures.give_ups c.in-Ok.ensures.quiets c.in-Ok.ensures.running in
+    c.in-Ok.ensures.give_ups c.in-Ok.ensures.quiets c.in-Ok.ensures.running
+    c.exchange.ensures.board in
     subst (λ (v : LaneState _). IsSameRecord v (record {
       link = c.exchange.new.link;
       settings = l.settings;

@@ -5,12 +5,21 @@ use Rattle.world_model.proofs.Lists.{get_within}
 use Rattle.lane_record.specs.declared.outcome.Outcome.{Outcome}
 use Rattle.lane_record.specs.declared.item.Item.{Item}
 use Rattle.lane_record.specs.Claims.{claims}
+use Rattle.lane_record.specs.Items.{asked}
 use Rattle.lane_record.specs.NextEntry.{took_of}
 use Rattle.hub_lane.specs.Books.{IsPosition}
 use Rattle.hub_lane.specs.Calls.{Takes, WasAsked}
 use Rattle.hub_lane.specs.Lanes.{BoardStatus, IsLane, LaneState}
 use Rattle.hub_lane.proofs.Lanes.{lane_entry}
+use Rattle.hub_lane.proofs.Steps.{asked_below}
 use Rattle.hub_lane.proofs.lane.Lane.take.Goals as goal
+
+pub take-requires-clause-asked : goal.take-requires-clause-asked
+take-requires-clause-asked g c =
+    let was = subst (λ (v : LaneState _). WasAsked v.items c.args.client c.args.seq) (sym c.self.view_is)
+    c.requires.asked in
+    subst (λ (xs : List Item). c.args.seq < asked c.args.client xs) (sym c.in_ok-reserve.ensures.items)
+    (asked_below c.self.inside.book.items _ c.args.client c.args.seq c.self.invariant.0.kept.legal was)
 
 pub invariant_of-self-2 : goal.invariant_of-self-2
 invariant_of-self-2 g c =
@@ -21,7 +30,7 @@ invariant_of-self-2 g c =
     let at = c.in-Some.at in
     let kept_is = c.in_ok-kept.kept in
     let x = took_of c.args.client c.args.seq kept_is l.give_ups in
-    let asked = subst (λ (v : LaneState _). WasAsked v.items c.args.client c.args.seq) (sym c.self.view_is)
+    let was = subst (λ (v : LaneState _). WasAsked v.items c.args.client c.args.seq) (sym c.self.view_is)
     c.requires.asked in
     let place = subst (λ (r : Option ℕ). IsPosition c.args.client c.args.seq items r) c.in-Some.is c.ask_at.ensures in
     let within : at < length outcomes = (let h = get_within (claims items) at place.0 place.1.there in
@@ -43,7 +52,7 @@ invariant_of-self-2 g c =
             k = at;
             claim = place.0;
             ask = place.1;
-            once = asked.untaken.once;
+            once = was.untaken.once;
             became = became;
           })) c.self.invariant.0),
       c.self.invariant.1,
@@ -58,7 +67,7 @@ returns-clause-taken g c =
     let at = c.in-Some.at in
     let answer = c.in_ok-answer.answer in
     let x = took_of c.args.client c.args.seq answer l.give_ups in
-    let asked = subst (λ (v : LaneState _). WasAsked v.items c.args.client c.args.seq) (sym c.self.view_is)
+    let was = subst (λ (v : LaneState _). WasAsked v.items c.args.client c.args.seq) (sym c.self.view_is)
     c.requires.asked in
     let place = subst (λ (r : Option ℕ). IsPosition c.args.client c.args.seq items r) c.in-Some.is c.ask_at.ensures in
     let within : at < length outcomes = (let h = get_within (claims items) at place.0 place.1.there in
@@ -85,7 +94,7 @@ returns-clause-taken g c =
       spent = l.spent;
     }) answer) c.self.view_is (record {
       number = at;
-      untaken = record { claim = place.0; ask = place.1; once = asked.untaken.once };
+      untaken = record { claim = place.0; ask = place.1; once = was.untaken.once };
       became = became;
       entry = ap (λ (xs : List Item). record {
         link = l.link;

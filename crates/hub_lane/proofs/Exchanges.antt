@@ -1,0 +1,371 @@
+-- Lemmas on what an exchange keeps of a lane, but how its hub stands to the link.
+use Rattle.std.proofs.Common.{◌≡◌, ℕ, ◌+◌, ◌*◌, ◌<◌, ◌≤◌, Bool, true, false, cond, List, [], ◌∷◌}
+use Rattle.std.proofs.Common.{length, map, Option, Some, refl, sym, ap, ◌∙◌, subst, arith, inl, inr, ◌||◌}
+use Rattle.std.specs.Prelude.{◌==◌, nat_lt}
+use Rattle.std.proofs.Math.Nat.{mul-add}
+use Rattle.ipb_base.specs.Faults.{one_more}
+use Rattle.world_model.specs.declared.offered.Fate.{Fate}
+use Rattle.world_model.specs.declared.offered.OpenPlace.{OpenPlace}
+use Rattle.world_model.specs.Messages.{ToHub, to_hub}
+use Rattle.world_model.specs.Hub.{Hub, give_up, hear_quiet, is_waiting, places, recover}
+use Rattle.world_model.specs.Hub.{some_queued, some_waited, take_message, want_status, without}
+use Rattle.world_model.specs.Sends.{Next, next_send}
+use Rattle.world_model.specs.Facts.{HasBodies, IsWindow}
+use Rattle.world_model.proofs.Lists.{either}
+use Rattle.world_model.proofs.Flushing.{message_cases, quiet_cases}
+use Rattle.reliable_engine.specs.Settings.{Limits}
+use Rattle.world_core.specs.Telling.{Telling}
+use Rattle.lane_record.specs.declared.outcome.Outcome.{Outcome}
+use Rattle.lane_record.specs.declared.outcome.Outcome.TheVariants as became
+use Rattle.lane_record.specs.declared.item.Item.{Item}
+use Rattle.lane_record.specs.Claims.{Claim, claims}
+use Rattle.lane_record.specs.FirstSends.{PlacesCount}
+use Rattle.lane_record.specs.Bounds.{AreLostOnlyIf, HasReached, HasWaited, IsKept, TellRounds, timeouts}
+use Rattle.lane_record.specs.Outcomes.{is_given_up, is_lost, is_replied}
+use Rattle.lane_record.specs.Offers.{AddsOnly, AgreesWith, KeepsOutcomes, Settles, put_all}
+use Rattle.lane_record.proofs.Rounds.{give_up_tells, message_tells}
+use Rattle.hub_lane.specs.declared.answers.Pumped.{Pumped}
+use Rattle.hub_lane.specs.declared.answers.Pumped.TheVariants.{Reply, Status, Stray, Quiet, Idle, LinkDown}
+use Rattle.hub_lane.specs.Hearing.{IsEventAs, give_ups_of, hub_after, quiets_of}
+use Rattle.hub_lane.specs.Lanes.{BoardStatus, IsLane, IsReady, KnowsBoard, waits}
+use Rattle.hub_lane.specs.Sends.{HasSent, handed_out}
+use Rattle.hub_lane.proofs.Linked.{SendKeepsBodies}
+use Rattle.hub_lane.proofs.Ready.{ready_sent, same_sent}
+use Rattle.hub_lane.proofs.Sends.{one_sent, sent_keeps}
+use Rattle.hub_lane.proofs.Rounds.{none_wait}
+use Rattle.hub_lane.proofs.Standing.{SameFates}
+use Rattle.hub_lane.proofs.Windows.{IsSameBut, IsWindowed, message_windowed, quiet_windowed}
+
+-- ---- sends
+
+abbrev pub SendAgrees : Type 0
+SendAgrees = (hub : Hub) (cs : List Claim) (os : List (Option Outcome)) (next : Next)
+    → IsWindow hub.window (length hub.sent) (places hub.open_places) → AgreesWith hub cs os
+    → next_send hub ≡ Some next → AgreesWith next.hub cs os
+
+pub record IsMid (asks : ℕ) (cs : List Claim) (os : List (Option Outcome)) (old mid : Hub) : Type 0 where
+  pub ready : IsReady asks mid
+  pub same : IsSameBut old mid
+  pub agrees : AgreesWith mid cs os
+
+record Both (asks : ℕ) (cs : List Claim) (os : List (Option Outcome)) (hub : Hub) : Type 0 where
+  ready : IsReady asks hub
+  agrees : AgreesWith hub cs os
+
+pub mid_sent : SameFates → SendKeepsBodies → SendAgrees → (asks : ℕ) (cs : List Claim) (os : List (Option Outcome))
+    (old mid : Hub) → HasSent old mid → IsReady asks old → AgreesWith old cs os → IsMid asks cs os old mid
+mid_sent fates bodies agree asks cs os old mid sent ready agrees =
+    let both = sent_keeps (Both asks cs os)
+    (λ hub next e is. record {
+      ready = ready_sent fates bodies asks hub next.hub (one_sent hub next e) is.ready;
+      agrees = agree hub cs os next is.ready.window is.agrees e;
+    }) old mid sent (record { ready = ready; agrees = agrees }) in
+    record { ready = both.ready; same = same_sent old mid sent; agrees = both.agrees }
+
+-- ---- what an event leaves
+
+pub record Leaves (old new : Hub) : Type 0 where
+  pub first : new.first ≡ old.first
+  pub window : new.window ≡ old.window
+  pub rounds : new.rounds ≡ old.rounds
+  pub fewer : waits new ≤ waits old
+  pub requests : new.status_requests ≤ old.status_requests
+
+some_less : (place : ℕ) (os : List OpenPlace) → some_waited (without place os) ≡ true → some_waited os ≡ true
+some_less place [] e = e
+some_less place (o ∷ os) e = elim o.waited as (λ b. o.waited ≡ b → (b || some_waited os) ≡ true) [
+  | true ↦ λ w. refl
+  | false ↦ λ w. either (λ (l : List OpenPlace). some_waited l ≡ true → some_waited os ≡ true) (o.place == place) _ _
+      (λ _ h. h)
+      (λ _ h. some_less place os (sym (ap (λ (b : Bool). b || some_waited (without place os)) w) ∙ h)) e
+] refl
+
+count_less : (q a b : Bool) → (a ≡ true → b ≡ true) → cond (q || a) 1 0 ≤ cond (q || b) 1 0
+count_less true a b h = omega arith
+count_less false false b h = omega arith
+count_less false true b h = rw (h refl) (omega arith)
+
+map_waits : (f : OpenPlace → OpenPlace) (os : List OpenPlace) → ((o : OpenPlace) → (f o).waited ≡ o.waited)
+    → some_waited (map f os) ≡ some_waited os
+map_waits f [] h = refl
+map_waits f (o ∷ os) h = rw (h o) (ap (λ (b : Bool). o.waited || b) (map_waits f os h))
+
+recover_waits : (told : ℕ) (o : OpenPlace) → (recover told o).waited ≡ o.waited
+recover_waits told o = either (λ (x : OpenPlace). x.waited ≡ o.waited) (nat_lt o.place told) _ _ (λ _. refl) (λ _. refl)
+
+pub message_leaves : (hub : Hub) (message : Option ToHub) → Leaves hub (take_message hub message)
+message_leaves hub message = message_cases (Leaves hub) hub message
+    (record { first = refl; window = refl; rounds = refl; fewer = omega arith; requests = omega arith })
+    (λ told. record {
+      first = refl;
+      window = refl;
+      rounds = refl;
+      fewer = (let h = map_waits (recover told) hub.open_places (recover_waits told) in
+          rw h (omega arith));
+      requests = omega arith;
+    })
+    (λ id words o is. record {
+      first = refl;
+      window = refl;
+      rounds = refl;
+      fewer = count_less (some_queued hub.queue) (some_waited (without o.place hub.open_places))
+          (some_waited hub.open_places) (some_less o.place hub.open_places);
+      requests = omega arith;
+    })
+
+-- ---- an exchange
+
+calm : (o : Outcome) → is_replied o ≡ true → is_lost o ≡ true → ⊥
+calm (became.Replied place words) r l = absurd cc
+calm (became.TimedOut place rounds) r l = absurd cc
+calm became.Unsent r l = absurd cc
+calm (became.LinkLost place) r l = absurd cc
+
+ended : (o : Outcome) → is_given_up o ≡ true → is_lost o ≡ true → ⊥
+ended (became.Replied place words) r l = absurd cc
+ended (became.TimedOut place rounds) r l = absurd cc
+ended became.Unsent r l = absurd cc
+ended (became.LinkLost place) r l = absurd cc
+
+still_lost : (P : Type 0) (kind : Outcome → Bool) (old new : List (Option Outcome))
+    → ((o : Outcome) → kind o ≡ true → is_lost o ≡ true → ⊥) → AddsOnly kind old new → AreLostOnlyIf P old
+    → AreLostOnlyIf P new
+still_lost P kind old new apart adds are = λ k o e lost. elim (adds k o e) [
+  | inl before ↦ are k o before lost
+  | inr new_kind ↦ absurd (apart o new_kind lost)
+]
+
+pub same_length : (cs : List Claim) (old new : List (Option Outcome)) → length old ≡ length cs → length new ≡ length cs
+    → length new ≡ length old
+same_length cs old new a b = b ∙ sym a
+
+ready_after : (asks asks_now : ℕ) (event : Hub) → asks_now ≡ asks → IsWindowed event → HasBodies asks event
+    → IsReady asks_now (handed_out event)
+ready_after asks asks_now event same window bodies = record {
+  drained = refl;
+  window = window;
+  bodies = record {
+    few = (let h = bodies.few in omega (arith, h, same));
+    sent = bodies.sent;
+    queue = bodies.queue;
+  };
+}
+
+abbrev pub RepliedLaw : Type 0
+RepliedLaw = (items : List Item) (old new : List (Option Outcome)) (window now : ℕ) → IsKept items old window now
+    → KeepsOutcomes old new → AddsOnly is_replied old new → PlacesCount (claims items) new → IsKept items new window now
+
+abbrev pub GaveUpLaw : Type 0
+GaveUpLaw = (items : List Item) (old new : List (Option Outcome)) (window now : ℕ) → IsKept items old window now
+    → KeepsOutcomes old new → timeouts new ≤ timeouts old + window → PlacesCount (claims items) new
+    → IsKept items new window (now + 1)
+
+abbrev pub MessageSettles : Type 0
+MessageSettles = (hub : Hub) (message : Option ToHub) (cs : List Claim) (os : List (Option Outcome))
+    → IsWindow hub.window (length hub.sent) (places hub.open_places) → hub.fates ≡ [] → AgreesWith hub cs os
+    → Settles (take_message hub message) cs os is_replied 0
+
+abbrev pub QuietSettles : Type 0
+QuietSettles = (hub : Hub) (cs : List Claim) (os : List (Option Outcome))
+    → IsWindow hub.window (length hub.sent) (places hub.open_places) → hub.fates ≡ [] → AgreesWith hub cs os
+    → Settles (hear_quiet hub) cs os is_given_up hub.window
+
+-- all that holds but how the hub stands to the link
+pub record IsAfter (settings : Limits) (status : BoardStatus) (hub : Hub) (items : List Item)
+    (old outcomes : List (Option Outcome)) (give_ups : ℕ) (quiets : ℕ) : Type 0 where
+  pub knows : KnowsBoard settings status hub
+  pub ready : IsReady (length outcomes) hub
+  pub agrees : AgreesWith hub (claims items) outcomes
+  pub kept : IsKept items outcomes hub.window give_ups
+  pub waited : HasWaited hub.rounds give_ups hub.status_requests quiets
+  pub fewer : give_ups + waits hub ≤ length outcomes
+  pub lost : AreLostOnlyIf (false ≡ true) outcomes
+  pub tells : TellRounds settings.rounds outcomes
+  pub keeps : KeepsOutcomes old outcomes
+
+knows_still : (settings : Limits) (status : BoardStatus) (old new : Hub) → new.first ≡ old.first
+    → new.window ≡ old.window → new.rounds ≡ old.rounds → KnowsBoard settings status old
+    → KnowsBoard settings status new
+knows_still settings status old new first window rounds is = record {
+  limits = is.limits;
+  mtu = is.mtu;
+  buffers = is.buffers;
+  identifier = is.identifier;
+  first = first ∙ is.first;
+  window = window ∙ is.window;
+  rounds = rounds ∙ is.rounds;
+}
+
+-- what holds of a lane whose sends went out
+pub mid_after : (settings : Limits) (status : BoardStatus) (hub mid : Hub) (items : List Item)
+    (outcomes : List (Option Outcome)) (give_ups : ℕ) (telling : Option Telling) (faults quiets : ℕ)
+    → IsMid (length outcomes) (claims items) outcomes hub mid
+    → IsLane settings status hub items outcomes give_ups false false telling faults quiets
+    → IsAfter settings status mid items outcomes outcomes give_ups quiets
+mid_after settings status hub mid items outcomes give_ups telling faults quiets at is = record {
+  knows = knows_still settings status hub mid at.same.first at.same.window at.same.rounds is.knows;
+  ready = at.ready;
+  agrees = at.agrees;
+  kept = subst (λ (w : ℕ). IsKept items outcomes w give_ups) (sym at.same.window) is.kept;
+  waited = (let r = at.same.rounds in let q = at.same.status_requests in rw (r, q) is.waited);
+  fewer = (let h = is.fewer in let same : waits mid ≡ waits hub =
+      ap (λ (b : Bool). cond b 1 0) at.same.waits in omega (arith, h, same));
+  lost = is.lost;
+  tells = is.tells;
+  keeps = λ k o e. e;
+}
+
+waited_less : (paid less more quiets : ℕ) → less ≤ more → HasReached (paid + more) quiets
+    → HasReached (paid + less) quiets
+waited_less paid less more quiets le is = omega (arith, le, is)
+
+asked_after : (settings : Limits) (status : BoardStatus) (mid : Hub) (items : List Item)
+    (outcomes : List (Option Outcome)) (give_ups quiets quiets_now : ℕ) → is_waiting mid ≡ true
+    → quiets_now ≡ one_more quiets → mid.status_requests < mid.rounds → HasBodies (length outcomes) (want_status mid)
+    → IsWindowed (want_status mid) → IsAfter settings status mid items outcomes outcomes give_ups quiets
+    → IsAfter settings status (handed_out (want_status mid)) items outcomes (put_all (want_status mid).fates outcomes)
+    (give_ups_of Quiet (want_status mid) give_ups) quiets_now
+asked_after settings status mid items outcomes give_ups quiets quiets_now waiting rose less bodies window is =
+    let none = is.ready.drained in
+    let outs : put_all mid.fates outcomes ≡ outcomes = ap (λ (fs : List (ℕ × Fate)). put_all fs outcomes) none in
+    let count : ◌≡◌ {A = ℕ} (cond (is_waiting mid) give_ups (give_ups + 1)) give_ups =
+    ap (λ (b : Bool). cond b give_ups (give_ups + 1)) waiting in
+    subst (λ (os : List (Option Outcome)). IsAfter settings status (handed_out (want_status mid)) items outcomes os
+    (cond (is_waiting mid) give_ups (give_ups + 1)) quiets_now) (sym outs)
+    (subst (λ (g : ℕ). IsAfter settings status (handed_out (want_status mid)) items outcomes outcomes g quiets_now)
+    (sym count) (record {
+      knows = knows_still settings status mid (handed_out (want_status mid)) refl refl refl is.knows;
+      ready = ready_after (length outcomes) (length outcomes) (want_status mid) refl window bodies;
+      agrees = is.agrees;
+      kept = is.kept;
+      waited = (let w = is.waited in omega (arith, w, rose));
+      fewer = is.fewer;
+      lost = is.lost;
+      tells = is.tells;
+      keeps = λ k o e. e;
+    }))
+
+mul_more : (w g : ℕ) → w * (g + 1) ≡ w * g + w
+mul_more w g = let a : w * 1 ≡ w = omega arith in mul-add w g 1 ∙ ap (λ (z : ℕ). w * g + z) a
+
+given_up_after : GaveUpLaw → (settings : Limits) (status : BoardStatus) (mid : Hub) (items : List Item)
+    (outcomes : List (Option Outcome)) (give_ups quiets quiets_now : ℕ) → is_waiting mid ≡ true
+    → quiets_now ≡ one_more quiets → mid.rounds ≤ mid.status_requests → HasBodies (length outcomes) (give_up mid)
+    → IsWindowed (give_up mid) → Settles (give_up mid) (claims items) outcomes is_given_up mid.window
+    → IsAfter settings status mid items outcomes outcomes give_ups quiets
+    → IsAfter settings status (handed_out (give_up mid)) items outcomes (put_all (give_up mid).fates outcomes)
+    (give_ups_of Quiet (give_up mid) give_ups) quiets_now
+given_up_after gave_up settings status mid items outcomes give_ups quiets quiets_now waiting rose more bodies window s
+    is =
+    let event = give_up mid in
+    let new = put_all event.fates outcomes in
+    let off = none_wait mid.open_places in
+    let count : ◌≡◌ {A = ℕ} (cond (is_waiting event) give_ups (give_ups + 1)) (give_ups + 1) =
+    ap (λ (b : Bool). cond b give_ups (give_ups + 1)) off in
+    let same = same_length (claims items) outcomes new is.agrees.counts.each s.agrees.counts.each in
+    let one : ◌≡◌ {A = ℕ} (waits mid) 1 = ap (λ (b : Bool). cond b 1 0) waiting in
+    let none : ◌≡◌ {A = ℕ} (waits event) 0 = ap (λ (b : Bool). cond b 1 0) off in
+    let paid = mul_more (mid.rounds + 1) give_ups in
+    subst (λ (g : ℕ). IsAfter settings status (handed_out event) items outcomes new g quiets_now)
+    (sym count) (record {
+      knows = knows_still settings status mid (handed_out event) refl refl refl is.knows;
+      ready = ready_after (length outcomes) (length new) event same window bodies;
+      agrees = s.agrees;
+      kept = gave_up items outcomes new mid.window give_ups is.kept s.keeps s.few s.agrees.counts;
+      waited = (let w = is.waited in omega (arith, w, rose, paid, more));
+      fewer = (let h = is.fewer in omega (arith, h, one, none, same));
+      lost = still_lost (false ≡ true) is_given_up outcomes new ended s.adds is.lost;
+      tells = subst (λ (rounds : ℕ). TellRounds rounds new) is.knows.rounds (give_up_tells mid outcomes is.ready.drained
+          (subst (λ (rounds : ℕ). TellRounds rounds outcomes) (sym is.knows.rounds) is.tells));
+      keeps = s.keeps;
+    })
+
+message_after : MessageSettles → RepliedLaw → (settings : Limits) (status : BoardStatus) (mid : Hub)
+    (message : Option ToHub) (items : List Item) (outcomes : List (Option Outcome)) (give_ups quiets : ℕ)
+    → HasBodies (length outcomes) (take_message mid message)
+    → IsAfter settings status mid items outcomes outcomes give_ups quiets
+    → IsAfter settings status (handed_out (take_message mid message)) items outcomes
+    (put_all (take_message mid message).fates outcomes) give_ups quiets
+message_after settles replied settings status mid message items outcomes give_ups quiets bodies is =
+    let event = take_message mid message in
+    let new = put_all event.fates outcomes in
+    let s = settles mid message (claims items) outcomes is.ready.window is.ready.drained is.agrees in
+    let same = same_length (claims items) outcomes new is.agrees.counts.each s.agrees.counts.each in
+    let l = message_leaves mid message in
+    record {
+      knows = knows_still settings status mid (handed_out event) l.first l.window l.rounds is.knows;
+      ready = ready_after (length outcomes) (length new) event same (message_windowed mid message is.ready.window)
+          bodies;
+      agrees = s.agrees;
+      kept = subst (λ (w : ℕ). IsKept items new w give_ups) (sym l.window)
+          (replied items outcomes new mid.window give_ups is.kept s.keeps s.adds s.agrees.counts);
+      waited = (let r = l.rounds in let q = l.requests in let w = is.waited in
+          rw r (waited_less ((mid.rounds + 1) * give_ups) event.status_requests mid.status_requests quiets q w));
+      fewer = (let h = is.fewer in let f = l.fewer in omega (arith, h, f, same));
+      lost = still_lost (false ≡ true) is_replied outcomes new calm s.adds is.lost;
+      tells = message_tells settings.rounds mid message outcomes is.ready.drained is.tells;
+      keeps = s.keeps;
+    }
+
+quiet_after : QuietSettles → GaveUpLaw → (settings : Limits) (status : BoardStatus) (mid : Hub)
+    (items : List Item) (outcomes : List (Option Outcome)) (give_ups quiets quiets_now : ℕ)
+    → is_waiting mid ≡ true → quiets_now ≡ one_more quiets
+    → HasBodies (length outcomes) (hear_quiet mid)
+    → IsAfter settings status mid items outcomes outcomes give_ups quiets
+    → IsAfter settings status (handed_out (hear_quiet mid)) items outcomes
+    (put_all (hear_quiet mid).fates outcomes) (give_ups_of Quiet (hear_quiet mid) give_ups) quiets_now
+quiet_after settles gave_up settings status mid items outcomes give_ups quiets quiets_now waiting rose bodies is =
+    let s = settles mid (claims items) outcomes is.ready.window is.ready.drained is.agrees in
+    let w = quiet_windowed mid is.ready.window in
+    quiet_cases (λ (event : Hub). HasBodies (length outcomes) event → IsWindowed event
+    → Settles event (claims items) outcomes is_given_up mid.window
+    → IsAfter settings status (handed_out event) items outcomes (put_all event.fates outcomes)
+    (give_ups_of Quiet event give_ups) quiets_now) mid
+    (λ less bodies_now window settled. asked_after settings status mid items outcomes give_ups quiets quiets_now waiting
+    rose less bodies_now window is)
+    (λ more bodies_now window settled. given_up_after gave_up settings status mid items outcomes give_ups quiets
+    quiets_now waiting rose more bodies_now window settled is)
+    bodies w s
+
+pub event_after : MessageSettles → RepliedLaw → QuietSettles → GaveUpLaw
+    → (settings : Limits) (status : BoardStatus) (mid : Hub) (bytes : List ℕ) (pumped : Pumped)
+    (items : List Item) (outcomes : List (Option Outcome)) (give_ups quiets : ℕ)
+    → ((message : Option ToHub) → HasBodies (length outcomes) (take_message mid message))
+    → HasBodies (length outcomes) (hear_quiet mid)
+    → is_waiting mid ≡ true → IsEventAs mid bytes pumped
+    → IsAfter settings status mid items outcomes outcomes give_ups quiets
+    → IsAfter settings status (handed_out (hub_after pumped bytes mid)) items outcomes
+    (put_all (hub_after pumped bytes mid).fates outcomes) (give_ups_of pumped (hub_after pumped bytes mid) give_ups)
+    (quiets_of pumped quiets)
+event_after settles replied quiet gave_up settings status mid bytes (Reply place) items outcomes give_ups quiets bodies
+    quiet_bodies waiting event is =
+    message_after settles replied settings status mid (to_hub bytes) items outcomes give_ups quiets (bodies (to_hub
+    bytes)) is
+event_after settles replied quiet gave_up settings status mid bytes Status items outcomes give_ups quiets bodies
+    quiet_bodies waiting event is =
+    message_after settles replied settings status mid (to_hub bytes) items outcomes give_ups quiets (bodies (to_hub
+    bytes)) is
+event_after settles replied quiet gave_up settings status mid bytes Stray items outcomes give_ups quiets bodies
+    quiet_bodies waiting event is =
+    message_after settles replied settings status mid (to_hub bytes) items outcomes give_ups quiets (bodies (to_hub
+    bytes)) is
+event_after settles replied quiet gave_up settings status mid bytes Quiet items outcomes give_ups quiets bodies
+    quiet_bodies waiting event is =
+    quiet_after quiet gave_up settings status mid items outcomes give_ups quiets (one_more quiets) waiting refl
+    quiet_bodies is
+event_after settles replied quiet gave_up settings status mid bytes Idle items outcomes give_ups quiets bodies
+    quiet_bodies waiting event is = absurd event
+event_after settles replied quiet gave_up settings status mid bytes LinkDown items outcomes give_ups quiets bodies
+    quiet_bodies waiting event is = absurd event
+
+more_after : (b : Bool) (n : ℕ) → n ≤ cond b n (n + 1)
+more_after true n = omega arith
+more_after false n = omega arith
+
+pub more_give_ups : (pumped : Pumped) (event : Hub) (n : ℕ) → n ≤ give_ups_of pumped event n
+more_give_ups (Reply place) event n = omega arith
+more_give_ups Status event n = omega arith
+more_give_ups Stray event n = omega arith
+more_give_ups Quiet event n = more_after (is_waiting event) n
+more_give_ups Idle event n = omega arith
+more_give_ups LinkDown event n = omega arith
