@@ -25,3 +25,9 @@ pub faults_rise : (result : Result Network RackFault) (rack : RackState) → rac
 faults_rise (Ok link) rack small = omega arith
 faults_rise (Err Failed) rack small = omega arith
 faults_rise (Err NoMemory) rack small = omega arith
+
+pub faults_stay : (result : Result Network RackFault) (rack : RackState) → (result ≡ Err Failed → ⊥)
+    → (after_make result rack).faults ≡ rack.faults
+faults_stay (Ok link) rack other = refl
+faults_stay (Err Failed) rack other = absurd (other refl)
+faults_stay (Err NoMemory) rack other = refl

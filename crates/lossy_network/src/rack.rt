@@ -1,6 +1,6 @@
 //! Racks of links: what makes them and keeps them once they are done with.
 
-ghost use Rattle.std.specs.Prelude.{◌≡◌, ◌↔◌, ◌≤◌, ◌<◌, ◌++◌, ◌∷◌, ℕ, List, [], length, true, Some, Ok, Err};
+ghost use Rattle.std.specs.Prelude.{◌≡◌, ◌≢◌, ◌↔◌, ◌≤◌, ◌<◌, ◌++◌, ◌∷◌, ℕ, List, [], length, true, Some, Ok, Err};
 ghost use Rattle.std.specs.Prelude.{IfOk, OnErr};
 ghost use Rattle.ipb_base.specs.Faults.{Rose};
 ghost use Rattle.lossy_network.specs.Racks.{IsMakeable, made_after, telling_for};
@@ -60,6 +60,7 @@ pub trait Rack {
         ensures none_held { IfOk result (λ link. Self.L.held link ≡ 0) }
         ensures failed { result ≡ Err RackFault.Failed → Rose (faults self.old) (faults self.new) }
         ensures faults { faults self.old ≤ faults self.new }
+        ensures unfaulted { result ≢ Err RackFault.Failed → faults self.new ≡ faults self.old }
         ensures kept { kept self.new ≡ kept self.old }
         ensures made { made self.new ≡ made_after result (made self.old) }
         ensures within { length (kept self.old) ≤ made self.old };

@@ -1,15 +1,18 @@
 -- The pieces of an operation ask for the accesses of the operation.
 use Rattle.std.proofs.Common.{◌≡◌, ℕ, zero, suc, ◌+◌, ◌-◌, ◌*◌, ◌≤◌, ◌++◌, List, [], ◌∷◌, length, map, min, take, drop}
 use Rattle.std.proofs.Common.{replicate, refl, sym, ap, ◌∙◌, inl, inr, arith, append-nil, length-take, length-drop}
+use Rattle.std.proofs.Common.{sum_by, length-append}
 use Rattle.std.specs.Int.{div_ceil}
 use Rattle.std.specs.List.{flat_map, range_with_len, zip}
 use Rattle.std.proofs.lemmas.Bool.{cases_lt}
 use Rattle.std.proofs.lemmas.Grind.{flat_map-append, div_ceil_times}
 use Rattle.std.proofs.lemmas.List.{drop_all, take_all}
 use Rattle.std.proofs.lemmas.List.FromFn.{map-range_with_len_more}
+use Rattle.std.proofs.lemmas.List.Sums.{sum_by-append, sum_by-cons}
 use Rattle.std.proofs.Math.Seq.{take-add, take-length}
 use Rattle.transaction_codec.specs.declared.request.Op.{Op}
 use Rattle.transaction_codec.specs.declared.request.Op.TheVariants.{Read, ReadPort, Write, WritePort, RmwBits, RmwSum}
+use Rattle.transaction_codec.specs.Request.{op_count}
 use Rattle.mtu_packer.specs.Accesses.{Access, reads, writes, updates, masks, adds, accesses}
 use Rattle.mtu_packer.specs.Cutting.{cut, piece}
 
@@ -217,3 +220,49 @@ pieces_walk payload (RmwSum base addend) low = refl
 
 pub pieces_ask : (payload : ℕ) (op : Op) → 16 ≤ payload → flat_map accesses (cut payload op) ≡ accesses op
 pieces_ask payload op low = all_accesses_are (cut payload op) ∙ pieces_walk payload op low ∙ sym (accesses_are op)
+
+-- ---- how many accesses there are
+
+length_reads : (step base count : ℕ) → length (reads_from step base count) ≡ count
+length_reads step base zero = refl
+length_reads step base (suc count) = ap suc (length_reads step (base + step) count)
+
+length_writes : (step base : ℕ) (words : List ℕ) → length (writes_from step base words) ≡ length words
+length_writes step base [] = refl
+length_writes step base (word ∷ words) = ap suc (length_writes step (base + step) words)
+
+length_walk : (op : Op) → length (walk op) ≡ op_count op
+length_walk (Read base count) = length_reads 1 base count
+length_walk (ReadPort base count) = length_reads 0 base count
+length_walk (Write base words) = length_writes 1 base words
+length_walk (WritePort base words) = length_writes 0 base words
+length_walk (RmwBits base and_term or_term) = refl
+length_walk (RmwSum base addend) = refl
+
+length_all : (ops : List Op) → length (flat_map walk ops) ≡ sum_by op_count ops
+length_all [] = refl
+length_all (op ∷ ops) =
+    omega (
+      arith,
+      length_all ops,
+      length_walk op,
+      length-append (walk op) (flat_map walk ops),
+      sum_by-cons op_count op ops,
+    )
+
+-- the pieces of an operation read and write as many words as the operation
+pub cut_count : (payload : ℕ) (op : Op) → 16 ≤ payload → sum_by op_count (cut payload op) ≡ op_count op
+cut_count payload op low =
+    sym (length_all (cut payload op)) ∙ ap length (pieces_walk payload op low) ∙ length_walk op
+
+pub all_counts : (payload : ℕ) (ops : List Op) → 16 ≤ payload
+    → sum_by op_count (flat_map (cut payload) ops) ≡ sum_by op_count ops
+all_counts payload [] low = refl
+all_counts payload (op ∷ ops) low =
+    omega (
+      arith,
+      all_counts payload ops low,
+      cut_count payload op low,
+      sum_by-append op_count (cut payload op) (flat_map (cut payload) ops),
+      sum_by-cons op_count op ops,
+    )

@@ -11,4 +11,5 @@ pub mod Function
 pub mod Standing
 pub mod AnyLemmas
 mod EachBody
+pub mod Sizes
 mod Readable

@@ -57,6 +57,10 @@ pub record FitsPackets (payload : ℕ) (body : List ℕ) : Type 0 where
   pub request : length body + 1 ≤ payload
   pub reply : reply_room body + 1 ≤ payload
 
+-- the words of a body and of the longest answer that a board can give to it
+abbrev pub words_with_answer : List ℕ → ℕ
+words_with_answer body = length body + reply_room body
+
 -- the piece stands in the body of this number
 abbrev pub IsIn : ℕ → Piece → Type 0
 IsIn body place = place.body ≡ body

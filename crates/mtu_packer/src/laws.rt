@@ -1,6 +1,7 @@
 //! Laws of the definitions. These functions do nothing when they run: their clauses are what is proved.
 
-ghost use Rattle.std.specs.Prelude.{◌≡◌, ◌↔◌, ℕ, ◌<◌, ◌≤◌, List, [], ◌∷◌, length, map, sum_by, Some, slice_get};
+ghost use Rattle.std.specs.Prelude.{◌≡◌, ◌↔◌, ℕ, ◌+◌, ◌*◌, ◌<◌, ◌≤◌, List, [], ◌∷◌, length, map, sum_by, Some};
+ghost use Rattle.std.specs.Prelude.{slice_get};
 ghost use Rattle.std.specs.List.{AllByRecursion, flat_map, range_with_len};
 ghost use Rattle.ipb_base.specs.Numbers.{least_payload, greatest_payload};
 ghost use Rattle.transaction_codec.specs.declared.request.Op.{Op};
@@ -19,6 +20,7 @@ ghost use Rattle.mtu_packer.specs.Packing.{
   parts_of,
 };
 ghost use Rattle.mtu_packer.specs.Packed.{Contents, HasPiece, IsPacked, packed, piece_at, places_from};
+ghost use Rattle.mtu_packer.specs.Packed.{words_with_answer};
 ghost use Rattle.mtu_packer.specs.declared.packed.Piece.{Piece};
 
 use crate::cutting::{ADDRESS, HEADERS};
@@ -101,6 +103,16 @@ pub fn the_longest_reply_is_the_longest_answer()
 pub fn pieces_are_no_more_than_words()
     ensures { (ops : List Op) (payload : ℕ) → MIN_PAYLOAD ≤ payload →
         length (flat_map (cut payload) ops) ≤ sum_by op_count ops }
+{}
+
+/// A packing has few bodies, and they are short: a piece that is not the last one of its operation has 13 words at
+/// least, and what a piece takes in a packet and in its answer beside the words that it reads or writes is 5 words at
+/// most.
+pub fn packings_are_short()
+    ensures bodies { (ops : List Op) (payload : ℕ) (contents : Contents) → MIN_PAYLOAD ≤ payload →
+        IsPacked ops payload contents → 13 * length contents.bodies ≤ sum_by op_count ops + 12 * length ops }
+    ensures words { (ops : List Op) (payload : ℕ) (contents : Contents) → MIN_PAYLOAD ≤ payload →
+        IsPacked ops payload contents → sum_by words_with_answer contents.bodies ≤ 6 * sum_by op_count ops }
 {}
 
 /// Three reads of 10, 3 and 2 words at a payload of 16 words. The replies to the first two have 15 words.

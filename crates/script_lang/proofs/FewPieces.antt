@@ -105,13 +105,13 @@ selection-le (op ∷ ops) (x ∷ all) (inr is) =
     let rest : sum_by op_count (op ∷ ops) ≤ sum_by op_count all = selection-le (op ∷ ops) all is in
     omega (arith, sum_by-append op_count (x ∷ []) all)
 
-op_more : (op : Op) (ops : List Op) → sum_by op_count (op ∷ ops) ≡ op_count op + sum_by op_count ops
+pub op_more : (op : Op) (ops : List Op) → sum_by op_count (op ∷ ops) ≡ op_count op + sum_by op_count ops
 op_more op ops = omega (arith, sum_by-append op_count (op ∷ []) ops)
 
-record IsWithin (tally : Tally) : Type 0 where
-  lines : tally.lines ≤ MAX_LINES
-  operations : tally.operations ≤ MAX_OPERATIONS
-  words : tally.words ≤ MAX_BLOCK_WORDS
+pub record IsWithin (tally : Tally) : Type 0 where
+  pub lines : tally.lines ≤ MAX_LINES
+  pub operations : tally.operations ≤ MAX_OPERATIONS
+  pub words : tally.words ≤ MAX_BLOCK_WORDS
 
 within-tally : (tally : Tally) → is_over tally ≡ false → IsWithin tally
 within-tally tally h = record { lines = grind (arith, nat_tests); operations = grind (arith, nat_tests); words = grind (arith, nat_tests) }
@@ -126,10 +126,10 @@ kept-length f [] = omega arith
 kept-length f (x ∷ xs) = kept-more f x xs (f x) refl (kept-length f xs)
 
 module _ (boards : List BoardSpec) (indexes : List RegisterMap) where
-  abbrev steps_in : List ScriptLine → List Step
+  abbrev pub steps_in : List ScriptLine → List Step
   steps_in lines = filter_map (λ line. step_in boards indexes (line_meaning boards indexes line)) lines
 
-  count_more : (count : Option Step → ℕ) (line : ScriptLine) (lines : List ScriptLine)
+  pub count_more : (count : Option Step → ℕ) (line : ScriptLine) (lines : List ScriptLine)
       → count_of boards indexes count (line ∷ lines) ≡ count_in count (line_meaning boards indexes line) + count_of boards indexes count lines
   count_more count line lines = omega (arith, sum_by-append (λ l. count_in count (line_meaning boards indexes l)) (line ∷ []) lines)
 
@@ -152,7 +152,7 @@ module _ (boards : List BoardSpec) (indexes : List RegisterMap) where
       omega (arith, has, rest, one, words, sum)
 
   -- the words of the steps of some lines
-  total : (lines : List ScriptLine) → sum_by op_count (operations (steps_in lines)) ≤ count_of boards indexes operations_in lines + count_of boards indexes block_words_in lines
+  pub total : (lines : List ScriptLine) → sum_by op_count (operations (steps_in lines)) ≤ count_of boards indexes operations_in lines + count_of boards indexes block_words_in lines
   total [] = omega arith
   total (line ∷ lines) = line-total line lines (line_meaning boards indexes line) refl (meaning-words boards indexes line.number line.text) (total lines)
 
@@ -176,7 +176,7 @@ module _ (boards : List BoardSpec) (indexes : List RegisterMap) where
       subst (λ ls. is_over (tally_of boards indexes ls) ≡ false) (append_assoc earlier (line ∷ []) lines) (all_within (earlier ++ line ∷ []) lines here both.1)
 
   -- what lines count does not depend on whose lines they are
-  same_count : (count : Option Step → ℕ) (client other number : ℕ) (texts : List (List ℕ))
+  pub same_count : (count : Option Step → ℕ) (client other number : ℕ) (texts : List (List ℕ))
       → count_of boards indexes count (lines_from client number texts) ≡ count_of boards indexes count (lines_from other number texts)
   same_count count client other number [] = refl
   same_count count client other number (text ∷ texts) =
@@ -204,7 +204,7 @@ module _ (boards : List BoardSpec) (indexes : List RegisterMap) where
         each_few (client + 1) scripts (omega (arith, ops, ops_both)) (omega (arith, words, words_both)),
       )
 
-  within : (scripts : List (List (List ℕ))) → script_faults boards indexes scripts ≡ [] → IsWithin (tally_of boards indexes (all_lines 1 scripts))
+  pub within : (scripts : List (List (List ℕ))) → script_faults boards indexes scripts ≡ [] → IsWithin (tally_of boards indexes (all_lines 1 scripts))
   within scripts none = within-tally (tally_of boards indexes (all_lines 1 scripts)) (all_within [] (all_lines 1 scripts) refl none)
 
   pub few_pieces : (scripts : List (List (List ℕ))) → script_faults boards indexes scripts ≡ [] → AllByRecursion HaveFewPieces (steps_of boards indexes scripts)

@@ -16,6 +16,7 @@ pub mod RunsTell
 pub mod Packable
 pub mod Asking
 pub mod FewPieces
+mod WithinLimits
 pub mod Faultless
 pub mod OwnNames
 pub mod SmallNumbers

@@ -4,7 +4,7 @@ ghost use Rattle.std.specs.Prelude.{◌≡◌, ◌≤◌, ◌+◌, [], false, tr
 ghost use Rattle.std.specs.List.{AllByRecursion};
 ghost use Rattle.node_tree.specs.Maps.{IsRegister};
 ghost use Rattle.script_lang.specs.Lines.{takes};
-ghost use Rattle.script_lang.specs.Packing.{CanBePacked, HaveFewPieces};
+ghost use Rattle.script_lang.specs.Packing.{AreWithinLimits, CanBePacked, HaveFewPieces};
 ghost use Rattle.script_lang.specs.Operations as op;
 ghost use Rattle.script_lang.specs.Scripts as spec;
 ghost use Rattle.script_lang.specs.Tallies.{line_run, run_from, run_all, nothing, StopsAs};
@@ -41,6 +41,7 @@ pub fn compile_scripts(
     // Each operation can be packed, whatever packets its board takes, and those of a client are few enough.
     ensures packed { IfOk result (λ all. AllByRecursion (AllByRecursion CanBePacked) all.items) }
     ensures few { IfOk result (λ all. AllByRecursion HaveFewPieces all.items) }
+    ensures limits { IfOk result (λ all. AreWithinLimits all.items) }
     ensures short { IfOk result (λ all. AllByRecursion (λ steps. length steps ≤ MAX_LINES) all.items) }
 {
     let boards = session.boards.as_slice();

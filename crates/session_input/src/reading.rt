@@ -4,7 +4,7 @@ ghost use Rattle.std.specs.Prelude.{◌≡◌, ◌≤◌, ℕ, List, [], IfOk, I
 ghost use Rattle.std.specs.List.{AllByRecursion};
 ghost use Rattle.script_lang.specs.Document.{IsRefusal, StandsFor};
 ghost use Rattle.script_lang.specs.Limits.{IsWithin};
-ghost use Rattle.script_lang.specs.Packing.{CanBePacked, HaveFewPieces};
+ghost use Rattle.script_lang.specs.Packing.{AreWithinLimits, CanBePacked, HaveFewPieces};
 ghost use Rattle.script_lang.specs.declared.script_refusal.TheConstants.{MAX_LINES};
 ghost use Rattle.script_lang.specs.Scripts.{script_faults, steps_of as meant_steps};
 ghost use Rattle.session_input.specs.Deserved as spec;
@@ -33,6 +33,7 @@ pub fn read_for_run(alloc: Global, bytes: &[u8]) -> Result<Runnable, Unread>
     // Each operation of the steps can be packed, whatever packets its board takes, and no client has too many.
     ensures packed { IfOk result (λ read. AllByRecursion (AllByRecursion CanBePacked) read.steps.items) }
     ensures few { IfOk result (λ read. AllByRecursion HaveFewPieces read.steps.items) }
+    ensures limits { IfOk result (λ read. AreWithinLimits read.steps.items) }
     ensures short { IfOk result (λ read. AllByRecursion (λ steps. length steps ≤ MAX_LINES) read.steps.items) }
 {
     let session = read(alloc, bytes)?;
@@ -91,6 +92,7 @@ fn steps_of(alloc: Global, session: &Session) -> Result<Vec<Steps>, Unread>
     ensures refused { IfErr result (spec.Tells (spec.BreaksInRun session.now)) }
     ensures packed { IfOk result (λ steps. AllByRecursion (AllByRecursion CanBePacked) steps.items) }
     ensures few { IfOk result (λ steps. AllByRecursion HaveFewPieces steps.items) }
+    ensures limits { IfOk result (λ steps. AreWithinLimits steps.items) }
     ensures short { IfOk result (λ all. AllByRecursion (λ steps. length steps ≤ MAX_LINES) all.items) }
 {
     let boards = session.boards.as_slice();
@@ -114,6 +116,7 @@ fn compiled(alloc: Global, session: &Session, indexes: &[Index]) -> Result<Vec<S
         (spec.Tells (spec.TellsLine (script_faults session.now.boards indexes.now session.now.scripts))) }
     ensures packed { IfOk result (λ steps. AllByRecursion (AllByRecursion CanBePacked) steps.items) }
     ensures few { IfOk result (λ steps. AllByRecursion HaveFewPieces steps.items) }
+    ensures limits { IfOk result (λ steps. AreWithinLimits steps.items) }
     ensures short { IfOk result (λ all. AllByRecursion (λ steps. length steps ≤ MAX_LINES) all.items) }
 {
     match compile_scripts(alloc, session, indexes) {

@@ -9,6 +9,8 @@ mod Skipping
 mod Reading
 mod Rising
 mod FewWords
+pub mod PackedDispatches
+mod FewBodies
 mod Covering
 mod Printed
 mod EachBody

@@ -1,7 +1,7 @@
 -- What a client asks of its boards: the bodies of its scripts' operations, dispatch by dispatch. uHAL: operations are
 -- queued, and sent at a dispatch. Profile.
 use Rattle.std.specs.Prelude.{ℕ, ◌+◌, ◌<◌, ◌≤◌, ◌^◌, ◌==◌, if◌then◌else◌, List, [], ◌∷◌, ◌++◌, length, map, fold}
-use Rattle.std.specs.List.{AllByRecursion, filter_map}
+use Rattle.std.specs.List.{AllByRecursion, filter_map, flat_map}
 use Rattle.std.specs.Prelude.{Option, Some, None}
 use Rattle.transaction_codec.specs.declared.request.Op.{Op}
 use Rattle.transaction_codec.specs.Request.{SpellsRequests}
@@ -85,6 +85,10 @@ planned_on board Down steps = no_bodies
 -- what the clients ask of a board that told this greeting
 abbrev pub plans_on : ℕ → Greeting → List (List Step) → List ClientBodies
 plans_on board told scripts = map (planned_on board told) scripts
+
+-- the bodies of all clients
+abbrev pub all_bodies : List ClientBodies → List (List ℕ)
+all_bodies plans = flat_map (λ (p : ClientBodies). p.bodies) plans
 
 -- what a greeting can tell of the packets of a live board
 abbrev pub IsGreeting : Greeting → Type 0

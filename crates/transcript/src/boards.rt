@@ -1,7 +1,6 @@
 //! The lines of a run's boards.
 
 ghost use Rattle.std.specs.Prelude.{◌≡◌, IfOk, map, count_by};
-ghost use Rattle.lane_record.specs.Outcomes as outcomes;
 ghost use Rattle.transcript.specs.Lines as spec;
 ghost use Rattle.transcript.specs.Steps.{is_of};
 
@@ -21,22 +20,12 @@ enum Kind {
     Lost,
 }
 
-fn is_sent(outcome: &Outcome) -> bool
-    ensures { result ≡ outcomes.is_sent outcome.now }
-{
-    match outcome {
-        Outcome::Replied { .. } | Outcome::TimedOut { .. } => true,
-        Outcome::Unsent => false,
-        Outcome::LinkLost { place } => place.is_some(),
-    }
-}
-
 /// Whether this is the outcome of a body that is counted.
 fn is_of(kind: Kind, outcome: &Outcome) -> bool
     ensures { result ≡ is_of kind outcome.now }
 {
     match kind {
-        Kind::Sent => is_sent(outcome),
+        Kind::Sent => outcome.is_sent(),
         Kind::Replied => matches!(outcome, Outcome::Replied { .. }),
         Kind::TimedOut => matches!(outcome, Outcome::TimedOut { .. }),
         Kind::Lost => matches!(outcome, Outcome::LinkLost { place: Some(_) }),

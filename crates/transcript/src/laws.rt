@@ -1,12 +1,14 @@
 //! Laws of the definitions. These functions do nothing when they run: their clauses are what is proved.
 
-ghost use Rattle.std.specs.Prelude.{◌≡◌, ◌↔◌, ℕ, ◌+◌, ◌<◌, ◌≤◌, ◌^◌, sum_by, List, [], ◌∷◌, ◌++◌, length, count_by};
-ghost use Rattle.std.specs.Prelude.{Some, map};
+ghost use Rattle.std.specs.Prelude.{◌≡◌, ◌↔◌, ℕ, ◌+◌, ◌*◌, ◌<◌, ◌≤◌, ◌^◌, sum_by, List, [], ◌∷◌, ◌++◌, length};
+ghost use Rattle.std.specs.Prelude.{Some, count_by, map};
 ghost use Rattle.std.specs.List.{AllByRecursion, filter_map, flat_map, range_with_len};
 ghost use Rattle.ipb_base.specs.Word.{AreWords};
 ghost use Rattle.transaction_codec.specs.Request.{op_count};
-ghost use Rattle.mtu_packer.specs.Packed.{Contents, deal};
-ghost use Rattle.script_lang.specs.Packing.{operations, HaveFewPieces};
+ghost use Rattle.mtu_packer.specs.Packed.{Contents, deal, words_with_answer};
+ghost use Rattle.mtu_packer.specs.declared.packing.TheConstants.{MIN_PAYLOAD, MAX_PAYLOAD};
+ghost use Rattle.script_lang.specs.Executable.{AreExecutable};
+ghost use Rattle.script_lang.specs.Packing.{all_operations, operations, HaveFewPieces};
 ghost use Rattle.script_lang.specs.declared.operation.Step.{Step};
 ghost use Rattle.lane_record.specs.declared.outcome.Outcome.{Outcome as OutcomeValue};
 ghost use Rattle.transcript.specs.declared.line.OpLine.{OpLine as OpLineValue};
@@ -15,7 +17,8 @@ ghost use Rattle.transcript.specs.declared.planned.PieceAt.{PieceAt as PieceValu
 ghost use Rattle.transcript.specs.declared.body_end.BodyEnd.{BodyEnd as BodyEndValue};
 ghost use Rattle.transcript.specs.declared.board_run.BoardRun.{BoardRun as BoardRunValue};
 ghost use Rattle.transcript.specs.Plan as in_order;
-ghost use Rattle.transcript.specs.Plan.{bodies_in, all_dispatches, plan};
+ghost use Rattle.transcript.specs.declared.greeting.Greeting.TheVariants.{Live};
+ghost use Rattle.transcript.specs.Plan.{all_bodies, bodies_in, all_dispatches, plan, plans_on};
 ghost use Rattle.lane_record.specs.Outcomes.{place_of, is_sent, is_replied, is_timed_out};
 ghost use Rattle.transcript.specs.Ends.{told_of, told_at};
 ghost use Rattle.transcript.specs.Results.{op_places};
@@ -24,7 +27,9 @@ ghost use Rattle.transcript.specs.Lines.{is_lost, run_status, client_lines, coun
 ghost use Rattle.transcript.specs.Claims.{IsDone, HaveWords, IsPrintedLine, IsBefore, Rises, IsOther, HaveOwnPlaces};
 ghost use Rattle.transcript.specs.Claims.{AreOnBoards, HaveBodies, IsRunInRange, IsSpaceless};
 
-use mtu_packer::laws::pieces_are_no_more_than_words;
+use mtu_packer::laws::{
+    operations_of_words_are_packed, packings_are_short, pieces_are_no_more_than_words,
+};
 use reply_join::laws::{joining_is_a_function, skipped_stands_behind_a_fault};
 
 /// The first sends of a board's line are the bodies that have a place, and each of them was replied to, timed out, or
@@ -109,4 +114,19 @@ pub fn few_words_are_few_pieces()
     ensures { (steps : List Step) → sum_by op_count (operations steps) ≤ 2 ^ 31 → HaveFewPieces steps }
 {
     pieces_are_no_more_than_words();
+}
+
+/// The bodies that clients ask of one board are few, and short with the longest answers to them, by how many operations
+/// all clients have and how many words these read and write.
+pub fn plans_are_short()
+    ensures bodies { (payload board : ℕ) (scripts : List (List Step)) → MIN_PAYLOAD ≤ payload → payload ≤ MAX_PAYLOAD →
+        AllByRecursion AreExecutable scripts → 13 * length (all_bodies (plans_on board (Live payload) scripts))
+        ≤ sum_by op_count (all_operations scripts) + 12 * length (all_operations scripts) }
+    ensures words { (payload board : ℕ) (scripts : List (List Step)) → MIN_PAYLOAD ≤ payload → payload ≤ MAX_PAYLOAD →
+        AllByRecursion AreExecutable scripts →
+        sum_by words_with_answer (all_bodies (plans_on board (Live payload) scripts))
+        ≤ 6 * sum_by op_count (all_operations scripts) }
+{
+    operations_of_words_are_packed();
+    packings_are_short();
 }

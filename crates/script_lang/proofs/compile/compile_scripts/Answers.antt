@@ -3,11 +3,12 @@ use Rattle.std.specs.List.{AllByRecursion}
 use Rattle.std.proofs.lemmas.Result.{IfOk-weaker, IfErr-weaker}
 use Rattle.script_lang.specs.declared.operation.Step.{Step}
 use Rattle.script_lang.specs.declared.script_refusal.TheConstants.{MAX_LINES}
-use Rattle.script_lang.specs.Packing.{HaveFewPieces}
+use Rattle.script_lang.specs.Packing.{AreWithinLimits, HaveFewPieces}
 use Rattle.script_lang.specs.Scripts.{script_faults, steps_of, TellsLine}
 use Rattle.script_lang.specs.Tallies.{run_all, nothing, StopsAs}
 use Rattle.script_lang.proofs.FewPieces.{few_pieces, short_steps}
 use Rattle.script_lang.proofs.RunsTell.{all_told, stop_told}
+use Rattle.script_lang.proofs.WithinLimits.{within_limits}
 use Rattle.script_lang.proofs.compile.compile_scripts.Goals as goal
 
 pub returns-clause-steps : goal.returns-clause-steps
@@ -52,3 +53,14 @@ returns-clause-short c =
     (λ all ends.
     let told = all_told boards c.args.indexes.now scripts all.items ends in
     subst (λ (clients : List (List Step)). AllByRecursion (λ steps. length steps ≤ MAX_LINES) clients) (sym told.1) (short_steps boards c.args.indexes.now scripts told.0)) c.all_steps.ensures.run
+
+pub returns-clause-limits : goal.returns-clause-limits
+returns-clause-limits c =
+    let boards = c.as_slice-boards.result.now in
+    let scripts = c.as_slice-scripts.result.now in
+    let indexes = c.args.indexes.now in
+    IfOk-weaker c.all_steps.result (λ all. run_all boards indexes 1 nothing scripts ≡ Ok all.items)
+    (λ all. AreWithinLimits all.items)
+    (λ all ends.
+    let told = all_told boards indexes scripts all.items ends in
+    subst AreWithinLimits (sym told.1) (within_limits boards indexes scripts told.0)) c.all_steps.ensures.run
