@@ -1,0 +1,6 @@
+mod Actions
+mod Positions
+mod Each
+mod Jobs
+mod Ran
+mod Results

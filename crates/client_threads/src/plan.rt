@@ -1,0 +1,80 @@
+//! What a client asks of the lanes of a hub.
+
+ghost use Rattle.std.specs.Prelude.{◌≡◌};
+
+use std::marker::Model;
+
+/// How many bodies to ask of which lane: pairs of a lane's number, from 0, and a number of bodies, by rising lane.
+/// Contracts see that list.
+#[derive(Debug, Drop)]
+pub struct Asks {
+    items: Vec<(u32, u32)>,
+}
+
+impl Model for Asks {
+    ghost use Rattle.std.specs.Prelude.{ℕ, List};
+
+    ghost Value = { List (ℕ × ℕ) };
+
+    ghost view = { λ asks. asks.items.items };
+}
+
+impl Asks {
+    /// The pairs of a vector, in its order. It takes no memory.
+    pub fn from_vec(items: Vec<(u32, u32)>) -> Asks
+        ensures { result ≡ items.items }
+    {
+        Asks { items }
+    }
+
+    /// The pairs, in order.
+    pub fn as_slice(&self) -> &[(u32, u32)]
+        ensures { result.now ≡ self.now }
+    {
+        self.items.as_slice()
+    }
+}
+
+/// The bodies that a client asks for at once.
+#[derive(Debug, Drop)]
+pub struct Dispatch {
+    pub asks: Asks,
+}
+
+/// The dispatches of a client, in order. Contracts see that list.
+#[derive(Debug, Drop)]
+pub struct Dispatches {
+    items: Vec<Dispatch>,
+}
+
+impl Model for Dispatches {
+    ghost use Rattle.std.specs.Prelude.{List};
+    ghost use Rattle.client_threads.specs.declared.plan.Dispatch.{Dispatch};
+
+    ghost Value = { List Dispatch };
+
+    ghost view = { λ dispatches. dispatches.items.items };
+}
+
+impl Dispatches {
+    /// The dispatches of a vector, in its order. It takes no memory.
+    pub fn from_vec(items: Vec<Dispatch>) -> Dispatches
+        ensures { result ≡ items.items }
+    {
+        Dispatches { items }
+    }
+
+    /// The dispatches, in order.
+    pub fn as_slice(&self) -> &[Dispatch]
+        ensures { result.now ≡ self.now }
+    {
+        self.items.as_slice()
+    }
+}
+
+/// A client, from 1, and what it asks, dispatch by dispatch.
+#[derive(Debug, Drop)]
+pub struct ClientPlan {
+    pub client: u32,
+    pub dispatches: Dispatches,
+}

@@ -1,0 +1,4 @@
+mod Handed
+mod Did
+mod Partly
+mod Awaits

@@ -1,0 +1,320 @@
+//! A hub of one board over a simulated link: a client step by step, one that plans as it goes, and four at once.
+
+ghost use Rattle.std.specs.Prelude.{◌≡◌, ◌<◌, length, IfOk};
+ghost use Rattle.std.specs.Thread.{IsSync};
+ghost use Rattle.hub_multiplexer.specs.Ends.{HasTakenIn};
+ghost use Rattle.hub_multiplexer.specs.Seats.{IsMasterOf, IsSeatOf};
+
+use crate::fixtures::{digit, kinds, lane, place_of, planned_lane, read_four};
+use hub_lane::Entry;
+use hub_multiplexer::laws::a_seat_that_asked_all_may_submit;
+use hub_multiplexer::{AskTry, Hub, Lane, Master, NoMemory, Outcome, Performed, Seat, StepTry};
+use lossy_network::SimLink;
+use std::alloc::Global;
+use std::sync::Wait;
+use std::test::Fail;
+use std::thread::{Threads, join, yield_now};
+
+/// A hub of one board over a lane, its master, and the seat of client 1.
+fn hub_of(alloc: Global, lane: Lane<SimLink>) -> Result<(Hub<SimLink>, Master, Seat), Fail>
+    ensures master { IfOk result (λ made. IsMasterOf made.0 made.1) }
+    ensures seats { IfOk result (λ made. (made.1.seats ≡ 1) × HasTakenIn 1 made.1) }
+    ensures seat { IfOk result (λ made. IsSeatOf made.0 made.2 × (made.2.client ≡ 1)) }
+    ensures board { IfOk result (λ made. 0 < length made.0.turns) }
+{
+    let mut lanes = Vec::new(alloc);
+    lanes.push(lane)?;
+    let Ok((hub, mut master)) = Hub::new(alloc, lanes) else {
+        return Err("no memory".into());
+    };
+    let seat = master.seat(alloc, &hub)?;
+    Ok((hub, master, seat))
+}
+
+/// Joins the last seat, and takes the lanes.
+fn finish<R: Wait>(rt: &R, hub: Hub<SimLink>, mut master: Master, seat: Seat) -> Vec<Lane<SimLink>>
+    requires master { IsMasterOf hub master }
+    requires seat { IsSeatOf hub seat × (seat.client ≡ master.seats) }
+    requires joined { HasTakenIn seat.client master }
+{
+    master.join(&hub, seat);
+    hub.finish(rt, master)
+}
+
+/// The kinds of the entries of the first lane.
+fn first_kinds(alloc: Global, lanes: &[Lane<SimLink>]) -> Result<String, NoMemory> {
+    match lanes.first() {
+        Some(lane) => kinds(alloc, lane.entries()),
+        None => Ok(String::new(alloc)),
+    }
+}
+
+/// Steps until something became of the client's oldest untaken body, in so many turns at most.
+fn step(hub: &Hub<SimLink>, seat: &mut Seat, turns: usize) -> Option<Outcome>
+    requires board { 0 < length hub.now.turns }
+    requires seat { IsSeatOf hub.now seat.old }
+    ensures { IsSeatOf hub.now seat.new × (seat.new.client ≡ seat.old.client) }
+{
+    for _ in 0..turns {
+        match hub.try_step(seat, 0) {
+            Ok(StepTry::Ready(outcome)) => return Some(outcome),
+            Ok(StepTry::NotYet(_)) => {}
+            Ok(StepTry::Busy) => yield_now(),
+            Ok(StepTry::Nothing) => return None,
+            Err(_) => return None,
+        }
+    }
+    None
+}
+
+/// Whether the client asks its body once and takes the right reply once, by calls that never wait.
+fn asks_once(hub: &Hub<SimLink>, seat: &mut Seat) -> Result<bool, NoMemory>
+    requires board { 0 < length hub.now.turns }
+    requires seat { IsSeatOf hub.now seat.old }
+    ensures { IsSeatOf hub.now seat.new × (seat.new.client ≡ seat.old.client) }
+{
+    let asked = hub.try_ask(seat, 0)?;
+    let again = hub.try_ask(seat, 0)?;
+    let place = place_of(step(hub, seat, 32));
+    let left = step(hub, seat, 1).is_some();
+    Ok(asked == AskTry::Asked(0) && again == AskTry::Nothing && place == Some(1) && !left)
+}
+
+#[test]
+fn one_client_goes_step_by_step(rt: HostRuntime) -> Result<(), Fail> {
+    let (hub, master, mut seat) = hub_of(rt.alloc(), planned_lane(rt.alloc(), "ddl", 2)?)?;
+    let asked = asks_once(&hub, &mut seat);
+    let lanes = finish(&rt, hub, master, seat);
+    assert_eq!(rt; asked, Ok(true));
+    assert_eq!(rt; first_kinds(rt.alloc(), &lanes)?.as_str(), "1234");
+    Ok(())
+}
+
+/// Submits a read where nothing is left to ask, and performs it. The place of its reply.
+fn reads<R: Wait>(
+    rt: &R,
+    alloc: Global,
+    hub: &Hub<SimLink>,
+    seat: &mut Seat,
+) -> Result<Option<u64>, Fail>
+    requires board { 0 < length hub.now.turns }
+    requires seat { IsSeatOf hub.now seat.old }
+    ensures { IsSeatOf hub.now seat.new × (seat.new.client ≡ seat.old.client) }
+{
+    a_seat_that_asked_all_may_submit();
+    let AskTry::Nothing = hub.try_ask(seat, 0)? else {
+        return Ok(None);
+    };
+    let (body, reply_words) = read_four(alloc)?;
+    if hub.submit(rt, seat, 0, body, reply_words).is_err() {
+        return Ok(None);
+    }
+    match hub.perform(rt, seat, 0)? {
+        Performed::Ready(outcome) => Ok(place_of(Some(outcome))),
+        Performed::Nothing => Ok(None),
+    }
+}
+
+/// Whether two reads, one after the other, get their replies, and nothing is left to perform then.
+fn reads_twice<R: Wait>(
+    rt: &R,
+    alloc: Global,
+    hub: &Hub<SimLink>,
+    seat: &mut Seat,
+) -> Result<bool, Fail>
+    requires board { 0 < length hub.now.turns }
+    requires seat { IsSeatOf hub.now seat.old }
+    ensures { IsSeatOf hub.now seat.new × (seat.new.client ≡ seat.old.client) }
+{
+    let first = reads(rt, alloc, hub, seat)?;
+    let second = reads(rt, alloc, hub, seat)?;
+    let left = hub.perform(rt, seat, 0)?;
+    Ok(first == Some(1) && second == Some(2) && matches!(left, Performed::Nothing))
+}
+
+#[test]
+fn a_client_plans_as_it_goes(rt: HostRuntime) -> Result<(), Fail> {
+    let (hub, master, mut seat) = hub_of(rt.alloc(), lane(rt.alloc(), "ddldl")?)?;
+    let read = reads_twice(&rt, rt.alloc(), &hub, &mut seat);
+    let lanes = finish(&rt, hub, master, seat);
+    assert!(rt; read?);
+    assert_eq!(rt; first_kinds(rt.alloc(), &lanes)?.as_str(), "134134");
+    Ok(())
+}
+
+/// The seats of clients 2 to 4.
+fn more_seats(
+    alloc: Global,
+    hub: &Hub<SimLink>,
+    master: &mut Master,
+) -> Result<(Seat, Seat, Seat), NoMemory>
+    requires master { IsMasterOf hub.now master.old × (master.old.seats ≡ 1) }
+    requires taken_in { HasTakenIn 1 master.old }
+    ensures two { IfOk result (λ seats. IsSeatOf hub.now seats.0 × (seats.0.client ≡ 2)) }
+    ensures three { IfOk result (λ seats. IsSeatOf hub.now seats.1 × (seats.1.client ≡ 3)) }
+    ensures four { IfOk result (λ seats. IsSeatOf hub.now seats.2 × (seats.2.client ≡ 4)) }
+    ensures master { IfOk result (λ _. IsMasterOf hub.now master.new × (master.new.seats ≡ 4)) }
+    ensures taken_in { IfOk result (λ _. HasTakenIn 1 master.new) }
+{
+    let two = master.seat(alloc, hub)?;
+    let three = master.seat(alloc, hub)?;
+    let four = master.seat(alloc, hub)?;
+    Ok((two, three, four))
+}
+
+/// A client's seat, and the place of the right reply that it took: 0 where it took none.
+type Taken = (Seat, u64);
+
+/// Asks a client's planned body, and steps until something became of it, in so many turns at most.
+fn read<R: Wait>(rt: &R, hub: &Hub<SimLink>, mut seat: Seat) -> Taken
+    requires board { 0 < length hub.now.turns }
+    requires seat { IsSeatOf hub.now seat }
+    ensures { IsSeatOf hub.now result.0 × (result.0.client ≡ seat.client) }
+{
+    if hub.ask(rt, &mut seat, 0).is_err() {
+        return (seat, 0);
+    }
+    let place = place_of(step(hub, &mut seat, 1_000_000)).unwrap_or(0);
+    (seat, place)
+}
+
+/// Two clients at once.
+fn read_both<R: Threads + Wait + Sync>(
+    rt: &R,
+    hub: &Hub<SimLink>,
+    one: Seat,
+    other: Seat,
+) -> (Taken, Taken)
+    requires board { 0 < length hub.now.turns }
+    requires one { IsSeatOf hub.now one }
+    requires other { IsSeatOf hub.now other }
+    ensures one { IsSeatOf hub.now result.0.0 × (result.0.0.client ≡ one.client) }
+    ensures other { IsSeatOf hub.now result.1.0 × (result.1.0.client ≡ other.client) }
+{
+    join(
+        rt,
+        move || -> Taken
+            requires { IsSync R.row × (0 < length hub.now.turns) × IsSeatOf hub.now one }
+            ensures { IsSeatOf hub.entry.now result.0 × (result.0.client ≡ one.client) }
+        { read(rt, hub, one) },
+        move || -> Taken
+            requires { IsSync R.row × (0 < length hub.now.turns) × IsSeatOf hub.now other }
+            ensures { IsSeatOf hub.entry.now result.0 × (result.0.client ≡ other.client) }
+        { read(rt, hub, other) },
+    )
+}
+
+/// Four clients at once.
+fn read_all<R: Threads + Wait + Sync>(
+    rt: &R,
+    hub: &Hub<SimLink>,
+    one: Seat,
+    two: Seat,
+    three: Seat,
+    four: Seat,
+) -> ((Taken, Taken), (Taken, Taken))
+    requires board { 0 < length hub.now.turns }
+    requires first { IsSeatOf hub.now one × IsSeatOf hub.now two }
+    requires second { IsSeatOf hub.now three × IsSeatOf hub.now four }
+    ensures one { IsSeatOf hub.now result.0.0.0 × (result.0.0.0.client ≡ one.client) }
+    ensures two { IsSeatOf hub.now result.0.1.0 × (result.0.1.0.client ≡ two.client) }
+    ensures three { IsSeatOf hub.now result.1.0.0 × (result.1.0.0.client ≡ three.client) }
+    ensures four { IsSeatOf hub.now result.1.1.0 × (result.1.1.0.client ≡ four.client) }
+{
+    join(
+        rt,
+        move || -> (Taken, Taken)
+            requires { IsSync R.row × (0 < length hub.now.turns) × IsSeatOf hub.now one × IsSeatOf hub.now two }
+            ensures { IsSeatOf hub.entry.now result.0.0 × (result.0.0.client ≡ one.client)
+                × IsSeatOf hub.entry.now result.1.0 × (result.1.0.client ≡ two.client) }
+        { read_both(rt, hub, one, two) },
+        move || -> (Taken, Taken)
+            requires { IsSync R.row × (0 < length hub.now.turns) × IsSeatOf hub.now three × IsSeatOf hub.now four }
+            ensures { IsSeatOf hub.entry.now result.0.0 × (result.0.0.client ≡ three.client)
+                × IsSeatOf hub.entry.now result.1.0 × (result.1.0.client ≡ four.client) }
+        { read_both(rt, hub, three, four) },
+    )
+}
+
+/// Joins the seats of clients 1 to 4, and takes the lanes.
+fn finish_four<R: Wait>(
+    rt: &R,
+    hub: Hub<SimLink>,
+    mut master: Master,
+    first: (Seat, Seat),
+    second: (Seat, Seat),
+) -> Vec<Lane<SimLink>>
+    requires master { IsMasterOf hub master × (master.seats ≡ 4) }
+    requires taken_in { HasTakenIn 1 master }
+    requires one { IsSeatOf hub first.0 × (first.0.client ≡ 1) }
+    requires two { IsSeatOf hub first.1 × (first.1.client ≡ 2) }
+    requires three { IsSeatOf hub second.0 × (second.0.client ≡ 3) }
+    requires four { IsSeatOf hub second.1 × (second.1.client ≡ 4) }
+{
+    let (one, two) = first;
+    let (three, four) = second;
+    master.join(&hub, one);
+    master.join(&hub, two);
+    master.join(&hub, three);
+    finish(rt, hub, master, four)
+}
+
+/// Whether these are the places 1 to 4, in some order.
+fn are_the_first_four(places: [u64; 4]) -> bool {
+    for place in 1u64..5 {
+        if !places.contains(&place) {
+            return false;
+        }
+    }
+    true
+}
+
+/// Adds the kinds of a client's entries, in order, a digit each. A `?` for an entry that is not of its first body.
+fn push_kinds(kinds: &mut String, entries: &[Entry], client: u32) -> Result<(), NoMemory> {
+    for entry in entries {
+        if entry.maker == client {
+            let kind = if entry.seq == 0 {
+                digit(entry.kind)
+            } else {
+                '?'
+            };
+            kinds.push(kind)?;
+        }
+    }
+    Ok(())
+}
+
+/// The kinds of the entries of clients 1 to 4 in the first lane, one client after another.
+fn kinds_by_client(alloc: Global, lanes: &[Lane<SimLink>]) -> Result<String, NoMemory> {
+    let mut kinds = String::new(alloc);
+    let Some(lane) = lanes.first() else {
+        return Ok(kinds);
+    };
+    for client in 1..5 {
+        push_kinds(&mut kinds, lane.entries(), client)?;
+    }
+    Ok(kinds)
+}
+
+/// How many entries the first lane has, and how many places have each fate.
+fn first_counts(lanes: &[Lane<SimLink>]) -> Option<(usize, (u64, u64, u64))> {
+    let lane = lanes.first()?;
+    Some((lane.entries().len(), lane.counts()))
+}
+
+#[test]
+fn four_clients_read_at_once(rt: HostRuntime) -> Result<(), Fail> {
+    let lane = planned_lane(rt.alloc(), "ddlddld2r", 5)?;
+    let (hub, mut master, one) = hub_of(rt.alloc(), lane)?;
+    let (two, three, four) = more_seats(rt.alloc(), &hub, &mut master)?;
+    let ((one, two), (three, four)) = read_all(&rt, &hub, one, two, three, four);
+    let places = [one.1, two.1, three.1, four.1];
+    let lanes = finish_four(&rt, hub, master, (one.0, two.0), (three.0, four.0));
+    assert!(rt; are_the_first_four(places));
+    assert_eq!(rt; first_counts(&lanes), Some((13, (4, 0, 0))));
+    assert_eq!(rt;
+        kinds_by_client(rt.alloc(), &lanes)?.as_str(),
+        "134134134134"
+    );
+    Ok(())
+}
