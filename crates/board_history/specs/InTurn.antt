@@ -1,5 +1,6 @@
 -- Clients one after another: the bodies of the first client are executed before those of the second, and so on.
-use Rattle.std.specs.Prelude.{ℕ, ◌+◌, List, [], ◌∷◌, length}
+use Rattle.std.specs.Prelude.{◌≡◌, ℕ, ◌+◌, List, [], ◌∷◌, length}
+use Rattle.std.specs.List.{AllByRecursion}
 use Rattle.board_bus.specs.Cells.{CellMap}
 use Rattle.board_bus.specs.Bodies.{run_body, replay}
 use Rattle.lane_record.specs.declared.outcome.Outcome.{Outcome}
@@ -24,3 +25,9 @@ in_turn place cells (bodies ∷ later) =
 -- The places of the first client's bodies are 1, 2, .., those of the second client's go on from there, and so on.
 abbrev pub AreInTurn : List (List (List ℕ)) → List (List Outcome) → Type 0
 AreInTurn bodies outcomes = CountsFrom 1 (places_of (all_placed bodies outcomes))
+
+-- one client at most asks anything of the board
+abbrev pub IsUsedByOne : List (List (List ℕ)) → Type 0
+IsUsedByOne [] = Unit {0}
+IsUsedByOne ([] ∷ later) = IsUsedByOne later
+IsUsedByOne ((body ∷ bodies) ∷ later) = AllByRecursion (λ (others : List (List ℕ)). others ≡ []) later

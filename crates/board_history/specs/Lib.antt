@@ -2,6 +2,6 @@ pub mod Order
 pub mod Parts
 pub mod InTurn
 pub mod History
-pub mod Patience
+pub mod GiveUps
 pub mod Merges
 pub mod Examples

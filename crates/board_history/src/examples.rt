@@ -8,7 +8,7 @@ ghost use Rattle.lane_record.specs.declared.outcome.Outcome.TheVariants.{Replied
 ghost use Rattle.board_history.specs.Order.{order};
 ghost use Rattle.board_history.specs.Parts.{AreRepliesOf, HasOneOrder, IsExecutedOnce, KeepsScripts};
 ghost use Rattle.board_history.specs.History.{IsHistory};
-ghost use Rattle.board_history.specs.Patience.{IsPatient};
+ghost use Rattle.board_history.specs.GiveUps.{GaveUpOnlyAfter};
 ghost use Rattle.board_history.specs.Examples.{one_client, one_read, read_body, reads_at, seven, two_clients};
 ghost use Rattle.board_history.specs.InTurn.{in_turn};
 
@@ -41,6 +41,6 @@ pub fn wrong_runs_are_refused()
     ensures never_executed { IsExecutedOnce (order one_client one_read) one_read [] → ⊥ }
     ensures another_bus { AreRepliesOf seven (order one_client ((reads_at 1 8 ∷ []) ∷ []))
         ((reads_at 1 8 ∷ []) ∷ []) → ⊥ }
-    ensures timed_out_too_soon { IsPatient 4 3 2 (((TimedOut 1 2 ∷ []) ∷ []) ∷ []) → ⊥ }
+    ensures timed_out_too_soon { GaveUpOnlyAfter 4 3 2 (((TimedOut 1 2 ∷ []) ∷ []) ∷ []) → ⊥ }
     ensures right { IsHistory seven one_client one_read }
 {}

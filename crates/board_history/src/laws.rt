@@ -14,7 +14,7 @@ ghost use Rattle.std.specs.List.{AllByRecursion, count_by};
 ghost use Rattle.board_history.specs.Order.{bodies_of, order};
 ghost use Rattle.board_history.specs.Parts.{AllReplied, HasOneOrder, IsExecutedOnce, KeepsScripts};
 ghost use Rattle.board_history.specs.Merges.{IsMergeOfAll, IsMergeOfSome};
-ghost use Rattle.board_history.specs.InTurn.{AreInTurn, in_turn};
+ghost use Rattle.board_history.specs.InTurn.{AreInTurn, IsUsedByOne, in_turn};
 ghost use Rattle.board_history.specs.History.{IsHistory, bodies_by_client, outcomes_by_client};
 
 /// Clients that run one after another make one history. Each body is replied to, and the order of the board is the
@@ -39,6 +39,12 @@ pub fn a_history_of_clients_in_turn_is_the_only_one()
     ensures { (opening : CellMap) (bodies : List (List (List ℕ))) (outcomes : List (List Outcome)) →
         IsHistory opening bodies outcomes → AllReplied outcomes → AreInTurn bodies outcomes →
         outcomes ≡ in_turn 1 opening bodies }
+{}
+
+/// A client that uses a board alone has the places 1, 2, 3, .. there, in the order of its script.
+pub fn a_client_alone_is_in_turn()
+    ensures { (bodies : List (List (List ℕ))) (outcomes : List (List Outcome)) → IsUsedByOne bodies →
+        HasOneOrder bodies outcomes → KeepsScripts bodies outcomes → AreInTurn bodies outcomes }
 {}
 
 /// The first sends that the line of a board tells are as many as its order has bodies.

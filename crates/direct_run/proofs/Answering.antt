@@ -1,16 +1,13 @@
 -- Where nothing is lost, each body is answered.
-use Rattle.std.proofs.Common.{◌≡◌, ◌↔◌, ℕ, ◌+◌, ◌<◌, ◌^◌, List, [], ◌∷◌, length, map, Option, Some, None}
-use Rattle.std.proofs.Common.{refl, sym, ap, subst, arith}
+use Rattle.std.proofs.Common.{◌≡◌, ◌↔◌, ℕ, ◌+◌, List, [], ◌∷◌, length, map, Option, Some, None}
+use Rattle.std.proofs.Common.{refl, sym, ap, subst}
 use Rattle.std.specs.List.{AllByRecursion, zip}
 use Rattle.ipb_base.specs.Word.{AreWords}
-use Rattle.ipb_base.proofs.WordLemmas.{AreWords-append}
 use Rattle.ipb_base.proofs.AllLemmas.{all-map}
-use Rattle.transaction_codec.specs.declared.request.Op.{Op}
-use Rattle.transaction_codec.specs.declared.request.Op.TheVariants.{Read, ReadPort, Write, WritePort, RmwBits, RmwSum}
 use Rattle.transaction_codec.specs.declared.request.Request.{Request}
-use Rattle.transaction_codec.specs.Request.{AreRequests, IsRequest, SpellsRequests, op_kind}
-use Rattle.transaction_codec.specs.Request.{request_words, requests_words}
+use Rattle.transaction_codec.specs.Request.{AreRequests, SpellsRequests, requests_words}
 use Rattle.transaction_codec.specs.Answer.{CanAnswer, IsReplyTo}
+use Rattle.mtu_packer.proofs.Sizes.{requests_are_words}
 use Rattle.reply_join.specs.declared.answer.Answer.{Answer}
 use Rattle.reply_join.specs.Joining.{IsJoined}
 use Rattle.reply_join.specs.ByWords.{answers}
@@ -33,24 +30,8 @@ use Rattle.direct_run.proofs.Asking.{Both}
 
 -- ---- requests are words
 
-small_type : (op : Op) → op_kind op < 2 ^ 4
-small_type (Read base count) = omega arith
-small_type (ReadPort base count) = omega arith
-small_type (Write base words) = omega arith
-small_type (WritePort base words) = omega arith
-small_type (RmwBits base and_term or_term) = omega arith
-small_type (RmwSum base addend) = omega arith
-
-one_request : (r : Request) → IsRequest r → AreWords (request_words r)
-one_request r is = (omega (arith, is.tid, is.count, small_type r.op), is.words)
-
-request_are_words : (rs : List Request) → AreRequests rs → AreWords (requests_words rs)
-request_are_words [] is = tt
-request_are_words (r ∷ rs) is =
-    AreWords-append (request_words r) (requests_words rs) (one_request r is.0) (request_are_words rs is.1)
-
 pub spelled_words : (body : List ℕ) → SpellsRequests body → AreWords body
-spelled_words body is = subst AreWords (sym is.2) (request_are_words is.0 is.1)
+spelled_words body is = subst AreWords (sym is.2) (requests_are_words is.0 is.1)
 
 -- ---- what the bus and joining promise
 

@@ -1,23 +1,21 @@
 -- Boards that run here, and scripts that can be executed on them: what is planned for them is packed.
-use Rattle.std.proofs.Common.{ℕ, ◌+◌, ◌≤◌, ◌==◌, List, [], ◌∷◌, inl, inr, arith}
+use Rattle.std.proofs.Common.{ℕ, ◌+◌, ◌≤◌, List, [], ◌∷◌, arith}
 use Rattle.std.specs.List.{AllByRecursion, cons_option}
-use Rattle.std.proofs.lemmas.Bool.{cases_Bool}
 use Rattle.ipb_base.specs.Numbers.{payload_of}
 use Rattle.board_bus.proofs.Openings.{opening-words}
 use Rattle.board_bus.specs.Cells.{HoldsWords}
 use Rattle.board_node.specs.declared.spec.BoardSpec.{BoardSpec}
 use Rattle.board_node.specs.declared.spec.LinkSpec.{LinkSpec}
 use Rattle.board_node.specs.declared.spec.LinkSpec.TheVariants.{Sim, Udp}
-use Rattle.transaction_codec.specs.declared.request.Op.{Op}
-use Rattle.mtu_packer.specs.Cutting.{CanBeCut, HasWords}
 use Rattle.mtu_packer.specs.Packed.{IsPacked, packed}
-use Rattle.script_lang.specs.Executable.{FitsVerb, CanBeAsked, AreExecutable, OpensOnWords, LinkNamesWords}
+use Rattle.script_lang.specs.Executable.{FitsVerb, AreExecutable, OpensOnWords, LinkNamesWords}
 use Rattle.script_lang.specs.declared.operation.RegOp.{RegOp}
 use Rattle.script_lang.specs.declared.operation.Step.{Step}
 use Rattle.script_lang.specs.declared.operation.Step.TheVariants.{Do, Dispatch}
 use Rattle.transcript.specs.declared.greeting.Greeting.{Greeting}
 use Rattle.transcript.specs.declared.greeting.Greeting.TheVariants.{Live, Silent, Down}
-use Rattle.transcript.specs.Plan.{begun, dispatches, operation_in, operations, ops_on}
+use Rattle.transcript.specs.Plan.{dispatches, operation_in, operations, ops_on}
+use Rattle.transcript.proofs.PackedDispatches.{PacksWords, dispatched, dispatches_packed}
 use Rattle.direct_run.specs.Runs.{CanRun, RunsHere, greeting_of, opening_of}
 use Rattle.direct_run.specs.Answering.{OpensWithWords}
 
@@ -68,55 +66,16 @@ all_verbs_kept (steps ∷ scripts) can = (verbs_kept steps can.0, all_verbs_kept
 
 -- ---- packing
 
-abbrev CanAllBeAsked : List RegOp → Type 0
-CanAllBeAsked ops = AllByRecursion CanBeAsked ops
-
-begun_asked : (op : RegOp) (ds : List (List RegOp)) → CanBeAsked op → AllByRecursion CanAllBeAsked ds
-    → AllByRecursion CanAllBeAsked (begun op ds)
-begun_asked op [] can all = ((can, tt), tt)
-begun_asked op (d ∷ ds) can all = ((can, all.0), all.1)
-
-dispatched : (steps : List Step) → AreExecutable steps → AllByRecursion CanAllBeAsked (dispatches steps)
-dispatched [] can = (tt, tt)
-dispatched (Do op ∷ steps) can = begun_asked op (dispatches steps) can.0 (dispatched steps can.1)
-dispatched (Dispatch ∷ steps) can = (tt, dispatched steps can.1)
-
-ops_all : (P : Op → Type 0) (board : ℕ) (ops : List RegOp) → ((op : RegOp) → CanBeAsked op → P op.op)
-    → CanAllBeAsked ops → AllByRecursion P (ops_on board ops)
-ops_all P board [] each all = tt
-ops_all P board (op ∷ ops) each all =
-    elim (cases_Bool (op.board == board)) [
-      | inl here ↦ rw here (each op all.0, ops_all P board ops each all.1)
-      | inr away ↦ rw away (ops_all P board ops each all.1)
-    ]
-
--- operations that can be packed, and have words of 32 bits, are packed
-abbrev pub PacksWords : Type 0
-PacksWords =
-    (ops : List Op) (payload : ℕ) → 16 ≤ payload → payload ≤ 2243 → AllByRecursion CanBeCut ops
-    → AllByRecursion HasWords ops → IsPacked ops payload (packed payload ops)
-
 opens : (link : LinkSpec) → RunsHere link → LinkNamesWords link → HoldsWords (opening_of link)
 opens (Sim mtu buffers first ranges fates) here words = opening-words ranges words
 opens (Udp address port wait) here words = absurd here
 
 module _ (law : PacksWords) where
-  dispatches_packed : (payload board : ℕ) (ds : List (List RegOp)) → 16 ≤ payload → payload ≤ 2243
-      → AllByRecursion CanAllBeAsked ds
-      → AllByRecursion (λ dispatch. IsPacked (ops_on board dispatch) payload (packed payload (ops_on board dispatch)))
-      ds
-  dispatches_packed payload board [] low high all = tt
-  dispatches_packed payload board (d ∷ ds) low high all = (
-    law (ops_on board d) payload low high (ops_all CanBeCut board d (λ op can. can.cut') all.0)
-        (ops_all HasWords board d (λ op can. can.words') all.0),
-    dispatches_packed payload board ds low high all.1,
-  )
-
   scripts_packed : (payload board : ℕ) (scripts : List (List Step)) → 16 ≤ payload → payload ≤ 2243
       → AllByRecursion AreExecutable scripts → AllByRecursion (ArePacked payload board) scripts
   scripts_packed payload board [] low high can = tt
   scripts_packed payload board (steps ∷ scripts) low high can = (
-    dispatches_packed payload board (dispatches steps) low high (dispatched steps can.0),
+    dispatches_packed law payload board (dispatches steps) low high (dispatched steps can.0),
     scripts_packed payload board scripts low high can.1,
   )
 

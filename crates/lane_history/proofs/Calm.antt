@@ -7,7 +7,8 @@ use Rattle.lane_record.specs.declared.outcome.Outcome.{Outcome}
 use Rattle.lane_record.specs.declared.outcome.Outcome.TheVariants.{Replied, TimedOut, Unsent, LinkLost}
 use Rattle.lane_record.specs.Outcomes.{is_given_up, is_lost}
 use Rattle.board_history.specs.Parts.{IsReplied, AllReplied}
-use Rattle.board_history.specs.Patience.{joined, was_given_up, times_given_up, IsPatient}
+use Rattle.lane_record.specs.Dispatches.{joined}
+use Rattle.board_history.specs.GiveUps.{was_given_up, times_given_up, GaveUpOnlyAfter}
 use Rattle.lane_history.proofs.Waits.{count_cons}
 
 -- ---- all are replied to
@@ -65,6 +66,6 @@ clients_calm cost (os ∷ others) some few l = (
   clients_calm cost others some few.1 l.1,
 )
 
-pub all_calm : (window cost : ℕ) (outcomes : List (List (List Outcome))) → 1 ≤ cost → IsPatient window cost 0 outcomes
+pub all_calm : (window cost : ℕ) (outcomes : List (List (List Outcome))) → 1 ≤ cost → GaveUpOnlyAfter window cost 0 outcomes
     → AllByRecursion (AllByRecursion IsNotLost) (map joined outcomes) → AllReplied (map joined outcomes)
 all_calm window cost outcomes some patient l = clients_calm cost outcomes some (patient.dispatches (omega arith)) l

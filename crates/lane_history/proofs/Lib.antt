@@ -1,16 +1,16 @@
-mod Own
+pub mod Own
 mod Rans
 mod Lookups
-mod Opening
+pub mod Opening
 mod Steps
 mod Orders
 mod Histories
 mod Waits
 mod Merges
 mod Calm
-mod InTurn
 mod Growing
 mod Live
 mod Ungarbled
 mod Shown
+mod BoardLines
 mod Lines

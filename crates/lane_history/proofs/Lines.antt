@@ -4,7 +4,7 @@ use Rattle.std.proofs.Common.{refl, sym, ap, ◌∙◌, subst, inl, inr, arith}
 use Rattle.std.specs.List.{AllByRecursion, slice_get}
 use Rattle.std.proofs.lemmas.Option.{same_Some}
 use Rattle.ipb_base.specs.Word.{AreWords}
-use Rattle.ipb_base.proofs.AllLemmas.{front_of_all, back_of_all}
+use Rattle.ipb_base.proofs.AllLemmas.{all-map, front_of_all, back_of_all}
 use Rattle.board_bus.specs.Cells.{CellMap, HoldsWords}
 use Rattle.board_bus.specs.Bodies.{replay}
 use Rattle.board_node.specs.declared.spec.BoardSpec.{BoardSpec}
@@ -16,7 +16,7 @@ use Rattle.reliable_engine.specs.Settings.{Limits}
 use Rattle.script_lang.specs.declared.operation.Step.{Step}
 use Rattle.lane_record.specs.declared.outcome.Outcome.{Outcome}
 use Rattle.lane_record.specs.declared.outcome.Outcome.TheVariants.{Replied, TimedOut, Unsent, LinkLost}
-use Rattle.lane_record.specs.Outcomes.{place_of}
+use Rattle.lane_record.specs.Outcomes.{TellsRounds, place_of}
 use Rattle.transcript.specs.declared.greeting.Greeting.{Greeting}
 use Rattle.transcript.specs.declared.greeting.Greeting.TheVariants.{Live, Silent, Down}
 use Rattle.transcript.specs.declared.board_run.ClientPart.{ClientPart}
@@ -40,6 +40,7 @@ use Rattle.direct_run.proofs.Shaped.{Standing, lengths}
 use Rattle.direct_run.proofs.Spelled.{Spelling, parts_spelled}
 use Rattle.lane_history.specs.Links.{LinkReport, IsBoardOf}
 use Rattle.lane_history.specs.Runs.{TellsPayload, IsLiveRun, IsAsTold, IsRunOver, AreRunsOver, AreWholeRuns}
+use Rattle.lane_history.specs.Runs.{ShowsRounds}
 use Rattle.lane_history.proofs.Ungarbled.{StandsIn, all_stand, HasWords, all_words, words_of, reply_told}
 use Rattle.lane_history.proofs.Shown.{is_history}
 
@@ -47,9 +48,10 @@ use Rattle.lane_history.proofs.Shown.{is_history}
 abbrev pub MayBe : (OpResult → Type 0) → Outcome → Type 0
 MayBe P outcome = (body : List ℕ) → IsReplied outcome ⊎ IsUntold P body outcome
 
--- what is allowed of a run: of each outcome, and of a board that is not live
+-- what is allowed of a run: of each outcome of a live board, and of a board that is not live
 pub record IsAllowed (P : OpResult → Type 0) (run : BoardRun) : Type 0 where
-  pub outcomes : AllByRecursion (AllByRecursion (MayBe P)) (outcomes_by_client run)
+  pub outcomes : (payload : ℕ) → run.greeting ≡ Live payload
+      → AllByRecursion (AllByRecursion (MayBe P)) (outcomes_by_client run)
   pub silent : run.greeting ≡ Silent → P result.Unsent
   pub down : run.greeting ≡ Down → P result.LinkLost
 
@@ -153,7 +155,7 @@ module _ (P : OpResult → Type 0) (answering : Answering) (any : AnsweringAny) 
   live_shows standing spelling settings spec board scripts run link payload greeted is ready may =
       let live : IsLiveRun settings spec payload run link =
       subst (IsAsTold settings spec run link) greeted is.as_told in
-      let told : Live payload ≡ greeting_of spec.link = told_here spec.link payload ready.here live.packets in
+      let told : Live payload ≡ greeting_of spec.link = told_here spec.link payload ready.here live.any_link.packets in
       let there = there_is spec.link link.board ready.here is.board' in
       let history = is_history settings spec board scripts run link there.0 payload is greeted there.1 in
       let packed : AllByRecursion (ArePackedFor board (Live payload)) scripts =
@@ -163,7 +165,8 @@ module _ (P : OpResult → Type 0) (answering : Answering) (any : AnsweringAny) 
       record {
         live = greeted;
         plans' = plans;
-        told = history_fine standing (opening_of spec.link) run ready.words asks history may.outcomes;
+        told = history_fine standing (opening_of spec.link) run ready.words asks history
+            (may.outcomes payload greeted);
         packed' = packed;
       }
 
@@ -232,8 +235,59 @@ all_outcomes (os ∷ oss) = (each_outcome os, all_outcomes oss)
 pub ungarbled_allowed : (runs : List BoardRun) → AreAllowed IsNotGarbled runs
 ungarbled_allowed [] = tt
 ungarbled_allowed (run ∷ runs) = (
-  record { outcomes = all_outcomes (outcomes_by_client run); silent = λ _ e. absurd cc; down = λ _ e. absurd cc },
+  record {
+    outcomes = λ _ _. all_outcomes (outcomes_by_client run);
+    silent = λ _ e. absurd cc;
+    down = λ _ e. absurd cc;
+  },
   ungarbled_allowed runs,
+)
+
+-- ---- what was timed out shows the rounds of the session
+
+pub bus_shows_no_rounds : (rounds : ℕ) (r : OpResult) → IsBusResult r → ShowsRounds rounds r
+bus_shows_no_rounds rounds (result.Value words) bus = tt
+bus_shows_no_rounds rounds result.Done bus = tt
+bus_shows_no_rounds rounds (result.Was word) bus = tt
+bus_shows_no_rounds rounds (result.Error code after) bus = tt
+bus_shows_no_rounds rounds result.Skipped bus = tt
+bus_shows_no_rounds rounds (result.TimedOut shown) bus = absurd bus
+bus_shows_no_rounds rounds result.Unsent bus = tt
+bus_shows_no_rounds rounds result.LinkLost bus = tt
+bus_shows_no_rounds rounds result.Garbled bus = tt
+
+outcome_of_rounds : (rounds : ℕ) (o : Outcome) → TellsRounds rounds o → MayBe (ShowsRounds rounds) o
+outcome_of_rounds rounds (Replied place words) tells body = inl tt
+outcome_of_rounds rounds (TimedOut place told) tells body =
+    inr (record { allowed = λ index. tells; bad = λ index. refl })
+outcome_of_rounds rounds Unsent tells body = inr (record { allowed = λ index. tt; bad = λ index. refl })
+outcome_of_rounds rounds (LinkLost place) tells body = inr (record { allowed = λ index. tt; bad = λ index. refl })
+
+rounds_allowed_over : (settings : Limits) (spec : BoardSpec) (board : ℕ) (scripts : List (List Step)) (run : BoardRun)
+    (link : LinkReport) → IsRunOver settings spec board scripts run link → IsAllowed (ShowsRounds settings.rounds) run
+rounds_allowed_over settings spec board scripts run link is = record {
+  outcomes = λ payload greeted.
+      let live : IsLiveRun settings spec payload run link =
+      subst (IsAsTold settings spec run link) greeted is.as_told in
+      all-map (AllByRecursion (TellsRounds settings.rounds)) (AllByRecursion (MayBe (ShowsRounds settings.rounds)))
+      (outcomes_by_client run)
+      (λ os. all-map (TellsRounds settings.rounds) (MayBe (ShowsRounds settings.rounds)) os
+      (outcome_of_rounds settings.rounds)) live.any_link.tells;
+  silent = λ e. tt;
+  down = λ e. tt;
+}
+
+pub rounds_allowed : (settings : Limits) (board : ℕ) (specs : List BoardSpec) (scripts : List (List Step))
+    (runs : List BoardRun) (links : List LinkReport) → AreRunsOver settings board specs scripts runs links
+    → AreAllowed (ShowsRounds settings.rounds) runs
+rounds_allowed settings board [] scripts [] [] is = tt
+rounds_allowed settings board [] scripts [] (l ∷ links) is = absurd is
+rounds_allowed settings board [] scripts (r ∷ runs) links is = absurd is
+rounds_allowed settings board (spec ∷ specs) scripts [] links is = absurd is
+rounds_allowed settings board (spec ∷ specs) scripts (r ∷ runs) [] is = absurd is
+rounds_allowed settings board (spec ∷ specs) scripts (r ∷ runs) (l ∷ links) is = (
+  rounds_allowed_over settings spec board scripts r l is.0,
+  rounds_allowed settings (board + 1) specs scripts runs links is.1,
 )
 
 -- ---- where all were replied to, lines fail by codes of the bus alone
@@ -257,7 +311,7 @@ whole_allowed board (spec ∷ specs) scripts [] links ready whole = absurd whole
 whole_allowed board (spec ∷ specs) scripts (r ∷ runs) [] ready whole = absurd whole
 whole_allowed board (spec ∷ specs) scripts (r ∷ runs) (l ∷ links) ready whole = (
   record {
-    outcomes = all_may (outcomes_by_client r) whole.0.replied;
+    outcomes = λ _ _. all_may (outcomes_by_client r) whole.0.replied;
     silent = λ e. absurd (never_silent spec.link ready.0.here (sym whole.0.greeting ∙ e));
     down = λ e. absurd (never_down spec.link ready.0.here (sym whole.0.greeting ∙ e));
   },

@@ -6,14 +6,16 @@ use Rattle.std.specs.List.{AllByRecursion}
 use Rattle.board_bus.specs.Cells.{CellMap}
 use Rattle.board_node.specs.declared.spec.BoardSpec.{BoardSpec}
 use Rattle.world_model.specs.Board.{Board, executed}
+use Rattle.world_model.proofs.Lists.{all_get}
 use Rattle.reliable_engine.specs.Settings.{Limits}
 use Rattle.script_lang.specs.declared.operation.Step.{Step}
 use Rattle.lane_record.specs.declared.outcome.Outcome.{Outcome}
 use Rattle.lane_record.specs.declared.item.Item.{Item}
+use Rattle.lane_record.specs.Outcomes.{TellsRounds}
 use Rattle.lane_record.specs.Claims.{claims, taken}
 use Rattle.lane_record.specs.FirstSends.{bodies_sent, first_sends}
 use Rattle.lane_record.specs.Legal.{IsLegal}
-use Rattle.lane_record.specs.Bounds.{AreLostOnlyIf, HasReached}
+use Rattle.lane_record.specs.Bounds.{AreLostOnlyIf, HasReached, TellRounds}
 use Rattle.transcript.specs.declared.greeting.Greeting.{Greeting}
 use Rattle.transcript.specs.declared.greeting.Greeting.TheVariants.{Live}
 use Rattle.transcript.specs.declared.board_run.ClientPart.{ClientPart}
@@ -22,12 +24,13 @@ use Rattle.board_history.specs.Order.{order, bodies_of}
 use Rattle.board_history.specs.Parts.{HasOneOrder, KeepsScripts, IsExecutedOnce, AreRepliesOf}
 use Rattle.board_history.specs.History.{IsHistory, bodies_by_client, outcomes_by_client, dispatches_by_client}
 use Rattle.board_history.specs.History.{dispatches_of}
-use Rattle.board_history.specs.Patience.{joined}
+use Rattle.lane_record.specs.Dispatches.{joined}
 use Rattle.transcript.specs.Plan.{plans_on}
 use Rattle.direct_run.specs.Runs.{opening_of}
 use Rattle.direct_run.proofs.Shaped.{Standing, is_cut, whole_again, heads, lengths, IsCut}
 use Rattle.lane_history.specs.Links.{LinkReport, HasFailed, IsBoardOf, IsLostOnlyIfFailed}
 use Rattle.lane_history.specs.Runs.{ShowsScripts, TellsPayload, IsTrueRun, IsLiveRun, IsAsTold, IsRunOver}
+use Rattle.lane_history.specs.Runs.{HoldsOverAnyLink}
 use Rattle.lane_history.specs.Records.{IsClientsRecord}
 use Rattle.lane_history.specs.Lanes.{IsTrueOf, IsSoundLane}
 use Rattle.lane_history.proofs.Steps.{steps, steps_of_all, finished}
@@ -132,6 +135,15 @@ only_lost bodies outcomes items became link is legal lost =
     (became_outcomes (IsLostOnlyIfFailed link) items became legal
     (finished bodies outcomes items became is legal) (λ k o e is_so. lost k o e is_so))
 
+pub all_tell : (bodies : List (List (List ℕ))) (outcomes : List (List (List Outcome))) (items : List Item)
+    (became : List (Option Outcome)) (rounds : ℕ) → IsClientsRecord bodies outcomes items → IsLegal items became
+    → TellRounds rounds became → AllByRecursion (AllByRecursion (TellsRounds rounds)) (map joined outcomes)
+all_tell bodies outcomes items became rounds is legal tell =
+    each_outcome (TellsRounds rounds) bodies (map joined outcomes) (steps items)
+    (steps_of_all bodies outcomes items became is legal)
+    (became_outcomes (TellsRounds rounds) items became legal (finished bodies outcomes items became is legal)
+    (λ k o there. all_get (λ (x : Option Outcome). IfSome x (TellsRounds rounds)) became k (Some o) tell there))
+
 -- ---- all of it
 
 told_with : (P Q R : Board → Type 0) (board : Option Board) → ((b : Board) → P b → Q b → R b) → IfSome board P
@@ -151,7 +163,7 @@ module _ (standing : Standing) where
       let outcomes = dispatches_by_client run in
       let legal = lane.kept.legal in
       let same = run_joined standing spec board scripts run shows in
-      record {
+      let any_link : HoldsOverAnyLink settings spec payload run link = record {
         packets = packets;
         one_order = subst (HasOneOrder bodies) same (in_one_order bodies outcomes items became is legal);
         script_order = subst (KeepsScripts bodies) same (in_script_order bodies outcomes items became is legal);
@@ -159,6 +171,10 @@ module _ (standing : Standing) where
             lane.kept lane.waited;
         lost = subst (AllByRecursion (AllByRecursion (IsLostOnlyIfFailed link))) same
             (only_lost bodies outcomes items became link is legal lane.lost);
+        tells = subst (AllByRecursion (AllByRecursion (TellsRounds settings.rounds))) same
+            (all_tell bodies outcomes items became settings.rounds is legal lane.tells);
+      } in record {
+        any_link = any_link;
         told = told_with (λ (b : Board). IsTrueOf (opening_of spec.link) (claims items) became (executed b))
             (λ (b : Board). HasReached (settings.rounds * given_up) link.held)
             (IsTrueRun settings (opening_of spec.link) run link.held) link.board

@@ -15,7 +15,7 @@ use Rattle.lane_record.specs.declared.item.What.{What}
 use Rattle.lane_record.specs.declared.item.What.TheVariants.{Plan, Ask, Took}
 use Rattle.lane_record.specs.Items.{plan_in, ask_in, took_in, numbers, found, is_of}
 use Rattle.lane_record.proofs.Lookups.{found_append, numbers_append}
-use Rattle.lane_history.specs.Records.{plans_from}
+use Rattle.lane_record.specs.Dispatches.{plans_from}
 use Rattle.lane_history.proofs.Rans.{Taking, Ran, outcome_took, ask_items, took_items, ran_items, AreWhole}
 use Rattle.lane_history.proofs.Rans.{all_asked, all_took}
 

@@ -25,8 +25,10 @@ use Rattle.lane_record.specs.Legal.{IsLegal, IsMade, HasMaker}
 use Rattle.board_history.specs.Merges.{IsSubsequence, Owned, bodies_by, bodies_owned, IsOfClients, AreSubsequences}
 use Rattle.board_history.specs.Merges.{IsMergeOfSome}
 use Rattle.board_history.proofs.Merging.{front_of_merge}
-use Rattle.lane_history.specs.Records.{entries_by, planned_in, bodies_planned, ArePlansOf, IsPartlyPlanned}
-use Rattle.lane_history.specs.Records.{plans_from, all_plans_from, IsOfClient, IsClientsRecord}
+use Rattle.lane_record.specs.Dispatches.{entries_by}
+use Rattle.lane_history.specs.Records.{planned_in, bodies_planned, ArePlansOf, IsPartlyPlanned}
+use Rattle.lane_record.specs.Dispatches.{plans_from, all_plans_from}
+use Rattle.lane_history.specs.Records.{IsOfClient, IsClientsRecord}
 use Rattle.lane_history.specs.Lanes.{bodies_offered}
 use Rattle.lane_history.proofs.Own.{IsBy, all_by, own_found, own_numbers}
 use Rattle.lane_history.proofs.Rans.{ran_items}

@@ -10,8 +10,9 @@ use Rattle.lane_record.specs.declared.outcome.Outcome.{Outcome}
 use Rattle.lane_record.specs.declared.item.Item.{Item}
 use Rattle.lane_record.specs.Items.{ask_in}
 use Rattle.lane_record.specs.NextEntry.{the_seal}
-use Rattle.board_history.specs.Patience.{joined}
-use Rattle.lane_history.specs.Records.{act_of, entries_by, plans_from, all_plans_from}
+use Rattle.lane_record.specs.Dispatches.{joined}
+use Rattle.lane_record.specs.Dispatches.{numbered_action, entries_by}
+use Rattle.lane_record.specs.Dispatches.{plans_from, all_plans_from}
 use Rattle.lane_history.specs.Records.{DidDispatches, IsOfClient, IsClientsRecord}
 use Rattle.lane_history.proofs.Own.{by_append, all_by, none_by, only_by, IsBy}
 use Rattle.lane_history.proofs.Rans.{Ran, outcomes_ran, AreWhole, rans_in}
@@ -124,7 +125,7 @@ did_behind_seal : (client : ℕ) (outcomes : List (List (List Outcome))) (past :
     → DidDispatches client outcomes past → DidDispatches client outcomes (the_seal ∷ past)
 did_behind_seal client [] past low did = tt
 did_behind_seal client (os ∷ others) past low did =
-    (ap (map act_of) (no_seal client past low) ∙ did.0, did_behind_seal (client + 1) others past (omega arith) did.1)
+    (ap (map numbered_action) (no_seal client past low) ∙ did.0, did_behind_seal (client + 1) others past (omega arith) did.1)
 
 pub each_ran : (bodies : List (List (List ℕ))) (outcomes : List (List (List Outcome))) (items : List Item)
     → IsClientsRecord bodies outcomes items → AllRan 1 bodies outcomes items

@@ -12,7 +12,7 @@ use Rattle.lane_record.specs.declared.item.Item.{Item}
 use Rattle.lane_record.specs.declared.item.What.{What}
 use Rattle.lane_record.specs.Lists.{NeverFalls}
 use Rattle.lane_record.specs.Items.{numbers, found, is_of, give_ups, give_ups_in, and_number}
-use Rattle.lane_history.specs.Records.{act_of, entries_by, acts_by}
+use Rattle.lane_record.specs.Dispatches.{numbered_action, entries_by, actions_by}
 
 abbrev pub is_by : ℕ → Item → Bool
 is_by client x = x.client == client
@@ -21,9 +21,9 @@ pub by_append : (client : ℕ) (xs ys : List Item)
     → entries_by client (xs ++ ys) ≡ entries_by client xs ++ entries_by client ys
 by_append client xs ys = filter-append (is_by client) xs ys
 
-pub acts_append : (client : ℕ) (xs ys : List Item) → acts_by client (xs ++ ys) ≡ acts_by client xs ++ acts_by client ys
+pub acts_append : (client : ℕ) (xs ys : List Item) → actions_by client (xs ++ ys) ≡ actions_by client xs ++ actions_by client ys
 acts_append client xs ys =
-    ap (map act_of) (by_append client xs ys) ∙ map-append act_of (entries_by client xs) (entries_by client ys)
+    ap (map numbered_action) (by_append client xs ys) ∙ map-append numbered_action (entries_by client xs) (entries_by client ys)
 
 -- all of them are the client's
 abbrev pub IsBy : ℕ → Item → Type 0

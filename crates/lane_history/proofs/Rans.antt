@@ -7,8 +7,9 @@ use Rattle.lane_record.specs.declared.outcome.Outcome.{Outcome}
 use Rattle.lane_record.specs.declared.item.Item.{Item}
 use Rattle.lane_record.specs.declared.item.What.{What}
 use Rattle.lane_record.specs.declared.item.What.TheVariants.{Plan, Seal, Ask, Took}
-use Rattle.lane_history.specs.Records.{Asked, Taken, deed_of, Act, act_of}
-use Rattle.lane_history.specs.Records.{asks_from, tooks_from, dispatches_from}
+use Rattle.lane_record.specs.Dispatches.{action_of, NumberedAction, numbered_action}
+use Rattle.lane_record.specs.Dispatches.{Asked, Taken}
+use Rattle.lane_record.specs.Dispatches.{asks_from, tooks_from, dispatches_from}
 use Rattle.lane_history.proofs.Own.{IsBy}
 
 -- what was taken, and how many times the lane had given up then
@@ -53,26 +54,26 @@ all_took rs = flat_map (λ (r : Ran). r.took) rs
 
 -- ---- from what was done to the entries
 
--- a list of acts in two parts
-pub record InParts (xs : List Item) (as' bs : List Act) : Type 0 where
+-- a list of actions in two parts
+pub record InParts (xs : List Item) (as' bs : List NumberedAction) : Type 0 where
   pub front : List Item
   pub back : List Item
   pub parts : xs ≡ front ++ back
-  pub first : map act_of front ≡ as'
-  pub second : map act_of back ≡ bs
+  pub first : map numbered_action front ≡ as'
+  pub second : map numbered_action back ≡ bs
 
-in_parts : (xs : List Item) (as' bs : List Act) → map act_of xs ≡ as' ++ bs → InParts xs as' bs
+in_parts : (xs : List Item) (as' bs : List NumberedAction) → map numbered_action xs ≡ as' ++ bs → InParts xs as' bs
 in_parts xs [] bs e = record { front = []; back = xs; parts = refl; first = refl; second = e }
 in_parts [] (a ∷ as') bs e = absurd cc
 in_parts (x ∷ xs) (a ∷ as') bs e =
-    let tail : map act_of xs ≡ as' ++ bs = cc in
-    let head : act_of x ≡ a = cc in
+    let tail : map numbered_action xs ≡ as' ++ bs = cc in
+    let head : numbered_action x ≡ a = cc in
     let later = in_parts xs as' bs tail in
     record {
       front = x ∷ later.front;
       back = later.back;
       parts = ap (λ (ys : List Item). x ∷ ys) later.parts;
-      first = ap (λ (y : Act). y ∷ map act_of later.front) head ∙ ap (λ (ys : List Act). a ∷ ys) later.first;
+      first = ap (λ (y : NumberedAction). y ∷ map numbered_action later.front) head ∙ ap (λ (ys : List NumberedAction). a ∷ ys) later.first;
       second = later.second;
     }
 
@@ -81,7 +82,7 @@ pub record IsAsk (what : What) : Type 0 where
   pub give_ups : ℕ
   pub same : what ≡ Ask give_ups
 
-is_ask : (what : What) → deed_of what ≡ Asked → IsAsk what
+is_ask : (what : What) → action_of what ≡ Asked → IsAsk what
 is_ask (Plan body) e = absurd cc
 is_ask Seal e = absurd cc
 is_ask (Ask n) e = record { give_ups = n; same = refl }
@@ -91,7 +92,7 @@ pub record IsTook (what : What) (outcome : Outcome) : Type 0 where
   pub give_ups : ℕ
   pub same : what ≡ Took outcome give_ups
 
-is_took : (what : What) (outcome : Outcome) → deed_of what ≡ Taken outcome → IsTook what outcome
+is_took : (what : What) (outcome : Outcome) → action_of what ≡ Taken outcome → IsTook what outcome
 is_took (Plan body) outcome e = absurd cc
 is_took Seal outcome e = absurd cc
 is_took (Ask n) outcome e = absurd cc
@@ -110,16 +111,16 @@ pub record AsksIn (client seq many : ℕ) (xs : List Item) : Type 0 where
   pub items : xs ≡ ask_items client seq asked
   pub count : length asked ≡ many
 
-asks_in : (client seq many : ℕ) (xs : List Item) → AllByRecursion (IsBy client) xs → map act_of xs ≡ asks_from seq many
+asks_in : (client seq many : ℕ) (xs : List Item) → AllByRecursion (IsBy client) xs → map numbered_action xs ≡ asks_from seq many
     → AsksIn client seq many xs
 asks_in client seq zero [] by e = record { asked = []; items = refl; count = refl }
 asks_in client seq zero (x ∷ xs) by e = absurd cc
 asks_in client seq (suc many) [] by e = absurd cc
 asks_in client seq (suc many) (x ∷ xs) by e =
-    let head : act_of x ≡ record { seq = seq; deed = Asked } = cc in
-    let s : x.seq ≡ seq = ap (λ (a : Act). a.seq) head in
-    let d : deed_of x.what ≡ Asked = ap (λ (a : Act). a.deed) head in
-    let tail : map act_of xs ≡ asks_from (seq + 1) many = cc in
+    let head : numbered_action x ≡ record { seq = seq; action = Asked } = cc in
+    let s : x.seq ≡ seq = ap (λ (a : NumberedAction). a.seq) head in
+    let d : action_of x.what ≡ Asked = ap (λ (a : NumberedAction). a.action) head in
+    let tail : map numbered_action xs ≡ asks_from (seq + 1) many = cc in
     let what = is_ask x.what d in
     let later = asks_in client (seq + 1) many xs by.1 tail in
     record {
@@ -135,15 +136,15 @@ pub record TooksIn (client seq : ℕ) (outcomes : List Outcome) (xs : List Item)
   pub same : outcomes ≡ map outcome_took took
 
 tooks_in : (client seq : ℕ) (outcomes : List Outcome) (xs : List Item) → AllByRecursion (IsBy client) xs
-    → map act_of xs ≡ tooks_from seq outcomes → TooksIn client seq outcomes xs
+    → map numbered_action xs ≡ tooks_from seq outcomes → TooksIn client seq outcomes xs
 tooks_in client seq [] [] by e = record { took = []; items = refl; same = refl }
 tooks_in client seq [] (x ∷ xs) by e = absurd cc
 tooks_in client seq (o ∷ os) [] by e = absurd cc
 tooks_in client seq (o ∷ os) (x ∷ xs) by e =
-    let head : act_of x ≡ record { seq = seq; deed = Taken o } = cc in
-    let s : x.seq ≡ seq = ap (λ (a : Act). a.seq) head in
-    let d : deed_of x.what ≡ Taken o = ap (λ (a : Act). a.deed) head in
-    let tail : map act_of xs ≡ tooks_from (seq + 1) os = cc in
+    let head : numbered_action x ≡ record { seq = seq; action = Taken o } = cc in
+    let s : x.seq ≡ seq = ap (λ (a : NumberedAction). a.seq) head in
+    let d : action_of x.what ≡ Taken o = ap (λ (a : NumberedAction). a.action) head in
+    let tail : map numbered_action xs ≡ tooks_from (seq + 1) os = cc in
     let what = is_took x.what o d in
     let later = tooks_in client (seq + 1) os xs by.1 tail in
     record {
@@ -173,7 +174,7 @@ front_by client (x ∷ xs) (y ∷ ys) zs e all =
     ((subst (IsBy client) head all.0, later.0), later.1)
 
 pub rans_in : (client seq : ℕ) (dispatches : List (List Outcome)) (xs : List Item) → AllByRecursion (IsBy client) xs
-    → map act_of xs ≡ dispatches_from seq dispatches → RansIn client seq dispatches xs
+    → map numbered_action xs ≡ dispatches_from seq dispatches → RansIn client seq dispatches xs
 rans_in client seq [] [] by e = record { rans = []; whole = tt; items = refl; same = refl }
 rans_in client seq [] (x ∷ xs) by e = absurd cc
 rans_in client seq (outcomes ∷ later) xs by e =
@@ -187,7 +188,7 @@ rans_in client seq (outcomes ∷ later) xs by e =
     let count : length outcomes ≡ length tooks.took =
     ap length tooks.same ∙ length-map tooks.took outcome_took in
     let rest = rans_in client (seq + length tooks.took) later two.back by_two.1
-    (subst (λ (k : ℕ). map act_of two.back ≡ dispatches_from (seq + k) later) count two.second) in
+    (subst (λ (k : ℕ). map numbered_action two.back ≡ dispatches_from (seq + k) later) count two.second) in
     let run : Ran = record { asked = asks.asked; took = tooks.took } in
     record {
       rans = run ∷ rest.rans;

@@ -1,5 +1,5 @@
 -- What follows from what a run shows.
-use Rattle.std.proofs.Common.{◌≡◌, ℕ, ◌+◌, ◌≤◌, List, [], ◌∷◌, ◌++◌, map, Option, Some, None, refl}
+use Rattle.std.proofs.Common.{◌≡◌, ℕ, ◌+◌, ◌≤◌, List, [], ◌∷◌, map, Option, Some, None, refl}
 use Rattle.std.proofs.Common.{sym, ap, ◌∙◌, subst, arith}
 use Rattle.std.specs.Prelude.{IfSome}
 use Rattle.std.specs.List.{AllByRecursion, zip}
@@ -22,35 +22,29 @@ use Rattle.transcript.specs.declared.board_run.BoardRun.{BoardRun}
 use Rattle.transcript.specs.Plan.{ClientBodies, plans_on, planned_on}
 use Rattle.transcript.specs.Shown.{ArePlanned}
 use Rattle.transcript.specs.Ends.{end_of, ends_of}
-use Rattle.board_history.specs.Order.{Placed, placed, all_placed, by_place, places_of}
-use Rattle.board_history.specs.Parts.{HasOneOrder, AllReplied}
-use Rattle.board_history.specs.InTurn.{AreInTurn}
+use Rattle.board_history.specs.Order.{Placed, by_place, places_of}
+use Rattle.board_history.specs.Parts.{HasOneOrder, KeepsScripts, AllReplied}
+use Rattle.board_history.specs.InTurn.{AreInTurn, IsUsedByOne}
 use Rattle.board_history.specs.History.{IsOrdered, ShowsHistory, bodies_by_client, outcomes_by_client}
 use Rattle.board_history.specs.History.{dispatches_by_client}
-use Rattle.board_history.specs.Patience.{joined, IsPatient}
+use Rattle.lane_record.specs.Dispatches.{joined}
+use Rattle.board_history.specs.GiveUps.{GaveUpOnlyAfter}
 use Rattle.board_history.specs.Merges.{AreSubsequences, IsMergeOfSome, IsMergeOfAll}
+use Rattle.board_history.proofs.Alone.{none_placed}
 use Rattle.board_history.proofs.Merging.{executed_some, executed_whole, order_whole}
-use Rattle.direct_run.specs.Runs.{greeting_of, opening_of, AreRuns}
+use Rattle.direct_run.specs.Runs.{greeting_of, opening_of, IsRun, board_run, runs_from}
 use Rattle.direct_run.specs.Answering.{AskRequests, OpensWithWords}
 use Rattle.direct_run.proofs.Shaped.{Standing}
 use Rattle.direct_run.proofs.Answering.{Answering, AnsweringAny, Keeping, KeepingAll, Garbling, Joins}
-use Rattle.lane_history.specs.Links.{LinkReport, IsBoardOf, IsCalm, IsLostOnlyIfFailed, IsUntouched}
+use Rattle.lane_history.specs.Links.{LinkReport, IsBoardOf, IsFaithful, IsLostOnlyIfFailed, IsUntouched}
 use Rattle.lane_history.specs.Runs.{ShowsScripts, TellsPayload, IsTrueRun, IsLiveRun, IsSilentRun, IsDownRun, IsAsTold}
 use Rattle.lane_history.specs.Runs.{IsRunOver, AreRunsOver, ExecutedSome, AllExecutedSome, IsWholeRun, AreWholeRuns}
-use Rattle.lane_history.specs.Runs.{IsUngarbled, NoneGarbled}
+use Rattle.lane_history.specs.Runs.{HaveOwnBoards, IsUngarbled, NoneGarbled, ShowAloneRuns}
 use Rattle.lane_history.proofs.Ungarbled.{none_garbled}
 use Rattle.lane_history.proofs.Calm.{all_calm, IsNotLost}
 use Rattle.lane_history.proofs.Live.{run_joined}
 
 -- ---- a board that was asked nothing
-
-nothing_placed : (clients : List (List (List ℕ))) (outcomes : List (List Outcome))
-    → AllByRecursion (λ (bodies : List (List ℕ)). bodies ≡ []) clients → all_placed clients outcomes ≡ []
-nothing_placed [] outcomes none = refl
-nothing_placed (bodies ∷ later) [] none = refl
-nothing_placed (bodies ∷ later) (os ∷ others) none =
-    ap (λ (bs : List (List ℕ)). placed bs os ++ all_placed later others) none.0
-    ∙ nothing_placed later others none.1
 
 nothing_planned : (board : ℕ) (told : Greeting) (scripts : List (List Step)) (parts : List ClientPart)
     → ((steps : List Step) → (planned_on board told steps).bodies ≡ [])
@@ -74,7 +68,7 @@ no_order : (spec : BoardSpec) (board : ℕ) (told : Greeting) (scripts : List (L
     → ShowsScripts spec board scripts run → HasOneOrder (bodies_by_client run) (outcomes_by_client run)
 no_order spec board told scripts run greeted none shows =
     let plans = shows.plans ∙ ap (λ (g : Greeting). plans_on board g scripts) greeted in
-    let nothing = nothing_placed (bodies_by_client run) (outcomes_by_client run)
+    let nothing = none_placed (bodies_by_client run) (outcomes_by_client run)
     (nothing_planned board told scripts run.parts none plans) in
     subst IsOneOrder (sym (ap by_place nothing)) tt
 
@@ -84,7 +78,7 @@ ordered_as : (settings : Limits) (spec : BoardSpec) (board : ℕ) (scripts : Lis
     (link : LinkReport) (told : Greeting) → run.greeting ≡ told → ShowsScripts spec board scripts run
     → IsAsTold settings spec run link told → IsOrdered run
 ordered_as settings spec board scripts run link (Live payload) greeted shows is =
-    record { shape = shows.shape; one_order = is.one_order }
+    record { shape = shows.shape; one_order = is.any_link.one_order }
 ordered_as settings spec board scripts run link Silent greeted shows is = record {
   shape = shows.shape;
   one_order = no_order spec board Silent scripts run greeted (λ steps. refl) shows;
@@ -136,8 +130,8 @@ is_history settings spec board scripts run link there payload is greeted tells =
     let true' = at_some (IsTrueRun settings (opening_of spec.link) run link.held) link.board there tells live.told in
     record {
       shape = is.scripts'.shape;
-      one_order = live.one_order;
-      script_order = live.script_order;
+      one_order = live.any_link.one_order;
+      script_order = live.any_link.script_order;
       replies = true'.replies;
     }
 
@@ -198,9 +192,9 @@ executed_as settings spec board scripts run link (Live payload) greeted shows is
     (λ (b : Board). ExecutedSome spec board scripts (executed b)) link.board
     (λ b true'. record {
       payload = payload;
-      told = is.packets;
+      told = is.any_link.packets;
       merge = subst (λ (bss : List (List (List ℕ))). IsMergeOfSome bss (executed b)) bodies
-          (executed_some (bodies_by_client run) (outcomes_by_client run) (executed b) shows.shape is.script_order
+          (executed_some (bodies_by_client run) (outcomes_by_client run) (executed b) shows.shape is.any_link.script_order
           true'.executed_once);
     }) is.told
 executed_as settings spec board scripts run link Silent greeted shows is =
@@ -239,7 +233,7 @@ told_greeting (Udp address port wait) (Some b) there payload tells of packets = 
 
 module _ (standing : Standing) where
   calm_live : (settings : Limits) (spec : BoardSpec) (board : ℕ) (scripts : List (List Step)) (run : BoardRun)
-      (link : LinkReport) (payload : ℕ) → run.greeting ≡ Live payload → 1 ≤ settings.rounds → IsCalm link
+      (link : LinkReport) (payload : ℕ) → run.greeting ≡ Live payload → 1 ≤ settings.rounds → IsFaithful link
       → IsRunOver settings spec board scripts run link → IsWholeRun spec run link
   calm_live settings spec board scripts run link payload greeted some calm is =
       let live : IsLiveRun settings spec payload run link =
@@ -247,21 +241,21 @@ module _ (standing : Standing) where
       let true' = at_some (IsTrueRun settings (opening_of spec.link) run link.held) link.board calm.there calm.tells
       live.told in
       let same = run_joined standing spec board scripts run is.scripts' in
-      let patient : IsPatient settings.window settings.rounds 0 (dispatches_by_client run) =
-      subst (λ (n : ℕ). IsPatient settings.window settings.rounds n (dispatches_by_client run)) calm.held'
+      let patient : GaveUpOnlyAfter settings.window settings.rounds 0 (dispatches_by_client run) =
+      subst (λ (n : ℕ). GaveUpOnlyAfter settings.window settings.rounds n (dispatches_by_client run)) calm.held'
       true'.held' in
       let kept : AllByRecursion (AllByRecursion IsNotLost) (map joined (dispatches_by_client run)) =
       subst (AllByRecursion (AllByRecursion IsNotLost)) (sym same)
-      (not_lost link (outcomes_by_client run) calm.faults' live.lost) in
+      (not_lost link (outcomes_by_client run) calm.faults' live.any_link.lost) in
       let replied : AllReplied (outcomes_by_client run) =
       subst AllReplied same (all_calm settings.window settings.rounds (dispatches_by_client run) some patient kept) in
       let whole : IsMergeOfAll (bodies_by_client run) (executed calm.there) =
       subst (IsMergeOfAll (bodies_by_client run))
-      (sym (executed_whole (bodies_by_client run) (outcomes_by_client run) (executed calm.there) live.one_order
+      (sym (executed_whole (bodies_by_client run) (outcomes_by_client run) (executed calm.there) live.any_link.one_order
       replied true'.executed_once))
-      (order_whole (bodies_by_client run) (outcomes_by_client run) is.scripts'.shape live.script_order replied) in
+      (order_whole (bodies_by_client run) (outcomes_by_client run) is.scripts'.shape live.any_link.script_order replied) in
       record {
-        greeting = greeted ∙ told_greeting spec.link link.board calm.there payload calm.tells is.board' live.packets;
+        greeting = greeted ∙ told_greeting spec.link link.board calm.there payload calm.tells is.board' live.any_link.packets;
         replied = replied;
         history = is_history settings spec board scripts run link calm.there payload is greeted calm.tells;
         all_executed = subst (λ (o : Option Board). IfSome o (λ b. IsMergeOfAll (bodies_by_client run) (executed b)))
@@ -269,7 +263,7 @@ module _ (standing : Standing) where
       }
 
   calm_run : (settings : Limits) (spec : BoardSpec) (board : ℕ) (scripts : List (List Step)) (run : BoardRun)
-      (link : LinkReport) (told : Greeting) → run.greeting ≡ told → 1 ≤ settings.rounds → IsCalm link
+      (link : LinkReport) (told : Greeting) → run.greeting ≡ told → 1 ≤ settings.rounds → IsFaithful link
       → IsRunOver settings spec board scripts run link → IsWholeRun spec run link
   calm_run settings spec board scripts run link (Live payload) greeted some calm is =
       calm_live settings spec board scripts run link payload greeted some calm is
@@ -282,7 +276,7 @@ module _ (standing : Standing) where
       absurd (omega (arith, down.failed, calm.faults'))
 
   pub whole_runs : (settings : Limits) (board : ℕ) (specs : List BoardSpec) (scripts : List (List Step))
-      (runs : List BoardRun) (links : List LinkReport) → 1 ≤ settings.rounds → AllByRecursion IsCalm links
+      (runs : List BoardRun) (links : List LinkReport) → 1 ≤ settings.rounds → AllByRecursion IsFaithful links
       → AreRunsOver settings board specs scripts runs links → AreWholeRuns specs runs links
   whole_runs settings board [] scripts [] [] some calm is = tt
   whole_runs settings board [] scripts [] (link ∷ links) some calm is = absurd is
@@ -294,30 +288,61 @@ module _ (standing : Standing) where
     whole_runs settings (board + 1) specs scripts runs links some calm.1 is.1,
   )
 
--- ---- clients one after another
+-- ---- a client alone
 
-abbrev pub IsInTurn : BoardRun → Type 0
-IsInTurn run = AreInTurn (bodies_by_client run) (outcomes_by_client run)
-
-pub runs_in_turn : (settings : Limits) (board : ℕ) (specs : List BoardSpec) (scripts : List (List Step))
-    (runs : List BoardRun) (links : List LinkReport) → AreRunsOver settings board specs scripts runs links
-    → AreWholeRuns specs runs links → AllByRecursion IsInTurn runs → AreRuns board specs scripts runs
-runs_in_turn settings board [] scripts [] [] is whole turn = tt
-runs_in_turn settings board [] scripts [] (link ∷ links) is whole turn = absurd is
-runs_in_turn settings board [] scripts (run ∷ runs) links is whole turn = absurd is
-runs_in_turn settings board (spec ∷ specs) scripts [] links is whole turn = absurd is
-runs_in_turn settings board (spec ∷ specs) scripts (run ∷ runs) [] is whole turn = absurd is
-runs_in_turn settings board (spec ∷ specs) scripts (run ∷ runs) (link ∷ links) is whole turn = (
-  record {
+pub alone_runs : ((bodies : List (List (List ℕ))) (outcomes : List (List Outcome)) → IsUsedByOne bodies
+    → HasOneOrder bodies outcomes → KeepsScripts bodies outcomes → AreInTurn bodies outcomes)
+    → ((spec : BoardSpec) (board : ℕ) (scripts : List (List Step)) (run : BoardRun) → IsRun spec board scripts run
+    → run ≡ board_run spec board scripts)
+    → (settings : Limits) (board : ℕ) (specs : List BoardSpec) (scripts : List (List Step)) (runs : List BoardRun)
+    (links : List LinkReport) → AreRunsOver settings board specs scripts runs links → AreWholeRuns specs runs links
+    → ShowAloneRuns board specs scripts runs
+alone_runs in_turn only settings board [] scripts [] [] is whole = tt
+alone_runs in_turn only settings board [] scripts [] (link ∷ links) is whole = absurd is
+alone_runs in_turn only settings board [] scripts (run ∷ runs) links is whole = absurd is
+alone_runs in_turn only settings board (spec ∷ specs) scripts [] links is whole = absurd is
+alone_runs in_turn only settings board (spec ∷ specs) scripts (run ∷ runs) [] is whole = absurd is
+alone_runs in_turn only settings board (spec ∷ specs) scripts (run ∷ runs) (link ∷ links) is whole = (
+  λ one. only spec board scripts run (record {
     name = is.0.scripts'.name;
     greeting = whole.0.greeting;
     plans = is.0.scripts'.plans;
     history = whole.0.history;
     replied = whole.0.replied;
-    in_turn = turn.0;
-  },
-  runs_in_turn settings (board + 1) specs scripts runs links is.1 whole.1 turn.1,
+    in_turn = in_turn (bodies_by_client run) (outcomes_by_client run) one whole.0.history.one_order
+        whole.0.history.script_order;
+  }),
+  alone_runs in_turn only settings (board + 1) specs scripts runs links is.1 whole.1,
 )
+
+bodies_in_plans : (parts : List ClientPart) → map (λ (p : ClientPart). p.planned.bodies) parts
+    ≡ map (λ (p : ClientBodies). p.bodies) (map (λ (p : ClientPart). p.planned) parts)
+bodies_in_plans [] = refl
+bodies_in_plans (part ∷ parts) = ap (λ (bs : List (List (List ℕ))). part.planned.bodies ∷ bs) (bodies_in_plans parts)
+
+-- what clients asked of a board, by their plans
+asked_bodies : (parts : List ClientPart) (plans : List ClientBodies) → map (λ (p : ClientPart). p.planned) parts ≡ plans
+    → map (λ (p : ClientPart). p.planned.bodies) parts ≡ map (λ (p : ClientBodies). p.bodies) plans
+asked_bodies parts plans same =
+    bodies_in_plans parts ∙ ap (λ (ps : List ClientBodies). map (λ (p : ClientBodies). p.bodies) ps) same
+
+pub own_runs : (settings : Limits) (board : ℕ) (specs : List BoardSpec) (scripts : List (List Step))
+    (runs : List BoardRun) (links : List LinkReport) → AreRunsOver settings board specs scripts runs links
+    → AreWholeRuns specs runs links → ShowAloneRuns board specs scripts runs → HaveOwnBoards board specs scripts
+    → runs ≡ runs_from board specs scripts
+own_runs settings board [] scripts [] [] is whole alone own = refl
+own_runs settings board [] scripts [] (link ∷ links) is whole alone own = absurd is
+own_runs settings board [] scripts (run ∷ runs) links is whole alone own = absurd is
+own_runs settings board (spec ∷ specs) scripts [] links is whole alone own = absurd is
+own_runs settings board (spec ∷ specs) scripts (run ∷ runs) [] is whole alone own = absurd is
+own_runs settings board (spec ∷ specs) scripts (run ∷ runs) (link ∷ links) is whole alone own =
+    let planned : map (λ (p : ClientPart). p.planned) run.parts ≡ plans_on board (greeting_of spec.link) scripts =
+    is.0.scripts'.plans ∙ ap (λ (g : Greeting). plans_on board g scripts) whole.0.greeting in
+    let one : IsUsedByOne (bodies_by_client run) = subst IsUsedByOne
+    (sym (asked_bodies run.parts (plans_on board (greeting_of spec.link) scripts) planned)) own.0 in
+    ap (λ (r : BoardRun). r ∷ runs) (alone.0 one)
+    ∙ ap (λ (rs : List BoardRun). board_run spec board scripts ∷ rs)
+    (own_runs settings (board + 1) specs scripts runs links is.1 whole.1 alone.1 own.1)
 
 -- ---- replies
 

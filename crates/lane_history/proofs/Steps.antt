@@ -15,7 +15,7 @@ use Rattle.lane_record.specs.Items.{plan_in, ask_in, took_in, numbers, found}
 use Rattle.lane_record.specs.Claims.{Claim, claims, claims_behind, claim_in, outcome_taken, taken, IsTaken, IsFinished}
 use Rattle.lane_record.specs.Legal.{IsLegal}
 use Rattle.lane_record.proofs.Finished.{asked_as_planned}
-use Rattle.board_history.specs.Patience.{joined}
+use Rattle.lane_record.specs.Dispatches.{joined}
 use Rattle.lane_history.specs.Records.{IsClientsRecord}
 use Rattle.lane_history.proofs.Own.{own_found, own_numbers}
 use Rattle.lane_history.proofs.Rans.{Ran, outcome_took, outcomes_ran, all_took}

@@ -23,8 +23,11 @@ use Rattle.lane_record.specs.Bounds.{IsKept, HasReached, timeouts}
 use Rattle.lane_record.proofs.Lookups.{found_append, found_other, first_or, if_some, and_true}
 use Rattle.lane_record.proofs.Sequences.{each_then}
 use Rattle.lane_record.proofs.Finished.{outcomes_taken}
-use Rattle.board_history.specs.Patience.{joined, time_outs, was_given_up, times_given_up, IsExact, IsPatient}
-use Rattle.lane_history.specs.Records.{entries_by, plans_from, IsClientsRecord}
+use Rattle.lane_record.specs.Dispatches.{joined}
+use Rattle.board_history.specs.GiveUps.{time_outs, was_given_up, times_given_up, IsExact, GaveUpOnlyAfter}
+use Rattle.lane_record.specs.Dispatches.{entries_by}
+use Rattle.lane_record.specs.Dispatches.{plans_from}
+use Rattle.lane_history.specs.Records.{IsClientsRecord}
 use Rattle.lane_history.proofs.Own.{by_append, own_found, Climbs, climbs_of, climbs_lower, own_climbs}
 use Rattle.lane_history.proofs.Rans.{Taking, Ran, outcome_took, outcomes_ran, ask_items, took_items, ran_items}
 use Rattle.lane_history.proofs.Rans.{AreWhole}
@@ -475,7 +478,7 @@ reached n count has exact = omega (arith, has, exact)
 pub has_waited : (window cost paid given_up : ℕ) (bodies : List (List (List ℕ)))
     (outcomes : List (List (List Outcome))) (items : List Item) (became : List (Option Outcome))
     → IsClientsRecord bodies outcomes items → IsKept items became window given_up → HasReached (cost * given_up) paid
-    → IsPatient window cost paid outcomes
+    → GaveUpOnlyAfter window cost paid outcomes
 has_waited window cost paid given_up bodies outcomes items became is kept has =
     let climbs = climbs_of 0 given_up (give_ups items) (omega arith) kept.legal.give_ups_rise.rise kept.within in
     let late : EachBehind HasLate [] items = each_then IsLate HasLate [] items

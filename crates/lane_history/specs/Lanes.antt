@@ -11,7 +11,7 @@ use Rattle.lane_record.specs.declared.outcome.Outcome.{Outcome}
 use Rattle.lane_record.specs.declared.item.Item.{Item}
 use Rattle.lane_record.specs.Claims.{Claim, claims}
 use Rattle.lane_record.specs.Offers.{offers_from}
-use Rattle.lane_record.specs.Bounds.{IsKept, AreLostOnlyIf, HasReached}
+use Rattle.lane_record.specs.Bounds.{IsKept, AreLostOnlyIf, HasReached, TellRounds}
 use Rattle.board_history.specs.Parts.{IsReplyOf}
 use Rattle.lane_history.specs.Links.{LinkReport, HasFailed}
 
@@ -36,6 +36,8 @@ pub record IsSoundLane (settings : Limits) (opening : CellMap) (link : LinkRepor
   pub waited : HasReached ((settings.rounds + 1) * given_up) link.quiets
   -- bodies are lost with the link only where the link failed
   pub lost : AreLostOnlyIf (HasFailed link) outcomes
+  -- a body that was timed out tells the rounds of the settings
+  pub tells : TellRounds settings.rounds outcomes
   -- over a link that tells
   pub told : IfSome link.board (λ (board : Board). IsTrueOf opening (claims items) outcomes (executed board))
   pub held : IfSome link.board (λ (board : Board). HasReached (settings.rounds * given_up) link.held)

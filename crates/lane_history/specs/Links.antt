@@ -37,8 +37,8 @@ IsBoardOf (Udp address port wait) (Some board) = ⊥
 abbrev pub IsLostOnlyIfFailed : LinkReport → Outcome → Type 0
 IsLostOnlyIfFailed link outcome = is_lost outcome ≡ true → HasFailed link
 
--- It tells, lost, delayed and dropped no datagram, and never failed.
-pub record IsCalm (link : LinkReport) : Type 0 where
+-- A link that tells, lost, delayed and dropped no datagram, and never failed.
+pub record IsFaithful (link : LinkReport) : Type 0 where
   pub there : Board
   pub tells : link.board ≡ Some there
   pub held' : link.held ≡ 0

@@ -9,13 +9,17 @@ use Rattle.board_node.specs.declared.spec.LinkSpec.{LinkSpec}
 use Rattle.board_node.specs.declared.spec.LinkSpec.TheVariants.{Sim, Udp}
 use Rattle.world_model.specs.Board.{Board, executed}
 use Rattle.reliable_engine.specs.Settings.{Limits}
+use Rattle.lane_record.specs.Outcomes.{TellsRounds}
 use Rattle.script_lang.specs.declared.operation.Step.{Step}
 use Rattle.transcript.specs.declared.greeting.Greeting.{Greeting}
 use Rattle.transcript.specs.declared.greeting.Greeting.TheVariants.{Live, Silent, Down}
 use Rattle.transcript.specs.declared.body_end.Told.TheVariants.{Garbled}
 use Rattle.transcript.specs.declared.body_end.BodyEnd.{BodyEnd}
+use Rattle.transcript.specs.declared.line.OpResult.{OpResult}
 use Rattle.transcript.specs.declared.line.OpResult.TheVariants as result
 use Rattle.transcript.specs.declared.line.OpLine.{OpLine}
+use Rattle.transcript.specs.declared.line.BoardLine.{BoardLine}
+use Rattle.transcript.specs.declared.line.BoardLine.TheVariants as board_lines
 use Rattle.transcript.specs.declared.board_run.ClientPart.{ClientPart}
 use Rattle.transcript.specs.declared.board_run.BoardRun.{BoardRun}
 use Rattle.transcript.specs.Ends.{ends_of}
@@ -24,9 +28,10 @@ use Rattle.transcript.specs.Shown.{IsPlanned}
 use Rattle.board_history.specs.Order.{order}
 use Rattle.board_history.specs.Parts.{HasOneOrder, KeepsScripts, AreRepliesOf, IsExecutedOnce, AllReplied}
 use Rattle.board_history.specs.History.{ShowsHistory, bodies_by_client, outcomes_by_client, dispatches_by_client}
-use Rattle.board_history.specs.Patience.{IsPatient}
+use Rattle.board_history.specs.GiveUps.{GaveUpOnlyAfter, IsExact}
 use Rattle.board_history.specs.Merges.{IsMergeOfSome, IsMergeOfAll}
-use Rattle.direct_run.specs.Runs.{greeting_of, opening_of}
+use Rattle.board_history.specs.InTurn.{IsUsedByOne}
+use Rattle.direct_run.specs.Runs.{board_run, greeting_of, opening_of}
 use Rattle.lane_history.specs.Links.{LinkReport, HasFailed, IsBoardOf, IsLostOnlyIfFailed}
 use Rattle.lane_history.specs.Links.{IsUntouched}
 
@@ -53,10 +58,10 @@ pub record IsTrueRun (settings : Limits) (opening : CellMap) (run : BoardRun) (h
   -- each reply is the one that a bus with a single thread gives at its place
   pub replies : AreRepliesOf opening (order (bodies_by_client run) (outcomes_by_client run)) (outcomes_by_client run)
   -- the hub gave up only where datagrams were held in each round
-  pub held' : IsPatient settings.window settings.rounds held (dispatches_by_client run)
+  pub held' : GaveUpOnlyAfter settings.window settings.rounds held (dispatches_by_client run)
 
--- Of a board that answered the greeting, and its link:
-pub record IsLiveRun (settings : Limits) (spec : BoardSpec) (payload : ℕ) (run : BoardRun) (link : LinkReport)
+-- Of a board that answered the greeting and its link, whether it tells or not:
+pub record HoldsOverAnyLink (settings : Limits) (spec : BoardSpec) (payload : ℕ) (run : BoardRun) (link : LinkReport)
     : Type 0 where
   pub packets : TellsPayload spec.link payload
   -- the places are 1, 2, 3, .., and each belongs to one body
@@ -64,9 +69,16 @@ pub record IsLiveRun (settings : Limits) (spec : BoardSpec) (payload : ℕ) (run
   -- the bodies of each client stand in the order of its script
   pub script_order : KeepsScripts (bodies_by_client run) (outcomes_by_client run)
   -- the hub gave up only after the rounds of the settings, each of which ended with a quiet receive
-  pub rounds : IsPatient settings.window (settings.rounds + 1) link.quiets (dispatches_by_client run)
+  pub rounds : GaveUpOnlyAfter settings.window (settings.rounds + 1) link.quiets (dispatches_by_client run)
   -- a body was lost with the link only where the link failed
   pub lost : AllByRecursion (AllByRecursion (IsLostOnlyIfFailed link)) (outcomes_by_client run)
+  -- a body that was timed out tells the rounds of the settings
+  pub tells : AllByRecursion (AllByRecursion (TellsRounds settings.rounds)) (outcomes_by_client run)
+
+-- The same, and where the link tells, what it tells.
+pub record IsLiveRun (settings : Limits) (spec : BoardSpec) (payload : ℕ) (run : BoardRun) (link : LinkReport)
+    : Type 0 where
+  pub any_link : HoldsOverAnyLink settings spec payload run link
   pub told : IfSome link.board (IsTrueRun settings (opening_of spec.link) run link.held)
 
 -- ---- the others
@@ -119,6 +131,26 @@ NoneGarbled run = AllByRecursion (λ (part : ClientPart). AllByRecursion IsUngar
 abbrev pub IsUngarbledLine : OpLine → Type 0
 IsUngarbledLine line = line.result ≢ result.Garbled
 
+-- a result that was timed out shows so many rounds
+abbrev pub ShowsRounds : ℕ → OpResult → Type 0
+ShowsRounds rounds (result.TimedOut shown) = shown ≡ rounds
+ShowsRounds rounds other = Unit {0}
+
+-- the same of the line of an operation
+abbrev pub IsLineOfRounds : ℕ → OpLine → Type 0
+IsLineOfRounds rounds line = ShowsRounds rounds line.result
+
+-- ---- the line of a board
+
+-- With so many timeouts in the line of a live board, its link had quiet receives for the rounds of their give-ups, each of
+-- which ended at most `window` bodies, and where it tells it held datagrams in each of these rounds.
+abbrev pub TimeOutsWaited : Limits → BoardLine → LinkReport → Type 0
+TimeOutsWaited settings (board_lines.Live name sent replied timed_out lost) link =
+    (IsExact link.quiets → (settings.rounds + 1) * timed_out ≤ settings.window * link.quiets)
+    × IfSome link.board (λ _. IsExact link.held → settings.rounds * timed_out ≤ settings.window * link.held)
+TimeOutsWaited settings (board_lines.Silent name) link = Unit {0}
+TimeOutsWaited settings (board_lines.Down name) link = Unit {0}
+
 -- ---- at any moment
 
 -- What the board at this position executed is a merge of bodies that the clients' scripts ask of it, each client's in
@@ -144,6 +176,22 @@ AreWholeRuns [] [] [] = Unit {0}
 AreWholeRuns (spec ∷ specs) (run ∷ runs) (link ∷ links) =
     IsWholeRun spec run link × AreWholeRuns specs runs links
 AreWholeRuns specs runs links = ⊥
+
+-- The first of these boards has this position. Where one client at most uses a board, what is shown of it is what the bus
+-- with a single thread gives when it executes the bodies of that client.
+abbrev pub ShowAloneRuns : ℕ → List BoardSpec → List (List Step) → List BoardRun → Type 0
+ShowAloneRuns board [] scripts [] = Unit {0}
+ShowAloneRuns board (spec ∷ specs) scripts (run ∷ runs) =
+    (IsUsedByOne (bodies_by_client run) → run ≡ board_run spec board scripts)
+    × ShowAloneRuns (board + 1) specs scripts runs
+ShowAloneRuns board specs scripts runs = ⊥
+
+-- no two clients' scripts ask anything of one of these boards, the first of which has this position
+abbrev pub HaveOwnBoards : ℕ → List BoardSpec → List (List Step) → Type 0
+HaveOwnBoards board [] scripts = Unit {0}
+HaveOwnBoards board (spec ∷ specs) scripts =
+    IsUsedByOne (map (λ (p : ClientBodies). p.bodies) (plans_on board (greeting_of spec.link) scripts))
+    × HaveOwnBoards (board + 1) specs scripts
 
 -- what each board executed is a merge of what the scripts ask of it
 abbrev pub AllExecutedSome : ℕ → List BoardSpec → List (List Step) → List LinkReport → Type 0

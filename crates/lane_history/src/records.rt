@@ -11,24 +11,24 @@ ghost use Rattle.reliable_engine.specs.Settings.{Limits};
 ghost use Rattle.script_lang.specs.declared.operation.Step.{Step};
 ghost use Rattle.lane_record.specs.declared.outcome.Outcome.{Outcome};
 ghost use Rattle.lane_record.specs.declared.item.Item.{Item};
-ghost use Rattle.lane_record.specs.Lists.{NeverFalls};
 ghost use Rattle.lane_record.specs.Claims.{IsFinished, claims};
 ghost use Rattle.lane_record.specs.FirstSends.{bodies_sent, first_sends};
 ghost use Rattle.lane_record.specs.Legal.{IsLegal};
-ghost use Rattle.lane_record.specs.Bounds.{AreLostOnlyIf, HasReached, IsKept};
+ghost use Rattle.lane_record.specs.Bounds.{AreLostOnlyIf, HasReached, IsKept, TellRounds};
+ghost use Rattle.lane_record.specs.Outcomes.{TellsRounds};
 ghost use Rattle.transcript.specs.declared.greeting.Greeting.TheVariants.{Live};
 ghost use Rattle.transcript.specs.declared.board_run.BoardRun.{BoardRun};
 ghost use Rattle.transcript.specs.Plan.{ClientBodies, plans_on};
 ghost use Rattle.board_history.specs.Order.{bodies_of, order};
 ghost use Rattle.board_history.specs.Parts.{HasOneOrder, IsExecutedOnce, KeepsScripts};
-ghost use Rattle.board_history.specs.InTurn.{AreInTurn};
-ghost use Rattle.board_history.specs.History.{IsHistory, bodies_by_client, dispatches_by_client, outcomes_by_client};
-ghost use Rattle.board_history.specs.Patience.{IsPatient, joined};
+ghost use Rattle.board_history.specs.History.{IsHistory, bodies_by_client, dispatches_by_client};
+ghost use Rattle.lane_record.specs.Dispatches.{joined};
+ghost use Rattle.board_history.specs.GiveUps.{GaveUpOnlyAfter};
 ghost use Rattle.board_history.specs.Merges.{IsMergeOfSome};
 ghost use Rattle.direct_run.specs.Runs.{opening_of};
 ghost use Rattle.lane_history.specs.Links.{HasFailed, IsBoardOf, IsLostOnlyIfFailed, IsUntouched, LinkReport};
 ghost use Rattle.lane_history.specs.Runs.{ExecutedSome, IsRunOver, ShowsScripts, TellsPayload};
-ghost use Rattle.lane_history.specs.Records.{IsClientsRecord, IsPartlyPlanned, makers};
+ghost use Rattle.lane_history.specs.Records.{IsClientsRecord, IsPartlyPlanned};
 ghost use Rattle.lane_history.specs.Lanes.{IsSoundLane, IsTrueOf, bodies_offered};
 
 use transcript::laws::bodies_stand_dispatch_by_dispatch;
@@ -74,7 +74,7 @@ pub fn who_gave_up_has_waited()
     ensures { (window cost paid given_up : ℕ) (bodies : List (List (List ℕ)))
         (outcomes : List (List (List Outcome))) (items : List Item) (became : List (Option Outcome)) →
         IsClientsRecord bodies outcomes items → IsKept items became window given_up →
-        HasReached (cost * given_up) paid → IsPatient window cost paid outcomes }
+        HasReached (cost * given_up) paid → GaveUpOnlyAfter window cost paid outcomes }
 {}
 
 /// Bodies are lost with the link only where it failed.
@@ -83,6 +83,14 @@ pub fn bodies_are_lost_with_a_failed_link()
         (became : List (Option Outcome)) (link : LinkReport) → IsClientsRecord bodies outcomes items →
         IsLegal items became → AreLostOnlyIf (HasFailed link) became →
         AllByRecursion (AllByRecursion (IsLostOnlyIfFailed link)) (map joined outcomes) }
+{}
+
+/// A body that was timed out tells the rounds of its lane.
+pub fn timed_out_bodies_tell_the_rounds()
+    ensures { (bodies : List (List (List ℕ))) (outcomes : List (List (List Outcome))) (items : List Item)
+        (became : List (Option Outcome)) (rounds : ℕ) → IsClientsRecord bodies outcomes items →
+        IsLegal items became → TellRounds rounds became →
+        AllByRecursion (AllByRecursion (TellsRounds rounds)) (map joined outcomes) }
 {}
 
 /// At any moment what a board executed is a merge of subsequences, one of each client's bodies, whatever was asked and
@@ -107,17 +115,6 @@ pub fn a_lane_left_at_any_moment_executed_a_merge()
     ensures untouched { (spec : BoardSpec) (board : ℕ) (scripts : List (List Step)) (link : LinkReport) →
         IsUntouched link → IfSome link.board (λ there. ExecutedSome spec board scripts (executed there)) }
 {}
-
-/// Where the entries stand client by client behind the Plans, the places of the first client's bodies are 1, 2, .., and
-/// those of the next client's go on from there.
-pub fn clients_one_after_another_are_in_turn()
-    ensures { (spec : BoardSpec) (board : ℕ) (scripts : List (List Step)) (run : BoardRun) (items : List Item)
-        (became : List (Option Outcome)) → ShowsScripts spec board scripts run →
-        (is : IsClientsRecord (bodies_by_client run) (dispatches_by_client run) items) → IsLegal items became →
-        NeverFalls 0 (makers is.past) → AreInTurn (bodies_by_client run) (outcomes_by_client run) }
-{
-    bodies_stand_dispatch_by_dispatch();
-}
 
 /// A finished lane is a live run of its board: what its record and its link tell is what the run may show.
 pub fn a_finished_lane_is_a_live_run()

@@ -1,8 +1,8 @@
 //! What follows from what a run shows of its boards and their links. These functions do nothing when they run: their
 //! clauses are what is proved.
 
-ghost use Rattle.std.specs.Prelude.{◌≡◌, ℕ, ◌≤◌, List, Some};
-ghost use Rattle.std.specs.List.{AllByRecursion, count_by};
+ghost use Rattle.std.specs.Prelude.{◌≡◌, ℕ, ◌≤◌, List, Some, map};
+ghost use Rattle.std.specs.List.{AllByRecursion, AllZip, count_by};
 ghost use Rattle.board_node.specs.declared.spec.BoardSpec.{BoardSpec};
 ghost use Rattle.world_model.specs.Board.{Board};
 ghost use Rattle.reliable_engine.specs.Settings.{Limits};
@@ -11,21 +11,21 @@ ghost use Rattle.script_lang.specs.declared.operation.Step.{Step};
 ghost use Rattle.lane_record.specs.Outcomes.{is_timed_out};
 ghost use Rattle.transcript.specs.declared.greeting.Greeting.TheVariants.{Live};
 ghost use Rattle.transcript.specs.declared.board_run.BoardRun.{BoardRun};
-ghost use Rattle.transcript.specs.Lines.{outcomes_on, transcript_of};
+ghost use Rattle.transcript.specs.Lines.{board_line, outcomes_on, transcript_of};
 ghost use Rattle.transcript.specs.Shown.{HaveOwnNames, ShowsAllPlaces};
-ghost use Rattle.board_history.specs.InTurn.{AreInTurn};
-ghost use Rattle.board_history.specs.History.{ShowsHistory, bodies_by_client, dispatches_by_client};
-ghost use Rattle.board_history.specs.History.{outcomes_by_client};
-ghost use Rattle.board_history.specs.Patience.{time_outs};
-ghost use Rattle.direct_run.specs.Runs.{AreRuns, CanRun, opening_of};
+ghost use Rattle.board_history.specs.History.{ShowsHistory, dispatches_by_client};
+ghost use Rattle.board_history.specs.GiveUps.{time_outs};
+ghost use Rattle.direct_run.specs.Runs.{CanRun, opening_of, runs_from};
 ghost use Rattle.direct_run.specs.Lines.{IsBusLine};
 ghost use Rattle.direct_run.specs.Answering.{AskRequests, OpensWithWords};
-ghost use Rattle.lane_history.specs.Links.{IsCalm, LinkReport};
+ghost use Rattle.lane_history.specs.Links.{IsFaithful, LinkReport};
 ghost use Rattle.lane_history.specs.Runs.{AllExecutedSome, AreRunsOver, AreWholeRuns, IsRunOver, IsUngarbledLine};
-ghost use Rattle.lane_history.specs.Runs.{NoneGarbled, ShowsScripts};
+ghost use Rattle.lane_history.specs.Runs.{HaveOwnBoards, IsLineOfRounds, NoneGarbled, ShowAloneRuns, ShowsScripts, TimeOutsWaited};
 
 use board_bus::laws::{a_reply_answers_its_body, words_stay_words};
+use board_history::laws::a_client_alone_is_in_turn;
 use board_history::place_laws::lines_show_all_places;
+use direct_run::laws::a_session_has_one_run;
 use mtu_packer::laws::{operations_of_words_are_packed, packed_bodies_spell_requests};
 use reply_join::laws::{
     each_answer_is_that_of_its_request, each_request_has_one_answer, joining_is_a_function,
@@ -71,6 +71,16 @@ pub fn a_board_line_counts_the_time_outs()
     bodies_stand_dispatch_by_dispatch();
 }
 
+/// So the timeouts in the lines of boards took the rounds of the session, each with a quiet receive, and where the link
+/// tells in each of these rounds a datagram was lost, delayed or dropped.
+pub fn board_lines_waited_for_their_time_outs()
+    ensures { (settings : Limits) (board : ℕ) (specs : List BoardSpec) (scripts : List (List Step))
+        (runs : List BoardRun) (links : List LinkReport) → AreRunsOver settings board specs scripts runs links →
+        AllZip (TimeOutsWaited settings) (map board_line runs) links }
+{
+    a_board_line_counts_the_time_outs();
+}
+
 /// What each board executed is a merge of bodies that the scripts ask of it, each client's in its order.
 pub fn each_board_executes_a_merge()
     ensures { (settings : Limits) (board : ℕ) (specs : List BoardSpec) (scripts : List (List Step))
@@ -80,24 +90,35 @@ pub fn each_board_executes_a_merge()
 
 /// Where every link tells, nothing was held and nothing failed, every body is replied to, what a run shows is one
 /// history, and each board executed all bodies of all clients, each client's in its order.
-pub fn calm_links_answer_all()
+pub fn faithful_links_answer_all()
     ensures { (settings : Limits) (board : ℕ) (specs : List BoardSpec) (scripts : List (List Step))
-        (runs : List BoardRun) (links : List LinkReport) → 1 ≤ settings.rounds → AllByRecursion IsCalm links →
+        (runs : List BoardRun) (links : List LinkReport) → 1 ≤ settings.rounds → AllByRecursion IsFaithful links →
         AreRunsOver settings board specs scripts runs links → AreWholeRuns specs runs links }
 {
     bodies_stand_dispatch_by_dispatch();
 }
 
-/// Where moreover the clients of each board ran one after another, the runs are those of clients in turn on boards of
-/// this process: so what the session prints is determined.
-pub fn calm_links_in_turn_are_boards_of_this_process()
+/// So what is shown of a board that one client uses alone is determined, whatever other clients do on other boards.
+pub fn a_client_alone_has_one_run()
     ensures { (settings : Limits) (board : ℕ) (specs : List BoardSpec) (scripts : List (List Step))
-        (runs : List BoardRun) (links : List LinkReport) → 1 ≤ settings.rounds → AllByRecursion IsCalm links →
-        AreRunsOver settings board specs scripts runs links →
-        AllByRecursion (λ (run : BoardRun). AreInTurn (bodies_by_client run) (outcomes_by_client run)) runs →
-        AreRuns board specs scripts runs }
+        (runs : List BoardRun) (links : List LinkReport) → 1 ≤ settings.rounds → AllByRecursion IsFaithful links →
+        AreRunsOver settings board specs scripts runs links → ShowAloneRuns board specs scripts runs }
 {
     bodies_stand_dispatch_by_dispatch();
+    a_client_alone_is_in_turn();
+    a_session_has_one_run();
+}
+
+/// Where moreover no two clients use one board, all runs are determined: they are those of clients one after another, on
+/// boards of this process.
+pub fn clients_with_boards_of_their_own_have_one_run()
+    ensures { (settings : Limits) (board : ℕ) (specs : List BoardSpec) (scripts : List (List Step))
+        (runs : List BoardRun) (links : List LinkReport) → 1 ≤ settings.rounds → AllByRecursion IsFaithful links →
+        AreRunsOver settings board specs scripts runs links → HaveOwnBoards board specs scripts →
+        runs ≡ runs_from board specs scripts }
+{
+    faithful_links_answer_all();
+    a_client_alone_has_one_run();
 }
 
 /// No line of a session is garbled, whatever the links of its boards lose, repeat, delay or reorder, and where they
@@ -120,11 +141,29 @@ pub fn no_line_is_garbled()
     operations_of_words_are_packed();
 }
 
+/// A line of an operation that was timed out shows the rounds of the session.
+pub fn lines_show_the_rounds_of_the_session()
+    ensures { (settings : Limits) (specs : List BoardSpec) (scripts : List (List Step)) (runs : List BoardRun)
+        (links : List LinkReport) → AreRunsOver settings 0 specs scripts runs links →
+        AllByRecursion CanRun specs → AllByRecursion OpensOnWords specs → AllByRecursion AreExecutable scripts →
+        AllByRecursion (AllByRecursion (IsLineOfRounds settings.rounds)) (transcript_of scripts runs).clients }
+{
+    bodies_stand_dispatch_by_dispatch();
+    a_reply_answers_its_body();
+    words_stay_words();
+    joining_is_a_function();
+    each_request_has_one_answer();
+    each_answer_is_that_of_its_request();
+    one_list_for_words();
+    packed_bodies_spell_requests();
+    operations_of_words_are_packed();
+}
+
 /// Where moreover nothing was held and nothing failed, each line is a value, `done`, `was`, a code of the bus or
 /// skipped: none is garbled, timed out, unsent or lost with its link, in whatever order the clients ran.
-pub fn calm_lines_fail_by_codes_of_the_bus_alone()
+pub fn faithful_lines_fail_by_codes_of_the_bus_alone()
     ensures { (settings : Limits) (specs : List BoardSpec) (scripts : List (List Step)) (runs : List BoardRun)
-        (links : List LinkReport) → 1 ≤ settings.rounds → AllByRecursion IsCalm links →
+        (links : List LinkReport) → 1 ≤ settings.rounds → AllByRecursion IsFaithful links →
         AreRunsOver settings 0 specs scripts runs links → AllByRecursion CanRun specs →
         AllByRecursion OpensOnWords specs → AllByRecursion AreExecutable scripts →
         AllByRecursion (AllByRecursion IsBusLine) (transcript_of scripts runs).clients }

@@ -1,9 +1,9 @@
 -- What became of a board whose clients ran on its lane.
-use Rattle.std.proofs.Common.{◌≡◌, ℕ, ◌*◌, ◌∙◌, Bool, List, map, Option}
+use Rattle.std.proofs.Common.{◌≡◌, ℕ, ◌*◌, ◌∙◌, Bool, List, map, Option, Some, None}
 use Rattle.std.proofs.Common.{sym, ap, subst}
 use Rattle.std.specs.Prelude.{IfSome, IfOk, Result, Ok, Err}
+use Rattle.std.proofs.lemmas.Option.{same_Some}
 use Rattle.ipb_base.specs.Numbers.{payload_of}
-use Rattle.status_packet.specs.Range.{IsMtu}
 use Rattle.board_bus.specs.Cells.{CellMap}
 use Rattle.world_model.specs.Board.{executed}
 use Rattle.world_model.specs.Hub.{Hub}
@@ -12,11 +12,8 @@ use Rattle.reliable_engine.specs.Settings.{Limits}
 use Rattle.board_node.specs.declared.spec.BoardSpec.{BoardSpec}
 use Rattle.lane_record.specs.declared.outcome.Outcome.{Outcome}
 use Rattle.lane_record.specs.declared.item.Item.{Item}
-use Rattle.lane_record.specs.Legal.{IsLegal}
-use Rattle.lane_record.specs.Lists.{NeverFalls}
 use Rattle.lane_record.specs.Bounds.{HasReached}
-use Rattle.board_history.specs.History.{bodies_by_client, dispatches_by_client, outcomes_by_client}
-use Rattle.board_history.specs.InTurn.{AreInTurn}
+use Rattle.board_history.specs.History.{bodies_by_client, dispatches_by_client}
 use Rattle.script_lang.specs.declared.operation.Step.{Step}
 use Rattle.transcript.specs.declared.board_run.ClientPart.{ClientPart}
 use Rattle.transcript.specs.declared.board_run.BoardRun.{BoardRun}
@@ -24,17 +21,16 @@ use Rattle.transcript.specs.declared.greeting.Greeting.{Greeting}
 use Rattle.transcript.specs.declared.greeting.Greeting.TheVariants.{Live}
 use Rattle.transcript.specs.Plan.{ClientBodies, plans_on}
 use Rattle.lane_history.specs.Links.{IsBoardOf, IsUntouched, LinkReport}
-use Rattle.lane_history.specs.Records.{IsClientsRecord, IsPartlyPlanned, makers}
+use Rattle.lane_history.specs.Records.{IsClientsRecord, IsPartlyPlanned}
 use Rattle.lane_history.specs.Lanes.{IsSoundLane}
 use Rattle.lane_history.specs.Runs.{ExecutedSome, IsRunOver, ShowsScripts, TellsPayload}
 use Rattle.direct_run.specs.Runs.{opening_of}
-use Rattle.sound_lanes.specs.Reports.{OpenedWith, board_there, report_of}
-use Rattle.hub_lane.specs.Lanes.{BoardStatus, IsLane, LaneState}
-use Rattle.session_run.specs.Boards.{IsNamed, IsReadyLane}
-use Rattle.session_run.specs.Clients.{KeepsLane, RanAlone}
+use Rattle.sound_lanes.specs.Reports.{OpenedWith, report_of}
+use Rattle.hub_lane.specs.Lanes.{BoardStatus, IsLane, LaneState, opening_of as told_opening}
+use Rattle.session_run.specs.Boards.{IsNamed}
+use Rattle.session_run.specs.Lanes.{IsRunOn, IsStoppedLane}
 use Rattle.session_run.specs.Links.{IsLeft}
-use Rattle.session_run.proofs.Blocks.{plan_in_part}
-use Rattle.session_run.proofs.LaneRuns.{board_stays, opened_so, shows_scripts, tells_payload}
+use Rattle.session_run.proofs.LaneRuns.{board_known, opened_so, payload_known, shows_scripts}
 
 abbrev pub SoundLaw : Type 0
 SoundLaw = (settings : Limits) (status : BoardStatus) (hub : Hub) (items : List Item)
@@ -53,12 +49,6 @@ LiveLaw = (settings : Limits) (spec : BoardSpec) (board : ℕ) (scripts : List (
     → IsSoundLane settings (opening_of spec.link) link items became given_up
     → IsRunOver settings spec board scripts run link
 
-abbrev pub InTurnLaw : Type 0
-InTurnLaw = (spec : BoardSpec) (board : ℕ) (scripts : List (List Step)) (run : BoardRun) (items : List Item)
-    (became : List (Option Outcome)) → ShowsScripts spec board scripts run
-    → (is : IsClientsRecord (bodies_by_client run) (dispatches_by_client run) items) → IsLegal items became
-    → NeverFalls 0 (makers is.past) → AreInTurn (bodies_by_client run) (outcomes_by_client run)
-
 abbrev pub LeftLaw : Type 0
 LeftLaw = (settings : Limits) (spec : BoardSpec) (board : ℕ) (scripts : List (List Step)) (link : LinkReport)
     (payload : ℕ) (items : List Item) (became : List (Option Outcome)) (given_up : ℕ)
@@ -67,58 +57,52 @@ LeftLaw = (settings : Limits) (spec : BoardSpec) (board : ℕ) (scripts : List (
     → IsSoundLane settings (opening_of spec.link) link items became given_up
     → IfSome link.board (λ there. ExecutedSome spec board scripts (executed there))
 
--- a lane after its run, over its board
-pub record AfterRun {L : Type 0} (spec : BoardSpec) (before now : LaneState L) (shown : LinkReport) : Type 0 where
+-- a lane at its end, over the board of its document
+pub record AtEnd {L : Type 0} (settings : Limits) (spec : BoardSpec) (lane : LaneState L) (shown : LinkReport)
+    : Type 0 where
   pub board' : IsBoardOf spec.link shown.board
-  pub payload : TellsPayload spec.link (payload_of before.status.mtu)
-  pub legal : IsLegal now.items now.outcomes
-  pub sound : IsSoundLane before.settings (opening_of spec.link) shown now.items now.outcomes now.give_ups
+  pub payload : TellsPayload spec.link (payload_of lane.status.mtu)
+  pub sound : IsSoundLane settings (opening_of spec.link) shown lane.items lane.outcomes lane.give_ups
 
-pub after_run : {L : Type 0} → SoundLaw → (spec : BoardSpec) (before now : LaneState L) (told_before told : Option Telling)
-    (faults quiets gots held : ℕ) → IsReadyLane before.settings before told_before
-    → IsBoardOf spec.link (board_there told_before) → KeepsLane before now told_before told
-    → IsLane now.settings now.status now.hub now.items now.outcomes now.give_ups now.down now.spent told faults quiets
-    → IfSome told (λ _. HasReached (now.settings.rounds * now.give_ups) held)
-    → AfterRun spec before now (report_of faults quiets gots held told)
-after_run {L} law spec before now told_before told faults quiets gots held ready board keeps lane paid =
-    let here = board_stays spec.link told_before told board keeps.board in
+pub at_end : {L : Type 0} → SoundLaw → (settings : Limits) (scripts : List (List Step)) (position : ℕ)
+    (spec : BoardSpec)
+    (lane : LaneState L) (told : Option Telling) (faults quiets gots held : ℕ)
+    → IsStoppedLane settings scripts position spec told lane
+    → IsLane lane.settings lane.status lane.hub lane.items lane.outcomes lane.give_ups lane.down lane.spent told faults
+    quiets → IfSome told (λ _. HasReached (lane.settings.rounds * lane.give_ups) held)
+    → AtEnd settings spec lane (report_of faults quiets gots held told)
+at_end {L} law settings scripts position spec lane told faults quiets gots held stopped is paid =
+    let here = board_known lane.status spec.link told stopped.board' is.told in
     let shown = report_of faults quiets gots held told in
     record {
       board' = here;
-      payload = tells_payload before.settings before.status spec.link told_before board ready.greeted
-          (subst (λ (s : BoardStatus). IsMtu s.mtu) keeps.status lane.knows.mtu);
-      legal = lane.kept.legal;
-      sound = subst (λ (s : Limits). IsSoundLane s (opening_of spec.link) shown now.items now.outcomes now.give_ups)
-          keeps.settings (law now.settings now.status now.hub now.items now.outcomes now.give_ups now.down now.spent told
-          faults quiets gots held (opening_of spec.link) lane paid (opened_so spec.link told here));
+      payload = payload_known lane.status spec.link (told_opening told) stopped.board' is.knows.mtu;
+      sound = subst (λ (s : Limits). IsSoundLane s (opening_of spec.link) shown lane.items lane.outcomes lane.give_ups)
+          stopped.settings' (law lane.settings lane.status lane.hub lane.items lane.outcomes lane.give_ups lane.down
+          lane.spent told faults quiets gots held (opening_of spec.link) is paid (opened_so spec.link told here));
     }
 
-at_ok : {A E : Type 0} (P : A → Type 0) (r : Result A E) (x : A) → r ≡ Ok x → IfOk r P → P x
-at_ok P (Ok y) x is p = (let same : y ≡ x = cc in subst P same p)
-at_ok P (Err e) x is p = absurd cc
+at_some : {A : Type 0} (P : A → Type 0) (o : Option A) (x : A) → o ≡ Some x → IfSome o P → P x
+at_some P None x e p = absurd cc
+at_some P (Some y) x e p = subst P (same_Some y x e) p
 
 -- the run of a lane's clients, by its name and its parts
-pub record RunsLive {L : Type 0} (spec : BoardSpec) (board : ℕ) (scripts : List (List Step)) (before now : LaneState L)
+pub record RunsLive {L : Type 0} (spec : BoardSpec) (board : ℕ) (scripts : List (List Step)) (lane : LaneState L)
     (run : BoardRun) : Type 0 where
   pub scripts' : ShowsScripts spec board scripts run
-  pub greeting' : run.greeting ≡ Live (payload_of before.status.mtu)
-  pub ran : RanAlone run.parts now.items
+  pub greeting' : run.greeting ≡ Live (payload_of lane.status.mtu)
+  pub ran : IsRunOn scripts board lane run.parts
 
-pub runs_live : {L E : Type 0} (spec : BoardSpec) (board payload : ℕ) (scripts : List (List Step))
-    (before now : LaneState L) (parts : Result (List ClientPart) E) (run : BoardRun)
-    → payload ≡ payload_of before.status.mtu
-    → IfOk parts (λ (ps : List ClientPart). map plan_in_part ps
-    ≡ plans_on board (Live (payload_of before.status.mtu)) scripts)
-    → IfOk parts (λ (ps : List ClientPart). RanAlone ps now.items)
-    → IsNamed spec (Live payload) parts run → RunsLive spec board scripts before now run
-runs_live {L} {E} spec board payload scripts before now parts run same planned ran named =
+pub runs_live : {L : Type 0} (spec : BoardSpec) (board payload : ℕ) (scripts : List (List Step)) (lane : LaneState L)
+    (parts : Option (List ClientPart)) (run : BoardRun) → payload ≡ payload_of lane.status.mtu
+    → IfSome parts (λ (there : List ClientPart). IsRunOn scripts board lane there)
+    → IsNamed spec (Live payload) parts run → RunsLive spec board scripts lane run
+runs_live {L} spec board payload scripts lane parts run same ran named =
     let greeting = named.greeting' ∙ ap Live same in
-    let alone = at_ok (λ (ps : List ClientPart). RanAlone ps now.items) parts run.parts named.parts' ran in
-    let plans = at_ok (λ (ps : List ClientPart). map plan_in_part ps
-    ≡ plans_on board (Live (payload_of before.status.mtu)) scripts) parts run.parts named.parts' planned in
+    let alone = at_some (λ (ps : List ClientPart). IsRunOn scripts board lane ps) parts run.parts named.parts' ran in
     record {
       scripts' = shows_scripts spec board scripts run named.name'
-          (plans ∙ ap (λ (told : Greeting). plans_on board told scripts) (sym greeting)) alone.whole;
+          (alone.planned ∙ ap (λ (told : Greeting). plans_on board told scripts) (sym greeting)) alone.whole;
       greeting' = greeting;
       ran = alone;
     }

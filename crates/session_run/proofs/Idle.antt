@@ -1,13 +1,9 @@
 -- The run of a board that was asked nothing.
-use Rattle.std.proofs.Common.{◌≡◌, ℕ, ◌+◌, ◌<◌, ◌∙◌, List, [], ◌∷◌, ◌++◌, length, map, refl, sym, ap, take, get_or, Ok}
+use Rattle.std.proofs.Common.{◌≡◌, ℕ, ◌+◌, ◌<◌, ◌∙◌, List, [], ◌∷◌, ◌++◌, length, map, refl, sym, ap, take, get_or}
 use Rattle.std.specs.List.{AllByRecursion}
-use Rattle.std.specs.Prelude.{Result}
 use Rattle.std.proofs.lemmas.List.{take_more}
 use Rattle.board_node.specs.declared.spec.BoardSpec.{BoardSpec}
 use Rattle.lane_record.specs.declared.outcome.Outcome.{Outcome}
-use Rattle.board_history.specs.History.{bodies_by_client, outcomes_by_client}
-use Rattle.board_history.specs.InTurn.{AreInTurn}
-use Rattle.board_history.specs.Order.{all_placed, placed}
 use Rattle.script_lang.specs.declared.operation.Step.{Step}
 use Rattle.transcript.specs.declared.board_run.ClientPart.{ClientPart}
 use Rattle.transcript.specs.declared.board_run.BoardRun.{BoardRun}
@@ -16,7 +12,8 @@ use Rattle.transcript.specs.declared.greeting.Greeting.TheVariants.{Live, Silent
 use Rattle.transcript.specs.Plan.{ClientBodies, planned_on, plans_on}
 use Rattle.lane_history.specs.Runs.{ShowsScripts}
 use Rattle.session_run.specs.Boards.{IsIdle}
-use Rattle.session_run.proofs.Blocks.{map_append, plan_in_part}
+use Rattle.session_run.proofs.Parts.{plan_in_part}
+use Rattle.session_run.proofs.Sides.{map_append}
 
 -- a client that asked nothing
 pub record HasNothing (part : ClientPart) : Type 0 where
@@ -32,12 +29,14 @@ asks_nothing board Down steps idle = refl
 pub plans_more : (board : ℕ) (told : Greeting) (front : List (List Step)) (s : List Step)
     → plans_on board told (front ++ s ∷ []) ≡ plans_on board told front ++ planned_on board told s ∷ []
 plans_more board told [] s = refl
-plans_more board told (f ∷ front) s = ap (λ (l : List ClientBodies). planned_on board told f ∷ l) (plans_more board told front s)
+plans_more board told (f ∷ front) s = ap (λ (l : List ClientBodies). planned_on board told f ∷ l) (plans_more board
+    told front s)
 
 -- one more client is planned
 pub idle_planned : (board : ℕ) (told : Greeting) (k : ℕ) (scripts : List (List Step)) (steps asked' : List Step)
     (parts pushed : List ClientPart) (part : ClientPart)
-    → map plan_in_part parts ≡ plans_on board told (take k scripts) → k < length scripts → steps ≡ get_or scripts k steps
+    → map plan_in_part parts ≡ plans_on board told (take k scripts) → k < length scripts → steps
+    ≡ get_or scripts k steps
     → asked' ≡ steps → part.planned ≡ planned_on board told asked' → pushed ≡ parts ++ part ∷ []
     → map plan_in_part pushed ≡ plans_on board told (take (k + 1) scripts)
 idle_planned board told k scripts steps asked' parts pushed part so_far within is same made push =
@@ -59,13 +58,6 @@ idle_shape (p ∷ parts) none =
     ∙ sym (ap (λ (l : List (List ℕ)). length l) none.0.no_bodies))
     ∙ ap (λ (l : List ℕ). length p.planned.bodies ∷ l) (idle_shape parts none.1)
 
-idle_placed : (parts : List ClientPart) → AllByRecursion HasNothing parts
-    → all_placed (map (λ (p : ClientPart). p.planned.bodies) parts) (map (λ (p : ClientPart). p.outcomes) parts) ≡ []
-idle_placed [] none = refl
-idle_placed (p ∷ parts) none =
-    ap (λ (bs : List (List ℕ)). placed bs p.outcomes ++ all_placed (map (λ (q : ClientPart). q.planned.bodies) parts)
-    (map (λ (q : ClientPart). q.outcomes) parts)) none.0.no_bodies ∙ idle_placed parts none.1
-
 pub idle_shows : (spec : BoardSpec) (board : ℕ) (told : Greeting) (scripts : List (List Step)) (run : BoardRun)
     → run.name ≡ spec.name → run.greeting ≡ told → map plan_in_part run.parts ≡ plans_on board told scripts
     → AllByRecursion HasNothing run.parts → ShowsScripts spec board scripts run
@@ -74,11 +66,3 @@ idle_shows spec board told scripts run name greeting planned none = record {
   plans = planned ∙ ap (λ (t : Greeting). plans_on board t scripts) (sym greeting);
   shape = idle_shape run.parts none;
 }
-
-pub idle_in_turn : (run : BoardRun) → AllByRecursion HasNothing run.parts
-    → AreInTurn (bodies_by_client run) (outcomes_by_client run)
-idle_in_turn run none = rw (idle_placed run.parts none) tt
-
-pub same_parts : {E : Type 0} (parts others : List ClientPart) (r : Result (List ClientPart) E) → r ≡ Ok parts
-    → r ≡ Ok others → parts ≡ others
-same_parts parts others r one two = cc

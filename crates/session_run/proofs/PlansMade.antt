@@ -15,7 +15,8 @@ use Rattle.hub_lane.specs.Calls.{sealed}
 use Rattle.script_lang.specs.declared.operation.Step.{Step}
 use Rattle.transcript.specs.declared.greeting.Greeting.{Greeting}
 use Rattle.transcript.specs.Plan.{ClientBodies, planned_on, plans_on}
-use Rattle.lane_history.specs.Records.{IsPartlyPlanned, all_plans_from, plans_from}
+use Rattle.lane_record.specs.Dispatches.{all_plans_from, plans_from}
+use Rattle.lane_history.specs.Records.{IsPartlyPlanned}
 use Rattle.session_run.specs.Clients.{PlannedSome, bodies_of, with_items}
 
 -- ---- what Plans are
@@ -23,7 +24,8 @@ use Rattle.session_run.specs.Clients.{PlannedSome, bodies_of, with_items}
 self : (n : ℕ) → (n == n) ≡ true
 self n = eq-eqb n n refl
 
-pub plans_count : (client seq : ℕ) (bodies : List (List ℕ)) → planned client (plans_from client seq bodies) ≡ length bodies
+pub plans_count : (client seq : ℕ) (bodies : List (List ℕ)) → planned client (plans_from client seq bodies)
+    ≡ length bodies
 plans_count client seq [] = refl
 plans_count client seq (b ∷ bs) =
     ap (λ t. length (cond (t && true) (seq ∷ numbers plan_in client (plans_from client (seq + 1) bs))
@@ -184,8 +186,11 @@ partly_between front all board told k scripts items is =
     let bodies = told_bodies board told scripts in
     let cut : bodies ≡ firsts ++ lasts = ap (told_bodies board told) (sym (take-append-drop k scripts))
     ∙ bodies_append board told (take k scripts) (drop k scripts) in
-    subst (IsPartlyPlanned bodies) (sym is) (front bodies (all_plans_from 1 firsts) (all_plans_from 1 bodies)
-    (all_plans_from (1 + length firsts) lasts, ap (all_plans_from 1) cut ∙ all_plans_append 1 firsts lasts) (all bodies))
+    subst (IsPartlyPlanned bodies) (sym is) (front bodies (all_plans_from 1 firsts) (all_plans_from 1 bodies) (
+      all_plans_from (1 + length firsts) lasts,
+      ap (all_plans_from 1) cut
+          ∙ all_plans_append 1 firsts lasts,
+    ) (all bodies))
 
 pub partly_within : PartlyFront → PartlyAll → (board : ℕ) (told : Greeting) (k client : ℕ) (scripts : List (List Step))
     (steps : List Step) (items more : List Item) → drop k scripts ≡ steps ∷ drop (k + 1) scripts
@@ -205,7 +210,8 @@ partly_within front all board told k client scripts steps items more begins who 
     let number : client ≡ 1 + length firsts = omega (arith, who, many) in
     subst (IsPartlyPlanned bodies) (sym is) (front bodies (all_plans_from 1 firsts ++ more) (all_plans_from 1 bodies)
     (subst (λ (bs : List (List (List ℕ))). IsPrefix (all_plans_from 1 firsts ++ more) (all_plans_from 1 bs)) (sym cut)
-    (stopped_within firsts lasts here more (subst (λ n. IsPrefix more (plans_from n 0 here)) number some))) (all bodies))
+    (stopped_within firsts lasts here more (subst (λ n. IsPrefix more (plans_from n 0 here)) number some))) (all
+    bodies))
 
 pub unsealed_so_far : {L : Type 0} (before now : LaneState L) (bodies : List (List (List ℕ))) → before.items ≡ []
     → now ≡ with_items before (all_plans_from 1 bodies) → now.items ≡ all_plans_from 1 bodies
@@ -234,7 +240,8 @@ sealed_last {L} before old bodies none was =
     ∙ ap (λ (items : List Item). record before { items = items })
     (append_assoc before.items (all_plans_from 1 bodies) (the_seal ∷ [])))
 
-bodies_of_append : (xs : List ClientBodies) (p : ClientBodies) → bodies_of (xs ++ p ∷ []) ≡ bodies_of xs ++ p.bodies ∷ []
+bodies_of_append : (xs : List ClientBodies) (p : ClientBodies) → bodies_of (xs ++ p ∷ [])
+    ≡ bodies_of xs ++ p.bodies ∷ []
 bodies_of_append [] p = refl
 bodies_of_append (x ∷ xs) p = ap (λ (l : List (List (List ℕ))). x.bodies ∷ l) (bodies_of_append xs p)
 
@@ -247,7 +254,8 @@ pub record PlanningClients {L : Type 0} (board : ℕ) (told : Greeting) (scripts
 plans_more : (board : ℕ) (told : Greeting) (front : List (List Step)) (s : List Step)
     → plans_on board told (front ++ s ∷ []) ≡ plans_on board told front ++ planned_on board told s ∷ []
 plans_more board told [] s = refl
-plans_more board told (f ∷ front) s = ap (λ (l : List ClientBodies). planned_on board told f ∷ l) (plans_more board told front s)
+plans_more board told (f ∷ front) s = ap (λ (l : List ClientBodies). planned_on board told f ∷ l) (plans_more board
+    told front s)
 
 length_of_bodies : (xs : List ClientBodies) → length (bodies_of xs) ≡ length xs
 length_of_bodies [] = refl
@@ -287,7 +295,8 @@ pub partly_stopped : {L : Type 0} → PartlyFront → PartlyAll → (board : ℕ
     → steps ≡ get_or scripts k steps → asked' ≡ steps → planned ≡ planned_on board told asked' → here ≡ planned.bodies
     → client ≡ length plans + 1 → PlannedSome client here old new
     → IsPartlyPlanned (told_bodies board told scripts) new.items
-partly_stopped {L} front all board told k client scripts steps asked' plans planned here before old new so_far none within
+partly_stopped {L} front all board told k client scripts steps asked' plans planned here before old new so_far none
+    within
     is same made bodies who some =
     let firsts = take k scripts in
     let began = unsealed_so_far before old (bodies_of plans) none so_far.lane'

@@ -1,23 +1,22 @@
 -- Boards one after another: the links given back so far, and the runs.
 use Rattle.std.proofs.Common.{◌≡◌, ℕ, ◌+◌, ◌<◌, ◌∙◌, inl, inr, Bool, true, suc, List, [], ◌∷◌, ◌++◌, length, map}
-use Rattle.std.proofs.Common.{Option, refl, sym, ap, subst, arith, append_assoc, append-nil, length-append, take, drop, get_or}
+use Rattle.std.proofs.Common.{Option, refl, sym, ap, subst, arith, append_assoc, append-nil, length-append, take}
+use Rattle.std.proofs.Common.{drop, get_or}
 use Rattle.std.specs.Prelude.{IfOk, IfSome, Result, Ok, Err}
 use Rattle.std.specs.List.{AllByRecursion}
-use Rattle.std.proofs.lemmas.List.{drop_more, length-take-le, take_more}
-use Rattle.ipb_base.proofs.AllLemmas.{AllByRecursion-append}
+use Rattle.std.proofs.lemmas.List.{drop_more, length-drop, length-take-le, take_more}
 use Rattle.world_model.specs.Board.{executed}
 use Rattle.world_core.specs.Telling.{Telling}
 use Rattle.reliable_engine.specs.Settings.{Limits}
 use Rattle.board_node.specs.declared.spec.BoardSpec.{BoardSpec}
 use Rattle.script_lang.specs.declared.operation.Step.{Step}
 use Rattle.transcript.specs.declared.board_run.BoardRun.{BoardRun}
-use Rattle.board_history.specs.History.{bodies_by_client, outcomes_by_client}
-use Rattle.board_history.specs.InTurn.{AreInTurn}
-use Rattle.hub_lane.specs.declared.greeting.Greeted.{Greeted}
-use Rattle.hub_lane.specs.Greeting.{link_of}
 use Rattle.lane_history.specs.Links.{IsUntouched, LinkReport}
 use Rattle.lane_history.specs.Runs.{AreRunsOver, ExecutedSome, IsRunOver}
-use Rattle.session_run.specs.Boards.{AreReached, AreUntouched, HasMemory, HasRoom, IsReached, OnRun}
+use Rattle.session_run.specs.Boards.{AreUntouched, HasRoom, OnRun}
+use Rattle.session_run.specs.Places.{AreCameOf, IsCameOf}
+use Rattle.session_run.specs.declared.rejoined.Board.{Board}
+use Rattle.session_run.proofs.Sides.{length_map, map_append}
 use Rattle.session_run.specs.Links.{AreLeft, IsLeft}
 
 left_more : (board : ℕ) (specs rest : List BoardSpec) (scripts : List (List Step)) (links : List LinkReport)
@@ -39,7 +38,8 @@ left_more board (s ∷ specs) rest scripts (l ∷ links) spec link left begins i
 
 runs_more : (settings : Limits) (board : ℕ) (specs : List BoardSpec) (scripts : List (List Step)) (runs : List BoardRun)
     (links : List LinkReport) (spec : BoardSpec) (run : BoardRun) (link : LinkReport)
-    → AreRunsOver settings board specs scripts runs links → IsRunOver settings spec (board + length specs) scripts run link
+    → AreRunsOver settings board specs scripts runs links → IsRunOver settings spec (board + length specs) scripts run
+    link
     → AreRunsOver settings board (specs ++ spec ∷ []) scripts (runs ++ run ∷ []) (links ++ link ∷ [])
 runs_more settings board [] scripts [] [] spec run link are is =
     (subst (λ n. IsRunOver settings spec n scripts run link) (omega arith) is, tt)
@@ -53,9 +53,6 @@ runs_more settings board (s ∷ specs) scripts (r ∷ runs) (l ∷ links) spec r
       (subst (λ n. IsRunOver settings spec n scripts run link) (omega arith) is),
 )
 
-abbrev pub IsInTurn : BoardRun → Type 0
-IsInTurn run = AreInTurn (bodies_by_client run) (outcomes_by_client run)
-
 -- so many boards ran, and their links were given back
 pub record RanBoards {L : Type 0} (shows : L → LinkReport) (settings : Limits) (k : ℕ) (specs : List BoardSpec)
     (scripts : List (List Step)) (runs : List BoardRun) (is_whole : Bool) (kept now : List L) : Type 0 where
@@ -64,14 +61,6 @@ pub record RanBoards {L : Type 0} (shows : L → LinkReport) (settings : Limits)
   pub many : length links ≡ k
   pub left : AreLeft 0 specs scripts (map shows links)
   pub ran : is_whole ≡ true → AreRunsOver settings 0 (take k specs) scripts runs (map shows links)
-  pub in_turn : is_whole ≡ true → AllByRecursion IsInTurn runs
-
--- the boards that are left
-pub record WaitBoards {L : Type 0} (tells : L → Option Telling) (shows : L → LinkReport) (settings : Limits) (k : ℕ)
-    (specs : List BoardSpec) (boards : List (Greeted L)) : Type 0 where
-  pub reached : AreReached tells shows settings (drop k specs) boards
-  pub memory : AllByRecursion HasMemory boards
-  pub many : length boards + k ≡ length specs
 
 pub none_ran : {L : Type 0} (shows : L → LinkReport) (settings : Limits) (specs : List BoardSpec)
     (scripts : List (List Step)) (kept : List L) → RanBoards shows settings 0 specs scripts [] true kept kept
@@ -81,49 +70,44 @@ none_ran shows settings specs scripts kept = record {
   many = refl;
   left = tt;
   ran = λ e. tt;
-  in_turn = λ e. tt;
 }
-
-map_append : {A B : Type 0} (f : A → B) (xs : List A) (x : A) → map f (xs ++ x ∷ []) ≡ map f xs ++ f x ∷ []
-map_append f [] x = refl
-map_append f (y ∷ xs) x = ap (λ l. f y ∷ l) (map_append f xs x)
-
-length_map : {A B : Type 0} (f : A → B) (xs : List A) → length (map f xs) ≡ length xs
-length_map f [] = refl
-length_map f (x ∷ xs) = ap suc (length_map f xs)
 
 pub begins_at : {A : Type 0} (xs : List A) (i : ℕ) (x : A) → i < length xs → x ≡ get_or xs i x
     → drop i xs ≡ x ∷ drop (i + 1) xs
 begins_at xs i x within is = drop_more xs i x within ∙ ap (λ y. y ∷ drop (i + 1) xs) (sym is)
 
--- what the next board of those that are left is
-pub record NextBoard {L : Type 0} (tells : L → Option Telling) (shows : L → LinkReport) (settings : Limits) (k : ℕ)
-    (specs : List BoardSpec) (spec : BoardSpec) (board : Greeted L) (others : List (Greeted L)) : Type 0 where
-  pub reached : IsReached settings spec board (tells (link_of board)) (shows (link_of board))
-  pub memory : HasMemory board
-  pub later : WaitBoards tells shows settings (k + 1) specs others
+none_of : {L : Type 0} (tells : L → Option Telling) (shows : L → LinkReport) (settings : Limits)
+    (scripts : List (List Step)) (k : ℕ) (specs : List BoardSpec)
+    → AreCameOf tells shows settings scripts k specs [] → 0 < length specs → ⊥
+none_of tells shows settings scripts k [] came some = omega (arith, some)
+none_of tells shows settings scripts k (s ∷ specs) came some = came
 
-pub next_board : {L : Type 0} (tells : L → Option Telling) (shows : L → LinkReport) (settings : Limits) (k : ℕ)
-    (specs : List BoardSpec) (spec : BoardSpec) (boards others : List (Greeted L)) (board : Greeted L)
-    → WaitBoards tells shows settings k specs boards → k < length specs → spec ≡ get_or specs k spec
-    → boards ≡ board ∷ others → NextBoard tells shows settings k specs spec board others
-next_board {L} tells shows settings k specs spec boards others board wait within is here =
-    let all = subst (λ (bs : List (Greeted L)). WaitBoards tells shows settings k specs bs) here wait in
-    let reached = subst (λ (ss : List BoardSpec). AreReached tells shows settings ss (board ∷ others))
-    (begins_at specs k spec within is) all.reached in
-    let many = all.many in
-    record {
-      reached = reached.0;
-      memory = all.memory.0;
-      later = record { reached = reached.1; memory = all.memory.1; many = omega (arith, many) };
-    }
+-- what came of the next board, and of those behind it
+pub record NextBoard {L : Type 0} (tells : L → Option Telling) (shows : L → LinkReport) (settings : Limits)
+    (scripts : List (List Step)) (k : ℕ) (specs : List BoardSpec) (spec : BoardSpec) (board : Board L)
+    (others : List (Board L)) : Type 0 where
+  pub came : IsCameOf tells shows settings scripts k spec board
+  pub later : AreCameOf tells shows settings scripts (k + 1) (drop (k + 1) specs) others
+
+pub next_board : {L : Type 0} (tells : L → Option Telling) (shows : L → LinkReport) (settings : Limits)
+    (scripts : List (List Step)) (k : ℕ) (specs : List BoardSpec) (spec : BoardSpec) (boards others : List (Board L))
+    (board : Board L) → AreCameOf tells shows settings scripts k (drop k specs) boards → k < length specs
+    → spec ≡ get_or specs k spec → boards ≡ board ∷ others
+    → NextBoard tells shows settings scripts k specs spec board others
+next_board {L} tells shows settings scripts k specs spec boards others board came within is here =
+    let both = subst (λ (ss : List BoardSpec). AreCameOf tells shows settings scripts k ss (board ∷ others))
+    (begins_at specs k spec within is)
+    (subst (λ (bs : List (Board L)). AreCameOf tells shows settings scripts k (drop k specs) bs) here came) in
+    record { came = both.0; later = both.1 }
 
 -- some board is left
-pub some_left : {L : Type 0} (tells : L → Option Telling) (shows : L → LinkReport) (settings : Limits) (k : ℕ)
-    (specs : List BoardSpec) (boards : List (Greeted L)) → WaitBoards tells shows settings k specs boards
-    → k < length specs → boards ≡ [] → ⊥
-some_left tells shows settings k specs boards wait within none =
-    let many = wait.many in let e = ap (λ l. length l) none in omega (arith, many, within, e)
+pub some_left : {L : Type 0} (tells : L → Option Telling) (shows : L → LinkReport) (settings : Limits)
+    (scripts : List (List Step)) (k : ℕ) (specs : List BoardSpec) (boards : List (Board L))
+    → AreCameOf tells shows settings scripts k (drop k specs) boards → k < length specs → 0 < length boards
+some_left tells shows settings scripts k specs [] came within =
+    let long = length-drop k specs in
+    absurd (none_of tells shows settings scripts k (drop k specs) came (omega (arith, long, within)))
+some_left tells shows settings scripts k specs (b ∷ boards) came within = omega arith
 
 pub room_for_one : {L : Type 0} (shows : L → LinkReport) (settings : Limits) (k : ℕ) (specs : List BoardSpec)
     (scripts : List (List Step)) (runs : List BoardRun) (is_whole : Bool) (kept now : List L) (made : ℕ)
@@ -158,11 +142,12 @@ pub board_more : {L E : Type 0} (shows : L → LinkReport) (settings : Limits) (
     (spec : BoardSpec) (link : L) (result : Result BoardRun E)
     → RanBoards shows settings k specs scripts runs is_whole kept now → k < length specs → spec ≡ get_or specs k spec
     → new ≡ now ++ link ∷ [] → IsLeft spec k scripts (shows link)
-    → IfOk result (λ run. IsRunOver settings spec k scripts run (shows link)) → IfOk result IsInTurn
+    → IfOk result (λ run. IsRunOver settings spec k scripts run (shows link))
     → (added ≡ true → is_whole ≡ true) → (added ≡ true → OnRun result (λ run. later ≡ runs ++ run ∷ []))
     → RanBoards shows settings (k + 1) specs scripts later added kept new
-board_more {L} {E} shows settings k specs scripts runs later is_whole added kept now new spec link result so_far within is
-    push left ran in_turn was adds =
+board_more {L} {E} shows settings k specs scripts runs later is_whole added kept now new spec link result so_far
+    within is
+    push left ran was adds =
     let links = so_far.links in
     let count = length_map shows links in
     let many = so_far.many in
@@ -177,12 +162,10 @@ board_more {L} {E} shows settings k specs scripts runs later is_whole added kept
           (subst (λ n. IsLeft spec n scripts (shows link)) (omega (arith, place)) left));
       ran = λ e. run_there (λ (run : BoardRun). IsRunOver settings spec k scripts run (shows link))
           (λ (run : BoardRun). later ≡ runs ++ run ∷ [])
-          (AreRunsOver settings 0 (take (k + 1) specs) scripts later (map shows (links ++ link ∷ []))) result ran (adds e)
+          (AreRunsOver settings 0 (take (k + 1) specs) scripts later (map shows (links ++ link ∷ []))) result ran
+          (adds e)
           (λ run over is_later. whole_more shows settings k specs scripts runs later links spec run link
           (so_far.ran (was e)) within is over is_later);
-      in_turn = λ e. run_there IsInTurn (λ (run : BoardRun). later ≡ runs ++ run ∷ []) (AllByRecursion IsInTurn later) result in_turn
-          (adds e) (λ run turn is_later. subst (AllByRecursion IsInTurn) (sym is_later)
-          (AllByRecursion-append IsInTurn runs (run ∷ []) (so_far.in_turn (was e)) (turn, tt)));
     }
 
 abbrev pub UntouchedLaw : Type 0

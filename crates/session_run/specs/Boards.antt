@@ -1,5 +1,5 @@
 -- Boards at their greeting. What private functions promise one another; no public clause speaks of these.
-use Rattle.std.specs.Prelude.{◌≡◌, ◌⊎◌, ℕ, ◌+◌, ◌≤◌, List, [], ◌∷◌, Option, IfSome, Result, Ok, Err}
+use Rattle.std.specs.Prelude.{◌≡◌, ◌⊎◌, ℕ, ◌+◌, ◌≤◌, List, [], ◌∷◌, Option, Some, IfSome, Result, Ok, Err}
 use Rattle.world_core.specs.Telling.{Telling}
 use Rattle.reliable_engine.specs.Settings.{Limits}
 use Rattle.board_node.specs.declared.spec.BoardSpec.{BoardSpec}
@@ -78,8 +78,8 @@ OnRun (Ok run) holds = holds run
 OnRun (Err fault) holds = ⊥
 
 -- a run has this name and this greeting, and these parts
-pub record IsNamed {E : Type 0} (spec : BoardSpec) (told : Greeting) (parts : Result (List ClientPart) E) (run : BoardRun)
+pub record IsNamed (spec : BoardSpec) (told : Greeting) (parts : Option (List ClientPart)) (run : BoardRun)
     : Type 0 where
   pub name' : run.name ≡ spec.name
   pub greeting' : run.greeting ≡ told
-  pub parts' : parts ≡ Ok run.parts
+  pub parts' : parts ≡ Some run.parts

@@ -1,6 +1,6 @@
 //! The boards of a session, greeted in order.
 
-ghost use Rattle.std.specs.Prelude.{◌≡◌, ◌≤◌, ◌<◌, ◌+◌, ◌++◌, ◌∷◌, [], Err, length, map, IfOk, OnErr, OnOk, false};
+ghost use Rattle.std.specs.Prelude.{◌≡◌, ◌≢◌, ◌≤◌, ◌<◌, ◌+◌, ◌++◌, ◌∷◌, [], Err, length, map, IfOk, OnErr, OnOk, false};
 ghost use Rattle.std.specs.List.{AllByRecursion};
 ghost use Rattle.std.specs.Vec.{vec_capacity, vec_len};
 ghost use Rattle.ipb_base.specs.Faults.{Rose};
@@ -55,6 +55,7 @@ fn greet_board<R: Rack>(
         (shown_by R.L.faults R.L.quiets R.L.gots R.L.held R.L.telling (link_of board))) }
     ensures failed { result ≡ Err RackFault.Failed → Rose (R.faults rack.old) (R.faults rack.new) }
     ensures faults { R.faults rack.old ≤ R.faults rack.new }
+    ensures unfaulted { result ≢ Err RackFault.Failed → R.faults rack.new ≡ R.faults rack.old }
     ensures kept { R.kept rack.new ≡ R.kept rack.old }
     ensures made { R.made rack.new ≡ made_after result (R.made rack.old) }
     ensures within { length (R.kept rack.old) ≤ R.made rack.old }
@@ -90,6 +91,7 @@ fn greet_into<R: Rack>(
     ensures memory { OnOk result (AllByRecursion HasMemory boards.new.items) }
     ensures failed { result ≡ Err RunFault.Rack → Rose (R.faults rack.old) (R.faults rack.new) }
     ensures faults { R.faults rack.old ≤ R.faults rack.new }
+    ensures unfaulted { result ≢ Err RunFault.Rack → R.faults rack.new ≡ R.faults rack.old }
     ensures kept { R.kept rack.new ≡ R.kept rack.old }
     ensures made { R.made rack.new ≡ R.made rack.old + length boards.new.items }
     ensures room { HasRoom (length (R.kept rack.new)) (R.made rack.new) (length boards.new.items) }
@@ -126,6 +128,7 @@ pub(crate) fn greet_boards<R: Rack>(
         × (R.made rack.new ≡ R.made rack.old + length links))) }
     ensures failed { result ≡ Err RunFault.Rack → Rose (R.faults rack.old) (R.faults rack.new) }
     ensures faults { R.faults rack.old ≤ R.faults rack.new }
+    ensures unfaulted { result ≢ Err RunFault.Rack → R.faults rack.new ≡ R.faults rack.old }
 {
     let Ok(mut boards) = Vec::with_capacity(alloc, specs.len()) else {
         return Err(RunFault::NoMemory);

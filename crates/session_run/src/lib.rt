@@ -1,14 +1,17 @@
-//! Sessions run over the links of a rack: each board is greeted, and then the clients' scripts run on it, one client
-//! after another, whatever the links lose, repeat, delay or reorder.
+//! Sessions run over the links of a rack: all boards are greeted, and then the clients run their scripts, each in a
+//! thread of its own, whatever the links lose, repeat, delay or reorder.
 //!
 //! What a run shows is `AreRunsOver` of `lane_history`. The definitions that contracts cite are in `specs/`.
 #![tactic(auto)]
 
-mod board;
-mod client;
+mod finish;
 mod greeting;
+mod hub;
+mod lanes;
 mod planning;
+mod rejoined;
 mod session;
+mod split;
 
 pub use ipb_base::NoMemory;
 pub use session::{RunFault, run_session};

@@ -7,11 +7,15 @@ ghost use Rattle.mtu_packer.specs.Packed.{FitsPackets};
 ghost use Rattle.mtu_packer.specs.declared.packing.TheConstants.{MAX_PAYLOAD};
 ghost use Rattle.lane_record.specs.Items.{is_sealed, planned};
 ghost use Rattle.lane_record.specs.NextEntry.{the_seal};
-ghost use Rattle.script_lang.specs.Packing.{CanBePacked, HaveFewPieces};
+ghost use Rattle.script_lang.specs.Executable.{AreExecutable};
+ghost use Rattle.script_lang.specs.Packing.{AreWithinLimits, CanBePacked, HaveFewPieces};
 ghost use Rattle.transcript.specs.declared.greeting.Greeting.TheVariants.{Live};
 ghost use Rattle.transcript.specs.Plan.{plans_on};
-ghost use Rattle.lane_history.specs.Records.{IsPartlyPlanned, all_plans_from, plans_from};
+ghost use Rattle.lane_record.specs.Dispatches.{all_plans_from, plans_from};
+ghost use Rattle.lane_history.specs.Records.{IsPartlyPlanned};
+ghost use Rattle.session_plans.specs.Plans.{HasFewBodies};
 ghost use Rattle.session_run.specs.Clients.{KeepsLane, PlannedSome, bodies_of, with_items};
+ghost use Rattle.session_run.specs.Room.{HasRoomFor};
 
 use hub_lane::{Lane, PlanRefusal};
 use ipb_base::{NoMemory, Words};
@@ -19,10 +23,12 @@ use lane_history::building::{a_record_is_partly_planned_on_its_way, one_more_ent
 use script_lang::Steps;
 use std::alloc::Global;
 use transaction_codec::reply_room;
+use transcript::laws::plans_are_short;
 use transcript::{Greeting, Planned, plan_on};
 use world_core::Link;
 
-/// Plans one body of a client.
+/// Plans one body of a client. The lane has room for it.
+#[tactic(auto, using(crate::proofs::RoomLeft::not_full))]
 fn plan_body<L: Link>(
     alloc: Global,
     lane: &mut Lane<L>,
@@ -32,6 +38,7 @@ fn plan_body<L: Link>(
     requires client { 1 ≤ client }
     requires unsealed { is_sealed lane.old.items ≡ false }
     requires fits { FitsPackets (payload_of lane.old.status.mtu) body.now }
+    requires room { HasRoomFor lane.old.items (body.now ∷ []) }
     ensures planned { OnOk result (lane.new
         ≡ with_items lane.old (plans_from client (planned client lane.old.items) (body.now ∷ []))) }
     ensures unchanged { OnErr result (lane.new ≡ lane.old) }
@@ -41,9 +48,13 @@ fn plan_body<L: Link>(
     let reply_words = reply_room(words.as_slice());
     match lane.plan(client, words, reply_words) {
         Ok(_) => Ok(()),
-        Err(PlanRefusal::NoMemory | PlanRefusal::Overfull) => Err(NoMemory),
-        Err(PlanRefusal::Sealed | PlanRefusal::TooLong | PlanRefusal::ReplyTooLong) =>
-            unreachable!(),
+        Err(PlanRefusal::NoMemory) => Err(NoMemory),
+        Err(
+            PlanRefusal::Sealed
+            | PlanRefusal::TooLong
+            | PlanRefusal::ReplyTooLong
+            | PlanRefusal::Overfull,
+        ) => unreachable!(),
     }
 }
 
@@ -58,6 +69,7 @@ fn plan_bodies<L: Link>(
     requires unsealed { is_sealed lane.old.items ≡ false }
     requires none { planned client lane.old.items ≡ 0 }
     requires fit { AllByRecursion (FitsPackets (payload_of lane.old.status.mtu)) bodies.now }
+    requires room { HasRoomFor lane.old.items bodies.now }
     ensures planned { OnOk result (lane.new ≡ with_items lane.old (plans_from client 0 bodies.now)) }
     ensures some { PlannedSome client bodies.now lane.old lane.new }
 {
@@ -79,9 +91,12 @@ pub(crate) fn plan_clients<L: Link>(
     requires few_clients { length scripts.now < 2 ^ 32 }
     requires can { AllByRecursion (AllByRecursion CanBePacked) scripts.now }
     requires few { AllByRecursion HaveFewPieces scripts.now }
+    requires executable { AllByRecursion AreExecutable scripts.now }
+    requires limits { AreWithinLimits scripts.now }
     requires unused { lane.old.items ≡ [] }
     ensures plans { IfOk result (λ plans. plans.items
         ≡ plans_on position (Live (payload_of lane.old.status.mtu)) scripts.now) }
+    ensures few { IfOk result (λ plans. AllByRecursion HasFewBodies plans.items) }
     ensures planned { IfOk result (λ plans. lane.new
         ≡ with_items lane.old (all_plans_from 1 (bodies_of plans.items) ++ the_seal ∷ [])) }
     ensures some { IsPartlyPlanned (bodies_of (plans_on position (Live (payload_of lane.old.status.mtu)) scripts.now))
@@ -89,6 +104,7 @@ pub(crate) fn plan_clients<L: Link>(
     ensures keeps { KeepsLane lane.old lane.new (L.telling lane.old.link) (L.telling lane.new.link) }
 {
     a_record_is_partly_planned_on_its_way();
+    plans_are_short();
     lane.is_sound();
     let payload = lane.payload();
     let mut plans = Vec::with_capacity(alloc, scripts.len())?;

@@ -108,6 +108,7 @@ sound_lane law settings status hub items outcomes give_ups down spent telling fa
       waited = waited_all settings.rounds give_ups hub.status_requests quiets
           (subst (λ (r : ℕ). HasWaited r give_ups hub.status_requests quiets) is.knows.rounds is.waited);
       lost = lost_if (down ≡ true) (1 ≤ faults) outcomes is.fault is.lost;
+      tells = is.tells;
       told = shown (IsStanding (down || spent) settings hub outcomes) (OpenedWith opening)
           (λ (board : Board). IsTrueOf opening (claims items) outcomes (executed board)) telling is.standing opened
           (λ t standing opens. true_of law (down || spent) settings hub (cond down [] hub.queue) (claims items) outcomes

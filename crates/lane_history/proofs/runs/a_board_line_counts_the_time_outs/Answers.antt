@@ -5,7 +5,7 @@ use Rattle.lane_record.specs.declared.outcome.Outcome.{Outcome}
 use Rattle.lane_record.specs.Outcomes.{is_timed_out}
 use Rattle.transcript.specs.declared.board_run.ClientPart.{ClientPart}
 use Rattle.board_history.specs.History.{dispatches_by_client}
-use Rattle.board_history.specs.Patience.{joined}
+use Rattle.lane_record.specs.Dispatches.{joined}
 use Rattle.lane_history.proofs.Live.{run_joined}
 use Rattle.lane_history.proofs.runs.a_board_line_counts_the_time_outs.Goals as goal
 

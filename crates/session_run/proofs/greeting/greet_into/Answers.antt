@@ -42,7 +42,7 @@ loop-spec-preserved g c =
       memory = subst (AllByRecursion HasMemory) (sym pushed)
           (AllByRecursion-append HasMemory boards (board ∷ []) c.loop-spec.invariant.memory
           (c.is_out_of_memory-is_last.ensures c.if-is_last.false, tt));
-      faults = (let a = c.loop-spec.invariant.faults in let b = c.greet_board.ensures.faults in omega (arith, a, b));
+      faults = c.in_ok-board.ensures.unfaulted (λ e. cc) ∙ c.loop-spec.invariant.faults;
       kept = c.greet_board.ensures.kept ∙ c.loop-spec.invariant.kept;
       made = (let before = c.loop-spec.invariant.made in omega (arith, made, before, longer));
       room = subst (HasRoom (length (g.R.Rack.kept c.greet_board.new.rack)) (g.R.Rack.made c.greet_board.new.rack))

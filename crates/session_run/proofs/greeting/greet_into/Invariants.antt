@@ -11,7 +11,7 @@ invariant-loop-spec g l = record {
   reached : AreReached g.R.L.Link.telling (shown_by g.R.L.Link.faults g.R.L.Link.quiets g.R.L.Link.gots
       g.R.L.Link.held g.R.L.Link.telling) l.settings l.specs l.boards.items;
   memory : AllByRecursion HasMemory l.boards.items;
-  faults : g.R.Rack.faults l.initial.rack ≤ g.R.Rack.faults l.rack;
+  faults : g.R.Rack.faults l.rack ≡ g.R.Rack.faults l.initial.rack;
   kept : g.R.Rack.kept l.rack ≡ g.R.Rack.kept l.initial.rack;
   made : g.R.Rack.made l.rack ≡ g.R.Rack.made l.initial.rack + length l.boards.items;
   room : HasRoom (length (g.R.Rack.kept l.rack)) (g.R.Rack.made l.rack) (length l.boards.items);

@@ -1,8 +1,11 @@
-use Rattle.std.proofs.Common.{◌∙◌, ap, take}
+use Rattle.std.proofs.Common.{◌∙◌, ◌∷◌, [], List, ap, subst, sym, take}
+use Rattle.lane_record.specs.declared.item.Item.{Item}
 use Rattle.lane_record.specs.Items.{is_sealed}
 use Rattle.hub_lane.specs.Lanes.{LaneState}
-use Rattle.lane_history.specs.Records.{plans_from}
+use Rattle.lane_record.specs.Dispatches.{plans_from}
 use Rattle.session_run.proofs.PlansMade.{plan_more, plans_front, unsealed_more}
+use Rattle.session_run.proofs.RoomLeft.{room_for_next}
+use Rattle.session_run.specs.Room.{HasRoomFor}
 use Rattle.session_run.proofs.planning.plan_bodies.Goals as goal
 
 pub plan_body-requires-clause-unsealed : goal.plan_body-requires-clause-unsealed
@@ -21,3 +24,10 @@ pub loop-body-preserved : goal.loop-body-preserved
 loop-body-preserved g c = plan_more c.one_more_entry_stands_behind.ensures.plan c.args.lane.now c.loop-body.lane
     c.plan_body.new.lane c.args.client c.loop-body.body-index c.args.bodies.now c.body-item.result c.requires.none
     c.loop-body.invariant c.loop-body-test.true c.body-item.is c.in_ok-plan_body.ensures.planned
+
+pub plan_body-requires-clause-room : goal.plan_body-requires-clause-room
+plan_body-requires-clause-room g c =
+    subst (λ (items : List Item). HasRoomFor items (c.body-item.result ∷ []))
+    (sym (ap (λ (l : LaneState _). l.items) c.loop-body.invariant))
+    (room_for_next c.args.lane.now.items c.args.client c.loop-body.body-index c.args.bodies.now c.body-item.result
+    c.requires.room c.loop-body-test.true c.body-item.is)

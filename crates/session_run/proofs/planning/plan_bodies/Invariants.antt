@@ -1,5 +1,5 @@
 use Rattle.std.proofs.Common.{◌≡◌, take}
-use Rattle.lane_history.specs.Records.{plans_from}
+use Rattle.lane_record.specs.Dispatches.{plans_from}
 use Rattle.session_run.specs.Clients.{with_items}
 use Rattle.session_run.proofs.planning.plan_bodies.Given as goal
 

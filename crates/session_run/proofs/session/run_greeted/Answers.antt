@@ -1,68 +1,42 @@
-use Rattle.std.proofs.Common.{◌∙◌, List, map, refl, subst, arith}
-use Rattle.std.specs.Vec.Iter.{into_iter_items}
-use Rattle.std.proofs.lemmas.List.{take_all}
-use Rattle.board_node.specs.declared.spec.BoardSpec.{BoardSpec}
-use Rattle.lane_history.specs.Runs.{AreRunsOver}
-use Rattle.session_run.specs.Boards.{shown_by}
-use Rattle.session_run.proofs.Sessions.{board_more, next_board, none_ran, room_for_one}
+use Rattle.std.proofs.Common.{◌≡◌, ◌∙◌, ℕ, List, Vec, ap, length, map, subst, sym}
+use Rattle.hub_lane.specs.declared.greeting.Greeted.{Greeted}
+use Rattle.hub_lane.specs.Greeting.{link_of}
+use Rattle.session_run.specs.Boards.{AreReached, HasRoom, shown_by}
+use Rattle.session_run.proofs.Boards.{untouched_all}
+use Rattle.session_run.proofs.Sessions.{untouched_are_left}
+use Rattle.session_run.proofs.Sides.{length_map}
 use Rattle.session_run.proofs.session.run_greeted.Goals as goal
 
-pub loop-position-init : goal.loop-position-init
-loop-position-init g c =
-    let link = g.R.L.Link in
-    let shows = shown_by link.faults link.quiets link.gots link.held link.telling in
-    let rest = c.into_iter-rest.ensures.rest in
-    let all = c.requires.all in
-    record {
-      so_far = rw c.new-runs.ensures.items (none_ran shows c.args.settings c.args.specs.now c.args.scripts.now
-          (g.R.Rack.kept c.args.rack.now));
-      left = rw rest (record { reached = c.requires.reached; memory = c.requires.memory; many = omega (arith, all) });
-      made = refl;
-      faults = refl;
-    }
+pub run_split-requires-clause-reached : goal.run_split-requires-clause-reached
+run_split-requires-clause-reached g c κs within = record {
+  boards = c.args.boards.items;
+  apart = c.in-Ok.ensures.apart;
+  all = c.requires.all;
+  memory = c.requires.memory;
+  reached = c.requires.reached;
+}
 
-pub keep-requires : goal.keep-requires
-keep-requires g c =
-    let link = g.R.L.Link in
-    let shows = shown_by link.faults link.quiets link.gots link.held link.telling in
-    let made = c.loop-position.invariant.made in
-    let less = room_for_one shows c.args.settings c.loop-position.position c.args.specs.now c.args.scripts.now
-    c.loop-position.runs.items c.loop-position.is_whole (g.R.Rack.kept c.args.rack.now)
-    (g.R.Rack.kept c.loop-position.rack) (g.R.Rack.made c.args.rack.now) c.loop-position.invariant.so_far
-    c.requires.room c.loop-position-test.true in
-    omega (arith, made, less)
+pub keep_all-requires-clause-room : goal.keep_all-requires-clause-room
+keep_all-requires-clause-room g c κs within =
+    subst (λ (n : ℕ). HasRoom (length (g.R.Rack.kept c.args.rack.now)) (g.R.Rack.made c.args.rack.now) n)
+    (sym (ap (λ (v : Vec (Greeted _) _). length v.items) c.in-Err.ensures.given_back ∙ c.requires.all)) c.requires.room
 
-pub loop-position-preserved : goal.loop-position-preserved
-loop-position-preserved g c =
+pub returns-in-Err-clause-left : goal.returns-in-Err-clause-left
+returns-in-Err-clause-left g c =
     let link = g.R.L.Link in
     let shows = shown_by link.faults link.quiets link.gots link.held link.telling in
-    let k = c.loop-position.position in
-    let next = next_board link.telling shows c.args.settings k c.args.specs.now c.index-specs-position.result
-    (into_iter_items c.loop-position.rest) (into_iter_items c.next.new.self) c.in-Some.board
-    c.loop-position.invariant.left c.loop-position-test.true c.index-specs-position.is c.in-Some.ensures.cases.0 in
-    record {
-      so_far = board_more shows c.args.settings k c.args.specs.now c.args.scripts.now c.loop-position.runs.items
-          c.add_run-is_whole.new.runs.items c.loop-position.is_whole c.add_run-is_whole.result (g.R.Rack.kept c.args.rack.now)
-          (g.R.Rack.kept c.loop-position.rack) (g.R.Rack.kept c.keep.new.self) c.index-specs-position.result
-          c.run_next-link.result.0 c.run_next-link.result.1 c.loop-position.invariant.so_far c.loop-position-test.true
-          c.index-specs-position.is c.keep.ensures.kept c.run_next-link.ensures.left c.run_next-link.ensures.ran
-          c.run_next-link.ensures.in_turn c.add_run-is_whole.ensures.whole c.add_run-is_whole.ensures.added;
-      left = next.later;
-      made = c.keep.ensures.made ∙ c.loop-position.invariant.made;
-      faults = c.keep.ensures.faults ∙ c.loop-position.invariant.faults;
-    }
-
-pub returns-then-is_whole-clause-ran : goal.returns-then-is_whole-clause-ran
-returns-then-is_whole-clause-ran g c =
-    let link = g.R.L.Link in
-    let shows = shown_by link.faults link.quiets link.gots link.held link.telling in
-    let so_far = c.loop-position.invariant.so_far in (
-      so_far.links,
-      so_far.grown,
-      subst (λ (specs : List BoardSpec). AreRunsOver c.args.settings 0 specs c.args.scripts.now c.loop-position.runs.items
-          (map shows so_far.links)) (take_all c.loop-position.position c.args.specs.now c.loop-position-test.false)
-          (so_far.ran c.if-is_whole.true),
+    let boards = c.in-Err.boards.items in
+    let links = map (λ (b : Greeted _). link_of b) boards in
+    let same : boards ≡ c.args.boards.items =
+    ap (λ (v : Vec (Greeted _) _). v.items) c.in-Err.ensures.given_back in (
+      links,
+      c.keep_all.ensures.kept,
+      (
+        untouched_are_left c.a_lane_left_at_any_moment_executed_a_merge.ensures.untouched 0 c.args.specs.now
+            c.args.scripts.now (map shows links)
+            (untouched_all link.telling shows c.args.settings c.args.specs.now boards
+            (subst (AreReached link.telling shows c.args.settings c.args.specs.now) (sym same) c.requires.reached)),
+        length_map shows links ∙ (length_map (λ (b : Greeted _). link_of b) boards
+            ∙ (ap (λ (l : List (Greeted _)). length l) same ∙ c.requires.all)),
+      ),
     )
-
-pub returns-then-is_whole-clause-in_turn : goal.returns-then-is_whole-clause-in_turn
-returns-then-is_whole-clause-in_turn g c = c.loop-position.invariant.so_far.in_turn c.if-is_whole.true

@@ -21,19 +21,6 @@ returns-in_err-boards-clause-untouched g c =
     let left = c.in_err-boards.ensures.left in
     λ fault. (left.0, left.1, untouched_all c.args.specs.now (map shows left.0) left.2.0)
 
-pub returns-clause-calm : goal.returns-clause-calm
-returns-clause-calm g c =
-    let link = g.R.L.Link in
-    let shows = shown_by link.faults link.quiets link.gots link.held link.telling in
-    let ran = c.in_ok-run_greeted.ensures.ran in
-    let rounds : 1 ≤ c.args.settings.rounds = search rules in (
-      ran.0,
-      ran.1 ∙ ap (λ kept. kept ++ ran.0) c.in_ok-boards.ensures.kept,
-      λ calm. c.calm_links_in_turn_are_boards_of_this_process.ensures c.args.settings 0 c.args.specs.now
-          c.args.scripts.now c.in_ok-run_greeted.field-0.items (map shows ran.0) rounds calm ran.2
-          c.in_ok-run_greeted.ensures.in_turn,
-    )
-
 pub returns-clause-left : goal.returns-clause-left
 returns-clause-left g c =
     let left = c.run_greeted.ensures.left in

@@ -1,0 +1,69 @@
+-- What the lines of boards tell of their timeouts.
+use Rattle.std.proofs.Common.{◌≡◌, ℕ, ◌+◌, ◌*◌, ◌≤◌, List, [], ◌∷◌, map, Option, Some, None, subst, ap}
+use Rattle.std.specs.Prelude.{IfSome}
+use Rattle.std.specs.List.{AllZip, count_by}
+use Rattle.board_node.specs.declared.spec.BoardSpec.{BoardSpec}
+use Rattle.world_model.specs.Board.{Board}
+use Rattle.reliable_engine.specs.Settings.{Limits}
+use Rattle.script_lang.specs.declared.operation.Step.{Step}
+use Rattle.lane_record.specs.Outcomes.{is_timed_out}
+use Rattle.transcript.specs.declared.greeting.Greeting.{Greeting}
+use Rattle.transcript.specs.declared.greeting.Greeting.TheVariants.{Live, Silent, Down}
+use Rattle.transcript.specs.declared.line.BoardLine.{BoardLine}
+use Rattle.transcript.specs.declared.line.BoardLine.TheVariants as board_lines
+use Rattle.transcript.specs.declared.board_run.BoardRun.{BoardRun}
+use Rattle.transcript.specs.Lines.{board_line, live_line, outcomes_on}
+use Rattle.board_history.specs.GiveUps.{IsExact, time_outs}
+use Rattle.board_history.specs.History.{dispatches_by_client}
+use Rattle.direct_run.specs.Runs.{opening_of}
+use Rattle.lane_history.specs.Links.{LinkReport}
+use Rattle.lane_history.specs.Runs.{AreRunsOver, IsAsTold, IsLiveRun, IsRunOver, IsTrueRun, ShowsScripts}
+use Rattle.lane_history.specs.Runs.{TimeOutsWaited}
+
+-- the timeouts of a board's line are those of its clients' dispatches
+abbrev pub Counting : Type 0
+Counting = (spec : BoardSpec) (board : ℕ) (scripts : List (List Step)) (run : BoardRun)
+    → ShowsScripts spec board scripts run
+    → time_outs (dispatches_by_client run) ≡ count_by is_timed_out (outcomes_on run)
+
+-- so many datagrams were held, where the link tells
+held_by_line : (settings : Limits) (spec : BoardSpec) (run : BoardRun) (held : ℕ) (there : Option Board)
+    → time_outs (dispatches_by_client run) ≡ count_by is_timed_out (outcomes_on run)
+    → IfSome there (IsTrueRun settings (opening_of spec.link) run held)
+    → IfSome there (λ _. IsExact held
+    → settings.rounds * count_by is_timed_out (outcomes_on run) ≤ settings.window * held)
+held_by_line settings spec run held None same told = tt
+held_by_line settings spec run held (Some there) same told =
+    subst (λ (n : ℕ). IsExact held → settings.rounds * n ≤ settings.window * held) same told.held'.bodies
+
+abbrev pub line_at : BoardRun → Greeting → BoardLine
+line_at run told = elim told as (λ _. BoardLine) [
+  | Live payload ↦ live_line run.name (outcomes_on run)
+  | Silent ↦ board_lines.Silent run.name
+  | Down ↦ board_lines.Down run.name
+]
+
+line_waited : Counting → (settings : Limits) (spec : BoardSpec) (board : ℕ) (scripts : List (List Step))
+    (run : BoardRun) (link : LinkReport) (told : Greeting) → ShowsScripts spec board scripts run
+    → IsAsTold settings spec run link told → TimeOutsWaited settings (line_at run told) link
+line_waited counting settings spec board scripts run link (Live payload) shows live =
+    let same = counting spec board scripts run shows in (
+      subst (λ (n : ℕ). IsExact link.quiets → (settings.rounds + 1) * n ≤ settings.window * link.quiets) same
+          live.any_link.rounds.bodies,
+      held_by_line settings spec run link.held link.board same live.told,
+    )
+line_waited counting settings spec board scripts run link Silent shows silent = tt
+line_waited counting settings spec board scripts run link Down shows down = tt
+
+pub lines_waited : Counting → (settings : Limits) (board : ℕ) (specs : List BoardSpec) (scripts : List (List Step))
+    (runs : List BoardRun) (links : List LinkReport) → AreRunsOver settings board specs scripts runs links
+    → AllZip (TimeOutsWaited settings) (map board_line runs) links
+lines_waited counting settings board [] scripts [] [] is = tt
+lines_waited counting settings board [] scripts [] (link ∷ links) is = absurd is
+lines_waited counting settings board [] scripts (run ∷ runs) links is = absurd is
+lines_waited counting settings board (spec ∷ specs) scripts [] links is = absurd is
+lines_waited counting settings board (spec ∷ specs) scripts (run ∷ runs) [] is = absurd is
+lines_waited counting settings board (spec ∷ specs) scripts (run ∷ runs) (link ∷ links) is = (
+  line_waited counting settings spec board scripts run link run.greeting is.0.scripts' is.0.as_told,
+  lines_waited counting settings (board + 1) specs scripts runs links is.1,
+)

@@ -1,0 +1,236 @@
+-- Lanes planned one after another.
+use Rattle.std.proofs.Common.{◌≡◌, ℕ, zero, suc, ◌+◌, ◌≤◌, ◌<◌, ◌∙◌, List, [], ◌∷◌, ◌++◌, length, take, drop, get_or}
+use Rattle.std.proofs.Common.{set}
+use Rattle.std.proofs.Common.{Option, Some, None, refl, sym, ap, subst, arith, append_assoc, append-nil, length-append}
+use Rattle.std.specs.List.{AllByRecursion}
+use Rattle.std.proofs.lemmas.List.{drop_all, drop_more, length-drop, take-append-drop, take_all, take_more}
+use Rattle.ipb_base.specs.Numbers.{payload_of}
+use Rattle.world_core.specs.Telling.{Telling}
+use Rattle.world_model.specs.Board.{Board}
+use Rattle.board_bus.specs.Cells.{CellMap}
+use Rattle.hub_lane.specs.Lanes.{LaneState, board_of, opening_of}
+use Rattle.script_lang.specs.declared.operation.Step.{Step}
+use Rattle.transcript.specs.declared.greeting.Greeting.TheVariants.{Live}
+use Rattle.transcript.specs.Plan.{ClientBodies, planned_on}
+use Rattle.session_plans.specs.Parts.{HasClients}
+use Rattle.session_plans.specs.Plans.{ArePlansOnBoard, HasFewBodies}
+use Rattle.lane_history.specs.Records.{IsPartlyPlanned}
+use Rattle.hub_history.specs.Lanes.{sealed_plans}
+use Rattle.session_run.specs.Clients.{KeepsLane, bodies_of, with_items}
+use Rattle.session_run.specs.Lanes.{AllFour, AllThree, HasGoneOn, HasNoEntry, IsPlannedOn, head_shown, plans_over}
+use Rattle.session_run.proofs.PlansMade.{PartlyAll, PartlyFront, partly_none}
+use Rattle.session_run.proofs.Sides.{four_append, last_of_four, length_map, three_append}
+
+-- ---- one lane
+
+abbrev opening_there : Option Board → Option CellMap
+opening_there None = None
+opening_there (Some b) = Some b.opening
+
+opening_again : (told : Option Telling) → opening_there (board_of told) ≡ opening_of told
+opening_again None = refl
+opening_again (Some t) = refl
+
+keeps_head : {L : Type 0} (tells : L → Option Telling) (old new : LaneState L)
+    → KeepsLane old new (tells old.link) (tells new.link) → head_shown tells new ≡ head_shown tells old
+keeps_head {L} tells old new keeps =
+    let opens : opening_of (tells new.link) ≡ opening_of (tells old.link) =
+    sym (opening_again (tells new.link)) ∙ (ap opening_there keeps.board ∙ opening_again (tells old.link)) in
+    let same : new.settings ≡ old.settings = keeps.settings in
+    let told : new.status ≡ old.status = keeps.status in
+    cc
+
+-- a lane whose clients were planned, or on the way there
+pub planned_gone : {L : Type 0} (tells : L → Option Telling) (scripts : List (List Step)) (position : ℕ)
+    (old new : LaneState L) → KeepsLane old new (tells old.link) (tells new.link)
+    → IsPartlyPlanned (bodies_of (plans_over scripts position old)) new.items → HasGoneOn tells scripts position old new
+planned_gone tells scripts position old new keeps some = record { head = keeps_head tells old new keeps; some = some }
+
+-- lanes that nobody asked anything of
+pub unused_gone : {L : Type 0} → PartlyFront → PartlyAll → (tells : L → Option Telling) (scripts : List (List Step))
+    (positions : List ℕ) (lanes : List (LaneState L)) → length positions ≡ length lanes
+    → AllByRecursion HasNoEntry lanes → AllThree (HasGoneOn tells scripts) positions lanes lanes
+unused_gone front all tells scripts [] [] long none = tt
+unused_gone front all tells scripts [] (lane ∷ lanes) long none = absurd cc
+unused_gone front all tells scripts (p ∷ positions) [] long none = absurd cc
+unused_gone front all tells scripts (p ∷ positions) (lane ∷ lanes) long none = (
+  record {
+    head = refl;
+    some = partly_none front all (bodies_of (plans_over scripts p lane)) lane.items none.0;
+  },
+  unused_gone front all tells scripts positions lanes (omega (arith, long)) none.1,
+)
+
+none_behind : {L : Type 0} (k : ℕ) (lanes : List (LaneState L)) → AllByRecursion HasNoEntry lanes
+    → AllByRecursion HasNoEntry (drop k lanes)
+none_behind zero lanes none = none
+none_behind (suc k) [] none = tt
+none_behind (suc k) (lane ∷ lanes) none = none_behind k lanes none.1
+
+-- ---- the lanes so far
+
+pub record PlannedSoFar {L : Type 0} (tells : L → Option Telling) (scripts : List (List Step)) (k : ℕ)
+    (positions : List ℕ) (olds nows : List (LaneState L)) (all : List (List ClientBodies)) : Type 0 where
+  pub front : List (LaneState L)
+  pub whole : nows ≡ front ++ drop k olds
+  pub long : length front ≡ k
+  pub planned : AllFour (IsPlannedOn scripts) (take k positions) (take k olds) front all
+  pub gone : AllThree (HasGoneOn tells scripts) (take k positions) (take k olds) front
+
+pub none_planned : {L : Type 0} (tells : L → Option Telling) (scripts : List (List Step)) (positions : List ℕ)
+    (olds : List (LaneState L)) → PlannedSoFar tells scripts 0 positions olds olds []
+none_planned tells scripts positions olds =
+    record { front = []; whole = refl; long = refl; planned = tt; gone = tt }
+
+set_at : {A : Type 0} (front : List A) (x y : A) (rest : List A) (k : ℕ) → length front ≡ k
+    → set (front ++ x ∷ rest) k y ≡ front ++ y ∷ rest
+set_at [] x y rest k is = subst (λ (n : ℕ). set (x ∷ rest) n y ≡ y ∷ rest) is refl
+set_at (f ∷ front) x y rest zero is = absurd cc
+set_at (f ∷ front) x y rest (suc k) is = ap (λ l. f ∷ l) (set_at front x y rest k (omega (arith, is)))
+
+get_behind : {A : Type 0} (front rest : List A) (k : ℕ) (d : A) → length front ≡ k
+    → get_or (front ++ rest) k d ≡ get_or rest 0 d
+get_behind [] rest k d is = ap (λ (n : ℕ). get_or rest n d) (sym is)
+get_behind (f ∷ front) rest zero d is = absurd cc
+get_behind (f ∷ front) rest (suc k) d is = get_behind front rest k d (omega (arith, is))
+
+-- the lane that is planned next is as it was
+pub next_lane : {L : Type 0} (tells : L → Option Telling) (scripts : List (List Step)) (k : ℕ) (positions : List ℕ)
+    (olds nows : List (LaneState L)) (all : List (List ClientBodies)) (lane : LaneState L)
+    → PlannedSoFar tells scripts k positions olds nows all → k < length olds → lane ≡ get_or nows k lane
+    → lane ≡ get_or olds k lane
+next_lane {L} tells scripts k positions olds nows all lane so_far within is =
+    is ∙ (ap (λ (l : List (LaneState L)). get_or l k lane) so_far.whole
+    ∙ (get_behind so_far.front (drop k olds) k lane so_far.long
+    ∙ ap (λ (l : List (LaneState L)). get_or l 0 lane) (drop_more olds k lane within)))
+
+-- and nobody asked anything of it
+pub next_unused : {L : Type 0} (k : ℕ) (olds : List (LaneState L)) (lane : LaneState L) → k < length olds
+    → lane ≡ get_or olds k lane → AllByRecursion HasNoEntry olds → lane.items ≡ []
+next_unused k [] lane within is none = absurd (omega (arith, within))
+next_unused zero (o ∷ olds) lane within is none = ap (λ (l : LaneState _). l.items) is ∙ none.0
+next_unused (suc k) (o ∷ olds) lane within is none = next_unused k olds lane (omega (arith, within)) is none.1
+
+-- one more lane was planned
+pub lane_planned : {L : Type 0} (tells : L → Option Telling) (scripts : List (List Step)) (k position : ℕ)
+    (positions : List ℕ) (olds nows later : List (LaneState L)) (all more : List (List ClientBodies))
+    (old new : LaneState L) (planned : List ClientBodies) → PlannedSoFar tells scripts k positions olds nows all
+    → k < length positions → length positions ≡ length olds → position ≡ get_or positions k position
+    → old ≡ get_or olds k old → later ≡ set nows k new → more ≡ all ++ planned ∷ []
+    → IsPlannedOn scripts position old new planned → HasGoneOn tells scripts position old new
+    → PlannedSoFar tells scripts (k + 1) positions olds later more
+lane_planned {L} tells scripts k position positions olds nows later all more old new planned so_far within same is was
+    put push
+    plans gone =
+    let inside : k < length olds = omega (arith, within, same) in
+    let rest = drop (k + 1) olds in
+    let begins : drop k olds ≡ old ∷ rest = drop_more olds k old inside ∙ ap (λ l. l ∷ rest) (sym was) in
+    let fronts : take (k + 1) olds ≡ take k olds ++ old ∷ [] =
+    take_more olds k old inside ∙ ap (λ l. take k olds ++ l ∷ []) (sym was) in
+    let places : take (k + 1) positions ≡ take k positions ++ position ∷ [] =
+    take_more positions k position within ∙ ap (λ (n : ℕ). take k positions ++ n ∷ []) (sym is) in
+    let front = so_far.front in
+    record {
+      front = front ++ new ∷ [];
+      whole = put ∙ (ap (λ (l : List (LaneState L)). set l k new) (so_far.whole ∙ ap (λ l. front ++ l) begins)
+          ∙ (set_at front old new rest k so_far.long ∙ sym (append_assoc front (new ∷ []) rest)));
+      long = (let e = length-append front (new ∷ []) in let f = so_far.long in omega (arith, e, f));
+      planned = rw (places, fronts, push) (four_append (IsPlannedOn scripts) (take k positions) (position ∷ [])
+          (take k olds) (old ∷ []) front (new ∷ []) all (planned ∷ []) so_far.planned (plans, tt));
+      gone = rw (places, fronts) (three_append (HasGoneOn tells scripts) (take k positions) (position ∷ []) (take k
+          olds)
+          (old ∷ []) front (new ∷ []) so_far.gone (gone, tt));
+    }
+
+-- the lanes at any moment between two
+pub gone_between : {L : Type 0} → PartlyFront → PartlyAll → (tells : L → Option Telling) (scripts : List (List Step))
+    (k : ℕ) (positions : List ℕ) (olds nows : List (LaneState L)) (all : List (List ClientBodies))
+    → PlannedSoFar tells scripts k positions olds nows all → length positions ≡ length olds
+    → AllByRecursion HasNoEntry olds → AllThree (HasGoneOn tells scripts) positions olds nows
+gone_between {L} front every tells scripts k positions olds nows all so_far same none =
+    rw so_far.whole
+    (subst (λ (l : List ℕ). AllThree (HasGoneOn tells scripts) l olds (so_far.front ++ drop k olds))
+    (take-append-drop k positions)
+    (subst (λ (l : List (LaneState L)). AllThree (HasGoneOn tells scripts) (take k positions ++ drop k positions) l
+    (so_far.front ++ drop k olds)) (take-append-drop k olds)
+    (three_append (HasGoneOn tells scripts) (take k positions) (drop k positions) (take k olds) (drop k olds)
+    so_far.front
+    (drop k olds) so_far.gone
+    (unused_gone front every tells scripts (drop k positions) (drop k olds)
+    (let a = length-drop k positions in let b = length-drop k olds in omega (arith, a, b, same)) (none_behind k olds
+    none)))))
+
+-- and within one, which may be no lane that was planned whole
+pub gone_within : {L : Type 0} → PartlyFront → PartlyAll → (tells : L → Option Telling) (scripts : List (List Step))
+    (k position : ℕ) (positions : List ℕ) (olds nows later : List (LaneState L)) (all : List (List ClientBodies))
+    (old new : LaneState L) → PlannedSoFar tells scripts k positions olds nows all → k < length positions
+    → length positions ≡ length olds → position ≡ get_or positions k position → old ≡ get_or olds k old
+    → later ≡ set nows k new → HasGoneOn tells scripts position old new → AllByRecursion HasNoEntry olds
+    → AllThree (HasGoneOn tells scripts) positions olds later
+gone_within {L} front every tells scripts k position positions olds nows later all old new so_far within same is was
+    put gone
+    none =
+    let inside : k < length olds = omega (arith, within, same) in
+    let rest = drop (k + 1) olds in
+    let begins : drop k olds ≡ old ∷ rest = drop_more olds k old inside ∙ ap (λ l. l ∷ rest) (sym was) in
+    let places : drop k positions ≡ position ∷ drop (k + 1) positions =
+    drop_more positions k position within ∙ ap (λ (n : ℕ). n ∷ drop (k + 1) positions) (sym is) in
+    let behind = unused_gone front every tells scripts (drop (k + 1) positions) rest
+    (let a = length-drop (k + 1) positions in let b = length-drop (k + 1) olds in omega (arith, a, b, same))
+    (none_behind (k + 1) olds none) in
+    let now : later ≡ so_far.front ++ new ∷ rest = put
+    ∙ (ap (λ (l : List (LaneState L)). set l k new) (so_far.whole ∙ ap (λ l. so_far.front ++ l) begins)
+    ∙ set_at so_far.front old new rest k so_far.long) in
+    let whole : take k olds ++ old ∷ rest ≡ olds =
+    ap (λ (l : List (LaneState L)). take k olds ++ l) (sym begins) ∙ take-append-drop k olds in
+    let all_places : take k positions ++ position ∷ drop (k + 1) positions ≡ positions =
+    ap (λ (l : List ℕ). take k positions ++ l) (sym places) ∙ take-append-drop k positions in
+    rw now
+    (subst (λ (l : List (LaneState L)). AllThree (HasGoneOn tells scripts) positions l (so_far.front ++ new ∷ rest))
+    whole
+    (subst (λ (l : List ℕ). AllThree (HasGoneOn tells scripts) l (take k olds ++ old ∷ rest) (so_far.front ++ new ∷
+    rest))
+    all_places
+    (three_append (HasGoneOn tells scripts) (take k positions) (position ∷ drop (k + 1) positions) (take k olds)
+    (old ∷ rest) so_far.front (new ∷ rest) so_far.gone (gone, behind))))
+
+pub all_planned : {L : Type 0} (tells : L → Option Telling) (scripts : List (List Step)) (k : ℕ) (positions : List ℕ)
+    (olds nows : List (LaneState L)) (all : List (List ClientBodies))
+    → PlannedSoFar tells scripts k positions olds nows all → length positions ≤ k → length positions ≡ length olds
+    → AllFour (IsPlannedOn scripts) positions olds nows all
+all_planned {L} tells scripts k positions olds nows all so_far done same =
+    let past : length olds ≤ k = omega (arith, done, same) in
+    let now : nows ≡ so_far.front = so_far.whole ∙ (ap (λ l. so_far.front ++ l) (drop_all k olds past)
+    ∙ append-nil so_far.front) in
+    rw now
+    (subst (λ (l : List ℕ). AllFour (IsPlannedOn scripts) l olds so_far.front all) (take_all k positions done)
+    (subst (λ (l : List (LaneState L)). AllFour (IsPlannedOn scripts) (take k positions) l so_far.front all)
+    (take_all k olds past) so_far.planned))
+
+-- ---- what is planned on all lanes
+
+pub boards_few : {L : Type 0} (scripts : List (List Step)) (positions : List ℕ) (olds news : List (LaneState L))
+    (all : List (List ClientBodies)) → AllFour (IsPlannedOn scripts) positions olds news all
+    → AllByRecursion (AllByRecursion HasFewBodies) all
+boards_few scripts positions olds news all planned =
+    last_of_four (IsPlannedOn scripts) (AllByRecursion HasFewBodies) positions olds news all
+    (λ position old new planned is. is.few) planned
+
+pub boards_planned : {L : Type 0} (scripts : List (List Step)) (positions : List ℕ) (olds news : List (LaneState L))
+    (all : List (List ClientBodies)) → AllFour (IsPlannedOn scripts) positions olds news all
+    → AllByRecursion (ArePlansOnBoard scripts) all
+boards_planned scripts positions olds news all planned =
+    last_of_four (IsPlannedOn scripts) (ArePlansOnBoard scripts) positions olds news all
+    (λ position old new planned is. record {
+      position = position;
+      payload = payload_of old.status.mtu;
+      plans = is.plans;
+    }) planned
+
+pub boards_of_clients : {L : Type 0} (scripts : List (List Step)) (positions : List ℕ) (olds news : List (LaneState L))
+    (all : List (List ClientBodies)) (many : ℕ) → AllFour (IsPlannedOn scripts) positions olds news all
+    → many ≡ length scripts → AllByRecursion (HasClients many) all
+boards_of_clients scripts positions olds news all many planned same =
+    last_of_four (IsPlannedOn scripts) (HasClients many) positions olds news all
+    (λ position old new planned is. ap (λ (l : List ClientBodies). length l) is.plans
+    ∙ length_map (planned_on position (Live (payload_of old.status.mtu))) scripts ∙ sym same) planned

@@ -1,0 +1,224 @@
+-- Boards put together again, and what came of each.
+use Rattle.std.proofs.Common.{◌≡◌, ◌⊎◌, inl, inr, ℕ, suc, ◌+◌, ◌≤◌, ◌∙◌, List, [], ◌∷◌, ◌++◌, length, map, Option}
+use Rattle.std.proofs.Common.{Some, None}
+use Rattle.std.proofs.Common.{refl, sym, ap, subst, arith}
+use Rattle.std.specs.List.{AllByRecursion}
+use Rattle.ipb_base.specs.Numbers.{payload_of}
+use Rattle.world_core.specs.Telling.{Telling}
+use Rattle.reliable_engine.specs.Settings.{Limits}
+use Rattle.board_node.specs.declared.spec.BoardSpec.{BoardSpec}
+use Rattle.board_node.specs.declared.spec.LinkSpec.{LinkSpec}
+use Rattle.board_bus.specs.Cells.{CellMap}
+use Rattle.lane_record.specs.Coding.{Head}
+use Rattle.script_lang.specs.declared.operation.Step.{Step}
+use Rattle.hub_lane.specs.Lanes.{BoardStatus, LaneState, opened, opening_of}
+use Rattle.hub_lane.specs.Greeting.{link_of}
+use Rattle.hub_lane.specs.declared.greeting.Greeted.{Greeted}
+use Rattle.hub_lane.specs.declared.greeting.Greeted.TheVariants.{Ready, Silent, Down, NoMemory}
+use Rattle.transcript.specs.declared.greeting.Greeting.TheVariants as greeting
+use Rattle.transcript.specs.declared.board_run.ClientPart.{ClientPart}
+use Rattle.transcript.specs.Plan.{plans_on}
+use Rattle.lane_history.specs.Links.{IsBoardOf, LinkReport}
+use Rattle.sound_lanes.specs.Reports.{board_there}
+use Rattle.lane_history.specs.Records.{IsPartlyPlanned}
+use Rattle.session_run.specs.Boards.{AreReached, HasMemory, IsReached, shown_by}
+use Rattle.session_run.specs.Clients.{bodies_of}
+use Rattle.session_run.specs.Lanes.{AllThree, HasGoneOn, HasNoEntry, IsKnownAs, IsRunOn, IsStoppedLane, head_shown}
+use Rattle.session_run.specs.Places.{AreCameOf, HaveLanes, lanes_in, place_of, positions_from, rejoined}
+use Rattle.session_run.specs.declared.split.Place.{Place}
+use Rattle.session_run.specs.declared.rejoined.Board.{Board}
+use Rattle.session_run.proofs.LaneRuns.{known_as}
+
+-- ---- the lanes that go to the hub
+
+pub lanes_unused : {L : Type 0} (tells : L → Option Telling) (shows : L → LinkReport) (settings : Limits)
+    (specs : List BoardSpec) (boards : List (Greeted L)) → AreReached tells shows settings specs boards
+    → AllByRecursion HasNoEntry (lanes_in boards)
+lanes_unused tells shows settings specs [] are = tt
+lanes_unused tells shows settings [] (b ∷ boards) are = absurd are
+lanes_unused tells shows settings (s ∷ specs) (Ready lane ∷ boards) are =
+    (ap (λ (l : LaneState _). l.items) are.0.as_told.opened', lanes_unused tells shows settings specs boards are.1)
+lanes_unused tells shows settings (s ∷ specs) (Silent link rounds ∷ boards) are =
+    lanes_unused tells shows settings specs boards are.1
+lanes_unused tells shows settings (s ∷ specs) (Down link ∷ boards) are =
+    lanes_unused tells shows settings specs boards are.1
+lanes_unused tells shows settings (s ∷ specs) (NoMemory link ∷ boards) are =
+    lanes_unused tells shows settings specs boards are.1
+
+pub places_long : {L : Type 0} (position : ℕ) (boards : List (Greeted L))
+    → length (positions_from position boards) ≡ length (lanes_in boards)
+places_long position [] = refl
+places_long position (Ready lane ∷ boards) = ap suc (places_long (position + 1) boards)
+places_long position (Silent link rounds ∷ boards) = places_long (position + 1) boards
+places_long position (Down link ∷ boards) = places_long (position + 1) boards
+places_long position (NoMemory link ∷ boards) = places_long (position + 1) boards
+
+pub few_positions : {L : Type 0} (position : ℕ) (boards : List (Greeted L))
+    → length (positions_from position boards) ≤ length boards
+few_positions position [] = omega arith
+few_positions position (Ready lane ∷ boards) = let few = few_positions (position + 1) boards in omega (arith, few)
+few_positions position (Silent link rounds ∷ boards) = let few = few_positions (position + 1) boards in omega (
+  arith,
+  few,
+)
+few_positions position (Down link ∷ boards) = let few = few_positions (position + 1) boards in omega (arith, few)
+few_positions position (NoMemory link ∷ boards) = let few = few_positions (position + 1) boards in omega (arith, few)
+
+-- ---- what came of a lane
+
+stopped : {L : Type 0} (tells : L → Option Telling) (shows : L → LinkReport) (settings : Limits)
+    (scripts : List (List Step)) (position : ℕ) (spec : BoardSpec) (old new : LaneState L)
+    → IsReached settings spec (Ready old) (tells old.link) (shows old.link)
+    → (board : IsBoardOf spec.link (board_there (tells old.link))) → HasGoneOn tells scripts position old new
+    → IsStoppedLane settings scripts position spec (tells new.link) new
+stopped {L} tells shows settings scripts position spec old new reached board gone =
+    let opens : old.settings ≡ settings = ap (λ (l : LaneState L). l.settings) reached.as_told.opened' in
+    let same : new.settings ≡ old.settings =
+    ap (λ (h : Head). let s : Limits = record { rounds = h.rounds; window = h.window } in s) gone.head in
+    let status : new.status ≡ old.status =
+    ap (λ (h : Head). let s : BoardStatus = record { mtu = h.mtu; buffers = h.buffers; next = h.first } in s)
+    gone.head in
+    let opening : opening_of (tells new.link) ≡ opening_of (tells old.link) = ap (λ (h : Head). h.opening) gone.head in
+    let known = known_as settings old.status spec.link (tells old.link) board reached.as_told.greeted in
+    record {
+      settings' = same ∙ opens;
+      board' = subst (λ (o : Option CellMap). IsKnownAs spec.link new.status o) (sym opening)
+          (subst (λ (s : BoardStatus). IsKnownAs spec.link s (opening_of (tells old.link))) (sym status) known);
+      some = subst (λ (s : BoardStatus). IsPartlyPlanned
+          (bodies_of (plans_on position (greeting.Live (payload_of s.mtu)) scripts)) new.items) (sym status) gone.some;
+    }
+
+-- ---- every board
+
+pub have_lanes : {L : Type 0} (tells : L → Option Telling) (scripts : List (List Step)) (position : ℕ)
+    (boards : List (Greeted L)) (news : List (LaneState L))
+    → AllThree (HasGoneOn tells scripts) (positions_from position boards) (lanes_in boards) news
+    → HaveLanes (map place_of boards) news
+have_lanes tells scripts position [] news gone = tt
+have_lanes tells scripts position (Ready lane ∷ boards) [] gone = absurd gone
+have_lanes tells scripts position (Ready lane ∷ boards) (n ∷ news) gone =
+    have_lanes tells scripts (position + 1) boards news gone.1
+have_lanes tells scripts position (Silent link rounds ∷ boards) news gone =
+    have_lanes tells scripts (position + 1) boards news gone
+have_lanes tells scripts position (Down link ∷ boards) news gone =
+    have_lanes tells scripts (position + 1) boards news gone
+have_lanes tells scripts position (NoMemory link ∷ boards) news gone =
+    have_lanes tells scripts (position + 1) boards news gone
+
+-- where clients ran to their end there are parts for each lane; elsewhere none
+abbrev pub HaveParts : {L : Type 0} → List (List Step) → List ℕ → List (LaneState L) → List (List ClientPart) → Type 0
+HaveParts scripts positions news parts = (parts ≡ []) ⊎ AllThree (IsRunOn scripts) positions news parts
+
+none_came : {L : Type 0} (faults quiets gots held : L → ℕ) (tells : L → Option Telling) (settings : Limits)
+    (scripts : List (List Step)) (position : ℕ) (specs : List BoardSpec) (boards : List (Greeted L))
+    (news : List (LaneState L)) → length boards ≡ length specs → AllByRecursion HasMemory boards
+    → AreReached tells (shown_by faults quiets gots held tells) settings specs boards
+    → AllThree (HasGoneOn tells scripts) (positions_from position boards) (lanes_in boards) news
+    → AreCameOf tells (shown_by faults quiets gots held tells) settings scripts position specs
+    (rejoined (map place_of boards) news [])
+none_came faults quiets gots held tells settings scripts position [] [] news long memory are gone = tt
+none_came faults quiets gots held tells settings scripts position [] (b ∷ boards) news long memory are gone = absurd cc
+none_came faults quiets gots held tells settings scripts position (s ∷ specs) [] news long memory are gone = absurd cc
+none_came faults quiets gots held tells settings scripts position (s ∷ specs) (Ready lane ∷ boards) [] long memory are
+    gone =
+    absurd gone
+none_came faults quiets gots held tells settings scripts position (s ∷ specs) (Ready lane ∷ boards) (n ∷ news) long
+    memory are
+    gone = (
+      (
+        stopped tells (shown_by faults quiets gots held tells) settings scripts position s lane n are.0 are.0.board'
+            gone.0,
+        tt,
+      ),
+      none_came faults quiets gots held tells settings scripts (position + 1) specs boards news (omega (arith, long))
+          memory.1
+          are.1 gone.1,
+    )
+none_came faults quiets gots held tells settings scripts position (s ∷ specs) (Silent link rounds ∷ boards) news long
+    memory
+    are gone = (
+      record { board' = are.0.board'; untouched = are.0.untouched; as_told = are.0.as_told },
+      none_came faults quiets gots held tells settings scripts (position + 1) specs boards news (omega (arith, long))
+          memory.1
+          are.1 gone,
+    )
+none_came faults quiets gots held tells settings scripts position (s ∷ specs) (Down link ∷ boards) news long memory are
+    gone = (
+      record { board' = are.0.board'; untouched = are.0.untouched; as_told = are.0.as_told },
+      none_came faults quiets gots held tells settings scripts (position + 1) specs boards news (omega (arith, long))
+          memory.1
+          are.1 gone,
+    )
+none_came faults quiets gots held tells settings scripts position (s ∷ specs) (NoMemory link ∷ boards) news long
+    memory are
+    gone = absurd memory.0
+
+all_came : {L : Type 0} (faults quiets gots held : L → ℕ) (tells : L → Option Telling) (settings : Limits)
+    (scripts : List (List Step)) (position : ℕ) (specs : List BoardSpec) (boards : List (Greeted L))
+    (news : List (LaneState L)) (parts : List (List ClientPart)) → length boards ≡ length specs
+    → AllByRecursion HasMemory boards → AreReached tells (shown_by faults quiets gots held tells) settings specs boards
+    → AllThree (HasGoneOn tells scripts) (positions_from position boards) (lanes_in boards) news
+    → AllThree (IsRunOn scripts) (positions_from position boards) news parts
+    → AreCameOf tells (shown_by faults quiets gots held tells) settings scripts position specs
+    (rejoined (map place_of boards) news parts)
+all_came faults quiets gots held tells settings scripts position [] [] news parts long memory are gone ran = tt
+all_came faults quiets gots held tells settings scripts position [] (b ∷ boards) news parts long memory are gone ran =
+    absurd cc
+all_came faults quiets gots held tells settings scripts position (s ∷ specs) [] news parts long memory are gone ran =
+    absurd cc
+all_came faults quiets gots held tells settings scripts position (s ∷ specs) (Ready lane ∷ boards) [] parts long
+    memory are
+    gone ran = absurd gone
+all_came faults quiets gots held tells settings scripts position (s ∷ specs) (Ready lane ∷ boards) (n ∷ news) [] long
+    memory
+    are gone ran = absurd ran
+all_came faults quiets gots held tells settings scripts position (s ∷ specs) (Ready lane ∷ boards) (n ∷ news) (p ∷
+    parts) long
+    memory are gone ran = (
+      (
+        stopped tells (shown_by faults quiets gots held tells) settings scripts position s lane n are.0 are.0.board'
+            gone.0,
+        ran.0,
+      ),
+      all_came faults quiets gots held tells settings scripts (position + 1) specs boards news parts (omega (
+        arith,
+        long,
+      )) memory.1
+          are.1 gone.1 ran.1,
+    )
+all_came faults quiets gots held tells settings scripts position (s ∷ specs) (Silent link rounds ∷ boards) news parts
+    long
+    memory are gone ran = (
+      record { board' = are.0.board'; untouched = are.0.untouched; as_told = are.0.as_told },
+      all_came faults quiets gots held tells settings scripts (position + 1) specs boards news parts (omega (
+        arith,
+        long,
+      )) memory.1
+          are.1 gone ran,
+    )
+all_came faults quiets gots held tells settings scripts position (s ∷ specs) (Down link ∷ boards) news parts long
+    memory are
+    gone ran = (
+      record { board' = are.0.board'; untouched = are.0.untouched; as_told = are.0.as_told },
+      all_came faults quiets gots held tells settings scripts (position + 1) specs boards news parts (omega (
+        arith,
+        long,
+      )) memory.1
+          are.1 gone ran,
+    )
+all_came faults quiets gots held tells settings scripts position (s ∷ specs) (NoMemory link ∷ boards) news parts long
+    memory
+    are gone ran = absurd memory.0
+
+pub boards_came : {L : Type 0} (faults quiets gots held : L → ℕ) (tells : L → Option Telling) (settings : Limits)
+    (scripts : List (List Step)) (specs : List BoardSpec) (boards : List (Greeted L)) (news : List (LaneState L))
+    (parts : List (List ClientPart)) → length boards ≡ length specs → AllByRecursion HasMemory boards
+    → AreReached tells (shown_by faults quiets gots held tells) settings specs boards
+    → AllThree (HasGoneOn tells scripts) (positions_from 0 boards) (lanes_in boards) news
+    → HaveParts scripts (positions_from 0 boards) news parts
+    → AreCameOf tells (shown_by faults quiets gots held tells) settings scripts 0 specs
+    (rejoined (map place_of boards) news parts)
+boards_came faults quiets gots held tells settings scripts specs boards news parts long memory are gone (inl none) =
+    rw none (none_came faults quiets gots held tells settings scripts 0 specs boards news long memory are gone)
+boards_came faults quiets gots held tells settings scripts specs boards news parts long memory are gone (inr ran) =
+    all_came faults quiets gots held tells settings scripts 0 specs boards news parts long memory are gone ran

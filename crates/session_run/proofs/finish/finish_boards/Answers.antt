@@ -1,0 +1,79 @@
+use Rattle.std.proofs.Common.{◌∙◌, List, map, refl, subst, arith}
+use Rattle.std.proofs.lemmas.List.{take_all}
+use Rattle.board_node.specs.declared.spec.BoardSpec.{BoardSpec}
+use Rattle.lane_history.specs.Runs.{AreRunsOver}
+use Rattle.session_run.specs.Boards.{shown_by}
+use Rattle.session_run.proofs.Sessions.{board_more, next_board, none_ran, room_for_one, some_left}
+use Rattle.session_run.proofs.finish.finish_boards.Goals as goal
+
+pub loop-position-init : goal.loop-position-init
+loop-position-init g c =
+    let link = g.R.L.Link in
+    let shows = shown_by link.faults link.quiets link.gots link.held link.telling in
+    record {
+      so_far = rw c.new-runs.ensures.items (none_ran shows c.args.settings c.args.specs.now c.args.scripts.now
+          (g.R.Rack.kept c.args.rack.now));
+      left = c.requires.came;
+      made = refl;
+      faults = refl;
+    }
+
+pub next-board-requires : goal.next-board-requires
+next-board-requires g c =
+    let link = g.R.L.Link in
+    let shows = shown_by link.faults link.quiets link.gots link.held link.telling in
+    some_left link.telling shows c.args.settings c.args.scripts.now c.loop-position.position c.args.specs.now
+    c.loop-position.boards c.loop-position.invariant.left c.loop-position-test.true
+
+pub keep-requires : goal.keep-requires
+keep-requires g c =
+    let link = g.R.L.Link in
+    let shows = shown_by link.faults link.quiets link.gots link.held link.telling in
+    let made = c.loop-position.invariant.made in
+    let less = room_for_one shows c.args.settings c.loop-position.position c.args.specs.now c.args.scripts.now
+    c.loop-position.runs.items c.loop-position.is_whole (g.R.Rack.kept c.args.rack.now)
+    (g.R.Rack.kept c.loop-position.rack) (g.R.Rack.made c.args.rack.now) c.loop-position.invariant.so_far
+    c.requires.room c.loop-position-test.true in
+    omega (arith, made, less)
+
+pub finish_board-link-requires-clause-came : goal.finish_board-link-requires-clause-came
+finish_board-link-requires-clause-came g c =
+    let link = g.R.L.Link in
+    let shows = shown_by link.faults link.quiets link.gots link.held link.telling in
+    (next_board link.telling shows c.args.settings c.args.scripts.now c.loop-position.position c.args.specs.now
+    c.index-specs-position.result c.loop-position.boards c.next-board.new.self c.next-board.result
+    c.loop-position.invariant.left c.loop-position-test.true c.index-specs-position.is c.next-board.ensures).came
+
+pub loop-position-preserved : goal.loop-position-preserved
+loop-position-preserved g c =
+    let link = g.R.L.Link in
+    let shows = shown_by link.faults link.quiets link.gots link.held link.telling in
+    let k = c.loop-position.position in
+    let next = next_board link.telling shows c.args.settings c.args.scripts.now k c.args.specs.now
+    c.index-specs-position.result c.loop-position.boards c.next-board.new.self c.next-board.result
+    c.loop-position.invariant.left c.loop-position-test.true c.index-specs-position.is c.next-board.ensures in
+    record {
+      so_far = board_more shows c.args.settings k c.args.specs.now c.args.scripts.now c.loop-position.runs.items
+          c.add_run-is_whole.new.runs.items c.loop-position.is_whole c.add_run-is_whole.result (g.R.Rack.kept
+          c.args.rack.now)
+          (g.R.Rack.kept c.loop-position.rack) (g.R.Rack.kept c.keep.new.self) c.index-specs-position.result
+          c.finish_board-link.result.0 c.finish_board-link.result.1 c.loop-position.invariant.so_far
+          c.loop-position-test.true c.index-specs-position.is c.keep.ensures.kept c.finish_board-link.ensures.left
+          c.finish_board-link.ensures.ran c.add_run-is_whole.ensures.whole c.add_run-is_whole.ensures.added;
+      left = next.later;
+      made = c.keep.ensures.made ∙ c.loop-position.invariant.made;
+      faults = c.keep.ensures.faults ∙ c.loop-position.invariant.faults;
+    }
+
+pub returns-then-is_whole-clause-ran : goal.returns-then-is_whole-clause-ran
+returns-then-is_whole-clause-ran g c =
+    let link = g.R.L.Link in
+    let shows = shown_by link.faults link.quiets link.gots link.held link.telling in
+    let so_far = c.loop-position.invariant.so_far in (
+      so_far.links,
+      so_far.grown,
+      subst (λ (specs : List BoardSpec). AreRunsOver c.args.settings 0 specs c.args.scripts.now
+          c.loop-position.runs.items
+          (map shows so_far.links)) (take_all c.loop-position.position c.args.specs.now c.loop-position-test.false)
+          (so_far.ran c.if-is_whole.true),
+    )

@@ -1,0 +1,18 @@
+use Rattle.std.proofs.Common.{◌≡◌, drop}
+use Rattle.session_run.specs.Boards.{shown_by}
+use Rattle.session_run.specs.Places.{AreCameOf}
+use Rattle.session_run.proofs.Sessions.{RanBoards}
+use Rattle.session_run.proofs.finish.finish_boards.Given as goal
+
+-- the boards so far, and those that are left
+abbrev pub invariant-loop-position : goal.invariant-loop-position
+invariant-loop-position g l =
+    let link = g.R.L.Link in
+    let shows = shown_by link.faults link.quiets link.gots link.held link.telling in
+    record {
+      so_far : RanBoards shows l.settings l.position l.specs l.scripts l.runs.items l.is_whole
+          (g.R.Rack.kept l.initial.rack) (g.R.Rack.kept l.rack);
+      left : AreCameOf link.telling shows l.settings l.scripts l.position (drop l.position l.specs) l.boards;
+      made : g.R.Rack.made l.rack ≡ g.R.Rack.made l.initial.rack;
+      faults : g.R.Rack.faults l.rack ≡ g.R.Rack.faults l.initial.rack;
+    }

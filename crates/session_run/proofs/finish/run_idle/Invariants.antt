@@ -1,0 +1,13 @@
+use Rattle.std.proofs.Common.{◌≡◌, map, take}
+use Rattle.std.specs.List.{AllByRecursion}
+use Rattle.transcript.specs.Plan.{plans_on}
+use Rattle.session_run.proofs.Parts.{plan_in_part}
+use Rattle.session_run.proofs.Idle.{HasNothing}
+use Rattle.session_run.proofs.finish.run_idle.Given as goal
+
+-- the clients so far, who ask nothing
+abbrev pub invariant-loop-steps : goal.invariant-loop-steps
+invariant-loop-steps l = record {
+  planned : map plan_in_part l.parts.items ≡ plans_on l.position l.greeting (take l.steps-index l.scripts);
+  nothing : AllByRecursion HasNothing l.parts.items;
+}

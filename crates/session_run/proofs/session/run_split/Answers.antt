@@ -1,0 +1,79 @@
+use Rattle.std.proofs.Common.{◌≡◌, ◌∙◌, ℕ, List, ap, arith, length, subst, sym}
+use Rattle.std.specs.List.{AllByRecursion}
+use Rattle.std.specs.Prelude.{IfOk}
+use Rattle.session_run.specs.Boards.{shown_by}
+use Rattle.session_run.specs.Lanes.{AllThree, HasGoneOn, HasNoEntry, IsRunOn}
+use Rattle.session_run.specs.Places.{AreCameOf, HaveLanes, positions_from, rejoined}
+use Rattle.session_run.proofs.Rejoining.{boards_came, few_positions, have_lanes, lanes_unused, places_long}
+use Rattle.session_run.proofs.Sides.{items_or_none}
+use Rattle.session_run.proofs.session.run_split.Goals as goal
+
+pub run_lanes-lanes-requires-clause-few_lanes : goal.run_lanes-lanes-requires-clause-few_lanes
+run_lanes-lanes-requires-clause-few_lanes g c κs within =
+    let boards = c.requires.reached.boards in
+    let long = ap (λ (l : List ℕ). length l) (c.deref.ensures.value ∙ c.requires.reached.apart.positions') in
+    let few = few_positions 0 boards in
+    let all = c.requires.reached.all in
+    let most = c.requires.few_boards in
+    omega (arith, long, few, all, most)
+
+pub run_lanes-lanes-requires-clause-positions : goal.run_lanes-lanes-requires-clause-positions
+run_lanes-lanes-requires-clause-positions g c κs within =
+    let boards = c.requires.reached.boards in
+    ap (λ (l : List ℕ). length l) (c.deref.ensures.value ∙ c.requires.reached.apart.positions')
+    ∙ (places_long 0 boards ∙ sym (ap (λ l. length l) c.requires.reached.apart.lanes'))
+
+pub run_lanes-lanes-requires-clause-unused : goal.run_lanes-lanes-requires-clause-unused
+run_lanes-lanes-requires-clause-unused g c κs within =
+    let link = g.R.L.Link in
+    let tells = link.telling in
+    let shows = shown_by link.faults link.quiets link.gots link.held tells in
+    let scripts = c.args.scripts.now in
+    let reached = c.requires.reached in
+    let boards = reached.boards in
+    let apart = reached.apart in
+    subst (AllByRecursion HasNoEntry) (sym apart.lanes')
+    (lanes_unused tells shows c.args.settings c.args.specs.now boards reached.reached)
+
+pub of-boards-requires : goal.of-boards-requires
+of-boards-requires g c =
+    let link = g.R.L.Link in
+    let tells = link.telling in
+    let shows = shown_by link.faults link.quiets link.gots link.held tells in
+    let scripts = c.args.scripts.now in
+    let reached = c.requires.reached in
+    let boards = reached.boards in
+    let apart = reached.apart in
+    let news = c.run_lanes-lanes.result.0.items in
+    let positions : c.deref.result.now ≡ positions_from 0 boards = c.deref.ensures.value ∙ apart.positions' in
+    let gone = subst (λ l. AllThree (HasGoneOn tells scripts) (positions_from 0 boards) l news) apart.lanes'
+    (subst (λ (l : List ℕ). AllThree (HasGoneOn tells scripts) l c.args.split.lanes.items news) positions
+    c.run_lanes-lanes.ensures.gone_on) in
+    subst (λ l. HaveLanes l news) (sym apart.places') (have_lanes tells scripts 0 boards news gone)
+
+pub finish_boards-requires-clause-came : goal.finish_boards-requires-clause-came
+finish_boards-requires-clause-came g c κs within =
+    let link = g.R.L.Link in
+    let tells = link.telling in
+    let shows = shown_by link.faults link.quiets link.gots link.held tells in
+    let scripts = c.args.scripts.now in
+    let reached = c.requires.reached in
+    let boards = reached.boards in
+    let apart = reached.apart in
+    let news = c.run_lanes-lanes.result.0.items in
+    let positions : c.deref.result.now ≡ positions_from 0 boards = c.deref.ensures.value ∙ apart.positions' in
+    let gone = subst (λ l. AllThree (HasGoneOn tells scripts) (positions_from 0 boards) l news) apart.lanes'
+    (subst (λ (l : List ℕ). AllThree (HasGoneOn tells scripts) l c.args.split.lanes.items news) positions
+    c.run_lanes-lanes.ensures.gone_on) in
+    let parts = c.parts_or_none.result.items in
+    let ran = subst (λ (l : List ℕ). IfOk c.run_lanes-lanes.result.1 (λ there. AllThree (IsRunOn scripts) l news
+    there.items))
+    positions c.run_lanes-lanes.ensures.ran in
+    let there = items_or_none c.run_lanes-lanes.result.1 (λ there. there.items) parts
+    (AllThree (IsRunOn scripts) (positions_from 0 boards) news) c.parts_or_none.ensures.all c.parts_or_none.ensures.none
+    ran in
+    subst (AreCameOf tells shows c.args.settings scripts 0 c.args.specs.now)
+    (sym (c.of-boards.ensures ∙ ap (λ l. rejoined l news parts) apart.places'))
+    (boards_came link.faults link.quiets link.gots link.held tells c.args.settings scripts c.args.specs.now boards
+    news parts
+    reached.all reached.memory reached.reached gone there)

@@ -1,0 +1,167 @@
+//! The run of each board once the clients ran, and its link given back.
+
+ghost use Rattle.std.specs.Prelude.{◌≡◌, ◌<◌, ◌^◌, ◌++◌, ◌∷◌, [], true, length, map, IfOk, IfSome};
+ghost use Rattle.std.specs.List.{AllByRecursion};
+ghost use Rattle.script_lang.specs.Packing.{CanBePacked, HaveFewPieces};
+ghost use Rattle.lane_history.specs.Runs.{AreRunsOver, IsRunOver, ShowsScripts};
+ghost use Rattle.session_run.specs.Boards.{HasRoom, IsIdle, IsNamed, OnRun, shown_by};
+ghost use Rattle.session_run.specs.Lanes.{IsRunOn, IsStoppedLane};
+ghost use Rattle.session_run.specs.Links.{AreLeft, IsLeft, Keeps};
+ghost use Rattle.session_run.specs.Places.{AreCameOf, IsCameOf, IsIdleBoard};
+
+use crate::rejoined::{Board, Rejoined};
+use board_node::BoardSpec;
+use hub_lane::Lane;
+use ipb_base::{NoMemory, Text};
+use lane_history::records::{
+    a_finished_lane_is_a_live_run, a_lane_left_at_any_moment_executed_a_merge,
+};
+use lossy_network::Rack;
+use reliable_engine::Settings;
+use script_lang::Steps;
+use sound_lanes::laws::a_lane_is_a_sound_one;
+use std::alloc::Global;
+use transcript::{BoardRun, ClientPart, ClientParts, Greeting, Outcomes, plan_on};
+use world_core::Link;
+
+/// The run of a board under its name, where it has parts.
+fn named(
+    alloc: Global,
+    spec: &BoardSpec,
+    greeting: Greeting,
+    parts: Option<ClientParts>,
+) -> Result<BoardRun, NoMemory>
+    ensures { IfOk result (IsNamed spec.now greeting parts) }
+{
+    let Some(parts) = parts else {
+        return Err(NoMemory);
+    };
+    let name = Text::copy_of(alloc, spec.name.as_str())?;
+    Ok(BoardRun {
+        name,
+        greeting,
+        parts,
+    })
+}
+
+/// The run of a live board, where its clients ran to the end, and its link.
+fn finish_live<L: Link>(
+    alloc: Global,
+    settings: Settings,
+    lane: Lane<L>,
+    parts: Option<ClientParts>,
+    spec: &BoardSpec,
+    position: u32,
+    scripts: &[Steps],
+) -> (L, Result<BoardRun, NoMemory>)
+    requires stopped { IsStoppedLane settings scripts.now position spec.now (L.telling lane.link) lane }
+    requires ran { IfSome parts (λ there. IsRunOn scripts.now position lane there) }
+    ensures ran { IfOk result.1 (λ run. IsRunOver settings spec.now position scripts.now run
+        (shown_by L.faults L.quiets L.gots L.held L.telling result.0)) }
+    ensures left { IsLeft spec.now position scripts.now (shown_by L.faults L.quiets L.gots L.held L.telling result.0) }
+{
+    a_lane_is_a_sound_one();
+    a_finished_lane_is_a_live_run();
+    a_lane_left_at_any_moment_executed_a_merge();
+    lane.is_sound();
+    lane.has_paid();
+    let payload = lane.payload();
+    let run = named(alloc, spec, Greeting::Live { payload }, parts);
+    (lane.close(), run)
+}
+
+/// The run of a board that is not live: its clients ask nothing of it.
+fn run_idle(
+    alloc: Global,
+    spec: &BoardSpec,
+    position: u32,
+    greeting: Greeting,
+    scripts: &[Steps],
+) -> Result<BoardRun, NoMemory>
+    requires idle { IsIdle greeting }
+    requires can { AllByRecursion (AllByRecursion CanBePacked) scripts.now }
+    requires few { AllByRecursion HaveFewPieces scripts.now }
+    ensures scripts { IfOk result (ShowsScripts spec.now position scripts.now) }
+    ensures greeting { IfOk result (λ run. run.greeting ≡ greeting) }
+{
+    let mut parts = Vec::with_capacity(alloc, scripts.len())?;
+    for steps in scripts {
+        let planned = plan_on(alloc, steps.as_slice(), position, greeting)?;
+        let outcomes = Outcomes::from_vec(Vec::new(alloc));
+        parts.push(ClientPart { planned, outcomes })?;
+    }
+    named(alloc, spec, greeting, Some(ClientParts::from_vec(parts)))
+}
+
+/// The run of a board, where there is memory for it, and its link.
+fn finish_board<L: Link>(
+    alloc: Global,
+    settings: Settings,
+    board: Board<L>,
+    spec: &BoardSpec,
+    position: u32,
+    scripts: &[Steps],
+) -> (L, Result<BoardRun, NoMemory>)
+    requires can { AllByRecursion (AllByRecursion CanBePacked) scripts.now }
+    requires few { AllByRecursion HaveFewPieces scripts.now }
+    requires came { IsCameOf L.telling (shown_by L.faults L.quiets L.gots L.held L.telling) settings scripts.now
+        position spec.now board }
+    ensures ran { IfOk result.1 (λ run. IsRunOver settings spec.now position scripts.now run
+        (shown_by L.faults L.quiets L.gots L.held L.telling result.0)) }
+    ensures left { IsLeft spec.now position scripts.now (shown_by L.faults L.quiets L.gots L.held L.telling result.0) }
+{
+    a_lane_left_at_any_moment_executed_a_merge();
+    match board {
+        Board::Live { lane, parts } => finish_live(
+            alloc, settings, lane, parts, spec, position, scripts,
+        ),
+        Board::Idle { greeting, link } => (
+            link,
+            run_idle(alloc, spec, position, greeting, scripts),
+        ),
+    }
+}
+
+/// Adds a run, if there is one, and tells whether it stands behind all that were before: whether they are whole.
+fn add_run(runs: &mut Vec<BoardRun>, run: Result<BoardRun, NoMemory>, is_whole: bool) -> bool
+    ensures whole { result ≡ true → is_whole ≡ true }
+    ensures added { result ≡ true → OnRun run (λ run. runs.new.items ≡ runs.old.items ++ run ∷ []) }
+{
+    match run {
+        Ok(run) => runs.push(run).is_ok() && is_whole,
+        Err(NoMemory) => false,
+    }
+}
+
+/// The runs of all boards, in order, and each link is given back to the rack.
+pub(crate) fn finish_boards<R: Rack>(
+    alloc: Global,
+    settings: Settings,
+    mut boards: Rejoined<R::L>,
+    specs: &[BoardSpec],
+    scripts: &[Steps],
+    rack: &mut R,
+) -> Result<Vec<BoardRun>, NoMemory>
+    requires few_boards { length specs.now < 2 ^ 32 }
+    requires can { AllByRecursion (AllByRecursion CanBePacked) scripts.now }
+    requires few { AllByRecursion HaveFewPieces scripts.now }
+    requires came { AreCameOf R.L.telling (shown_by R.L.faults R.L.quiets R.L.gots R.L.held R.L.telling) settings
+        scripts.now 0 specs.now boards }
+    requires room { HasRoom (length (R.kept rack.old)) (R.made rack.old) (length specs.now) }
+    ensures ran { IfOk result (λ runs. Keeps R.L.faults R.L.quiets R.L.gots R.L.held R.L.telling (R.kept rack.old)
+        (R.kept rack.new) (AreRunsOver settings 0 specs.now scripts.now runs.items)) }
+    ensures left { Keeps R.L.faults R.L.quiets R.L.gots R.L.held R.L.telling (R.kept rack.old) (R.kept rack.new)
+        (λ links. AreLeft 0 specs.now scripts.now links × (length links ≡ length specs.now)) }
+    ensures made { R.made rack.new ≡ R.made rack.old }
+    ensures faults { R.faults rack.new ≡ R.faults rack.old }
+{
+    let mut runs = Vec::new(alloc);
+    let mut is_whole = true;
+    for (position, spec) in specs.iter().enumerate() {
+        let board = boards.next();
+        let (link, run) = finish_board(alloc, settings, board, spec, position as u32, scripts);
+        rack.keep(link);
+        is_whole = add_run(&mut runs, run, is_whole);
+    }
+    if is_whole { Ok(runs) } else { Err(NoMemory) }
+}
