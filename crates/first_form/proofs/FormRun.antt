@@ -1,11 +1,14 @@
 -- What the command `run` owes to a document of the first form.
-use Rattle.std.proofs.Common.{◌≡◌, ℕ, ◌≤◌, inl, inr, List, [], ◌∷◌, length, refl, sym, ap, ◌∙◌, arith}
+use Rattle.std.proofs.Common.{◌≡◌, ℕ, ◌+◌, ◌≤◌, inl, inr, List, [], ◌∷◌, length, refl, sym, ap, ◌∙◌, arith, subst}
 use Rattle.std.specs.Global.{Global}
 use Rattle.std.specs.List.{AllByRecursion, AllZip}
 use Rattle.toml.specs.Data.{Data, Members}
 use Rattle.address_table.specs.declared.nodes.Table.{Table}
-use Rattle.direct_run.specs.Runs.{runs_from}
-use Rattle.lane_history.specs.Links.{LinkReport, IsCalm}
+use Rattle.board_history.specs.InTurn.{IsUsedByOne}
+use Rattle.board_node.specs.declared.spec.BoardSpec.{BoardSpec}
+use Rattle.direct_run.specs.Runs.{greeting_of, runs_from}
+use Rattle.lane_history.specs.Links.{LinkReport, IsFaithful}
+use Rattle.lane_history.specs.Runs.{HaveOwnBoards}
 use Rattle.script_lang.specs.declared.operation.Step.{Step}
 use Rattle.script_lang.specs.declared.session.Session.{Session as WholeSession}
 use Rattle.script_lang.specs.Document.{IsToml}
@@ -13,11 +16,13 @@ use Rattle.session_input.specs.Deserved.{IsRunnable}
 use Rattle.session_input.specs.Numbers.{document_bytes}
 use Rattle.ipbus_program.specs.declared.command.Command.TheVariants.{Run}
 use Rattle.ipbus_program.specs.Numbers.{done_status}
-use Rattle.ipbus_program.specs.Runs.{IsTranscriptOf, Owes}
+use Rattle.ipbus_program.specs.Headline.{IsTranscriptOf}
+use Rattle.ipbus_program.specs.Runs.{Owes}
 use Rattle.transcript.specs.declared.board_run.BoardRun.{BoardRun}
+use Rattle.transcript.specs.Plan.{planned_on}
 use Rattle.transcript.specs.Lines.{transcript_of, run_status}
 use Rattle.transcript.specs.Text.{transcript_text}
-use Rattle.first_form.specs.Below.{LawsBelow, RunLaws, TurnLaw}
+use Rattle.first_form.specs.Below.{LawsBelow, OwnBoardsLaw, RunLaws}
 use Rattle.first_form.specs.Session.{Register, Session}
 use Rattle.first_form.specs.Fields.{values}
 use Rattle.first_form.specs.FirstForm.{IsFirstForm, IsNode, IsNumber, IsRange}
@@ -37,6 +42,18 @@ all_low size values [] small are = tt
 all_low size [] (register ∷ registers) small are = absurd are
 all_low size (value ∷ values) (register ∷ registers) small are =
     (omega (arith, are.0.below_size, small), all_low size values registers small are.1)
+
+-- one client shares no board
+one_client : (bodies : List (List ℕ)) → IsUsedByOne (bodies ∷ [])
+one_client [] = tt
+one_client (body ∷ bodies) = tt
+
+own_boards : (board : ℕ) (specs : List BoardSpec) (steps : List Step) → HaveOwnBoards board specs (steps ∷ [])
+own_boards board [] steps = tt
+own_boards board (spec ∷ specs) steps = (
+  one_client (planned_on board (greeting_of spec.link) steps).bodies,
+  own_boards (board + 1) specs steps,
+)
 
 module _ (laws : LawsBelow) (document : Members) (session : Session) (form : IsFirstForm document session) where
   abbrev read_script : List (List Step)
@@ -89,14 +106,18 @@ module _ (laws : LawsBelow) (document : Members) (session : Session) (form : IsF
     abbrev one_run : List BoardRun
     one_run = runs_from 0 whole.boards read_script
 
-    module _ (apart : RunLaws) (only : TurnLaw) (bytes : List ℕ) (fits : length bytes ≤ document_bytes)
-        (toml : IsToml bytes document) (links : List LinkReport) (calm : AllByRecursion IsCalm links) (status : ℕ)
+    module _ (apart : RunLaws) (only : OwnBoardsLaw) (bytes : List ℕ) (fits : length bytes ≤ document_bytes)
+        (toml : IsToml bytes document) (links : List LinkReport) (calm : AllByRecursion IsFaithful links) (status : ℕ)
         (text : List ℕ) where
       transcribed : IsTranscriptOf bytes links status text → (status ≡ done_status) × (text ≡ first_text session)
       transcribed is =
           let same = apart.session bytes is.session whole is.steps read_script is.runnable (runnable bytes fits toml) in
+          let own : HaveOwnBoards 0 is.session.boards is.steps =
+          subst (HaveOwnBoards 0 is.session.boards) (sym same.1)
+          (own_boards 0 is.session.boards (read_steps 1 session.script)) in
           let found : is.runs ≡ runs_from 0 is.session.boards is.steps =
-          only.all is.session.boards is.steps is.runs (is.calm calm) in
+          only.all is.session.settings is.session.boards is.steps is.runs links
+          (only.rounds bytes is.session is.runnable.stands) calm is.boards own in
           let runs : is.runs ≡ one_run =
           found ∙ ap (λ boards. runs_from 0 boards is.steps) same.0.boards ∙ ap (runs_from 0 whole.boards) same.1 in
           let printed : transcript_of is.steps is.runs ≡ transcript_of read_script one_run =
@@ -116,8 +137,8 @@ module _ (laws : LawsBelow) (document : Members) (session : Session) (form : IsF
       let found = table_there alloc document session form in
       (whole found.0 found.1, read_script, runnable found.0 found.1 bytes fits toml)
 
-  pub owes_only : RunLaws → TurnLaw → (alloc : Global) (bytes : List ℕ) → length bytes ≤ document_bytes
-      → IsToml bytes document → (links : List LinkReport) → AllByRecursion IsCalm links → (status : ℕ) (text : List ℕ)
+  pub owes_only : RunLaws → OwnBoardsLaw → (alloc : Global) (bytes : List ℕ) → length bytes ≤ document_bytes
+      → IsToml bytes document → (links : List LinkReport) → AllByRecursion IsFaithful links → (status : ℕ) (text : List ℕ)
       → Owes Run bytes links status text → (status ≡ done_status) × (text ≡ first_text session)
   owes_only apart only alloc bytes fits toml links calm status text owes =
       let found = table_there alloc document session form in

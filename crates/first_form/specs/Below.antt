@@ -1,5 +1,6 @@
 -- What laws of the crates below say of requests, answers, masks, buses and runs: no public clause speaks of it.
-use Rattle.std.specs.Prelude.{◌≡◌, ◌↔◌, ℕ, ◌+◌, ◌^◌, ◌<◌, List, ◌∷◌, ◌++◌, slice_index, Some, None, Ok}
+use Rattle.std.specs.Prelude.{◌≡◌, ◌↔◌, ℕ, ◌+◌, ◌^◌, ◌<◌, ◌≤◌, List, ◌∷◌, ◌++◌, slice_index, Some, None, Ok}
+use Rattle.std.specs.List.{AllByRecursion}
 use Rattle.ipb_base.specs.Word.{AreWords}
 use Rattle.transaction_codec.specs.declared.request.Request.{Request}
 use Rattle.transaction_codec.specs.Request.{IsRequest, request_at, request_words}
@@ -8,16 +9,19 @@ use Rattle.board_bus.specs.Cells.{read_fault, read_word, unless}
 use Rattle.board_bus.specs.Ranges.{opening_words, opening_bus, refusal_of}
 use Rattle.board_node.specs.declared.spec.BoardSpec.{BoardSpec}
 use Rattle.masked_fields.specs.Field.{field}
+use Rattle.reliable_engine.specs.Settings.{Limits}
 use Rattle.reply_join.specs.declared.answer.Answer.{Answer}
 use Rattle.reply_join.specs.Joining.{IsJoined}
 use Rattle.reply_join.specs.ByWords.{answers}
 use Rattle.script_lang.specs.declared.operation.Step.{Step}
 use Rattle.script_lang.specs.declared.session.Session.{Session}
-use Rattle.script_lang.specs.Document.{SameSession}
+use Rattle.script_lang.specs.Document.{SameSession, StandsFor}
 use Rattle.session_input.specs.declared.refusal.Refusal.{Refusal}
 use Rattle.session_input.specs.Deserved.{BreaksInRun, Deserves, IsRunnable}
 use Rattle.transcript.specs.declared.board_run.BoardRun.{BoardRun}
-use Rattle.direct_run.specs.Runs.{AreRuns, runs_from}
+use Rattle.direct_run.specs.Runs.{runs_from}
+use Rattle.lane_history.specs.Links.{IsFaithful, LinkReport}
+use Rattle.lane_history.specs.Runs.{AreRunsOver, HaveOwnBoards}
 
 -- requests are read again, answers are joined, the field of the full mask is the word, and a bus opens with its ranges
 pub record LawsBelow : Type 0 where
@@ -37,7 +41,10 @@ pub record RunLaws : Type 0 where
   pub not_both : (bytes : List ℕ) (session : Session) (steps : List (List Step)) (refusal : Refusal)
       → IsRunnable bytes session steps → ¬ Deserves BreaksInRun bytes refusal
 
--- clients that run one after another make no other run than this
-pub record TurnLaw : Type 0 where
-  pub all : (specs : List BoardSpec) (scripts : List (List Step)) (runs : List BoardRun)
-      → AreRuns 0 specs scripts runs → runs ≡ runs_from 0 specs scripts
+-- over calm links clients that have boards of their own make no other run than this
+pub record OwnBoardsLaw : Type 0 where
+  pub all : (settings : Limits) (specs : List BoardSpec) (scripts : List (List Step)) (runs : List BoardRun)
+      (links : List LinkReport) → 1 ≤ settings.rounds → AllByRecursion IsFaithful links
+      → AreRunsOver settings 0 specs scripts runs links → HaveOwnBoards 0 specs scripts
+      → runs ≡ runs_from 0 specs scripts
+  pub rounds : (bytes : List ℕ) (session : Session) → StandsFor bytes session → 1 ≤ session.settings.rounds

@@ -13,7 +13,7 @@ ghost use Rattle.first_form.specs.FirstForm.{IsFirstForm};
 ghost use Rattle.first_form.specs.Session.{Session};
 ghost use Rattle.script_lang.specs.declared.operation.Step.{Step};
 ghost use Rattle.script_lang.specs.declared.session.Session.{Session as WholeSession};
-ghost use Rattle.lane_history.specs.Links.{IsCalm, LinkReport};
+ghost use Rattle.lane_history.specs.Links.{IsFaithful, LinkReport};
 ghost use Rattle.session_input.specs.Deserved.{IsRunnable};
 ghost use Rattle.transcript.specs.Lines.{transcript_of, run_status};
 ghost use Rattle.transcript.specs.Text.{transcript_text};
@@ -27,7 +27,8 @@ ghost use Rattle.first_form.specs.FirstTranscript.{first_text};
 ghost use Rattle.first_form.specs.WholeSession.{IsRegisterNode, whole_session};
 
 use crate::below::laws_below;
-use direct_run::laws::a_session_has_one_run;
+use lane_history::runs::clients_with_boards_of_their_own_have_one_run;
+use script_lang::laws::a_session_keeps_its_limits;
 use session_input::laws::bytes_have_one_answer_to_run;
 
 /// A document of the first form is a whole session document too, and stands there for the session of its table, its
@@ -92,11 +93,12 @@ pub fn a_document_of_the_first_form_runs()
         → (whole : WholeSession) × (steps : List (List Step)) × IsRunnable bytes whole steps }
     ensures only { (alloc : Global) (bytes : List ℕ) (document : Members) (session : Session)
         → length bytes ≤ document_bytes → IsToml bytes document → IsFirstForm document session
-        → (links : List LinkReport) → AllByRecursion IsCalm links
+        → (links : List LinkReport) → AllByRecursion IsFaithful links
         → (status : ℕ) (text : List ℕ) → Owes Run bytes links status text
         → (status ≡ done_status) × (text ≡ first_text session) }
 {
     laws_below();
     bytes_have_one_answer_to_run();
-    a_session_has_one_run();
+    clients_with_boards_of_their_own_have_one_run();
+    a_session_keeps_its_limits();
 }

@@ -4,7 +4,8 @@
 #![tactic(auto)]
 
 use ipbus_program::{
-    NO_MEMORY, RACK_FAULT, READ_FAULT, ReaderSource, USAGE, WRITE_FAULT, WriterSink, control,
+    NO_MEMORY, NoGate, RACK_FAULT, READ_FAULT, ReaderSource, USAGE, WRITE_FAULT, WriterSink,
+    control,
 };
 use lossy_network::SimRack;
 use std::alloc::{AllocError, Global};
@@ -14,6 +15,7 @@ use std::marker::Sync;
 use std::process::ExitCode;
 use std::rt::Env;
 use std::sync::Wait;
+use std::thread::Threads;
 
 /// The words after the program's name. Words that are not UTF-8 are none that the program knows, as no words are.
 fn words<R: Env + AllocGlobal>(rt: &R) -> Result<Vec<String>, AllocError> {
@@ -49,7 +51,7 @@ fn note(status: u8) -> Option<&'static str> {
 }
 
 /// Does what the words ask, over an input, an output and a rack of simulated links, and answers the status.
-fn answer<T: Wait + Sync, R: Read + Drop, W: Write + Drop>(
+fn answer<T: Threads + Wait + Sync, R: Read + Drop, W: Write + Drop>(
     rt: &T,
     alloc: Global,
     words: &[String],
@@ -59,7 +61,7 @@ fn answer<T: Wait + Sync, R: Read + Drop, W: Write + Drop>(
     let mut input = ReaderSource::new(input);
     let mut out = WriterSink::new(output);
     let mut rack = SimRack::new(alloc, Vec::new(alloc), Vec::new(alloc));
-    control(rt, alloc, words, &mut input, &mut out, &mut rack)
+    control(rt, alloc, words, &mut input, &mut out, &mut rack, &NoGate)
 }
 
 fn main(rt: HostRuntime) -> ExitCode {

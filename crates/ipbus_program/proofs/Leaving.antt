@@ -3,9 +3,8 @@ use Rattle.std.proofs.Common.{◌≡◌, inl, inr, ℕ, ◌+◌, ◌≤◌, Bool
 use Rattle.std.proofs.Common.{refl, sym, ap, ◌∙◌, append-nil, arith}
 use Rattle.std.specs.List.{AllByRecursion}
 use Rattle.std.specs.Result.{IsErr, IsErrAnd}
-use Rattle.lane_history.specs.Links.{LinkReport, IsCalm, IsUntouched}
+use Rattle.lane_history.specs.Links.{LinkReport, IsUntouched}
 use Rattle.lane_history.specs.Runs.{AreRunsOver}
-use Rattle.direct_run.specs.Runs.{AreRuns}
 use Rattle.script_lang.specs.declared.operation.Step.{Step}
 use Rattle.script_lang.specs.declared.session.Session.{Session}
 use Rattle.session_input.specs.declared.refusal.Refusal.{Refusal}
@@ -20,7 +19,7 @@ use Rattle.transcript.specs.Text.{transcript_text}
 use Rattle.ipbus_program.specs.declared.command.Command.{Command}
 use Rattle.ipbus_program.specs.declared.command.Command.TheVariants.{Run}
 use Rattle.ipbus_program.specs.declared.running.Answer.{Answer}
-use Rattle.ipbus_program.specs.Below.{PlacesAreShown}
+use Rattle.ipbus_program.specs.Below.{RunLaws}
 use Rattle.ipbus_program.specs.Numbers.{refused_status}
 use Rattle.ipbus_program.specs.Runs.{Owes, breaks_in}
 use Rattle.ipbus_program.specs.Steps.{Prints, RunLeaves, Leaves, RanSomeBy}
@@ -51,14 +50,13 @@ run_failed session steps made makes (Err why) fault links left counted fails is 
 pub run_printed : (session : Session) (steps : List (List Step)) (made makes : ℕ) (answer : Answer) (runs : List BoardRun)
     (links : List LinkReport) → AreLeft 0 session.boards steps links → makes ≡ made + length links
     → AreRunsOver session.settings 0 session.boards steps runs links
-    → (AllByRecursion IsCalm links → AreRuns 0 session.boards steps runs)
     → answer.text.items ≡ transcript_text (transcript_of steps runs)
     → answer.status ≡ run_status (transcript_of steps runs).clients
     → RunLeaves session steps made makes (Ok answer) links
-run_printed session steps made makes answer runs links left counted boards calm spelled told = record {
+run_printed session steps made makes answer runs links left counted boards spelled told = record {
   left = left;
   counted = counted;
-  prints = record { runs = runs; boards = boards; calm = calm; spelled = spelled; told = told };
+  prints = record { runs = runs; boards = boards; spelled = spelled; told = told };
   untouched = λ never. absurd cc;
 }
 
@@ -75,35 +73,40 @@ not_refused session steps links status text prints refused =
 
 -- ---- of bytes
 
-owed_by : PlacesAreShown → (bytes : List ℕ) (session : Session) (steps : List (List Step)) (links : List LinkReport)
+owed_by : RunLaws → (bytes : List ℕ) (session : Session) (steps : List (List Step)) (links : List LinkReport)
     (result : Result Answer RunFault) → IsRunnable bytes session steps
     → IfOk result (λ answer. Prints session steps links answer.status answer.text.items)
     → IfOk result (λ answer. Owes Run bytes links answer.status answer.text.items)
-owed_by shown bytes session steps links (Ok answer) runs prints =
+owed_by laws bytes session steps links (Ok answer) runs prints =
     inl (record {
       session = session;
       steps = steps;
       runnable = runs;
       runs = prints.runs;
       boards = prints.boards;
-      calm = prints.calm;
       spelled = prints.spelled;
+      places = laws.places bytes session steps prints.runs links runs prints.boards;
+      answered = laws.answered bytes session steps prints.runs links runs prints.boards;
+      rounds = laws.rounds bytes session steps prints.runs links runs prints.boards;
+      waited = laws.waited session steps prints.runs links prints.boards;
       told = prints.told;
-      places = shown bytes session steps prints.runs links runs prints.boards;
+      codes = laws.codes bytes session steps prints.runs links runs prints.boards;
+      whole = laws.whole bytes session steps prints.runs links runs prints.boards;
+      alone = laws.alone bytes session steps prints.runs links runs prints.boards;
     })
-owed_by shown bytes session steps links (Err why) runs prints = tt
+owed_by laws bytes session steps links (Err why) runs prints = tt
 
-pub run_leaves : PlacesAreShown → (bytes : List ℕ) (session : Session) (steps : List (List Step)) (made makes : ℕ)
+pub run_leaves : RunLaws → (bytes : List ℕ) (session : Session) (steps : List (List Step)) (made makes : ℕ)
     (result : Result Answer RunFault) (links : List LinkReport) → IsRunnable bytes session steps
     → RunLeaves session steps made makes result links → Leaves Run bytes made makes result links
-run_leaves shown bytes session steps made makes result links runs leaves =
+run_leaves laws bytes session steps made makes result links runs leaves =
     let ran : RanSomeBy Run bytes links = record {
       asked = refl;
       ran = record { session = session; steps = steps; runnable = runs; left = leaves.left };
     } in record {
       used = inr ran;
       counted = leaves.counted;
-      owed = owed_by shown bytes session steps links result runs leaves.prints;
+      owed = owed_by laws bytes session steps links result runs leaves.prints;
       untouched = λ rack. (ran, leaves.untouched rack);
     }
 

@@ -2,30 +2,42 @@
 use Rattle.std.proofs.Common.{◌≡◌, ℕ, inl, inr, List, sym, ap, ◌∙◌}
 use Rattle.std.specs.List.{AllByRecursion}
 use Rattle.direct_run.specs.Runs.{runs_from}
-use Rattle.lane_history.specs.Links.{LinkReport, IsCalm}
+use Rattle.lane_history.specs.Links.{LinkReport, IsFaithful}
+use Rattle.lane_history.specs.Runs.{HaveOwnBoards}
+use Rattle.script_lang.specs.declared.operation.Step.{Step}
+use Rattle.script_lang.specs.declared.session.Session.{Session}
+use Rattle.session_input.specs.Deserved.{IsRunnable}
 use Rattle.transcript.specs.Lines.{transcript_of, run_status}
 use Rattle.transcript.specs.Listing.{listing_text}
 use Rattle.transcript.specs.Text.{transcript_text}
 use Rattle.session_input.specs.Lines.{refusal_line}
 use Rattle.ipbus_program.specs.declared.command.Command.{Command}
 use Rattle.ipbus_program.specs.declared.command.Command.TheVariants.{Run, Check}
-use Rattle.ipbus_program.specs.Below.{InputLaws, TurnLaw}
-use Rattle.ipbus_program.specs.Runs.{IsTranscriptOf, IsListingOf, IsDoneOf, Owes, listing_status}
+use Rattle.ipbus_program.specs.Below.{InputLaws, OwnBoardsLaw}
+use Rattle.ipbus_program.specs.Headline.{IsTranscriptOf}
+use Rattle.ipbus_program.specs.Runs.{IsListingOf, IsDoneOf, Owes, listing_status}
 use Rattle.ipbus_program.proofs.Deserved.{one_refusal, done_apart}
 
 abbrev Same : ℕ → ℕ → List ℕ → List ℕ → Type 0
 Same s t a b = (s ≡ t) × (a ≡ b)
 
-module _ (laws : InputLaws) (turns : TurnLaw) where
+-- no two clients use one board
+abbrev pub OfOwnBoards : List ℕ → Type 0
+OfOwnBoards bytes = (session : Session) (steps : List (List Step)) → IsRunnable bytes session steps
+    → HaveOwnBoards 0 session.boards steps
+
+module _ (laws : InputLaws) (only : OwnBoardsLaw) where
   one_transcript : (bytes : List ℕ) (links others : List LinkReport) (s t : ℕ) (a b : List ℕ)
-      → AllByRecursion IsCalm links → AllByRecursion IsCalm others
+      → OfOwnBoards bytes → AllByRecursion IsFaithful links → AllByRecursion IsFaithful others
       → IsTranscriptOf bytes links s a → IsTranscriptOf bytes others t b → Same s t a b
-  one_transcript bytes links others s t a b calm quiet one other =
+  one_transcript bytes links others s t a b own calm quiet one other =
       let same = laws.one_run bytes one.session other.session one.steps other.steps one.runnable other.runnable in
       let mine : one.runs ≡ runs_from 0 one.session.boards one.steps =
-      turns one.session.boards one.steps one.runs (one.calm calm) in
+      only bytes one.session one.steps one.runs links one.runnable one.boards calm
+      (own one.session one.steps one.runnable) in
       let theirs : other.runs ≡ runs_from 0 other.session.boards other.steps =
-      turns other.session.boards other.steps other.runs (other.calm quiet) in
+      only bytes other.session other.steps other.runs others other.runnable other.boards quiet
+      (own other.session other.steps other.runnable) in
       let at_boards = ap (λ boards. runs_from 0 boards one.steps) same.0.boards in
       let at_steps = ap (λ steps. runs_from 0 other.session.boards steps) same.1 in
       let runs : one.runs ≡ other.runs = mine ∙ at_boards ∙ at_steps ∙ sym theirs in
@@ -42,21 +54,21 @@ module _ (laws : InputLaws) (turns : TurnLaw) where
       (one.told ∙ ap listing_status same ∙ sym other.told, one.spelled ∙ ap listing_text same ∙ sym other.spelled)
 
   one_done : (command : Command) (bytes : List ℕ) (links others : List LinkReport) (s t : ℕ) (a b : List ℕ)
-      → AllByRecursion IsCalm links → AllByRecursion IsCalm others
+      → OfOwnBoards bytes → AllByRecursion IsFaithful links → AllByRecursion IsFaithful others
       → IsDoneOf command bytes links s a → IsDoneOf command bytes others t b → Same s t a b
-  one_done Run bytes links others s t a b calm quiet one other =
-      one_transcript bytes links others s t a b calm quiet one other
-  one_done (Check root) bytes links others s t a b calm quiet one other = one_listing bytes root s t a b one other
+  one_done Run bytes links others s t a b own calm quiet one other =
+      one_transcript bytes links others s t a b own calm quiet one other
+  one_done (Check root) bytes links others s t a b own calm quiet one other = one_listing bytes root s t a b one other
 
   pub one_answer : (command : Command) (bytes : List ℕ) (links others : List LinkReport) (s t : ℕ) (a b : List ℕ)
-      → AllByRecursion IsCalm links → AllByRecursion IsCalm others
+      → OfOwnBoards bytes → AllByRecursion IsFaithful links → AllByRecursion IsFaithful others
       → Owes command bytes links s a → Owes command bytes others t b → Same s t a b
-  one_answer command bytes links others s t a b calm quiet (inl one) (inl other) =
-      one_done command bytes links others s t a b calm quiet one other
-  one_answer command bytes links others s t a b calm quiet (inl done) (inr (refused, why)) =
+  one_answer command bytes links others s t a b own calm quiet (inl one) (inl other) =
+      one_done command bytes links others s t a b own calm quiet one other
+  one_answer command bytes links others s t a b own calm quiet (inl done) (inr (refused, why)) =
       absurd (done_apart laws command bytes links s a why.refusal done why.deserved)
-  one_answer command bytes links others s t a b calm quiet (inr (refused, why)) (inl done) =
+  one_answer command bytes links others s t a b own calm quiet (inr (refused, why)) (inl done) =
       absurd (done_apart laws command bytes others t b why.refusal done why.deserved)
-  one_answer command bytes links others s t a b calm quiet (inr (one, why)) (inr (other, because)) =
+  one_answer command bytes links others s t a b own calm quiet (inr (one, why)) (inr (other, because)) =
       let same = one_refusal laws command bytes why.refusal because.refusal why.deserved because.deserved in
       (one ∙ sym other, why.line ∙ ap refusal_line same ∙ sym because.line)

@@ -10,12 +10,12 @@ use Rattle.direct_run.specs.Runs.{CanRun, RunsHere}
 use Rattle.script_lang.specs.declared.operation.Step.{Step}
 use Rattle.script_lang.specs.declared.script_refusal.TheConstants.{MAX_LINES}
 use Rattle.script_lang.specs.declared.session.Session.{Session}
-use Rattle.script_lang.specs.Executable.{OpensOnWords}
+use Rattle.script_lang.specs.Executable.{AreExecutable, OpensOnWords}
 use Rattle.script_lang.specs.Limits.{IsWithin, KeepsRules, LinkKeepsRules}
-use Rattle.script_lang.specs.Packing.{CanBePacked, HaveFewPieces}
+use Rattle.script_lang.specs.Packing.{AreWithinLimits, CanBePacked, HaveFewPieces}
 use Rattle.session_input.specs.Deserved.{HasBus, IsRunnable, is_simulated, ranges_of}
 use Rattle.session_run.specs.Links.{CanBeMade, CanBeReached}
-use Rattle.ipbus_program.specs.Below.{RangesNameWords}
+use Rattle.ipbus_program.specs.Below.{CanBeExecuted, RangesNameWords}
 use Rattle.ipbus_program.specs.Steps.{MayRun}
 
 link_here : (link : LinkSpec) → LinkKeepsRules link → refusal_of (ranges_of link) ≡ None → is_simulated link ≡ true → RunsHere link
@@ -42,11 +42,11 @@ all_reached [] here words = tt
 all_reached (b ∷ bs) here words =
     (record { made = can_be_made b.link here.0; words = words.0 }, all_reached bs here.1 words.1)
 
-pub may_run : RangesNameWords → (bytes : List ℕ) (session : Session) (steps : List (List Step))
+pub may_run : RangesNameWords → CanBeExecuted → (bytes : List ℕ) (session : Session) (steps : List (List Step))
     → IsRunnable bytes session steps → IsWithin session
     → AllByRecursion (AllByRecursion CanBePacked) steps → AllByRecursion HaveFewPieces steps
-    → AllByRecursion (λ (some : List Step). length some ≤ MAX_LINES) steps → MayRun session steps
-may_run words bytes session steps runs within packed few short = record {
+    → AreWithinLimits steps → AllByRecursion (λ (some : List Step). length some ≤ MAX_LINES) steps → MayRun session steps
+may_run words can bytes session steps runs within packed few limits short = record {
   few_boards = let few_boards = within.few_boards in omega arith;
   few_clients =
       let few_clients = within.few_clients in
@@ -57,5 +57,7 @@ may_run words bytes session steps runs within packed few short = record {
       (words bytes session runs.stands);
   packed = packed;
   few = few;
+  executable = can bytes session steps runs;
+  limits = limits;
   short = short;
 }

@@ -1,15 +1,16 @@
 -- What laws of the crates below say of documents and of boards: no public clause speaks of it.
 use Rattle.std.specs.Prelude.{◌≡◌, ℕ, List}
-use Rattle.std.specs.List.{AllByRecursion}
-use Rattle.board_node.specs.declared.spec.BoardSpec.{BoardSpec}
-use Rattle.direct_run.specs.Runs.{AreRuns, runs_from}
-use Rattle.lane_history.specs.Links.{LinkReport}
-use Rattle.lane_history.specs.Runs.{AreRunsOver}
+use Rattle.std.specs.List.{AllByRecursion, AllZip}
+use Rattle.direct_run.specs.Lines.{IsBusLine}
+use Rattle.direct_run.specs.Runs.{runs_from}
+use Rattle.lane_history.specs.Links.{IsFaithful, LinkReport}
+use Rattle.lane_history.specs.Runs.{AreRunsOver, AreWholeRuns, HaveOwnBoards, IsLineOfRounds, IsUngarbledLine}
+use Rattle.lane_history.specs.Runs.{ShowAloneRuns, TimeOutsWaited}
 use Rattle.node_tree.specs.Maps.{RegisterMap}
 use Rattle.script_lang.specs.declared.operation.Step.{Step}
 use Rattle.script_lang.specs.declared.session.Session.{Session}
 use Rattle.script_lang.specs.Document.{SameSession, StandsFor}
-use Rattle.script_lang.specs.Executable.{OpensOnWords}
+use Rattle.script_lang.specs.Executable.{AreExecutable, OpensOnWords}
 use Rattle.session_input.specs.declared.refusal.Refusal.{Refusal}
 use Rattle.transcript.specs.declared.board_run.BoardRun.{BoardRun}
 use Rattle.transcript.specs.Lines.{transcript_of}
@@ -31,19 +32,54 @@ pub record InputLaws : Type 0 where
   pub list_apart : (bytes root : List ℕ) (index : RegisterMap) (refusal : Refusal)
       → IsListed bytes root index → ¬ Deserves (BreaksInCheck root) bytes refusal
 
--- clients that run one after another make no other run than this
-abbrev pub TurnLaw : Type 0
-TurnLaw =
-    (specs : List BoardSpec) (scripts : List (List Step)) (runs : List BoardRun)
-    → AreRuns 0 specs scripts runs → runs ≡ runs_from 0 specs scripts
+-- what follows of the runs of a session that can be run, over links that bear them out
+pub record RunLaws : Type 0 where
+  -- the lines show all places of its boards
+  pub places : (bytes : List ℕ) (session : Session) (steps : List (List Step)) (runs : List BoardRun)
+      (links : List LinkReport) → IsRunnable bytes session steps
+      → AreRunsOver session.settings 0 session.boards steps runs links → ShowsAllPlaces (transcript_of steps runs)
+  -- none is garbled
+  pub answered : (bytes : List ℕ) (session : Session) (steps : List (List Step)) (runs : List BoardRun)
+      (links : List LinkReport) → IsRunnable bytes session steps
+      → AreRunsOver session.settings 0 session.boards steps runs links
+      → AllByRecursion (AllByRecursion IsUngarbledLine) (transcript_of steps runs).clients
+  -- a timed-out line shows the rounds of the session
+  pub rounds : (bytes : List ℕ) (session : Session) (steps : List (List Step)) (runs : List BoardRun)
+      (links : List LinkReport) → IsRunnable bytes session steps
+      → AreRunsOver session.settings 0 session.boards steps runs links
+      → AllByRecursion (AllByRecursion (IsLineOfRounds session.settings.rounds)) (transcript_of steps runs).clients
+  -- the timeouts in the lines of boards took their rounds
+  pub waited : (session : Session) (steps : List (List Step)) (runs : List BoardRun) (links : List LinkReport)
+      → AreRunsOver session.settings 0 session.boards steps runs links
+      → AllZip (TimeOutsWaited session.settings) (transcript_of steps runs).boards links
+  -- over faithful links lines fail by codes of the bus alone
+  pub codes : (bytes : List ℕ) (session : Session) (steps : List (List Step)) (runs : List BoardRun)
+      (links : List LinkReport) → IsRunnable bytes session steps
+      → AreRunsOver session.settings 0 session.boards steps runs links → AllByRecursion IsFaithful links
+      → AllByRecursion (AllByRecursion IsBusLine) (transcript_of steps runs).clients
+  -- all is answered there, and a client alone has one run
+  pub whole : (bytes : List ℕ) (session : Session) (steps : List (List Step)) (runs : List BoardRun)
+      (links : List LinkReport) → IsRunnable bytes session steps
+      → AreRunsOver session.settings 0 session.boards steps runs links → AllByRecursion IsFaithful links
+      → AreWholeRuns session.boards runs links
+  pub alone : (bytes : List ℕ) (session : Session) (steps : List (List Step)) (runs : List BoardRun)
+      (links : List LinkReport) → IsRunnable bytes session steps
+      → AreRunsOver session.settings 0 session.boards steps runs links → AllByRecursion IsFaithful links
+      → ShowAloneRuns 0 session.boards steps runs
 
--- the lines of a session that can be run show all places of its boards
-abbrev pub PlacesAreShown : Type 0
-PlacesAreShown =
+-- over faithful links clients that have boards of their own make no other run than this
+abbrev pub OwnBoardsLaw : Type 0
+OwnBoardsLaw =
     (bytes : List ℕ) (session : Session) (steps : List (List Step)) (runs : List BoardRun) (links : List LinkReport)
     → IsRunnable bytes session steps → AreRunsOver session.settings 0 session.boards steps runs links
-    → ShowsAllPlaces (transcript_of steps runs)
+    → AllByRecursion IsFaithful links → HaveOwnBoards 0 session.boards steps → runs ≡ runs_from 0 session.boards steps
 
--- and its ranges name words
+-- the ranges of a session name words
 abbrev pub RangesNameWords : Type 0
 RangesNameWords = (bytes : List ℕ) (session : Session) → StandsFor bytes session → AllByRecursion OpensOnWords session.boards
+
+-- what its scripts ask can be executed
+abbrev pub CanBeExecuted : Type 0
+CanBeExecuted =
+    (bytes : List ℕ) (session : Session) (steps : List (List Step)) → IsRunnable bytes session steps
+    → AllByRecursion AreExecutable steps

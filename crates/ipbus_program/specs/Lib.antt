@@ -1,5 +1,6 @@
 pub mod Numbers
 pub mod Commands
+pub mod Headline
 pub mod Runs
 pub mod Owed
 pub mod Outputs

@@ -13,7 +13,8 @@ use Rattle.ipbus_program.specs.declared.command.Command.TheVariants.{Run}
 use Rattle.ipbus_program.specs.Commands.{command_of, usage_text}
 use Rattle.ipbus_program.specs.Numbers.{done_status, not_all_done_status, usage_status, refused_status}
 use Rattle.ipbus_program.specs.Numbers.{read_fault_status, write_fault_status, no_memory_status, rack_fault_status}
-use Rattle.ipbus_program.specs.Runs.{IsDoneOf, IsRefusalOf, RanSomeOf}
+use Rattle.ipbus_program.specs.Headline.{RanSomeOf}
+use Rattle.ipbus_program.specs.Runs.{IsDoneOf, IsRefusalOf}
 
 -- the words are this command, some command, or none
 abbrev pub AreCommand : List (String Global) → Command → Type 0

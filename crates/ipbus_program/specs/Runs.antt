@@ -1,52 +1,18 @@
 -- What a command owes to the bytes of a document: a status and a text. Profile.
 use Rattle.std.specs.Prelude.{◌≡◌, ◌⊎◌, ℕ, ◌==◌, if◌then◌else◌, List, [], length}
 use Rattle.std.specs.FinMap.{entries}
-use Rattle.std.specs.List.{AllByRecursion}
-use Rattle.direct_run.specs.Runs.{AreRuns}
-use Rattle.lane_history.specs.Links.{LinkReport, IsCalm}
-use Rattle.lane_history.specs.Runs.{AreRunsOver}
+use Rattle.lane_history.specs.Links.{LinkReport}
 use Rattle.node_tree.specs.Maps.{RegisterMap}
 use Rattle.node_tree.specs.Overlaps.{overlapping}
-use Rattle.script_lang.specs.declared.operation.Step.{Step}
 use Rattle.script_lang.specs.declared.session.Session.{Session}
 use Rattle.session_input.specs.declared.refusal.Refusal.{Refusal}
-use Rattle.session_input.specs.Deserved.{BreaksInRun, BreaksInCheck, Deserves, IsRunnable, IsListed}
+use Rattle.session_input.specs.Deserved.{BreaksInRun, BreaksInCheck, Deserves, IsListed}
 use Rattle.session_input.specs.Lines.{refusal_line}
-use Rattle.session_run.specs.Links.{AreLeft}
-use Rattle.transcript.specs.declared.board_run.BoardRun.{BoardRun}
-use Rattle.transcript.specs.Lines.{transcript_of, run_status}
 use Rattle.transcript.specs.Listing.{listing_text}
-use Rattle.transcript.specs.Shown.{ShowsAllPlaces}
-use Rattle.transcript.specs.Text.{transcript_text}
 use Rattle.ipbus_program.specs.declared.command.Command.{Command}
 use Rattle.ipbus_program.specs.declared.command.Command.TheVariants.{Run, Check}
+use Rattle.ipbus_program.specs.Headline.{IsTranscriptOf}
 use Rattle.ipbus_program.specs.Numbers.{done_status, not_all_done_status, refused_status}
-
--- ---- run
-
--- The text is the transcript of the session that the bytes stand for, for some outcomes that the links of its boards
--- bear out; the status tells whether every line of an operation is a value, done or was.
-pub record IsTranscriptOf (bytes : List ℕ) (links : List LinkReport) (status : ℕ) (text : List ℕ) : Type 0 where
-  pub session : Session
-  pub steps : List (List Step)
-  pub runnable : IsRunnable bytes session steps
-  pub runs : List BoardRun
-  -- the bodies of each client's script, and outcomes that are one order on each board and true of its link
-  pub boards : AreRunsOver session.settings 0 session.boards steps runs links
-  -- where nothing was held and nothing failed: those of clients one after another, each body replied to
-  pub calm : AllByRecursion IsCalm links → AreRuns 0 session.boards steps runs
-  pub spelled : text ≡ transcript_text (transcript_of steps runs)
-  pub told : status ≡ run_status (transcript_of steps runs).clients
-  -- the lines of operations show of each board the places 1, 2, .. up to the number in its line, and no other place
-  pub places : ShowsAllPlaces (transcript_of steps runs)
-
--- The bytes stand for a session that can be run, and the links are those of its first boards, in order: what each board
--- executed is a merge of bodies that the scripts ask of it.
-pub record RanSomeOf (bytes : List ℕ) (links : List LinkReport) : Type 0 where
-  pub session : Session
-  pub steps : List (List Step)
-  pub runnable : IsRunnable bytes session steps
-  pub left : AreLeft 0 session.boards steps links
 
 -- ---- check
 

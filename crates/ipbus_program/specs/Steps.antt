@@ -2,13 +2,13 @@
 -- these.
 use Rattle.std.specs.Prelude.{◌≡◌, ◌⊎◌, ℕ, ◌+◌, ◌<◌, ◌≤◌, ◌^◌, List, [], length, Option, Result, Err, IfOk}
 use Rattle.std.specs.List.{AllByRecursion}
-use Rattle.direct_run.specs.Runs.{AreRuns}
-use Rattle.lane_history.specs.Links.{LinkReport, IsCalm, IsUntouched}
+use Rattle.lane_history.specs.Links.{LinkReport, IsUntouched}
 use Rattle.lane_history.specs.Runs.{AreRunsOver}
 use Rattle.script_lang.specs.declared.operation.Step.{Step}
 use Rattle.script_lang.specs.declared.script_refusal.TheConstants.{MAX_LINES}
 use Rattle.script_lang.specs.declared.session.Session.{Session}
-use Rattle.script_lang.specs.Packing.{CanBePacked, HaveFewPieces}
+use Rattle.script_lang.specs.Executable.{AreExecutable}
+use Rattle.script_lang.specs.Packing.{AreWithinLimits, CanBePacked, HaveFewPieces}
 use Rattle.session_run.specs.declared.session.RunFault.{RunFault}
 use Rattle.session_run.specs.declared.session.RunFault.TheVariants as fault
 use Rattle.session_run.specs.declared.session.RunFault.TheVariants.{Rack}
@@ -22,7 +22,8 @@ use Rattle.ipbus_program.specs.declared.program.NoAnswer.{NoAnswer}
 use Rattle.ipbus_program.specs.declared.program.NoAnswer.TheVariants.{NoMemory, RackFault}
 use Rattle.ipbus_program.specs.declared.running.Answer.{Answer}
 use Rattle.ipbus_program.specs.Owed.{AnswersInput, IsReadToEnd}
-use Rattle.ipbus_program.specs.Runs.{Owes, RanSomeOf}
+use Rattle.ipbus_program.specs.Headline.{RanSomeOf}
+use Rattle.ipbus_program.specs.Runs.{Owes}
 
 -- what running a session rests on
 pub record MayRun (session : Session) (steps : List (List Step)) : Type 0 where
@@ -31,6 +32,8 @@ pub record MayRun (session : Session) (steps : List (List Step)) : Type 0 where
   pub reached : AllByRecursion CanBeReached session.boards
   pub packed : AllByRecursion (AllByRecursion CanBePacked) steps
   pub few : AllByRecursion HaveFewPieces steps
+  pub executable : AllByRecursion AreExecutable steps
+  pub limits : AreWithinLimits steps
   pub short : AllByRecursion (λ steps. length steps ≤ MAX_LINES) steps
 
 -- the transcript of a session's steps, for some outcomes over these links
@@ -38,7 +41,6 @@ pub record Prints (session : Session) (steps : List (List Step)) (links : List L
     : Type 0 where
   pub runs : List BoardRun
   pub boards : AreRunsOver session.settings 0 session.boards steps runs links
-  pub calm : AllByRecursion IsCalm links → AreRuns 0 session.boards steps runs
   pub spelled : text ≡ transcript_text (transcript_of steps runs)
   pub told : status ≡ run_status (transcript_of steps runs).clients
 

@@ -7,10 +7,14 @@ ghost use Rattle.ipbus_program.specs.Numbers.{done_status, not_all_done_status, 
 ghost use Rattle.ipbus_program.specs.Numbers.{read_fault_status, write_fault_status, no_memory_status, rack_fault_status};
 ghost use Rattle.ipbus_program.specs.declared.command.Command.{Command as CommandValue};
 ghost use Rattle.std.specs.List.{AllByRecursion};
-ghost use Rattle.lane_history.specs.Links.{IsCalm, LinkReport};
+ghost use Rattle.lane_history.specs.Links.{IsFaithful, LinkReport};
+ghost use Rattle.lane_history.specs.Runs.{HaveOwnBoards};
+ghost use Rattle.script_lang.specs.declared.operation.Step.{Step};
+ghost use Rattle.script_lang.specs.declared.session.Session.{Session};
+ghost use Rattle.session_input.specs.Deserved.{IsRunnable};
 ghost use Rattle.ipbus_program.specs.Runs.{Owes};
 
-use crate::below::{input_laws, runs_in_turn};
+use crate::below::{input_laws, runs_on_own_boards};
 
 /// The numbers that a user sees are those of the definitions.
 pub fn the_numbers_of_the_program()
@@ -24,13 +28,15 @@ pub fn the_numbers_of_the_program()
     ensures rack_fault { RACK_FAULT ≡ rack_fault_status }
 {}
 
-/// A command owes one status and one text to the bytes of a document over links that tell, where nothing was held and
-/// nothing failed: so a session has one transcript then.
+/// Where no two clients use one board, a command owes one status and one text to the bytes of a document over links that
+/// tell, where nothing was held and nothing failed: so such a session has one transcript then.
 pub fn one_answer_is_owed()
     ensures { (command : CommandValue) (bytes : List ℕ) (links others : List LinkReport) (s t : ℕ) (a b : List ℕ) →
-        AllByRecursion IsCalm links → AllByRecursion IsCalm others →
+        ((session : Session) (steps : List (List Step)) → IsRunnable bytes session steps
+        → HaveOwnBoards 0 session.boards steps) →
+        AllByRecursion IsFaithful links → AllByRecursion IsFaithful others →
         Owes command bytes links s a → Owes command bytes others t b → (s ≡ t) × (a ≡ b) }
 {
     input_laws();
-    runs_in_turn();
+    runs_on_own_boards();
 }

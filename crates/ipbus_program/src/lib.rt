@@ -15,6 +15,7 @@ pub mod transcript_laws;
 pub use answer::{
     DONE, NO_MEMORY, NOT_ALL_DONE, RACK_FAULT, READ_FAULT, REFUSED, USAGE, WRITE_FAULT,
 };
+pub use client_threads::{Gate, NoGate};
 pub use command::Command;
 pub use edges::{ReaderSource, WriterSink};
 pub use program::control;

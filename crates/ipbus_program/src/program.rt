@@ -28,6 +28,7 @@ use crate::answer::{NO_MEMORY, RACK_FAULT, READ_FAULT, USAGE, WRITE_FAULT};
 use crate::below::input_laws;
 use crate::command::{Command, command_of};
 use crate::running::{Answer, answer_to, refused};
+use client_threads::Gate;
 use ipb_base::NoMemory;
 use ipb_outside::{ReadEnd, Sink, Source, read_all, write_whole};
 use lossy_network::Rack;
@@ -36,6 +37,7 @@ use session_run::RunFault;
 use std::alloc::Global;
 use std::marker::Sync;
 use std::sync::Wait;
+use std::thread::Threads;
 
 /// The line for words that are no command.
 const USAGE_LINE: &str = "usage: ipbus run | check TABLE\n";
@@ -71,12 +73,13 @@ impl From<RunFault> for NoAnswer {
 }
 
 /// What a command answers to an input.
-fn answer_input<S: Source, R: Rack, T: Wait + Sync>(
+fn answer_input<S: Source, R: Rack, T: Threads + Wait + Sync, G: Gate>(
     rt: &T,
     alloc: Global,
     command: &Command,
     input: &mut S,
     rack: &mut R,
+    gate: &G,
 ) -> Result<Answer, NoAnswer>
     ensures leaves { Keeps R.L.faults R.L.quiets R.L.gots R.L.held R.L.telling (R.kept rack.old) (R.kept rack.new)
         (InputLeaves command.now (S.left input.old) (S.left input.new) (R.made rack.old) (R.made rack.new) result) }
@@ -88,9 +91,10 @@ fn answer_input<S: Source, R: Rack, T: Wait + Sync>(
     ensures stopped { OnErr result (TakesAtMost (document_bytes + 1) (S.left input.old) (S.left input.new)) }
     ensures later { (S.faults input.old ≤ S.faults input.new) × (R.faults rack.old ≤ R.faults rack.new) }
     ensures unfaulted { result ≢ Err NoAnswer.ReadFault → S.faults input.new ≡ S.faults input.old }
+    ensures unfaulted_rack { result ≢ Err NoAnswer.RackFault → R.faults rack.new ≡ R.faults rack.old }
 {
     match read_all(alloc, input, MAX_DOCUMENT) {
-        Ok(bytes) => Ok(answer_to(rt, alloc, command, &bytes, rack)?),
+        Ok(bytes) => Ok(answer_to(rt, alloc, command, &bytes, rack, gate)?),
         Err(ReadEnd::TooLong) => Ok(refused(alloc, &Refusal::TooLong)?),
         Err(ReadEnd::Failed) => Err(NoAnswer::ReadFault),
         Err(ReadEnd::NoMemory) => Err(NoAnswer::NoMemory),
@@ -112,17 +116,18 @@ fn deliver<O: Sink>(out: &mut O, text: &[u8], status: u8) -> u8
 }
 
 /// Does what the words ask. `run` reads a session document to its end, makes a link for each of its boards by the rack,
-/// runs its scripts over these links, gives each link back and writes the transcript; `check TABLE` reads one and lists
-/// the registers of that table; other words are answered by the usage line. The text of an answer is handed to the
-/// output once. The result is the status: `DONE`, `NOT_ALL_DONE`, `USAGE`, `REFUSED`, `READ_FAULT`, `WRITE_FAULT`,
-/// `NO_MEMORY` or `RACK_FAULT`.
-pub fn control<S: Source, O: Sink, R: Rack, T: Wait + Sync>(
+/// runs its scripts over these links, each client in a thread of its own that calls the gate, gives each link back and
+/// writes the transcript; `check TABLE` reads one and lists the registers of that table; other words are answered by the
+/// usage line. The text of an answer is handed to the output once. The result is the status: `DONE`, `NOT_ALL_DONE`,
+/// `USAGE`, `REFUSED`, `READ_FAULT`, `WRITE_FAULT`, `NO_MEMORY` or `RACK_FAULT`.
+pub fn control<S: Source, O: Sink, R: Rack, T: Threads + Wait + Sync, G: Gate>(
     rt: &T,
     alloc: Global,
     words: &[String],
     input: &mut S,
     out: &mut O,
     rack: &mut R,
+    gate: &G,
 ) -> u8
     // What the command makes of the whole input was written, and nothing else: the transcript of its session over the
     // links that were given back, whose every line is a value, done or was; or the listing of a table without overlaps.
@@ -205,9 +210,10 @@ pub fn control<S: Source, O: Sink, R: Rack, T: Wait + Sync>(
         → out.new ≡ out.old }
     ensures later { (S.faults input.old ≤ S.faults input.new) × (O.faults out.old ≤ O.faults out.new)
         × (R.faults rack.old ≤ R.faults rack.new) }
-    // Only status 4 raises the input's count of faults, and only status 5 the output's.
+    // Only status 4 raises the input's count of faults, only status 5 the output's, and only status 7 the rack's.
     ensures unfaulted_input { result ≢ read_fault_status → S.faults input.new ≡ S.faults input.old }
     ensures unfaulted_output { result ≢ write_fault_status → O.faults out.new ≡ O.faults out.old }
+    ensures unfaulted_rack { result ≢ rack_fault_status → R.faults rack.new ≡ R.faults rack.old }
     ensures ended_kept { O.ended out.new ≡ O.ended out.old }
 {
     input_laws();
@@ -216,7 +222,7 @@ pub fn control<S: Source, O: Sink, R: Rack, T: Wait + Sync>(
         Ok(None) => return deliver(out, USAGE_LINE.as_bytes(), USAGE),
         Err(NoMemory) => return NO_MEMORY,
     };
-    match answer_input(rt, alloc, &command, input, rack) {
+    match answer_input(rt, alloc, &command, input, rack, gate) {
         Ok(answer) => deliver(out, answer.text.as_slice(), answer.status),
         Err(NoAnswer::ReadFault) => READ_FAULT,
         Err(NoAnswer::RackFault) => RACK_FAULT,

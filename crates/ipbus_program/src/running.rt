@@ -1,6 +1,6 @@
 //! What a command makes of the bytes of a document.
 
-ghost use Rattle.std.specs.Prelude.{◌≡◌, ◌≤◌, ℕ, List, [], Err, IfOk, map};
+ghost use Rattle.std.specs.Prelude.{◌≡◌, ◌≢◌, ◌≤◌, ℕ, List, [], Err, IfOk, map};
 ghost use Rattle.ipb_base.specs.Faults.{Rose};
 ghost use Rattle.session_input.specs.Lines.{refusal_line};
 ghost use Rattle.session_run.specs.Links.{Keeps};
@@ -13,18 +13,21 @@ ghost use Rattle.ipbus_program.specs.Steps.{Leaves, MayRun, RunLeaves};
 ghost use Rattle.ipbus_program.specs.Numbers.{refused_status};
 
 use crate::answer::{DONE, NOT_ALL_DONE, REFUSED};
+use crate::below::run_laws;
 use crate::command::Command;
-use crate::transcript_laws::a_runnable_session_shows_all_places;
+use client_threads::Gate;
 use ipb_base::NoMemory;
 use lossy_network::Rack;
 use node_tree::Index;
 use script_lang::laws::the_ranges_of_a_session_name_words;
 use script_lang::{Session, Steps};
+use session_input::laws::what_can_be_run_can_be_executed;
 use session_input::{Refusal, Unread, read_for_check, read_for_run};
 use session_run::{RunFault, run_session};
 use std::alloc::Global;
 use std::marker::Sync;
 use std::sync::Wait;
+use std::thread::Threads;
 use transcript::{
     BoardRun, OpLine, all_good, board_lines, lines_of_clients, listing_text, transcript_text,
 };
@@ -37,12 +40,13 @@ pub(crate) struct Answer {
 }
 
 /// What a command answers to the bytes of a document.
-pub(crate) fn answer_to<R: Rack, T: Wait + Sync>(
+pub(crate) fn answer_to<R: Rack, T: Threads + Wait + Sync, G: Gate>(
     rt: &T,
     alloc: Global,
     command: &Command,
     bytes: &[u8],
     rack: &mut R,
+    gate: &G,
 ) -> Result<Answer, RunFault>
     ensures leaves { Keeps R.L.faults R.L.quiets R.L.gots R.L.held R.L.telling (R.kept rack.old) (R.kept rack.new)
         (Leaves command.now bytes.now (R.made rack.old) (R.made rack.new) result) }
@@ -50,9 +54,10 @@ pub(crate) fn answer_to<R: Rack, T: Wait + Sync>(
     ensures checked { (table : List ℕ) → command.now ≡ Check table → rack.new ≡ rack.old }
     ensures rack_fault { result ≡ Err RunFault.Rack → Rose (R.faults rack.old) (R.faults rack.new) }
     ensures later { R.faults rack.old ≤ R.faults rack.new }
+    ensures unfaulted { result ≢ Err RunFault.Rack → R.faults rack.new ≡ R.faults rack.old }
 {
     match command {
-        Command::Run => run(rt, alloc, bytes, rack),
+        Command::Run => run(rt, alloc, bytes, rack, gate),
         Command::Check { table } => Ok(check(alloc, bytes, table.as_str())?),
     }
 }
@@ -103,43 +108,48 @@ pub(crate) fn refused(alloc: Global, refusal: &Refusal) -> Result<Answer, NoMemo
 }
 
 /// Runs the scripts of a session document on its boards.
-fn run<R: Rack, T: Wait + Sync>(
+fn run<R: Rack, T: Threads + Wait + Sync, G: Gate>(
     rt: &T,
     alloc: Global,
     bytes: &[u8],
     rack: &mut R,
+    gate: &G,
 ) -> Result<Answer, RunFault>
     ensures leaves { Keeps R.L.faults R.L.quiets R.L.gots R.L.held R.L.telling (R.kept rack.old) (R.kept rack.new)
         (Leaves Run bytes.now (R.made rack.old) (R.made rack.new) result) }
     ensures refused { IfOk result (λ answer. answer.status ≡ refused_status → rack.new ≡ rack.old) }
     ensures rack_fault { result ≡ Err RunFault.Rack → Rose (R.faults rack.old) (R.faults rack.new) }
     ensures later { R.faults rack.old ≤ R.faults rack.new }
+    ensures unfaulted { result ≢ Err RunFault.Rack → R.faults rack.new ≡ R.faults rack.old }
 {
-    a_runnable_session_shows_all_places();
+    run_laws();
     the_ranges_of_a_session_name_words();
+    what_can_be_run_can_be_executed();
     match read_for_run(alloc, bytes) {
-        Ok(read) => transcript(rt, alloc, &read.session, &read.steps, rack),
+        Ok(read) => transcript(rt, alloc, &read.session, &read.steps, rack, gate),
         Err(Unread::Refused(refusal)) => Ok(refused(alloc, &refusal)?),
         Err(Unread::NoMemory) => Err(RunFault::NoMemory),
     }
 }
 
 /// The transcript of a session, and the status that goes with it.
-fn transcript<R: Rack, T: Wait + Sync>(
+fn transcript<R: Rack, T: Threads + Wait + Sync, G: Gate>(
     rt: &T,
     alloc: Global,
     session: &Session,
     steps: &[Steps],
     rack: &mut R,
+    gate: &G,
 ) -> Result<Answer, RunFault>
     requires { MayRun session.now steps.now }
     ensures leaves { Keeps R.L.faults R.L.quiets R.L.gots R.L.held R.L.telling (R.kept rack.old) (R.kept rack.new)
         (RunLeaves session.now steps.now (R.made rack.old) (R.made rack.new) result) }
     ensures rack_fault { result ≡ Err RunFault.Rack → Rose (R.faults rack.old) (R.faults rack.new) }
     ensures later { R.faults rack.old ≤ R.faults rack.new }
+    ensures unfaulted { result ≢ Err RunFault.Rack → R.faults rack.new ≡ R.faults rack.old }
 {
     let boards = session.boards.as_slice();
-    let runs = run_session(rt, alloc, session.settings, boards, steps, rack)?;
+    let runs = run_session(rt, alloc, session.settings, boards, steps, rack, gate)?;
     Ok(printed(alloc, &runs, steps)?)
 }
 

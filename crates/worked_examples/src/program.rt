@@ -3,13 +3,15 @@
 use ipb_base::NoMemory;
 use ipb_outside::{CalmSource, MemSink, MemSource, Sink, Source, read_all};
 use ipbus_program::{
-    DONE, NO_MEMORY, NOT_ALL_DONE, RACK_FAULT, READ_FAULT, REFUSED, USAGE, WRITE_FAULT, control,
+    DONE, NO_MEMORY, NOT_ALL_DONE, NoGate, RACK_FAULT, READ_FAULT, REFUSED, USAGE, WRITE_FAULT,
+    control,
 };
 use lossy_network::SimRack;
 use std::alloc::{AllocError, Global};
 use std::marker::Sync;
 use std::sync::Wait;
 use std::test::Fail;
+use std::thread::Threads;
 
 const FIRST: &str = r#"[[tables.main]]
 id = "id"
@@ -45,11 +47,11 @@ fn words_of(alloc: Global, texts: &[&str]) -> Result<Vec<String>, AllocError> {
     Ok(words)
 }
 
-fn run_word(alloc: Global) -> Result<Vec<String>, AllocError> {
+pub(crate) fn run_word(alloc: Global) -> Result<Vec<String>, AllocError> {
     words_of(alloc, &["run"])
 }
 
-fn calm(alloc: Global, text: &str) -> Result<CalmSource, AllocError> {
+pub(crate) fn calm(alloc: Global, text: &str) -> Result<CalmSource, AllocError> {
     Ok(CalmSource::new(Vec::from_slice(alloc, text.as_bytes())?))
 }
 
@@ -65,7 +67,7 @@ fn first_session(rt: HostRuntime) -> Result<(), Fail> {
 }
 
 /// `control` over simulated links that never fail.
-pub(crate) fn over_links<S: Source, O: Sink, T: Wait + Sync>(
+pub(crate) fn over_links<S: Source, O: Sink, T: Threads + Wait + Sync>(
     rt: &T,
     alloc: Global,
     words: &[String],
@@ -73,11 +75,11 @@ pub(crate) fn over_links<S: Source, O: Sink, T: Wait + Sync>(
     out: &mut O,
 ) -> u8 {
     let mut rack = SimRack::new(alloc, Vec::new(alloc), Vec::new(alloc));
-    control(rt, alloc, words, input, out, &mut rack)
+    control(rt, alloc, words, input, out, &mut rack, &NoGate)
 }
 
 /// The status and the text that words get for a document, or want of memory where they are set up.
-pub(crate) fn answer<T: Wait + Sync>(
+pub(crate) fn answer<T: Threads + Wait + Sync>(
     rt: &T,
     alloc: Global,
     words: &[&str],
@@ -186,7 +188,11 @@ fn an_input_too_long(rt: HostRuntime) -> Result<(), Fail> {
 }
 
 /// Whether words get the usage line.
-fn is_usage<T: Wait + Sync>(rt: &T, alloc: Global, words: &[&str]) -> Result<bool, NoMemory> {
+fn is_usage<T: Threads + Wait + Sync>(
+    rt: &T,
+    alloc: Global,
+    words: &[&str],
+) -> Result<bool, NoMemory> {
     let (status, text) = answer(rt, alloc, words, FIRST)?;
     Ok(status == USAGE && text.as_slice() == USAGE_LINE.as_bytes())
 }
@@ -224,7 +230,7 @@ fn the_first_write_fails(rt: HostRuntime) -> Result<(), Fail> {
 }
 
 /// What a session gets over a rack whose makes and calls with these numbers fail.
-fn over_failing<T: Wait + Sync>(
+fn over_failing<T: Threads + Wait + Sync>(
     rt: &T,
     alloc: Global,
     makes: &[u64],
@@ -240,6 +246,7 @@ fn over_failing<T: Wait + Sync>(
         &mut input,
         &mut out,
         &mut rack,
+        &NoGate,
     );
     Ok((status, Vec::from_slice(alloc, out.bytes())?))
 }
@@ -252,13 +259,19 @@ fn a_link_that_cannot_be_made(rt: HostRuntime) -> Result<(), Fail> {
     Ok(())
 }
 
-/// The greeting makes the calls 1 and 2 of the link, and the packet with its reply the calls 3 and 4.
+/// The greeting makes the calls 1 and 2 of the link, and the packet with its reply the calls 3 and 4. No other is made.
 #[test]
 fn a_link_that_fails(rt: HostRuntime) -> Result<(), Fail> {
     let alloc = rt.alloc();
-    for (call, wanted) in [(1, GREETED_DOWN), (2, GREETED_DOWN), (3, LOST), (4, LOST)] {
+    for (call, wanted_status, wanted) in [
+        (1, NOT_ALL_DONE, GREETED_DOWN),
+        (2, NOT_ALL_DONE, GREETED_DOWN),
+        (3, NOT_ALL_DONE, LOST),
+        (4, NOT_ALL_DONE, LOST),
+        (5, DONE, TRANSCRIPT),
+    ] {
         let (status, text) = over_failing(&rt, alloc, &[], &[call])?;
-        assert_eq!(rt; status, NOT_ALL_DONE, "call {call}");
+        assert_eq!(rt; status, wanted_status, "call {call}");
         assert_eq!(rt; text.as_slice(), wanted.as_bytes(), "call {call}");
     }
     Ok(())

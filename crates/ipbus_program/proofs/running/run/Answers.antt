@@ -12,8 +12,10 @@ pub transcript-requires-after_bounds : goal.transcript-requires-after_bounds
 transcript-requires-after_bounds g c κs within =
     let steps = c.in-Ok.read.steps.items in
     let ready : MayRun c.in-Ok.read.session steps =
-    may_run c.the_ranges_of_a_session_name_words.ensures c.args.bytes.now c.in-Ok.read.session steps
-    c.in-Ok.ensures.runnable c.in-Ok.ensures.within c.in-Ok.ensures.packed c.in-Ok.ensures.few c.in-Ok.ensures.short in
+    may_run c.the_ranges_of_a_session_name_words.ensures c.what_can_be_run_can_be_executed.ensures c.args.bytes.now
+    c.in-Ok.read.session steps
+    c.in-Ok.ensures.runnable c.in-Ok.ensures.within c.in-Ok.ensures.packed c.in-Ok.ensures.few c.in-Ok.ensures.limits
+    c.in-Ok.ensures.short in
     rw c.deref.ensures.value ready
 
 pub returns-in_err-refused-in-Err-Refused-clause-leaves :
@@ -31,7 +33,7 @@ returns-in-Ok-clause-leaves g c =
     let makes = g.R.Rack.made c.transcript.new.rack in (
       left.0,
       left.1,
-      run_leaves c.a_runnable_session_shows_all_places.ensures c.args.bytes.now c.in-Ok.read.session
+      run_leaves c.run_laws.ensures c.args.bytes.now c.in-Ok.read.session
           c.in-Ok.read.steps.items made makes c.transcript.result (map shown left.0) c.in-Ok.ensures.runnable
           (subst (λ steps. RunLeaves c.in-Ok.read.session steps made makes c.transcript.result (map shown left.0))
           c.deref.ensures.value left.2),

@@ -1,7 +1,6 @@
 use Rattle.std.proofs.Common.{◌≡◌, ◌+◌, length, map, Err, refl, ap, subst}
 use Rattle.std.specs.List.{AllByRecursion}
-use Rattle.direct_run.specs.Runs.{AreRuns}
-use Rattle.lane_history.specs.Links.{IsCalm, IsUntouched}
+use Rattle.lane_history.specs.Links.{IsUntouched}
 use Rattle.lane_history.specs.Runs.{AreRunsOver}
 use Rattle.script_lang.specs.declared.session.Session.{Session}
 use Rattle.session_run.specs.Links.{AreLeft}
@@ -63,10 +62,6 @@ returns-clause-leaves g c =
           (subst (λ boards. AreRunsOver session.settings 0 boards c.args.steps.now runs links) boards
           (at_links shown _ _ left.0 left.1 (AreRunsOver session.settings 0 c.as_slice-boards.result.now c.args.steps.now runs)
           c.in_ok-runs.ensures.ran))
-          (subst (λ boards. AllByRecursion IsCalm links → AreRuns 0 boards c.args.steps.now runs) boards
-          (at_links shown _ _ left.0 left.1
-          (λ links. AllByRecursion IsCalm links → AreRuns 0 c.as_slice-boards.result.now c.args.steps.now runs)
-          c.in_ok-runs.ensures.calm))
           (subst (λ runs. c.in_ok-printed.field-0.text.items ≡ transcript_text (transcript_of c.args.steps.now runs))
           c.deref.ensures.value c.in_ok-printed.ensures.text)
           (subst (λ runs. c.in_ok-printed.field-0.status ≡ run_status (transcript_of c.args.steps.now runs).clients)
