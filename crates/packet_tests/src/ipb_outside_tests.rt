@@ -1,7 +1,8 @@
 //! Sources and sinks in memory, and reading and writing whole over them.
 
 use ipb_outside::{
-    CalmSink, CalmSource, Failed, MemSink, MemSource, ReadEnd, Sink, Source, read_all, write_whole,
+    CalmSink, CalmSource, Door, Failed, MemDoor, MemSink, MemSource, ReadEnd, Sink, Source,
+    read_all, write_whole,
 };
 use std::test::Fail;
 
@@ -45,5 +46,29 @@ fn a_calm_sink_writes_over_its_room(rt: HostRuntime) -> Result<(), Fail> {
     assert_eq!(rt; write_whole(&mut sink, b"cd"), Err(Failed));
     assert_eq!(rt; sink.bytes(), b"abc".as_slice());
     sink.end();
+    Ok(())
+}
+
+#[test]
+fn a_door_lets_its_pairs_in_and_keeps_them(rt: HostRuntime) -> Result<(), Fail> {
+    let mut pairs = Vec::new(rt.alloc());
+    for text in [b"ab", b"cd"] {
+        let source = MemSource::new(text.to_vec(rt.alloc())?, 2, Vec::new(rt.alloc()));
+        pairs.push((source, MemSink::new(rt.alloc(), 8, Vec::new(rt.alloc()))?))?;
+    }
+    let mut door = MemDoor::new(rt.alloc(), pairs, [2].to_vec(rt.alloc())?)?;
+    assert_eq!(rt; door.listen(5000), Ok(()));
+    assert!(rt; door.accept().is_err());
+    let mut buf = [0u8; 2];
+    if let Ok((mut incoming, mut outgoing)) = door.accept() {
+        assert_eq!(rt; incoming.read(&mut buf), Ok(2));
+        assert_eq!(rt; write_whole(&mut outgoing, &buf), Ok(()));
+        door.keep(incoming, outgoing);
+    }
+    assert_eq!(rt; buf, *b"ab");
+    assert!(rt; matches!(door.kept(0), Some(pair) if pair.1.bytes() == b"ab".as_slice()));
+    assert!(rt; door.accept().is_ok());
+    assert!(rt; door.accept().is_err());
+    assert!(rt; door.kept(1).is_none());
     Ok(())
 }

@@ -5,6 +5,8 @@
 #[cfg(test)]
 mod board_bus_tests;
 #[cfg(test)]
+mod hub_framing_tests;
+#[cfg(test)]
 mod ipb_base_tests;
 #[cfg(test)]
 mod ipb_outside_tests;
