@@ -1,0 +1,46 @@
+-- A link that is simulated, which tells, or goes over UDP, which does not. Profile.
+use Rattle.std.specs.Prelude.{ℕ, List, [], Option, Some, None}
+use Rattle.board_node.specs.declared.spec.LinkSpec.{LinkSpec}
+use Rattle.board_node.specs.declared.spec.LinkSpec.TheVariants.{Sim as SimBoard, Udp as UdpBoard}
+use Rattle.world_core.specs.Telling.{Telling}
+use Rattle.lossy_network.specs.Network.{new_network, telling_of as network_telling}
+use Rattle.lossy_network.specs.Racks.{fresh_board}
+use Rattle.net_edges.specs.declared.any_link.AnyLink.{AnyLink}
+use Rattle.net_edges.specs.declared.any_link.AnyLink.TheVariants.{Sim, Udp}
+
+abbrev pub telling_of : AnyLink → Option Telling
+telling_of (Sim link) = Some (network_telling link)
+telling_of (Udp link) = None
+
+abbrev pub faults_of : AnyLink → ℕ
+faults_of (Sim link) = link.faults
+faults_of (Udp link) = link.faults
+
+abbrev pub quiets_of : AnyLink → ℕ
+quiets_of (Sim link) = link.quiets
+quiets_of (Udp link) = link.quiets
+
+abbrev pub gots_of : AnyLink → ℕ
+gots_of (Sim link) = link.gots
+gots_of (Udp link) = link.gots
+
+-- what a link over UDP lost is not known
+abbrev pub held_of : AnyLink → ℕ
+held_of (Sim link) = link.traffic.held
+held_of (Udp link) = 0
+
+-- the link that is made for a board: no call of a simulated one fails, and one over UDP starts with counts of 0
+abbrev pub new_link : LinkSpec → AnyLink
+new_link (SimBoard mtu buffers first ranges fates) =
+    Sim (new_network (fresh_board mtu buffers first ranges) fates [])
+new_link (UdpBoard address port wait) = Udp (record { faults = 0; quiets = 0; gots = 0 })
+
+abbrev pub IsOnNetwork : LinkSpec → Type 0
+IsOnNetwork (SimBoard mtu buffers first ranges fates) = ⊥
+IsOnNetwork (UdpBoard address port wait) = Unit {0}
+
+-- a rack of such links: those that were given back, in order, how many it made, and how often it could make none
+pub record RealRackState : Type 0 where
+  pub kept : List AnyLink
+  pub made : ℕ
+  pub faults : ℕ

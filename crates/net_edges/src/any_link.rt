@@ -1,0 +1,44 @@
+//! Links of either kind.
+
+use crate::udp_link::UdpLink;
+use lossy_network::SimLink;
+use world_core::{Link, LinkFault, Received};
+
+/// A link to a board of this process or to one on the network.
+#[derive(Drop)]
+pub enum AnyLink {
+    /// Over a simulated network. It tells what it carries.
+    Sim(SimLink),
+    /// Over UDP. It does not tell what it carries.
+    Udp(UdpLink),
+}
+
+impl Link for AnyLink {
+    ghost use Rattle.net_edges.specs.Links.{telling_of, faults_of, quiets_of, gots_of, held_of};
+
+    ghost telling = { telling_of };
+
+    ghost faults = { faults_of };
+
+    ghost quiets = { quiets_of };
+
+    ghost gots = { gots_of };
+
+    ghost held = { held_of };
+
+    /// Sends a datagram on the link that it is.
+    fn send(&mut self, bytes: &[u8]) -> Result<(), LinkFault> {
+        match self {
+            AnyLink::Sim(link) => Link::send(link, bytes),
+            AnyLink::Udp(link) => Link::send(link, bytes),
+        }
+    }
+
+    /// Receives a datagram on the link that it is.
+    fn receive(&mut self, into: &mut Vec<u8>) -> Result<Received, LinkFault> {
+        match self {
+            AnyLink::Sim(link) => Link::receive(link, into),
+            AnyLink::Udp(link) => Link::receive(link, into),
+        }
+    }
+}

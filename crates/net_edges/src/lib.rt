@@ -1,0 +1,24 @@
+//! The real outside: UDP links to boards, TCP connections and a port that lets them in, standard input and output, and
+//! racks whose links are simulated or go over UDP.
+//!
+//! Each is a thin layer over the calls of std, proved against its trait. What the outside carried is told by none of
+//! them: contracts see counts, which stand still at the end of 64 bits.
+#![tactic(auto)]
+
+mod any_link;
+mod counting;
+mod real_rack;
+mod std_streams;
+mod tcp;
+mod tcp_door;
+mod udp_link;
+
+pub use any_link::AnyLink;
+pub use ipb_base::NoMemory;
+pub use ipb_outside::{Door, Failed, Sink, Source};
+pub use lossy_network::{Link, LinkFault, Rack, RackFault, Received};
+pub use real_rack::RealRack;
+pub use std_streams::{StdinSource, StdoutSink};
+pub use tcp::{TcpSink, TcpSource};
+pub use tcp_door::TcpDoor;
+pub use udp_link::UdpLink;

@@ -1,0 +1,105 @@
+//! A TCP port that lets connections in.
+
+ghost use Rattle.std.specs.Prelude.{◌≡◌, ◌≤◌, None};
+ghost use Rattle.ipb_base.specs.Faults.{one_more};
+
+use crate::counting::incremented;
+use crate::tcp::{TcpSink, TcpSource};
+use ipb_outside::{Door, Failed};
+use std::io::{self, ErrorKind};
+use std::marker::Model;
+use std::net::{Ipv4Addr, Net, TcpListener, TcpStream};
+
+/// A door on a TCP port of every IPv4 address of the machine. It does not tell its connections, and drops those that it
+/// takes back. Contracts see a `DoorState`.
+#[derive(Drop)]
+pub struct TcpDoor<R: Net<Listener = TcpListener, Stream = TcpStream> + Drop> {
+    rt: R,
+    listener: Option<TcpListener>,
+    out: u64,
+    faults: u64,
+}
+
+impl<R: Net<Listener = TcpListener, Stream = TcpStream> + Drop> Model for TcpDoor<R> {
+    ghost use Rattle.net_edges.specs.States.{DoorState};
+
+    ghost Value = { DoorState };
+
+    ghost view = { λ door. record { out = door.out; faults = door.faults } };
+}
+
+impl<R: Net<Listener = TcpListener, Stream = TcpStream> + Drop> TcpDoor<R> {
+    /// A door that does not listen yet.
+    pub fn new(rt: R) -> TcpDoor<R>
+        ensures { result ≡ record { out = 0; faults = 0 } }
+    {
+        TcpDoor {
+            rt,
+            listener: None,
+            out: 0,
+            faults: 0,
+        }
+    }
+
+    // Counts an error.
+    fn count_fault(&mut self) -> Failed
+        ensures counted { self.new ≡ record self.old { faults = one_more self.old.faults } }
+        ensures later { self.old.faults ≤ self.new.faults }
+    {
+        self.faults = incremented(self.faults);
+        Failed
+    }
+}
+
+impl<R: Net<Listener = TcpListener, Stream = TcpStream> + Drop> Door for TcpDoor<R> {
+    type Incoming = TcpSource;
+
+    type Outgoing = TcpSink;
+
+    ghost coming = { λ _. None };
+
+    ghost kept = { λ _. None };
+
+    ghost out = { λ door. door.out };
+
+    ghost faults = { λ door. door.faults };
+
+    /// Listens on the port of the IPv4 address 0.0.0.0. `Failed` where the machine refuses that, as for a port in use.
+    fn listen(&mut self, port: u16) -> Result<(), Failed> {
+        let Ok(listener) = TcpListener::bind(&self.rt, (Ipv4Addr::UNSPECIFIED, port)) else {
+            return Err(self.count_fault());
+        };
+        self.listener = Some(listener);
+        Ok(())
+    }
+
+    /// Waits for the next connection, for as long as that takes. `Failed` at an error, and where the door does not
+    /// listen.
+    fn accept(&mut self) -> Result<(TcpSource, TcpSink), Failed> {
+        let Some(out) = self.out.checked_add(1) else {
+            return Err(self.count_fault());
+        };
+        let Ok((incoming, outgoing)) = next_connection(self.listener.as_ref()) else {
+            return Err(self.count_fault());
+        };
+        self.out = out;
+        Ok((TcpSource::new(incoming), TcpSink::new(outgoing)))
+    }
+
+    /// Drops the two sides, which closes the connection.
+    fn keep(&mut self, incoming: TcpSource, outgoing: TcpSink) {
+        drop(incoming);
+        drop(outgoing);
+        self.out -= 1;
+    }
+}
+
+// The next connection, as a handle of its stream for each of its two sides.
+fn next_connection(listener: Option<&TcpListener>) -> io::Result<(TcpStream, TcpStream)> {
+    let Some(listener) = listener else {
+        return Err(io::Error::from(ErrorKind::NotConnected));
+    };
+    let (stream, _) = listener.accept()?;
+    let other = stream.try_clone()?;
+    Ok((stream, other))
+}
