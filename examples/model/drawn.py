@@ -50,8 +50,8 @@ RARE_LINES = [
 
 
 class Draw:
-    def __init__(self, number):
-        self.random = random.Random(f"session {number}")
+    def __init__(self, name):
+        self.random = random.Random(name)
 
     def word(self):
         return f"0x{self.random.getrandbits(self.random.choice([1, 8, 32])):08x}"
@@ -103,12 +103,13 @@ class Draw:
             f'  {{ base = 0x8000, size = 1, kind = "slow" }},\n]\n'
         )
 
-    def session(self):
+    def session(self, clients):
+        """A session with one of these numbers of clients."""
         boards = [f"b{place}" for place in range(self.random.choice([1, 1, 2, 3]))]
         rounds = self.random.choice([1, 2, 3, 8, 255])
         text = f"rounds = {rounds}\nwindow = {self.random.randint(1, 16)}\n{REGISTERS}"
         text += "".join(self.board(board) for board in boards)
-        for _ in range(self.random.choice([1, 1, 2, 3, 5])):
+        for _ in range(self.random.choice(clients)):
             script = [self.line(boards) for _ in range(self.random.choice([2, 10, 30, 60]))]
             text += "[[client]]\nscript = [\n" + "".join(f'  "{line}",\n' for line in script) + "]\n"
         return text.encode()
@@ -116,4 +117,9 @@ class Draw:
 
 def drawn_session(number):
     """The document that this number draws."""
-    return Draw(number).session()
+    return Draw(f"session {number}").session([1, 1, 2, 3, 5])
+
+
+def drawn_session_of_many(number):
+    """The document with 2 to 16 clients that this number draws."""
+    return Draw(f"clients {number}").session(range(2, 17))

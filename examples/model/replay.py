@@ -299,6 +299,22 @@ def check_board(session, told):
     raise first or Wrong(f"board {told.board.name}: its bodies cannot have its places")
 
 
+def check_same_but_for_order(session, text, wanted):
+    """Raises `Wrong` where a transcript tells something else than another one of boards that clients use alone. Of a
+    board that several clients share, at once, only what a line is about is compared."""
+    lines, wanted_lines = text.splitlines(), wanted.splitlines()
+    check(len(lines) == len(wanted_lines), f"{len(lines)} lines in place of {len(wanted_lines)}")
+    shared = session.shared_boards()
+    for line, other in zip(lines, wanted_lines):
+        words, others = line.split(" ")[:3], other.split(" ")[:3]
+        if others[0] == "board":
+            same = words[:2] == others[:2] if others[1] in shared else line == other
+        else:
+            is_shared = others[2:] and others[2].partition(":")[0] in shared
+            same = words == others if is_shared else line == other
+        check(same, f"{line[:80]!r} in place of {other[:80]!r}")
+
+
 def check_transcript(session, text, status):
     """Raises `Wrong` where the text or the status is not one that the session can have."""
     told = read_lines(session, text)

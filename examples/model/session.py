@@ -191,6 +191,11 @@ class Session:
         self.boards = [Board(table, tables) for table in document.get("board", [])]
         self.clients = [Client(client["script"], self.boards) for client in document.get("client", [])]
 
+    def shared_boards(self):
+        """The names of boards that several clients use: the order of their packets there is that of the threads."""
+        users = [sum(bool(client.bodies[place]) for client in self.clients) for place in range(len(self.boards))]
+        return {board.name for board, count in zip(self.boards, users) if count > 1}
+
 
 class Bus:
     """The words of a board's ranges. A body is answered by one answer for each request that was executed, the words
