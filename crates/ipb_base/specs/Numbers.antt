@@ -1,6 +1,10 @@
 -- Numbers that a user or another implementation sees and that several crates mean. Each stands here once, and a law of
 -- each crate that has such a constant shows that it is this number: `the_version_is_two` and `the_numbers_of_..`.
-use Rattle.std.specs.Prelude.{ℕ, ◌-◌, ◌/◌}
+use Rattle.std.specs.Prelude.{ℕ, ◌-◌, ◌/◌, ◌^◌, min}
+
+-- a count that is kept in 64 bits, where it stands still at its end (profile)
+abbrev pub in_64_bits : ℕ → ℕ
+in_64_bits count = min count (2 ^ 64 - 1)
 
 -- the version in each packet header and transaction header (IPbus 2.0)
 abbrev pub protocol_version : ℕ

@@ -1,5 +1,5 @@
--- Masked fields of a register (uHAL): the bits of a word under a mask, moved down so that the lowest bit of the mask is
--- bit 0. Words and masks have 32 bits, and a mask is not 0.
+-- Masked fields of a register (uHAL): what a word has under a mask, as a number whose bit 0 is at the mask's lowest
+-- bit. Words and masks have 32 bits, and a mask is not 0.
 use Rattle.std.specs.Prelude.{◌≡◌, ℕ, ◌+◌, ◌*◌, ◌/◌, ◌%◌, ◌^◌, ◌≤◌, bit_and}
 use Rattle.std.specs.Int.{w32, bit_not, trailing_zeros}
 

@@ -13,11 +13,11 @@ use Rattle.packet_codec.specs.declared.packet.PacketKind.{PacketKind}
 use Rattle.packet_codec.specs.declared.packet.Packet.{Packet}
 use Rattle.packet_codec.specs.declared.packet.BadPacket.{BadPacket}
 use Rattle.packet_codec.specs.declared.packet.BadPacket.TheVariants as faults
-use Rattle.packet_codec.specs.declared.reading.Start.{Start}
+use Rattle.packet_codec.specs.declared.packet.Head.{Head}
 use Rattle.packet_codec.specs.Header.{kind_code, packet_header}
-use Rattle.packet_codec.specs.Packet.{in_order, word_in_order, packet_words, packet_bytes, IsPacket}
+use Rattle.packet_codec.specs.Packet.{in_order, word_in_order, packet_with, packet_words, packet_bytes, IsPacket}
 use Rattle.packet_codec.specs.Faults.{HasPacketLength, IsTooLong, HasAllowedHeader, HasUnknownKind, IsSpelling}
-use Rattle.packet_codec.specs.Reading.{words_of, start_of, length_rule, ◌>>=◌, packet_of, Gives}
+use Rattle.packet_codec.specs.Reading.{words_of, start_of, length_rule, ◌>>=◌, packet_of, head_read, Gives}
 use Rattle.packet_codec.proofs.WordLemmas.{IsBytes, IsBytes-take, IsBytes-drop, length-word, length-in_order}
 use Rattle.packet_codec.proofs.WordLemmas.{words_again, words_back, words_fit, length-words_of}
 use Rattle.packet_codec.proofs.StartLemmas.{IsStart, start_bytes, start_again, StartVerdict, start_verdict}
@@ -36,8 +36,8 @@ length_long n whole long = grind (arith, nat_tests)
 
 -- ---- a packet by its first word and the bytes after it
 
-abbrev made : Start → List ℕ → Packet
-made start rest = record { order = start.order; id = start.id; kind = start.kind; body = words_of start.order rest }
+abbrev made : Head → List ℕ → Packet
+made start rest = packet_with start (words_of start.order rest)
 
 packet_by : (bytes : List ℕ) → HasPacketLength bytes → packet_of bytes
     ≡ (start_of (take 4 bytes) >>= λ start. Ok (made start (drop 4 bytes)))
@@ -53,6 +53,33 @@ packet_by_length bytes fault e =
     ap (λ (rule : Result (Unit {0}) BadPacket). rule >>= λ _. start_of (take 4 bytes) >>= λ start. Ok
     (made start (drop 4 bytes))) e
 
+-- ---- a head that was read, and the body after it
+
+allowed_length : (n : ℕ) → length_rule n ≡ Ok tt → 4 ≤ n
+allowed_length n e = grind (arith, nat_tests)
+
+-- the length was allowed, and the first word is this head
+head_by : (rule : Result (Unit {0}) BadPacket) (start : Result Head BadPacket) (rest : List ℕ) (head : Head)
+    → head_read (rule >>= λ _. start >>= λ s. Ok (made s rest)) ≡ Ok head → (rule ≡ Ok tt) × (start ≡ Ok head)
+head_by (Err fault) start rest head e = absurd cc
+head_by (Ok tt) (Err fault) rest head e = absurd cc
+head_by (Ok tt) (Ok start) rest head e = (refl, e)
+
+pub head_has_bytes : (bytes : List ℕ) (head : Head) → head_read (packet_of bytes) ≡ Ok head → 4 ≤ length bytes
+unfolding packet_of
+head_has_bytes bytes head e =
+    allowed_length (length bytes) (head_by (length_rule (length bytes)) (start_of (take 4 bytes)) (drop 4 bytes) head
+    e).0
+
+pub head_with_body : (bytes : List ℕ) (head : Head) → head_read (packet_of bytes) ≡ Ok head
+    → packet_of bytes ≡ Ok (made head (drop 4 bytes))
+unfolding packet_of
+head_with_body bytes head e =
+    let by = head_by (length_rule (length bytes)) (start_of (take 4 bytes)) (drop 4 bytes) head e in
+    ap (λ (rule : Result (Unit {0}) BadPacket). rule >>= λ _. start_of (take 4 bytes) >>= λ start. Ok
+    (made start (drop 4 bytes))) by.0
+    ∙ ap (λ (r : Result Head BadPacket). r >>= λ start. Ok (made start (drop 4 bytes))) by.1
+
 -- ---- what is written is read
 
 pub written_whole : (packet : Packet) → IsPacket packet → HasPacketLength (packet_bytes packet)
@@ -64,7 +91,7 @@ written_whole packet is =
 pub packet_again : (packet : Packet) → IsPacket packet → packet_of (packet_bytes packet) ≡ Ok packet
 packet_again packet is =
     let header = packet_header packet.id (kind_code packet.kind) in
-    let start : Start = record { order = packet.order; id = packet.id; kind = packet.kind } in
+    let start : Head = record { order = packet.order; id = packet.id; kind = packet.kind } in
     let front : take 4 (packet_bytes packet) ≡ start_bytes start =
     take_at (word_in_order packet.order header) (in_order packet.order packet.body) 4
     (length-word packet.order header) in
@@ -76,7 +103,7 @@ packet_again packet is =
     let body : words_of packet.order (drop 4 (packet_bytes packet)) ≡ packet.body = ap (words_of packet.order) back
     ∙ words_again packet.order packet.body is.body in
     packet_by (packet_bytes packet) (written_whole packet is)
-    ∙ ap (λ (r : Result Start BadPacket). r >>= λ s. Ok (made s (drop 4 (packet_bytes packet)))) read
+    ∙ ap (λ (r : Result Head BadPacket). r >>= λ s. Ok (made s (drop 4 (packet_bytes packet)))) read
     ∙ ap (λ (words : List ℕ). Ok (record packet { body = words })) body
 
 -- ---- the first byte
@@ -137,7 +164,7 @@ begins_with : (order : Order) (word : ℕ) (bytes : List ℕ) → take 4 bytes �
     ≡ word_in_order order word ++ drop 4 bytes
 begins_with order word bytes e = sym (take-append-drop 4 bytes) ∙ ap (λ (b : List ℕ). b ++ drop 4 bytes) e
 
-verdict_ok : (bytes : List ℕ) (start : Start) → HasPacketLength bytes → IsBytes bytes → IsStart start → take 4 bytes
+verdict_ok : (bytes : List ℕ) (start : Head) → HasPacketLength bytes → IsBytes bytes → IsStart start → take 4 bytes
     ≡ start_bytes start
     → IsPacket (made start (drop 4 bytes)) × (bytes ≡ packet_bytes (made start (drop 4 bytes)))
 verdict_ok bytes start whole fits is front =
@@ -157,7 +184,7 @@ verdict_ok bytes start whole fits is front =
           (sym (words_back start.order (drop 4 bytes) (omega arith) rest_fits)),
     )
 
-verdict_by : (bytes : List ℕ) (read : Result Start BadPacket) → HasPacketLength bytes → IsBytes bytes
+verdict_by : (bytes : List ℕ) (read : Result Head BadPacket) → HasPacketLength bytes → IsBytes bytes
     → StartVerdict read (take 4 bytes)
     → Verdict (read >>= λ start. Ok (made start (drop 4 bytes))) bytes
 verdict_by bytes (Ok start) whole fits verdict = verdict_ok bytes start whole fits verdict.0 verdict.1
@@ -250,7 +277,7 @@ long_refused bytes is = packet_by_length bytes faults.Long (length_long (length 
 
 start_refused : (bytes : List ℕ) (fault : BadPacket) → HasPacketLength bytes → start_of (take 4 bytes) ≡ Err fault
     → packet_of bytes ≡ Err fault
-start_refused bytes fault whole e = packet_by bytes whole ∙ ap (λ (r : Result Start BadPacket). r >>= λ start. Ok
+start_refused bytes fault whole e = packet_by bytes whole ∙ ap (λ (r : Result Head BadPacket). r >>= λ start. Ok
     (made start (drop 4 bytes))) e
 
 kind_refused : (bytes : List ℕ) → HasPacketLength bytes → HasUnknownKind bytes → packet_of bytes ≡ Err faults.Kind

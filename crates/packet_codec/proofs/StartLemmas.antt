@@ -1,7 +1,7 @@
 -- The first word of a packet, written and read.
 use Rattle.std.specs.Prelude.{◌==◌, if◌then◌else◌}
 use Rattle.std.proofs.Common.{◌≡◌, ℕ, zero, suc, ◌/◌, ◌%◌, ◌<◌, ◌^◌, Bool, true, false, List, length, Option, Some}
-use Rattle.std.proofs.Common.{None, Result, Ok, Err, refl, sym, ap, subst, ◌∙◌, arith, lit<}
+use Rattle.std.proofs.Common.{◌≢◌, None, Result, Ok, Err, refl, sym, ap, subst, ◌∙◌, arith, lit<}
 use Rattle.std.proofs.lemmas.Bool.{eqb-true}
 use Rattle.packet_codec.specs.declared.header.Header.{Header}
 use Rattle.packet_codec.specs.declared.packet.Order.{Order}
@@ -10,7 +10,7 @@ use Rattle.packet_codec.specs.declared.packet.PacketKind.{PacketKind}
 use Rattle.packet_codec.specs.declared.packet.PacketKind.TheVariants.{Control, Status, Resend}
 use Rattle.packet_codec.specs.declared.packet.BadPacket.{BadPacket}
 use Rattle.packet_codec.specs.declared.packet.BadPacket.TheVariants as faults
-use Rattle.packet_codec.specs.declared.reading.Start.{Start}
+use Rattle.packet_codec.specs.declared.packet.Head.{Head}
 use Rattle.packet_codec.specs.Header.{kind_code, packet_header}
 use Rattle.packet_codec.specs.Reading.{header_of}
 use Rattle.packet_codec.specs.Packet.{word_in_order}
@@ -45,11 +45,11 @@ kind_unknown (suc (suc (suc code))) above = refl
 -- ---- the first word
 
 -- What has a spelling as a first word.
-pub record IsStart (start : Start) : Type 0 where
+pub record IsStart (start : Head) : Type 0 where
   pub id : start.id < 2 ^ 16
   pub order : start.order ≡ Little → start.kind ≡ Control
 
-abbrev pub start_bytes : Start → List ℕ
+abbrev pub start_bytes : Head → List ℕ
 start_bytes start = word_in_order start.order (packet_header start.id (kind_code start.kind))
 
 pub header_fits : (id kind : ℕ) → id < 2 ^ 16 → kind < 2 ^ 4 → packet_header id kind < 2 ^ 32
@@ -114,7 +114,7 @@ again_by Little id kind id_fits allowed =
     subst P (sym (allowed refl)) (again_little id id_fits)
 
 -- a first word that was written is read
-pub start_again : (start : Start) → IsStart start → start_of (start_bytes start) ≡ Ok start
+pub start_again : (start : Head) → IsStart start → start_of (start_bytes start) ≡ Ok start
 start_again start is = again_by start.order start.id start.kind is.id is.order
 
 -- ---- what reading the first word says of it
@@ -134,7 +134,7 @@ pub record IsNoHeader (first : List ℕ) : Type 0 where
   pub little : (id : ℕ) → id < 2 ^ 16 → first ≡ word_in_order Little (packet_header id 0) → ⊥
 
 -- what is so where the first word is read as this
-abbrev pub StartVerdict : Result Start BadPacket → List ℕ → Type 0
+abbrev pub StartVerdict : Result Head BadPacket → List ℕ → Type 0
 StartVerdict (Ok start) first = IsStart start × (first ≡ start_bytes start)
 StartVerdict (Err faults.Kind) first = IsUnknown first
 StartVerdict (Err faults.Header) first = IsNoHeader first
@@ -233,3 +233,26 @@ unknown_start first id kind id_fits kind_fits above spelled =
     ap (λ (header : Option Header). start_by header (header_of (word_from Little first)))
     (begun_header Big first id kind id_fits kind_fits spelled)
     ∙ ap (λ (known : Option PacketKind). big_start id known) (kind_unknown kind above)
+
+-- ---- reading the first word takes no memory
+
+abbrev of_head : Bool → Head → Result Head BadPacket
+of_head control head = if control then Ok head else Err faults.Header
+
+of_head_known : (control : Bool) (head : Head) → of_head control head ≢ Err faults.NoMemory
+of_head_known true head e = cc
+of_head_known false head e = cc
+
+big_known : (id : ℕ) (known : Option PacketKind) → big_start id known ≢ Err faults.NoMemory
+big_known id None e = cc
+big_known id (Some kind) e = cc
+
+start_known : (big little : Option Header) → start_by big little ≢ Err faults.NoMemory
+start_known (Some header) little e = big_known header.id (known_kind header.kind) e
+start_known None None e = cc
+start_known None (Some header) e =
+    of_head_known (header.kind == 0) (record { order = Little; id = header.id; kind = Control }) e
+
+pub start_without_memory : (first : List ℕ) → start_of first ≢ Err faults.NoMemory
+unfolding start_of
+start_without_memory first e = start_known (header_of (word_from Big first)) (header_of (word_from Little first)) e

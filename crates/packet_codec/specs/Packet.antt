@@ -8,6 +8,7 @@ use Rattle.packet_codec.specs.declared.packet.TheConstants.{MAX_BODY_WORDS}
 use Rattle.packet_codec.specs.declared.packet.Order.{Order}
 use Rattle.packet_codec.specs.declared.packet.Order.TheVariants.{Big, Little}
 use Rattle.packet_codec.specs.declared.packet.PacketKind.TheVariants.{Control}
+use Rattle.packet_codec.specs.declared.packet.Head.{Head}
 use Rattle.packet_codec.specs.declared.packet.Packet.{Packet}
 use Rattle.packet_codec.specs.Header.{kind_code, packet_header}
 
@@ -17,6 +18,14 @@ IsByte n = n < 2 ^ 8
 
 abbrev pub AreBytes : List ℕ → Type 0
 AreBytes bytes = AllByRecursion IsByte bytes
+
+-- what stands before the body
+abbrev pub head_of : Packet → Head
+head_of packet = record { order = packet.order; id = packet.id; kind = packet.kind }
+
+-- the packet with this head and this body
+abbrev pub packet_with : Head → List ℕ → Packet
+packet_with head body = record { order = head.order; id = head.id; kind = head.kind; body = body }
 
 -- the four bytes of a word in a byte order
 abbrev pub word_in_order : Order → ℕ → List ℕ

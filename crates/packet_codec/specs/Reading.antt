@@ -12,12 +12,13 @@ use Rattle.packet_codec.specs.declared.packet.Order.TheVariants.{Big, Little}
 use Rattle.packet_codec.specs.declared.packet.PacketKind.{PacketKind}
 use Rattle.packet_codec.specs.declared.packet.PacketKind.TheVariants.{Control, Status, Resend}
 use Rattle.packet_codec.specs.declared.packet.Packet.{Packet}
-use Rattle.packet_codec.specs.declared.reading.Start.{Start}
+use Rattle.packet_codec.specs.declared.packet.Head.{Head}
 use Rattle.packet_codec.specs.declared.packet.BadPacket.{BadPacket}
 use Rattle.packet_codec.specs.declared.packet.BadPacket.TheVariants as faults
 use Rattle.ipb_base.specs.declared.version.TheConstants.{VERSION}
 use Rattle.packet_codec.specs.declared.header.TheConstants.{BYTE_ORDER_QUALIFIER}
 use Rattle.packet_codec.specs.Header.{kind_code}
+use Rattle.packet_codec.specs.Packet.{head_of}
 
 -- the fields of a word that is a packet header
 abbrev pub header_of : ℕ → Option Header
@@ -38,26 +39,26 @@ known_kind (suc zero) = Some Status
 known_kind (suc (suc zero)) = Some Resend
 known_kind (suc (suc (suc code))) = None
 
--- the start of a packet with a big-endian header: its type is looked up
-abbrev pub big_start : ℕ → Option PacketKind → Result Start BadPacket
+-- the head of a packet with a big-endian header: its type is looked up
+abbrev pub big_start : ℕ → Option PacketKind → Result Head BadPacket
 big_start id None = Err faults.Kind
 big_start id (Some kind) = Ok (record { order = Big; id = id; kind = kind })
 
--- the start of a packet with a little-endian header: it is a control packet's, or none
-abbrev pub little_start : Option Header → Result Start BadPacket
+-- the head of a packet with a little-endian header: it is a control packet's, or none
+abbrev pub little_start : Option Header → Result Head BadPacket
 little_start None = Err faults.Header
 little_start (Some header) =
     if header.kind == kind_code Control
     then Ok (record { order = Little; id = header.id; kind = Control })
     else Err faults.Header
 
--- the start by the first word read in either order: no word is a header in both
-abbrev pub start_by : Option Header → Option Header → Result Start BadPacket
+-- the head by the first word read in either order: no word is a header in both
+abbrev pub start_by : Option Header → Option Header → Result Head BadPacket
 start_by (Some big) little = big_start big.id (known_kind big.kind)
 start_by None little = little_start little
 
--- the first word, in the order in which it is a header
-unfoldable pub start_of : List ℕ → Result Start BadPacket
+-- the head that the first word is, in the order in which it is a header
+unfoldable pub start_of : List ℕ → Result Head BadPacket
 start_of first = start_by (header_of (word_from Big first)) (header_of (word_from Little first))
 
 -- the words that bytes are, four bytes each
@@ -82,6 +83,11 @@ packet_of bytes = do
   _ ← length_rule (length bytes)
   start ← start_of (take 4 bytes)
   Ok (record { order = start.order; id = start.id; kind = start.kind; body = words_of start.order (drop 4 bytes) })
+
+-- the head of the packet that was read, or why none was
+abbrev pub head_read : Result Packet BadPacket → Result Head BadPacket
+head_read (Ok packet) = Ok (head_of packet)
+head_read (Err fault) = Err fault
 
 -- What was answered is what reading gives, but want of memory may stand for a packet.
 abbrev pub Gives : Result Packet BadPacket → Result Packet BadPacket → Type 0

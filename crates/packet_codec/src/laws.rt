@@ -1,17 +1,19 @@
 //! Laws of the definitions. These functions do nothing when they run: their clauses are what is proved.
 
-ghost use Rattle.std.specs.Prelude.{◌≡◌, ℕ, ◌+◌, ◌/◌, ◌%◌, ◌<◌, ◌^◌, List, [], ◌∷◌, length, slice_index, Some, Ok};
+ghost use Rattle.std.specs.Prelude.{◌≡◌, ℕ, ◌+◌, ◌/◌, ◌%◌, ◌<◌, ◌^◌, List, [], ◌∷◌, length, slice_index, Some};
+ghost use Rattle.std.specs.Prelude.{Ok, Err};
 ghost use Rattle.ipb_base.specs.Numbers.{greatest_payload};
 ghost use Rattle.ipb_base.specs.Word.{AreWords, big_endian};
 ghost use Rattle.packet_codec.specs.Packet.{AreBytes, IsPacket, in_order, packet_bytes};
 ghost use Rattle.packet_codec.specs.Faults.{HasAllowedHeader, HasUnknownKind};
 ghost use Rattle.packet_codec.specs.Header.{packet_header};
-ghost use Rattle.packet_codec.specs.Reading.{header_of, packet_of, words_of};
+ghost use Rattle.packet_codec.specs.Reading.{header_of, packet_of, words_of, head_read};
 ghost use Rattle.packet_codec.specs.declared.header.Header.{Header};
 ghost use Rattle.packet_codec.specs.declared.packet.Packet.{Packet};
 ghost use Rattle.packet_codec.specs.declared.packet.Order.{Order};
 ghost use Rattle.packet_codec.specs.declared.packet.Order.TheVariants.{Big, Little};
 ghost use Rattle.packet_codec.specs.declared.packet.PacketKind.TheVariants.{Control};
+ghost use Rattle.packet_codec.specs.declared.packet.BadPacket.TheVariants.{Ragged};
 
 use crate::header::BYTE_ORDER_QUALIFIER;
 use crate::packet::{MAX_BODY_WORDS, MAX_PACKET_WORDS};
@@ -29,6 +31,17 @@ pub fn a_control_packet_in_both_orders()
         ≡ 0x20 ∷ 0 ∷ 1 ∷ 0xf0 ∷ 0x20 ∷ 0 ∷ 1 ∷ 0x0f ∷ 0 ∷ 0 ∷ 0 ∷ 4 ∷ [] }
     ensures little { packet_bytes (record { order = Little; id = 1; kind = Control; body = 0x2000010f ∷ 4 ∷ [] })
         ≡ 0xf0 ∷ 1 ∷ 0 ∷ 0x20 ∷ 0x0f ∷ 1 ∷ 0 ∷ 0x20 ∷ 4 ∷ 0 ∷ 0 ∷ 0 ∷ [] }
+{}
+
+/// The head of that packet is read before its body, in both byte orders; and where half a word stands after it, the
+/// bytes spell no packet, and have no head.
+#[tactic(auto, unfolding(crate::specs::Reading::packet_of, crate::specs::Reading::start_of))]
+pub fn a_head_before_a_body()
+    ensures big { head_read (packet_of (0x20 ∷ 0 ∷ 1 ∷ 0xf0 ∷ 0x20 ∷ 0 ∷ 1 ∷ 0x0f ∷ 0 ∷ 0 ∷ 0 ∷ 4 ∷ []))
+        ≡ Ok (record { order = Big; id = 1; kind = Control }) }
+    ensures little { head_read (packet_of (0xf0 ∷ 1 ∷ 0 ∷ 0x20 ∷ 0x0f ∷ 1 ∷ 0 ∷ 0x20 ∷ 4 ∷ 0 ∷ 0 ∷ 0 ∷ []))
+        ≡ Ok (record { order = Little; id = 1; kind = Control }) }
+    ensures ragged { head_read (packet_of (0x20 ∷ 0 ∷ 1 ∷ 0xf0 ∷ 0x20 ∷ 0 ∷ [])) ≡ Err Ragged }
 {}
 
 /// The big-endian order is that of `big_endian`.

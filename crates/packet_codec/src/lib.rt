@@ -9,6 +9,6 @@ mod writing;
 
 pub use header::{Header, header_word, read_header};
 pub use ipb_base::{NoMemory, Words};
-pub use packet::{BadPacket, MAX_BODY_WORDS, MAX_PACKET_WORDS, Order, Packet, PacketKind};
-pub use reading::read_packet;
-pub use writing::write_packet;
+pub use packet::{BadPacket, Head, MAX_BODY_WORDS, MAX_PACKET_WORDS, Order, Packet, PacketKind};
+pub use reading::{read_head, read_packet};
+pub use writing::{append_packet, put_packet, write_packet};

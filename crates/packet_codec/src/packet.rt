@@ -86,6 +86,17 @@ impl PacketKind {
     }
 }
 
+/// What stands before the body of a packet: what its first word tells (IPbus 2.0, packet header).
+#[derive(Clone, Copy, Debug, PartialEq, Eq)]
+pub struct Head {
+    /// The byte order of every word. Only control packets may be little-endian (profile).
+    pub order: Order,
+    /// The packet identifier, 0 to 0xffff.
+    pub id: u16,
+    /// The type: what the words after the header are.
+    pub kind: PacketKind,
+}
+
 /// A packet: its header and the words after it (IPbus 2.0, packet header).
 #[derive(Debug, Drop, PartialEq, Eq)]
 pub struct Packet {
@@ -97,6 +108,21 @@ pub struct Packet {
     pub kind: PacketKind,
     /// The words after the header, at most `MAX_BODY_WORDS`.
     pub body: Words,
+}
+
+impl Packet {
+    ghost use Rattle.packet_codec.specs.Packet.{head_of};
+
+    /// What stands before the body.
+    pub fn head(&self) -> Head
+        ensures { result ≡ head_of self.now }
+    {
+        Head {
+            order: self.order,
+            id: self.id,
+            kind: self.kind,
+        }
+    }
 }
 
 /// Why no packet was read (profile): the first of these rules, in this order, that the bytes break, or want of memory.

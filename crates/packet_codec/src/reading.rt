@@ -3,21 +3,13 @@
 ghost use Rattle.std.specs.Prelude.{◌≡◌, ◌≢◌, ◌↔◌, ◌%◌, [], length, Ok, Err, IfOk, MatchResult};
 ghost use Rattle.packet_codec.specs.Packet.{IsPacket, packet_bytes};
 ghost use Rattle.packet_codec.specs.Faults.{HasPacketLength, IsTooLong, HasAllowedHeader, HasUnknownKind, IsSpelling};
-ghost use Rattle.packet_codec.specs.Reading.{length_rule, start_of, words_of, packet_of, Gives};
+ghost use Rattle.packet_codec.specs.Reading.{length_rule, start_of, words_of, packet_of, head_read, Gives};
 ghost use Rattle.packet_codec.specs.declared.packet.Packet.{Packet as PacketValue};
 
 use crate::header::fields_of;
-use crate::packet::{BadPacket, MAX_PACKET_WORDS, Order, Packet, PacketKind};
+use crate::packet::{BadPacket, Head, MAX_PACKET_WORDS, Order, Packet, PacketKind};
 use ipb_base::{NoMemory, Words};
 use std::alloc::Global;
-
-/// What the first word of a packet tells.
-#[derive(Clone, Copy)]
-pub(crate) struct Start {
-    order: Order,
-    id: u16,
-    kind: PacketKind,
-}
 
 /// Reads a packet (IPbus 2.0, packet header). Control packets are read in both byte orders, and the others only
 /// big-endian (profile). The rules are tried in the order of `BadPacket`, and the first that is broken is answered.
@@ -39,19 +31,30 @@ pub fn read_packet(alloc: Global, bytes: &[u8]) -> Result<Packet, BadPacket>
     read_by_offsets(alloc, bytes)
 }
 
-/// Reads by offsets: the first word tells the order in which the words after it are read.
+/// Reads what stands before the body of a packet, without memory: all rules are tried that `read_packet` tries, and the
+/// body is left unread (IPbus 2.0, packet header). The answer is the head of the packet that the bytes spell, or the
+/// first rule that they break.
 #[tactic(auto, unfolding(crate::specs::Reading::packet_of))]
+pub fn read_head(bytes: &[u8]) -> Result<Head, BadPacket>
+    ensures head { result ≡ head_read (packet_of bytes.now) }
+    ensures memory { result ≢ Err BadPacket.NoMemory }
+{
+    check_length(bytes.len())?;
+    let (first, _) = bytes.split_first_chunk::<4>().unwrap();
+    read_start(*first)
+}
+
+/// Reads by offsets: the head tells the order in which the words after it are read.
 fn read_by_offsets(alloc: Global, bytes: &[u8]) -> Result<Packet, BadPacket>
     ensures { Gives result (packet_of bytes.now) }
 {
-    check_length(bytes.len())?;
-    let (first, rest) = bytes.split_first_chunk::<4>().unwrap();
-    let start = read_start(*first)?;
+    let head = read_head(bytes)?;
+    let (_, rest) = bytes.split_at(4);
     Ok(Packet {
-        order: start.order,
-        id: start.id,
-        kind: start.kind,
-        body: read_words(alloc, start.order, rest)?,
+        order: head.order,
+        id: head.id,
+        kind: head.kind,
+        body: read_words(alloc, head.order, rest)?,
     })
 }
 
@@ -72,12 +75,12 @@ fn check_length(length: usize) -> Result<(), BadPacket>
 
 /// The rules on the first word.
 #[tactic(auto, unfolding(crate::specs::Reading::start_of))]
-fn read_start(first: [u8; 4]) -> Result<Start, BadPacket>
+fn read_start(first: [u8; 4]) -> Result<Head, BadPacket>
     ensures { result ≡ start_of first }
 {
     if let Some(header) = fields_of(Order::Big.word(first)) {
         return match PacketKind::from_code(header.kind) {
-            Some(kind) => Ok(Start {
+            Some(kind) => Ok(Head {
                 order: Order::Big,
                 id: header.id,
                 kind,
@@ -86,7 +89,7 @@ fn read_start(first: [u8; 4]) -> Result<Start, BadPacket>
         };
     }
     match fields_of(Order::Little.word(first)) {
-        Some(header) if header.kind == PacketKind::Control.code() => Ok(Start {
+        Some(header) if header.kind == PacketKind::Control.code() => Ok(Head {
             order: Order::Little,
             id: header.id,
             kind: PacketKind::Control,

@@ -1,10 +1,11 @@
 //! Writing a packet.
 
-ghost use Rattle.std.specs.Prelude.{◌≡◌, ◌≤◌, ◌∷◌, ◌++◌, length, IfOk, OnOk};
-ghost use Rattle.packet_codec.specs.Packet.{IsPacket, packet_bytes, in_order, word_in_order};
+ghost use Rattle.std.specs.Prelude.{◌≡◌, ◌≤◌, ◌+◌, ◌*◌, ◌∷◌, ◌++◌, length, IfOk, OnOk, OnErr};
+ghost use Rattle.std.specs.Vec.{vec_len, vec_capacity};
+ghost use Rattle.packet_codec.specs.Packet.{IsPacket, packet_bytes, packet_with, in_order, word_in_order};
 
 use crate::header::header_word;
-use crate::packet::{MAX_BODY_WORDS, Order, Packet, PacketKind};
+use crate::packet::{Head, MAX_BODY_WORDS, Order, Packet, PacketKind};
 use ipb_base::NoMemory;
 use std::alloc::Global;
 
@@ -18,28 +19,52 @@ pub fn write_packet(alloc: Global, packet: &Packet) -> Result<Vec<u8>, NoMemory>
     // So what is written is read again.
     ensures packet { IsPacket packet.now }
 {
-    let header = header_word(packet.id, packet.kind);
-    let body = packet.body.as_slice();
-    write_words(alloc, packet.order, header, body)
-}
-
-/// The bytes of the header and the words after it, in room that is taken once.
-fn write_words(alloc: Global, order: Order, header: u32, body: &[u32]) -> Result<Vec<u8>, NoMemory>
-    requires { length body.now ≤ MAX_BODY_WORDS }
-    ensures { IfOk result (λ bytes. bytes.items ≡ in_order order (header ∷ body.now)) }
-{
-    let mut bytes = Vec::with_capacity(alloc, 4 + 4 * body.len())?;
-    push_word(&mut bytes, order, header)?;
-    for word in body {
-        push_word(&mut bytes, order, *word)?;
-    }
+    let mut bytes = Vec::new(alloc);
+    append_packet(&mut bytes, packet.head(), packet.body.as_slice())?;
     Ok(bytes)
 }
 
-/// Writes the four bytes of a word at the end.
-fn push_word(bytes: &mut Vec<u8>, order: Order, word: u32) -> Result<(), NoMemory>
-    ensures { OnOk result (bytes.new.items ≡ bytes.old.items ++ word_in_order order word) }
+/// Appends the bytes of the packet with this head and this body (IPbus 2.0, packet header), as `write_packet` writes
+/// them. Room is taken first: where memory for it ran out, nothing changed.
+pub fn append_packet(out: &mut Vec<u8>, head: Head, body: &[u32]) -> Result<(), NoMemory>
+    requires length { length body.now ≤ MAX_BODY_WORDS }
+    requires order { head.order ≡ Order.Little → head.kind ≡ PacketKind.Control }
+    ensures spelling { OnOk result (out.new.items ≡ out.old.items ++ packet_bytes (packet_with head body.now)) }
+    ensures unchanged { OnErr result (out.new.items ≡ out.old.items) }
+    // So what is written is read again.
+    ensures packet { IsPacket (packet_with head body.now) }
 {
-    bytes.extend_from_slice(&order.bytes(word))?;
+    out.reserve(4 + 4 * body.len())?;
+    put_packet(out, head, body);
     Ok(())
+}
+
+/// Appends the bytes of the packet with this head and this body (IPbus 2.0, packet header), in room that was taken
+/// before: 4 bytes for the header and for each word.
+pub fn put_packet(out: &mut Vec<u8>, head: Head, body: &[u32])
+    requires room { vec_len out.old + (4 + 4 * length body.now) ≤ vec_capacity out.old }
+    ensures { out.new.items ≡ out.old.items ++ packet_bytes (packet_with head body.now) }
+{
+    put_words(out, head.order, header_word(head.id, head.kind), body);
+}
+
+/// Appends the bytes of a header and of the words after it.
+fn put_words(out: &mut Vec<u8>, order: Order, header: u32, body: &[u32])
+    requires { vec_len out.old + (4 + 4 * length body.now) ≤ vec_capacity out.old }
+    ensures { out.new.items ≡ out.old.items ++ in_order order (header ∷ body.now) }
+{
+    put_word(out, order, header);
+    for word in body {
+        put_word(out, order, *word);
+    }
+}
+
+/// Appends the four bytes of a word.
+fn put_word(out: &mut Vec<u8>, order: Order, word: u32)
+    requires { vec_len out.old + 4 ≤ vec_capacity out.old }
+    ensures items { out.new.items ≡ out.old.items ++ word_in_order order word }
+    ensures len { vec_len out.new ≡ vec_len out.old + 4 }
+    ensures capacity { vec_capacity out.old ≤ vec_capacity out.new }
+{
+    out.extend_from_slice(&order.bytes(word)).unwrap();
 }

@@ -1,5 +1,5 @@
--- Which words answer a body: of any device that answers each access by a word or a code. It need not remember. IPbus
--- 2.0, transactions; what a failed transaction and a bad header answer is the profile's.
+-- Which words answer a body. The device is any that gives a word or a code for each access, whether it remembers what
+-- was written or not. IPbus 2.0, transactions; what a failed transaction and a bad header answer is the profile's.
 use Rattle.std.specs.Prelude.{◌≡◌, ◌⊎◌, ℕ, zero, suc, ◌+◌, ◌≤◌, ◌<◌, List, [], ◌∷◌, ◌++◌, length, Result, Ok, Err}
 use Rattle.transaction_codec.specs.declared.request.Op.{Op}
 use Rattle.transaction_codec.specs.declared.request.Op.TheVariants.{Read, ReadPort, Write, WritePort, RmwBits, RmwSum}
