@@ -12,3 +12,8 @@ pub mod Untouched
 pub mod Writes
 pub mod ReadBack
 pub mod InOrder
+pub mod PageLookups
+pub mod PageEdits
+pub mod Copies
+pub mod PutAll
+pub mod PageCells

@@ -64,7 +64,7 @@ front_apart (r ∷ rs) range back address apart low high =
     (outside, front_apart rs range back address parts.1 low high)
 
 -- A range has as many words as it has addresses, unless it starts with too many.
-words-length : (range : Range) → length range.init ≤ range.size → length (opening_words range) ≡ range.size
+pub words-length : (range : Range) → length range.init ≤ range.size → length (opening_words range) ≡ range.size
 words-length range fits =
     omega (
       arith,

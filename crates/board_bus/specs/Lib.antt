@@ -1,7 +1,8 @@
 pub mod Fault
 pub mod Cells
 pub mod Ranges
-pub mod Blocks
+pub mod Pages
+pub mod Kept
 pub mod Spans
 pub mod Transactions
 pub mod Bodies

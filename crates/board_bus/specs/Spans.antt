@@ -9,6 +9,10 @@ use Rattle.board_bus.specs.Ranges.{end_of}
 abbrev pub span_of : Range → Span
 span_of range = record { base = range.base; «end» = end_of range }
 
+-- the first address of a span
+abbrev pub base_of : Span → ℕ
+base_of span = span.base
+
 -- some span ends past the beginning of the next one
 abbrev pub SomeMeetsNext : List Span → Type 0
 SomeMeetsNext spans =

@@ -1,46 +1,39 @@
-ghost use Rattle.std.specs.Prelude.{◌≡◌, ◌≢◌, ◌≤◌, ℕ, All, List, length, IfOk, OnOk, OnErr, IfErr, None};
-ghost use Rattle.std.specs.Prelude.{Some};
-ghost use Rattle.std.specs.List.{AllByRecursion, AllZip, flat_map, position};
+ghost use Rattle.std.specs.Prelude.{◌≡◌, ◌≢◌, ℕ, List, IfOk, OnOk, OnErr, IfErr, None, Some};
+ghost use Rattle.std.specs.List.{AllByRecursion, AllZip};
 ghost use Rattle.ipb_base.specs.Word.{AreWords};
 ghost use Rattle.transaction_codec.specs.Answer.{CanAnswer};
 ghost use Rattle.board_bus.specs.declared.range.BusRefusal.TheVariants.{NoMemory as no_memory};
-ghost use Rattle.board_bus.specs.Cells.{HoldsWords, read_fault, read_word, write_fault, write_word};
+ghost use Rattle.board_bus.specs.Cells.{HoldsWords, read_word, write_word};
 ghost use Rattle.board_bus.specs.Bodies.{replay, run_body};
-ghost use Rattle.board_bus.specs.Ranges.{opening_bus, opening_words, range_cells, refusal_of};
-ghost use Rattle.board_bus.specs.Blocks.{block_cells, holds};
+ghost use Rattle.board_bus.specs.Ranges.{opening_bus, refusal_of};
 
-use crate::range::start_with_words;
+use crate::opening::pages_of;
+use crate::page::{Page, copies_of, find_cell};
+use crate::range::{spans_of_bus, start_with_words};
 use crate::reading::requests_are_read;
-use crate::{BusFault, BusRefusal, Range, RangeKind, check_ranges};
+use crate::{BusFault, BusRefusal, Range};
 use ipb_base::NoMemory;
 use std::alloc::Global;
 use std::marker::Model;
 
-/// The words of one range.
-#[derive(Drop)]
-struct Block {
-    base: u32,
-    kind: RangeKind,
-    words: Vec<u32>,
-}
-
-/// The words behind the addresses of a board. Contracts see it as a finite map from addresses to cells, each with a
-/// kind and a word; an address that is in no range is absent.
+/// The words behind the addresses of a board, on pages of 256 addresses by rising address. Contracts see a finite map:
+/// a cell, of a kind and a word, for each address of a range, and none elsewhere.
 #[derive(Drop)]
 pub struct Bus {
-    blocks: Vec<Block>,
+    pages: Vec<Page>,
 }
 
 impl Model for Bus {
-    ghost use Rattle.board_bus.specs.Cells.{CellMap, HoldsWords};
+    ghost use Rattle.board_bus.specs.Cells.{CellMap};
 
     ghost Value = { CellMap };
 
-    ghost use Rattle.board_bus.specs.Blocks.{cells_of};
+    ghost use Rattle.board_bus.specs.Pages.{cells_of};
+    ghost use Rattle.board_bus.specs.Kept.{IsKept};
 
-    ghost view = { λ bus. cells_of bus.blocks.items };
+    ghost view = { λ bus. cells_of bus.pages.items };
 
-    ghost invariant = { λ bus. HoldsWords (cells_of bus.blocks.items) };
+    ghost invariant = { λ bus. IsKept bus.pages.items };
 }
 
 impl Bus {
@@ -50,10 +43,10 @@ impl Bus {
         ensures opens { IfOk result (λ bus. bus ≡ opening_bus ranges.now) }
         ensures refused { IfErr result (λ refusal. refusal ≢ no_memory → refusal_of ranges.now ≡ Some refusal) }
     {
-        check_ranges(alloc, ranges)?;
+        let spans = spans_of_bus(alloc, ranges)?;
         start_with_words(ranges);
         Ok(Bus {
-            blocks: blocks_of(alloc, ranges)?,
+            pages: pages_of(alloc, ranges, &spans)?,
         })
     }
 
@@ -62,7 +55,7 @@ impl Bus {
         ensures { IfOk result (λ copied. copied ≡ self.now) }
     {
         Ok(Bus {
-            blocks: copies_of(alloc, &self.blocks)?,
+            pages: copies_of(alloc, &self.pages)?,
         })
     }
 
@@ -70,31 +63,52 @@ impl Bus {
     pub fn read(&self, address: u32) -> Result<u32, BusFault>
         ensures { result ≡ read_word self.now address }
     {
-        let Some(place) = find_block(&self.blocks, address) else {
-            return Err(BusFault::ReadError);
-        };
-        let block = &self.blocks[place];
-        if let Some(fault) = block.kind.read_fault() {
-            return Err(fault);
-        }
-        Ok(block.words[(address - block.base) as usize])
+        self.read_near(&mut 0, address)
     }
 
-    /// Writes the word at an address. Code 5 where it is absent or read-only, 7 where it is slow. A refused write
-    /// changes nothing.
+    /// Writes the word at an address. Code 5 where it is absent or read-only, 7 where it is slow: the bus is then as it
+    /// was.
     pub fn write(&mut self, address: u32, word: u32) -> Result<(), BusFault>
         ensures written { OnOk result (write_word self.old address word ≡ Ok self.new) }
         ensures refused { IfErr result (λ fault. write_word self.old address word ≡ Err fault) }
         ensures unchanged { OnErr result (self.new ≡ self.old) }
     {
-        let Some(place) = find_block(&self.blocks, address) else {
-            return Err(BusFault::WriteError);
+        self.write_near(&mut 0, address, word)
+    }
+}
+
+impl Bus {
+    /// Reads a word. The page `last` is looked at first, and is then the one of the word.
+    pub(crate) fn read_near(&self, last: &mut usize, address: u32) -> Result<u32, BusFault>
+        ensures { result ≡ read_word self.now address }
+    {
+        let Some(found) = find_cell(&self.pages, last, u64::from(address)) else {
+            return Err(BusFault::ReadError);
         };
-        let block = &mut self.blocks[place];
-        if let Some(fault) = block.kind.write_fault() {
+        if let Some(fault) = found.kind.read_fault() {
             return Err(fault);
         }
-        block.words[(address - block.base) as usize] = word;
+        Ok(self.pages[found.page].words[found.place])
+    }
+
+    /// Writes a word. The page `last` is looked at first, and is then the one of the word.
+    pub(crate) fn write_near(
+        &mut self,
+        last: &mut usize,
+        address: u32,
+        word: u32,
+    ) -> Result<(), BusFault>
+        ensures written { OnOk result (write_word self.old address word ≡ Ok self.new) }
+        ensures refused { IfErr result (λ fault. write_word self.old address word ≡ Err fault) }
+        ensures unchanged { OnErr result (self.new ≡ self.old) }
+    {
+        let Some(found) = find_cell(&self.pages, last, u64::from(address)) else {
+            return Err(BusFault::WriteError);
+        };
+        if let Some(fault) = found.kind.write_fault() {
+            return Err(fault);
+        }
+        self.pages[found.page].words[found.place] = word;
         Ok(())
     }
 }
@@ -109,72 +123,6 @@ impl Bus {
             AllZip CanAnswer bodies (replay self.now bodies).replies }
     {
         requests_are_read();
-        let _blocks = &self.blocks;
+        let _pages = &self.pages;
     }
-}
-
-/// The first block that holds an address.
-fn find_block(blocks: &[Block], address: u32) -> Option<usize>
-    ensures { result ≡ position (λ block. holds block address) blocks.now }
-{
-    blocks.iter().position(|block| block.holds(address))
-}
-
-impl Block {
-    /// The words of a range as it opens: those that it names, then zeros.
-    fn open(alloc: Global, range: &Range) -> Result<Block, NoMemory>
-        requires fits { length range.now.init ≤ range.now.size }
-        ensures base { IfOk result (λ block. block.base ≡ range.now.base) }
-        ensures kind { IfOk result (λ block. block.kind ≡ range.now.kind) }
-        ensures words { IfOk result (λ block. block.words.items ≡ opening_words range.now) }
-    {
-        let size = range.size as usize;
-        let mut words = Vec::with_capacity(alloc, size)?;
-        words.extend_from_slice(range.init.as_slice())?;
-        words.resize(size, 0)?;
-        Ok(Block {
-            base: range.base,
-            kind: range.kind,
-            words,
-        })
-    }
-
-    fn copy(&self, alloc: Global) -> Result<Block, NoMemory>
-        ensures base { IfOk result (λ copied. copied.base ≡ self.now.base) }
-        ensures kind { IfOk result (λ copied. copied.kind ≡ self.now.kind) }
-        ensures words { IfOk result (λ copied. copied.words.items ≡ self.now.words.items) }
-    {
-        Ok(Block {
-            base: self.base,
-            kind: self.kind,
-            words: Vec::from_slice(alloc, &self.words)?,
-        })
-    }
-
-    fn holds(&self, address: u32) -> bool
-        ensures { result ≡ holds self.now address }
-    {
-        address >= self.base && ((address - self.base) as usize) < self.words.len()
-    }
-}
-
-fn blocks_of(alloc: Global, ranges: &[Range]) -> Result<Vec<Block>, NoMemory>
-    requires fit { All (λ range. length range.init ≤ range.size) ranges.now }
-    ensures { IfOk result (λ blocks. flat_map block_cells blocks.items ≡ flat_map range_cells ranges.now) }
-{
-    let mut blocks = Vec::with_capacity(alloc, ranges.len())?;
-    for range in ranges {
-        blocks.push(Block::open(alloc, range)?)?;
-    }
-    Ok(blocks)
-}
-
-fn copies_of(alloc: Global, blocks: &[Block]) -> Result<Vec<Block>, NoMemory>
-    ensures { IfOk result (λ copies. flat_map block_cells copies.items ≡ flat_map block_cells blocks.now) }
-{
-    let mut copies = Vec::with_capacity(alloc, blocks.len())?;
-    for block in blocks {
-        copies.push(block.copy(alloc)?)?;
-    }
-    Ok(copies)
 }

@@ -52,7 +52,8 @@ pub fn a_word_is_masked_and_added_to()
         ≡ 0x20000140 ∷ 0x7fffffff ∷ 0x20010150 ∷ 0xffffffff ∷ 0x20020100 ∷ 0 ∷ [] }
 {}
 
-/// What a failing write wrote before the fault stays written, and nothing after it is executed. Address 1 is slow.
+/// A write of two words is refused at the second one: the bus keeps the first word, and the request behind it is not
+/// executed. Address 1 is slow.
 #[tactic(auto, unfolding(transaction_codec::specs::Request::request_at))]
 pub fn a_failing_write_stays_written()
     ensures { run_body (opening_bus (record { base = 0; size = 1; kind = Rw; init = [] }

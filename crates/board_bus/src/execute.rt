@@ -30,6 +30,16 @@ impl Bus {
         Ok(())
     }
 
+    /// Executes a body and appends the reply to it as `execute` does, where `out` has room for `reply_room` words. It
+    /// takes no memory.
+    pub fn execute_in_room(&mut self, body: &[u32], out: &mut Vec<u32>)
+        requires room { vec_len out.old + reply_room body.now ≤ vec_capacity out.old }
+        ensures bus { self.new ≡ (run_body self.old body.now).cells }
+        ensures reply { out.new.items ≡ out.old.items ++ (run_body self.old body.now).reply }
+    {
+        self.run(body, out);
+    }
+
     /// Executes a body and appends the reply, for which `out` has room.
     fn run(&mut self, body: &[u32], out: &mut Vec<u32>)
         requires room { vec_len out.old + length (run_body self.old body.now).reply ≤ vec_capacity out.old }

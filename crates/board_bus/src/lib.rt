@@ -9,6 +9,8 @@ mod execute;
 mod fault;
 mod kind;
 pub mod laws;
+mod opening;
+mod page;
 mod range;
 mod reading;
 mod room;

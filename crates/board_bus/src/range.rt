@@ -1,10 +1,12 @@
 ghost use Rattle.std.specs.Prelude.{◌≡◌, ◌≢◌, OnOk, IfOk, IfErr, MatchBool, Some, None, sum_by, map, nat_lt, false};
+ghost use Rattle.std.specs.Prelude.{MatchOption, slice_index, true};
 ghost use Rattle.std.specs.List.{AllByRecursion, list_any};
+ghost use Rattle.std.specs.List.Sorted.{IsNonDecreasingBy, IsPermutation};
 ghost use Rattle.ipb_base.specs.Word.{AreWords};
 ghost use Rattle.board_bus.specs.declared.range.BusRefusal.TheVariants.{NoMemory as no_memory};
 ghost use Rattle.board_bus.specs.Ranges.{any_pair, end_of, is_empty_range, is_init_long, is_past_end, most_words};
-ghost use Rattle.board_bus.specs.Ranges.{refusal_of, share_address};
-ghost use Rattle.board_bus.specs.Spans.{span_of, SomeMeetsNext, NoneMeetsNext};
+ghost use Rattle.board_bus.specs.Ranges.{opening_words, refusal_of, share_address};
+ghost use Rattle.board_bus.specs.Spans.{base_of, span_of, SomeMeetsNext, NoneMeetsNext};
 
 use crate::RangeKind;
 use ipb_base::{NoMemory, Words};
@@ -91,6 +93,16 @@ impl Range {
         })
     }
 
+    /// The word that the range opens with at a place, from 0: 0 where it names none.
+    pub(crate) fn opening_word(&self, place: u32) -> u32
+        ensures { result ≡ slice_index (opening_words self.now) place }
+    {
+        match self.init.as_slice().get(place as usize) {
+            Some(word) => *word,
+            None => 0,
+        }
+    }
+
     /// The words that a range starts with have 32 bits. It does nothing when it runs.
     fn starts_with_words(&self)
         ensures { AreWords self.now.init }
@@ -115,9 +127,18 @@ pub(crate) fn start_with_words(ranges: &[Range])
     }
 }
 
-/// Whether the ranges are the ranges of a bus. Each refusal is that of the first broken rule, over the whole list;
-/// want of memory may come instead.
+/// Whether the ranges are the ranges of a bus. A list that breaks several rules is refused by the first of them; want
+/// of memory may come instead.
 pub fn check_ranges(alloc: Global, ranges: &[Range]) -> Result<(), BusRefusal>
+    ensures ok { OnOk result (refusal_of ranges.now ≡ None) }
+    ensures refused { IfErr result (λ refusal. refusal ≢ no_memory → refusal_of ranges.now ≡ Some refusal) }
+{
+    spans_of_bus(alloc, ranges)?;
+    Ok(())
+}
+
+/// The spans of the ranges of a bus, by rising base. The refusals are those of `check_ranges`.
+pub(crate) fn spans_of_bus(alloc: Global, ranges: &[Range]) -> Result<Vec<Span>, BusRefusal>
     ensures ok { OnOk result (refusal_of ranges.now ≡ None) }
     ensures refused { IfErr result (λ refusal. refusal ≢ no_memory → refusal_of ranges.now ≡ Some refusal) }
 {
@@ -127,16 +148,16 @@ pub fn check_ranges(alloc: Global, ranges: &[Range]) -> Result<(), BusRefusal>
     if any_past_end(ranges) {
         return Err(BusRefusal::PastEnd);
     }
-    if has_overlap(alloc, ranges)? {
+    let Some(spans) = spans_apart(alloc, ranges)? else {
         return Err(BusRefusal::Overlap);
-    }
+    };
     if is_too_large(ranges) {
         return Err(BusRefusal::TooLarge);
     }
     if any_init_long(ranges) {
         return Err(BusRefusal::InitLong);
     }
-    Ok(())
+    Ok(spans)
 }
 
 /// Whether a range has no address.
@@ -162,14 +183,17 @@ fn any_init_long(ranges: &[Range]) -> bool
         .any(|range| range.init.len() > range.size as usize)
 }
 
-/// Whether two ranges share an address. It takes memory for their ends, in order.
-fn has_overlap(alloc: Global, ranges: &[Range]) -> Result<bool, NoMemory>
+/// The spans of ranges by rising base, unless two ranges share an address.
+fn spans_apart(alloc: Global, ranges: &[Range]) -> Result<Option<Vec<Span>>, NoMemory>
     requires { list_any is_empty_range ranges.now ≡ false }
-    ensures { IfOk result (λ found. found ≡ any_pair share_address ranges.now) }
+    ensures { IfOk result (λ apart. MatchOption apart (any_pair share_address ranges.now ≡ true)
+        (λ _. any_pair share_address ranges.now ≡ false)) }
 {
-    let mut spans = spans_of(alloc, ranges)?;
-    spans.sort_unstable_by_key(|span| span.base);
-    Ok(any_meets_next(&spans))
+    let spans = spans_in_order(alloc, ranges)?;
+    if any_meets_next(&spans) {
+        return Ok(None);
+    }
+    Ok(Some(spans))
 }
 
 /// Whether the ranges have more words than a bus may have.
@@ -189,9 +213,19 @@ fn is_too_large(ranges: &[Range]) -> bool
 
 /// The addresses of a range: from `base` to the one before `end`.
 #[derive(Clone, Copy)]
-struct Span {
-    base: u64,
-    end: u64,
+pub(crate) struct Span {
+    pub(crate) base: u64,
+    pub(crate) end: u64,
+}
+
+/// The spans of ranges, by rising base.
+fn spans_in_order(alloc: Global, ranges: &[Range]) -> Result<Vec<Span>, NoMemory>
+    ensures same { IfOk result (λ spans. IsPermutation (map span_of ranges.now) spans.items) }
+    ensures rising { IfOk result (λ spans. IsNonDecreasingBy base_of spans.items) }
+{
+    let mut spans = spans_of(alloc, ranges)?;
+    spans.sort_unstable_by_key(|span| span.base);
+    Ok(spans)
 }
 
 fn spans_of(alloc: Global, ranges: &[Range]) -> Result<Vec<Span>, NoMemory>

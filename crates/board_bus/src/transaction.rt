@@ -108,8 +108,9 @@ impl Bus {
     {
         let step = addressing.step();
         let mut address = u64::from(base);
+        let mut last = 0;
         for done in 0..count {
-            let word = self.read_at(address)?;
+            let word = self.read_at(&mut last, address)?;
             push_within(out, word);
             address += step;
         }
@@ -125,9 +126,10 @@ impl Bus {
     {
         let step = addressing.step();
         let mut address = u64::from(base);
+        let mut last = 0;
         let mut done = 0;
         for word in words {
-            if let Err(fault) = self.write_at(address, *word) {
+            if let Err(fault) = self.write_at(&mut last, address, *word) {
                 return Written {
                     done,
                     ended: Err(fault),
@@ -174,8 +176,9 @@ impl Bus {
     fn mask(&mut self, base: u32, and_term: u32, or_term: u32) -> Result<u32, BusFault>
         ensures { IsModified self.old self.new result (modify self.old base (masked and_term or_term)) }
     {
-        let before = self.read(base)?;
-        self.write(base, (before & and_term) | or_term)?;
+        let mut last = 0;
+        let before = self.read_near(&mut last, base)?;
+        self.write_near(&mut last, base, (before & and_term) | or_term)?;
         Ok(before)
     }
 
@@ -183,29 +186,30 @@ impl Bus {
     fn add(&mut self, base: u32, addend: u32) -> Result<u32, BusFault>
         ensures { IsModified self.old self.new result (modify self.old base (added addend)) }
     {
-        let before = self.read(base)?;
-        self.write(base, before.wrapping_add(addend))?;
+        let mut last = 0;
+        let before = self.read_near(&mut last, base)?;
+        self.write_near(&mut last, base, before.wrapping_add(addend))?;
         Ok(before)
     }
 
-    /// Reads an address that may be past the end.
-    fn read_at(&self, address: u64) -> Result<u32, BusFault>
+    /// Reads an address that may be past the end. The page `last` is looked at first, and is then the one of the word.
+    fn read_at(&self, last: &mut usize, address: u64) -> Result<u32, BusFault>
         ensures { result ≡ read_word self.now address }
     {
         match u32::try_from(address) {
-            Ok(address) => self.read(address),
+            Ok(address) => self.read_near(last, address),
             Err(_) => Err(BusFault::ReadError),
         }
     }
 
-    /// Writes an address that may be past the end.
-    fn write_at(&mut self, address: u64, word: u32) -> Result<(), BusFault>
+    /// Writes an address that may be past the end. The page `last` is looked at first, and is then the one of the word.
+    fn write_at(&mut self, last: &mut usize, address: u64, word: u32) -> Result<(), BusFault>
         ensures written { OnOk result (write_word self.old address word ≡ Ok self.new) }
         ensures refused { IfErr result (λ fault. write_word self.old address word ≡ Err fault) }
         ensures unchanged { OnErr result (self.new ≡ self.old) }
     {
         match u32::try_from(address) {
-            Ok(address) => self.write(address, word),
+            Ok(address) => self.write_near(last, address, word),
             Err(_) => Err(BusFault::WriteError),
         }
     }
