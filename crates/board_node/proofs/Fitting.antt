@@ -1,6 +1,6 @@
 -- How long an answer may be.
-use Rattle.std.proofs.Common.{◌≡◌, ℕ, ◌+◌, ◌-◌, ◌*◌, ◌≤◌, ◌==◌, true, false, List, [], ◌∷◌, length, Option, Some}
-use Rattle.std.proofs.Common.{None, IfSome, refl, subst, arith, length-append}
+use Rattle.std.proofs.Common.{◌≡◌, ℕ, ◌+◌, ◌*◌, ◌≤◌, ◌==◌, true, false, List, [], ◌∷◌, length, Option, Some}
+use Rattle.std.proofs.Common.{None, IfSome, refl, arith, length-append}
 use Rattle.std.specs.List.{AllByRecursion}
 use Rattle.ipb_base.specs.Numbers.{payload_of}
 use Rattle.packet_codec.specs.declared.packet.Order.{Order}
@@ -17,11 +17,11 @@ use Rattle.world_model.specs.declared.heard.DropCause.{DropCause}
 use Rattle.world_model.specs.declared.heard.DropCause.TheVariants.{NotPacket, TooLong, OtherId}
 use Rattle.world_model.specs.Messages.{ToBoard, StatusRequest, ResendRequest, ControlPacket, control_packet, to_board}
 use Rattle.world_model.specs.Board.{Board, Hearing, dropped, execute, expected, hear, hear_control, hear_message}
-use Rattle.world_model.specs.Board.{held, is_too_long, numbered_replies, present_bus, replies, send_again}
+use Rattle.world_model.specs.Board.{held, is_too_long, present_bus, send_again}
 use Rattle.world_model.specs.Board.{tell_status, with_id}
 use Rattle.board_node.specs.Answers.{answer_bytes}
 use Rattle.board_node.specs.View.{FitsMtu}
-use Rattle.board_node.proofs.Logs.{all_past, fits}
+use Rattle.board_node.proofs.Logs.{fits}
 use Rattle.board_node.proofs.Steps.{either}
 
 word_length : (order : Order) (word : ℕ) → length (word_in_order order word) ≡ 4
@@ -90,12 +90,8 @@ module _ (room : (cells : CellMap) (body : List ℕ) → length (run_body cells 
       resent_fits b (with_id id (held b)) (found_fits (FitsMtu b.mtu) id (held b) all)
   said_fits b (Some (ControlPacket order id body)) is all = control_fits b order id body
 
-  pub answer_fits : (b : Board) → IsMtu b.mtu → (kept : List Packet)
-      → kept ≡ numbered_replies b.first 1 b.log (replies b) → AllByRecursion (FitsMtu b.mtu) kept
-      → (datagram : List ℕ) → length (answer_bytes (hear b datagram).answer) + 28 ≤ b.mtu
-  answer_fits b is kept same all datagram =
-      let here = subst (AllByRecursion (FitsMtu b.mtu)) same all in
-      let held_fit = all_past (FitsMtu b.mtu) (length (numbered_replies b.first 1 b.log (replies b)) - b.buffers)
-      (numbered_replies b.first 1 b.log (replies b)) here in
-      let fit = said_fits b (to_board datagram) is held_fit in
+  pub answer_fits : (b : Board) → IsMtu b.mtu → AllByRecursion (FitsMtu b.mtu) (held b) → (datagram : List ℕ)
+      → length (answer_bytes (hear b datagram).answer) + 28 ≤ b.mtu
+  answer_fits b is all datagram =
+      let fit = said_fits b (to_board datagram) is all in
       omega (arith, fit, is.0)

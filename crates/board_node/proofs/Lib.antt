@@ -6,3 +6,4 @@ mod Steps
 mod Turns
 mod Held
 mod Fitting
+mod Rings

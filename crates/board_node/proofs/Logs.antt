@@ -12,11 +12,12 @@ use Rattle.world_model.specs.Board.{Board, body_of, executed, replies, present_b
 use Rattle.world_model.specs.Board.{numbered_replies}
 use Rattle.std.proofs.lemmas.Bool.Decides.{nat_tests}
 use Rattle.std.specs.List.{AllByRecursion}
+use mir.Val.{bool_byte}
 use Rattle.ipb_base.specs.Word.{AreWords}
 use Rattle.ipb_base.specs.Numbers.{payload_of}
 use Rattle.ipb_base.proofs.AllLemmas.{AllByRecursion-append}
 use Rattle.transaction_codec.specs.Answer.{reply_room}
-use Rattle.board_node.specs.View.{if_numbered, FitsMtu}
+use Rattle.board_node.specs.View.{if_numbered}
 use Rattle.board_node.specs.Log.{IsLoggable}
 
 -- ---- one body after others
@@ -76,6 +77,30 @@ joined first place (e ∷ one) two (r ∷ rs) ss same =
           ∙ ap (λ (k : ℕ). numbered_replies first place one rs ++ numbered_replies first k two ss) here
     ]
 
+-- a test as a number
+pub one_if : (b : Bool) → bool_byte b ≡ cond b 1 0
+one_if true = refl
+one_if false = refl
+
+pub one_most : (b : Bool) → bool_byte b ≤ 1
+one_most true = omega arith
+one_most false = omega arith
+
+-- how many are numbered, with one entry more and at most
+pub numbered_one_more : (log : List LogEntry) (e : LogEntry)
+    → numbered (log ++ e ∷ []) ≡ numbered log + cond e.numbered 1 0
+numbered_one_more [] e = elim e.numbered as (λ b. cond b 1 0 + 0 ≡ 0 + cond b 1 0) [ true ↦ refl | false ↦ refl ]
+numbered_one_more (x ∷ log) e = let later = numbered_one_more log e in omega (arith, later)
+
+pub numbered_most : (log : List LogEntry) → numbered log ≤ length log
+numbered_most [] = omega arith
+numbered_most (x ∷ log) =
+    let later = numbered_most log in
+    elim x.numbered as (λ b. cond b 1 0 + numbered log ≤ suc (length log)) [
+      | true ↦ omega (arith, later)
+      | false ↦ omega (arith, later)
+    ]
+
 -- ---- a board
 
 pub as_long : (b : Board) → length (replies b) ≡ length b.log
@@ -124,15 +149,6 @@ kept_grows b e id is =
 pub fits : (b : Board) (body : List ℕ) → is_too_long b body ≡ false
     → (length body + 1 ≤ payload_of b.mtu) × (reply_room body + 1 ≤ payload_of b.mtu)
 fits b body is = grind (arith, nat_tests)
-
-pub fit_grows : (mtu : ℕ) (packets : List Packet) (n : Bool) (packet : Packet) (all : List Packet)
-    → all ≡ packets ++ if_numbered n packet → AllByRecursion (FitsMtu mtu) packets → FitsMtu mtu packet
-    → AllByRecursion (FitsMtu mtu) all
-fit_grows mtu packets true packet all is before here =
-    subst (AllByRecursion (FitsMtu mtu)) (sym is)
-    (AllByRecursion-append (FitsMtu mtu) packets (packet ∷ []) before (here, tt))
-fit_grows mtu packets false packet all is before here =
-    subst (AllByRecursion (FitsMtu mtu)) (sym is) (AllByRecursion-append (FitsMtu mtu) packets [] before tt)
 
 pub all_past : {A : Type 0} (P : A → Type 0) (n : ℕ) (xs : List A) → AllByRecursion P xs → AllByRecursion P (drop n xs)
 all_past P zero xs all = all

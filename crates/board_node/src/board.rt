@@ -7,7 +7,7 @@ ghost use Rattle.ipb_base.specs.Numbers.{ip_udp_bytes};
 ghost use Rattle.packet_ids.specs.Identifier.{IsIdentifier};
 ghost use Rattle.board_bus.specs.Cells.{HoldsWords};
 ghost use Rattle.board_node.specs.Log.{IsLoggable};
-ghost use Rattle.transaction_codec.specs.declared.room.TheConstants.{LONGEST_BODY};
+ghost use Rattle.transaction_codec.specs.Answer.{reply_room};
 ghost use Rattle.packet_codec.specs.declared.packet.TheConstants.{MAX_BODY_WORDS};
 ghost use Rattle.packet_codec.specs.Packet.{IsPacket};
 ghost use Rattle.status_packet.specs.Range.{IsMtu, IsBufferCount};
@@ -17,12 +17,13 @@ ghost use Rattle.world_model.specs.Board.{is_too_long, present_bus, send_again, 
 ghost use Rattle.board_node.specs.Answers.{answer_bytes, IsHeard};
 ghost use Rattle.board_node.specs.View.{said_by};
 
-use crate::replies::{find_reply, keep_reply, packet_length, put_packet};
+use crate::replies::{find_held, keep_reply, packet_length};
 use board_bus::Bus;
 use board_bus::laws::a_reply_has_room;
+use circular_buffer::HeapCircularBuffer;
 use ipb_base::{NoMemory, Words};
 use packet_codec::laws::reading_is_the_grammar;
-use packet_codec::{BadPacket, Order, Packet, PacketKind, read_packet};
+use packet_codec::{BadPacket, Order, Packet, PacketKind, put_packet, read_packet};
 use packet_ids::{Id, id_at};
 use status_packet::{Status, write_status_reply};
 use std::alloc::Global;
@@ -47,7 +48,10 @@ pub struct Board {
     buffers: u32,
     first: Id,
     log: Vec<LogEntry>,
-    replies: Vec<Packet>,
+    /// How many packets of the log were numbered.
+    numbered: u64,
+    /// The replies to the last numbered packets, the oldest first.
+    held: HeapCircularBuffer<Packet>,
 }
 
 impl Model for Board {
@@ -64,7 +68,7 @@ impl Model for Board {
 impl Board {
     /// A board that has executed nothing: it opens with this bus, has an MTU of 92 to 9000 bytes and 1 to 64 response
     /// buffers, and expects `first` (IPbus 2.0, status packet; the ranges are the profile's). `NoMemory` where memory
-    /// for its opening bus ran out.
+    /// for its opening bus or for its buffers ran out.
     pub fn new(
         alloc: Global,
         bus: Bus,
@@ -85,7 +89,8 @@ impl Board {
             buffers,
             first,
             log: Vec::new(alloc),
-            replies: Vec::new(alloc),
+            numbered: 0,
+            held: HeapCircularBuffer::with_capacity(alloc, buffers as usize)?,
         })
     }
 
@@ -115,7 +120,16 @@ impl Board {
     pub fn next(&self) -> Id
         ensures { result ≡ expected self.now }
     {
-        id_at(self.first, self.replies.len() as u64 + 1)
+        id_at(self.first, self.numbered + 1)
+    }
+
+    /// The replies that it can send again, the oldest first: those to the last numbered packets, as many as it has
+    /// buffers, each in its byte order and under its identifier (IPbus 2.0, re-send request packet).
+    pub fn held(&self) -> &HeapCircularBuffer<Packet>
+        ensures capacity { result.now.capacity ≡ self.now.buffers }
+        ensures items { result.now.items ≡ held self.now }
+    {
+        &self.held
     }
 
     /// Hears a datagram and writes the answer into `out`, in place of what stood there, or leaves it empty where there
@@ -158,7 +172,7 @@ impl Board {
             length (answer_bytes (hear self.now datagram).answer) + ip_udp_bytes ≤ self.now.mtu }
     {
         a_reply_has_room();
-        let _replies = &self.replies;
+        let _held = &self.held;
     }
 }
 
@@ -220,28 +234,27 @@ impl Board {
         Ok(Heard::StatusSent)
     }
 
-    /// Answers a re-send request by the reply with this identifier, where it is one of the last, as many as there are
-    /// buffers.
+    /// Answers a re-send request by the reply with this identifier, where it is held.
     fn send_again(&self, id: u16, out: &mut Vec<u8>) -> Result<Heard, NoMemory>
         requires empty { out.old.items ≡ [] }
         ensures { IsHeard (send_again self.now (with_id id (held self.now))) self.now self.now out.new.items result }
     {
-        let past = self.replies.len().saturating_sub(self.buffers as usize);
-        let Some(reply) = find_reply(&self.replies[past..], id) else {
+        let Some(reply) = find_held(&self.held, id) else {
             return Ok(Heard::Dropped(DropCause::NotHeld));
         };
         out.reserve(packet_length(reply.body.len()))?;
-        put_packet(out, reply);
+        put_packet(out, reply.head(), reply.body.as_slice());
         Ok(Heard::Resent)
     }
 
-    /// Whether a body or its longest reply, each with its header, is longer than a packet of the board's MTU.
-    fn is_too_long(&self, body: &[u32]) -> bool
-        requires { length body.now ≤ LONGEST_BODY }
+    /// Whether a body or its longest reply, of `room` words, each with its header, is longer than a packet of the
+    /// board's MTU.
+    fn is_too_long(&self, body: &[u32], room: u32) -> bool
+        requires { room ≡ reply_room body.now }
         ensures { result ≡ is_too_long self.now body.now }
     {
         let payload = ((self.mtu - IP_UDP_BYTES) / 4) as usize;
-        payload < body.len() + 1 || payload < reply_room(body) as usize + 1
+        payload < body.len() + 1 || payload < room as usize + 1
     }
 
     /// Hears a control packet: it is executed where it has identifier 0 or the expected one.
@@ -256,7 +269,8 @@ impl Board {
         requires empty { out.old.items ≡ [] }
         ensures { IsHeard (hear_control self.old order id body) self.old self.new out.new.items result }
     {
-        if self.is_too_long(body.as_slice()) {
+        let room = reply_room(body.as_slice());
+        if self.is_too_long(body.as_slice(), room) {
             return Ok(Heard::Dropped(DropCause::TooLong));
         }
         if id == 0 {
@@ -265,7 +279,7 @@ impl Board {
                 order,
                 body,
             };
-            return self.execute(id, entry, out);
+            return self.execute(id, entry, room, out);
         }
         if id == self.next().get() {
             let entry = LogEntry {
@@ -273,35 +287,41 @@ impl Board {
                 order,
                 body,
             };
-            return self.execute(id, entry, out);
+            return self.execute(id, entry, room, out);
         }
         Ok(Heard::Dropped(DropCause::OtherId))
     }
 
-    /// Executes a control packet and answers it. The room for the reply, its bytes and its place in the log is taken
-    /// before.
-    fn execute(&mut self, id: u16, entry: LogEntry, out: &mut Vec<u8>) -> Result<Heard, NoMemory>
-        requires short { length entry.body ≤ MAX_BODY_WORDS }
+    /// Executes a control packet and answers it. The room for the reply, of at most `room` words, its bytes and its
+    /// place in the log is taken before.
+    fn execute(
+        &mut self,
+        id: u16,
+        entry: LogEntry,
+        room: u32,
+        out: &mut Vec<u8>,
+    ) -> Result<Heard, NoMemory>
         requires fits { is_too_long self.old entry.body ≡ false }
         requires id { entry.numbered ≡ true → id ≡ expected self.old }
+        requires room { room ≡ reply_room entry.body }
         requires empty { out.old.items ≡ [] }
         ensures { IsHeard (execute self.old id entry) self.old self.new out.new.items result }
     {
+        a_reply_has_room();
         let body = entry.body.as_slice();
-        let room = reply_room(body) as usize;
-        let mut words = Vec::with_capacity(self.alloc, room)?;
-        out.reserve(packet_length(room))?;
+        let mut words = Vec::with_capacity(self.alloc, room as usize)?;
+        out.reserve(packet_length(room as usize))?;
         self.log.reserve(1)?;
-        self.replies.reserve(1)?;
-        self.bus.execute(body, &mut words)?;
+        self.bus.execute_in_room(body, &mut words);
         let reply = Packet {
             order: entry.order,
             id,
             kind: PacketKind::Control,
             body: Words::from_vec(words),
         };
-        put_packet(out, &reply);
-        keep_reply(&mut self.replies, entry.numbered, reply);
+        put_packet(out, reply.head(), reply.body.as_slice());
+        keep_reply(&mut self.held, entry.numbered, reply);
+        self.numbered += u64::from(entry.numbered);
         self.log.push_reserved(entry);
         Ok(Heard::Replied)
     }

@@ -115,7 +115,8 @@ all_stand h (event ∷ events) more =
     (stands_behind (handed h event) (all_fates after events) (all_fates after (events ++ more))
     (all_stand after events more))
 
-pub handed_first : (h : Hub) (events more : List HubEvent) → IsPrefix (handed_out h events) (handed_out h (events ++ more))
+pub handed_first : (h : Hub) (events more : List HubEvent)
+    → IsPrefix (handed_out h events) (handed_out h (events ++ more))
 handed_first h [] more = (handed_out h more, refl)
 handed_first h (event ∷ events) more =
     let later = handed_first (after_event h event) events more in (

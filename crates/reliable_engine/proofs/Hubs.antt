@@ -1,6 +1,7 @@
 -- The hub that an engine is, and what it answers.
 use Rattle.std.proofs.Common.{◌≡◌, ◌≤◌, ◌<◌, ℕ, zero, suc, Bool, true, false, cond, ◌⊎◌, length, take, drop}
-use Rattle.std.proofs.Common.{get_or, List, [], ◌∷◌, ◌++◌, ◌+◌, ◌-◌, Option, Some, None, refl, sym, ap, ◌∙◌, subst, ◌^◌, if◌then◌else◌}
+use Rattle.std.proofs.Common.{get_or, List, [], ◌∷◌, ◌++◌, ◌+◌, ◌-◌, Option, Some, None, refl, sym, ap, ◌∙◌, subst}
+use Rattle.std.proofs.Common.{◌^◌, if◌then◌else◌}
 use Rattle.std.proofs.Common.{arith}
 use Rattle.std.proofs.Common.{inl, inr}
 use Rattle.std.specs.Prelude.{◌↔◌}
@@ -9,7 +10,8 @@ use Rattle.std.specs.Option.{IsNone}
 use Rattle.std.proofs.lemmas.Bool.{cases_lt, le-leb, lt-leb}
 use Rattle.std.proofs.lemmas.Option.{slice_get-get_or}
 use Rattle.std.proofs.lemmas.Bool.Decides.{eqb_tells}
-use Rattle.std.proofs.lemmas.List.{map-append, length-drop, length-take, length-take-le, get_or-take, drop_more, take_more}
+use Rattle.std.proofs.lemmas.List.{map-append, length-drop, length-take, length-take-le, get_or-take, drop_more}
+use Rattle.std.proofs.lemmas.List.{take_more}
 use Rattle.packet_ids.specs.Identifier.{identifier_at, IsIdentifier, IsPlaceOf}
 use Rattle.world_model.specs.declared.offered.OpenPlace.{OpenPlace}
 use Rattle.world_model.specs.declared.offered.Offered.{Offered}
@@ -52,22 +54,22 @@ few_bodies i h view few =
     subst (λ (x : Hub). length x.sent + length x.queue < 2 ^ 62) (sym view) few in
     omega (arith, kept, length-take i.sent i.bodies.items, length-drop i.sent i.bodies.items)
 
-pub low_of : (i : Inside) (h : Hub) → hub_of i ≡ h → IsKept i → low h ≡ least (places i.open_places.items) (i.sent + 1)
+pub low_of : (i : Inside) (h : Hub) → hub_of i ≡ h → IsKept i → low h ≡ least (places i.open_places) (i.sent + 1)
 low_of i h view is =
     ap low (sym view)
-    ∙ ap (λ (n : ℕ). least (places i.open_places.items) (n + 1)) (length-take-le i.sent i.bodies.items is.within)
+    ∙ ap (λ (n : ℕ). least (places i.open_places) (n + 1)) (length-take-le i.sent i.bodies.items is.within)
 
 pub open_of : (i : Inside) (h : Hub) (place : ℕ) → hub_of i ≡ h → IsKept i → IsOpen h place
     → (1 ≤ place) × (place ≤ i.sent)
 open_of i h place view is there =
-    open_sent i.window i.sent place (places i.open_places.items) is.in_window
+    open_sent i.window i.sent place (places i.open_places) is.in_window
     (ap (λ (x : Hub). has place (places x.open_places)) view ∙ there)
 
-pub found_sent : (i : Inside) (id : ℕ) (o : OpenPlace) → IsKept i → open_with i.first id i.open_places.items ≡ Some o
+pub found_sent : (i : Inside) (id : ℕ) (o : OpenPlace) → IsKept i → open_with i.first id i.open_places ≡ Some o
     → (1 ≤ o.place) × (o.place ≤ i.sent)
 found_sent i id o is told =
-    open_sent i.window i.sent o.place (places i.open_places.items) is.in_window
-    (found i.first id i.open_places.items o told).gone.there
+    open_sent i.window i.sent o.place (places i.open_places) is.in_window
+    (found i.first id i.open_places o told).gone.there
 
 get_front_of : (all : List Offered) (sent k : ℕ) (d : Offered) → k < sent → sent ≤ length all
     → slice_get (take sent all) k ≡ Some (get_or all k d)
@@ -130,7 +132,7 @@ sent_as i n front os = Some (record {
 })
 
 pub first_sent : (i : Inside) (h : Hub) (os : List OpenPlace) → hub_of i ≡ h → IsKept i → i.sent < length i.bodies.items
-    → i.sent + 1 + 1 ≤ i.window + low h → os ≡ i.open_places.items ++ opened (i.sent + 1) ∷ []
+    → i.sent + 1 + 1 ≤ i.window + low h → os ≡ i.open_places ++ opened (i.sent + 1) ∷ []
     → first_send h h.queue ≡ Some (record {
       send = sends.Control (i.sent + 1) (identifier_at i.first (i.sent + 1));
       hub = with_sent i (i.sent + 1) os;
@@ -196,16 +198,16 @@ pub names_none : (h : Hub) (id : ℕ) → open_with h.first id h.open_places ≡
 names_none h id none names = unnamed h.first id h.open_places names.place none names.open_there names.identifier
 
 -- what is kept after the open place with an identifier was taken out
-pub reply_keeps : (i : Inside) (id : ℕ) (o : OpenPlace) (r : Option OpenPlace) (os : List OpenPlace) (pr fl fr : ℕ)
-    → IsKept i → r ≡ open_with i.first id i.open_places.items → r ≡ Some o → os ≡ places_after i.open_places.items r
-    → pr ≡ i.open_places.cap → fl ≤ i.fates.len + (if o.waited then 1 else 0) → i.fates.cap ≤ fr
-    → Keeps i.first i.window i.sent (length i.bodies.items) os pr fl fr
-reply_keeps i id o r os pr fl fr is taken some after same fates grown =
-    let all = i.open_places.items in
+pub reply_keeps : (i : Inside) (id : ℕ) (o : OpenPlace) (r : Option OpenPlace) (os : List OpenPlace) (fl fr : ℕ)
+    → IsKept i → r ≡ open_with i.first id i.open_places → r ≡ Some o → os ≡ places_after i.open_places r
+    → fl ≤ i.fates.len + (if o.waited then 1 else 0) → i.fates.cap ≤ fr
+    → Keeps i.first i.window i.sent (length i.bodies.items) os fl fr
+reply_keeps i id o r os fl fr is taken some after fates grown =
+    let all = i.open_places in
     let told : open_with i.first id all ≡ Some o = sym taken ∙ some in
     let left : os ≡ without o.place all = after ∙ ap (places_after all) some in
-    rw (left, same) (keeps_less i.first i.window i.sent (length i.bodies.items) all o i.open_places.cap i.fates.len
-    i.fates.cap fl fr is (found i.first id all o told).gone fates grown)
+    rw left (keeps_less i.first i.window i.sent (length i.bodies.items) all o i.fates.len i.fates.cap fl fr is
+    (found i.first id all o told).gone fates grown)
 
 -- ---- the place that a status reply tells
 

@@ -1,7 +1,6 @@
 -- Each event on what an engine keeps.
 use Rattle.std.proofs.Common.{◌≡◌, ◌≤◌, ◌<◌, ◌^◌, ℕ, suc, true, false, cond, ◌==◌, if◌then◌else◌, length, map, List}
-use Rattle.std.proofs.Common.{[], ◌∷◌, ◌++◌, ◌+◌, ◌-◌, Option, Some, None, refl, sym, ap, ◌∙◌, subst, arith, inl, inr}
-use Rattle.std.proofs.Common.{length-append}
+use Rattle.std.proofs.Common.{[], ◌∷◌, ◌++◌, ◌+◌, ◌-◌, Option, Some, None, refl, ap, ◌∙◌, subst, arith, inl, inr}
 use Rattle.std.specs.Prelude.{IfSome}
 use Rattle.std.proofs.lemmas.Bool.{eqb-true, eq-eqb}
 use Rattle.std.proofs.lemmas.Bool.Decides.{eqb_tells}
@@ -10,7 +9,7 @@ use Rattle.packet_ids.specs.Identifier.{identifier_at}
 use Rattle.world_model.specs.declared.offered.OpenPlace.{OpenPlace}
 use Rattle.world_model.specs.Hub.{recover, abandoned, open_with, without, places, place_of, least}
 use Rattle.world_model.specs.Sends.{Wanted, after_open, wanted, opened}
-use Rattle.world_model.specs.Facts.{has}
+use Rattle.world_model.specs.Facts.{AreRising, IsWindow, has}
 use Rattle.world_model.specs.History.{times}
 use Rattle.reliable_engine.specs.Steps.{places_wanted, waits}
 use Rattle.reliable_engine.specs.ToldFates.{waited_places}
@@ -144,97 +143,90 @@ found first id (x ∷ os) o e =
 
 -- ---- what is kept
 
-same_length : (os qs : List OpenPlace) → places qs ≡ places os → length qs ≡ length os
-same_length os qs same = sym (length-map qs place_of) ∙ (ap length same ∙ length-map os place_of)
+pub keeps_same : (first window sent count : ℕ) (os qs : List OpenPlace) (fl fr : ℕ)
+    → Keeps first window sent count os fl fr → places qs ≡ places os → waits qs ≡ waits os
+    → Keeps first window sent count qs fl fr
+keeps_same first window sent count os qs fl fr is same waiting = record {
+  identifier = is.identifier;
+  within = is.within;
+  few = is.few;
+  in_window = rw same is.in_window;
+  fates_fit = omega (arith, is.fates_fit);
+}
 
-pub keeps_same : (first window sent count : ℕ) (os qs : List OpenPlace) (pr fl fr : ℕ)
-    → Keeps first window sent count os pr fl fr → places qs ≡ places os → waits qs ≡ waits os
-    → Keeps first window sent count qs pr fl fr
-keeps_same first window sent count os qs pr fl fr is same waiting =
-    let len = same_length os qs same in
-    record {
-      identifier = is.identifier;
-      within = is.within;
-      few = is.few;
-      in_window = rw same is.in_window;
-      places_fit = omega (arith, is.places_fit);
-      fates_fit = omega (arith, is.fates_fit);
-    }
-
-pub keeps_push : (first window sent count : ℕ) (os : List OpenPlace) (pr fl fr pr2 : ℕ)
-    → Keeps first window sent count os pr fl fr → sent < count → sent + 2 ≤ window + least (places os) (sent + 1)
-    → pr ≤ pr2 → Keeps first window (sent + 1) count (os ++ opened (sent + 1) ∷ []) pr2 fl fr
-keeps_push first window sent count os pr fl fr pr2 is more room grown =
+pub keeps_push : (first window sent count : ℕ) (os : List OpenPlace) (fl fr : ℕ)
+    → Keeps first window sent count os fl fr → sent < count → sent + 2 ≤ window + least (places os) (sent + 1)
+    → Keeps first window (sent + 1) count (os ++ opened (sent + 1) ∷ []) fl fr
+keeps_push first window sent count os fl fr is more room =
     let w = waits_push os (sent + 1) in
-    let l = length-append os (opened (sent + 1) ∷ []) in
     record {
       identifier = is.identifier;
       within = omega arith;
       few = is.few;
       in_window = rw (map-append place_of os (opened (sent + 1) ∷ []))
           (window_push window sent (places os) is.in_window room);
-      places_fit = omega (arith, is.places_fit);
       fates_fit = omega (arith, is.fates_fit);
     }
 
-pub keeps_less : (first window sent count : ℕ) (os : List OpenPlace) (o : OpenPlace) (pr fl fr fl2 fr2 : ℕ)
-    → Keeps first window sent count os pr fl fr → Removed os o → fl2 ≤ fl + (if o.waited then 1 else 0) → fr ≤ fr2
-    → Keeps first window sent count (without o.place os) pr fl2 fr2
-keeps_less first window sent count os o pr fl fr fl2 fr2 is gone fates grown = record {
+pub keeps_less : (first window sent count : ℕ) (os : List OpenPlace) (o : OpenPlace) (fl fr fl2 fr2 : ℕ)
+    → Keeps first window sent count os fl fr → Removed os o → fl2 ≤ fl + (if o.waited then 1 else 0) → fr ≤ fr2
+    → Keeps first window sent count (without o.place os) fl2 fr2
+keeps_less first window sent count os o fl fr fl2 fr2 is gone fates grown = record {
   identifier = is.identifier;
   within = is.within;
   few = is.few;
   in_window = rw (places_without o.place os) (window_less window sent o.place (places os) is.in_window);
-  places_fit = omega (arith, is.places_fit, gone.shorter);
   fates_fit = omega (arith, is.fates_fit, gone.waiting);
 }
 
-wanted_kept : (first window sent count : ℕ) (os : List OpenPlace) (pr fl fr : ℕ) (r : Option Wanted)
-    → Keeps first window sent count os pr fl fr → IsWantedOr first os r → SameWaited os r
-    → Keeps first window sent count (places_wanted os r) pr fl fr
-wanted_kept first window sent count os pr fl fr None is w s = is
-wanted_kept first window sent count os pr fl fr (Some x) is w s =
-    keeps_same first window sent count os x.open_places pr fl fr is w.same (same_waits os x.open_places s)
+wanted_kept : (first window sent count : ℕ) (os : List OpenPlace) (fl fr : ℕ) (r : Option Wanted)
+    → Keeps first window sent count os fl fr → IsWantedOr first os r → SameWaited os r
+    → Keeps first window sent count (places_wanted os r) fl fr
+wanted_kept first window sent count os fl fr None is w s = is
+wanted_kept first window sent count os fl fr (Some x) is w s =
+    keeps_same first window sent count os x.open_places fl fr is w.same (same_waits os x.open_places s)
 
-pub keeps_wanted : (first window sent count : ℕ) (os : List OpenPlace) (pr fl fr : ℕ)
-    → Keeps first window sent count os pr fl fr
-    → Keeps first window sent count (places_wanted os (wanted first os)) pr fl fr
-keeps_wanted first window sent count os pr fl fr is =
-    wanted_kept first window sent count os pr fl fr (wanted first os) is (wanted_is first os) (wanted_waited first os)
+pub keeps_wanted : (first window sent count : ℕ) (os : List OpenPlace) (fl fr : ℕ)
+    → Keeps first window sent count os fl fr
+    → Keeps first window sent count (places_wanted os (wanted first os)) fl fr
+keeps_wanted first window sent count os fl fr is =
+    wanted_kept first window sent count os fl fr (wanted first os) is (wanted_is first os) (wanted_waited first os)
 
-wanted_length : (first : ℕ) (os : List OpenPlace) (r : Option Wanted) → IsWantedOr first os r → length (places_wanted os r) ≡ length os
-wanted_length first os None w = refl
-wanted_length first os (Some x) w = same_length os x.open_places w.same
-
-pub places_wanted_length : (first : ℕ) (os : List OpenPlace) → length (places_wanted os (wanted first os)) ≡ length os
-places_wanted_length first os = wanted_length first os (wanted first os) (wanted_is first os)
-
-pub keeps_abandoned : (first window sent count : ℕ) (os : List OpenPlace) (pr fl fr count2 fl2 fr2 : ℕ)
-    → Keeps first window sent count os pr fl fr → count2 ≡ sent → fl2 ≡ fl + waits os + (count - sent) → fr ≤ fr2
-    → Keeps first window sent count2 (map abandoned os) pr fl2 fr2
-keeps_abandoned first window sent count os pr fl fr count2 fl2 fr2 is cut told grown =
+pub keeps_abandoned : (first window sent count : ℕ) (os : List OpenPlace) (fl fr count2 fl2 fr2 : ℕ)
+    → Keeps first window sent count os fl fr → count2 ≡ sent → fl2 ≡ fl + waits os + (count - sent) → fr ≤ fr2
+    → Keeps first window sent count2 (map abandoned os) fl2 fr2
+keeps_abandoned first window sent count os fl fr count2 fl2 fr2 is cut told grown =
     let w = waits_abandoned os in
-    let l = length-map os abandoned in
     record {
       identifier = is.identifier;
       within = omega arith;
       few = omega (arith, is.within, is.few);
       in_window = rw (places_map abandoned os (λ _. refl)) is.in_window;
-      places_fit = omega (arith, is.places_fit);
       fates_fit = omega (arith, is.fates_fit);
     }
 
-pub keeps_offer : (first window sent count : ℕ) (os : List OpenPlace) (pr fl fr count2 pr2 fr2 : ℕ)
-    → Keeps first window sent count os pr fl fr → count2 ≡ count + 1 → count < 2 ^ 62
-    → length os + (count - sent + 1) ≤ pr2 → fl + (length os + (count - sent) + 1) ≤ fr2
-    → Keeps first window sent count2 os pr2 fl fr2
-keeps_offer first window sent count os pr fl fr count2 pr2 fr2 is more few room fate_room =
+rising_length : (from past : ℕ) (ps : List ℕ) → AreRising from past ps → from + length ps ≤ past
+rising_length from past [] r = omega (arith, r)
+rising_length from past (p ∷ ps) r = let later = rising_length (p + 1) past ps r.1 in omega (arith, r.0)
+
+-- no more are open than the window
+window_length : (window sent : ℕ) (os : List OpenPlace) → IsWindow window sent (places os) → length os ≤ window
+window_length window sent os is =
+    let few = rising_length _ _ (places os) is.rising in
+    let len = length-map os place_of in
+    omega (arith, is.within)
+
+pub keeps_offer : (first window sent count : ℕ) (os : List OpenPlace) (fl fr count2 fr2 : ℕ)
+    → Keeps first window sent count os fl fr → count2 ≡ count + 1 → count < 2 ^ 62
+    → fl + (window + (count - sent) + 1) ≤ fr2
+    → Keeps first window sent count2 os fl fr2
+keeps_offer first window sent count os fl fr count2 fr2 is more few fate_room =
     let w = waits_few os in
+    let open_few = window_length window sent os is.in_window in
     record {
       identifier = is.identifier;
       within = omega (arith, is.within);
       few = omega arith;
       in_window = is.in_window;
-      places_fit = omega (arith, is.within);
       fates_fit = omega (arith, is.within);
     }

@@ -1,4 +1,6 @@
 mod Steps
+mod InSlots
+mod Wanting
 mod Places
 mod Keeping
 mod Hubs

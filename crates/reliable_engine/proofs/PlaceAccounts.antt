@@ -196,7 +196,8 @@ placed place before h (event ∷ events) is =
 
 pub place_account : (first window rounds : ℕ) (events : List HubEvent) (place : ℕ)
     → times place (places_to (length (after_events (new_hub first window rounds) events).sent))
-    ≡ tellings (after_events (new_hub first window rounds) events) (all_fates (new_hub first window rounds) events) place
+    ≡ tellings (after_events (new_hub first window rounds) events)
+    (all_fates (new_hub first window rounds) events) place
 place_account first window rounds events place =
     let start = new_hub first window rounds in
     let after = after_events start events in
@@ -213,7 +214,8 @@ told_once first window rounds events place =
 
 pub one_telling : (first window rounds : ℕ) (events : List HubEvent) (place : ℕ)
     → IsSentPlace (after_events (new_hub first window rounds) events) place
-    → tellings (after_events (new_hub first window rounds) events) (all_fates (new_hub first window rounds) events) place
+    → tellings (after_events (new_hub first window rounds) events)
+    (all_fates (new_hub first window rounds) events) place
     ≡ 1
 one_telling first window rounds events place is =
     let sent = length (after_events (new_hub first window rounds) events).sent in

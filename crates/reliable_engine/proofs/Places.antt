@@ -1,13 +1,12 @@
 -- The places of a window.
-use Rattle.std.proofs.Common.{◌≡◌, ℕ, zero, suc, ◌+◌, ◌<◌, ◌≤◌, true, List, [], ◌∷◌}
-use Rattle.std.proofs.Common.{length, get_or, All, arith}
+use Rattle.std.proofs.Common.{◌≡◌, ℕ, ◌+◌, ◌≤◌, true, List, [], ◌∷◌, arith}
 use Rattle.std.specs.Prelude.{◌^◌}
 use Rattle.packet_ids.specs.Identifier.{identifier_at, IsIdentifier}
 use Rattle.world_model.specs.declared.offered.OpenPlace.{OpenPlace}
 use Rattle.world_model.specs.Hub.{least, places}
 use Rattle.world_model.specs.Facts.{AreRising, has, IsWindow}
-use Rattle.world_model.proofs.Places.{has_below, has_from, one_place, rising_end}
-use Rattle.reliable_engine.specs.Steps.{CanBeNamed, IsSent}
+use Rattle.world_model.proofs.Places.{has_below, has_from, one_place, rising_from}
+use Rattle.reliable_engine.specs.Slots.{AreUpTo}
 
 -- ---- the window
 
@@ -34,19 +33,14 @@ open_once first window sent a b ps id is there other same =
     one_place first a b id (omega (arith, is.from_one)) (omega (arith, is.from_one))
     (omega (arith, is.within, is.few)) (omega (arith, is.within, is.few)) same
 
-rising_at : (from past : ℕ) (os : List OpenPlace) (k : ℕ) (d : OpenPlace) → AreRising from past (places os)
-    → k < length os → (from ≤ (get_or os k d).place) × ((get_or os k d).place < past)
-rising_at from past [] k d r h = absurd (omega arith)
-rising_at from past (o ∷ os) zero d r h = let e = rising_end (o.place + 1) past (places os) r.1 in (r.0, omega arith)
-rising_at from past (o ∷ os) (suc k) d r h =
-    let i = rising_at (o.place + 1) past os k d r.1 (omega arith) in
-    (omega arith, i.1)
+pub up_to_sent : (window sent : ℕ) (os : List OpenPlace) → IsWindow window sent (places os) → AreUpTo sent os
+up_to_sent window sent os is = rising_from 1 (least (places os) (sent + 1)) (sent + 1) (places os) is.from_one is.rising
 
-pub all_sent : (window sent : ℕ) (os : List OpenPlace) → IsWindow window sent (places os) → All (IsSent sent) os
-all_sent window sent os is k d h =
-    let r = rising_at _ _ os k d is.rising h in
-    (omega (arith, is.from_one), omega arith)
+rising_to : (from past end : ℕ) (ps : List ℕ) → past ≤ end → AreRising from past ps → AreRising from end ps
+rising_to from past end [] more r = omega arith
+rising_to from past end (p ∷ ps) more r = (r.0, rising_to (p + 1) past end ps more r.1)
 
-pub all_named : (window sent : ℕ) (os : List OpenPlace) → IsWindow window sent (places os) → sent ≤ 2 ^ 62
-    → All CanBeNamed os
-all_named window sent os is few k d h = let r = all_sent window sent os is k d h in (r.0, omega arith)
+pub up_to_end : (window sent : ℕ) (os : List OpenPlace) → IsWindow window sent (places os) → sent ≤ 2 ^ 62
+    → AreUpTo (2 ^ 62) os
+up_to_end window sent os is few =
+    rising_to 1 (sent + 1) (2 ^ 62 + 1) (places os) (omega arith) (up_to_sent window sent os is)

@@ -2,6 +2,7 @@
 use Rattle.std.specs.Prelude.{◌≡◌, ◌⊎◌, ℕ, ◌+◌, ◌≤◌, ◌<◌, true, false, [], length, drop, Option, Some, None}
 use Rattle.std.specs.List.{AllByRecursion}
 use Rattle.packet_ids.specs.Identifier.{identifier_at}
+use Rattle.world_model.specs.declared.offered.Offered.{Offered}
 use Rattle.world_model.specs.declared.offered.OpenPlace.{OpenPlace}
 use Rattle.world_model.specs.declared.sending.Sending.{Sending}
 use Rattle.world_model.specs.declared.sending.Sending.TheVariants as sends
@@ -12,6 +13,11 @@ use Rattle.world_model.specs.Facts.{has}
 -- how many bodies were offered, without those that were never sent and never will be
 abbrev pub body_count : Hub → ℕ
 body_count hub = length hub.sent + length hub.queue
+
+-- the tag of a body that is there
+abbrev pub tag_there : Option Offered → Option ℕ
+tag_there None = None
+tag_there (Some offered) = Some offered.tag
 
 -- a place whose body was sent and whose reply was not taken
 abbrev pub IsOpen : Hub → ℕ → Type 0

@@ -10,8 +10,7 @@ use Rattle.world_model.specs.Sends.{next_send}
 use Rattle.reliable_engine.specs.Answers.{IsOpen, IsQuiet, NamesOpenPlace, TellsPlace, hub_next, told_first}
 
 -- a body is offered; a status reply with this identifier, the reply with this identifier, or nothing at all is heard;
--- the next
--- send is taken; the first fate is handed out
+-- the next send is taken; the first fate is handed out
 pub data HubEvent : Type 0 where
   Offer : Offered → HubEvent
   Status : ℕ → HubEvent

@@ -1,8 +1,10 @@
 pub mod Answers
 pub mod Events
 pub mod Examples
+pub mod OpenPlaces
 pub mod SendOrder
 pub mod Settings
+pub mod Slots
 pub mod Steps
 pub mod ToldFates
 pub mod View

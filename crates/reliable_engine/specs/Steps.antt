@@ -1,9 +1,8 @@
 -- What private functions promise one another. No public contract speaks of it.
-use Rattle.std.specs.Prelude.{◌≡◌, ℕ, ◌+◌, ◌≤◌, ◌^◌, List, [], ◌∷◌, ◌++◌, take, drop, map, false, Option, Some, None, if◌then◌else◌}
-use Rattle.packet_ids.specs.Identifier.{identifier_at}
+use Rattle.std.specs.Prelude.{ℕ, ◌+◌, List, [], ◌∷◌, map, false, Option, Some, None, if◌then◌else◌}
 use Rattle.world_model.specs.declared.offered.OpenPlace.{OpenPlace}
 use Rattle.world_model.specs.declared.sending.Sending.{Sending}
-use Rattle.world_model.specs.Hub.{Hub, open_with, want_control, without}
+use Rattle.world_model.specs.Hub.{Hub, want_control, without}
 use Rattle.world_model.specs.Sends.{Wanted, after_open}
 
 -- the hub that goes on after a give-up, and any other as it is
@@ -12,14 +11,6 @@ resumed hub = record hub {
   open_places = if hub.gave_up then map want_control hub.open_places else hub.open_places;
   gave_up = false;
 }
-
--- a place that has an identifier
-abbrev pub CanBeNamed : OpenPlace → Type 0
-CanBeNamed o = (1 ≤ o.place) × (o.place ≤ 2 ^ 63)
-
--- a place of one of so many bodies
-abbrev pub IsSent : ℕ → OpenPlace → Type 0
-IsSent sent o = (1 ≤ o.place) × (o.place ≤ sent)
 
 -- the open places after one was taken out
 abbrev pub places_after : List OpenPlace → Option OpenPlace → List OpenPlace
@@ -44,9 +35,3 @@ waits (o ∷ os) = (if o.waited then 1 else 0) + waits os
 abbrev pub prepend : List OpenPlace → Option Wanted → Option Wanted
 prepend [] later = later
 prepend (o ∷ os) later = after_open o (prepend os later)
-
--- no place before this index has the identifier
-pub record IsPast (first id at : ℕ) (os : List OpenPlace) : Type 0 where
-  pub found : open_with first id (drop at os) ≡ open_with first id os
-  pub others : (place : ℕ) → identifier_at first place ≡ id
-      → without place os ≡ take at os ++ without place (drop at os)

@@ -7,7 +7,8 @@ use Rattle.world_model.specs.declared.offered.Fate.TheVariants.{Replied, TimedOu
 use Rattle.world_model.specs.Hub.{Hub}
 use Rattle.world_model.specs.Facts.{IsTagged}
 use Rattle.world_model.specs.History.{placed_tags, tag_of_fate, tag_of_offered, times, waited_tags}
-use Rattle.reliable_engine.specs.Events.{HubEvent, Offer, Status, Reply, Quiet, Send, HandOut, after_event, after_events}
+use Rattle.reliable_engine.specs.Events.{HubEvent, Offer, Status, Reply, Quiet, Send, HandOut, after_event}
+use Rattle.reliable_engine.specs.Events.{after_events}
 
 -- the fate that an event hands out
 abbrev pub handed : Hub → HubEvent → List (ℕ × Fate)

@@ -14,7 +14,7 @@ hub_of e = record {
   rounds = e.rounds;
   sent = take e.sent e.bodies.items;
   queue = drop e.sent e.bodies.items;
-  open_places = e.open_places.items;
+  open_places = e.open_places;
   status_requests = e.status_requests;
   status_wanted = e.status_wanted;
   gave_up = e.gave_up;
@@ -22,16 +22,13 @@ hub_of e = record {
 }
 
 -- The bodies that were offered are `count` in all, without those that were never sent; the first `sent` of them have a
--- place.
--- There is room for the places and the fates of all.
-pub record Keeps (first window sent count : ℕ) (os : List OpenPlace) (place_room fates fate_room : ℕ) : Type 0 where
+-- place. There is room for the fates of all.
+pub record Keeps (first window sent count : ℕ) (os : List OpenPlace) (fates fate_room : ℕ) : Type 0 where
   pub identifier : IsIdentifier first
   pub within : sent ≤ count
   pub few : count ≤ 2 ^ 62
   pub in_window : IsWindow window sent (places os)
-  pub places_fit : length os + (count - sent) ≤ place_room
   pub fates_fit : fates + waits os + (count - sent) ≤ fate_room
 
 abbrev pub IsKept : Inside → Type 0
-IsKept e = Keeps e.first e.window e.sent (length e.bodies.items) e.open_places.items e.open_places.cap e.fates.len
-    e.fates.cap
+IsKept e = Keeps e.first e.window e.sent (length e.bodies.items) e.open_places e.fates.len e.fates.cap

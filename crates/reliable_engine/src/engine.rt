@@ -1,22 +1,19 @@
 //! The engine: what it hears, what it sends, and what became of the bodies.
 
-ghost use Rattle.std.specs.Prelude.{◌≡◌, ◌↔◌, ◌≤◌, ◌<◌, ◌+◌, ◌^◌, ◌++◌, ◌∷◌, [], true, length, min};
+ghost use Rattle.std.specs.Prelude.{◌≡◌, ◌↔◌, ◌≤◌, ◌<◌, ◌+◌, ◌^◌, true, length, min};
 ghost use Rattle.std.specs.List.{slice_get};
 ghost use Rattle.std.specs.Prelude.{IfOk, OnOk, IfErr, OnErr, IfSome, IsTrue, IsNone};
-ghost use Rattle.std.specs.Vec.{vec_len, vec_capacity};
 ghost use Rattle.packet_ids.specs.Identifier.{IsIdentifier};
 ghost use Rattle.world_model.specs.Places.{at_place};
 ghost use Rattle.world_model.specs.Hub.{new_hub, offer, hear_reply, hear_status, hear_quiet, give_up, is_waiting};
 ghost use Rattle.world_model.specs.Hub.{low, told_place, words_of};
-ghost use Rattle.world_model.specs.Sends.{first_send, next_send, opened};
+ghost use Rattle.world_model.specs.Sends.{first_send, next_send};
 ghost use Rattle.reliable_engine.specs.Answers.{HasNothingToSend, IsOpen, IsSendOf, NamesOpenPlace, TellsPlace};
-ghost use Rattle.reliable_engine.specs.Answers.{body_count, hub_next, sent_next, told_first};
+ghost use Rattle.reliable_engine.specs.Answers.{body_count, hub_next, sent_next, tag_there, told_first};
 ghost use Rattle.reliable_engine.specs.Steps.{resumed};
 
-use crate::fates::{put_fate, put_time_outs, put_unsent};
-use crate::open_places::{
-    abandon_all, is_any_waited, recover_all, take_open, take_wanted, want_all,
-};
+use crate::fates::{put_fate, put_unsent};
+use crate::open_places::OpenPlaces;
 use crate::settings::Settings;
 use ipb_base::{NoMemory, Words};
 use packet_ids::{Id, id_at, place_of};
@@ -24,7 +21,7 @@ use status_packet::Status;
 use std::alloc::Global;
 use std::collections::VecDeque;
 use std::marker::Model;
-use world_model::{Fate, Offered, OpenPlace, Sending};
+use world_model::{Fate, Offered, Sending};
 
 /// The hub's side of one board (IPbus 2.0, reliability mechanism). Contracts see it as `world_model`'s hub: the bodies
 /// that were sent, by place, those that wait, the open places, the round that is under way, and the fates that are not
@@ -36,7 +33,7 @@ pub struct Engine {
     rounds: u8,
     bodies: Vec<Offered>,
     sent: usize,
-    open_places: Vec<OpenPlace>,
+    open_places: OpenPlaces,
     status_requests: u8,
     status_wanted: bool,
     gave_up: bool,
@@ -67,7 +64,7 @@ impl Engine {
             rounds: settings.rounds(),
             bodies: Vec::new(alloc),
             sent: 0,
-            open_places: Vec::new(alloc),
+            open_places: OpenPlaces::new(),
             status_requests: 0,
             status_wanted: false,
             gave_up: false,
@@ -76,7 +73,7 @@ impl Engine {
     }
 
     /// Offers a body under a tag. The first offer since a give-up has the control packet of each open place sent again
-    /// (profile). It takes the room that the body, its place and its fate will need, so no later call takes memory.
+    /// (profile). It takes the room that the body and its fate will need, so no later call takes memory.
     /// Where memory ran out the body is given back, and nothing changed. At most 2^62 bodies are offered.
     pub fn offer(&mut self, tag: u64, body: Words) -> Result<(), Words>
         requires few { body_count self.old < 2 ^ 62 }
@@ -86,10 +83,8 @@ impl Engine {
         ensures counted { body_count self.new ≤ body_count self.old + 1 }
     {
         let queued = self.bodies.len() - self.sent;
-        let Ok(()) = self.open_places.reserve(queued + 1) else {
-            return Err(body);
-        };
-        let Ok(()) = self.fates.reserve(self.open_places.len() + queued + 1) else {
+        // of the bodies that were sent, at most `window` have no fate yet
+        let Ok(()) = self.fates.reserve(self.window as usize + queued + 1) else {
             return Err(body);
         };
         if let Err(refused) = self.bodies.push(Offered { tag, body }) {
@@ -112,7 +107,7 @@ impl Engine {
         }
         match self.told_place(status.next) {
             Some(told) => {
-                recover_all(&mut self.open_places, told);
+                self.open_places.recover_all(told);
                 true
             }
             None => false,
@@ -127,7 +122,7 @@ impl Engine {
         ensures taken { IsTrue result ↔ NamesOpenPlace self.old id }
         ensures counted { body_count self.new ≡ body_count self.old }
     {
-        let Some(settled) = take_open(&mut self.open_places, self.first, id) else {
+        let Some(settled) = self.open_places.take_open(self.first, id) else {
             return false;
         };
         self.status_requests = 0; // the round is over
@@ -159,12 +154,12 @@ impl Engine {
     pub fn waiting(&self) -> bool
         ensures { result ≡ is_waiting self.now }
     {
-        self.sent < self.bodies.len() || is_any_waited(&self.open_places)
+        self.sent < self.bodies.len() || self.open_places.is_any_waited()
     }
 
-    /// Takes what is to be sent next: a wanted status request; then what is wanted for open places, by place, at one
-    /// place the re-send request before the control packet; then the bodies that wait, in the order of offers, while
-    /// the window has room (profile). `None` where nothing of this is left.
+    /// Takes what is to be sent next (profile). A status request comes first where one is wanted, and then what open
+    /// places want, lowest place first, a re-send request going before a control packet of the same place. A body that
+    /// waits for its first send comes after these, if the window has room for it. `None` says that nothing is left.
     pub fn next_send(&mut self) -> Option<Sending>
         ensures send { result ≡ sent_next (next_send self.old) }
         ensures hub { self.new ≡ hub_next self.old (next_send self.old) }
@@ -176,7 +171,7 @@ impl Engine {
             self.status_wanted = false;
             return Some(Sending::Status);
         }
-        if let Some(send) = take_wanted(&mut self.open_places, self.first) {
+        if let Some(send) = self.open_places.take_wanted(self.first) {
             return Some(send);
         }
         self.first_send()
@@ -197,6 +192,20 @@ impl Engine {
         self.bodies[(place - 1) as usize].body.as_slice()
     }
 
+    /// The tag of the body at a place. `None` where no body has it.
+    pub fn tag_at(&self, place: u64) -> Option<u64>
+        ensures { result ≡ tag_there (at_place self.now.sent place) }
+    {
+        if place == 0 {
+            return None;
+        }
+        if place > self.sent as u64 {
+            return None;
+        }
+        let offered = &self.bodies[(place - 1) as usize];
+        Some(offered.tag)
+    }
+
     /// Hands out the first fate that was not handed out, with the tag of its body. `None` where there is none.
     pub fn settled(&mut self) -> Option<(u64, Fate)>
         ensures fate { result ≡ slice_get self.old.fates 0 }
@@ -212,7 +221,7 @@ impl Engine {
         ensures counted { body_count self.new ≡ body_count self.old }
     {
         if self.gave_up {
-            want_all(&mut self.open_places);
+            self.open_places.want_all();
             self.gave_up = false;
         }
     }
@@ -222,15 +231,11 @@ impl Engine {
         ensures hub { self.new ≡ give_up self.old }
         ensures counted { body_count self.new ≤ body_count self.old }
     {
-        put_time_outs(
-            &mut self.fates,
-            &self.bodies[..self.sent],
-            &self.open_places,
-            self.rounds,
-        );
+        self.open_places
+            .put_time_outs(&mut self.fates, &self.bodies[..self.sent], self.rounds);
         put_unsent(&mut self.fates, &self.bodies[self.sent..]);
         self.bodies.truncate(self.sent);
-        abandon_all(&mut self.open_places);
+        self.open_places.abandon_all();
         self.status_requests = 0;
         self.status_wanted = false;
         self.gave_up = true;
@@ -251,7 +256,7 @@ impl Engine {
             return None;
         }
         self.sent += 1;
-        push_open(&mut self.open_places, place);
+        self.open_places.open(place);
         Some(Sending::Control {
             place,
             id: id_at(self.first, place),
@@ -275,27 +280,6 @@ impl Engine {
         ensures near { length self.now.sent < result + 16 }
         ensures few { length self.now.sent ≤ 2 ^ 62 }
     {
-        if self.open_places.is_empty() {
-            self.sent as u64 + 1
-        } else {
-            self.open_places[0].place
-        }
+        self.open_places.low(self.sent as u64 + 1)
     }
-}
-
-/// Opens a place, for which there is room.
-fn push_open(places: &mut Vec<OpenPlace>, place: u64)
-    requires { vec_len places.old < vec_capacity places.old }
-    ensures items { places.new.items ≡ places.old.items ++ opened place ∷ [] }
-    ensures len { vec_len places.new ≡ vec_len places.old + 1 }
-    ensures capacity { vec_capacity places.old ≤ vec_capacity places.new }
-{
-    places
-        .push(OpenPlace {
-            place,
-            waited: true,
-            resend: false,
-            control: false,
-        })
-        .unwrap();
 }

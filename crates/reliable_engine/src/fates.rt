@@ -1,12 +1,14 @@
 //! The fates that are not handed out yet: by place, and then those of bodies that were never sent.
 
-ghost use Rattle.std.specs.Prelude.{◌≡◌, ◌≤◌, ◌<◌, ◌+◌, ℕ, length, map, All, ◌++◌};
+ghost use Rattle.std.specs.Prelude.{◌≡◌, ◌≤◌, ◌<◌, ◌+◌, ◌^◌, ℕ, length, map, ◌++◌, ◌∷◌, []};
 ghost use Rattle.std.specs.List.{insert};
 ghost use Rattle.std.specs.VecDeque.{deque_len, deque_capacity};
 ghost use Rattle.world_model.specs.declared.offered.Fate.{Fate as FateValue};
 ghost use Rattle.world_model.specs.Hub.{insert_fate, goes_before, time_out, unsent};
-ghost use Rattle.reliable_engine.specs.Steps.{IsSent, waits};
+ghost use Rattle.reliable_engine.specs.Slots.{AreUpTo, open_from};
+ghost use Rattle.reliable_engine.specs.Steps.{waits};
 
+use crate::slots::{Flags, SLOTS, read_slot};
 use std::collections::VecDeque;
 use world_model::{Fate, Offered, OpenPlace};
 
@@ -46,27 +48,45 @@ pub(crate) fn put_fate(fates: &mut VecDeque<(u64, Fate)>, place: u64, tag: u64, 
     fates.insert(at, (tag, fate)).unwrap();
 }
 
-/// Gives each place that is waited for the fate of a time-out.
+/// Gives each place that is waited for the fate of a time-out, where the lowest open place is `low`.
 pub(crate) fn put_time_outs(
     fates: &mut VecDeque<(u64, Fate)>,
     sent: &[Offered],
-    places: &[OpenPlace],
+    slots: &[Option<Flags>],
+    low: u64,
     rounds: u8,
 )
-    requires room { deque_len fates.old + waits places.now ≤ deque_capacity fates.old }
-    requires places { All (IsSent (length sent.now)) places.now }
-    ensures items { fates.new.items ≡ time_out rounds sent.now places.now fates.old.items }
-    ensures len { deque_len fates.new ≡ deque_len fates.old + waits places.now }
+    requires slots { length slots.now ≡ SLOTS }
+    requires low { low ≤ 2 ^ 62 }
+    requires room { deque_len fates.old + waits (open_from slots.now low SLOTS) ≤ deque_capacity fates.old }
+    requires places { AreUpTo (length sent.now) (open_from slots.now low SLOTS) }
+    ensures items { fates.new.items ≡ time_out rounds sent.now (open_from slots.now low SLOTS) fates.old.items }
+    ensures len { deque_len fates.new ≡ deque_len fates.old + waits (open_from slots.now low SLOTS) }
     ensures capacity { deque_capacity fates.old ≤ deque_capacity fates.new }
 {
-    for at in 0..places.len() {
-        let open = places[at];
-        if open.waited {
-            let tag = sent[(open.place - 1) as usize].tag;
-            let place = open.place;
-            put_fate(fates, place, tag, Fate::TimedOut { place, rounds });
-        }
+    for place in low..low + SLOTS {
+        let Some(open) = read_slot(slots, place) else {
+            continue;
+        };
+        put_time_out(fates, sent, open, rounds);
     }
+}
+
+/// Gives a place the fate of a time-out, if it is waited for.
+fn put_time_out(fates: &mut VecDeque<(u64, Fate)>, sent: &[Offered], entry: OpenPlace, rounds: u8)
+    requires room { deque_len fates.old + waits (entry ∷ []) ≤ deque_capacity fates.old }
+    requires from_one { 1 ≤ entry.place }
+    requires sent { entry.place ≤ length sent.now }
+    ensures items { fates.new.items ≡ time_out rounds sent.now (entry ∷ []) fates.old.items }
+    ensures len { deque_len fates.new ≡ deque_len fates.old + waits (entry ∷ []) }
+    ensures capacity { deque_capacity fates.old ≤ deque_capacity fates.new }
+{
+    if !entry.waited {
+        return;
+    }
+    let tag = sent[(entry.place - 1) as usize].tag;
+    let place = entry.place;
+    put_fate(fates, place, tag, Fate::TimedOut { place, rounds });
 }
 
 /// Gives each queued body the fate of one that was never sent.

@@ -50,8 +50,8 @@ pub fn a_settled_place_is_closed_for_good()
         → ¬ IsOpen (after_events hub events) place }
 {}
 
-/// What is sent is a status request, the request for the reply of an open place, or the control packet of an open place:
-/// never that of a place that was settled.
+/// What is sent is a status request, the request for the reply of an open place, or the control packet of an open
+/// place: never that of a place that was settled.
 pub fn no_send_is_for_a_closed_place()
     ensures open_place { (hub : Hub) (next : Next) → next_send hub ≡ Some next → IsSendOf next.hub next.send }
     ensures not_again { (hub : Hub) (events : List HubEvent) (next : Next) (place id : ℕ) → place ≤ length hub.sent
@@ -93,8 +93,8 @@ pub fn a_give_up_ends_all_waiting()
         → (offer hub offered).open_places ≡ hub.open_places }
 {}
 
-/// Each quiet receive begins one round at most, and exactly one where no place is settled. So a hub that has begun none,
-/// as after a settled place, gives up only after as many quiet receives as its rounds, and then at the next one.
+/// Each quiet receive begins one round at most, and exactly one where no place is settled. So a hub that has begun
+/// none, as after a settled place, gives up only after as many quiet receives as its rounds, and then at the next one.
 pub fn a_hub_gives_up_after_its_rounds()
     ensures counted { (hub : Hub) (events : List HubEvent)
         → (after_events hub events).status_requests ≤ hub.status_requests + quiets events }
@@ -124,8 +124,8 @@ pub fn the_fate_of_a_place_is_told_once()
         → IsSentPlace (after_events (new_hub first window rounds) events) place }
 {}
 
-/// Each offered body stands once among the fates, the bodies that are waited for and those that are queued. So no tag has
-/// more fates than offers.
+/// Each offered body stands once among the fates, the bodies that are waited for and those that are queued. So no tag
+/// has more fates than offers.
 pub fn an_offered_body_has_one_fate()
     ensures account { (first window rounds : ℕ) (events : List HubEvent) (tag : ℕ)
         → IsAccounted (after_events (new_hub first window rounds) events)
@@ -161,8 +161,9 @@ pub fn fates_wait_by_place()
         → AreByPlace 0 (after_events (new_hub first window rounds) events).fates }
 {}
 
-/// A status request becomes wanted only while a body has no fate: where one is wanted, a quiet receive came while a body
-/// waited, and nothing was sent since. A reply may have settled that body in between; the request is sent all the same.
+/// A status request becomes wanted only while a body has no fate: where one is wanted, a quiet receive came while a
+/// body waited, and nothing was sent since. A reply may have settled that body in between; the request is sent all the
+/// same.
 pub fn a_status_is_asked_for_while_a_body_waits()
     ensures becomes { (hub : Hub) (event : HubEvent) → IsAllowed hub event → hub.status_wanted ≡ false
         → (after_event hub event).status_wanted ≡ true → is_waiting (after_event hub event) ≡ true }

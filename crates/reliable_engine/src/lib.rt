@@ -10,6 +10,7 @@ mod fates;
 pub mod laws;
 mod open_places;
 mod settings;
+mod slots;
 
 pub use engine::Engine;
 pub use ipb_base::{NoMemory, Words};

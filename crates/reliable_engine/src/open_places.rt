@@ -1,107 +1,148 @@
-//! The open places, in rising order.
+//! The open places of a window.
 
-ghost use Rattle.std.specs.Prelude.{◌≡◌, map, All};
-ghost use Rattle.std.specs.Vec.{vec_capacity};
-ghost use Rattle.world_model.specs.Hub.{want_control, abandoned, recover, some_waited, open_with};
-ghost use Rattle.world_model.specs.Sends.{wanted};
-ghost use Rattle.reliable_engine.specs.Steps.{CanBeNamed, places_after, sending_of, places_wanted};
+ghost use Rattle.std.specs.Prelude.{◌≡◌, ◌≤◌, ◌<◌, ◌+◌, ◌++◌, ◌∷◌, ◌^◌, [], length, map};
+ghost use Rattle.std.specs.VecDeque.{deque_len, deque_capacity};
+ghost use Rattle.world_model.specs.Hub.{abandoned, least, open_with, places, recover, some_waited, time_out};
+ghost use Rattle.world_model.specs.Hub.{want_control};
+ghost use Rattle.world_model.specs.Sends.{opened, wanted};
+ghost use Rattle.world_model.specs.Facts.{AreRising};
+ghost use Rattle.reliable_engine.specs.Slots.{AreUpTo};
+ghost use Rattle.reliable_engine.specs.Steps.{places_after, places_wanted, sending_of, waits};
 
-use packet_ids::{Id, id_at};
-use world_model::{OpenPlace, Sending};
+use crate::fates::put_time_outs;
+use crate::slots::{
+    Flags, SLOTS, abandon_slots, clear_slot, is_any_slot_waited, lowest_open, put_slot, read_slot,
+    recover_slots, take_wanted_slot,
+};
+use packet_ids::{Id, place_of};
+use std::collections::VecDeque;
+use std::marker::Model;
+use world_model::{Fate, Offered, OpenPlace, Sending};
 
-/// Has the control packet of each place sent again.
-pub(crate) fn want_all(places: &mut [OpenPlace])
-    ensures { places.new ≡ map want_control places.old }
-{
-    for open in places {
-        open.control = true;
-    }
+/// The open places of a window, each in its slot. Contracts see them by rising place.
+#[derive(Drop)]
+pub(crate) struct OpenPlaces {
+    slots: [Option<Flags>; SLOTS as usize],
+    /// The lowest open place: the others are less than `SLOTS` above it. Where none is open, any place.
+    low: u64,
 }
 
-/// Nobody waits for the places any more, and nothing is to be sent for them.
-pub(crate) fn abandon_all(places: &mut [OpenPlace])
-    ensures { places.new ≡ map abandoned places.old }
-{
-    for open in places {
-        *open = OpenPlace {
-            place: open.place,
-            waited: false,
-            resend: false,
-            control: false,
-        };
-    }
+impl Model for OpenPlaces {
+    ghost use Rattle.std.specs.Prelude.{List};
+    ghost use Rattle.world_model.specs.declared.offered.OpenPlace.{OpenPlace};
+
+    ghost Value = { List OpenPlace };
+
+    ghost use Rattle.reliable_engine.specs.OpenPlaces.{AreKept, open_places_of};
+
+    ghost view = { open_places_of };
+
+    ghost invariant = { AreKept };
 }
 
-/// Has each place recovered, where the board expects the packet of the place `told`.
-pub(crate) fn recover_all(places: &mut [OpenPlace], told: u64)
-    ensures { places.new ≡ map (recover told) places.old }
-{
-    for open in places {
-        recover_one(open, told);
-    }
-}
-
-/// The board executed the packets of the places below `told`: their replies are asked for. The others are sent again.
-fn recover_one(place: &mut OpenPlace, told: u64)
-    ensures { place.new ≡ recover told place.old }
-{
-    if place.place < told {
-        place.resend = true;
-    } else {
-        place.control = true;
-    }
-}
-
-/// Whether the fate of one of the places is owed to somebody.
-pub(crate) fn is_any_waited(places: &[OpenPlace]) -> bool
-    ensures { result ≡ some_waited places.now }
-{
-    for open in places {
-        if open.waited {
-            return true;
+impl OpenPlaces {
+    /// No open places.
+    pub(crate) fn new() -> OpenPlaces
+        ensures { result ≡ [] }
+    {
+        OpenPlaces {
+            slots: [None; SLOTS as usize],
+            low: 1,
         }
     }
-    false
-}
 
-/// Takes out the place with an identifier.
-pub(crate) fn take_open(places: &mut Vec<OpenPlace>, first: Id, id: Id) -> Option<OpenPlace>
-    requires places { All CanBeNamed places.old.items }
-    ensures found { result ≡ open_with first id places.old.items }
-    ensures after { places.new.items ≡ places_after places.old.items result }
-    ensures capacity { vec_capacity places.new ≡ vec_capacity places.old }
-{
-    for at in 0..places.len() {
-        let open = places[at];
-        if id_at(first, open.place).get() == id.get() {
-            places.remove(at);
-            return Some(open);
+    /// The lowest open place, or `next` where none is open.
+    pub(crate) fn low(&self, next: u64) -> u64
+        ensures { result ≡ least (places self.now) next }
+    {
+        match read_slot(&self.slots, self.low) {
+            Some(open) => open.place,
+            None => next,
         }
     }
-    None
-}
 
-/// Takes the first send that is wanted for a place: at one place the re-send request before the control packet.
-pub(crate) fn take_wanted(places: &mut [OpenPlace], first: Id) -> Option<Sending>
-    requires places { All CanBeNamed places.old }
-    ensures send { result ≡ sending_of (wanted first places.old) }
-    ensures after { places.new ≡ places_wanted places.old (wanted first places.old) }
-{
-    for at in 0..places.len() {
-        let open = places[at];
-        if open.resend {
-            places[at].resend = false;
-            return Some(Sending::Resend {
-                id: id_at(first, open.place),
-            });
-        }
-        if open.control {
-            places[at].control = false;
-            return Some(Sending::Control {
-                place: open.place,
-                id: id_at(first, open.place),
-            });
-        }
+    /// Opens a place above the others, less than `SLOTS` above the lowest.
+    pub(crate) fn open(&mut self, place: u64)
+        requires from_one { 1 ≤ place }
+        requires up_to_end { place ≤ 2 ^ 62 }
+        requires above { AreRising (least (places self.old) place) place (places self.old) }
+        requires near { place < least (places self.old) place + SLOTS }
+        ensures { self.new ≡ self.old ++ opened place ∷ [] }
+    {
+        self.low = self.low(place);
+        put_slot(
+            &mut self.slots,
+            OpenPlace {
+                place,
+                waited: true,
+                resend: false,
+                control: false,
+            },
+        );
     }
-    None
+
+    /// Has the control packet of each place sent again.
+    pub(crate) fn want_all(&mut self)
+        ensures { self.new ≡ map want_control self.old }
+    {
+        self.recover_all(0); // as where the board executed none of them
+    }
+
+    /// Nobody waits for the places any more, and nothing is to be sent for them.
+    pub(crate) fn abandon_all(&mut self)
+        ensures { self.new ≡ map abandoned self.old }
+    {
+        abandon_slots(&mut self.slots, self.low);
+    }
+
+    /// Has each place recovered, where the board expects the packet of the place `told`.
+    pub(crate) fn recover_all(&mut self, told: u64)
+        ensures { self.new ≡ map (recover told) self.old }
+    {
+        recover_slots(&mut self.slots, self.low, told);
+    }
+
+    /// Whether the fate of one of the places is owed to somebody.
+    pub(crate) fn is_any_waited(&self) -> bool
+        ensures { result ≡ some_waited self.now }
+    {
+        is_any_slot_waited(&self.slots, self.low)
+    }
+
+    /// Takes out the place with an identifier, which tells how far above the lowest it is.
+    pub(crate) fn take_open(&mut self, first: Id, id: Id) -> Option<OpenPlace>
+        requires places { AreUpTo (2 ^ 62) self.old }
+        ensures found { result ≡ open_with first id self.old }
+        ensures after { self.new ≡ places_after self.old result }
+    {
+        let place = place_of(first, self.low, SLOTS, id)?;
+        let open = read_slot(&self.slots, place)?;
+        clear_slot(&mut self.slots, place);
+        self.low = lowest_open(&self.slots, self.low);
+        Some(open)
+    }
+
+    /// Takes the first send that is wanted for a place: at one place the re-send request before the control packet.
+    pub(crate) fn take_wanted(&mut self, first: Id) -> Option<Sending>
+        ensures send { result ≡ sending_of (wanted first self.old) }
+        ensures after { self.new ≡ places_wanted self.old (wanted first self.old) }
+    {
+        take_wanted_slot(&mut self.slots, self.low, first)
+    }
+
+    /// Gives each place that is waited for the fate of a time-out.
+    pub(crate) fn put_time_outs(
+        &self,
+        fates: &mut VecDeque<(u64, Fate)>,
+        sent: &[Offered],
+        rounds: u8,
+    )
+        requires room { deque_len fates.old + waits self.now ≤ deque_capacity fates.old }
+        requires places { AreUpTo (length sent.now) self.now }
+        ensures items { fates.new.items ≡ time_out rounds sent.now self.now fates.old.items }
+        ensures len { deque_len fates.new ≡ deque_len fates.old + waits self.now }
+        ensures capacity { deque_capacity fates.old ≤ deque_capacity fates.new }
+    {
+        put_time_outs(fates, sent, &self.slots, self.low, rounds);
+    }
 }

@@ -39,8 +39,8 @@ impl Settings {
         Some(Settings { rounds, window })
     }
 
-    /// After how many rounds in a row the hub gives up: 1 to 255. A round is a status request and a receive that ends quiet,
-    /// with no place settled between them.
+    /// After how many rounds in a row the hub gives up: 1 to 255. A round is a status request and a receive that ends
+    /// quiet, with no place settled between them.
     pub fn rounds(self) -> u8
         ensures value { result ≡ self.rounds }
         ensures range { AreLimits self }

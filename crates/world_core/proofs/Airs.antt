@@ -1,20 +1,22 @@
 -- Airs: what counts as a first send, what may be heard, and what an answer adds.
 use Rattle.std.proofs.Common.{◌≡◌, ℕ, ◌+◌, ◌≤◌, Bool, true, false, cond, List, [], ◌∷◌, ◌++◌, length, Option}
-use Rattle.std.proofs.Common.{Some, None, Result, Ok, Err, refl, sym, ap, ◌∙◌, arith, if◌then◌else◌}
+use Rattle.std.proofs.Common.{Some, None, Result, Ok, Err, refl, sym, ap, ◌∙◌, arith, subst, if◌then◌else◌}
 use Rattle.std.proofs.Common.{◌==◌, ◌&&◌}
 use Rattle.std.specs.List.{slice_get}
 use Rattle.packet_codec.specs.declared.packet.BadPacket.{BadPacket}
+use Rattle.packet_codec.specs.declared.packet.Head.{Head}
 use Rattle.packet_codec.specs.declared.packet.Packet.{Packet}
 use Rattle.packet_codec.specs.declared.packet.Order.{Order}
 use Rattle.packet_codec.specs.declared.packet.PacketKind.{PacketKind}
 use Rattle.packet_codec.specs.declared.packet.PacketKind.TheVariants as kinds
-use Rattle.packet_codec.specs.Reading.{packet_of}
+use Rattle.packet_codec.specs.Packet.{head_of}
+use Rattle.packet_codec.specs.Reading.{head_read, packet_of}
+use Rattle.packet_ids.specs.Identifier.{identifier_at}
 use Rattle.world_model.specs.declared.datagram.Datagram.{Datagram}
 use Rattle.world_model.specs.declared.datagram.Direction.{Direction}
 use Rattle.world_model.specs.declared.datagram.Direction.TheVariants.{ToBoard, ToHub}
 use Rattle.world_model.specs.Messages.{ToBoard as MessageToBoard, StatusRequest, ResendRequest, packet_to_board}
-use Rattle.world_model.specs.Messages.{said_to_board}
-use Rattle.world_model.specs.Messages.{to_board}
+use Rattle.world_model.specs.Messages.{said_to_board, to_board}
 use Rattle.world_model.specs.Air.{goes_to, is_alive}
 use Rattle.world_model.specs.Links.{IsHandedAt, Told, first_sends, first_sends_from, heard_by, heard_on}
 use Rattle.world_model.specs.Links.{is_first_message, is_first_send}
@@ -72,27 +74,59 @@ no_first_kind first count kinds.Resend order id body other =
     (Some (ResendRequest id)) None (λ _. refl) (λ _. refl)
 
 -- what is no control packet is no first send
-pub no_first_send : (first count : ℕ) (packet : Packet) → (packet.kind ≡ kinds.Control → ⊥)
+no_first_send : (first count : ℕ) (packet : Packet) → (packet.kind ≡ kinds.Control → ⊥)
     → is_first_message first count (packet_to_board (Ok packet)) ≡ false
 no_first_send first count packet other = no_first_kind first count packet.kind packet.order packet.id packet.body other
 
-by_packet : (bytes : List ℕ) (read : Result Packet BadPacket) → packet_of bytes ≡ read
-    → to_board bytes ≡ packet_to_board read
+abbrev is_sent : ℕ → ℕ → Result Packet BadPacket → Bool
+is_sent first count read = is_first_message first count (packet_to_board read)
+
+of_control : (first count : ℕ) (packet : Packet) → packet.kind ≡ kinds.Control
+    → (packet.id == identifier_at first (count + 1)) ≡ is_sent first count (Ok packet)
+of_control first count packet control =
+    sym (ap (λ (kind : PacketKind). is_first_message first count
+    (said_to_board kind packet.order packet.id packet.body)) control)
+
+control_by : (first count : ℕ) (head : Head) (read : Result Packet BadPacket) → head_read read ≡ Ok head
+    → head.kind ≡ kinds.Control → (head.id == identifier_at first (count + 1)) ≡ is_sent first count read
+control_by first count head (Err fault) e control = absurd cc
+control_by first count head (Ok packet) e control =
+    let same : head_of packet ≡ head = cc in
+    subst (λ (h : Head). h.kind ≡ kinds.Control
+    → (h.id == identifier_at first (count + 1)) ≡ is_sent first count (Ok packet)) same (of_control first count packet)
+    control
+
+other_by : (first count : ℕ) (head : Head) (read : Result Packet BadPacket) → head_read read ≡ Ok head
+    → (head.kind ≡ kinds.Control → ⊥) → false ≡ is_sent first count read
+other_by first count head (Err fault) e other = absurd cc
+other_by first count head (Ok packet) e other =
+    let same : head_of packet ≡ head = cc in
+    subst (λ (h : Head). (h.kind ≡ kinds.Control → ⊥) → false ≡ is_sent first count (Ok packet)) same
+    (λ not. sym (no_first_send first count packet not)) other
+
+fault_by : (first count : ℕ) (fault : BadPacket) (read : Result Packet BadPacket) → head_read read ≡ Err fault
+    → false ≡ is_sent first count read
+fault_by first count fault (Ok packet) e = absurd cc
+fault_by first count fault (Err other) e = refl
+
+-- a control packet is a first send where it has the next identifier
+pub control_by_head : (first count : ℕ) (bytes : List ℕ) (head : Head) → head_read (packet_of bytes) ≡ Ok head
+    → head.kind ≡ kinds.Control
+    → (head.id == identifier_at first (count + 1)) ≡ is_first_send first count ToBoard bytes
 unfolding to_board
-by_packet bytes read is = ap packet_to_board is
+control_by_head first count bytes head = control_by first count head (packet_of bytes)
 
-pub first_by_packet : (first count : ℕ) (bytes : List ℕ) (packet : Packet) → packet_of bytes ≡ Ok packet
-    → is_first_message first count (packet_to_board (Ok packet)) ≡ is_first_send first count ToBoard bytes
-first_by_packet first count bytes packet is = sym (ap (is_first_message first count) (by_packet bytes (Ok packet) is))
+-- another packet is none
+pub other_by_head : (first count : ℕ) (bytes : List ℕ) (head : Head) → head_read (packet_of bytes) ≡ Ok head
+    → (head.kind ≡ kinds.Control → ⊥) → false ≡ is_first_send first count ToBoard bytes
+unfolding to_board
+other_by_head first count bytes head = other_by first count head (packet_of bytes)
 
-none_by : (first count : ℕ) (bytes : List ℕ) (read : Result Packet BadPacket) → packet_of bytes ≡ read
-    → ((packet : Packet) → packet_of bytes ≡ Ok packet → ⊥) → false ≡ is_first_send first count ToBoard bytes
-none_by first count bytes (Ok packet) is not = absurd (not packet is)
-none_by first count bytes (Err fault) is not = sym (ap (is_first_message first count) (by_packet bytes (Err fault) is))
-
-pub first_by_none : (first count : ℕ) (bytes : List ℕ) → ((packet : Packet) → packet_of bytes ≡ Ok packet → ⊥)
+-- bytes that spell no packet are none
+pub none_by_head : (first count : ℕ) (bytes : List ℕ) (fault : BadPacket) → head_read (packet_of bytes) ≡ Err fault
     → false ≡ is_first_send first count ToBoard bytes
-first_by_none first count bytes not = none_by first count bytes (packet_of bytes) refl not
+unfolding to_board
+none_by_head first count bytes fault = fault_by first count fault (packet_of bytes)
 
 -- the count after a send is that of the air
 pub sent_count : (told : Told) (first count sent : ℕ) (bytes : List ℕ) (air : List Datagram) → first ≡ told.board.first

@@ -15,7 +15,9 @@ use Rattle.world_model.specs.declared.sending.Sending.{Sending}
 use Rattle.world_model.specs.declared.sending.Sending.TheVariants as sends
 use Rattle.world_model.specs.Places.{at_place}
 use Rattle.world_model.specs.Hub.{Hub, words_of}
-use Rattle.world_model.specs.Sends.{Next, next_send, pending}
+use Rattle.status_packet.specs.Packets.{status_request, resend_request}
+use Rattle.world_model.specs.Messages.{control_packet}
+use Rattle.world_model.specs.Sends.{Next, bytes_to_send, next_send, pending}
 use Rattle.world_model.specs.World.{World, flush, sent_into, with_hub}
 use Rattle.world_model.specs.Facts.{AreSendable, HasBodies}
 use Rattle.world_core.specs.Messages.{IsWritable}
@@ -121,6 +123,12 @@ bytes_of_words order (word ∷ words) =
     let total = length-append (word_in_order order word) (in_order order words) in
     omega (arith, total, four_bytes order word, bytes_of_words order words)
 
-pub short_packet : (packet : Packet) → length packet.body ≤ MAX_BODY_WORDS
+short_packet : (packet : Packet) → length packet.body ≤ MAX_BODY_WORDS
     → length (packet_bytes packet) ≤ MAX_DATAGRAM
 short_packet packet few = omega (arith, few, bytes_of_words packet.order (packet_words packet))
+
+pub short_send : (hub : Hub) (send : Sending) → IsWritable hub send → length (bytes_to_send hub send) ≤ MAX_DATAGRAM
+short_send hub sends.Status is = short_packet status_request (omega arith)
+short_send hub (sends.Resend id) is = short_packet (resend_request id) (omega arith)
+short_send hub (sends.Control place id) is =
+    short_packet (control_packet Big id (words_of (at_place hub.sent place))) is.1

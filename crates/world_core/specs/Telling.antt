@@ -9,8 +9,8 @@ use Rattle.world_core.specs.declared.link.Received.{Received}
 use Rattle.world_core.specs.declared.link.Received.TheVariants.{Got, Quiet}
 use Rattle.world_core.specs.declared.link.TheConstants.{MAX_DATAGRAM}
 
--- What a link tells: its board and every datagram ever sent, in order; the places in that air of the datagrams that are
--- still to be heard before the next quiet receive; and the places of those that were handed out, in order.
+-- What a link tells: its board, and the air, which is a list of each datagram from the first on. By their places in it:
+-- what has to be heard before a receive can be quiet, and what receives have handed out so far.
 pub record Telling : Type 0 where
   pub told : Told
   pub due : List ℕ
@@ -23,8 +23,8 @@ IfTelling None (Some new) holds = ⊥
 IfTelling (Some old) None holds = ⊥
 IfTelling (Some old) (Some new) holds = holds old new
 
--- A send adds its bytes to the end of the air, as one datagram for the board. It is still to be heard, or it counts as
--- held; and what was still to be heard is so, or datagrams are held. `before` and `now` count those that are held.
+-- The air grows by one datagram for the board, of these bytes. It has to be heard, or the link held one back; and what
+-- had to be heard before still has, or the link held one back. `before` and `now` count what was held back.
 pub record IsSent (bytes : List ℕ) (before now : ℕ) (old new : Telling) : Type 0 where
   pub told : new.told ≡ sent_on old.told bytes
   pub joins : Contains new.due (length old.told.air) ⊎ Rose before now

@@ -1,20 +1,18 @@
 //! The air between a hub and a board, and the board, as a link keeps them that tells.
 
-ghost use Rattle.std.specs.Prelude.{◌≡◌, ◌↔◌, ◌+◌, ◌<◌, ◌^◌, ◌++◌, ◌∷◌, ℕ, List, [], length, IsTrue, Ok};
+ghost use Rattle.std.specs.Prelude.{◌≡◌, ◌↔◌, ◌+◌, ◌<◌, ◌^◌, ◌++◌, ◌∷◌, ℕ, List, [], length, IsTrue};
 ghost use Rattle.std.specs.Prelude.{IfOk, OnOk, OnErr, IfSome, IfNone};
 ghost use Rattle.std.specs.List.{slice_get};
 ghost use Rattle.std.specs.Vec.{vec_len, vec_capacity};
 ghost use Rattle.world_model.specs.declared.datagram.Direction.TheVariants.{ToBoard};
-ghost use Rattle.world_model.specs.Messages.{packet_to_board};
 ghost use Rattle.world_model.specs.Board.{executed};
 ghost use Rattle.world_model.specs.Air.{goes_to, is_alive};
-ghost use Rattle.world_model.specs.Links.{first_sends, heard_by, is_first_message, is_first_send, IsHandedAt, sent_on};
+ghost use Rattle.world_model.specs.Links.{first_sends, heard_by, is_first_send, IsHandedAt, sent_on};
 ghost use Rattle.world_core.specs.Airs.{answers_of, birth_after, IsHeardAt, IsHeardBy, may_hear};
 
 use board_node::Board;
 use ipb_base::NoMemory;
-use packet_codec::laws::reading_is_the_grammar;
-use packet_codec::{BadPacket, Packet, PacketKind, read_packet};
+use packet_codec::{PacketKind, read_head};
 use packet_ids::{Id, id_at};
 use std::alloc::Global;
 use std::marker::Model;
@@ -153,7 +151,7 @@ fn put_send(
     ensures unchanged { OnErr result (air.new.items ≡ air.old.items) }
 {
     let copied = Bytes::from_vec(Vec::from_slice(alloc, bytes)?);
-    let birth = if is_first_send(alloc, first, count, bytes)? {
+    let birth = if is_first_send(first, count, bytes) {
         count + 1
     } else {
         count
@@ -167,30 +165,16 @@ fn put_send(
 }
 
 /// Whether bytes are the control packet of the place after the last first send.
-fn is_first_send(alloc: Global, first: Id, count: u64, bytes: &[u8]) -> Result<bool, NoMemory>
+fn is_first_send(first: Id, count: u64, bytes: &[u8]) -> bool
     requires { count < 2 ^ 63 }
-    ensures { IfOk result (λ is_first. is_first ≡ is_first_send first count ToBoard bytes.now) }
+    ensures { result ≡ is_first_send first count ToBoard bytes.now }
 {
-    reading_is_the_grammar();
-    match read_packet(alloc, bytes) {
-        Ok(packet) => Ok(is_next(&packet, first, count)),
-        Err(fault) => {
-            if fault == BadPacket::NoMemory {
-                return Err(NoMemory);
-            }
-            Ok(false)
-        }
-    }
-}
-
-/// Whether a packet is the control packet of the place after this many first sends.
-fn is_next(packet: &Packet, first: Id, count: u64) -> bool
-    requires { count < 2 ^ 63 }
-    ensures { result ≡ is_first_message first count (packet_to_board (Ok packet.now)) }
-{
-    match packet.kind {
-        PacketKind::Control => packet.id == id_at(first, count + 1).get(),
-        PacketKind::Status | PacketKind::Resend => false,
+    match read_head(bytes) {
+        Ok(head) => match head.kind {
+            PacketKind::Control => head.id == id_at(first, count + 1).get(),
+            PacketKind::Status | PacketKind::Resend => false,
+        },
+        Err(_) => false,
     }
 }
 

@@ -19,7 +19,7 @@ pub use ipb_base::{NoMemory, Words};
 pub use link::{Link, LinkFault, MAX_DATAGRAM, Received};
 pub use message::{Message, read_for_hub};
 pub use reliable_engine::{Engine, Fate, Sending, Settings};
-pub use sending::write_sending;
+pub use sending::{append_sending, write_sending};
 pub use status_packet::Status;
 pub use world::{World, are_short, run_world};
 pub use world_model::{WorldEnd, WorldMove};

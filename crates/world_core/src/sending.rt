@@ -1,12 +1,12 @@
 //! The datagram of a send.
 
-ghost use Rattle.std.specs.Prelude.{◌≡◌, ◌≤◌, length, IfOk};
+ghost use Rattle.std.specs.Prelude.{◌≡◌, ◌≤◌, ◌++◌, length, IfOk, OnOk, OnErr};
 ghost use Rattle.world_core.specs.declared.link.TheConstants.{MAX_DATAGRAM};
 ghost use Rattle.world_model.specs.Sends.{bytes_to_send};
 ghost use Rattle.world_core.specs.Messages.{IsWritable};
 
 use ipb_base::{NoMemory, Words};
-use packet_codec::{Order, Packet, PacketKind, write_packet};
+use packet_codec::{Head, Order, PacketKind, append_packet};
 use reliable_engine::{Engine, Sending};
 use status_packet::{write_resend, write_status_request};
 use std::alloc::Global;
@@ -18,18 +18,30 @@ pub fn write_sending(alloc: Global, hub: &Engine, send: Sending) -> Result<Vec<u
     // So a link takes it.
     ensures short { IfOk result (λ bytes. length bytes.items ≤ MAX_DATAGRAM) }
 {
+    let mut bytes = Vec::new(alloc);
+    append_sending(&mut bytes, hub, send)?;
+    Ok(bytes)
+}
+
+/// Appends the bytes of a send that the hub wants, big-endian (profile). Where memory for them ran out nothing
+/// changed.
+pub fn append_sending(out: &mut Vec<u8>, hub: &Engine, send: Sending) -> Result<(), NoMemory>
+    requires { IsWritable hub.now send }
+    ensures bytes { OnOk result (out.new.items ≡ out.old.items ++ bytes_to_send hub.now send) }
+    ensures unchanged { OnErr result (out.new.items ≡ out.old.items) }
+    // So a link takes it.
+    ensures short { length (bytes_to_send hub.now send) ≤ MAX_DATAGRAM }
+{
     match send {
-        Sending::Status => Ok(Vec::from_slice(alloc, &write_status_request())?),
-        Sending::Resend { id } => Ok(Vec::from_slice(alloc, &write_resend(id))?),
+        Sending::Status => Ok(out.extend_from_slice(&write_status_request())?),
+        Sending::Resend { id } => Ok(out.extend_from_slice(&write_resend(id))?),
         Sending::Control { place, id } => {
-            let body = copy_words(alloc, hub.body_at(place))?;
-            let packet = Packet {
+            let head = Head {
                 order: Order::Big,
                 id: id.get(),
                 kind: PacketKind::Control,
-                body,
             };
-            write_packet(alloc, &packet)
+            append_packet(out, head, hub.body_at(place))
         }
     }
 }

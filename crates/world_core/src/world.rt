@@ -56,8 +56,8 @@ impl World {
         self.run.hub.sent()
     }
 
-    /// The fates of offered bodies, each under its tag, in the order in which they came: those of one move by place,
-    /// and then those of bodies that were never sent, in the order of offers.
+    /// What became of offered bodies, each under its tag. Fates of an earlier move stand before those of a later one;
+    /// within a move sent bodies are sorted by place, and the never sent ones follow as they were offered.
     pub fn fates(&self) -> &[(u64, Fate)]
         ensures { result.now ≡ self.now.fates }
     {

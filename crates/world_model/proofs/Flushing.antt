@@ -186,7 +186,8 @@ settled_or_not Q h id words (Some o) e same settled = settled o e
 pub reply_cases : (Q : Hub → Type 0) (h : Hub) (id : ℕ) (words : List ℕ) → Q h
     → ((o : OpenPlace) → open_with h.first id h.open_places ≡ Some o → Q (settle h words (Some o)))
     → Q (hear_reply h id words)
-reply_cases Q h id words same settled = settled_or_not Q h id words (open_with h.first id h.open_places) refl same settled
+reply_cases Q h id words same settled =
+    settled_or_not Q h id words (open_with h.first id h.open_places) refl same settled
 
 recovered_or_not : (Q : Hub → Type 0) (h : Hub) (r : Option ℕ) → Q h → ((told : ℕ) → Q (recovered h (Some told)))
     → Q (recovered h r)

@@ -17,8 +17,8 @@ pub fn sends_go_one_by_one()
     ensures fewer { (hub : Hub) (next : Next) → next_send hub ≡ Some next → pending next.hub < pending hub }
 {}
 
-/// The bodies of a hub, sent and queued, are those that were offered: an offer makes one more of them, and no other event
-/// makes more. Each can still be sent.
+/// The bodies of a hub, sent and queued, are those that were offered: an offer makes one more of them, and no other
+/// event makes more. Each can still be sent.
 pub fn only_an_offer_makes_more_bodies()
     ensures offered { (most : ℕ) (hub : Hub) (offered : Offered) → IsSendable offered.body → HasBodies most hub
         → HasBodies (most + 1) (offer hub offered) }

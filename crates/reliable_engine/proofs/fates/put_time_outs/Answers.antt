@@ -1,47 +1,68 @@
-use Rattle.std.proofs.Common.{◌≡◌, ℕ, ◌+◌, ◌-◌, drop, get_or, ap, sym, ◌∙◌, arith}
-use Rattle.std.proofs.Common.{deque_items, deque_len, deque_capacity}
-use Rattle.world_model.specs.declared.offered.Offered.{Offered}
-use Rattle.world_model.specs.declared.offered.Fate.TheVariants.{TimedOut}
-use Rattle.world_model.specs.Places.{at_place}
-use Rattle.world_model.specs.Hub.{time_out, insert_fate, tag_of}
-use Rattle.reliable_engine.proofs.Steps.{no_place, tag_read, time_out_waited, time_out_other, count_waited, count_other}
-use Rattle.reliable_engine.proofs.fates.put_time_outs.Goals.{then-open, else-open}
+use Rattle.std.proofs.Common.{◌+◌, ◌-◌, List, None, Some, ◌∷◌, length, ap, sym, ◌∙◌, subst, arith}
+use Rattle.world_model.specs.declared.offered.OpenPlace.{OpenPlace}
+use Rattle.world_model.specs.Hub.{places, time_out}
+use Rattle.world_model.proofs.Places.{rising_end, rising_from}
+use Rattle.reliable_engine.specs.declared.slots.TheConstants.{SLOTS}
+use Rattle.reliable_engine.specs.Slots.{AreUpTo, open_from}
+use Rattle.reliable_engine.specs.Steps.{waits}
+use Rattle.reliable_engine.proofs.InSlots.{end_from, rest_is}
 use Rattle.reliable_engine.proofs.fates.put_time_outs.Goals as goal
 
-pub loop-at-preserved : goal.loop-at-preserved
-loop-at-preserved c =
-    let os = c.args.places.now in
-    let at = c.loop-at.at in
+pub loop-place-preserved-in_default : goal.loop-place-preserved-in_default
+loop-place-preserved-in_default c =
+    let is = c.loop-place.invariant in
+    let same = rest_is c.args.slots.now c.loop-place.place (c.args.low + SLOTS) None (omega arith)
+    (sym c.read_slot.ensures ∙ c.in_default.is) in
+    record {
+      items = ap (λ (os : List OpenPlace). time_out c.args.rounds c.args.sent.now os c.loop-place.fates.items)
+          (sym same) ∙ is.items;
+      len = omega (arith, is.len, ap waits same);
+      capacity = is.capacity;
+      places = subst (AreUpTo (length c.args.sent.now)) same is.places;
+    }
+
+pub put_time_out-requires : goal.put_time_out-requires
+put_time_out-requires c =
+    let is = c.loop-place.invariant in
+    let o = c.in-Some.open in
+    let past = c.args.low + SLOTS in
+    let rest = open_from c.args.slots.now (c.loop-place.place + 1) (past - (c.loop-place.place + 1)) in
+    let same = rest_is c.args.slots.now c.loop-place.place past (Some o) (omega arith)
+    (sym c.read_slot.ensures ∙ c.in-Some.is) in
+    let at : AreUpTo (length c.args.sent.now) (o ∷ rest) = subst (AreUpTo (length c.args.sent.now)) same is.places in
+    let end = rising_end (o.place + 1) (length c.args.sent.now + 1) (places rest) at.1 in
+    record {
+      room = omega (arith, is.len, is.capacity, ap waits same, c.requires.room);
+      from_one = at.0;
+      sent = omega arith;
+    }
+
+pub loop-place-preserved : goal.loop-place-preserved
+loop-place-preserved c =
+    let is = c.loop-place.invariant in
+    let o = c.in-Some.open in
     let sent = c.args.sent.now in
-    let rounds = c.args.rounds in
-    let o = get_or os at no_place in
-    elim c.if-open.branch [
-      | then-open w ↦
-          let place = c.requires.places at no_place (omega arith) in
-          let read = w.index-sent-open in
-          let tag : tag_of (at_place sent o.place) ≡ (get_or sent (o.place - 1) read.result).tag =
-          tag_read sent o.place read.result place.0 place.1 read.is ∙ ap (λ (x : Offered). x.tag) read.is in
-          let put = ap deque_items w.fates-is
-          ∙ (w.put_fate.ensures.items
-          ∙ ap (λ (t : ℕ). insert_fate o.place (t, TimedOut o.place rounds) c.loop-at.fates.items) (sym tag)) in
-          let count = count_waited os at no_place (omega arith) w.if-open.true in
-          let len : c.if-open.fates.len ≡ w.put_fate.new.fates.len =
-          ap deque_len w.fates-is in
-          let cap : c.if-open.fates.cap ≡ w.put_fate.new.fates.cap =
-          ap deque_capacity w.fates-is in (
-            ap (time_out rounds sent (drop (at + 1) os)) put
-                ∙ (sym (time_out_waited rounds sent os c.loop-at.fates.items at no_place (omega arith) w.if-open.true)
-                ∙ c.loop-at.invariant.0),
-            omega (arith, w.put_fate.ensures.len),
-            omega (arith, w.put_fate.ensures.capacity),
-          )
-      | else-open w ↦
-          let count = count_other os at no_place (omega arith) w.if-open.false in
-          let same = w.fates-is in (
-            ap (time_out rounds sent (drop (at + 1) os)) (ap deque_items same)
-                ∙ (sym (time_out_other rounds sent os c.loop-at.fates.items at no_place (omega arith) w.if-open.false)
-                ∙ c.loop-at.invariant.0),
-            rw same (omega arith),
-            rw same (omega arith),
-          )
-    ]
+    let past = c.args.low + SLOTS in
+    let rest = open_from c.args.slots.now (c.loop-place.place + 1) (past - (c.loop-place.place + 1)) in
+    let same = rest_is c.args.slots.now c.loop-place.place past (Some o) (omega arith)
+    (sym c.read_slot.ensures ∙ c.in-Some.is) in
+    let at : AreUpTo (length sent) (o ∷ rest) = subst (AreUpTo (length sent)) same is.places in
+    record {
+      items = ap (time_out c.args.rounds sent rest) c.put_time_out.ensures.items
+          ∙ (ap (λ (os : List OpenPlace). time_out c.args.rounds sent os c.loop-place.fates.items) (sym same)
+          ∙ is.items);
+      len = omega (arith, is.len, c.put_time_out.ensures.len, ap waits same);
+      capacity = omega (arith, is.capacity, c.put_time_out.ensures.capacity);
+      places = rising_from 1 (o.place + 1) (length sent + 1) (places rest) (omega arith) at.1;
+    }
+
+pub returns : goal.returns
+returns c =
+    let is = c.loop-place.invariant in
+    let none = end_from c.args.slots.now c.loop-place.place (c.args.low + SLOTS) (omega arith) in
+    record {
+      items = ap (λ (os : List OpenPlace). time_out c.args.rounds c.args.sent.now os c.loop-place.fates.items)
+          (sym none) ∙ is.items;
+      len = omega (arith, is.len, ap waits none);
+      capacity = is.capacity;
+    }

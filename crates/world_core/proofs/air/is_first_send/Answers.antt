@@ -1,19 +1,19 @@
-use Rattle.std.proofs.Common.{rules, ◌≡◌, ◌∙◌, ap, true, false}
-use Rattle.packet_codec.specs.Reading.{packet_of}
-use Rattle.world_core.proofs.Airs.{first_by_none, first_by_packet}
-use Rattle.world_core.proofs.Hearing.{are_bytes}
+use Rattle.std.proofs.Common.{ℕ, inl, inr, sym, ap, ◌∙◌, ◌==◌}
+use Rattle.world_core.proofs.Airs.{control_by_head, none_by_head, other_by_head}
 use Rattle.world_core.proofs.air.is_first_send.Goals as goal
 
-pub returns-in-Ok : goal.returns-in-Ok
-returns-in-Ok c =
-    let found = c.in-Ok.ensures.found in
-    c.is_next.ensures ∙ first_by_packet c.args.first c.args.count c.args.bytes.now c.in-Ok.packet
-    (ap packet_of found.1 ∙ c.reading_is_the_grammar.ensures.again c.in-Ok.packet found.0)
+pub returns-in-Control : goal.returns-in-Control
+returns-in-Control c =
+    let head = c.in-Ok.head in
+    ap (λ (id : ℕ). head.id == id) (c.get.ensures.value ∙ c.id_at.ensures.identifier)
+    ∙ control_by_head c.args.first c.args.count c.args.bytes.now head (sym c.read_head.ensures.head ∙ c.in-Ok.is)
+    c.in-Control.is
 
-pub returns-else-eq : goal.returns-else-eq
-returns-else-eq c = first_by_none c.args.first c.args.count c.args.bytes.now (λ packet is.
-    let found = c.reading_is_the_grammar.ensures.found c.args.bytes.now packet
-    (are_bytes c.args.bytes.now (λ k. search rules)) is in
-    let same = c.in-Err.ensures.only packet found.0 found.1 in
-    let untrue : false ≡ true = rw same at c.if-eq.ensures in
-    absurd cc)
+pub returns-in-Status : goal.returns-in-Status
+returns-in-Status c = other_by_head c.args.first c.args.count c.args.bytes.now c.in-Ok.head
+    (sym c.read_head.ensures.head ∙ c.in-Ok.is) (λ control.
+    elim c.in-Status.is [ inl status ↦ cc | inr resend ↦ cc ])
+
+pub returns-in-Err : goal.returns-in-Err
+returns-in-Err c = none_by_head c.args.first c.args.count c.args.bytes.now c.in-Err.field-0
+    (sym c.read_head.ensures.head ∙ c.in-Err.is)

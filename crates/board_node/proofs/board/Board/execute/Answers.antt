@@ -7,10 +7,27 @@ use Rattle.board_bus.specs.Cells.{CellMap}
 use Rattle.board_bus.specs.Bodies.{Executed, run_body}
 use Rattle.world_model.specs.declared.heard.LogEntry.{LogEntry}
 use Rattle.world_model.specs.Messages.{control_packet}
-use Rattle.world_model.specs.Board.{Board, expected, is_too_long, numbered_replies, present_bus, replies}
-use Rattle.board_node.specs.View.{board_of, if_numbered}
-use Rattle.board_node.proofs.Logs.{bus_grows, fits, kept_grows, logged_grows, fit_grows, with_entry}
+use Rattle.circular_buffer.specs.Buffer.{Buffer, buffer}
+use Rattle.std.specs.List.{AllByRecursion}
+use Rattle.world_model.specs.Board.{Board, expected, held, is_too_long, numbered, present_bus}
+use Rattle.board_node.specs.View.{board_of, keeping, FitsMtu}
+use Rattle.board_node.proofs.Logs.{bus_grows, fits, logged_grows, numbered_most, numbered_one_more, one_if, one_most}
+use Rattle.board_node.proofs.Logs.{with_entry}
+use Rattle.board_node.proofs.Rings.{holds_more, keeping_all}
 use Rattle.board_node.proofs.board.Board.execute.Goals as goal
+
+pub overflow_add-self : goal.overflow_add-self
+overflow_add-self c =
+    let i = c.self.inside in
+    omega (
+      arith,
+      c.self.invariant.count,
+      numbered_most i.log.items,
+      i.log.ok,
+      i.log.small,
+      c.from.ensures,
+      one_most c.args.entry.numbered,
+    )
 
 pub invariant_of-self-2 : goal.invariant_of-self-2
 invariant_of-self-2 c =
@@ -41,34 +58,37 @@ invariant_of-self-2 c =
     let run : run_body i.bus c.as_slice-body.result.now ≡ run_body (present_bus b) e.body =
     ap (run_body i.bus) body ∙ ap (λ (x : CellMap). run_body x e.body) is.bus in
     let words : c.from_vec.result ≡ (run_body (present_bus b) e.body).reply =
-    c.from_vec.ensures ∙ (c.in_ok-execute.ensures.reply
+    c.from_vec.ensures ∙ (c.execute_in_room.ensures.reply
     ∙ (ap (λ (ws : List ℕ). ws ++ (run_body i.bus c.as_slice-body.result.now).reply) c.in_ok-words.ensures.items
     ∙ ap (λ (x : Executed). x.reply) run)) in
-    let kept : c.keep_reply.new.replies.items ≡ i.replies.items ++ if_numbered e.numbered
-    (control_packet e.order id c.from_vec.result) =
-    c.keep_reply.ensures ∙ ap (λ (ps : List Packet). ps ++ if_numbered e.numbered
-    (control_packet e.order id c.from_vec.result)) c.in_ok-reserve-3.ensures.items in
+    let reply : Packet = control_packet e.order id c.from_vec.result in
+    let ring : c.keep_reply.new.held ≡ keeping i.held e.numbered reply = c.keep_reply.ensures in
+    let held_now : keeping i.held e.numbered reply ≡ buffer (held (with_entry b e)) i.buffers =
+    ap (λ (w : List ℕ). keeping i.held e.numbered (control_packet e.order id w)) words
+    ∙ holds_more b e id i.held is.kept (λ n. c.requires.id n ∙ ap expected (sym c.self.view_is)) in
     let able = fits b e.body (ap (λ (x : Board). is_too_long x e.body) c.self.view_is ∙ c.requires.fits) in
     let room : length c.from_vec.result ≤ reply_room e.body =
     omega (
       arith,
-      c.in_ok-execute.ensures.room,
-      ap (λ (ws : List ℕ). length ws) c.in_ok-words.ensures.items,
-      ap reply_room body,
-      ap (λ (ws : List ℕ). length ws) c.from_vec.ensures,
+      c.a_reply_has_room.ensures (present_bus b) e.body,
+      ap (λ (ws : List ℕ). length ws) words,
     ) in
     record {
       mtu = is.mtu;
       buffers = is.buffers;
-      bus = c.in_ok-execute.ensures.bus
+      bus = c.execute_in_room.ensures.bus
           ∙ (ap (λ (x : Executed). x.cells) run ∙ (sym (bus_grows b e) ∙ ap present_bus (sym board)));
-      kept = kept ∙ (ap (λ (w : List ℕ). i.replies.items ++ if_numbered e.numbered (control_packet e.order id w)) words
-          ∙ (ap (λ (ps : List Packet). ps ++ if_numbered e.numbered
-          (control_packet e.order id (run_body (present_bus b) e.body).reply)) is.kept
-          ∙ (sym (kept_grows b e id (λ n. c.requires.id n ∙ ap expected (sym c.self.view_is)))
-          ∙ ap (λ (x : Board). numbered_replies x.first 1 x.log (replies x)) (sym board))));
-      fit = fit_grows i.mtu i.replies.items e.numbered (control_packet e.order id c.from_vec.result)
-          c.keep_reply.new.replies.items kept is.fit (omega (arith, room, able.1));
+      count = omega (
+        arith,
+        is.count,
+        numbered_one_more i.log.items e,
+        ap numbered log,
+        c.from.ensures,
+        one_if e.numbered,
+      );
+      kept = ring ∙ held_now ∙ ap (λ (x : Board). buffer (held x) i.buffers) (sym board);
+      fit = subst (λ (r : Buffer Packet). AllByRecursion (FitsMtu i.mtu) r.items) (sym ring)
+          (keeping_all (FitsMtu i.mtu) e.numbered i.held reply is.fit (omega (arith, room, able.1)));
       logged = logged_grows i.mtu i.log.items e c.push_reserved.new.self.items log is.logged
           (subst AreWords body (AreWords-at c.as_slice-body.result.now (λ k. search rules))) able;
     }

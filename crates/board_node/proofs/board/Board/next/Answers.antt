@@ -1,15 +1,21 @@
-use Rattle.std.proofs.Common.{◌≡◌, ◌+◌, ◌∙◌, ℕ, List, length, ap, arith}
+use Rattle.std.proofs.Common.{◌+◌, ◌∙◌, ℕ, ap, arith}
 use Rattle.packet_ids.specs.Identifier.{identifier_at}
-use Rattle.packet_codec.specs.declared.packet.Packet.{Packet}
-use Rattle.world_model.specs.Board.{expected, numbered}
-use Rattle.board_node.specs.View.{board_of}
-use Rattle.board_node.proofs.Logs.{kept_count}
+use Rattle.world_model.specs.Board.{expected}
+use Rattle.board_node.proofs.Logs.{numbered_most}
 use Rattle.board_node.proofs.board.Board.next.Goals as goal
+
+pub overflow_add-self-inside : goal.overflow_add-self-inside
+overflow_add-self-inside c =
+    let i = c.self.inside in
+    omega (arith, c.self.invariant.count, numbered_most i.log.items, i.log.ok, i.log.small)
+
+pub id_at-requires-clause-up_to_end : goal.id_at-requires-clause-up_to_end
+id_at-requires-clause-up_to_end c =
+    let i = c.self.inside in
+    omega (arith, c.self.invariant.count, numbered_most i.log.items, i.log.ok, i.log.small)
 
 pub returns : goal.returns
 returns c =
     let i = c.self.inside in
-    let count : length i.replies.items ≡ numbered i.log.items =
-    ap (λ (ps : List Packet). length ps) c.self.invariant.kept ∙ kept_count (board_of i) in
-    let len : c.len.result ≡ numbered i.log.items = omega (arith, c.len.ensures) in
-    c.id_at.ensures.identifier ∙ (ap (λ (k : ℕ). identifier_at i.first (k + 1)) len ∙ ap expected c.self.view_is)
+    c.id_at.ensures.identifier ∙ (ap (λ (k : ℕ). identifier_at i.first (k + 1)) c.self.invariant.count
+    ∙ ap expected c.self.view_is)

@@ -1,13 +1,12 @@
-use Rattle.std.proofs.Common.{ap, arith}
-use Rattle.world_model.specs.declared.offered.OpenPlace.{OpenPlace}
-use Rattle.reliable_engine.proofs.Places.{all_sent}
+use Rattle.std.proofs.Common.{◌+◌, arith}
+use Rattle.world_model.specs.Hub.{places}
+use Rattle.world_model.proofs.Places.{least_end}
 use Rattle.reliable_engine.proofs.Hubs.{sent_of}
 use Rattle.reliable_engine.proofs.engine.Engine.low.Goals as goal
 
-pub returns-else-is_empty-clause-up_to_next : goal.returns-else-is_empty-clause-up_to_next
-returns-else-is_empty-clause-up_to_next c =
+pub returns-clause-up_to_next : goal.returns-clause-up_to_next
+returns-clause-up_to_next c =
     let i = c.self.inside in
     let is = c.self.invariant in
-    let d = c.index.result.now in
-    let at = all_sent i.window i.sent i.open_places.items is.in_window 0 d (grind arith) in
-    omega (arith, at.1, ap (λ (o : OpenPlace). o.place) c.index.ensures, sent_of i c.args.self.now c.self.view_is is)
+    let end = least_end _ (i.sent + 1) (places i.open_places) is.in_window.rising in
+    omega (arith, c.low.ensures, sent_of i c.args.self.now c.self.view_is is)

@@ -8,16 +8,12 @@ pub invariant_of-self-2 : goal.invariant_of-self-2
 invariant_of-self-2 c =
     let i = c.self.inside in
     let is = c.self.invariant in
-    let os = i.open_places.items in
     let all = i.bodies.items in
     let few = few_bodies i c.args.self.now c.self.view_is c.requires.few in
     let more : length c.push.new.self.items ≡ length all + 1 =
     ap length c.in_default-push.ensures.items ∙ length_push all _ in
     let queue : c.len.result - i.sent ≡ length all - i.sent = omega (arith, c.len.ensures) in
-    let room : length os + (length all - i.sent + 1) ≤ c.reserve.new.self.cap =
+    let room : i.fates.len + (i.window + (length all - i.sent) + 1) ≤ c.reserve.new.self.cap =
     omega (arith, c.in-Ok.ensures.ok, c.reserve.ensures.len) in
-    let fate_room : i.fates.len + (length os + (length all - i.sent) + 1) ≤ c.reserve-2.new.self.cap =
-    omega (arith, c.in-Ok-reserve.ensures.ok, c.reserve.ensures.len, c.reserve-2.ensures.len, c.len-2.ensures) in
-    rw (c.reserve-2.ensures.len, c.reserve.ensures.items)
-    (keeps_offer i.first i.window i.sent (length all) os i.open_places.cap i.fates.len i.fates.cap _ _ _ is more few
-    room fate_room)
+    rw c.reserve.ensures.len
+    (keeps_offer i.first i.window i.sent (length all) i.open_places i.fates.len i.fates.cap _ _ is more few room)

@@ -6,16 +6,17 @@ use Rattle.world_model.specs.Hub.{Hub, hear_reply, insert_fate, open_with, tag_o
 use Rattle.reliable_engine.specs.Answers.{NamesOpenPlace}
 use Rattle.reliable_engine.specs.Steps.{places_after, waits}
 use Rattle.reliable_engine.specs.View.{hub_of}
-use Rattle.reliable_engine.proofs.Places.{all_named}
+use Rattle.reliable_engine.proofs.Places.{up_to_end}
 use Rattle.reliable_engine.proofs.Keeping.{found}
-use Rattle.reliable_engine.proofs.Hubs.{at_front_of, fates_waited, found_sent, names, names_none, reply_keeps, settle_is}
+use Rattle.reliable_engine.proofs.Hubs.{at_front_of, fates_waited, found_sent, names, names_none, reply_keeps}
+use Rattle.reliable_engine.proofs.Hubs.{settle_is}
 use Rattle.reliable_engine.proofs.engine.Engine.on_reply.Goals as goal
 
 pub take_open-requires : goal.take_open-requires
 take_open-requires c =
     let i = c.self.inside in
     let is = c.self.invariant in
-    record { places = all_named i.window i.sent i.open_places.items is.in_window (omega (arith, is.within, is.few)) }
+    record { places = up_to_end i.window i.sent i.open_places is.in_window (omega (arith, is.within, is.few)) }
 
 pub returns-in_default-clause-taken : goal.returns-in_default-clause-taken
 returns-in_default-clause-taken c =
@@ -30,14 +31,14 @@ returns-in_default-clause-taken c =
 pub overflow_sub-settled : goal.overflow_sub-settled
 overflow_sub-settled c =
     let i = c.self.inside in
-    let told : open_with i.first c.args.id i.open_places.items ≡ Some c.in-Some.settled =
+    let told : open_with i.first c.args.id i.open_places ≡ Some c.in-Some.settled =
     sym c.take_open.ensures.found ∙ c.in-Some.is in
     (found_sent i c.args.id c.in-Some.settled c.self.invariant told).0
 
 pub index-requires : goal.index-requires
 index-requires c =
     let i = c.self.inside in
-    let told : open_with i.first c.args.id i.open_places.items ≡ Some c.in-Some.settled =
+    let told : open_with i.first c.args.id i.open_places ≡ Some c.in-Some.settled =
     sym c.take_open.ensures.found ∙ c.in-Some.is in
     let at = found_sent i c.args.id c.in-Some.settled c.self.invariant told in
     omega (arith, at.0, at.1, c.self.invariant.within)
@@ -45,7 +46,7 @@ index-requires c =
 pub put_fate-requires : goal.put_fate-requires
 put_fate-requires c =
     let i = c.self.inside in
-    let os = i.open_places.items in
+    let os = i.open_places in
     let o = c.in-Some.settled in
     let told : open_with i.first c.args.id os ≡ Some o = sym c.take_open.ensures.found ∙ c.in-Some.is in
     let gone = (found i.first c.args.id os o told).gone in
@@ -55,29 +56,29 @@ put_fate-requires c =
 
 pub invariant_of-self-then-settled : goal.invariant_of-self-then-settled
 invariant_of-self-then-settled c =
-    reply_keeps c.self.inside c.args.id c.in-Some.settled c.take_open.result c.take_open.new.places.items
-    c.take_open.new.places.cap c.put_fate.new.fates.len c.put_fate.new.fates.cap c.self.invariant
-    c.take_open.ensures.found c.in-Some.is c.take_open.ensures.after c.take_open.ensures.capacity
+    reply_keeps c.self.inside c.args.id c.in-Some.settled c.take_open.result c.take_open.new.self
+    c.put_fate.new.fates.len c.put_fate.new.fates.cap c.self.invariant
+    c.take_open.ensures.found c.in-Some.is c.take_open.ensures.after
     (rw c.if-settled.true (omega (arith, c.put_fate.ensures.len))) c.put_fate.ensures.capacity
 
 pub invariant_of-self-else-settled : goal.invariant_of-self-else-settled
 invariant_of-self-else-settled c =
     let i = c.self.inside in
-    reply_keeps i c.args.id c.in-Some.settled c.take_open.result c.take_open.new.places.items
-    c.take_open.new.places.cap i.fates.len i.fates.cap c.self.invariant c.take_open.ensures.found c.in-Some.is
-    c.take_open.ensures.after c.take_open.ensures.capacity (omega arith) (omega arith)
+    reply_keeps i c.args.id c.in-Some.settled c.take_open.result c.take_open.new.self
+    i.fates.len i.fates.cap c.self.invariant c.take_open.ensures.found c.in-Some.is
+    c.take_open.ensures.after (omega arith) (omega arith)
 
 pub returns-then-settled-clause-hub : goal.returns-then-settled-clause-hub
 returns-then-settled-clause-hub c =
     let i = c.self.inside in
     let h = hub_of i in
-    let os = i.open_places.items in
+    let os = i.open_places in
     let o = c.in-Some.settled in
     let id = c.args.id in
     let words = c.args.words in
     let told : open_with i.first id os ≡ Some o = sym c.take_open.ensures.found ∙ c.in-Some.is in
     let place = found_sent i id o c.self.invariant told in
-    let after : c.take_open.new.places.items ≡ without o.place os =
+    let after : c.take_open.new.self ≡ without o.place os =
     c.take_open.ensures.after ∙ ap (places_after os) c.in-Some.is in
     let at = at_front_of i.bodies.items i.sent o.place c.index.result.now place.0 place.1 c.self.invariant.within in
     let tag : c.index.result.now.tag ≡ tag_of (at_place h.sent o.place) =
@@ -85,14 +86,14 @@ returns-then-settled-clause-hub c =
     let fates = c.put_fate.ensures.items
     ∙ (ap (λ (t : ℕ). insert_fate o.place (t, Replied o.place words) i.fates.items) tag
     ∙ sym (fates_waited h o words c.if-settled.true)) in
-    settle_is h words o c.take_open.new.places.items c.put_fate.new.fates.items
+    settle_is h words o c.take_open.new.self c.put_fate.new.fates.items
     (open_with i.first id os) told after fates
     ∙ ap (λ (x : Hub). hear_reply x id words) c.self.view_is
 
 pub returns-then-settled-clause-taken : goal.returns-then-settled-clause-taken
 returns-then-settled-clause-taken c =
     let i = c.self.inside in
-    let told : open_with i.first c.args.id i.open_places.items ≡ Some c.in-Some.settled =
+    let told : open_with i.first c.args.id i.open_places ≡ Some c.in-Some.settled =
     sym c.take_open.ensures.found ∙ c.in-Some.is in (
       λ _. subst (λ (h : Hub). NamesOpenPlace h c.args.id) c.self.view_is
           (names (hub_of i) c.args.id c.in-Some.settled told),
@@ -102,7 +103,7 @@ returns-then-settled-clause-taken c =
 pub returns-else-settled-clause-taken : goal.returns-else-settled-clause-taken
 returns-else-settled-clause-taken c =
     let i = c.self.inside in
-    let told : open_with i.first c.args.id i.open_places.items ≡ Some c.in-Some.settled =
+    let told : open_with i.first c.args.id i.open_places ≡ Some c.in-Some.settled =
     sym c.take_open.ensures.found ∙ c.in-Some.is in (
       λ _. subst (λ (h : Hub). NamesOpenPlace h c.args.id) c.self.view_is
           (names (hub_of i) c.args.id c.in-Some.settled told),

@@ -1,8 +1,5 @@
-use Rattle.std.proofs.Common.{◌≡◌, ◌<◌, ◌∙◌, List, length, map, ap, sym, subst, refl, arith}
-use Rattle.std.proofs.lemmas.List.{with_items_is, length-map}
-use Rattle.world_model.specs.declared.offered.OpenPlace.{OpenPlace}
+use Rattle.std.proofs.Common.{◌<◌, ◌∙◌, length, map, ap, sym, refl, arith}
 use Rattle.world_model.specs.Hub.{Hub, recover}
-use Rattle.reliable_engine.specs.View.{Keeps}
 use Rattle.world_model.proofs.Hubs.{places_map, recover_place}
 use Rattle.reliable_engine.proofs.Keeping.{keeps_same, waits_map, recover_waits}
 use Rattle.reliable_engine.proofs.Hubs.{tells, tells_none}
@@ -11,17 +8,11 @@ use Rattle.reliable_engine.proofs.engine.Engine.on_status.Goals as goal
 pub invariant_of-self : goal.invariant_of-self
 invariant_of-self c =
     let i = c.self.inside in
-    let os = i.open_places.items in
+    let os = i.open_places in
     let told = c.in-Some.told in
-    let after : c.recover_all.new.places ≡ map (recover told) os =
-    c.recover_all.ensures ∙ ap (map (recover told)) c.deref_mut.ensures.value in
-    let len : length c.recover_all.new.places ≡ i.open_places.len =
-    ap length c.recover_all.ensures ∙ (length-map c.deref_mut.result.now (recover told) ∙ c.deref_mut.ensures.len) in
-    subst (λ (ps : List OpenPlace). Keeps i.first i.window i.sent (length i.bodies.items) ps i.open_places.cap
-    i.fates.len i.fates.cap)
-    (sym (with_items_is i.open_places c.recover_all.new.places len ∙ after))
-    (keeps_same i.first i.window i.sent (length i.bodies.items) os (map (recover told) os) i.open_places.cap
-    i.fates.len i.fates.cap c.self.invariant (places_map (recover told) os (recover_place told))
+    rw c.recover_all.ensures
+    (keeps_same i.first i.window i.sent (length i.bodies.items) os (map (recover told) os) i.fates.len i.fates.cap
+    c.self.invariant (places_map (recover told) os (recover_place told))
     (waits_map (recover told) os (recover_place told) (recover_waits told)))
 
 pub returns-in-Some-clause-taken : goal.returns-in-Some-clause-taken

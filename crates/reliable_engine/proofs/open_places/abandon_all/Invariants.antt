@@ -1,6 +1,0 @@
-use Rattle.std.proofs.Common.{◌≡◌, map, take, drop, ◌++◌}
-use Rattle.world_model.specs.Hub.{abandoned}
-use Rattle.reliable_engine.proofs.open_places.abandon_all.Given as goal
-
-abbrev pub invariant-loop-open : goal.invariant-loop-open
-invariant-loop-open l = l.open-items ≡ map abandoned (take l.open-index l.fn.places) ++ drop l.open-index l.fn.places
