@@ -1,70 +1,35 @@
 -- The tables of a record, one more entry at a time.
-use Rattle.std.proofs.Common.{◌≡◌, ℕ, zero, suc, ◌+◌, ◌<◌, ◌≤◌, Bool, true, false, cond, ◌==◌, ◌&&◌, ◌||◌, List, []}
-use Rattle.std.proofs.Common.{◌∷◌}
+use Rattle.std.proofs.Common.{◌≡◌, ℕ, zero, suc, ◌+◌, ◌<◌, ◌≤◌, Bool, true, false, cond, ◌==◌, ◌||◌, List, [], ◌∷◌}
 use Rattle.std.proofs.Common.{◌++◌, length, map, Option, Some, None, refl, sym, ap, ◌∙◌, subst, arith, inl, inr}
 use Rattle.std.proofs.Common.{length-append}
-use Rattle.std.specs.Prelude.{is_some, IfSome, IfNone}
+use Rattle.std.specs.Prelude.{is_some}
 use Rattle.std.specs.List.{slice_get}
-use Rattle.std.proofs.lemmas.List.{append-nil, map-append}
-use Rattle.std.proofs.lemmas.Bool.{cases_lt, eqb-true, eq-eqb}
+use Rattle.std.proofs.lemmas.List.{map-append}
+use Rattle.std.proofs.lemmas.Bool.{cases_lt, eq-eqb}
 use Rattle.std.proofs.lemmas.Bool.Decides.{eqb_tells}
-use Rattle.std.specs.Option.{option_or}
+use Rattle.std.specs.Option.{option_or, unwrap_or}
 use Rattle.world_model.proofs.Lists.{get_front, get_seam}
 use Rattle.transaction_codec.specs.Answer.{reply_room}
 use Rattle.turn_pass.specs.declared.chronicle.Entry.{Entry}
 use Rattle.lane_record.specs.declared.outcome.Outcome.{Outcome}
 use Rattle.lane_record.specs.declared.item.Item.{Item}
-use Rattle.lane_record.specs.declared.item.What.{What}
 use Rattle.lane_record.specs.declared.item.What.TheVariants.{Plan}
-use Rattle.lane_record.specs.Items.{ask_in, asked, found, is_sealed, numbers, plan_in, planned}
-use Rattle.lane_record.specs.Claims.{Claim, claim_in, claims}
+use Rattle.lane_record.specs.Items.{ask_in, asked, found, is_sealed, plan_in, planned}
+use Rattle.lane_record.specs.Claims.{Claim, claim_in, claims, claims_behind}
 use Rattle.lane_record.specs.NextEntry.{ask_of, plan_of, the_seal, took_of}
-use Rattle.lane_record.proofs.Asks.{get_split}
+use Rattle.lane_record.proofs.Asks.{ask_front, get_split}
 use Rattle.lane_record.proofs.Lookups.{Count, claims_push, count_push, found_append, found_front, found_within}
-use Rattle.lane_record.proofs.Lookups.{none_next, numbers_append, sealed_append}
+use Rattle.lane_record.proofs.Lookups.{none_next, sealed_append}
 use Rattle.lane_record.specs.Coding.{entry_of}
 use Rattle.hub_lane.specs.Plans.{IsFull, one_with, planned_bodies, planned_words, words_with}
-use Rattle.hub_lane.specs.Books.{HasMorePlans, HasNext, IsBook, IsPlanAt, IsPosition, IsRow, IsTakenRow, Row}
-use Rattle.hub_lane.specs.Books.{TellsBodies}
-use Rattle.hub_lane.specs.Books.{asked_pair}
-use Rattle.hub_lane.specs.Books.{next_of}
-use Rattle.hub_lane.specs.Books.{HasAsked, row_of, with_ask, with_plan, with_took}
-use Rattle.hub_lane.proofs.ClientRows.{grown, more_asked, more_taken, row_asked, row_asked_other, row_planned}
-use Rattle.hub_lane.proofs.ClientRows.{row_planned_other, row_taken, row_taken_other}
+use Rattle.hub_lane.specs.declared.rows.PlannedBody.{PlannedBody}
+use Rattle.hub_lane.specs.Books.{HasAsked, HasMorePlans, HasNext, IsAskAt, IsBook, IsPlanAt, IsRow, IsTakenRow, Row}
+use Rattle.hub_lane.specs.Books.{TellsBodies, after_ask, after_took, as_asked, as_taken, changed, next_of, plan_of_body}
+use Rattle.hub_lane.specs.Books.{planned_at, replaced, row_of, with_ask, with_plan, with_took}
+use Rattle.hub_lane.proofs.ClientRows.{becomes, grown, row_changed, row_changed_other, row_planned, row_planned_other}
+use Rattle.hub_lane.proofs.OneMore.{and_false, and_true, of_client, one_number, same_number}
+use Rattle.hub_lane.proofs.PlannedBodies.{below_apart, length-replaced, was_body}
 use Rattle.hub_lane.proofs.TakenRows.{taken_ask, taken_plan, taken_seal, taken_took}
-
--- ---- numbers of a client, with one more entry
-
-one_number : {A : Type 0} (kind : What → Option A) (client : ℕ) (items : List Item) (x : Item)
-    → length (numbers kind client (items ++ x ∷ []))
-    ≡ length (numbers kind client items) + cond ((x.client == client) && is_some (kind x.what)) 1 0
-one_number kind client items x =
-    ap (λ (ns : List ℕ). length ns) (numbers_append kind client items (x ∷ []))
-    ∙ (length-append (numbers kind client items) (numbers kind client (x ∷ []))
-    ∙ ap (λ (n : ℕ). length (numbers kind client items) + n)
-    (elim ((x.client == client) && is_some (kind x.what))
-    as (λ b. length (cond b (x.seq ∷ []) []) ≡ cond b 1 0) [ true ↦ refl | false ↦ refl ]))
-
-and_false : (b : Bool) → (b && false) ≡ false
-and_false true = refl
-and_false false = refl
-
-and_true : (b : Bool) → (b && true) ≡ b
-and_true true = refl
-and_true false = refl
-
-same_number : {A : Type 0} (kind : What → Option A) (client : ℕ) (items : List Item) (x : Item) → kind x.what ≡ None
-    → length (numbers kind client (items ++ x ∷ [])) ≡ length (numbers kind client items)
-same_number kind client items x none =
-    let told : is_some (kind x.what) ≡ false = ap is_some none in
-    let n = one_number kind client items x in
-    let off : ◌≡◌ {A = ℕ} (cond ((x.client == client) && is_some (kind x.what)) 1 0) 0 =
-    ap (λ (b : Bool). cond ((x.client == client) && b) 1 0) told ∙ ap (λ (b : Bool). cond b 1 0) (and_false (x.client
-    == client)) in
-    omega (arith, n, off)
-
-of_client : (client other : ℕ) → (client == other) ≡ true → client ≡ other
-of_client client other same = eqb-true client other same
 
 -- ---- what a row tells stays so
 
@@ -76,21 +41,26 @@ plan_stays items x client seq place is = record {
   first = found_front plan_in client seq items (x ∷ []) is.body is.first;
 }
 
-tells_other : (items : List Item) (x : Item) (client : ℕ) (plans : List ℕ) (asks : ℕ)
+ask_stays : (items : List Item) (x : Item) (client seq k : ℕ) → IsAskAt items client seq k
+    → IsAskAt (items ++ x ∷ []) client seq k
+ask_stays items x client seq k (claim, is) = (claim, ask_front items (x ∷ []) k client seq claim is)
+
+tells_other : (items : List Item) (x : Item) (client : ℕ) (bodies : List PlannedBody) (asks : ℕ)
     → planned client (items ++ x ∷ []) ≡ planned client items → asked client (items ++ x ∷ []) ≡ asked client items
-    → TellsBodies items client plans asks → TellsBodies (items ++ x ∷ []) client plans asks
-tells_other items x client plans asks plan ask is = record {
+    → TellsBodies items client bodies asks → TellsBodies (items ++ x ∷ []) client bodies asks
+tells_other items x client bodies asks plan ask is = record {
   planned_are = is.planned_are ∙ sym plan;
   asked_are = is.asked_are ∙ sym ask;
   no_more = is.no_more;
-  places = λ seq place there. plan_stays items x client seq place (is.places seq place there);
+  plans_are = λ seq body there. plan_stays items x client seq body.plan (is.plans_are seq body there);
+  asks_are = λ seq body there less. ask_stays items x client seq body.ask (is.asks_are seq body there less);
 }
 
 row_other : (items : List Item) (x : Item) (client : ℕ) (row : Option Row)
     → planned client (items ++ x ∷ []) ≡ planned client items → asked client (items ++ x ∷ []) ≡ asked client items
     → IsRow items client row → IsRow (items ++ x ∷ []) client row
 row_other items x client None plan ask is = tells_other items x client [] 0 plan ask is
-row_other items x client (Some r) plan ask is = tells_other items x client r.plans r.asked plan ask is
+row_other items x client (Some r) plan ask is = tells_other items x client r.bodies r.asked plan ask is
 
 -- ---- one more Plan
 
@@ -110,30 +80,37 @@ plan_found client body items count =
     ∙ (let same = eq-eqb client client refl in let number = eq-eqb seq seq refl in rw (same, number) refl))
 
 -- the row of the client of a new Plan
-tells_plan : (items : List Item) (client : ℕ) (body plans : List ℕ) (asks : ℕ) → Count plan_in items
-    → TellsBodies items client plans asks
-    → TellsBodies (items ++ plan_of client (planned client items) body ∷ []) client (plans ++ length items ∷ []) asks
-tells_plan items client body plans asks count is =
+tells_plan : (items : List Item) (client : ℕ) (body : List ℕ) (bodies : List PlannedBody) (asks : ℕ)
+    → Count plan_in items → TellsBodies items client bodies asks
+    → TellsBodies (items ++ plan_of client (planned client items) body ∷ []) client
+    (bodies ++ planned_at (length items) ∷ []) asks
+tells_plan items client body bodies asks count is =
     let seq = planned client items in
+    let x = plan_of client seq body in
     let one = plan_for client seq client body items in
     let own = eq-eqb client client refl in
     let plus : ◌≡◌ {A = ℕ} (cond (client == client) 1 0) 1 = rw own refl in
-    let longer = length-append plans (length items ∷ []) in
+    let longer = length-append bodies (planned_at (length items) ∷ []) in
     let before = is.planned_are in
-    let same = same_number ask_in client items (plan_of client seq body) refl in
+    let most = is.no_more in
+    let same = same_number ask_in client items x refl in
     record {
       planned_are = omega (arith, longer, one, plus, before);
       asked_are = is.asked_are ∙ sym same;
-      no_more = (let h = is.no_more in omega (arith, h, longer));
-      places = λ number place there. elim (get_split plans (length items) number place there) [
-        | inl old ↦ plan_stays items (plan_of client seq body) client number place (is.places number place old)
+      no_more = omega (arith, most, longer);
+      plans_are = λ number b there. elim (get_split bodies (planned_at (length items)) number b there) [
+        | inl old ↦ plan_stays items x client number b.plan (is.plans_are number b old)
         | inr new ↦ (
             let number_is : number ≡ seq = new.0 ∙ before in
             rw (number_is, new.1) (record {
               body = body;
-              there = get_seam items [] (plan_of client seq body);
+              there = get_seam items [] x;
               first = plan_found client body items count;
             }))
+      ];
+      asks_are = λ number b there less. elim (get_split bodies (planned_at (length items)) number b there) [
+        | inl old ↦ ask_stays items x client number b.ask (is.asks_are number b old less)
+        | inr new ↦ (let past = new.0 in absurd (omega (arith, past, less, most)))
       ];
     }
 
@@ -141,7 +118,7 @@ tells_grown : (items : List Item) (client : ℕ) (body : List ℕ) (row : Option
     → IsRow items client row
     → IsRow (items ++ plan_of client (planned client items) body ∷ []) client (Some (grown client (length items) row))
 tells_grown items client body None count is = tells_plan items client body [] 0 count is
-tells_grown items client body (Some r) count is = tells_plan items client body r.plans r.asked count is
+tells_grown items client body (Some r) count is = tells_plan items client body r.bodies r.asked count is
 
 rows_plan : (items : List Item) (rows : List Row) (client : ℕ) (body : List ℕ) → Count plan_in items
     → ((c : ℕ) → IsRow items c (row_of c rows))
@@ -169,25 +146,68 @@ ask_for : (client seq other g : ℕ) (items : List Item)
 ask_for client seq other g items = one_number ask_in other items (ask_of client seq g)
     ∙ ap (λ (b : Bool). asked other items + cond b 1 0) (and_true (client == other))
 
-tells_ask : (items : List Item) (client g : ℕ) (plans : List ℕ) (asks : ℕ) → asks < length plans
-    → TellsBodies items client plans asks
-    → TellsBodies (items ++ ask_of client (asked client items) g ∷ []) client plans (asks + 1)
-tells_ask items client g plans asks left is =
-    let x = ask_of client (asked client items) g in
-    let one = ask_for client (asked client items) client g items in
+-- its number is that of the Asks before it
+new_ask : (items : List Item) (client seq g : ℕ)
+    → IsAskAt (items ++ ask_of client seq g ∷ []) client seq (length (claims items))
+new_ask items client seq g =
+    let claim : Claim = record {
+      client = client;
+      seq = seq;
+      give_ups = g;
+      body = unwrap_or (found plan_in client seq items) [];
+    } in (
+      claim,
+      record {
+        there = ap (λ (cs : List Claim). slice_get cs (length (claims items)))
+            (claims_push items (ask_of client seq g)) ∙ get_seam (claims items) [] claim;
+        same_client = refl;
+        same_seq = refl;
+      },
+    )
+
+tells_ask : (items : List Item) (client g : ℕ) (bodies : List PlannedBody) (asks : ℕ) → asks < length bodies
+    → TellsBodies items client bodies asks
+    → TellsBodies (items ++ ask_of client (asked client items) g ∷ []) client
+    (replaced asks (as_asked (length (claims items))) bodies) (asks + 1)
+tells_ask items client g bodies asks left is =
+    let seq = asked client items in
+    let x = ask_of client seq g in
+    let number = length (claims items) in
+    let change = as_asked number in
+    let one = ask_for client seq client g items in
     let own = eq-eqb client client refl in
     let plus : ◌≡◌ {A = ℕ} (cond (client == client) 1 0) 1 = rw own refl in
     let before = is.asked_are in
+    let same = length-replaced asks change bodies in
     record {
-      planned_are = is.planned_are ∙ sym (same_number plan_in client items x refl);
+      planned_are = same ∙ (is.planned_are ∙ sym (same_number plan_in client items x refl));
       asked_are = omega (arith, one, plus, before);
-      no_more = omega (arith, left);
-      places = λ seq place there. plan_stays items x client seq place (is.places seq place there);
+      no_more = omega (arith, left, same);
+      plans_are = λ n b there. (
+          let w = was_body asks change bodies n b there in
+          let plan : w.old.plan ≡ b.plan = elim w.is [
+            | inl here ↦ sym (ap (λ (y : PlannedBody). y.plan) here.1)
+            | inr apart ↦ sym (ap (λ (y : PlannedBody). y.plan) apart.1)
+          ] in
+          subst (IsPlanAt (items ++ x ∷ []) client n) plan
+          (plan_stays items x client n w.old.plan (is.plans_are n w.old w.there)));
+      asks_are = λ n b there less. (
+          let w = was_body asks change bodies n b there in
+          elim w.is [
+            | inl here ↦ subst (IsAskAt (items ++ x ∷ []) client n)
+                (sym (ap (λ (y : PlannedBody). y.ask) here.1))
+                (subst (λ (m : ℕ). IsAskAt (items ++ x ∷ []) client m number) (sym (here.0 ∙ before))
+                (new_ask items client seq g))
+            | inr apart ↦
+                let lower : n < asks = below_apart n asks apart.0 less in
+                subst (IsAskAt (items ++ x ∷ []) client n) (sym (ap (λ (y : PlannedBody). y.ask) apart.1))
+                (ask_stays items x client n w.old.ask (is.asks_are n w.old w.there lower))
+          ]);
     }
 
 -- a client with a Plan that was not asked has a row with one
 next_in : (items : List Item) (client : ℕ) (row : Option Row) → IsRow items client row
-    → asked client items < planned client items → (r : Row) × (row ≡ Some r) × (r.asked < length r.plans)
+    → asked client items < planned client items → (r : Row) × (row ≡ Some r) × (r.asked < length r.bodies)
 next_in items client None is left = (let a = is.planned_are in let b = is.asked_are in absurd (omega (arith, a, left)))
 next_in items client (Some r) is left =
     (r, refl, (let a = is.planned_are in let b = is.asked_are in omega (arith, a, b, left)))
@@ -200,30 +220,34 @@ has_next items rows client count are more =
     record { row = row.0; there = row.1; left = row.2 }
 
 tells_asked : (items : List Item) (client g : ℕ) (row : Option Row) (r : Row) → row ≡ Some r
-    → r.asked < length r.plans → IsRow items client row
-    → IsRow (items ++ ask_of client (asked client items) g ∷ []) client (more_asked row)
+    → r.asked < length r.bodies → IsRow items client row
+    → IsRow (items ++ ask_of client (asked client items) g ∷ []) client
+    (becomes (after_ask (length (claims items))) row)
 tells_asked items client g None r e left is = absurd cc
-tells_asked items client g (Some q) r e left is = (let same : q ≡ r = cc in tells_ask items client g q.plans q.asked
-    (subst (λ (x : Row). x.asked < length x.plans) (sym same) left) is)
+tells_asked items client g (Some q) r e left is = (let same : q ≡ r = cc in tells_ask items client g q.bodies q.asked
+    (subst (λ (x : Row). x.asked < length x.bodies) (sym same) left) is)
 
 rows_ask : (items : List Item) (rows : List Row) (client g : ℕ) → HasNext client rows
     → ((c : ℕ) → IsRow items c (row_of c rows))
     → (other : ℕ) → IsRow (items ++ ask_of client (asked client items) g ∷ []) other
-    (row_of other (with_ask client rows))
-rows_ask items rows client g next are other = elim (eqb_tells client other) [
-  | inl same ↦ subst (λ (c : ℕ). IsRow (items ++ ask_of client (asked client items) g ∷ []) c
-      (row_of c (with_ask client rows))) same.1
-      (subst (IsRow (items ++ ask_of client (asked client items) g ∷ []) client)
-      (sym (row_asked client rows))
-      (tells_asked items client g (row_of client rows) next.row next.there next.left (are client)))
-  | inr apart ↦
-      let x = ask_of client (asked client items) g in
-      let one = ask_for client (asked client items) other g items in
-      let off : ◌≡◌ {A = ℕ} (cond (client == other) 1 0) 0 = rw apart.0 refl in
-      let ask : asked other (items ++ x ∷ []) ≡ asked other items = omega (arith, one, off) in
-      subst (IsRow (items ++ x ∷ []) other) (sym (row_asked_other client other rows apart.0))
-      (row_other items x other (row_of other rows) (same_number plan_in other items x refl) ask (are other))
-]
+    (row_of other (with_ask client (length (claims items)) rows))
+rows_ask items rows client g next are other =
+    let number = length (claims items) in
+    elim (eqb_tells client other) [
+      | inl same ↦ subst (λ (c : ℕ). IsRow (items ++ ask_of client (asked client items) g ∷ []) c
+          (row_of c (with_ask client number rows))) same.1
+          (subst (IsRow (items ++ ask_of client (asked client items) g ∷ []) client)
+          (sym (row_changed client (after_ask number) rows (λ r. refl)))
+          (tells_asked items client g (row_of client rows) next.row next.there next.left (are client)))
+      | inr apart ↦
+          let x = ask_of client (asked client items) g in
+          let one = ask_for client (asked client items) other g items in
+          let off : ◌≡◌ {A = ℕ} (cond (client == other) 1 0) 0 = rw apart.0 refl in
+          let ask : asked other (items ++ x ∷ []) ≡ asked other items = omega (arith, one, off) in
+          subst (IsRow (items ++ x ∷ []) other)
+          (sym (row_changed_other client (after_ask number) other rows (λ r. refl) apart.0))
+          (row_other items x other (row_of other rows) (same_number plan_in other items x refl) ask (are other))
+    ]
 
 -- ---- one more Took
 
@@ -232,16 +256,57 @@ asked_row : (items : List Item) (client seq : ℕ) (row : Option Row) → IsRow 
 asked_row items client seq None is below = (let a = is.asked_are in absurd (omega (arith, a, below)))
 asked_row items client seq (Some r) is below = (r, refl, (let a = is.asked_are in omega (arith, a, below)))
 
+row_few : (items : List Item) (client : ℕ) (row : Option Row) (r : Row) → row ≡ Some r → IsRow items client row
+    → r.asked ≤ length r.bodies
+row_few items client None r e is = absurd cc
+row_few items client (Some q) r e is =
+    (let same : q ≡ r = cc in subst (λ (x : Row). x.asked ≤ length x.bodies) same is.no_more)
+
 pub has_asked : (items : List Item) (rows : List Row) (client seq : ℕ)
     → ((c : ℕ) → IsRow items c (row_of c rows)) → seq < asked client items → HasAsked client seq rows
 has_asked items rows client seq are below =
     let row = asked_row items client seq (row_of client rows) (are client) below in
     record { row = row.0; there = row.1; is_asked = row.2 }
 
-row_more_taken : (items : List Item) (client seq : ℕ) (row : Option Row) → IsRow items client row
-    → IsRow items client (more_taken seq row)
-row_more_taken items client seq None is = is
-row_more_taken items client seq (Some r) is = is
+-- so there is such a body in its row
+asked_there : (items : List Item) (rows : List Row) (client seq : ℕ)
+    → (are : (c : ℕ) → IsRow items c (row_of c rows)) → (below : seq < asked client items)
+    → seq < length (has_asked items rows client seq are below).row.bodies
+asked_there items rows client seq are below =
+    let h = has_asked items rows client seq are below in
+    let few = row_few items client (row_of client rows) h.row h.there (are client) in
+    let less = h.is_asked in
+    omega (arith, few, less)
+
+tells_marked : (items : List Item) (client seq : ℕ) (bodies : List PlannedBody) (asks : ℕ)
+    → TellsBodies items client bodies asks → TellsBodies items client (replaced seq as_taken bodies) asks
+tells_marked items client seq bodies asks is =
+    let same = length-replaced seq as_taken bodies in
+    let most = is.no_more in
+    record {
+      planned_are = same ∙ is.planned_are;
+      asked_are = is.asked_are;
+      no_more = omega (arith, most, same);
+      plans_are = λ n b there. (
+          let w = was_body seq as_taken bodies n b there in
+          let plan : w.old.plan ≡ b.plan = elim w.is [
+            | inl here ↦ sym (ap (λ (y : PlannedBody). y.plan) here.1)
+            | inr apart ↦ sym (ap (λ (y : PlannedBody). y.plan) apart.1)
+          ] in
+          subst (IsPlanAt items client n) plan (is.plans_are n w.old w.there));
+      asks_are = λ n b there less. (
+          let w = was_body seq as_taken bodies n b there in
+          let ask : w.old.ask ≡ b.ask = elim w.is [
+            | inl here ↦ sym (ap (λ (y : PlannedBody). y.ask) here.1)
+            | inr apart ↦ sym (ap (λ (y : PlannedBody). y.ask) apart.1)
+          ] in
+          subst (IsAskAt items client n) ask (is.asks_are n w.old w.there less));
+    }
+
+row_marked : (items : List Item) (client seq : ℕ) (row : Option Row) → IsRow items client row
+    → IsRow items client (becomes (after_took seq) row)
+row_marked items client seq None is = is
+row_marked items client seq (Some r) is = tells_marked items client seq r.bodies r.asked is
 
 rows_took : (items : List Item) (rows : List Row) (client seq : ℕ) (x : Item) → plan_in x.what ≡ None
     → ask_in x.what ≡ None → ((c : ℕ) → IsRow items c (row_of c rows))
@@ -251,9 +316,10 @@ rows_took items rows client seq x plan ask are other =
     (same_number ask_in other items x ask)
     (elim (eqb_tells client other) [
       | inl same ↦ subst (λ (c : ℕ). IsRow items c (row_of c (with_took client seq rows))) same.1
-          (subst (IsRow items client) (sym (row_taken client seq rows))
-          (row_more_taken items client seq (row_of client rows) (are client)))
-      | inr apart ↦ subst (IsRow items other) (sym (row_taken_other client seq other rows apart.0)) (are other)
+          (subst (IsRow items client) (sym (row_changed client (after_took seq) rows (λ r. refl)))
+          (row_marked items client seq (row_of client rows) (are client)))
+      | inr apart ↦ subst (IsRow items other)
+          (sym (row_changed_other client (after_took seq) other rows (λ r. refl) apart.0)) (are other)
     ])
 
 -- ---- the other tables
@@ -279,10 +345,34 @@ words_push (y ∷ ys) x = elim (plan_in y.what) as (λ o. words_with o (planned_
       | Some b ↦ (let h = words_push ys x in omega (arith, h))
     ]
 
-asks_push : (items : List Item) (x : Item) → map asked_pair (claims (items ++ x ∷ []))
-    ≡ map asked_pair (claims items) ++ map asked_pair (claim_in items x (ask_in x.what))
-asks_push items x = ap (map asked_pair) (claims_push items x)
-    ∙ map-append asked_pair (claims items) (claim_in items x (ask_in x.what))
+asks_push : (items : List Item) (x : Item)
+    → length (claims (items ++ x ∷ [])) ≡ length (claims items) + length (claim_in items x (ask_in x.what))
+asks_push items x = ap (λ (cs : List Claim). length cs) (claims_push items x)
+    ∙ length-append (claims items) (claim_in items x (ask_in x.what))
+
+claim_few : (front : List Item) (x : Item) (o : Option ℕ) → length (claim_in front x o) ≤ 1
+claim_few front x None = omega arith
+claim_few front x (Some g) = omega arith
+
+claims_few : (front xs : List Item) → length (claims_behind front xs) ≤ length xs
+claims_few front [] = omega arith
+claims_few front (x ∷ xs) =
+    let one = claim_few front x (ask_in x.what) in
+    let rest = claims_few (front ++ x ∷ []) xs in
+    let all = length-append (claim_in front x (ask_in x.what)) (claims_behind (front ++ x ∷ []) xs) in
+    omega (arith, one, rest, all)
+
+-- there are no more Asks than entries
+pub asks_few : (items : List Item) → length (claims items) ≤ length items
+asks_few items = claims_few [] items
+
+no_ask : (items : List Item) (x : Item) → ask_in x.what ≡ None
+    → length (claims (items ++ x ∷ [])) ≡ length (claims items)
+no_ask items x none =
+    let e = asks_push items x in
+    let off : ◌≡◌ {A = ℕ} (length (claim_in items x (ask_in x.what))) 0 =
+    ap (λ (o : Option ℕ). length (claim_in items x o)) none in
+    omega (arith, e, off)
 
 entries_push : (items : List Item) (x : Item) (entries old : List Entry) → old ≡ map entry_of items
     → entries ≡ old ++ entry_of x ∷ [] → entries ≡ map entry_of (items ++ x ∷ [])
@@ -297,7 +387,7 @@ or_true : (b : Bool) → (b || true) ≡ true
 or_true true = refl
 or_true false = refl
 
-module _ (items : List Item) (entries : List Entry) (rows : List Row) (asks : List (ℕ × ℕ)) (bodies words : ℕ)
+module _ (items : List Item) (entries : List Entry) (rows : List Row) (asks bodies words : ℕ)
     (closed : Bool) (room : ℕ) (is : IsBook items entries rows asks bodies words closed room) where
   -- an entry that is no Plan and no Ask
   book_other : (x : Item) (new : List Entry) (changed : List Row) (after : ℕ) → plan_in x.what ≡ None
@@ -312,9 +402,7 @@ module _ (items : List Item) (entries : List Entry) (rows : List Row) (asks : Li
         (λ some. (let off : is_some (plan_in x.what) ≡ false = ap is_some plan in absurd cc));
     rows_are = told;
     taken_are = taken;
-    asks_are = is.asks_are ∙ sym (asks_push items x
-        ∙ (ap (λ (o : Option ℕ). map asked_pair (claims items) ++ map asked_pair (claim_in items x o)) ask
-        ∙ append-nil (map asked_pair (claims items))));
+    asks_are = is.asks_are ∙ sym (no_ask items x ask);
     bodies_are = (let h = bodies_push items x in let none : one_with (plan_in x.what) 0 ≡ 0 =
         ap (λ (o : Option (List ℕ)). one_with o 0) plan in let b = is.bodies_are in omega (arith, h, none, b));
     words_are = (let h = words_push items x in let none : words_with (plan_in x.what) 0 ≡ 0 =
@@ -334,7 +422,8 @@ module _ (items : List Item) (entries : List Entry) (rows : List Row) (asks : Li
       book_other x new (with_took client seq rows) after refl refl entry
       closed (is.closed_is ∙ sym (sealed_append items (x ∷ []) ∙ or_false (is_sealed items)))
       (λ _. one) (rows_took items rows client seq x refl refl is.rows_are)
-      (taken_took items rows client seq g outcome (has_asked items rows client seq is.rows_are below) is.taken_are)
+      (taken_took items rows client seq g outcome (has_asked items rows client seq is.rows_are below)
+      (asked_there items rows client seq is.rows_are below) is.taken_are)
 
   pub book_seal : (new : List Entry) (after : ℕ) → new ≡ entries ++ entry_of the_seal ∷ []
       → IsBook (items ++ the_seal ∷ []) new rows asks bodies words true after
@@ -348,18 +437,18 @@ module _ (items : List Item) (entries : List Entry) (rows : List Row) (asks : Li
 
   pub book_ask : (client g : ℕ) (new : List Entry) (after : ℕ) → HasMorePlans client items
       → new ≡ entries ++ entry_of (ask_of client (asked client items) g) ∷ [] → 1 ≤ after
-      → IsBook (items ++ ask_of client (asked client items) g ∷ []) new (with_ask client rows)
-      (asks ++ (client, asked client items) ∷ []) bodies words closed after
+      → IsBook (items ++ ask_of client (asked client items) g ∷ []) new (with_ask client asks rows)
+      (asks + 1) bodies words closed after
   book_ask client g new after more entry one =
       let x = ask_of client (asked client items) g in
       record {
         entries_are = entries_push items x new entries is.entries_are entry;
         plans_count = count_push plan_in items x is.plans_count (λ some. absurd cc);
-        rows_are = rows_ask items rows client g (has_next items rows client is.plans_count is.rows_are more)
-            is.rows_are;
-        taken_are = taken_ask items rows client (asked client items) g is.taken_are;
-        asks_are = ap (λ (l : List (ℕ × ℕ)). l ++ (client, asked client items) ∷ []) is.asks_are ∙ sym (asks_push
-            items x);
+        rows_are = subst (λ (n : ℕ). (c : ℕ) → IsRow (items ++ x ∷ []) c (row_of c (with_ask client n rows)))
+            (sym is.asks_are)
+            (rows_ask items rows client g (has_next items rows client is.plans_count is.rows_are more) is.rows_are);
+        taken_are = taken_ask items rows client asks (asked client items) g is.taken_are;
+        asks_are = (let e = asks_push items x in let a = is.asks_are in omega (arith, e, a));
         bodies_are = (let h = bodies_push items x in let b = is.bodies_are in omega (arith, h, b));
         words_are = (let h = words_push items x in let b = is.words_are in omega (arith, h, b));
         closed_is = is.closed_is ∙ sym (sealed_append items (x ∷ []) ∙ or_false (is_sealed items));
@@ -383,7 +472,7 @@ module _ (items : List Item) (entries : List Entry) (rows : List Row) (asks : Li
         plans_count = count_push plan_in items x is.plans_count (λ _. refl);
         rows_are = rows_plan items rows client body is.plans_count is.rows_are;
         taken_are = taken_plan items rows client (planned client items) (length items) body is.taken_are;
-        asks_are = is.asks_are ∙ sym (asks_push items x ∙ append-nil (map asked_pair (claims items)));
+        asks_are = is.asks_are ∙ sym (no_ask items x refl);
         bodies_are = (let h = bodies_push items x in omega (arith, h, b, more_is));
         words_are = (let h = words_push items x in omega (arith, h, w, words_is));
         closed_is = is.closed_is ∙ sym (sealed_append items (x ∷ []) ∙ or_false (is_sealed items));
@@ -400,63 +489,36 @@ module _ (items : List Item) (entries : List Entry) (rows : List Row) (asks : Li
 
 -- ---- what is looked up
 
-get_past : (xs : List ℕ) (k : ℕ) → slice_get xs k ≡ None → length xs ≤ k
-get_past [] k is = omega arith
-get_past (x ∷ xs) zero is = absurd cc
-get_past (x ∷ xs) (suc k) is = let h = get_past xs k is in omega (arith, h)
+no_body : (bodies : List PlannedBody) (k : ℕ) → plan_of_body (slice_get bodies k) ≡ None → length bodies ≤ k
+no_body [] k is = omega arith
+no_body (x ∷ xs) zero is = absurd cc
+no_body (x ∷ xs) (suc k) is = let h = no_body xs k is in omega (arith, h)
+
+some_body : (o : Option PlannedBody) (place : ℕ) → plan_of_body o ≡ Some place
+    → (body : PlannedBody) × (o ≡ Some body) × (body.plan ≡ place)
+some_body None place is = absurd cc
+some_body (Some body) place is = (body, refl, cc)
 
 pub next_some : (items : List Item) (client place : ℕ) (row : Option Row) → IsRow items client row
     → next_of row ≡ Some place → IsPlanAt items client (asked client items) place
 next_some items client place None is there = absurd cc
 next_some items client place (Some r) is there =
-    subst (λ (seq : ℕ). IsPlanAt items client seq place) is.asked_are (is.places r.asked place there)
+    let b = some_body (slice_get r.bodies r.asked) place there in
+    subst (IsPlanAt items client (asked client items)) b.2
+    (subst (λ (seq : ℕ). IsPlanAt items client seq b.0.plan) is.asked_are (is.plans_are r.asked b.0 b.1))
 
 pub next_none : (items : List Item) (client : ℕ) (row : Option Row) → IsRow items client row → next_of row ≡ None
     → asked client items ≡ planned client items
 next_none items client None is there = sym is.asked_are ∙ is.planned_are
 next_none items client (Some r) is there =
-    let past = get_past r.plans r.asked there in
+    let past = no_body r.bodies r.asked there in
     let a = is.asked_are in
     let p = is.planned_are in
     let most = is.no_more in
     omega (arith, past, a, p, most)
 
-get_map : {A B : Type 0} (f : A → B) (xs : List A) (k : ℕ) (x : A) → slice_get xs k ≡ Some x
-    → slice_get (map f xs) k ≡ Some (f x)
-get_map f [] k x is = absurd cc
-get_map {B = B} f (y ∷ xs) zero x is = (let same : y ≡ x = cc in ap (λ z. Some (f z)) same)
-get_map f (y ∷ xs) (suc k) x is = get_map f xs k x is
-
-map_get : (cs : List Claim) (k : ℕ) (p : ℕ × ℕ) → slice_get (map asked_pair cs) k ≡ Some p
-    → (c : Claim) × (slice_get cs k ≡ Some c) × (asked_pair c ≡ p)
-map_get [] k p is = absurd cc
-map_get (c ∷ cs) zero p is = (c, refl, cc)
-map_get (c ∷ cs) (suc k) p is = map_get cs k p is
-
-pair_is : (a b c d : ℕ) → a ≡ c → b ≡ d → ◌≡◌ {A = ℕ × ℕ} (a, b) (c, d)
-pair_is a b c d e f = ap (λ (x : ℕ). (x, b)) e ∙ ap (λ (x : ℕ). (c, x)) f
-
-pub position_is : (items : List Item) (client seq : ℕ) (asks : List (ℕ × ℕ)) (r : Option ℕ)
-    → asks ≡ map asked_pair (claims items)
-    → IfSome r (λ at. slice_get asks at ≡ Some (client, seq))
-    → IfNone r ((at : ℕ) → slice_get asks at ≡ Some (client, seq) → ⊥) → IsPosition client seq items r
-position_is items client seq asks None are some none = λ k claim is. none k
-    (ap (λ (l : List (ℕ × ℕ)). slice_get l k) are
-    ∙ (get_map asked_pair (claims items) k claim is.there
-    ∙ ap (λ (p : ℕ × ℕ). Some p) (pair_is claim.client claim.seq client seq is.same_client is.same_seq)))
-position_is items client seq asks (Some at) are some none =
-    let found = map_get (claims items) at (client, seq) (sym (ap (λ (l : List (ℕ × ℕ)). slice_get l at) are) ∙ some)
-    in (
-      found.0,
-      record {
-        there = found.1;
-        same_client = ap (λ (p : ℕ × ℕ). p.0) found.2;
-        same_seq = ap (λ (p : ℕ × ℕ). p.1) found.2;
-      },
-    )
-
 -- more room
-pub book_room : (items : List Item) (entries : List Entry) (rows : List Row) (asks : List (ℕ × ℕ)) (bodies words : ℕ)
+pub book_room : (items : List Item) (entries : List Entry) (rows : List Row) (asks bodies words : ℕ)
     (closed : Bool) (room after : ℕ) → room ≤ after → IsBook items entries rows asks bodies words closed room
     → IsBook items entries rows asks bodies words closed after
 book_room items entries rows asks bodies words closed room after more is = record {
@@ -478,15 +540,14 @@ pub plan_same : (item : Item) (client seq : ℕ) (body : List ℕ) → Some item
 plan_same item client seq body same = (let is : item ≡ plan_of client seq body = cc in ap (λ (x : Item). plan_in
     x.what) is)
 
-pub book_reserved : (items more : List Item) (entries longer : List Entry) (rows : List Row) (asks wider : List (ℕ × ℕ))
-    (bodies words : ℕ) (closed : Bool) (room after : ℕ) → more ≡ items → longer ≡ entries → wider ≡ asks
+pub book_reserved : (items more : List Item) (entries longer : List Entry) (rows : List Row) (asks bodies words : ℕ)
+    (closed : Bool) (room after : ℕ) → more ≡ items → longer ≡ entries
     → room ≤ after → IsBook items entries rows asks bodies words closed room
-    → IsBook more longer rows wider bodies words closed after
-book_reserved items more entries longer rows asks wider bodies words closed room after i e a fits is =
-    subst (λ (xs : List Item). IsBook xs longer rows wider bodies words closed after) (sym i)
-    (subst (λ (es : List Entry). IsBook items es rows wider bodies words closed after) (sym e)
-    (subst (λ (ks : List (ℕ × ℕ)). IsBook items entries rows ks bodies words closed after) (sym a)
-    (book_room items entries rows asks bodies words closed room after fits is)))
+    → IsBook more longer rows asks bodies words closed after
+book_reserved items more entries longer rows asks bodies words closed room after i e fits is =
+    subst (λ (xs : List Item). IsBook xs longer rows asks bodies words closed after) (sym i)
+    (subst (λ (es : List Entry). IsBook items es rows asks bodies words closed after) (sym e)
+    (book_room items entries rows asks bodies words closed room after fits is))
 
 pub not_a_plan : (item : Item) (client seq : ℕ) (body : List ℕ) → Some item ≡ Some (plan_of client seq body)
     → ((b : List ℕ) → item.what ≡ Plan b → ⊥) → ⊥
@@ -494,25 +555,24 @@ not_a_plan item client seq body same other =
     (let is : item ≡ plan_of client seq body = cc in other body (ap (λ (x : Item). x.what) is))
 
 pub book_asked : (items more : List Item) (entries longer : List Entry) (rows changed : List Row)
-    (asks wider : List (ℕ × ℕ)) (bodies words : ℕ) (closed : Bool) (room after client seq g : ℕ)
+    (asks bodies words : ℕ) (closed : Bool) (room after client seq g : ℕ)
     → IsBook items entries rows asks bodies words closed room → seq ≡ asked client items
     → HasMorePlans client items → more ≡ items ++ ask_of client seq g ∷ []
-    → longer ≡ entries ++ entry_of (ask_of client seq g) ∷ [] → changed ≡ with_ask client rows
-    → wider ≡ asks ++ (client, seq) ∷ [] → 1 ≤ after
-    → IsBook more longer changed wider bodies words closed after
-book_asked items more entries longer rows changed asks wider bodies words closed room after client seq g is number plans
-    i e r a fits =
+    → longer ≡ entries ++ entry_of (ask_of client seq g) ∷ [] → changed ≡ with_ask client asks rows
+    → 1 ≤ after
+    → IsBook more longer changed (asks + 1) bodies words closed after
+book_asked items more entries longer rows changed asks bodies words closed room after client seq g is number plans
+    i e r fits =
     let seq_item = λ (n : ℕ). items ++ ask_of client n g ∷ [] in
     let entry = e ∙ ap (λ (n : ℕ). entries ++ entry_of (ask_of client n g) ∷ []) number in
-    subst (λ (xs : List Item). IsBook xs longer changed wider bodies words closed after)
+    subst (λ (xs : List Item). IsBook xs longer changed (asks + 1) bodies words closed after)
     (sym (i ∙ ap seq_item number))
-    (subst (λ (rs : List Row). IsBook (seq_item (asked client items)) longer rs wider bodies words closed after) (sym r)
-    (subst (λ (ks : List (ℕ × ℕ)). IsBook (seq_item (asked client items)) longer (with_ask client rows) ks bodies words
-    closed after) (sym (a ∙ ap (λ (n : ℕ). asks ++ (client, n) ∷ []) number))
-    (book_ask items entries rows asks bodies words closed room is client g longer after plans entry fits)))
+    (subst (λ (rs : List Row). IsBook (seq_item (asked client items)) longer rs (asks + 1) bodies words closed after)
+    (sym r)
+    (book_ask items entries rows asks bodies words closed room is client g longer after plans entry fits))
 
 pub book_planned : (items more : List Item) (entries longer : List Entry) (rows changed : List Row)
-    (asks : List (ℕ × ℕ)) (bodies words count total : ℕ) (closed : Bool) (room after client seq place : ℕ)
+    (asks bodies words count total : ℕ) (closed : Bool) (room after client seq place : ℕ)
     (body : List ℕ)
     → IsBook items entries rows asks bodies words closed room → seq ≡ planned client items
     → ¬ IsFull items (length body) (reply_room body) → more ≡ items ++ plan_of client seq body ∷ []

@@ -52,7 +52,8 @@ put_more begin old next held now None None (Some u) is put sent = absurd sent
 put_more begin old next held now None (Some t) new_link is put sent = absurd put
 put_more begin old next held now (Some s) None new_link is put sent = absurd put
 put_more begin old next held now (Some s) (Some t) None is put sent = absurd sent
-put_more begin old next held now (Some s) (Some t) (Some u) is put sent = put_one begin old next held now s t u is put sent
+put_more begin old next held now (Some s) (Some t) (Some u) is put sent = put_one begin old next held now s t u is put
+    sent
 
 -- ---- a receive
 

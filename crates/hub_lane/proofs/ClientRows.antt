@@ -4,8 +4,7 @@ use Rattle.std.proofs.Common.{Option, Some, None, refl, sym, ap, ◌∙◌, arit
 use Rattle.std.specs.List.{slice_get}
 use Rattle.std.specs.Prelude.{OnOk, Result, Ok, Err}
 use Rattle.std.proofs.lemmas.Bool.{eqb-true, eq-eqb}
-use Rattle.hub_lane.specs.Books.{Row, after_took, first_row, one_later, row_at, row_of, with_ask, with_plan}
-use Rattle.hub_lane.specs.Books.{with_took}
+use Rattle.hub_lane.specs.Books.{Row, after_plan, changed, first_row, one_later, row_at, row_of, with_plan}
 
 -- the first row of a client stands there
 pub record IsFirstAt (client : ℕ) (rows : List Row) (at : ℕ) : Type 0 where
@@ -56,10 +55,7 @@ no_row client (r ∷ rs) is = elim (r.client == client)
       | false ↦ λ e. no_row client rs (none_later (row_at client rs) e)
     ] is
 
--- a row is changed where it stands
-abbrev pub changed : ℕ → (Row → Row) → List Row → List Row
-changed client change [] = []
-changed client change (r ∷ rs) = cond (r.client == client) (change r ∷ rs) (r ∷ changed client change rs)
+-- ---- a row is changed where it stands
 
 pub set_changed : (client : ℕ) (change : Row → Row) (rows : List Row) (at : ℕ) → row_at client rows ≡ Some at
     → (row : Row) → slice_get rows at ≡ Some row → set rows at (change row) ≡ changed client change rows
@@ -80,41 +76,15 @@ set_changed client change (r ∷ rs) at is row there = elim (r.client == client)
     ] is
 
 pub plan_changed : (client place : ℕ) (rows : List Row) (at : ℕ) → row_at client rows ≡ Some at
-    → with_plan client place rows ≡ changed client (λ (r : Row). record r { plans = r.plans ++ place ∷ [] }) rows
+    → with_plan client place rows ≡ changed client (after_plan place) rows
 plan_changed client place [] at is = absurd cc
 plan_changed client place (r ∷ rs) at is = elim (r.client == client)
     as (λ b. cond b (Some 0) (one_later (row_at client rs)) ≡ Some at
-    → cond b (record r { plans = r.plans ++ place ∷ [] } ∷ rs) (r ∷ with_plan client place rs)
-    ≡ cond b (record r { plans = r.plans ++ place ∷ [] } ∷ rs)
-    (r ∷ changed client (λ (x : Row). record x { plans = x.plans ++ place ∷ [] }) rs)) [
+    → cond b (after_plan place r ∷ rs) (r ∷ with_plan client place rs)
+    ≡ cond b (after_plan place r ∷ rs) (r ∷ changed client (after_plan place) rs)) [
       | true ↦ λ e. refl
       | false ↦ λ e. let later = later_is (row_at client rs) at e in
           ap (λ (xs : List Row). r ∷ xs) (plan_changed client place rs later.0 later.1)
-    ] is
-
-pub ask_changed : (client : ℕ) (rows : List Row) (at : ℕ) → row_at client rows ≡ Some at
-    → with_ask client rows ≡ changed client (λ (r : Row). record r { asked = r.asked + 1 }) rows
-ask_changed client [] at is = absurd cc
-ask_changed client (r ∷ rs) at is = elim (r.client == client)
-    as (λ b. cond b (Some 0) (one_later (row_at client rs)) ≡ Some at
-    → cond b (record r { asked = r.asked + 1 } ∷ rs) (r ∷ with_ask client rs)
-    ≡ cond b (record r { asked = r.asked + 1 } ∷ rs)
-    (r ∷ changed client (λ (x : Row). record x { asked = x.asked + 1 }) rs)) [
-      | true ↦ λ e. refl
-      | false ↦ λ e. let later = later_is (row_at client rs) at e in
-          ap (λ (xs : List Row). r ∷ xs) (ask_changed client rs later.0 later.1)
-    ] is
-
-pub took_changed : (client seq : ℕ) (rows : List Row) (at : ℕ) → row_at client rows ≡ Some at
-    → with_took client seq rows ≡ changed client (after_took seq) rows
-took_changed client seq [] at is = absurd cc
-took_changed client seq (r ∷ rs) at is = elim (r.client == client)
-    as (λ b. cond b (Some 0) (one_later (row_at client rs)) ≡ Some at
-    → cond b (after_took seq r ∷ rs) (r ∷ with_took client seq rs)
-    ≡ cond b (after_took seq r ∷ rs) (r ∷ changed client (after_took seq) rs)) [
-      | true ↦ λ e. refl
-      | false ↦ λ e. let later = later_is (row_at client rs) at e in
-          ap (λ (xs : List Row). r ∷ xs) (took_changed client seq rs later.0 later.1)
     ] is
 
 pub first_plan : (client place : ℕ) (rows : List Row) → row_at client rows ≡ None
@@ -122,7 +92,7 @@ pub first_plan : (client place : ℕ) (rows : List Row) → row_at client rows �
 first_plan client place [] is = refl
 first_plan client place (r ∷ rs) is = elim (r.client == client)
     as (λ b. cond b (Some 0) (one_later (row_at client rs)) ≡ None
-    → cond b (record r { plans = r.plans ++ place ∷ [] } ∷ rs) (r ∷ with_plan client place rs)
+    → cond b (after_plan place r ∷ rs) (r ∷ with_plan client place rs)
     ≡ r ∷ (rs ++ first_row client place ∷ [])) [
       | true ↦ λ e. absurd cc
       | false ↦ λ e. ap (λ (xs : List Row). r ∷ xs) (first_plan client place rs (none_later (row_at client rs) e))
@@ -138,16 +108,47 @@ none_of (Some x) not_some = absurd (not_some x refl)
 
 -- ---- the row of a client after a change
 
+abbrev pub becomes : (Row → Row) → Option Row → Option Row
+becomes change None = None
+becomes change (Some r) = Some (change r)
+
+pub row_changed : (client : ℕ) (change : Row → Row) (rows : List Row) → ((r : Row) → (change r).client ≡ r.client)
+    → row_of client (changed client change rows) ≡ becomes change (row_of client rows)
+row_changed client change [] keeps = refl
+row_changed client change (r ∷ rs) keeps = elim (r.client == client)
+    as (λ b. (r.client == client) ≡ b
+    → row_of client (cond b (change r ∷ rs) (r ∷ changed client change rs))
+    ≡ becomes change (cond b (Some r) (row_of client rs))) [
+      | true ↦ λ same. (let e : ((change r).client == client) ≡ true = ap (λ (n : ℕ). n == client) (keeps r) ∙ same in
+          rw e refl)
+      | false ↦ λ other. rw other (row_changed client change rs keeps)
+    ] refl
+
+pub row_changed_other : (client : ℕ) (change : Row → Row) (other : ℕ) (rows : List Row)
+    → ((r : Row) → (change r).client ≡ r.client) → (client == other) ≡ false
+    → row_of other (changed client change rows) ≡ row_of other rows
+row_changed_other client change other [] keeps apart = refl
+row_changed_other client change other (r ∷ rs) keeps apart = elim (r.client == client)
+    as (λ b. (r.client == client) ≡ b
+    → row_of other (cond b (change r ∷ rs) (r ∷ changed client change rs)) ≡ row_of other (r ∷ rs)) [
+      | true ↦ λ same. (
+          let e : (r.client == other) ≡ false = ap (λ (n : ℕ). n == other) (eqb-true _ _ same) ∙ apart in
+          let f : ((change r).client == other) ≡ false = ap (λ (n : ℕ). n == other) (keeps r) ∙ e in
+          rw (e, f) refl)
+      | false ↦ λ _. ap (λ (rest : Option Row). cond (r.client == other) (Some r) rest)
+          (row_changed_other client change other rs keeps apart)
+    ] refl
+
 abbrev pub grown : ℕ → ℕ → Option Row → Row
 grown client place None = first_row client place
-grown client place (Some r) = record r { plans = r.plans ++ place ∷ [] }
+grown client place (Some r) = after_plan place r
 
 pub row_planned : (client place : ℕ) (rows : List Row)
     → row_of client (with_plan client place rows) ≡ Some (grown client place (row_of client rows))
 row_planned client place [] = let same = eq-eqb client client refl in rw same refl
 row_planned client place (r ∷ rs) = elim (r.client == client)
     as (λ b. (r.client == client) ≡ b
-    → row_of client (cond b (record r { plans = r.plans ++ place ∷ [] } ∷ rs) (r ∷ with_plan client place rs))
+    → row_of client (cond b (after_plan place r ∷ rs) (r ∷ with_plan client place rs))
     ≡ Some (grown client place (cond b (Some r) (row_of client rs)))) [
       | true ↦ λ same. rw same refl
       | false ↦ λ other. rw other (row_planned client place rs)
@@ -158,64 +159,10 @@ pub row_planned_other : (client place other : ℕ) (rows : List Row) → (client
 row_planned_other client place other [] apart = rw apart refl
 row_planned_other client place other (r ∷ rs) apart = elim (r.client == client)
     as (λ b. (r.client == client) ≡ b
-    → row_of other (cond b (record r { plans = r.plans ++ place ∷ [] } ∷ rs) (r ∷ with_plan client place rs))
+    → row_of other (cond b (after_plan place r ∷ rs) (r ∷ with_plan client place rs))
     ≡ row_of other (r ∷ rs)) [
       | true ↦ λ same. (let e : (r.client == other) ≡ false = ap (λ (n : ℕ). n == other) (eqb-true _ _ same) ∙ apart in
           rw e refl)
       | false ↦ λ _. ap (λ (rest : Option Row). cond (r.client == other) (Some r) rest)
           (row_planned_other client place other rs apart)
-    ] refl
-
-abbrev pub more_asked : Option Row → Option Row
-more_asked None = None
-more_asked (Some r) = Some (record r { asked = r.asked + 1 })
-
-pub row_asked : (client : ℕ) (rows : List Row) → row_of client (with_ask client rows) ≡ more_asked (row_of client rows)
-row_asked client [] = refl
-row_asked client (r ∷ rs) = elim (r.client == client)
-    as (λ b. (r.client == client) ≡ b
-    → row_of client (cond b (record r { asked = r.asked + 1 } ∷ rs) (r ∷ with_ask client rs))
-    ≡ more_asked (cond b (Some r) (row_of client rs))) [
-      | true ↦ λ same. rw same refl
-      | false ↦ λ other. rw other (row_asked client rs)
-    ] refl
-
-pub row_asked_other : (client other : ℕ) (rows : List Row) → (client == other) ≡ false
-    → row_of other (with_ask client rows) ≡ row_of other rows
-row_asked_other client other [] apart = refl
-row_asked_other client other (r ∷ rs) apart = elim (r.client == client)
-    as (λ b. (r.client == client) ≡ b
-    → row_of other (cond b (record r { asked = r.asked + 1 } ∷ rs) (r ∷ with_ask client rs))
-    ≡ row_of other (r ∷ rs)) [
-      | true ↦ λ same. (let e : (r.client == other) ≡ false = ap (λ (n : ℕ). n == other) (eqb-true _ _ same) ∙ apart in
-          rw e refl)
-      | false ↦ λ _. ap (λ (rest : Option Row). cond (r.client == other) (Some r) rest)
-          (row_asked_other client other rs apart)
-    ] refl
-
-abbrev pub more_taken : ℕ → Option Row → Option Row
-more_taken seq None = None
-more_taken seq (Some r) = Some (after_took seq r)
-
-pub row_taken : (client seq : ℕ) (rows : List Row)
-    → row_of client (with_took client seq rows) ≡ more_taken seq (row_of client rows)
-row_taken client seq [] = refl
-row_taken client seq (r ∷ rs) = elim (r.client == client)
-    as (λ b. (r.client == client) ≡ b
-    → row_of client (cond b (after_took seq r ∷ rs) (r ∷ with_took client seq rs))
-    ≡ more_taken seq (cond b (Some r) (row_of client rs))) [
-      | true ↦ λ same. rw same refl
-      | false ↦ λ other. rw other (row_taken client seq rs)
-    ] refl
-
-pub row_taken_other : (client seq other : ℕ) (rows : List Row) → (client == other) ≡ false
-    → row_of other (with_took client seq rows) ≡ row_of other rows
-row_taken_other client seq other [] apart = refl
-row_taken_other client seq other (r ∷ rs) apart = elim (r.client == client)
-    as (λ b. (r.client == client) ≡ b
-    → row_of other (cond b (after_took seq r ∷ rs) (r ∷ with_took client seq rs)) ≡ row_of other (r ∷ rs)) [
-      | true ↦ λ same. (let e : (r.client == other) ≡ false = ap (λ (n : ℕ). n == other) (eqb-true _ _ same) ∙ apart in
-          rw e refl)
-      | false ↦ λ _. ap (λ (rest : Option Row). cond (r.client == other) (Some r) rest)
-          (row_taken_other client seq other rs apart)
     ] refl

@@ -6,7 +6,8 @@ use Rattle.std.proofs.Math.Nat.{mul-add}
 use Rattle.ipb_base.specs.Faults.{one_more}
 use Rattle.world_model.specs.declared.offered.Fate.{Fate}
 use Rattle.world_model.specs.declared.offered.OpenPlace.{OpenPlace}
-use Rattle.world_model.specs.Messages.{ToHub, to_hub}
+use Rattle.packet_codec.specs.declared.packet.TheConstants.{MAX_BODY_WORDS}
+use Rattle.world_model.specs.Messages.{ToHub, Reply as ReplyTo, to_hub}
 use Rattle.world_model.specs.Hub.{Hub, give_up, hear_quiet, is_waiting, places, recover}
 use Rattle.world_model.specs.Hub.{some_queued, some_waited, take_message, want_status, without}
 use Rattle.world_model.specs.Sends.{Next, next_send}
@@ -21,14 +22,16 @@ use Rattle.lane_record.specs.declared.item.Item.{Item}
 use Rattle.lane_record.specs.Claims.{Claim, claims}
 use Rattle.lane_record.specs.FirstSends.{PlacesCount}
 use Rattle.lane_record.specs.Bounds.{AreLostOnlyIf, HasReached, HasWaited, IsKept, TellRounds, timeouts}
-use Rattle.lane_record.specs.Outcomes.{is_given_up, is_lost, is_replied}
+use Rattle.lane_record.specs.Outcomes.{AreShort, is_given_up, is_lost, is_replied}
 use Rattle.lane_record.specs.Offers.{AddsOnly, AgreesWith, KeepsOutcomes, Settles, put_all}
 use Rattle.lane_record.proofs.Rounds.{give_up_tells, message_tells}
+use Rattle.lane_record.proofs.Lengths.{give_up_short, message_short}
 use Rattle.hub_lane.specs.declared.answers.Pumped.{Pumped}
 use Rattle.hub_lane.specs.declared.answers.Pumped.TheVariants.{Reply, Status, Stray, Quiet, Idle, LinkDown}
 use Rattle.hub_lane.specs.Hearing.{IsEventAs, give_ups_of, hub_after, quiets_of}
 use Rattle.hub_lane.specs.Lanes.{BoardStatus, IsLane, IsReady, KnowsBoard, waits}
 use Rattle.hub_lane.specs.Sends.{HasSent, handed_out}
+use Rattle.hub_lane.proofs.Heard.{reply_short}
 use Rattle.hub_lane.proofs.Linked.{SendKeepsBodies}
 use Rattle.hub_lane.proofs.Ready.{ready_sent, same_sent}
 use Rattle.hub_lane.proofs.Sends.{one_sent, sent_keeps}
@@ -181,6 +184,7 @@ pub record IsAfter (settings : Limits) (status : BoardStatus) (hub : Hub) (items
   pub fewer : give_ups + waits hub ≤ length outcomes
   pub lost : AreLostOnlyIf (false ≡ true) outcomes
   pub tells : TellRounds settings.rounds outcomes
+  pub short : AreShort outcomes
   pub keeps : KeepsOutcomes old outcomes
 
 knows_still : (settings : Limits) (status : BoardStatus) (old new : Hub) → new.first ≡ old.first
@@ -212,6 +216,7 @@ mid_after settings status hub mid items outcomes give_ups telling faults quiets 
       ap (λ (b : Bool). cond b 1 0) at.same.waits in omega (arith, h, same));
   lost = is.lost;
   tells = is.tells;
+  short = is.short;
   keeps = λ k o e. e;
 }
 
@@ -242,6 +247,7 @@ asked_after settings status mid items outcomes give_ups quiets quiets_now waitin
       fewer = is.fewer;
       lost = is.lost;
       tells = is.tells;
+      short = is.short;
       keeps = λ k o e. e;
     }))
 
@@ -277,16 +283,18 @@ given_up_after gave_up settings status mid items outcomes give_ups quiets quiets
       lost = still_lost (false ≡ true) is_given_up outcomes new ended s.adds is.lost;
       tells = subst (λ (rounds : ℕ). TellRounds rounds new) is.knows.rounds (give_up_tells mid outcomes is.ready.drained
           (subst (λ (rounds : ℕ). TellRounds rounds outcomes) (sym is.knows.rounds) is.tells));
+      short = give_up_short mid outcomes is.ready.drained is.short;
       keeps = s.keeps;
     })
 
 message_after : MessageSettles → RepliedLaw → (settings : Limits) (status : BoardStatus) (mid : Hub)
     (message : Option ToHub) (items : List Item) (outcomes : List (Option Outcome)) (give_ups quiets : ℕ)
+    → ((id : ℕ) (words : List ℕ) → message ≡ Some (ReplyTo id words) → length words ≤ MAX_BODY_WORDS)
     → HasBodies (length outcomes) (take_message mid message)
     → IsAfter settings status mid items outcomes outcomes give_ups quiets
     → IsAfter settings status (handed_out (take_message mid message)) items outcomes
     (put_all (take_message mid message).fates outcomes) give_ups quiets
-message_after settles replied settings status mid message items outcomes give_ups quiets bodies is =
+message_after settles replied settings status mid message items outcomes give_ups quiets short bodies is =
     let event = take_message mid message in
     let new = put_all event.fates outcomes in
     let s = settles mid message (claims items) outcomes is.ready.window is.ready.drained is.agrees in
@@ -304,6 +312,7 @@ message_after settles replied settings status mid message items outcomes give_up
       fewer = (let h = is.fewer in let f = l.fewer in omega (arith, h, f, same));
       lost = still_lost (false ≡ true) is_replied outcomes new calm s.adds is.lost;
       tells = message_tells settings.rounds mid message outcomes is.ready.drained is.tells;
+      short = message_short mid message outcomes short is.ready.drained is.short;
       keeps = s.keeps;
     }
 
@@ -339,16 +348,16 @@ pub event_after : MessageSettles → RepliedLaw → QuietSettles → GaveUpLaw
     (quiets_of pumped quiets)
 event_after settles replied quiet gave_up settings status mid bytes (Reply place) items outcomes give_ups quiets bodies
     quiet_bodies waiting event is =
-    message_after settles replied settings status mid (to_hub bytes) items outcomes give_ups quiets (bodies (to_hub
-    bytes)) is
+    message_after settles replied settings status mid (to_hub bytes) items outcomes give_ups quiets (reply_short bytes)
+    (bodies (to_hub bytes)) is
 event_after settles replied quiet gave_up settings status mid bytes Status items outcomes give_ups quiets bodies
     quiet_bodies waiting event is =
-    message_after settles replied settings status mid (to_hub bytes) items outcomes give_ups quiets (bodies (to_hub
-    bytes)) is
+    message_after settles replied settings status mid (to_hub bytes) items outcomes give_ups quiets (reply_short bytes)
+    (bodies (to_hub bytes)) is
 event_after settles replied quiet gave_up settings status mid bytes Stray items outcomes give_ups quiets bodies
     quiet_bodies waiting event is =
-    message_after settles replied settings status mid (to_hub bytes) items outcomes give_ups quiets (bodies (to_hub
-    bytes)) is
+    message_after settles replied settings status mid (to_hub bytes) items outcomes give_ups quiets (reply_short bytes)
+    (bodies (to_hub bytes)) is
 event_after settles replied quiet gave_up settings status mid bytes Quiet items outcomes give_ups quiets bodies
     quiet_bodies waiting event is =
     quiet_after quiet gave_up settings status mid items outcomes give_ups quiets (one_more quiets) waiting refl

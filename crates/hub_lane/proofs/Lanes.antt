@@ -26,6 +26,7 @@ use Rattle.lane_record.specs.Bounds.{IsKept}
 use Rattle.lane_record.specs.Offers.{Agrees, AgreesWith, offer_of}
 use Rattle.lane_record.specs.NextEntry.{ask_of}
 use Rattle.lane_record.proofs.Lookups.{claims_push}
+use Rattle.lane_record.proofs.Lengths.{ShortIfThere}
 use Rattle.lane_record.proofs.Rounds.{TellsIfThere}
 use Rattle.hub_lane.specs.Lanes.{BoardStatus, HasToldStatus, IsGreeted, FitsBoard, IsFittingPlan, IsLane, board_of}
 use Rattle.hub_lane.specs.Standing.{IsRunning, IsStopped}
@@ -101,6 +102,7 @@ lane_begins law settings status telling faults quiets agrees kept limits mtu buf
       fault = λ e. absurd cc;
       lost = λ k o e is. absurd cc;
       tells = tt;
+      short = tt;
       standing = if_told (IsGreeted settings status)
           (IsRunning settings (new_hub status.next w settings.rounds) []) telling greeted
           (λ t is. begins_standing law settings status t is);
@@ -148,6 +150,7 @@ lane_entry settings status hub items outcomes give_ups down spent telling faults
   fault = is.fault;
   lost = is.lost;
   tells = is.tells;
+  short = is.short;
   standing = is.standing;
   told = is.told;
 }
@@ -215,6 +218,7 @@ lane_offered law settings status hub items outcomes give_ups telling faults quie
         | inr old ↦ is.lost k outcome old lost
       ];
       tells = AllByRecursion-append (TellsIfThere settings.rounds) outcomes (None ∷ []) is.tells (tt, tt);
+      short = AllByRecursion-append ShortIfThere outcomes (None ∷ []) is.short (tt, tt);
       standing = if_told (IsRunning settings hub outcomes) (IsRunning settings (offer hub o) (outcomes ++ None ∷ []))
           telling is.standing (λ t running. asked_running settings outcomes (offer hub o) t
           (offered_running law settings outcomes hub o t can is.ready.drained running));
@@ -259,6 +263,7 @@ lane_asked_in_vain settings status hub items outcomes give_ups spent telling fau
       lost = λ k outcome e lost. refl;
       tells = AllByRecursion-append (TellsIfThere settings.rounds) outcomes (Some (became.LinkLost None) ∷ []) is.tells
           (tt, tt);
+      short = AllByRecursion-append ShortIfThere outcomes (Some (became.LinkLost None) ∷ []) is.short (tt, tt);
       standing = if_told (IsStopped settings hub outcomes)
           (IsStopped settings hub (outcomes ++ Some (became.LinkLost None) ∷ [])) telling is.standing
           (λ t stopped. asked_lost settings outcomes hub t stopped);

@@ -7,14 +7,16 @@ mod Heard
 mod Greetings
 mod Truth
 mod Tables
+mod Replies
 mod Rounds
 mod Ready
+mod PlannedBodies
 mod ClientRows
+mod OneMore
 mod Books
 mod Lanes
 mod Exchanges
 mod Pumps
-mod Untaken
 mod TakenRows
 mod Steps
 mod Records

@@ -19,6 +19,7 @@ use Rattle.lane_record.specs.FirstSends.{PlacesCount}
 use Rattle.lane_record.specs.Bounds.{IsKept}
 use Rattle.lane_record.specs.Outcomes.{is_lost}
 use Rattle.lane_record.specs.Offers.{AddsOnly, Agrees, KeepsOutcomes, all_lost, put_all}
+use Rattle.lane_record.proofs.Lengths.{all_lost_short}
 use Rattle.lane_record.proofs.Rounds.{all_lost_tell}
 use Rattle.hub_lane.specs.declared.answers.Pumped.{Pumped}
 use Rattle.hub_lane.specs.Hearing.{IsEventAs, give_ups_of, hub_after, quiets_of}
@@ -76,6 +77,7 @@ lane_received message replied quiet gave_up settings status hub mid new bytes pu
         fault = λ e. absurd cc;
         lost = after.lost;
         tells = after.tells;
+        short = after.short;
         standing = running;
         told = told_still status telling telling_now same_board is.told;
       },
@@ -137,6 +139,7 @@ lane_down lost agrees keeps adds settings status hub mid items outcomes before_l
       fault = λ e. omega (arith, rose);
       lost = λ k o e l. refl;
       tells = all_lost_tell settings.rounds (length mid.sent) outcomes is.tells;
+      short = all_lost_short (length mid.sent) outcomes is.short;
       standing = if_told (IsStopped settings mid outcomes) (IsStopped settings mid new) telling_now
           (stops settings outcomes is.standing)
           (λ t stopped. lost_stopped settings outcomes mid (length mid.sent) t stopped);
@@ -168,6 +171,7 @@ lane_spent settings status hub mid items outcomes outcomes_now give_ups give_ups
       fault = λ e. absurd cc;
       lost = before.lost;
       tells = before.tells;
+      short = before.short;
       standing = stops settings outcomes is.standing;
       told = told_still status telling telling_now same_board is.told;
     }))

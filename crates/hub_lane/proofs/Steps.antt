@@ -1,5 +1,7 @@
 -- A step of a client.
-use Rattle.std.proofs.Common.{◌≡◌, ◌⊎◌, ⊎_elim, ◌<◌, ◌+◌, ◌||◌, ◌==◌, ℕ, zero, suc, inl, inr, Bool, true, false, if◌then◌else◌, List, [], ◌∷◌, ◌++◌, Option, Some, None, IfSome, refl, sym, ap, subst, ◌∙◌, arith, eqb-true}
+use Rattle.std.proofs.Common.{◌≡◌, ◌⊎◌, ⊎_elim, ◌<◌, ◌+◌, ◌||◌, ◌==◌, ℕ, zero, suc, inl, inr, Bool, true, false}
+use Rattle.std.proofs.Common.{if◌then◌else◌, List, [], ◌∷◌, ◌++◌, Option, Some, None, IfSome, refl, sym, ap, subst, ◌∙◌}
+use Rattle.std.proofs.Common.{arith, eqb-true}
 use Rattle.std.specs.List.{slice_get}
 use Rattle.ipb_base.specs.Faults.{Rose}
 use Rattle.world_model.specs.declared.offered.Offered.{Offered}
@@ -24,32 +26,44 @@ use Rattle.hub_lane.specs.Step.{IsOldest}
 -- ---- an asked body has its Ask
 
 abbrev pub ClaimAt : List Claim → ℕ → ℕ → Type 0
-ClaimAt cs client seq = (k : ℕ) × (claim : Claim) × (slice_get cs k ≡ Some claim) × (claim.client ≡ client) × (claim.seq ≡ seq)
+ClaimAt cs client seq = (k : ℕ) × (claim : Claim) × (slice_get cs k ≡ Some claim) × (claim.client ≡ client)
+    × (claim.seq ≡ seq)
 
-one_behind : (front : List Item) (x : Item) (o : Option ℕ) (rest : List Claim) (client seq : ℕ) → ClaimAt rest client seq → ClaimAt (claim_in front x o ++ rest) client seq
+one_behind : (front : List Item) (x : Item) (o : Option ℕ) (rest : List Claim) (client seq : ℕ)
+    → ClaimAt rest client seq → ClaimAt (claim_in front x o ++ rest) client seq
 one_behind front x None rest client seq c = c
-one_behind front x (Some g) rest client seq (k, claim, there, same_client, same_seq) = (suc k, claim, there, same_client, same_seq)
+one_behind front x (Some g) rest client seq (k, claim, there, same_client, same_seq) =
+    (suc k, claim, there, same_client, same_seq)
 
-first_claim : (front : List Item) (x : Item) (o : Option ℕ) (g : ℕ) (rest : List Claim) (client seq : ℕ) → o ≡ Some g → x.client ≡ client → x.seq ≡ seq → ClaimAt (claim_in front x o ++ rest) client seq
+first_claim : (front : List Item) (x : Item) (o : Option ℕ) (g : ℕ) (rest : List Claim) (client seq : ℕ) → o ≡ Some g
+    → x.client ≡ client → x.seq ≡ seq → ClaimAt (claim_in front x o ++ rest) client seq
 first_claim front x None g rest client seq e same_client same_seq = cc
 first_claim front x (Some h) g rest client seq e same_client same_seq = (0, _, refl, same_client, same_seq)
 
-claim_found : (client seq g : ℕ) (front xs : List Item) → found ask_in client seq xs ≡ Some g → ClaimAt (claims_behind front xs) client seq
+claim_found : (client seq g : ℕ) (front xs : List Item) → found ask_in client seq xs ≡ Some g
+    → ClaimAt (claims_behind front xs) client seq
 claim_found client seq g front [] e = cc
 claim_found client seq g front (x ∷ xs) e = ⊎_elim
     (λ (h : (if is_of client seq x then ask_in x.what else None) ≡ Some g).
     let r = if_some (is_of client seq x) (ask_in x.what) g h in
     let parts = and_true (x.client == client) (x.seq == seq) r.0 in
-    first_claim front x (ask_in x.what) g (claims_behind (front ++ x ∷ []) xs) client seq r.1 (eqb-true x.client client parts.0) (eqb-true x.seq seq parts.1))
-    (λ (h : found ask_in client seq xs ≡ Some g). one_behind front x (ask_in x.what) (claims_behind (front ++ x ∷ []) xs) client seq (claim_found client seq g (front ++ x ∷ []) xs h))
+    first_claim front x (ask_in x.what) g (claims_behind (front ++ x ∷ []) xs) client seq r.1
+    (eqb-true x.client client parts.0) (eqb-true x.seq seq parts.1))
+    (λ (h : found ask_in client seq xs ≡ Some g). one_behind front x (ask_in x.what)
+    (claims_behind (front ++ x ∷ []) xs) client seq (claim_found client seq g (front ++ x ∷ []) xs h))
     (first_or (if is_of client seq x then ask_in x.what else None) (found ask_in client seq xs) g e)
 
-pub was_asked : (items : List Item) (outcomes : List (Option Outcome)) (client seq : ℕ) → IsLegal items outcomes → IsOldest items client seq → WasAsked items client seq
+pub was_asked : (items : List Item) (outcomes : List (Option Outcome)) (client seq : ℕ) → IsLegal items outcomes
+    → IsOldest items client seq → WasAsked items client seq
 was_asked items outcomes client seq legal oldest =
     let f = found_below ask_in client seq items legal.asks_follow_plans.count oldest.is_asked in
     let at = claim_found client seq f.0 [] items f.1 in record {
       number = at.0;
-      untaken = record { claim = at.1; ask = record { there = at.2; same_client = at.3; same_seq = at.4 }; once = oldest.untaken };
+      untaken = record {
+        claim = at.1;
+        ask = record { there = at.2; same_client = at.3; same_seq = at.4 };
+        once = oldest.untaken;
+      };
     }
 
 pub each_asked : (items : List Item) (outcomes : List (Option Outcome)) (client : ℕ) (r : Option ℕ)
@@ -69,7 +83,8 @@ asked_below items outcomes client seq legal was =
 
 -- ---- whoever has no outcome is waited for
 
-none_unsettled : (n : ℕ) (outcomes : List (Option Outcome)) (k : ℕ) → unsettled_from n outcomes ≡ [] → slice_get outcomes k ≡ Some None → ⊥
+none_unsettled : (n : ℕ) (outcomes : List (Option Outcome)) (k : ℕ) → unsettled_from n outcomes ≡ []
+    → slice_get outcomes k ≡ Some None → ⊥
 none_unsettled n [] k e there = cc
 none_unsettled n (None ∷ os) k e there = cc
 none_unsettled n (Some o ∷ os) zero e there = cc
@@ -79,39 +94,47 @@ none_awaited : (sent : List Offered) (places : List OpenPlace) → some_waited p
 none_awaited sent [] e = refl
 none_awaited sent (o ∷ os) e = cases o.waited e (none_awaited sent os)
   where
-    cases : (b : Bool) → (b || some_waited os) ≡ false → (some_waited os ≡ false → awaited sent os ≡ []) → (if b then Rattle.lane_record.specs.Offers.tag_at sent o.place ∷ awaited sent os else awaited sent os) ≡ []
+    cases : (b : Bool) → (b || some_waited os) ≡ false → (some_waited os ≡ false → awaited sent os ≡ [])
+        → (if b then Rattle.lane_record.specs.Offers.tag_at sent o.place ∷ awaited sent os else awaited sent os) ≡ []
     cases true e rest = cc
     cases false e rest = rest e
 
 nobody : (hub : Hub) → is_waiting hub ≡ false → awaited hub.sent hub.open_places ++ tags hub.queue ≡ []
 nobody hub e = cases hub.queue e
   where
-    cases : (queue : List Offered) → (some_queued queue || some_waited hub.open_places) ≡ false → awaited hub.sent hub.open_places ++ tags queue ≡ []
+    cases : (queue : List Offered) → (some_queued queue || some_waited hub.open_places) ≡ false
+        → awaited hub.sent hub.open_places ++ tags queue ≡ []
     cases [] e = ap (λ l. l ++ []) (none_awaited hub.sent hub.open_places e)
     cases (q ∷ qs) e = cc
 
 -- so a lane in which a body has no outcome is not down, and its hub waits
-pub not_down : (down : Bool) (hub : Hub) (cs : List Claim) (outcomes : List (Option Outcome)) (k : ℕ) → Agrees hub.sent (if down then [] else hub.queue) (if down then [] else hub.open_places) cs outcomes
+pub not_down : (down : Bool) (hub : Hub) (cs : List Claim) (outcomes : List (Option Outcome)) (k : ℕ)
+    → Agrees hub.sent (if down then [] else hub.queue) (if down then [] else hub.open_places) cs outcomes
     → slice_get outcomes k ≡ Some None → down ≡ true → ⊥
 not_down true hub cs outcomes k a none is = none_unsettled 0 outcomes k (sym a.waits) none
 not_down false hub cs outcomes k a none is = cc
 
-pub waits_for : (down : Bool) (hub : Hub) (cs : List Claim) (outcomes : List (Option Outcome)) (k : ℕ) → Agrees hub.sent (if down then [] else hub.queue) (if down then [] else hub.open_places) cs outcomes
+pub waits_for : (down : Bool) (hub : Hub) (cs : List Claim) (outcomes : List (Option Outcome)) (k : ℕ)
+    → Agrees hub.sent (if down then [] else hub.queue) (if down then [] else hub.open_places) cs outcomes
     → slice_get outcomes k ≡ Some None → is_waiting hub ≡ false → ⊥
 waits_for true hub cs outcomes k a none is = none_unsettled 0 outcomes k (sym a.waits) none
 waits_for false hub cs outcomes k a none is = none_unsettled 0 outcomes k (sym a.waits ∙ nobody hub is) none
 
 -- a pump after which the body has no outcome received
-pub pumped_in_vain : {L : Type 0} (old new : LaneState L) (telling : Option Telling) (pumped : Pumped) (k q q' g g' : ℕ) → PumpsAs old telling new pumped
-    → Agrees new.hub.sent (if new.down then [] else new.hub.queue) (if new.down then [] else new.hub.open_places) (claims new.items) new.outcomes → slice_get new.outcomes k ≡ Some None
+pub pumped_in_vain : {L : Type 0} (old new : LaneState L) (telling : Option Telling) (pumped : Pumped) (k q q' g g' : ℕ)
+    → PumpsAs old telling new pumped
+    → Agrees new.hub.sent (if new.down then [] else new.hub.queue) (if new.down then [] else new.hub.open_places)
+    (claims new.items) new.outcomes → slice_get new.outcomes k ≡ Some None
     → q' ≡ quiets_of pumped q → g' ≡ gots_of pumped g → Rose q q' ⊎ Rose g g'
 pumped_in_vain old new telling (Reply place) k q q' g g' p a none quiets gots = inr (omega (arith, gots))
 pumped_in_vain old new telling Status k q q' g g' p a none quiets gots = inr (omega (arith, gots))
 pumped_in_vain old new telling Stray k q q' g g' p a none quiets gots = inr (omega (arith, gots))
 pumped_in_vain old new telling Quiet k q q' g g' p a none quiets gots = inl (omega (arith, quiets))
 pumped_in_vain {L} old new telling Idle k q q' g g' p a none quiets gots =
-    absurd (waits_for new.down new.hub (claims new.items) new.outcomes k a none (ap (λ (l : LaneState L). is_waiting l.hub) p.0 ∙ p.1))
-pumped_in_vain {L} old new telling LinkDown k q q' g g' p a none quiets gots = absurd (not_down new.down new.hub (claims new.items) new.outcomes k a none (⊎_elim
+    absurd (waits_for new.down new.hub (claims new.items) new.outcomes k a none
+    (ap (λ (l : LaneState L). is_waiting l.hub) p.0 ∙ p.1))
+pumped_in_vain {L} old new telling LinkDown k q q' g g' p a none quiets gots = absurd
+    (not_down new.down new.hub (claims new.items) new.outcomes k a none (⊎_elim
     (λ (h : (old.down ≡ true) × (new ≡ old)). ap (λ (l : LaneState L). l.down) h.1 ∙ h.0)
     (λ (h : (old.down ≡ false) × GoesDown old new). h.1.down) p))
 

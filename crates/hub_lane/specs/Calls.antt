@@ -10,6 +10,7 @@ use Rattle.lane_record.specs.declared.item.Item.{Item}
 use Rattle.lane_record.specs.NextEntry.{ask_of, the_seal, took_of}
 use Rattle.lane_record.specs.Items.{asked, found, is_sealed, plan_in, planned, took_in}
 use Rattle.lane_record.specs.Claims.{Claim, IsAskOf}
+use Rattle.lane_record.specs.Outcomes.{IsShort}
 use Rattle.lane_record.specs.Offers.{KeepsOutcomes, all_lost, put_all}
 use Rattle.hub_lane.specs.declared.answers.Asked.{Asked}
 use Rattle.hub_lane.specs.declared.answers.Asked.TheVariants as asks
@@ -125,6 +126,7 @@ pub record Takes {L : Type 0} (old : LaneState L) (client seq : ℕ) (new : Lane
     pub number : ℕ
     pub untaken : IsUntaken old.items client seq number
     pub became : slice_get old.outcomes number ≡ Some (Some outcome)
+    pub short : IsShort outcome
     pub entry : new ≡ with_item old (took_of client seq outcome old.give_ups)
 
 pub record TakesNothing {L : Type 0} (old : LaneState L) (client seq : ℕ) (new : LaneState L) : Type 0 where

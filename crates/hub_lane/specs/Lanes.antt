@@ -20,6 +20,7 @@ use Rattle.lane_record.specs.Items.{plan_in}
 use Rattle.lane_record.specs.Claims.{claims}
 use Rattle.lane_record.specs.Bounds.{AreLostOnlyIf, HasWaited, IsKept, TellRounds}
 use Rattle.lane_record.specs.Offers.{Agrees}
+use Rattle.lane_record.specs.Outcomes.{AreShort}
 use Rattle.hub_lane.specs.Standing.{IsStanding}
 
 -- what a board told of itself: its MTU in bytes, how many replies it keeps, and the identifier that it expects first
@@ -95,8 +96,9 @@ pub record IsReady (asks : ℕ) (hub : Hub) : Type 0 where
 
 -- What holds of a lane. The record is legal, and gives up, times out and waits by the numbers of its link; the hub was
 -- offered the bodies of the Asks in order, and waits for those without an outcome, unless its link failed; a body is
--- lost only where the link failed, and one that was timed out tells the rounds of the settings; and over a link that
--- tells, hub, board and air are a state of a run of the world, and the status is that of the board.
+-- lost only where the link failed, one that was timed out tells the rounds of the settings, and the words of a reply
+-- fit a packet; and over a link that tells, hub, board and air are a state of a run of the world, and the status is
+-- that of the board.
 pub record IsLane (settings : Limits) (status : BoardStatus) (hub : Hub) (items : List Item)
     (outcomes : List (Option Outcome)) (give_ups : ℕ) (down spent : Bool) (telling : Option Telling)
     (faults quiets : ℕ) : Type 0 where
@@ -111,6 +113,7 @@ pub record IsLane (settings : Limits) (status : BoardStatus) (hub : Hub) (items 
   pub fault : down ≡ true → 1 ≤ faults
   pub lost : AreLostOnlyIf (down ≡ true) outcomes
   pub tells : TellRounds settings.rounds outcomes
+  pub short : AreShort outcomes
   pub standing : IfSome telling (IsStanding (down || spent) settings hub outcomes)
   pub told : IfSome telling (λ (t : Telling). HasToldStatus status t.told.board)
 

@@ -1,5 +1,5 @@
 -- What a step of a client does to a lane. Profile.
-use Rattle.std.specs.Prelude.{◌≡◌, ◌⊎◌, ℕ, ◌+◌, ◌<◌, true, false, None, Some, is_some, List, [], ◌∷◌}
+use Rattle.std.specs.Prelude.{◌≡◌, ◌⊎◌, ℕ, ◌<◌, true, None, Some, is_some, List}
 use Rattle.std.specs.List.{slice_get}
 use Rattle.ipb_base.specs.Faults.{Rose}
 use Rattle.lane_record.specs.declared.outcome.Outcome.{Outcome}
@@ -24,12 +24,6 @@ pub record IsOldest (items : List Item) (client seq : ℕ) : Type 0 where
 -- the client has no asked body to take
 abbrev pub HasTakenAll : List Item → ℕ → Type 0
 HasTakenAll items client = (n : ℕ) → n < asked client items → IsTakenIn items client n
-
--- how the code goes over one entry: next is a number below which every body was taken
-abbrev pub IsAfterOne : ℕ → ℕ → ℕ → Item → ℕ → Type 0
-IsAfterOne client asked next x after =
-    ((after ≡ next + 1) × (next < asked) × (is_some (found took_in client next (x ∷ [])) ≡ true))
-    ⊎ ((after ≡ next) × (next < asked → is_some (found took_in client next (x ∷ [])) ≡ false))
 
 -- What became of the client's oldest asked and untaken body was taken, of a lane whose record is the old one, after one
 -- pump at most.

@@ -45,7 +45,7 @@ pub enum Pumped {
     Reply { place: u64 },
     /// A status reply came that a round of the recovery waited for.
     Status,
-    /// A datagram came that the engine did not take.
+    /// A datagram came that is neither of these.
     Stray,
     /// No datagram came in the time that the link waits.
     Quiet,

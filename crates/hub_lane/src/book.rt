@@ -12,7 +12,6 @@ ghost use Rattle.lane_record.specs.NextEntry.{ask_of, plan_of, the_seal, took_of
 ghost use Rattle.lane_record.specs.Coding.{entry_of};
 ghost use Rattle.hub_lane.specs.Plans.{IsFull, most_bodies, most_words, planned_bodies, planned_words};
 
-use crate::oldest::oldest_of;
 use crate::rows::{ClientRow, add_ask, add_plan, add_took, next_place, row_at};
 use ipb_base::{NoMemory, Words};
 use lane_record::{Item, Outcome, What};
@@ -33,7 +32,7 @@ pub(crate) struct Book {
     entries: Vec<Entry>,
     items: Vec<Item>,
     rows: Vec<ClientRow>,
-    asks: Vec<(u32, u64)>,
+    asks: usize,
     bodies: u64,
     words: u64,
     sealed: bool,
@@ -48,15 +47,15 @@ impl Model for Book {
 
     ghost view = { λ b. record {
       items = b.items.items;
-      room = room_of b.items.cap b.items.len b.entries.cap b.entries.len b.asks.cap b.asks.len;
+      room = room_of b.items.cap b.items.len b.entries.cap b.entries.len;
     } };
 
-    ghost invariant = { λ b. IsBook b.items.items b.entries.items b.rows.items b.asks.items b.bodies b.words b.sealed
-        (room_of b.items.cap b.items.len b.entries.cap b.entries.len b.asks.cap b.asks.len) };
+    ghost invariant = { λ b. IsBook b.items.items b.entries.items b.rows.items b.asks b.bodies b.words b.sealed
+        (room_of b.items.cap b.items.len b.entries.cap b.entries.len) };
 }
 
 impl Book {
-    ghost use Rattle.hub_lane.specs.Books.{IsPosition, HasMorePlans};
+    ghost use Rattle.hub_lane.specs.Books.{IsAskAt, HasMorePlans};
     ghost use Rattle.hub_lane.specs.Step.{HasTakenAll, IsOldest};
 
     /// A record without entries, with room for the Seal.
@@ -67,14 +66,12 @@ impl Book {
         items.reserve(1)?;
         let mut entries = Vec::new(alloc);
         entries.reserve(1)?;
-        let mut asks = Vec::new(alloc);
-        asks.reserve(1)?;
         Ok(Book {
             alloc,
             entries,
             items,
             rows: Vec::new(alloc),
-            asks,
+            asks: 0,
             bodies: 0,
             words: 0,
             sealed: false,
@@ -143,16 +140,20 @@ impl Book {
         ensures none { IfNone result (HasTakenAll self.now.items client) }
     {
         match row_at(&self.rows, client) {
-            Some(at) => oldest_of(&self.items, client, &self.rows[at]),
+            Some(at) => self.rows[at].oldest(),
             None => None,
         }
     }
 
-    /// Where an Ask stands among the Asks.
-    pub(crate) fn ask_at(&self, client: u32, seq: u64) -> Option<usize>
-        ensures { IsPosition client seq self.now.items result }
+    /// The number, among the Asks of all clients, of the body of this number, which the client asked.
+    pub(crate) fn ask_of(&self, client: u32, seq: u64) -> usize
+        requires { seq < asked client self.now.items }
+        ensures { IsAskAt self.now.items client seq result }
     {
-        position(&self.asks, client, seq)
+        match row_at(&self.rows, client) {
+            Some(at) => self.rows[at].ask_of(seq),
+            None => unreachable!(),
+        }
     }
 
     /// Takes room for one entry and the Seal.
@@ -162,7 +163,6 @@ impl Book {
     {
         self.items.reserve(2)?;
         self.entries.reserve(2)?;
-        self.asks.reserve(2)?;
         Ok(())
     }
 
@@ -219,8 +219,7 @@ impl Book {
             ≡ self.old.items ++ ask_of client (asked client self.old.items) give_ups ∷ [] }
     {
         let seq = self.asked(client);
-        add_ask(&mut self.rows, client);
-        self.asks.push_reserved((client, seq));
+        add_ask(&mut self.rows, client, self.asks);
         put(
             &mut self.entries,
             &mut self.items,
@@ -230,6 +229,8 @@ impl Book {
                 what: What::Ask { give_ups },
             },
         );
+        let _items = self.items.len();
+        self.asks += 1;
         seq
     }
 
@@ -285,20 +286,4 @@ fn put(entries: &mut Vec<Entry>, items: &mut Vec<Item>, item: Item)
 {
     entries.push_reserved(entry_of(&item));
     items.push_reserved(item);
-}
-
-/// Where an Ask of this client and number stands. The last ones are looked at first, since a client takes what it asked
-/// last.
-fn position(asks: &[(u32, u64)], client: u32, seq: u64) -> Option<usize>
-    ensures some { IfSome result (λ at. slice_get asks.now at ≡ Some (client, seq)) }
-    ensures none { IfNone result ((at : ℕ) → ¬ (slice_get asks.now at ≡ Some (client, seq))) }
-{
-    for back in 0..asks.len() {
-        let at = asks.len() - 1 - back;
-        let ask = asks[at];
-        if ask.0 == client && ask.1 == seq {
-            return Some(at);
-        }
-    }
-    None
 }

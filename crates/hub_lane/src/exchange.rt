@@ -7,11 +7,13 @@ ghost use Rattle.packet_ids.specs.Identifier.{identifier_at};
 ghost use Rattle.reliable_engine.specs.Answers.{body_count};
 ghost use Rattle.world_model.specs.Messages.{Reply as ReplyTo, StatusReply, to_hub};
 ghost use Rattle.world_model.specs.Hub.{hear_reply, hear_status, is_waiting, places, take_message};
-ghost use Rattle.world_model.specs.Sends.{next_send};
+ghost use Rattle.world_model.specs.Sends.{bytes_to_send, next_send};
 ghost use Rattle.world_model.specs.Facts.{AreSendable, IsWindow};
 ghost use Rattle.reliable_engine.specs.Settings.{Limits};
 ghost use Rattle.lane_record.specs.Offers.{put_all};
 ghost use Rattle.hub_lane.specs.Lanes.{IsReady, board_of};
+ghost use Rattle.world_core.specs.declared.link.TheConstants.{MAX_DATAGRAM};
+ghost use Rattle.world_core.specs.Messages.{IsWritable};
 ghost use Rattle.world_core.specs.Telling.{IfTelling};
 ghost use Rattle.hub_lane.specs.Carrying.{Brings, Carries, HasPut};
 ghost use Rattle.hub_lane.specs.Hearing.{IsEventAs, IsHeardAs, WasReceived, give_ups_of, gots_of, hub_after, quiets_of};
@@ -25,14 +27,14 @@ use crate::outcomes::settle;
 use ipb_base::{NoMemory, Words};
 use lane_record::Outcome;
 use packet_ids::{Id, place_of};
-use reliable_engine::Engine;
 use reliable_engine::laws::draining_ends;
+use reliable_engine::{Engine, Sending};
 use status_packet::Status;
 use std::alloc::Global;
 use world_core::laws::{
     a_send_leaves_the_fates, each_event_leads_to_a_state_of_a_run, what_is_wanted_can_be_written,
 };
-use world_core::{Link, LinkFault, Message, Received, read_for_hub, write_sending};
+use world_core::{Link, LinkFault, Message, Received, append_sending, read_for_hub};
 use world_model::laws::links::a_link_forgets_nothing;
 use world_model::laws::sends::only_an_offer_makes_more_bodies;
 
@@ -88,14 +90,15 @@ pub(crate) fn exchange<L: Link>(
     a_send_leaves_the_fates();
     each_event_leads_to_a_state_of_a_run();
     only_an_offer_makes_more_bodies();
-    send_all(alloc, hub, link)?;
+    send_all(hub, link, buffer)?;
     let pumped = receive(alloc, first, hub, link, buffer)?;
     settle(hub, outcomes, give_ups, pumped);
     Ok(pumped)
 }
 
-/// Sends all that the hub wants. Where the link refuses a send, it was taken from the hub all the same.
-fn send_all<L: Link>(alloc: Global, hub: &mut Engine, link: &mut L) -> Result<(), LinkFault>
+/// Sends all that the hub wants, each written into `buffer`. Where the link refuses a send, it was taken from the hub
+/// all the same.
+fn send_all<L: Link>(hub: &mut Engine, link: &mut L, buffer: &mut Vec<u8>) -> Result<(), LinkFault>
     requires sent { AreSendable hub.old.sent }
     requires queue { AreSendable hub.old.queue }
     ensures all { OnOk result (hub.new ≡ all_sent hub.old) }
@@ -120,10 +123,21 @@ fn send_all<L: Link>(alloc: Global, hub: &mut Engine, link: &mut L) -> Result<()
     only_an_offer_makes_more_bodies();
     what_is_wanted_can_be_written();
     while let Some(send) = hub.next_send() {
-        let bytes = write_sending(alloc, hub, send)?;
-        link.send(&bytes)?;
+        write_send(hub, send, buffer)?;
+        link.send(buffer)?;
     }
     Ok(())
+}
+
+/// Writes a send that the hub wants into `buffer`, in place of what stood there. So a send takes memory only where it
+/// is longer than all before.
+fn write_send(hub: &Engine, send: Sending, buffer: &mut Vec<u8>) -> Result<(), NoMemory>
+    requires { IsWritable hub.now send }
+    ensures bytes { OnOk result (buffer.new.items ≡ bytes_to_send hub.now send) }
+    ensures short { OnOk result (length buffer.new.items ≤ MAX_DATAGRAM) }
+{
+    buffer.clear();
+    append_sending(buffer, hub, send)
 }
 
 /// Receives once, when all is sent, and has the hub hear what came. `buffer` then holds the datagram. `first` is the

@@ -11,6 +11,7 @@ ghost use Rattle.hub_lane.specs.Greeting.{IfReady, IfSilent, IfTold, IsCounted, 
 ghost use Rattle.hub_lane.specs.Greeting.{HandedOutNone, IfNothing, IsUnused, StaysFresh, gots_of_answer, link_of};
 ghost use Rattle.hub_lane.specs.Greeting.{quiets_of_answer};
 ghost use Rattle.hub_lane.specs.Lanes.{IsGreeted, opened, status_of};
+ghost use Rattle.hub_lane.specs.declared.greeting.TheConstants.{MOST_OTHERS};
 
 use crate::lane::Lane;
 use reliable_engine::Settings;
@@ -49,8 +50,8 @@ pub(crate) enum Answer {
 
 impl<L: Link> Lane<L> {
     /// Greets the board of a link that was not used yet: asks for its status and receives until it is told, a receive
-    /// is quiet or 64 other datagrams came, and so again, at most as many rounds as the settings say. After any answer
-    /// a board that the link tells has executed nothing.
+    /// is quiet or `MOST_OTHERS` other datagrams came, and so again, at most as many rounds as the settings say. After
+    /// any answer a board that the link tells has executed nothing.
     pub fn greet(alloc: Global, link: L, settings: Settings) -> Greeted<L>
         requires unused { IsUnused (L.faults link) (L.quiets link) (L.gots link) (L.held link) }
         requires begins { IfSome (L.telling link) (CanBegin settings) }
@@ -58,7 +59,7 @@ impl<L: Link> Lane<L> {
         ensures ready { IfReady result (λ lane. lane ≡ opened lane.link settings lane.status) }
         ensures told { IfReady result (λ lane. IfSome (L.telling lane.link) (IsGreeted settings lane.status)) }
         ensures silent { IfSilent result (λ link rounds. (rounds ≡ settings.rounds)
-            × (64 * settings.rounds ≤ 64 * L.quiets link + L.gots link)) }
+            × (MOST_OTHERS * settings.rounds ≤ MOST_OTHERS * L.quiets link + L.gots link)) }
         ensures silent_told { IfSilent result (λ link rounds. IfSome (L.telling link)
             (λ _. (settings.rounds ≤ L.quiets link) × (settings.rounds ≤ L.held link))) }
         // All that a link that tells hands out in a greeting are status replies of its board.
@@ -66,7 +67,7 @@ impl<L: Link> Lane<L> {
             IfTelling (L.telling link) (L.telling after) HandedOutNone) }
         ensures heard { IfReady result (λ lane. 1 ≤ L.gots lane.link) }
         ensures most_quiets { L.quiets (link_of result) ≤ settings.rounds }
-        ensures most_gots { L.gots (link_of result) ≤ 64 * settings.rounds }
+        ensures most_gots { L.gots (link_of result) ≤ MOST_OTHERS * settings.rounds }
         ensures down { IfDown result (λ after. Rose (L.faults link) (L.faults after)) }
         ensures faults { L.faults link ≤ L.faults (link_of result) }
     {
@@ -110,12 +111,12 @@ fn ask_for_status<L: Link>(
     ensures told { IfOk result (λ found. IfSome (L.telling link.new)
         (EndsGreetingWith settings (L.quiets link.new) (L.held link.new) found)) }
     ensures silent { IfOk result (λ found. IfNotTold found
-        (64 * settings.rounds ≤ 64 * L.quiets link.new + L.gots link.new)) }
+        (MOST_OTHERS * settings.rounds ≤ MOST_OTHERS * L.quiets link.new + L.gots link.new)) }
     ensures handed { IfOk result (λ found. IfNotTold found
         (IfTelling (L.telling link.old) (L.telling link.new) HandedOutNone)) }
     ensures heard { IfOk result (λ found. IfSome found (λ _. 1 ≤ L.gots link.new)) }
     ensures most_quiets { L.quiets link.new ≤ settings.rounds }
-    ensures most_gots { L.gots link.new ≤ 64 * settings.rounds }
+    ensures most_gots { L.gots link.new ≤ MOST_OTHERS * settings.rounds }
     ensures failed { result ≡ Err LinkFault.Failed → Rose (L.faults link.old) (L.faults link.new) }
     ensures faults { L.faults link.old ≤ L.faults link.new }
 {
@@ -134,7 +135,7 @@ fn ask_once<L: Link>(
     settings: Settings,
 ) -> Result<Option<Status>, LinkFault>
     requires few_quiets { L.quiets link.old ≤ 255 }
-    requires few_gots { L.gots link.old ≤ 64 * 255 }
+    requires few_gots { L.gots link.old ≤ MOST_OTHERS * 255 }
     requires begins { IfSome (L.telling link.old) (CanBegin settings) }
     ensures fresh { IfTelling (L.telling link.old) (L.telling link.new) (StaysFresh settings) }
     ensures told { IfOk result (λ found. IfTelling (L.telling link.old) (L.telling link.new)
@@ -146,7 +147,7 @@ fn ask_once<L: Link>(
     ensures heard { IfOk result (λ found. IfSome found (λ _. L.gots link.old + 1 ≤ L.gots link.new)) }
     ensures quiets { L.quiets link.new ≤ L.quiets link.old + 1 }
     ensures quiets_rise { L.quiets link.old ≤ L.quiets link.new }
-    ensures gots { L.gots link.new ≤ L.gots link.old + 64 }
+    ensures gots { L.gots link.new ≤ L.gots link.old + MOST_OTHERS }
     ensures gots_rise { L.gots link.old ≤ L.gots link.new }
     ensures failed { result ≡ Err LinkFault.Failed → Rose (L.faults link.old) (L.faults link.new) }
     ensures faults { L.faults link.old ≤ L.faults link.new }
@@ -158,14 +159,14 @@ fn ask_once<L: Link>(
     listen(link, buffer, settings)
 }
 
-/// Receives until the board tells its status, a receive is quiet, or 64 other datagrams came.
+/// Receives until the board tells its status, a receive is quiet, or `MOST_OTHERS` other datagrams came.
 fn listen<L: Link>(
     link: &mut L,
     buffer: &mut Vec<u8>,
     settings: Settings,
 ) -> Result<Option<Status>, LinkFault>
     requires few_quiets { L.quiets link.old ≤ 255 }
-    requires few_gots { L.gots link.old ≤ 64 * 255 }
+    requires few_gots { L.gots link.old ≤ MOST_OTHERS * 255 }
     requires begins { IfSome (L.telling link.old) (CanBegin settings) }
     ensures fresh { IfTelling (L.telling link.old) (L.telling link.new) (StaysFresh settings) }
     ensures told { IfOk result (λ found. IfTelling (L.telling link.old) (L.telling link.new)
@@ -177,7 +178,7 @@ fn listen<L: Link>(
     ensures heard { IfOk result (λ found. IfSome found (λ _. L.gots link.old + 1 ≤ L.gots link.new)) }
     ensures quiets { L.quiets link.new ≤ L.quiets link.old + 1 }
     ensures quiets_rise { L.quiets link.old ≤ L.quiets link.new }
-    ensures gots { L.gots link.new ≤ L.gots link.old + 64 }
+    ensures gots { L.gots link.new ≤ L.gots link.old + MOST_OTHERS }
     ensures gots_rise { L.gots link.old ≤ L.gots link.new }
     ensures failed { result ≡ Err LinkFault.Failed → Rose (L.faults link.old) (L.faults link.new) }
     ensures faults { L.faults link.old ≤ L.faults link.new }

@@ -6,6 +6,7 @@ ghost use Rattle.std.specs.Prelude.{IfSome, IfNone, Err, List, if◌then◌else�
 ghost use Rattle.ipb_base.specs.Faults.{Rose};
 ghost use Rattle.ipb_base.specs.Numbers.{payload_of};
 ghost use Rattle.transaction_codec.specs.Answer.{reply_room};
+ghost use Rattle.packet_codec.specs.declared.packet.TheConstants.{MAX_BODY_WORDS};
 ghost use Rattle.lane_record.specs.Bounds.{HasReached, timeouts};
 ghost use Rattle.lane_record.specs.Coding.{entry_of};
 ghost use Rattle.std.specs.Vec.{vec_len, vec_capacity};
@@ -24,7 +25,7 @@ use crate::answers::{Asked, PlanRefusal, Pumped, Taken};
 use crate::below::laws_of_rounds;
 use crate::book::Book;
 use crate::exchange::exchange;
-use crate::outcomes::{copy_outcome, copy_words, count_of, lose_all, reply_at};
+use crate::outcomes::{copy_outcome, copy_words, count_of, lose_all, reply_under};
 use ipb_base::{NoMemory, Words};
 use lane_record::Outcome;
 use lane_record::laws::book::{entries_go_into_the_book, outcomes_go_into_the_book};
@@ -42,6 +43,9 @@ use turn_pass::Entry;
 use world_core::laws::{a_send_leaves_the_fates, each_event_leads_to_a_state_of_a_run};
 use world_core::{Link, LinkFault};
 use world_model::laws::sends::only_an_offer_makes_more_bodies;
+
+/// The bytes of the headers of IPv4 and UDP (RFC 791, RFC 768).
+const IP_UDP_BYTES: u32 = 28;
 
 /// The hub's side of one board: its engine, its link, and the record of what clients planned, asked and took (profile).
 /// Contracts see it as `LaneState`; what holds of it at the exit of every call is `IsLane`, which `is_sound` tells.
@@ -156,7 +160,7 @@ impl<L: Link> Lane<L> {
     pub fn payload(&self) -> u32
         ensures { result ≡ payload_of self.now.status.mtu }
     {
-        (self.mtu - 28) / 4
+        (self.mtu - IP_UDP_BYTES) / 4
     }
 
     /// How many first sends there were: the place of the last one.
@@ -166,15 +170,18 @@ impl<L: Link> Lane<L> {
         self.engine.sent()
     }
 
-    /// The reply that a client got, or will get, at a place. `None` where there is none.
+    /// The words of the reply to the body at this place, taken or still to be taken. `None` where that body was not
+    /// replied to.
     pub fn reply_at(&self, place: u64) -> Option<&[u32]>
         ensures some { IfSome result (λ words. IsReplyAt self.now.outcomes place words.now) }
+        ensures short { IfSome result (λ words. length words.now ≤ MAX_BODY_WORDS) }
         ensures none { IfNone result ((words : List ℕ) → ¬ IsReplyAt self.now.outcomes place words) }
     {
-        reply_at(&self.outcomes, place)
+        let tag = self.engine.tag_at(place)?;
+        reply_under(&self.outcomes, tag, place)
     }
 
-    /// How many places have the fate Replied, TimedOut and LinkLost, in this order.
+    /// How many bodies with a place were replied to, how many timed out, and how many were lost with the link.
     pub fn counts(&self) -> (u64, u64, u64)
         ensures replied { result.0 ≡ count_by is_replied self.now.outcomes }
         ensures timed_out { result.1 ≡ timeouts self.now.outcomes }
@@ -212,8 +219,8 @@ impl<L: Link> Lane<L> {
         link
     }
 
-    /// Plans a body for a client, from 1. `reply_words` is the words of the longest reply to it. Answers the body's
-    /// number among the client's, from 0. A body that is refused changes nothing.
+    /// Plans a body for a client, from 1. `reply_words` is the words of the longest reply to it. Answers how many
+    /// bodies the client had planned before, which is the number of this one. A body that is refused changes nothing.
     pub fn plan(&mut self, client: u32, body: Words, reply_words: u32) -> Result<u64, PlanRefusal>
         requires client { 1 ≤ client }
         requires reply { reply_words ≡ reply_room body }
@@ -227,7 +234,7 @@ impl<L: Link> Lane<L> {
         Ok(self.book.plan(client, body, reply_words)?)
     }
 
-    /// Closes planning for all clients. A second time it changes nothing.
+    /// Closes planning for all clients. Once closed, it stays so.
     pub fn seal(&mut self)
         ensures { self.new ≡ sealed self.old }
     {
@@ -264,8 +271,8 @@ impl<L: Link> Lane<L> {
         Ok(Asked::Asked(self.book.ask(client, self.give_ups)))
     }
 
-    /// Sends all that the engine wants, in its order, and then receives once. After want of memory the lane is spent,
-    /// and every later pump answers want of memory. Where the link fails, now or before, every body that has no outcome
+    /// Sends what the engine wants to be sent, in its order, and then receives once. Where memory runs out the lane is
+    /// spent: it never pumps again, and answers so. Where the link fails, now or before, every body that has no outcome
     /// is lost.
     pub fn pump(&mut self) -> Result<Pumped, NoMemory>
         ensures pumped { IfOk result (PumpsAs self.old (L.telling self.new.link) self.new) }
@@ -336,10 +343,7 @@ impl<L: Link> Lane<L> {
     {
         an_ask_is_of_its_plan();
         entries_go_into_the_book();
-        let Some(at) = self.book.ask_at(client, seq) else {
-            unreachable!()
-        };
-        let Some(outcome) = &self.outcomes[at] else {
+        let Some(outcome) = &self.outcomes[self.book.ask_of(client, seq)] else {
             return Ok(Taken::NotYet);
         };
         let answer = copy_outcome(self.alloc, outcome)?;

@@ -9,7 +9,6 @@ mod exchange;
 mod greeting;
 mod lane;
 pub mod laws;
-mod oldest;
 mod outcomes;
 mod rows;
 mod step;

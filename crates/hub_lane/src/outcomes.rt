@@ -1,7 +1,9 @@
 //! What became of the asked bodies, in the order of the Asks.
 
 ghost use Rattle.std.specs.Prelude.{◌≡◌, ◌+◌, ◌<◌, ◌≤◌, ◌^◌, ℕ, IfOk, IfSome, IfNone, length, count_by, if◌then◌else◌};
-ghost use Rattle.std.specs.Prelude.{List};
+ghost use Rattle.std.specs.Prelude.{List, Some};
+ghost use Rattle.std.specs.List.{slice_get};
+ghost use Rattle.lane_record.specs.declared.outcome.Outcome.TheVariants.{Replied};
 ghost use Rattle.lane_record.specs.Bounds.{timeouts};
 ghost use Rattle.lane_record.specs.Offers.{all_lost, lost_after, outcome_of, put, put_all};
 ghost use Rattle.hub_lane.specs.Hearing.{give_ups_of};
@@ -111,17 +113,16 @@ pub(crate) fn settle(
     settle_all(hub, outcomes);
 }
 
-/// The reply at a place.
-pub(crate) fn reply_at(outcomes: &[Option<Outcome>], place: u64) -> Option<&[u32]>
+/// The reply under the number of an Ask, where it came at this place.
+pub(crate) fn reply_under(outcomes: &[Option<Outcome>], number: u64, place: u64) -> Option<&[u32]>
     ensures some { IfSome result (λ words. IsReplyAt outcomes.now place words.now) }
-    ensures none { IfNone result ((words : List ℕ) → ¬ IsReplyAt outcomes.now place words) }
+    ensures none { IfNone result ((words : List ℕ)
+        → ¬ (slice_get outcomes.now number ≡ Some (Some (Replied place words)))) }
 {
-    for outcome in outcomes {
-        if let Some(words) = reply_of(outcome, place) {
-            return Some(words);
-        }
+    match outcomes.get(number as usize) {
+        Some(outcome) => reply_of(outcome, place),
+        None => None,
     }
-    None
 }
 
 /// The reply that an outcome is, where it is that of this place.

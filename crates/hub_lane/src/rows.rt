@@ -1,73 +1,91 @@
-//! The bodies of each client, client by client. A session has at most 64 clients, so rows are looked through.
+//! The bodies of each client, client by client, each found by its number. A session has at most 64 clients, so rows are
+//! looked through.
 
-ghost use Rattle.std.specs.Prelude.{◌≡◌, OnOk, OnErr};
-ghost use Rattle.hub_lane.specs.Books.{HasAsked, HasNext, next_of, row_at, row_of, with_ask, with_plan, with_took};
+ghost use Rattle.std.specs.Prelude.{◌≡◌, ◌≤◌, ◌<◌, ℕ, length, true, false, OnOk, OnErr};
+ghost use Rattle.hub_lane.specs.Books.{HasAsked, HasNext, as_asked, as_taken, is_marked, next_of, replaced, row_at};
+ghost use Rattle.hub_lane.specs.Books.{row_of, with_ask, with_plan, with_took};
 
 use ipb_base::NoMemory;
 use std::alloc::Global;
 use std::marker::Model;
 
-/// The bodies of one client: where each of its Plans stands among the entries, how many were asked, and a number below
-/// which every body was taken. While the client takes in order, no body from that number on was taken.
+/// A body of a client: where its Plan stands among the entries; once it was asked, the number of its Ask among those of
+/// all clients, under which its outcome stands; and whether that was taken.
+#[derive(Clone, Copy, Debug, PartialEq, Eq)]
+pub(crate) struct PlannedBody {
+    pub(crate) plan: usize,
+    pub(crate) ask: usize,
+    pub(crate) is_taken: bool,
+}
+
+/// The bodies of one client, by number: how many were asked, and the number of the first one that was not taken.
 #[derive(Drop)]
 pub(crate) struct ClientRow {
     client: u32,
-    plans: Vec<usize>,
+    bodies: Vec<PlannedBody>,
     asked: usize,
-    taken: u64,
-    is_in_order: bool,
+    taken: usize,
 }
 
 impl Model for ClientRow {
-    ghost use Rattle.hub_lane.specs.Books.{Row};
+    ghost use Rattle.hub_lane.specs.Books.{IsFirstUntaken, Row};
 
     ghost Value = { Row };
 
     ghost view = { λ r. record {
       client = r.client;
-      plans = r.plans.items;
+      bodies = r.bodies.items;
       asked = r.asked;
-      taken = r.taken;
-      is_in_order = r.is_in_order;
     } };
+
+    ghost invariant = { λ r. IsFirstUntaken r.bodies.items r.asked r.taken };
 }
 
 impl ClientRow {
-    ghost use Rattle.std.specs.Prelude.{◌++◌, ◌∷◌, [], ◌+◌, ◌<◌, ◌^◌, IfOk, length, IfSome, IfNone, ◌≤◌};
+    ghost use Rattle.std.specs.Prelude.{◌++◌, ◌∷◌, [], ◌+◌, ◌^◌, IfOk, IfSome, IfNone, Some};
     ghost use Rattle.std.specs.List.{slice_get};
-    ghost use Rattle.hub_lane.specs.Books.{after_took, first_row};
+    ghost use Rattle.hub_lane.specs.Books.{after_ask, after_took, first_row, next_in, planned_at};
+    ghost use Rattle.hub_lane.specs.declared.rows.PlannedBody.{PlannedBody};
 
     /// The row of a client with one Plan.
     fn new(alloc: Global, client: u32, place: usize) -> Result<ClientRow, NoMemory>
         ensures { IfOk result (λ row. row ≡ first_row client place) }
     {
-        let mut plans = Vec::new(alloc);
-        plans.push(place)?;
+        let mut bodies = Vec::new(alloc);
+        bodies.push(PlannedBody {
+            plan: place,
+            ask: 0,
+            is_taken: false,
+        })?;
         Ok(ClientRow {
             client,
-            plans,
+            bodies,
             asked: 0,
             taken: 0,
-            is_in_order: true,
         })
     }
 
     /// Adds a Plan.
     fn add_plan(&mut self, place: usize) -> Result<(), NoMemory>
-        ensures ok { OnOk result (self.new ≡ record self.old { plans = self.old.plans ++ place ∷ [] }) }
+        ensures ok { OnOk result (self.new ≡ record self.old { bodies = self.old.bodies ++ planned_at place ∷ [] }) }
         ensures err { OnErr result (self.new ≡ self.old) }
     {
-        self.plans.push(place)?;
+        self.bodies.push(PlannedBody {
+            plan: place,
+            ask: 0,
+            is_taken: false,
+        })?;
         Ok(())
     }
 
-    /// Adds an Ask.
-    fn add_ask(&mut self)
-        requires { self.old.asked < length self.old.plans }
-        ensures { self.new ≡ record self.old { asked = self.old.asked + 1 } }
+    /// Adds an Ask, which has this number among those of all clients.
+    fn add_ask(&mut self, number: usize)
+        requires { self.old.asked < length self.old.bodies }
+        ensures { self.new ≡ after_ask number self.old }
     {
-        let _plans = self.plans.len();
-        self.asked += 1;
+        let asked = self.asked;
+        set_asked(&mut self.bodies, asked, number);
+        self.asked = asked + 1;
     }
 
     /// Adds a Took of a body that was asked.
@@ -75,11 +93,8 @@ impl ClientRow {
         requires { seq < self.old.asked }
         ensures { self.new ≡ after_took seq self.old }
     {
-        let _asked = self.asked();
-        self.is_in_order = self.is_in_order && seq == self.taken;
-        if self.is_in_order {
-            self.taken += 1;
-        }
+        set_taken(&mut self.bodies, seq as usize);
+        self.taken = untaken_from(&self.bodies, self.taken, self.asked);
     }
 
     /// Whose it is.
@@ -91,9 +106,9 @@ impl ClientRow {
 
     /// How many bodies were planned.
     pub(crate) fn planned(&self) -> usize
-        ensures { result ≡ length self.now.plans }
+        ensures { result ≡ length self.now.bodies }
     {
-        self.plans.len()
+        self.bodies.len()
     }
 
     /// How many were asked.
@@ -103,26 +118,76 @@ impl ClientRow {
         self.asked
     }
 
-    /// A number below which every body was taken.
-    pub(crate) fn taken(&self) -> u64
-        ensures { result ≡ self.now.taken }
+    /// The number of the first body that was asked and not taken.
+    pub(crate) fn oldest(&self) -> Option<u64>
+        ensures below { IfSome result (λ seq. seq < self.now.asked) }
+        ensures untaken { IfSome result (λ seq. is_marked self.now.bodies seq ≡ false) }
+        ensures before { IfSome result (λ seq. (n : ℕ) → n < seq → is_marked self.now.bodies n ≡ true) }
+        ensures all { IfNone result ((n : ℕ) → n < self.now.asked → is_marked self.now.bodies n ≡ true) }
     {
-        self.taken
+        if self.taken < self.asked {
+            Some(self.taken as u64)
+        } else {
+            None
+        }
     }
 
-    /// Whether no body from that number on was taken.
-    pub(crate) fn is_in_order(&self) -> bool
-        ensures { result ≡ self.now.is_in_order }
+    /// The number among all Asks of the body of this number, which was asked.
+    pub(crate) fn ask_of(&self, seq: u64) -> usize
+        requires { seq < self.now.asked }
+        ensures { (body : PlannedBody) → slice_get self.now.bodies seq ≡ Some body → result ≡ body.ask }
     {
-        self.is_in_order
+        let body = &self.bodies[seq as usize];
+        body.ask
     }
 
     /// Where the next Plan that was not asked stands.
     pub(crate) fn next(&self) -> Option<usize>
-        ensures { result ≡ slice_get self.now.plans self.now.asked }
+        ensures { result ≡ next_in self.now }
     {
-        self.plans.get(self.asked).copied()
+        match self.bodies.get(self.asked) {
+            Some(body) => Some(body.plan),
+            None => None,
+        }
     }
+}
+
+/// A body was asked, under this number.
+fn set_asked(bodies: &mut Vec<PlannedBody>, at: usize, number: usize)
+    requires { at < length bodies.old.items }
+    ensures { bodies.new.items ≡ replaced at (as_asked number) bodies.old.items }
+{
+    let body = &mut bodies[at];
+    body.ask = number;
+    body.is_taken = false;
+}
+
+/// What became of a body was taken.
+fn set_taken(bodies: &mut Vec<PlannedBody>, at: usize)
+    requires { at < length bodies.old.items }
+    ensures { bodies.new.items ≡ replaced at as_taken bodies.old.items }
+{
+    let body = &mut bodies[at];
+    body.is_taken = true;
+}
+
+/// The least number from `from` on of a body that was not taken, or `asked` where all below it were. Over all calls a
+/// client's bodies are gone through once.
+fn untaken_from(bodies: &[PlannedBody], from: usize, asked: usize) -> usize
+    requires from { from ≤ asked }
+    requires asked { asked ≤ length bodies.now }
+    ensures from { from ≤ result }
+    ensures within { result ≤ asked }
+    ensures taken { (n : ℕ) → from ≤ n → n < result → is_marked bodies.now n ≡ true }
+    ensures stops { result < asked → is_marked bodies.now result ≡ false }
+{
+    for at in from..asked {
+        let body = &bodies[at];
+        if !body.is_taken {
+            return at;
+        }
+    }
+    asked
 }
 
 /// Where the row of a client stands.
@@ -170,14 +235,14 @@ pub(crate) fn add_plan(
     }
 }
 
-/// Adds an Ask of a client, which has a Plan that was not asked.
-pub(crate) fn add_ask(rows: &mut Vec<ClientRow>, client: u32)
+/// Adds an Ask of a client, which has a Plan that was not asked. It has this number among all Asks.
+pub(crate) fn add_ask(rows: &mut Vec<ClientRow>, client: u32, number: usize)
     requires { HasNext client rows.old.items }
-    ensures { rows.new.items ≡ with_ask client rows.old.items }
+    ensures { rows.new.items ≡ with_ask client number rows.old.items }
 {
     if let Some(at) = row_at(rows, client) {
         let row = &mut rows[at];
-        row.add_ask();
+        row.add_ask(number);
     }
 }
 

@@ -30,8 +30,8 @@ pub enum Stepped {
 }
 
 impl<L: Link> Lane<L> {
-    /// Pumps once if nothing became of the client's oldest asked and untaken body yet, and then takes what did, if
-    /// anything. After want of memory the lane may have been pumped or be spent, and no entry was added.
+    /// Takes what became of the client's oldest asked and untaken body; where nothing did yet, pumps and looks once
+    /// more. Want of memory adds no entry, but may come behind a receive, and may leave the lane spent.
     pub fn step(&mut self, client: u32) -> Result<Stepped, NoMemory>
         requires client { 1 ≤ client }
         ensures stepped { IfOk result (λ stepped. StepsAs self.old client self.new stepped) }

@@ -36,7 +36,8 @@ pub record Shown (before after : Record) : Type 0 where
   pub own : (k : Knowledge) → Told k before → own_items k ≡ of_client k.number items
 
 module _ (client : ℕ) (before after : Record) (s : Shown before after) where
-  abbrev pub grew : (added : List Item) → s.items' ≡ s.items ++ added → AllByRecursion (λ (x : Item). x.client ≡ client) added → Grew client before added after
+  abbrev pub grew : (added : List Item) → s.items' ≡ s.items ++ added
+      → AllByRecursion (λ (x : Item). x.client ≡ client) added → Grew client before added after
   grew added is makers = record {
     lane = record { head = s.head; items = s.items; outcomes = s.outcomes };
     was = s.was;
@@ -49,21 +50,27 @@ module _ (client : ℕ) (before after : Record) (s : Shown before after) where
   same is = grew [] (is ∙ sym (append-nil s.items)) tt
 
   pub asked_is : (k : Knowledge) → Told k before → k.number ≡ client → asked_by k ≡ asked client s.items
-  asked_is k told number = (λ i. asked (number i) (s.own k told i)) ∙ ((λ i. asked client (of_client (number i) s.items)) ∙ asked_own client s.items)
+  asked_is k told number = (λ i. asked (number i) (s.own k told i))
+      ∙ ((λ i. asked client (of_client (number i) s.items)) ∙ asked_own client s.items)
 
   pub planned_is : (k : Knowledge) → Told k before → k.number ≡ client → planned_by k ≡ planned client s.items
-  planned_is k told number = (λ i. planned (number i) (s.own k told i)) ∙ ((λ i. planned client (of_client (number i) s.items)) ∙ planned_own client s.items)
+  planned_is k told number = (λ i. planned (number i) (s.own k told i))
+      ∙ ((λ i. planned client (of_client (number i) s.items)) ∙ planned_own client s.items)
 
-  oldest_is : (k : Knowledge) → Told k before → k.number ≡ client → (seq : ℕ) → IsOldest s.items client seq → IsOldestOf k seq
-  oldest_is k told number seq o = subst (λ l. IsOldest l k.number seq) (sym (s.own k told)) (subst (λ (n : ℕ). IsOldest (of_client n s.items) n seq) (sym number) (oldest_own client seq s.items o))
+  oldest_is : (k : Knowledge) → Told k before → k.number ≡ client → (seq : ℕ) → IsOldest s.items client seq
+      → IsOldestOf k seq
+  oldest_is k told number seq o = subst (λ l. IsOldest l k.number seq) (sym (s.own k told))
+      (subst (λ (n : ℕ). IsOldest (of_client n s.items) n seq) (sym number) (oldest_own client seq s.items o))
 
   taken_all_is : (k : Knowledge) → Told k before → k.number ≡ client → HasTakenAll s.items client → HasTakenAllOf k
-  taken_all_is k told number all = subst (λ l. HasTakenAll l k.number) (sym (s.own k told)) (subst (λ (n : ℕ). HasTakenAll (of_client n s.items) n) (sym number) (taken_own client s.items all))
+  taken_all_is k told number all = subst (λ l. HasTakenAll l k.number) (sym (s.own k told))
+      (subst (λ (n : ℕ). HasTakenAll (of_client n s.items) n) (sym number) (taken_own client s.items all))
 
   pub looked : s.items' ≡ s.items → Means client before (λ _. IsNone) after
   looked is = record { added = []; grew = same is; to_finder = λ _ _ _. refl }
 
-  pub asks_of : (answer : Asked) → AsksOn s.items client answer s.items' → Means client before (λ k. AskMeans k answer) after
+  pub asks_of : (answer : Asked) → AsksOn s.items client answer s.items'
+      → Means client before (λ k. AskMeans k answer) after
   asks_of (asks.Asked seq) (next, low, give_ups, entry) = record {
     added = ask_of client seq give_ups ∷ [];
     grew = grew (ask_of client seq give_ups ∷ []) entry (refl, tt);
@@ -80,13 +87,15 @@ module _ (client : ℕ) (before after : Record) (s : Shown before after) where
     to_finder = λ k told number. (asked_is k told number ∙ (all ∙ sym (planned_is k told number)), refl);
   }
 
-  pub steps_of : (answer : Stepped) → StepsOn s.items client answer s.items' → Means client before (λ k. StepMeans k answer) after
-  steps_of (steps.Ready outcome) (seq, oldest, give_ups, entry) = record {
+  pub steps_of : (answer : Stepped) → StepsOn s.items client answer s.items'
+      → Means client before (λ k. StepMeans k answer) after
+  steps_of (steps.Ready outcome) (seq, oldest, short, give_ups, entry) = record {
     added = took_of client seq outcome give_ups ∷ [];
     grew = grew (took_of client seq outcome give_ups ∷ []) entry (refl, tt);
     to_finder = λ k told number. record {
       seq = seq;
       oldest = oldest_is k told number seq oldest;
+      short = short;
       give_ups = give_ups;
       entry = ap (λ n. took_of n seq outcome give_ups ∷ []) (sym number);
     };
@@ -96,10 +105,18 @@ module _ (client : ℕ) (before after : Record) (s : Shown before after) where
     grew = same is;
     to_finder = λ k told number. record { seq = seq; oldest = oldest_is k told number seq oldest; none = refl };
   }
-  steps_of steps.Nothing (all, is) = record { added = []; grew = same is; to_finder = λ k told number. (taken_all_is k told number all, refl) }
+  steps_of steps.Nothing (all, is) = record {
+    added = [];
+    grew = same is;
+    to_finder = λ k told number.
+        (taken_all_is k told number all, refl);
+  }
 
 module _ {L : Type 0} (telling : L → Option Telling) where
-  abbrev pub shown_of : (old new : LaneState L) → ((k : Knowledge) → Told k (shown telling old) → own_items k ≡ of_client k.number old.items) → IsLegal new.items new.outcomes → head telling new ≡ head telling old → Shown (shown telling old) (shown telling new)
+  abbrev pub shown_of : (old new : LaneState L)
+      → ((k : Knowledge) → Told k (shown telling old) → own_items k ≡ of_client k.number old.items)
+      → IsLegal new.items new.outcomes → head telling new ≡ head telling old
+      → Shown (shown telling old) (shown telling new)
   shown_of old new own legal same_head = record {
     head = head telling old;
     items = old.items;
@@ -111,22 +128,38 @@ module _ {L : Type 0} (telling : L → Option Telling) where
     own = own;
   }
 
-  pub ask_means : IsPlanLaw → (old new : LaneState L) (client : ℕ) (answer : Asked) → ((k : Knowledge) → Told k (shown telling old) → own_items k ≡ of_client k.number old.items) → IsLegal old.items old.outcomes → IsLegal new.items new.outcomes → AsksAs old client new answer
+  pub ask_means : IsPlanLaw → (old new : LaneState L) (client : ℕ) (answer : Asked)
+      → ((k : Knowledge) → Told k (shown telling old) → own_items k ≡ of_client k.number old.items)
+      → IsLegal old.items old.outcomes → IsLegal new.items new.outcomes → AsksAs old client new answer
       → Means client (shown telling old) (λ k. AskMeans k answer) (shown telling new)
-  ask_means law old new client answer own was legal a = asks_of client (shown telling old) (shown telling new) (shown_of old new own legal (ask_head telling old new client answer a)) answer (asks_on telling law old new client answer was a)
+  ask_means law old new client answer own was legal a = asks_of client (shown telling old) (shown telling new)
+      (shown_of old new own legal (ask_head telling old new client answer a)) answer
+      (asks_on telling law old new client answer was a)
 
-  pub step_means : (old new : LaneState L) (client : ℕ) (answer : Stepped) → ((k : Knowledge) → Told k (shown telling old) → own_items k ≡ of_client k.number old.items) → IsLegal new.items new.outcomes → opening_of (telling new.link) ≡ opening_of (telling old.link) → StepsAs old client new answer
+  pub step_means : (old new : LaneState L) (client : ℕ) (answer : Stepped)
+      → ((k : Knowledge) → Told k (shown telling old) → own_items k ≡ of_client k.number old.items)
+      → IsLegal new.items new.outcomes → opening_of (telling new.link) ≡ opening_of (telling old.link)
+      → StepsAs old client new answer
       → Means client (shown telling old) (λ k. StepMeans k answer) (shown telling new)
   step_means old new client answer own legal opening s = let same = steps_same old new client answer s in
-      steps_of client (shown telling old) (shown telling new) (shown_of old new own legal (same_head telling old new same.0 same.1 opening)) answer (steps_on old new client answer s)
+      steps_of client (shown telling old) (shown telling new)
+      (shown_of old new own legal (same_head telling old new same.0 same.1 opening)) answer
+      (steps_on old new client answer s)
 
   -- no entry was added
-  pub look_means : (old new : LaneState L) (client : ℕ) → ((k : Knowledge) → Told k (shown telling old) → own_items k ≡ of_client k.number old.items) → IsLegal new.items new.outcomes → opening_of (telling new.link) ≡ opening_of (telling old.link) → IsSameRecord old new
+  pub look_means : (old new : LaneState L) (client : ℕ)
+      → ((k : Knowledge) → Told k (shown telling old) → own_items k ≡ of_client k.number old.items)
+      → IsLegal new.items new.outcomes → opening_of (telling new.link) ≡ opening_of (telling old.link)
+      → IsSameRecord old new
       → Means client (shown telling old) (λ _. IsNone) (shown telling new)
   look_means old new client own legal opening s =
-      looked client (shown telling old) (shown telling new) (shown_of old new own legal (same_head telling old new s.settings s.status opening)) s.items
+      looked client (shown telling old) (shown telling new) (shown_of old new own legal
+      (same_head telling old new s.settings s.status opening)) s.items
 
-  pub same_means : (old new : LaneState L) (client : ℕ) → ((k : Knowledge) → Told k (shown telling old) → own_items k ≡ of_client k.number old.items) → IsLegal new.items new.outcomes → new ≡ old
+  pub same_means : (old new : LaneState L) (client : ℕ)
+      → ((k : Knowledge) → Told k (shown telling old) → own_items k ≡ of_client k.number old.items)
+      → IsLegal new.items new.outcomes → new ≡ old
       → Means client (shown telling old) (λ _. IsNone) (shown telling new)
   same_means old new client own legal e =
-      looked client (shown telling old) (shown telling new) (shown_of old new own legal (ap (head telling) e)) (ap (λ (l : LaneState L). l.items) e)
+      looked client (shown telling old) (shown telling new) (shown_of old new own legal (ap (head telling) e))
+      (ap (λ (l : LaneState L). l.items) e)

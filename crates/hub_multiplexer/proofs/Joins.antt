@@ -1,5 +1,6 @@
 -- A seat's passes taken in, from the last board on.
-use Rattle.std.proofs.Common.{◌≡◌, ℕ, ◌<◌, zero, suc, List, [], ◌∷◌, ◌++◌, take, drop, length, get_or, set, sym, ap, ◌∙◌, arith, length-append}
+use Rattle.std.proofs.Common.{◌≡◌, ℕ, ◌<◌, zero, suc, List, [], ◌∷◌, ◌++◌, take, drop, length, get_or, set, sym, ap}
+use Rattle.std.proofs.Common.{◌∙◌, arith, length-append}
 use mathlib.Core.Option.{some, some-injective, some-ne-none}
 use lib.ListN.{get_elem?}
 use Rattle.std.proofs.lemmas.List.{length-map}
@@ -10,32 +11,42 @@ use Rattle.hub_multiplexer.proofs.Lists.{popped}
 abbrev pub joining : PassState → PassState → PassState
 joining p q = record p { knows = taking_in p.knows q.knows }
 
-joined_at : (firsts others : List PassState) (n : ℕ) (p q : PassState) → get_elem? firsts n ≡ some p → get_elem? others n ≡ some q
-    → set (take (suc n) firsts ++ after_join (drop (suc n) firsts) (drop (suc n) others)) n (record p { knows = taking_in p.knows q.knows }) ≡ take n firsts ++ after_join (drop n firsts) (drop n others)
+joined_at : (firsts others : List PassState) (n : ℕ) (p q : PassState) → get_elem? firsts n ≡ some p
+    → get_elem? others n ≡ some q
+    → set (take (suc n) firsts ++ after_join (drop (suc n) firsts) (drop (suc n) others)) n
+    (record p { knows = taking_in p.knows q.knows }) ≡ take n firsts ++ after_join (drop n firsts) (drop n others)
 joined_at [] others n p q here there = absurd (some-ne-none p (sym here))
 joined_at (x ∷ xs) [] n p q here there = absurd (some-ne-none q (sym there))
-joined_at (x ∷ xs) (y ∷ ys) zero p q here there = sym (λ i. record (some-injective x p here i) { knows = taking_in (some-injective x p here i).knows (some-injective y q there i).knows } ∷ after_join xs ys)
+joined_at (x ∷ xs) (y ∷ ys) zero p q here there = sym (λ i. record (some-injective x p here i)
+    { knows = taking_in (some-injective x p here i).knows (some-injective y q there i).knows } ∷ after_join xs ys)
 joined_at (x ∷ xs) (y ∷ ys) (suc n) p q here there = ap (λ l. x ∷ l) (joined_at xs ys n p q here there)
 
 -- the first pass of the board is as it was
-not_joined : (firsts rest : List PassState) (n : ℕ) (p : PassState) → n < length firsts → p ≡ get_or (take (suc n) firsts ++ rest) n p → get_elem? firsts n ≡ some p
+not_joined : (firsts rest : List PassState) (n : ℕ) (p : PassState) → n < length firsts
+    → p ≡ get_or (take (suc n) firsts ++ rest) n p → get_elem? firsts n ≡ some p
 not_joined [] rest n p inside read = absurd (omega arith)
 not_joined (x ∷ xs) rest zero p inside read = ap some (sym read)
 not_joined (x ∷ xs) rest (suc n) p inside read = not_joined xs rest n p (omega arith) read
 
-pub board_joined : (firsts others before now left : List PassState) (board : ℕ) (p q p' : PassState) → before ≡ left ++ q ∷ [] → before ≡ take (length before) others
+pub board_joined : (firsts others before now left : List PassState) (board : ℕ) (p q p' : PassState)
+    → before ≡ left ++ q ∷ [] → before ≡ take (length before) others
     → now ≡ take (length before) firsts ++ after_join (drop (length before) firsts) (drop (length before) others)
     → length left < length firsts → board ≡ length left → p ≡ get_or now board p → p' ≡ joining p q
-    → (left ≡ take (length left) others) × (set now board p' ≡ take (length left) firsts ++ after_join (drop (length left) firsts) (drop (length left) others))
+    → (left ≡ take (length left) others) × (set now board p' ≡ take (length left) firsts ++ after_join
+    (drop (length left) firsts) (drop (length left) others))
 board_joined firsts others before now left board p q p' was front state inside at read is =
     let last = popped others left q (sym was ∙ (front ∙ ap (λ l. take (length l) others) was)) in
     let long : length before ≡ suc (length left) = ap length was ∙ omega (arith, length-append left (q ∷ [])) in
-    let state' : now ≡ take (suc (length left)) firsts ++ after_join (drop (suc (length left)) firsts) (drop (suc (length left)) others) = state ∙ ap (λ n. take n firsts ++ after_join (drop n firsts) (drop n others)) long in
-    let here : get_elem? firsts (length left) ≡ some p = not_joined firsts _ (length left) p inside (read ∙ (λ i. get_or (state' i) (at i) p)) in
+    let state' : now ≡ take (suc (length left)) firsts ++ after_join (drop (suc (length left)) firsts)
+    (drop (suc (length left)) others) = state
+    ∙ ap (λ n. take n firsts ++ after_join (drop n firsts) (drop n others)) long in
+    let here : get_elem? firsts (length left) ≡ some p = not_joined firsts _ (length left) p inside
+    (read ∙ (λ i. get_or (state' i) (at i) p)) in
     (last.0, (λ i. set (state' i) (at i) (is i)) ∙ joined_at firsts others (length left) p q here last.1)
 
 -- the board of the last of the passes that are left is one of all boards
-pub board_inside : (firsts others before left : List PassState) (q : PassState) → before ≡ left ++ q ∷ [] → before ≡ take (length before) others → length firsts ≡ length others → length left < length firsts
+pub board_inside : (firsts others before left : List PassState) (q : PassState) → before ≡ left ++ q ∷ []
+    → before ≡ take (length before) others → length firsts ≡ length others → length left < length firsts
 board_inside firsts others before left q was front long =
     let last = popped others left q (sym was ∙ (front ∙ ap (λ l. take (length l) others) was)) in
     let inside = place_inside others (length left) q last.1 in omega (arith, long, inside)
@@ -47,4 +58,5 @@ board_inside firsts others before left q was front long =
 
 -- passes of the same turns are as many
 pub same_length : (firsts others : List PassState) → turns_of firsts ≡ turns_of others → length firsts ≡ length others
-same_length firsts others e = sym (length-map firsts (λ (pass : PassState). pass.turn)) ∙ (ap length e ∙ length-map others (λ (pass : PassState). pass.turn))
+same_length firsts others e = sym (length-map firsts (λ (pass : PassState). pass.turn))
+    ∙ (ap length e ∙ length-map others (λ (pass : PassState). pass.turn))

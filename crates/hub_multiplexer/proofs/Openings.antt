@@ -1,5 +1,6 @@
 -- Turns that are made from the last value on, and values taken back.
-use Rattle.std.proofs.Common.{◌≡◌, ◌≢◌, ◌≤◌, ℕ, zero, suc, inl, List, [], ◌∷◌, ◌++◌, map, reverse, length, drop, refl, sym, ap, subst, ◌∙◌, arith, append-nil, append_assoc}
+use Rattle.std.proofs.Common.{◌≡◌, ◌≢◌, ◌≤◌, ℕ, zero, suc, inl, List, [], ◌∷◌, ◌++◌, map, reverse, length, drop, refl}
+use Rattle.std.proofs.Common.{sym, ap, subst, ◌∙◌, arith, append-nil, append_assoc}
 use Rattle.std.specs.List.{AllByRecursion}
 use Rattle.std.proofs.lemmas.List.{length-map, map-append, reverse-append}
 use Rattle.std.proofs.Math.Seq.{drop-append_seam}
@@ -15,20 +16,27 @@ use Rattle.hub_multiplexer.proofs.Ends.{each_maker}
 
 map_reverse : {A B : Type 0} (f : A → B) (xs : List A) → map f (reverse xs) ≡ reverse (map f xs)
 map_reverse f [] = refl
-map_reverse f (x ∷ xs) = ap (map f) (reverse-append (x ∷ []) xs) ∙ (map-append f (reverse xs) (x ∷ []) ∙ (ap (λ l. l ++ f x ∷ []) (map_reverse f xs) ∙ sym (reverse-append (f x ∷ []) (map f xs))))
+map_reverse f (x ∷ xs) = ap (map f) (reverse-append (x ∷ []) xs)
+    ∙ (map-append f (reverse xs) (x ∷ []) ∙ (ap (λ l. l ++ f x ∷ []) (map_reverse f xs)
+    ∙ sym (reverse-append (f x ∷ []) (map f xs))))
 
 all_reverse : {A : Type 0} (P : A → Type 0) (xs : List A) → AllByRecursion P xs → AllByRecursion P (reverse xs)
 all_reverse P [] a = tt
-all_reverse P (x ∷ xs) a = subst (AllByRecursion P) (sym (reverse-append (x ∷ []) xs)) (AllByRecursion-append P (reverse xs) (x ∷ []) (all_reverse P xs a.1) (a.0, tt))
+all_reverse P (x ∷ xs) a = subst (AllByRecursion P) (sym (reverse-append (x ∷ []) xs))
+    (AllByRecursion-append P (reverse xs) (x ∷ []) (all_reverse P xs a.1) (a.0, tt))
 
 -- all turns, in order
-pub opened_all : (all left : List Record) (turns turns' : List TurnId) (passes passes' : List PassState) → IsOpening all left turns passes → left ≡ [] → turns' ≡ reverse turns → passes' ≡ reverse passes → AreOpened all turns' passes'
+pub opened_all : (all left : List Record) (turns turns' : List TurnId) (passes passes' : List PassState)
+    → IsOpening all left turns passes → left ≡ [] → turns' ≡ reverse turns → passes' ≡ reverse passes
+    → AreOpened all turns' passes'
 opened_all all left turns turns' passes passes' o none turned passed = record {
   are_fresh = record {
-    same_turns = ap turns_of passed ∙ (map_reverse (λ (p : PassState). p.turn) passes ∙ (ap reverse o.are_fresh.same_turns ∙ sym turned));
+    same_turns = ap turns_of passed ∙ (map_reverse (λ (p : PassState). p.turn) passes
+        ∙ (ap reverse o.are_fresh.same_turns ∙ sym turned));
     fresh = subst (AllByRecursion IsFresh) (sym passed) (all_reverse IsFresh passes o.are_fresh.fresh);
   };
-  openings = ap openings_of passed ∙ (map_reverse (λ (p : PassState). p.knows.opening) passes ∙ sym (o.split ∙ ap (λ l. l ++ reverse (openings_of passes)) none));
+  openings = ap openings_of passed ∙ (map_reverse (λ (p : PassState). p.knows.opening) passes
+      ∙ sym (o.split ∙ ap (λ l. l ++ reverse (openings_of passes)) none));
 }
 
 -- a value whose turn nobody took from has the record with which the turn opened
@@ -64,7 +72,8 @@ last_same [] (z ∷ []) x y e = cc
 last_same [] (z ∷ z' ∷ zs) x y e = cc
 last_same (z ∷ []) [] x y e = cc
 last_same (z ∷ z' ∷ zs) [] x y e = cc
-last_same (z ∷ zs) (w ∷ ws) x y e = let t = last_same zs ws x y (rest_same z w (zs ++ x ∷ []) (ws ++ y ∷ []) e) in ((λ i. first_same z w (zs ++ x ∷ []) (ws ++ y ∷ []) e i ∷ t.0 i), t.1)
+last_same (z ∷ zs) (w ∷ ws) x y e = let t = last_same zs ws x y (rest_same z w (zs ++ x ∷ []) (ws ++ y ∷ []) e) in
+    ((λ i. first_same z w (zs ++ x ∷ []) (ws ++ y ∷ []) e i ∷ t.0 i), t.1)
   where
     first_same : {A : Type 0} (a b : A) (as' bs : List A) → a ∷ as' ≡ b ∷ bs → a ≡ b
     first_same a b as' bs e = cc
@@ -73,21 +82,32 @@ last_same (z ∷ zs) (w ∷ ws) x y e = let t = last_same zs ws x y (rest_same z
     rest_same a b as' bs e = cc
 
 -- the last turn was taken back
-pub one_back : (turns ts : List TurnId) (t : TurnId) (passes ps : List PassState) (p : PassState) (records : List Record) (r : Record) → AreFresh turns passes → turns ≡ ts ++ t ∷ [] → passes ≡ ps ++ p ∷ [] → Told p.knows r
+pub one_back : (turns ts : List TurnId) (t : TurnId) (passes ps : List PassState) (p : PassState)
+    (records : List Record) (r : Record) → AreFresh turns passes → turns ≡ ts ++ t ∷ [] → passes ≡ ps ++ p ∷ []
+    → Told p.knows r
     → AreFresh ts ps × ((records ++ r ∷ []) ++ reverse (openings_of ps) ≡ records ++ reverse (openings_of passes))
 one_back turns ts t passes ps p records r f turns_are passes_are told =
     let fresh = subst (AllByRecursion IsFresh) passes_are f.fresh in
     let last : IsFresh p = (back_of_all IsFresh ps (p ∷ []) fresh).0 in
     let opened : r ≡ p.knows.opening = told_opening p.knows r last.knows_opening told in
-    let turned : turns_of ps ++ p.turn ∷ [] ≡ ts ++ t ∷ [] = sym (map-append (λ (z : PassState). z.turn) ps (p ∷ [])) ∙ (ap turns_of (sym passes_are) ∙ (f.same_turns ∙ turns_are)) in
+    let turned : turns_of ps ++ p.turn ∷ [] ≡ ts ++ t ∷ [] = sym (map-append (λ (z : PassState). z.turn) ps (p ∷ []))
+    ∙ (ap turns_of (sym passes_are) ∙ (f.same_turns ∙ turns_are)) in
     let openings : reverse (openings_of passes) ≡ p.knows.opening ∷ reverse (openings_of ps) =
-    ap (λ l. reverse (openings_of l)) passes_are ∙ (ap reverse (map-append (λ (z : PassState). z.knows.opening) ps (p ∷ [])) ∙ reverse-append (openings_of ps) (p.knows.opening ∷ [])) in (
-      record { same_turns = (last_same (turns_of ps) ts p.turn t turned).0; fresh = front_of_all IsFresh ps (p ∷ []) fresh },
-      append_assoc records (r ∷ []) (reverse (openings_of ps)) ∙ ap (λ l. records ++ l) ((λ i. opened i ∷ reverse (openings_of ps)) ∙ sym openings),
+    ap (λ l. reverse (openings_of l)) passes_are
+    ∙ (ap reverse (map-append (λ (z : PassState). z.knows.opening) ps (p ∷ []))
+    ∙ reverse-append (openings_of ps) (p.knows.opening ∷ [])) in (
+      record {
+        same_turns = (last_same (turns_of ps) ts p.turn t turned).0;
+        fresh = front_of_all IsFresh ps
+            (p ∷ []) fresh;
+      },
+      append_assoc records (r ∷ []) (reverse (openings_of ps))
+          ∙ ap (λ l. records ++ l) ((λ i. opened i ∷ reverse (openings_of ps)) ∙ sym openings),
     )
 
 -- what the first passes of all turns know
-pub knows_opened : (records : List Record) (turns : List TurnId) (passes : List PassState) → AreOpened records turns passes → knows_of passes ≡ map first_knowledge records
+pub knows_opened : (records : List Record) (turns : List TurnId) (passes : List PassState)
+    → AreOpened records turns passes → knows_of passes ≡ map first_knowledge records
 knows_opened records turns passes o = all_know passes o.are_fresh.fresh ∙ ap (map first_knowledge) o.openings
   where
     all_know : (ps : List PassState) → AllByRecursion IsFresh ps → knows_of ps ≡ map first_knowledge (openings_of ps)
@@ -95,28 +115,39 @@ knows_opened records turns passes o = all_know passes o.are_fresh.fresh ∙ ap (
     all_know (p ∷ ps) a = (λ i. a.0.knows_opening i ∷ all_know ps a.1 i)
 
 -- the master of turns that were just made
-pub master_opened : (records : List Record) (turns : List TurnId) (passes : List PassState) (room : PassState) (count : ℕ) → AreOpened records turns passes → IsRoomPass count room → count ≡ length records → IsMaster 0 passes room
+pub master_opened : (records : List Record) (turns : List TurnId) (passes : List PassState) (room : PassState)
+    (count : ℕ) → AreOpened records turns passes → IsRoomPass count room → count ≡ length records
+    → IsMaster 0 passes room
 master_opened records turns passes room count o fits long = record {
   firsts = all_first passes o.are_fresh.fresh;
   no_entries = all_none passes o.are_fresh.fresh;
-  room_fits = subst (λ n. IsRoomPass n room) (long ∙ (ap length (sym o.openings) ∙ length-map passes (λ (p : PassState). p.knows.opening))) fits;
+  room_fits = subst (λ n. IsRoomPass n room) (long
+      ∙ (ap length (sym o.openings) ∙ length-map passes (λ (p : PassState). p.knows.opening))) fits;
 }
   where
     all_first : (ps : List PassState) → AllByRecursion IsFresh ps → AllByRecursion (IsFirst 1) ps
     all_first [] a = tt
     all_first (p ∷ ps) a = (
       record {
-        idle = record { holds_nothing = a.0.holds_nothing; has_number = ap (λ (k : Knowledge). k.number) a.0.knows_opening };
+        idle = record {
+          holds_nothing = a.0.holds_nothing;
+          has_number = ap
+              (λ (k : Knowledge). k.number) a.0.knows_opening;
+        };
         has_made = ap (λ (k : Knowledge). k.made) a.0.knows_opening;
       },
       all_first ps a.1,
     )
 
-    all_none : (ps : List PassState) → AllByRecursion IsFresh ps → AllByRecursion (λ (p : PassState). p.knows.mine ≡ []) ps
+    all_none : (ps : List PassState) → AllByRecursion IsFresh ps
+        → AllByRecursion (λ (p : PassState). p.knows.mine ≡ []) ps
     all_none [] a = tt
     all_none (p ∷ ps) a = (ap (λ (k : Knowledge). k.mine) a.0.knows_opening, all_none ps a.1)
 
 -- as many turns as values
-pub turns_opened : (records : List Record) (turns : List TurnId) (passes : List PassState) → AreOpened records turns passes → length turns ≡ length records
+pub turns_opened : (records : List Record) (turns : List TurnId) (passes : List PassState)
+    → AreOpened records turns passes → length turns ≡ length records
 turns_opened records turns passes opened =
-    ap length (sym opened.are_fresh.same_turns) ∙ (length-map passes (λ (p : PassState). p.turn) ∙ (sym (length-map passes (λ (p : PassState). p.knows.opening)) ∙ ap length opened.openings))
+    ap length (sym opened.are_fresh.same_turns)
+    ∙ (length-map passes (λ (p : PassState). p.turn)
+    ∙ (sym (length-map passes (λ (p : PassState). p.knows.opening)) ∙ ap length opened.openings))

@@ -1,5 +1,6 @@
 -- A body that is planned and asked in one call.
-use Rattle.std.proofs.Common.{◌≡◌, ◌<◌, ◌+◌, inl, inr, ℕ, List, [], ◌∷◌, ◌++◌, length, Option, refl, sym, ap, subst, ◌∙◌, arith, append_assoc, append-nil, length-append, eq-eqb}
+use Rattle.std.proofs.Common.{◌≡◌, ◌<◌, ◌+◌, inl, inr, ℕ, List, [], ◌∷◌, ◌++◌, length, Option, refl, sym, ap, subst}
+use Rattle.std.proofs.Common.{◌∙◌, arith, append_assoc, append-nil, length-append, eq-eqb}
 use Rattle.ipb_base.specs.Numbers.{payload_of}
 use Rattle.turn_pass.specs.Pass.{Knowledge, Told}
 use Rattle.world_core.specs.Telling.{Telling}
@@ -27,36 +28,53 @@ one_plan client seq body = rw (eq-eqb client client refl) refl
 no_ask : (client seq : ℕ) (body : List ℕ) → numbers ask_in client (plan_of client seq body ∷ []) ≡ []
 no_ask client seq body = rw (eq-eqb client client refl) refl
 
-pub planned_more : (client seq : ℕ) (body : List ℕ) (items : List Item) → planned client (items ++ plan_of client seq body ∷ []) ≡ planned client items + 1
+pub planned_more : (client seq : ℕ) (body : List ℕ) (items : List Item)
+    → planned client (items ++ plan_of client seq body ∷ []) ≡ planned client items + 1
 planned_more client seq body items =
-    ap length (numbers_append plan_in client items (plan_of client seq body ∷ []) ∙ ap (λ l. numbers plan_in client items ++ l) (one_plan client seq body))
+    ap length (numbers_append plan_in client items (plan_of client seq body ∷ [])
+    ∙ ap (λ l. numbers plan_in client items ++ l) (one_plan client seq body))
     ∙ length-append (numbers plan_in client items) (seq ∷ [])
 
-pub asked_same : (client seq : ℕ) (body : List ℕ) (items : List Item) → asked client (items ++ plan_of client seq body ∷ []) ≡ asked client items
+pub asked_same : (client seq : ℕ) (body : List ℕ) (items : List Item)
+    → asked client (items ++ plan_of client seq body ∷ []) ≡ asked client items
 asked_same client seq body items =
-    ap length (numbers_append ask_in client items (plan_of client seq body ∷ []) ∙ (ap (λ l. numbers ask_in client items ++ l) (no_ask client seq body) ∙ append-nil (numbers ask_in client items)))
+    ap length (numbers_append ask_in client items (plan_of client seq body ∷ [])
+    ∙ (ap (λ l. numbers ask_in client items ++ l) (no_ask client seq body)
+    ∙ append-nil (numbers ask_in client items)))
 
 -- so the body that was just planned is the next to be asked
-pub next_asked : {L : Type 0} (old mid : LaneState L) (client seq : ℕ) (body : List ℕ) → asked client old.items ≡ planned client old.items → Plans old client body mid seq → asked client mid.items < planned client mid.items
+pub next_asked : {L : Type 0} (old mid : LaneState L) (client seq : ℕ) (body : List ℕ)
+    → asked client old.items ≡ planned client old.items → Plans old client body mid seq
+    → asked client mid.items < planned client mid.items
 next_asked {L} old mid client seq body all p =
     let items : mid.items ≡ old.items ++ plan_of client seq body ∷ [] = ap (λ (l : LaneState L). l.items) p.entry in
-    subst (λ l. asked client l < planned client l) (sym items) (let a = asked_same client seq body old.items in let b = planned_more client seq body old.items in omega (arith, a, b, all))
+    subst (λ l. asked client l < planned client l) (sym items)
+    (let a = asked_same client seq body old.items in let b = planned_more client seq body old.items in omega
+    (arith, a, b, all))
 
-module _ {L : Type 0} (telling : L → Option Telling) (old mid new : LaneState L) (client : ℕ) (body : List ℕ) (own : (k : Knowledge) → Told k (shown telling old) → own_items k ≡ of_client k.number old.items) where
+module _ {L : Type 0} (telling : L → Option Telling) (old mid new : LaneState L) (client : ℕ) (body : List ℕ)
+    (own : (k : Knowledge) → Told k (shown telling old) → own_items k ≡ of_client k.number old.items) where
   -- planned and asked
-  pub submit_means : IsPlanLaw → (seq : ℕ) → IsLegal mid.items mid.outcomes → IsLegal new.items new.outcomes → asked client old.items ≡ planned client old.items → Plans old client body mid seq → IsAskedNext mid client new
+  pub submit_means : IsPlanLaw → (seq : ℕ) → IsLegal mid.items mid.outcomes → IsLegal new.items new.outcomes
+      → asked client old.items ≡ planned client old.items → Plans old client body mid seq → IsAskedNext mid client new
       → Means client (shown telling old) (λ k. HasSubmitted k body seq) (shown telling new)
   submit_means law seq legal_mid legal all p a =
       let n = a.seq in
       let on = asks_on telling law mid new client (asks.Asked n) legal_mid a.as_next in
-      let planned_items : mid.items ≡ old.items ++ plan_of client seq body ∷ [] = ap (λ (l : LaneState L). l.items) p.entry in
-      let n_is : n ≡ seq = on.0 ∙ (ap (asked client) planned_items ∙ (asked_same client seq body old.items ∙ (all ∙ sym p.number))) in
+      let planned_items : mid.items ≡ old.items ++ plan_of client seq body ∷ [] = ap
+      (λ (l : LaneState L). l.items) p.entry in
+      let n_is : n ≡ seq = on.0 ∙ (ap (asked client) planned_items
+      ∙ (asked_same client seq body old.items ∙ (all ∙ sym p.number))) in
       let g = on.2 in
-      let items : new.items ≡ old.items ++ plan_of client seq body ∷ ask_of client seq g ∷ [] = on.3 ∙ ((λ i. planned_items i ++ ask_of client (n_is i) g ∷ []) ∙ append_assoc old.items (plan_of client seq body ∷ []) (ask_of client seq g ∷ [])) in
-      let same_head : head telling new ≡ head telling old = ask_head telling mid new client (asks.Asked n) a.as_next ∙ ap (head telling) p.entry in
+      let items : new.items ≡ old.items ++ plan_of client seq body ∷ ask_of client seq g ∷ [] = on.3
+      ∙ ((λ i. planned_items i ++ ask_of client (n_is i) g ∷ [])
+      ∙ append_assoc old.items (plan_of client seq body ∷ []) (ask_of client seq g ∷ [])) in
+      let same_head : head telling new ≡ head telling old = ask_head telling mid new client (asks.Asked n) a.as_next
+      ∙ ap (head telling) p.entry in
       let s = shown_of telling old new own legal same_head in record {
         added = plan_of client seq body ∷ ask_of client seq g ∷ [];
-        grew = grew client (shown telling old) (shown telling new) s (plan_of client seq body ∷ ask_of client seq g ∷ []) items (refl, (refl, tt));
+        grew = grew client (shown telling old) (shown telling new) s
+            (plan_of client seq body ∷ ask_of client seq g ∷ []) items (refl, (refl, tt));
         to_finder = λ k told number. record {
           next = p.number ∙ sym (planned_is client (shown telling old) (shown telling new) s k told number);
           can = p.can;
@@ -66,14 +84,16 @@ module _ {L : Type 0} (telling : L → Option Telling) (old mid new : LaneState 
       }
 
   -- refused by the lane
-  refused_as : (k : Knowledge) (why : PlanRefusal) (lane : Rattle.hub_multiplexer.specs.Calls.FoundLane) → IsRefused lane.items (payload_of lane.head.mtu) body why → SubmitRefused k body why lane []
+  refused_as : (k : Knowledge) (why : PlanRefusal) (lane : Rattle.hub_multiplexer.specs.Calls.FoundLane)
+      → IsRefused lane.items (payload_of lane.head.mtu) body why → SubmitRefused k body why lane []
   refused_as k refusals.Sealed lane r = (refl, r)
   refused_as k refusals.TooLong lane r = (refl, r)
   refused_as k refusals.ReplyTooLong lane r = (refl, r)
   refused_as k refusals.Overfull lane r = (refl, r)
   refused_as k refusals.NoMemory lane r = inl refl
 
-  pub refused_means : (why : PlanRefusal) → IsLegal new.items new.outcomes → new ≡ old → IsRefused old.items (payload_of old.status.mtu) body why
+  pub refused_means : (why : PlanRefusal) → IsLegal new.items new.outcomes → new ≡ old
+      → IsRefused old.items (payload_of old.status.mtu) body why
       → Means client (shown telling old) (λ k. SubmitRefused k body why) (shown telling new)
   refused_means why legal e r =
       let s = shown_of telling old new own legal (ap (head telling) e) in record {
@@ -88,12 +108,16 @@ module _ {L : Type 0} (telling : L → Option Telling) (old mid new : LaneState 
   planned_means seq legal p e =
       let s = shown_of telling old new own legal (ap (head telling) (e ∙ p.entry)) in record {
         added = plan_of client seq body ∷ [];
-        grew = grew client (shown telling old) (shown telling new) s (plan_of client seq body ∷ []) (ap (λ (l : LaneState L). l.items) (e ∙ p.entry)) (refl, tt);
-        to_finder = λ k told number. inr (λ i. plan_of (sym number i) ((p.number ∙ sym (planned_is client (shown telling old) (shown telling new) s k told number)) i) body ∷ []);
+        grew = grew client (shown telling old) (shown telling new) s (plan_of client seq body ∷ [])
+            (ap (λ (l : LaneState L). l.items) (e ∙ p.entry)) (refl, tt);
+        to_finder = λ k told number. inr (λ i. plan_of (sym number i)
+            ((p.number ∙ sym (planned_is client (shown telling old) (shown telling new) s k told number)) i) body ∷ []);
       }
 
 -- what a pass knows of its client holds of the record that it finds
-pub all_asked_there : (client : ℕ) (k : Knowledge) (items : List Item) → k.number ≡ client → own_items k ≡ of_client k.number items → asked_by k ≡ planned_by k → asked client items ≡ planned client items
+pub all_asked_there : (client : ℕ) (k : Knowledge) (items : List Item) → k.number ≡ client
+    → own_items k ≡ of_client k.number items → asked_by k ≡ planned_by k → asked client items ≡ planned client items
 all_asked_there client k items number own all =
     let mine : own_items k ≡ of_client client items = own ∙ ap (λ n. of_client n items) number in
-    sym (asked_own client items) ∙ ((λ i. asked (sym number i) (sym mine i)) ∙ (all ∙ ((λ i. planned (number i) (mine i)) ∙ planned_own client items)))
+    sym (asked_own client items) ∙ ((λ i. asked (sym number i) (sym mine i))
+    ∙ (all ∙ ((λ i. planned (number i) (mine i)) ∙ planned_own client items)))

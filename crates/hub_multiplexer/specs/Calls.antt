@@ -6,6 +6,7 @@ use Rattle.lane_record.specs.declared.item.Item.{Item}
 use Rattle.lane_record.specs.Coding.{Head, record_of, recorded}
 use Rattle.lane_record.specs.Legal.{IsLegal}
 use Rattle.lane_record.specs.NextEntry.{ask_of, plan_of, took_of}
+use Rattle.lane_record.specs.Outcomes.{IsShort}
 use Rattle.ipb_base.specs.Numbers.{payload_of}
 use Rattle.hub_lane.specs.Plans.{CanPlan, IsRefused}
 use Rattle.hub_lane.specs.declared.answers.PlanRefusal.{PlanRefusal}
@@ -80,10 +81,11 @@ AskTried k ask_tries.Nothing after = Made k (AskMeans k asks.Nothing) after
 
 -- ---- step
 
--- what became of the client's oldest asked and untaken body was taken
+-- what became of the client's oldest asked and untaken body was taken; the words of a reply fit a packet
 pub record HasTaken (k : Knowledge) (outcome : Outcome) (added : List Item) : Type 0 where
   pub seq : ℕ
   pub oldest : IsOldestOf k seq
+  pub short : IsShort outcome
   pub give_ups : ℕ
   pub entry : added ≡ took_of k.number seq outcome give_ups ∷ []
 

@@ -6,6 +6,7 @@ use Rattle.turn_pass.specs.Pass.{Knowledge, Told}
 use Rattle.lane_record.specs.declared.item.Item.{Item}
 use Rattle.lane_record.specs.Items.{asked, planned}
 use Rattle.lane_record.specs.NextEntry.{ask_of, took_of}
+use Rattle.lane_record.specs.Outcomes.{IsShort}
 use Rattle.lane_record.specs.Coding.{record_of}
 use Rattle.lane_record.specs.Legal.{IsLegal}
 use Rattle.hub_lane.specs.Calls.{AsksAs}
@@ -31,7 +32,7 @@ AsksOn items client asks.Nothing after = (asked client items ≡ planned client 
 
 -- a Took of the client's oldest asked and untaken body is added, or nothing became of it yet, or there is none
 abbrev pub StepsOn : List Item → ℕ → Stepped → List Item → Type 0
-StepsOn items client (steps.Ready outcome) after = (seq : ℕ) × IsOldest items client seq
+StepsOn items client (steps.Ready outcome) after = (seq : ℕ) × IsOldest items client seq × IsShort outcome
     × (give_ups : ℕ) × (after ≡ items ++ took_of client seq outcome give_ups ∷ [])
 StepsOn items client (steps.NotYet turned) after = ((seq : ℕ) × IsOldest items client seq) × (after ≡ items)
 StepsOn items client steps.Nothing after = HasTakenAll items client × (after ≡ items)

@@ -7,14 +7,15 @@ ghost use Rattle.hub_multiplexer.specs.Calls.{StepMeans, StepTried, SubmitRefuse
 ghost use Rattle.hub_multiplexer.specs.OwnItems.{asked_by, planned_by};
 
 use crate::answers::{AskTry, Performed, StepTry};
-use crate::own::{ask_on, step_on, submit_on, tells_its_own};
+use crate::boxed::Boxed;
+use crate::boxed_lane::{ask_on, step_on, submit_on, tells_its_own};
 use hub_lane::{Asked, Lane, Link, NoMemory, PlanRefusal, Stepped, Words};
 use std::sync::Wait;
 use turn_pass::{Pass, Turn};
 
 /// Asks the client's next planned body, by one exchange.
 pub(crate) fn try_ask<L: Link + Send>(
-    turn: &Turn<Lane<L>>,
+    turn: &Turn<Boxed<Lane<L>>>,
     pass: &mut Pass,
     client: u32,
 ) -> Result<AskTry, NoMemory>
@@ -36,7 +37,7 @@ pub(crate) fn try_ask<L: Link + Send>(
 
 /// Pumps the lane once at most, and takes what became of the client's oldest asked and untaken body, by one exchange.
 pub(crate) fn try_step<L: Link + Send>(
-    turn: &Turn<Lane<L>>,
+    turn: &Turn<Boxed<Lane<L>>>,
     pass: &mut Pass,
     client: u32,
 ) -> Result<StepTry, NoMemory>
@@ -59,7 +60,7 @@ pub(crate) fn try_step<L: Link + Send>(
 /// Asks the client's next planned body. It waits for the lane.
 pub(crate) fn ask<L: Link + Send, R: Wait>(
     rt: &R,
-    turn: &Turn<Lane<L>>,
+    turn: &Turn<Boxed<Lane<L>>>,
     pass: &mut Pass,
     client: u32,
 ) -> Result<Asked, NoMemory>
@@ -81,7 +82,7 @@ pub(crate) fn ask<L: Link + Send, R: Wait>(
 /// lane.
 fn step<L: Link + Send, R: Wait>(
     rt: &R,
-    turn: &Turn<Lane<L>>,
+    turn: &Turn<Boxed<Lane<L>>>,
     pass: &mut Pass,
     client: u32,
 ) -> Result<Stepped, NoMemory>
@@ -104,7 +105,7 @@ fn step<L: Link + Send, R: Wait>(
 /// for the board.
 pub(crate) fn perform<L: Link + Send, R: Wait>(
     rt: &R,
-    turn: &Turn<Lane<L>>,
+    turn: &Turn<Boxed<Lane<L>>>,
     pass: &mut Pass,
     client: u32,
 ) -> Result<Performed, NoMemory>
@@ -130,7 +131,7 @@ pub(crate) fn perform<L: Link + Send, R: Wait>(
 /// Plans a body of the client, and asks it. It waits for the lane.
 pub(crate) fn submit<L: Link + Send, R: Wait>(
     rt: &R,
-    turn: &Turn<Lane<L>>,
+    turn: &Turn<Boxed<Lane<L>>>,
     pass: &mut Pass,
     client: u32,
     body: Words,

@@ -11,6 +11,7 @@ ghost use Rattle.hub_multiplexer.specs.Lanes.{shown};
 ghost use Rattle.hub_multiplexer.specs.Seats.{ChangesAt, IsMasterOf, IsSeatOf};
 
 use crate::answers::{AskTry, Performed, StepTry};
+use crate::boxed::Boxed;
 use crate::calls;
 use crate::master::Master;
 use crate::room::{Room, room_for};
@@ -26,7 +27,7 @@ use turn_pass::Turn;
 /// with a seat of its own.
 #[derive(Drop)]
 pub struct Hub<L: Link> {
-    pub(crate) turns: Vec<Turn<Lane<L>>>,
+    pub(crate) turns: Vec<Turn<Boxed<Lane<L>>>>,
     pub(crate) room: Turn<Room<Lane<L>>>,
 }
 
@@ -154,9 +155,9 @@ impl<L: Link + Send> Hub<L> {
     }
 
     /// Plans a body on a board for the seat's client, and asks it, and answers its number among the client's bodies,
-    /// from 0. `reply_words` is the words of the longest reply to it. It waits for the lane. Every body that was planned
-    /// for the client on that board was asked before. A refusal is that of `Lane::plan` on the record found, and adds
-    /// nothing; after want of memory the body may stand planned and not asked.
+    /// from 0. `reply_words` is the words of the longest reply to it. It waits for the lane. Every body that was
+    /// planned for the client on that board was asked before. A refusal is that of `Lane::plan` on the record found,
+    /// and adds nothing; after want of memory the body may stand planned and not asked.
     #[tactic(auto, using(crate::proofs::Boards::idle_at))]
     pub fn submit<R: Wait>(
         &self,

@@ -2,6 +2,8 @@
 #![tactic(auto)]
 
 mod answers;
+mod boxed;
+mod boxed_lane;
 mod calls;
 mod hub;
 pub mod laws;

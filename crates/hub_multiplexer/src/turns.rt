@@ -7,6 +7,7 @@ ghost use Rattle.hub_multiplexer.specs.Ends.{AreEnded, IsLast};
 ghost use Rattle.hub_multiplexer.specs.Openings.{AreFresh, AreOpened, IsOpening, openings_of};
 ghost use Rattle.hub_multiplexer.specs.Seats.{knows_of, turns_of};
 
+use crate::boxed::{Boxed, close_turn, open_turn, take_back};
 use ipb_base::NoMemory;
 use std::alloc::Global;
 use std::sync::Wait;
@@ -17,14 +18,14 @@ use turn_pass::{Chronicle, NotMade, Pass, Turn};
 pub(crate) fn open_all<V: Chronicle + Send + Drop>(
     alloc: Global,
     values: &mut Vec<V>,
-) -> Result<(Vec<Turn<V>>, Vec<Pass>), NoMemory>
+) -> Result<(Vec<Turn<Boxed<V>>>, Vec<Pass>), NoMemory>
     ensures opened { IfOk result (λ opened. AreOpened (map V.entries values.old.items) opened.0.items opened.1.items) }
     ensures back { OnErr result (map V.entries values.new.items ≡ map V.entries values.old.items) }
 {
     let mut turns = Vec::with_capacity(alloc, values.len())?;
     let mut passes = Vec::with_capacity(alloc, values.len())?;
     let Ok(()) = open_from_last(alloc, values, &mut turns, &mut passes) else {
-        take_back(values, turns, passes);
+        take_all_back(values, turns, passes);
         return Err(NoMemory);
     };
     turns.reverse();
@@ -36,7 +37,7 @@ pub(crate) fn open_all<V: Chronicle + Send + Drop>(
 fn open_from_last<V: Chronicle + Send + Drop>(
     alloc: Global,
     values: &mut Vec<V>,
-    turns: &mut Vec<Turn<V>>,
+    turns: &mut Vec<Turn<Boxed<V>>>,
     passes: &mut Vec<Pass>,
 ) -> Result<(), NoMemory>
     requires empty { (turns.old.items ≡ []) × (passes.old.items ≡ []) }
@@ -48,7 +49,7 @@ fn open_from_last<V: Chronicle + Send + Drop>(
     ensures room { vec_len values.new + vec_len turns.new ≤ vec_capacity values.new }
 {
     while let Some(value) = values.pop() {
-        match Turn::new(alloc, value) {
+        match open_turn(alloc, value) {
             Ok((turn, pass)) => {
                 turns.push_reserved(turn);
                 passes.push_reserved(pass);
@@ -63,9 +64,9 @@ fn open_from_last<V: Chronicle + Send + Drop>(
 }
 
 /// Takes the values of turns back, from the turn that was made last on. Nobody else has a pass, so none waits.
-fn take_back<V: Chronicle + Send + Drop>(
+fn take_all_back<V: Chronicle + Send + Drop>(
     values: &mut Vec<V>,
-    mut turns: Vec<Turn<V>>,
+    mut turns: Vec<Turn<Boxed<V>>>,
     mut passes: Vec<Pass>,
 )
     requires room { vec_len values.old + vec_len turns ≤ vec_capacity values.old }
@@ -73,7 +74,7 @@ fn take_back<V: Chronicle + Send + Drop>(
     ensures { map V.entries values.new.items ≡ map V.entries values.old.items ++ reverse (openings_of passes.items) }
 {
     while let (Some(turn), Some(mut pass)) = (turns.pop(), passes.pop()) {
-        let Some(value) = turn.try_take(&mut pass) else {
+        let Some(value) = take_back(&turn, &mut pass) else {
             unreachable!();
         };
         values.push_reserved(value);
@@ -83,7 +84,7 @@ fn take_back<V: Chronicle + Send + Drop>(
 /// Takes the values of turns for good, in order.
 pub(crate) fn close_all<V: Chronicle + Send + Drop, R: Wait>(
     rt: &R,
-    mut turns: Vec<Turn<V>>,
+    mut turns: Vec<Turn<Boxed<V>>>,
     mut passes: Vec<Pass>,
     values: &mut Vec<V>,
 )
@@ -96,6 +97,6 @@ pub(crate) fn close_all<V: Chronicle + Send + Drop, R: Wait>(
     while !turns.is_empty() {
         let turn = turns.remove(0);
         let pass = passes.remove(0);
-        values.push_reserved(turn.close(rt, pass));
+        values.push_reserved(close_turn(rt, turn, pass));
     }
 }

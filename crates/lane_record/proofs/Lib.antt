@@ -7,7 +7,9 @@ pub mod Finished
 pub mod Offers
 pub mod Events
 pub mod Hearing
+pub mod EachOutcome
 pub mod Rounds
+pub mod Lengths
 pub mod Sends
 pub mod Kept
 pub mod Coding

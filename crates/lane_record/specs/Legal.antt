@@ -34,7 +34,7 @@ NotBehindSeal front (Took outcome give_ups) = Unit {0}
 abbrev pub IsUnsealed : List Item → Item → Type 0
 IsUnsealed front x = NotBehindSeal front x.what
 
--- Each client's Plans have the numbers 0, 1, 2, ..; at most one Seal stands there, and no Plan behind it.
+-- Plans are numbered from 0, client by client. Planning may be closed by a Seal, once, and then it is over.
 pub record PlansCount (items : List Item) : Type 0 where
   pub count : (client : ℕ) → CountsFrom 0 (numbers plan_in client items)
   pub unsealed : Throughout IsUnsealed items
@@ -97,8 +97,8 @@ IsLateEnough front x (Took outcome give_ups) = is_given_up outcome ≡ true → 
 abbrev pub IsLate : List Item → Item → Type 0
 IsLate front x = IsLateEnough front x x.what
 
--- The numbers of give-ups never fall from entry to entry. Where a client took that the hub gave its body up, the
--- number is greater than that of the Ask.
+-- A later entry tells no fewer give-ups than an earlier one. The Took of a body that was given up tells more of them
+-- than the Ask of that body.
 pub record GiveUpsRise (items : List Item) : Type 0 where
   pub rise : NeverFalls 0 (give_ups items)
   pub later : Throughout IsLate items

@@ -8,5 +8,6 @@ pub mod Bounds
 pub mod Offers
 pub mod NextEntry
 pub mod Dispatches
+pub mod Submissions
 pub mod Coding
 pub mod Examples

@@ -1,5 +1,7 @@
 -- What an outcome tells of its body. Profile.
-use Rattle.std.specs.Prelude.{◌≡◌, ℕ, Bool, true, false, Option, Some, None, is_some}
+use Rattle.std.specs.Prelude.{◌≡◌, ℕ, ◌≤◌, Bool, true, false, List, length, Option, Some, None, IfSome, is_some}
+use Rattle.std.specs.List.{AllByRecursion}
+use Rattle.packet_codec.specs.declared.packet.TheConstants.{MAX_BODY_WORDS}
 use Rattle.lane_record.specs.declared.outcome.Outcome.{Outcome}
 use Rattle.lane_record.specs.declared.outcome.Outcome.TheVariants.{Replied, TimedOut, Unsent, LinkLost}
 
@@ -41,6 +43,17 @@ TellsRounds rounds (Replied place words) = Unit {0}
 TellsRounds rounds (TimedOut place told) = told ≡ rounds
 TellsRounds rounds Unsent = Unit {0}
 TellsRounds rounds (LinkLost place) = Unit {0}
+
+-- The words of a reply are no more than a packet has behind its header.
+abbrev pub IsShort : Outcome → Type 0
+IsShort (Replied place words) = length words ≤ MAX_BODY_WORDS
+IsShort (TimedOut place rounds) = Unit {0}
+IsShort Unsent = Unit {0}
+IsShort (LinkLost place) = Unit {0}
+
+-- the same of all that became of some bodies
+abbrev pub AreShort : List (Option Outcome) → Type 0
+AreShort outcomes = AllByRecursion (λ (o : Option Outcome). IfSome o IsShort) outcomes
 
 -- whether the body was sent
 abbrev pub is_sent : Outcome → Bool

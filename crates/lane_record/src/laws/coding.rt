@@ -20,7 +20,8 @@ pub fn a_head_is_spelled_by_numbers()
     ensures { (head other : Head) → head_numbers head ≡ head_numbers other → head ≡ other }
 {}
 
-/// One record begins another exactly where the heads are equal and its entries with their contents begin the other's.
+/// Of two records one begins the other if they have the same head and its entries, contents included, are the first
+/// ones of the other. Nothing else begins a record.
 pub fn one_record_begins_another()
     ensures begins { (old new : Head) (before after : List Item) → new ≡ old → IsPrefix before after
         → Begins (record_of old before) (record_of new after) }

@@ -7,8 +7,8 @@ use Rattle.hub_lane.proofs.Linked.{sent_on, sent_board, still_spelled}
 use Rattle.hub_lane.proofs.Rounds.{pays_sent}
 use Rattle.hub_lane.proofs.exchange.send_all.Goals as goal
 
-pub returns-in_err-bytes-clause-some : goal.returns-in_err-bytes-clause-some
-returns-in_err-bytes-clause-some g c =
+pub returns-in_err-write_send-clause-some : goal.returns-in_err-write_send-clause-some
+returns-in_err-write_send-clause-some g c =
     sent_more c.args.hub.now c.loop-send.hub c.next_send.new.self c.next_send.ensures.hub c.loop-send.invariant.some
 
 pub returns-in_err-send-clause-some : goal.returns-in_err-send-clause-some
@@ -26,7 +26,7 @@ loop-send-preserved g c =
     let telling = g.L.Link.telling in
     let held = g.L.Link.held in
     let call = subst (λ (bytes : List ℕ). IfTelling (telling before.link) (telling c.send.new.self)
-    (IsSent bytes (held before.link) (held c.send.new.self))) (c.deref.ensures.value ∙ c.in_ok-bytes.ensures.bytes)
+    (IsSent bytes (held before.link) (held c.send.new.self))) (c.deref.ensures.value ∙ c.in_ok-write_send.ensures.bytes)
     c.in_ok-send.ensures.sent in
     let spelled = still_spelled c.only_an_offer_makes_more_bodies.ensures.sent old new c.next_send.ensures.hub
     before.invariant.sent before.invariant.queue in

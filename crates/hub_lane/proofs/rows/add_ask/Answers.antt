@@ -1,7 +1,7 @@
-use Rattle.std.proofs.Common.{◌≡◌, ◌∙◌, ◌+◌, sym, ap, arith, subst, Some, None, set, ◌<◌, length}
+use Rattle.std.proofs.Common.{◌≡◌, ◌∙◌, sym, ap, arith, subst, Some, None, set, ◌<◌, length}
 use Rattle.std.proofs.lemmas.Option.{slice_get-get_or}
-use Rattle.hub_lane.specs.Books.{Row, row_at}
-use Rattle.hub_lane.proofs.ClientRows.{ask_changed, found_at, no_row, none_of, set_changed}
+use Rattle.hub_lane.specs.Books.{Row, after_ask, row_at}
+use Rattle.hub_lane.proofs.ClientRows.{found_at, no_row, none_of, set_changed}
 use Rattle.hub_lane.proofs.rows.add_ask.Goals as goal
 
 pub index_mut-row-requires : goal.index_mut-row-requires
@@ -23,7 +23,7 @@ add_ask-requires c =
     ∙ found.there in
     let mine : Some found.row ≡ Some c.requires.row = sym found.mine ∙ c.requires.there in
     let same : c.requires.row ≡ row = cc in
-    subst (λ (r : Row). r.asked < length r.plans) same c.requires.left
+    subst (λ (r : Row). r.asked < length r.bodies) same c.requires.left
 
 pub returns-in-Some : goal.returns-in-Some
 returns-in-Some c =
@@ -31,12 +31,11 @@ returns-in-Some c =
     let at = c.in-Some.at in
     let is = sym (c.row_at.ensures ∙ ap (row_at c.args.client) c.deref.ensures.value) ∙ c.in-Some.is in
     let found = found_at c.args.client rows at is in
-    let change = λ (r : Row). record r { asked = r.asked + 1 } in
+    let change = after_ask c.args.number in
     let row = c.index_mut-row.result.now in
     ap (set rows at) c.add_ask.ensures
-    ∙ (set_changed c.args.client change rows at is row
+    ∙ set_changed c.args.client change rows at is row
     (slice_get-get_or rows at row found.within ∙ ap (λ (r : Row). Some r) (sym c.index_mut-row.ensures.value))
-    ∙ sym (ask_changed c.args.client rows at is))
 
 pub returns-in_default : goal.returns-in_default
 returns-in_default c =

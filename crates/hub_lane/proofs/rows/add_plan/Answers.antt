@@ -1,6 +1,6 @@
 use Rattle.std.proofs.Common.{◌≡◌, ◌∙◌, ◌++◌, ◌∷◌, [], sym, ap, arith, Some, set}
 use Rattle.std.proofs.lemmas.Option.{slice_get-get_or}
-use Rattle.hub_lane.specs.Books.{Row, row_at}
+use Rattle.hub_lane.specs.Books.{Row, after_plan, row_at}
 use Rattle.hub_lane.proofs.ClientRows.{first_plan, found_at, on_ok, plan_changed, set_changed}
 use Rattle.hub_lane.proofs.rows.add_plan.Goals as goal
 
@@ -17,7 +17,7 @@ returns-in-Some-clause-ok c =
     let at = c.in-Some.at in
     let is = sym (c.row_at.ensures ∙ ap (row_at c.args.client) c.deref.ensures.value) ∙ c.in-Some.is in
     let found = found_at c.args.client rows at is in
-    let change = λ (r : Row). record r { plans = r.plans ++ c.args.place ∷ [] } in
+    let change = after_plan c.args.place in
     let row = c.index_mut-row.result.now in
     let there : Some row ≡ Some found.row =
     sym (slice_get-get_or rows at row found.within ∙ ap (λ (r : Row). Some r) (sym c.index_mut-row.ensures.value))

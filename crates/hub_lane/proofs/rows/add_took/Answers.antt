@@ -1,7 +1,7 @@
 use Rattle.std.proofs.Common.{◌≡◌, ◌∙◌, sym, ap, arith, subst, Some, None, set, ◌<◌}
 use Rattle.std.proofs.lemmas.Option.{slice_get-get_or}
 use Rattle.hub_lane.specs.Books.{Row, after_took, row_at}
-use Rattle.hub_lane.proofs.ClientRows.{found_at, no_row, none_of, set_changed, took_changed}
+use Rattle.hub_lane.proofs.ClientRows.{found_at, no_row, none_of, set_changed}
 use Rattle.hub_lane.proofs.rows.add_took.Goals as goal
 
 pub index_mut-row-requires : goal.index_mut-row-requires
@@ -33,9 +33,8 @@ returns-in-Some c =
     let found = found_at c.args.client rows at is in
     let row = c.index_mut-row.result.now in
     ap (set rows at) c.add_took.ensures
-    ∙ (set_changed c.args.client (after_took c.args.seq) rows at is row
+    ∙ set_changed c.args.client (after_took c.args.seq) rows at is row
     (slice_get-get_or rows at row found.within ∙ ap (λ (r : Row). Some r) (sym c.index_mut-row.ensures.value))
-    ∙ sym (took_changed c.args.client c.args.seq rows at is))
 
 pub returns-in_default : goal.returns-in_default
 returns-in_default c =

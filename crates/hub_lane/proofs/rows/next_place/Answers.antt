@@ -1,7 +1,6 @@
 use Rattle.std.proofs.Common.{◌≡◌, ◌∙◌, sym, ap, arith, Some}
 use Rattle.std.proofs.lemmas.Option.{slice_get-get_or}
-use Rattle.std.specs.List.{slice_get}
-use Rattle.hub_lane.specs.Books.{Row, next_of, row_at}
+use Rattle.hub_lane.specs.Books.{Row, next_in, next_of, row_at}
 use Rattle.hub_lane.proofs.ClientRows.{found_at, no_row}
 use Rattle.hub_lane.proofs.rows.next_place.Goals as goal
 
@@ -22,7 +21,7 @@ returns-in-Some c =
     sym (slice_get-get_or rows c.in-Some.at row found.within ∙ ap (λ (r : Row). Some r) (sym c.index.ensures))
     ∙ found.there in
     let same : row ≡ found.row = cc in
-    c.next.ensures ∙ (ap (λ (r : Row). slice_get r.plans r.asked) same ∙ sym (ap next_of found.mine))
+    c.next.ensures ∙ (ap (λ (r : Row). next_in r) same ∙ sym (ap next_of found.mine))
 
 pub returns-in-None : goal.returns-in-None
 returns-in-None c = sym (ap next_of (no_row c.args.client c.args.rows.now.items

@@ -5,13 +5,18 @@ use Rattle.hub_multiplexer.proofs.calls.try_step.Goals as goal
 pub returns-clause-tried : goal.returns-clause-tried
 returns-clause-tried g c =
     let taken = c.in-Some.ensures in
-    c.of.ensures _ _ (at_once c.args.client c.args.pass.now c.try_take.new.pass c.give.new.pass _ _ (λ k. StepMeans k c.in_ok-stepped.field-0) c.in_ok-stepped.ensures.stepped c.requires.idle.1 taken.told taken.taken c.give.ensures)
+    c.of.ensures _ _ (at_once c.args.client c.args.pass.now c.try_take.new.pass c.give.new.pass _ _
+    (λ k. StepMeans k c.in_ok-stepped.field-0) c.in_ok-stepped.ensures.stepped c.requires.idle.1 taken.told
+    taken.taken c.give.ensures)
 
 pub returns-in_err-stepped-clause-looked : goal.returns-in_err-stepped-clause-looked
 returns-in_err-stepped-clause-looked g c =
     let taken = c.in-Some.ensures in
-    on_err_holds c.from_residual.result (at_once c.args.client c.args.pass.now c.try_take.new.pass c.give.new.pass _ _ (λ _. IsNone) c.in_err-stepped.ensures.looked c.requires.idle.1 taken.told taken.taken c.give.ensures)
+    on_err_holds c.from_residual.result (at_once c.args.client c.args.pass.now c.try_take.new.pass c.give.new.pass _ _
+    (λ _. IsNone) c.in_err-stepped.ensures.looked c.requires.idle.1 taken.told taken.taken c.give.ensures)
 
 pub give-requires-clause-grows : goal.give-requires-clause-grows
 give-requires-clause-grows g c κs within =
-    may_give_back c.args.client c.args.pass.now c.try_take.new.pass _ _ c.args.pass.now.knows.vain (λ answer k. StepMeans k answer) (λ _. IsNone) c.step_on-stepped.result c.in-Some.ensures.taken c.requires.idle.1 c.step_on-stepped.ensures.stepped c.step_on-stepped.ensures.looked
+    may_give_back c.args.client c.args.pass.now c.try_take.new.pass _ _ c.args.pass.now.knows.vain
+    (λ answer k. StepMeans k answer) (λ _. IsNone) c.step_on-stepped.result c.in-Some.ensures.taken
+    c.requires.idle.1 c.step_on-stepped.ensures.stepped c.step_on-stepped.ensures.looked

@@ -4,7 +4,11 @@ use Rattle.hub_multiplexer.proofs.passes.join_all.Goals as goal
 
 pub loop-other-preserved : goal.loop-other-preserved
 loop-other-preserved g c =
-    let long = same_length c.args.firsts.now.items c.args.others.items (c.requires.turns ∙ sym c.requires.other_turns) in
-    let inside = board_inside c.args.firsts.now.items c.args.others.items c.loop-other.others.items c.pop.new.self.items c.in-Some.other c.in-Some.ensures.items c.loop-other.invariant.0 long in
-    board_joined c.args.firsts.now.items c.args.others.items c.loop-other.others.items c.loop-other.firsts.items c.pop.new.self.items c.len-board.result c.index_mut.result.now c.in-Some.other c.join.new.pass
-    c.in-Some.ensures.items c.loop-other.invariant.0 c.loop-other.invariant.1 inside (c.len-board.ensures ∙ search rules) c.index_mut.ensures.value c.join.ensures
+    let long = same_length c.args.firsts.now.items c.args.others.items
+    (c.requires.turns ∙ sym c.requires.other_turns) in
+    let inside = board_inside c.args.firsts.now.items c.args.others.items c.loop-other.others.items c.pop.new.self.items
+    c.in-Some.other c.in-Some.ensures.items c.loop-other.invariant.0 long in
+    board_joined c.args.firsts.now.items c.args.others.items c.loop-other.others.items c.loop-other.firsts.items
+    c.pop.new.self.items c.len-board.result c.index_mut.result.now c.in-Some.other c.join.new.pass
+    c.in-Some.ensures.items c.loop-other.invariant.0 c.loop-other.invariant.1 inside
+    (c.len-board.ensures ∙ search rules) c.index_mut.ensures.value c.join.ensures

@@ -11,7 +11,8 @@ invariant-loop-turns g l =
     (turns_of l.passes.items ≡ l.turns.items)
     × AllByRecursion IsLast l.passes.items
     × (vec_len l.values + vec_len l.turns ≤ vec_capacity l.values)
-    × ((done : List Knowledge) × (knows_of l.fn.passes.items ≡ done ++ knows_of l.passes.items) × AreEnded done (map g.V.Chronicle.entries l.values.items))
+    × ((done : List Knowledge) × (knows_of l.fn.passes.items ≡ done ++ knows_of l.passes.items) × AreEnded done
+    (map g.V.Chronicle.entries l.values.items))
 
 abbrev pub decreases-loop-turns : goal.decreases-loop-turns
 decreases-loop-turns g l = vec_len l.turns

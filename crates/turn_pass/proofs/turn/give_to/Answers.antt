@@ -21,5 +21,7 @@ swap-requires g c =
     let stored = stored_number _ _ k k.seen n c.store.ensures.2 c.requires.holds in (
       c.exchange.ensures.0 ∙ (c.store.ensures.0 ∙ c.requires.table.0),
       omega (arith, c.requires.table.1),
-      gives_back g.V.Chronicle.entries _ _ _ _ (step 0 0 0 0 none) k n c.args.value (exchanged_slot _ _ (view_at (Stores k.seen n) k) None (Some c.args.value) c.exchange.ensures.3 stored) c.requires.grows c.count-count.ensures,
+      gives_back g.V.Chronicle.entries _ _ _ _ (step 0 0 0 0 none) k n c.args.value
+          (exchanged_slot _ _ (view_at (Stores k.seen n) k) None (Some c.args.value) c.exchange.ensures.3 stored)
+          c.requires.grows c.count-count.ensures,
     )

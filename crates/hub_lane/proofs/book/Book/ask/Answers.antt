@@ -1,13 +1,23 @@
-use Rattle.std.proofs.Common.{◌≡◌, ◌≤◌, sym, subst, arith, ap, ◌∙◌}
+use Rattle.std.proofs.Common.{◌≡◌, ◌≤◌, ◌∷◌, [], List, length, length-append, sym, subst, arith, ap, ◌∙◌}
+use Rattle.lane_record.specs.declared.item.Item.{Item}
+use Rattle.lane_record.specs.NextEntry.{ask_of}
 use Rattle.lane_record.specs.Items.{asked}
 use Rattle.hub_lane.specs.Books.{BookState, HasMorePlans, room_of}
-use Rattle.hub_lane.proofs.Books.{book_asked, has_next}
+use Rattle.hub_lane.proofs.Books.{asks_few, book_asked, has_next}
 use Rattle.hub_lane.proofs.book.Book.ask.Goals as goal
 
 pub add_ask-requires : goal.add_ask-requires
 add_ask-requires c = has_next c.self.inside.items.items c.self.inside.rows.items c.args.client
     c.self.invariant.plans_count c.self.invariant.rows_are
     (subst (λ (v : BookState). HasMorePlans c.args.client v.items) (sym c.self.view_is) c.requires.next)
+
+pub overflow_add-self : goal.overflow_add-self
+overflow_add-self c =
+    let items = c.self.inside.items.items in
+    let few = asks_few items in
+    let longer = ap (λ (xs : List Item). length xs) c.put.ensures.items
+    ∙ length-append items (ask_of c.args.client c.asked-seq.result c.args.give_ups ∷ []) in
+    omega (arith, few, longer, c.self.invariant.asks_are, c.len-items.ensures)
 
 pub invariant_of-self : goal.invariant_of-self
 invariant_of-self c =
@@ -16,7 +26,7 @@ invariant_of-self c =
     let seq : c.asked-seq.result ≡ asked c.args.client b.items.items =
     c.asked-seq.ensures ∙ ap (λ (v : BookState). asked c.args.client v.items) (sym c.self.view_is) in
     let after = room_of c.put.new.items.cap c.put.new.items.len c.put.new.entries.cap c.put.new.entries.len
-    c.push_reserved.new.self.cap c.push_reserved.new.self.len in
+    in
     let room = ap (λ (v : BookState). v.room) c.self.view_is in
     let enough : 1 ≤ after = omega (
       arith,
@@ -26,10 +36,8 @@ invariant_of-self c =
       c.put.ensures.entries_len,
       c.put.ensures.items_capacity,
       c.put.ensures.entries_capacity,
-      c.push_reserved.ensures.len,
-      c.push_reserved.ensures.capacity,
     ) in
     book_asked b.items.items c.put.new.items.items b.entries.items c.put.new.entries.items b.rows.items
-    c.add_ask.new.rows.items b.asks.items c.push_reserved.new.self.items b.bodies b.words b.sealed _ after
+    c.add_ask.new.rows.items b.asks b.bodies b.words b.sealed _ after
     c.args.client c.asked-seq.result c.args.give_ups c.self.invariant seq more c.put.ensures.items c.put.ensures.entries
-    c.add_ask.ensures c.push_reserved.ensures.items enough
+    c.add_ask.ensures enough

@@ -16,7 +16,7 @@ invariant_of-self-2 c =
     let few = subst (λ (v : BookState). ¬ IsFull v.items (length c.args.body) (reply_room c.args.body)) view
     c.requires.few in
     let after = room_of c.put.new.items.cap c.put.new.items.len c.put.new.entries.cap c.put.new.entries.len
-    b.asks.cap b.asks.len in
+    in
     let room = ap (λ (v : BookState). v.room) c.self.view_is in
     let enough : 1 ≤ after = omega (
       arith,
@@ -28,7 +28,7 @@ invariant_of-self-2 c =
       c.put.ensures.entries_capacity,
     ) in
     book_planned b.items.items c.put.new.items.items b.entries.items c.put.new.entries.items b.rows.items
-    c.add_plan.new.rows.items b.asks.items b.bodies b.words (b.bodies + 1) (b.words + (c.len.result + c.from.result))
+    c.add_plan.new.rows.items b.asks b.bodies b.words (b.bodies + 1) (b.words + (c.len.result + c.from.result))
     b.sealed _ after c.args.client c.planned-seq.result c.len-2.result c.args.body c.self.invariant seq few
     c.put.ensures.items c.put.ensures.entries (omega (arith, c.len-2.ensures)) c.in_ok-add_plan.ensures.ok refl
     (omega (arith, c.len.ensures, c.from.ensures, c.requires.reply)) enough

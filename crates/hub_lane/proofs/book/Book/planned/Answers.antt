@@ -24,7 +24,7 @@ returns-in-Some c =
     let same : row ≡ found.row = cc in
     let tells = subst (IsRow c.self.inside.items.items c.args.client) found.mine (c.self.invariant.rows_are
     c.args.client) in
-    c.planned.ensures ∙ (ap (λ (r : Row). length r.plans) same ∙ (tells.planned_are
+    c.planned.ensures ∙ (ap (λ (r : Row). length r.bodies) same ∙ (tells.planned_are
     ∙ ap (λ (v : BookState). planned c.args.client v.items) c.self.view_is))
 
 pub returns-in-None : goal.returns-in-None

@@ -1,4 +1,4 @@
-use Rattle.std.proofs.Common.{refl, arith}
+use Rattle.std.proofs.Common.{arith}
 use Rattle.hub_lane.proofs.Books.{book_reserved}
 use Rattle.hub_lane.proofs.book.Book.reserve.Goals as goal
 
@@ -6,43 +6,24 @@ pub invariant_of-self-in_err-reserve-2 : goal.invariant_of-self-in_err-reserve-2
 invariant_of-self-in_err-reserve-2 c =
     let b = c.self.inside in
     book_reserved b.items.items c.reserve.new.self.items b.entries.items c.reserve-2.new.self.items b.rows.items
-    b.asks.items b.asks.items b.bodies b.words b.sealed _ _ c.reserve.ensures.items c.reserve-2.ensures.items refl
+    b.asks b.bodies b.words b.sealed _ _ c.reserve.ensures.items c.reserve-2.ensures.items
     (omega (
       arith,
       c.reserve.ensures.capacity,
       c.reserve.ensures.len,
       c.reserve-2.ensures.capacity,
       c.reserve-2.ensures.len,
-    )) c.self.invariant
-
-pub invariant_of-self-in_err-reserve-3 : goal.invariant_of-self-in_err-reserve-3
-invariant_of-self-in_err-reserve-3 c =
-    let b = c.self.inside in
-    book_reserved b.items.items c.reserve.new.self.items b.entries.items c.reserve-2.new.self.items b.rows.items
-    b.asks.items c.reserve-3.new.self.items b.bodies b.words b.sealed _ _ c.reserve.ensures.items
-    c.reserve-2.ensures.items c.reserve-3.ensures.items
-    (omega (
-      arith,
-      c.reserve.ensures.capacity,
-      c.reserve.ensures.len,
-      c.reserve-2.ensures.capacity,
-      c.reserve-2.ensures.len,
-      c.reserve-3.ensures.capacity,
-      c.reserve-3.ensures.len,
     )) c.self.invariant
 
 pub invariant_of-self-2 : goal.invariant_of-self-2
 invariant_of-self-2 c =
     let b = c.self.inside in
     book_reserved b.items.items c.reserve.new.self.items b.entries.items c.reserve-2.new.self.items b.rows.items
-    b.asks.items c.reserve-3.new.self.items b.bodies b.words b.sealed _ _ c.reserve.ensures.items
-    c.reserve-2.ensures.items c.reserve-3.ensures.items
+    b.asks b.bodies b.words b.sealed _ _ c.reserve.ensures.items c.reserve-2.ensures.items
     (omega (
       arith,
       c.reserve.ensures.capacity,
       c.reserve.ensures.len,
       c.reserve-2.ensures.capacity,
       c.reserve-2.ensures.len,
-      c.reserve-3.ensures.capacity,
-      c.reserve-3.ensures.len,
     )) c.self.invariant

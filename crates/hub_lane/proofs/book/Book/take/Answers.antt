@@ -18,7 +18,7 @@ invariant_of-self c =
     c.requires.asked in
     let x = took_of c.args.client c.args.seq c.args.outcome c.args.give_ups in
     let after = room_of c.put.new.items.cap c.put.new.items.len c.put.new.entries.cap c.put.new.entries.len
-    b.asks.cap b.asks.len in
+    in
     let room = ap (λ (v : BookState). v.room) c.self.view_is in
     let enough : 1 ≤ after = omega (
       arith,
@@ -29,11 +29,11 @@ invariant_of-self c =
       c.put.ensures.items_capacity,
       c.put.ensures.entries_capacity,
     ) in
-    subst (λ (items : List Item). IsBook items c.put.new.entries.items c.add_took.new.rows.items b.asks.items b.bodies
+    subst (λ (items : List Item). IsBook items c.put.new.entries.items c.add_took.new.rows.items b.asks b.bodies
     b.words b.sealed after) (sym c.put.ensures.items)
-    (subst (λ (rows : List Row). IsBook (b.items.items ++ x ∷ []) c.put.new.entries.items rows b.asks.items b.bodies
+    (subst (λ (rows : List Row). IsBook (b.items.items ++ x ∷ []) c.put.new.entries.items rows b.asks b.bodies
     b.words b.sealed after)
     (sym c.add_took.ensures)
-    (book_took b.items.items b.entries.items b.rows.items b.asks.items b.bodies b.words b.sealed _ c.self.invariant
+    (book_took b.items.items b.entries.items b.rows.items b.asks b.bodies b.words b.sealed _ c.self.invariant
     c.args.client c.args.seq c.args.outcome c.args.give_ups c.put.new.entries.items after below c.put.ensures.entries
     enough))

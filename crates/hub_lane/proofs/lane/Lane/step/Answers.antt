@@ -11,25 +11,35 @@ returns-in-Ready-clause-stepped g c = record {
   oldest = c.in-Some.ensures.some;
   pumped = c.args.self.now;
   same = same_record c.args.self.now c.args.self.now refl;
-  takes = subst (λ t. TakesAs c.args.self.now c.args.client c.in-Some.seq c.take.new.self t) c.in-Ready.is c.in_ok-outcome.ensures.taken;
+  takes = subst (λ t. TakesAs c.args.self.now c.args.client c.in-Some.seq c.take.new.self t) c.in-Ready.is
+      c.in_ok-outcome.ensures.taken;
 }
 
 pub returns-in-Ready-2-clause-stepped : goal.returns-in-Ready-2-clause-stepped
 returns-in-Ready-2-clause-stepped g c =
-    let first = subst (λ t. TakesAs c.args.self.now c.args.client c.in-Some.seq c.take.new.self t) c.in-NotYet.is c.in_ok-outcome.ensures.taken in record {
+    let first = subst (λ t. TakesAs c.args.self.now c.args.client c.in-Some.seq c.take.new.self t) c.in-NotYet.is
+    c.in_ok-outcome.ensures.taken in record {
       seq = c.in-Some.seq;
       oldest = c.in-Some.ensures.some;
       pumped = c.pump.new.self;
-      same = subst (λ (old : LaneState g.row.L.Denot). IsSameRecord old c.pump.new.self) first.same c.in_ok-pump.ensures.same;
-      takes = subst (λ t. TakesAs c.pump.new.self c.args.client c.in-Some.seq c.take-2.new.self t) c.in-Ready-2.is c.in_ok-outcome-2.ensures.taken;
+      same = subst (λ (old : LaneState g.row.L.Denot). IsSameRecord old c.pump.new.self) first.same
+          c.in_ok-pump.ensures.same;
+      takes = subst (λ t. TakesAs c.pump.new.self c.args.client c.in-Some.seq c.take-2.new.self t) c.in-Ready-2.is
+          c.in_ok-outcome-2.ensures.taken;
     }
 
 pub returns-in-NotYet-2-clause-received : goal.returns-in-NotYet-2-clause-received
 returns-in-NotYet-2-clause-received g c =
     let link = g.L.Link in
-    let first = subst (λ t. TakesAs c.args.self.now c.args.client c.in-Some.seq c.take.new.self t) c.in-NotYet.is c.in_ok-outcome.ensures.taken in
-    let last = subst (λ t. TakesAs c.pump.new.self c.args.client c.in-Some.seq c.take-2.new.self t) c.in-NotYet-2.is c.in_ok-outcome-2.ensures.taken in
+    let first = subst (λ t. TakesAs c.args.self.now c.args.client c.in-Some.seq c.take.new.self t) c.in-NotYet.is
+    c.in_ok-outcome.ensures.taken in
+    let last = subst (λ t. TakesAs c.pump.new.self c.args.client c.in-Some.seq c.take-2.new.self t) c.in-NotYet-2.is
+    c.in_ok-outcome-2.ensures.taken in
     let pumped = c.in_ok-pump.ensures in
-    let rose = pumped_in_vain c.take.new.self c.pump.new.self _ c.in_ok-pump.field-0 last.number (link.quiets c.take.new.self.link) _ (link.gots c.take.new.self.link) _ pumped.pumped c.is_sound.ensures.agrees last.none_yet pumped.quiets pumped.gots in
-    subst (λ (old : LaneState g.row.L.Denot). Rose (link.quiets old.link) (link.quiets c.take-2.new.self.link) ⊎ Rose (link.gots old.link) (link.gots c.take-2.new.self.link)) first.same
-    (subst (λ (new : LaneState g.row.L.Denot). Rose (link.quiets c.take.new.self.link) (link.quiets new.link) ⊎ Rose (link.gots c.take.new.self.link) (link.gots new.link)) (sym last.same) rose)
+    let rose = pumped_in_vain c.take.new.self c.pump.new.self _ c.in_ok-pump.field-0 last.number
+    (link.quiets c.take.new.self.link) _ (link.gots c.take.new.self.link) _ pumped.pumped c.is_sound.ensures.agrees
+    last.none_yet pumped.quiets pumped.gots in
+    subst (λ (old : LaneState g.row.L.Denot). Rose (link.quiets old.link) (link.quiets c.take-2.new.self.link)
+    ⊎ Rose (link.gots old.link) (link.gots c.take-2.new.self.link)) first.same
+    (subst (λ (new : LaneState g.row.L.Denot). Rose (link.quiets c.take.new.self.link) (link.quiets new.link)
+    ⊎ Rose (link.gots c.take.new.self.link) (link.gots new.link)) (sym last.same) rose)

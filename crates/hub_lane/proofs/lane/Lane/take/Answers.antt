@@ -1,4 +1,5 @@
-use Rattle.std.proofs.Common.{◌≡◌, ◌∙◌, ℕ, ◌<◌, List, sym, ap, subst, refl, arith, length, ◌++◌, ◌∷◌, [], Option, Some}
+use Rattle.std.proofs.Common.{◌≡◌, ◌∙◌, ◌<◌, List, sym, ap, subst, refl, arith, length, ◌++◌, ◌∷◌, [], Option, Some}
+use Rattle.std.proofs.Common.{None}
 use Rattle.std.specs.List.{slice_get}
 use Rattle.std.proofs.lemmas.Option.{slice_get-get_or}
 use Rattle.world_model.proofs.Lists.{get_within}
@@ -7,12 +8,53 @@ use Rattle.lane_record.specs.declared.item.Item.{Item}
 use Rattle.lane_record.specs.Claims.{claims}
 use Rattle.lane_record.specs.Items.{asked}
 use Rattle.lane_record.specs.NextEntry.{took_of}
-use Rattle.hub_lane.specs.Books.{IsPosition}
-use Rattle.hub_lane.specs.Calls.{Takes, WasAsked}
+use Rattle.lane_record.proofs.Lengths.{short_at}
+use Rattle.hub_lane.specs.Calls.{IsUntaken, Takes, WasAsked}
 use Rattle.hub_lane.specs.Lanes.{BoardStatus, IsLane, LaneState}
 use Rattle.hub_lane.proofs.Lanes.{lane_entry}
 use Rattle.hub_lane.proofs.Steps.{asked_below}
 use Rattle.hub_lane.proofs.lane.Lane.take.Goals as goal
+
+no_outcome : (r : Option Outcome) → ((x : Outcome) → r ≡ Some x → ⊥) → r ≡ None
+no_outcome None not_some = refl
+no_outcome (Some x) not_some = absurd (not_some x refl)
+
+pub ask_of-requires : goal.ask_of-requires
+ask_of-requires g c =
+    let was = subst (λ (v : LaneState _). WasAsked v.items c.args.client c.args.seq) (sym c.self.view_is)
+    c.requires.asked in
+    asked_below c.self.inside.book.items _ c.args.client c.args.seq c.self.invariant.0.kept.legal was
+
+pub index-requires : goal.index-requires
+index-requires g c =
+    let place = c.ask_of.ensures in
+    let within = get_within (claims c.self.inside.book.items) c.ask_of.result place.0 place.1.there in
+    let each = c.self.invariant.0.agrees.counts.each in
+    omega (arith, within, each)
+
+pub returns-in_default-clause-taken : goal.returns-in_default-clause-taken
+returns-in_default-clause-taken g c =
+    let l = c.self.inside in
+    let items = l.book.items in
+    let outcomes = l.outcomes.items in
+    let at = c.ask_of.result in
+    let was = subst (λ (v : LaneState _). WasAsked v.items c.args.client c.args.seq) (sym c.self.view_is)
+    c.requires.asked in
+    let place = c.ask_of.ensures in
+    let within : at < length outcomes = (let h = get_within (claims items) at place.0 place.1.there in
+    let e = c.self.invariant.0.agrees.counts.each in omega (arith, h, e)) in
+    let none : c.index.result.now ≡ None = no_outcome c.index.result.now c.in_default.not-Some in
+    let yet : slice_get outcomes at ≡ Some None =
+    slice_get-get_or outcomes at c.index.result.now within
+    ∙ (ap (λ (o : Option Outcome). Some o) (sym c.index.ensures) ∙ ap (λ (o : Option Outcome). Some o) none) in
+    let asked_there : IsUntaken items c.args.client c.args.seq at =
+    record { claim = place.0; ask = place.1; once = was.untaken.once } in
+    record {
+      number = at;
+      untaken = subst (λ (v : LaneState _). IsUntaken v.items c.args.client c.args.seq at) c.self.view_is asked_there;
+      none_yet = subst (λ (v : LaneState _). slice_get v.outcomes at ≡ Some None) c.self.view_is yet;
+      same = refl;
+    }
 
 pub take-requires-clause-asked : goal.take-requires-clause-asked
 take-requires-clause-asked g c =
@@ -27,19 +69,19 @@ invariant_of-self-2 g c =
     let status : BoardStatus = record { mtu = l.mtu; buffers = l.buffers; next = l.first } in
     let items = l.book.items in
     let outcomes = l.outcomes.items in
-    let at = c.in-Some.at in
+    let at = c.ask_of.result in
     let kept_is = c.in_ok-kept.kept in
     let x = took_of c.args.client c.args.seq kept_is l.give_ups in
     let was = subst (λ (v : LaneState _). WasAsked v.items c.args.client c.args.seq) (sym c.self.view_is)
     c.requires.asked in
-    let place = subst (λ (r : Option ℕ). IsPosition c.args.client c.args.seq items r) c.in-Some.is c.ask_at.ensures in
+    let place = c.ask_of.ensures in
     let within : at < length outcomes = (let h = get_within (claims items) at place.0 place.1.there in
     let e = c.self.invariant.0.agrees.counts.each in omega (arith, h, e)) in
     let there : slice_get outcomes at ≡ Some c.index.result.now =
     slice_get-get_or outcomes at c.index.result.now within ∙ ap (λ (o : Option Outcome). Some o) (sym c.index.ensures)
     in
     let became : slice_get outcomes at ≡ Some (Some kept_is) = there ∙ ap (λ (o : Option Outcome). Some o)
-    (c.in-Some-index.is ∙ ap (λ (o : Outcome). Some o) (sym c.in_ok-kept.ensures)) in
+    (c.in-Some.is ∙ ap (λ (o : Outcome). Some o) (sym c.in_ok-kept.ensures)) in
     let entry : c.take.new.self.items ≡ items ++ x ∷ [] =
     c.take.ensures ∙ ap (λ (xs : List Item). xs ++ x ∷ []) c.in_ok-reserve.ensures.items in (
       subst (λ (xs : List Item). IsLane l.settings status l.engine xs outcomes l.give_ups l.down l.spent
@@ -64,19 +106,19 @@ returns-clause-taken g c =
     let status : BoardStatus = record { mtu = l.mtu; buffers = l.buffers; next = l.first } in
     let items = l.book.items in
     let outcomes = l.outcomes.items in
-    let at = c.in-Some.at in
+    let at = c.ask_of.result in
     let answer = c.in_ok-answer.answer in
     let x = took_of c.args.client c.args.seq answer l.give_ups in
     let was = subst (λ (v : LaneState _). WasAsked v.items c.args.client c.args.seq) (sym c.self.view_is)
     c.requires.asked in
-    let place = subst (λ (r : Option ℕ). IsPosition c.args.client c.args.seq items r) c.in-Some.is c.ask_at.ensures in
+    let place = c.ask_of.ensures in
     let within : at < length outcomes = (let h = get_within (claims items) at place.0 place.1.there in
     let e = c.self.invariant.0.agrees.counts.each in omega (arith, h, e)) in
     let there : slice_get outcomes at ≡ Some c.index.result.now =
     slice_get-get_or outcomes at c.index.result.now within ∙ ap (λ (o : Option Outcome). Some o) (sym c.index.ensures)
     in
     let became : slice_get outcomes at ≡ Some (Some answer) = there ∙ ap (λ (o : Option Outcome). Some o)
-    (c.in-Some-index.is ∙ ap (λ (o : Outcome). Some o) (sym c.in_ok-answer.ensures)) in
+    (c.in-Some.is ∙ ap (λ (o : Outcome). Some o) (sym c.in_ok-answer.ensures)) in
     let same : c.in_ok-kept.kept ≡ answer = c.in_ok-kept.ensures ∙ sym c.in_ok-answer.ensures in
     let entry : c.take.new.self.items ≡ items ++ x ∷ [] =
     c.take.ensures ∙ (ap (λ (o : Outcome). c.reserve.new.self.items ++ took_of c.args.client c.args.seq o l.give_ups ∷
@@ -96,6 +138,7 @@ returns-clause-taken g c =
       number = at;
       untaken = record { claim = place.0; ask = place.1; once = was.untaken.once };
       became = became;
+      short = short_at outcomes at answer c.self.invariant.0.short became;
       entry = ap (λ (xs : List Item). record {
         link = l.link;
         settings = l.settings;

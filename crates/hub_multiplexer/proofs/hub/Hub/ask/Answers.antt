@@ -5,10 +5,15 @@ use Rattle.hub_multiplexer.proofs.hub.Hub.ask.Goals as goal
 
 pub returns-clause-asked : goal.returns-clause-asked
 returns-clause-asked g c =
-    IfOk-weaker c.ask.result _ _ (λ answer relation. changes_at c.seat.inside.client c.seat.inside.passes.items c.args.seat.now c.args.self.now.turns c.args.board c.index_mut.result.now c.ask.new.pass (λ k. MadeInTime k (AskMeans k answer))
-    c.seat.view_is c.requires.seat c.requires.board c.index_mut.ensures.value c.ask.ensures.same relation) c.ask.ensures.asked
+    IfOk-weaker c.ask.result _ _ (λ answer relation. changes_at c.seat.inside.client c.seat.inside.passes.items
+    c.args.seat.now c.args.self.now.turns c.args.board c.index_mut.result.now c.ask.new.pass
+    (λ k. MadeInTime k (AskMeans k answer))
+    c.seat.view_is c.requires.seat c.requires.board c.index_mut.ensures.value c.ask.ensures.same relation)
+    c.ask.ensures.asked
 
 pub returns-clause-looked : goal.returns-clause-looked
 returns-clause-looked g c =
-    on_err_weaker c.ask.result (λ relation. changes_at c.seat.inside.client c.seat.inside.passes.items c.args.seat.now c.args.self.now.turns c.args.board c.index_mut.result.now c.ask.new.pass (λ k. MadeInTime k IsNone)
-    c.seat.view_is c.requires.seat c.requires.board c.index_mut.ensures.value c.ask.ensures.same relation) c.ask.ensures.looked
+    on_err_weaker c.ask.result (λ relation. changes_at c.seat.inside.client c.seat.inside.passes.items c.args.seat.now
+    c.args.self.now.turns c.args.board c.index_mut.result.now c.ask.new.pass (λ k. MadeInTime k IsNone)
+    c.seat.view_is c.requires.seat c.requires.board c.index_mut.ensures.value c.ask.ensures.same relation)
+    c.ask.ensures.looked

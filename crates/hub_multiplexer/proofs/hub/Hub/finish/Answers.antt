@@ -8,4 +8,6 @@ use Rattle.hub_multiplexer.proofs.hub.Hub.finish.Goals as goal
 pub close_all-requires-clause-last : goal.close_all-requires-clause-last
 close_all-requires-clause-last g c κs within =
     let master = c.master.invariant in
-    last_of (c.master.inside.seats + 1) c.master.inside.passes.items master.firsts master.no_entries (all_taken_in c.master.inside.seats c.master.inside.passes.items master.firsts (subst (λ (m : MasterState). HasTakenIn (m.seats + 1) m) (sym c.master.view_is) c.requires.joined))
+    last_of (c.master.inside.seats + 1) c.master.inside.passes.items master.firsts master.no_entries
+    (all_taken_in c.master.inside.seats c.master.inside.passes.items master.firsts
+    (subst (λ (m : MasterState). HasTakenIn (m.seats + 1) m) (sym c.master.view_is) c.requires.joined))

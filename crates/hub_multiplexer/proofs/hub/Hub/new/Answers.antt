@@ -6,13 +6,15 @@ use Rattle.hub_multiplexer.proofs.Openings.{knows_opened, master_opened, turns_o
 use Rattle.hub_multiplexer.proofs.hub.Hub.new.Goals as goal
 
 pub returns-clause-master : goal.returns-clause-master
-returns-clause-master g c = ap (λ (m : MasterState). m.knows) c.of.ensures ∙ knows_opened _ _ _ c.in-Ok-open_all.ensures.opened
+returns-clause-master g c = ap (λ (m : MasterState). m.knows) c.of.ensures
+    ∙ knows_opened _ _ _ c.in-Ok-open_all.ensures.opened
 
 pub of-requires : goal.of-requires
 of-requires g c =
     let many : vec_len c.args.lanes ≡ length c.args.lanes.items = search rules in
     let long = length-map c.args.lanes.items (shown g.L.Link.telling) in
-    master_opened _ _ _ _ c.len.result c.in-Ok-open_all.ensures.opened c.in-Ok.ensures.room (c.len.ensures ∙ (many ∙ sym long))
+    master_opened _ _ _ _ c.len.result c.in-Ok-open_all.ensures.opened c.in-Ok.ensures.room
+    (c.len.ensures ∙ (many ∙ sym long))
 
 pub returns-clause-boards : goal.returns-clause-boards
 returns-clause-boards g c =

@@ -5,10 +5,16 @@ use Rattle.hub_multiplexer.proofs.hub.Hub.perform.Goals as goal
 
 pub returns-clause-performed : goal.returns-clause-performed
 returns-clause-performed g c =
-    IfOk-weaker c.perform.result _ _ (λ answer relation. changes_at c.seat.inside.client c.seat.inside.passes.items c.args.seat.now c.args.self.now.turns c.args.board c.index_mut.result.now c.perform.new.pass (λ k. MadeInTime k (PerformMeans k answer))
-    c.seat.view_is c.requires.seat c.requires.board c.index_mut.ensures.value c.perform.ensures.same relation) c.perform.ensures.performed
+    IfOk-weaker c.perform.result _ _ (λ answer relation. changes_at c.seat.inside.client c.seat.inside.passes.items
+    c.args.seat.now c.args.self.now.turns c.args.board c.index_mut.result.now c.perform.new.pass
+    (λ k. MadeInTime k (PerformMeans k answer))
+    c.seat.view_is c.requires.seat c.requires.board c.index_mut.ensures.value c.perform.ensures.same relation)
+    c.perform.ensures.performed
 
 pub returns-clause-looked : goal.returns-clause-looked
 returns-clause-looked g c =
-    on_err_weaker c.perform.result (λ relation. changes_at c.seat.inside.client c.seat.inside.passes.items c.args.seat.now c.args.self.now.turns c.args.board c.index_mut.result.now c.perform.new.pass (λ k. MadeInTime k IsNone)
-    c.seat.view_is c.requires.seat c.requires.board c.index_mut.ensures.value c.perform.ensures.same relation) c.perform.ensures.looked
+    on_err_weaker c.perform.result (λ relation. changes_at c.seat.inside.client c.seat.inside.passes.items
+    c.args.seat.now c.args.self.now.turns c.args.board c.index_mut.result.now c.perform.new.pass
+    (λ k. MadeInTime k IsNone)
+    c.seat.view_is c.requires.seat c.requires.board c.index_mut.ensures.value c.perform.ensures.same relation)
+    c.perform.ensures.looked

@@ -5,10 +5,16 @@ use Rattle.hub_multiplexer.proofs.hub.Hub.submit.Goals as goal
 
 pub returns-clause-submitted : goal.returns-clause-submitted
 returns-clause-submitted g c =
-    IfOk-weaker c.submit.result _ _ (λ answer relation. changes_at c.seat.inside.client c.seat.inside.passes.items c.args.seat.now c.args.self.now.turns c.args.board c.index_mut.result.now c.submit.new.pass (λ k. MadeInTime k (HasSubmitted k c.args.body answer))
-    c.seat.view_is c.requires.seat c.requires.board c.index_mut.ensures.value c.submit.ensures.same relation) c.submit.ensures.submitted
+    IfOk-weaker c.submit.result _ _ (λ answer relation. changes_at c.seat.inside.client c.seat.inside.passes.items
+    c.args.seat.now c.args.self.now.turns c.args.board c.index_mut.result.now c.submit.new.pass
+    (λ k. MadeInTime k (HasSubmitted k c.args.body answer))
+    c.seat.view_is c.requires.seat c.requires.board c.index_mut.ensures.value c.submit.ensures.same relation)
+    c.submit.ensures.submitted
 
 pub returns-clause-refused : goal.returns-clause-refused
 returns-clause-refused g c =
-    IfErr-weaker c.submit.result _ _ (λ why relation. changes_at c.seat.inside.client c.seat.inside.passes.items c.args.seat.now c.args.self.now.turns c.args.board c.index_mut.result.now c.submit.new.pass (λ k. MadeInTime k (SubmitRefused k c.args.body why))
-    c.seat.view_is c.requires.seat c.requires.board c.index_mut.ensures.value c.submit.ensures.same relation) c.submit.ensures.refused
+    IfErr-weaker c.submit.result _ _ (λ why relation. changes_at c.seat.inside.client c.seat.inside.passes.items
+    c.args.seat.now c.args.self.now.turns c.args.board c.index_mut.result.now c.submit.new.pass
+    (λ k. MadeInTime k (SubmitRefused k c.args.body why))
+    c.seat.view_is c.requires.seat c.requires.board c.index_mut.ensures.value c.submit.ensures.same relation)
+    c.submit.ensures.refused

@@ -5,10 +5,16 @@ use Rattle.hub_multiplexer.proofs.hub.Hub.try_ask.Goals as goal
 
 pub returns-clause-tried : goal.returns-clause-tried
 returns-clause-tried g c =
-    IfOk-weaker c.try_ask.result _ _ (λ answer relation. changes_at c.seat.inside.client c.seat.inside.passes.items c.args.seat.now c.args.self.now.turns c.args.board c.index_mut.result.now c.try_ask.new.pass (λ k. AskTried k answer)
-    c.seat.view_is c.requires.seat c.requires.board c.index_mut.ensures.value c.try_ask.ensures.same relation) c.try_ask.ensures.tried
+    IfOk-weaker c.try_ask.result _ _ (λ answer relation. changes_at c.seat.inside.client c.seat.inside.passes.items
+    c.args.seat.now c.args.self.now.turns c.args.board c.index_mut.result.now c.try_ask.new.pass
+    (λ k. AskTried k answer)
+    c.seat.view_is c.requires.seat c.requires.board c.index_mut.ensures.value c.try_ask.ensures.same relation)
+    c.try_ask.ensures.tried
 
 pub returns-clause-looked : goal.returns-clause-looked
 returns-clause-looked g c =
-    on_err_weaker c.try_ask.result (λ relation. changes_at c.seat.inside.client c.seat.inside.passes.items c.args.seat.now c.args.self.now.turns c.args.board c.index_mut.result.now c.try_ask.new.pass (λ k. Made k IsNone)
-    c.seat.view_is c.requires.seat c.requires.board c.index_mut.ensures.value c.try_ask.ensures.same relation) c.try_ask.ensures.looked
+    on_err_weaker c.try_ask.result (λ relation. changes_at c.seat.inside.client c.seat.inside.passes.items
+    c.args.seat.now c.args.self.now.turns c.args.board c.index_mut.result.now c.try_ask.new.pass
+    (λ k. Made k IsNone)
+    c.seat.view_is c.requires.seat c.requires.board c.index_mut.ensures.value c.try_ask.ensures.same relation)
+    c.try_ask.ensures.looked

@@ -5,10 +5,16 @@ use Rattle.hub_multiplexer.proofs.hub.Hub.try_step.Goals as goal
 
 pub returns-clause-tried : goal.returns-clause-tried
 returns-clause-tried g c =
-    IfOk-weaker c.try_step.result _ _ (λ answer relation. changes_at c.seat.inside.client c.seat.inside.passes.items c.args.seat.now c.args.self.now.turns c.args.board c.index_mut.result.now c.try_step.new.pass (λ k. StepTried k answer)
-    c.seat.view_is c.requires.seat c.requires.board c.index_mut.ensures.value c.try_step.ensures.same relation) c.try_step.ensures.tried
+    IfOk-weaker c.try_step.result _ _ (λ answer relation. changes_at c.seat.inside.client c.seat.inside.passes.items
+    c.args.seat.now c.args.self.now.turns c.args.board c.index_mut.result.now c.try_step.new.pass
+    (λ k. StepTried k answer)
+    c.seat.view_is c.requires.seat c.requires.board c.index_mut.ensures.value c.try_step.ensures.same relation)
+    c.try_step.ensures.tried
 
 pub returns-clause-looked : goal.returns-clause-looked
 returns-clause-looked g c =
-    on_err_weaker c.try_step.result (λ relation. changes_at c.seat.inside.client c.seat.inside.passes.items c.args.seat.now c.args.self.now.turns c.args.board c.index_mut.result.now c.try_step.new.pass (λ k. Made k IsNone)
-    c.seat.view_is c.requires.seat c.requires.board c.index_mut.ensures.value c.try_step.ensures.same relation) c.try_step.ensures.looked
+    on_err_weaker c.try_step.result (λ relation. changes_at c.seat.inside.client c.seat.inside.passes.items
+    c.args.seat.now c.args.self.now.turns c.args.board c.index_mut.result.now c.try_step.new.pass
+    (λ k. Made k IsNone)
+    c.seat.view_is c.requires.seat c.requires.board c.index_mut.ensures.value c.try_step.ensures.same relation)
+    c.try_step.ensures.looked
