@@ -1,13 +1,17 @@
 -- The first fault of places in order.
-use Rattle.std.proofs.Common.{◌≡◌, ℕ, ◌+◌, List, [], ◌∷◌, ◌++◌, map, Option, Some, None, option_map, option_and_then, slice_get, Ordering, Less, Equal, Greater, nat_cmp, codes, refl, ap, ◌∙◌}
+use Rattle.std.proofs.Common.{◌≡◌, ℕ, ◌+◌, List, [], ◌∷◌, ◌++◌, map, Option, Some, None, option_map, option_and_then}
+use Rattle.std.proofs.Common.{slice_get, Ordering, Less, Equal, Greater, nat_cmp, codes, refl, ap, ◌∙◌}
 use Rattle.std.specs.List.{filter_map}
 use Rattle.std.specs.Option.{option_or, unwrap_or}
 use Rattle.std.specs.Ordering.{match_ordering}
 use Rattle.std.specs.Cmp.Lexicographic.{slice_cmp}
 use Rattle.std.proofs.lemmas.List.Elements.{filter_map-append}
-use Rattle.toml.specs.Data.{Data, string, integer, float, boolean, datetime, array, table, Items, no_items, item, Members, no_members, member, get_member, as_array}
+use Rattle.toml.specs.Data.{Data, string, integer, float, boolean, datetime, array, table, Items, no_items, item}
+use Rattle.toml.specs.Data.{Members, no_members, member, get_member, as_array}
 use Rattle.address_table.specs.Rules.{node_fault, broken_rule}
-use Rattle.address_table.specs.Tables.{place_in, children, fault_at, first_fault, preorder, preorder_array, preorder_children, preorder_items, table_fault, IsNode, node, AreNodes, none, more, IsTable}
+use Rattle.address_table.specs.Tables.{place_in, children, fault_at, first_fault, preorder, preorder_array}
+use Rattle.address_table.specs.Tables.{preorder_children, preorder_items, table_fault, IsNode, node, AreNodes, none}
+use Rattle.address_table.specs.Tables.{more, IsTable}
 use Rattle.address_table.specs.declared.nodes.Node.{Node}
 use Rattle.address_table.specs.declared.nodes.Table.{Table}
 use Rattle.address_table.specs.declared.refusal.TableWhy.{TableWhy}
@@ -23,25 +27,34 @@ first-append : {X : Type 0} (xs ys : List X) → slice_get (xs ++ ys) 0 ≡ opti
 first-append [] ys = refl
 first-append (x ∷ xs) ys = refl
 
-pub first_fault-append : (xs ys : List (List ℕ × Data)) → first_fault (xs ++ ys) ≡ option_or (first_fault xs) (first_fault ys)
-first_fault-append xs ys = ap (λ fs. slice_get fs 0) (filter_map-append fault_at xs ys) ∙ first-append (filter_map fault_at xs) (filter_map fault_at ys)
+pub first_fault-append : (xs ys : List (List ℕ × Data))
+    → first_fault (xs ++ ys) ≡ option_or (first_fault xs) (first_fault ys)
+first_fault-append xs ys =
+    ap (λ fs. slice_get fs 0) (filter_map-append fault_at xs ys)
+    ∙ first-append (filter_map fault_at xs) (filter_map fault_at ys)
 
-fault-below : (i : ℕ) (path : List ℕ) (d : Data) (others : List (List ℕ × Data)) (o : Option TableWhy) → node_fault d ≡ o
+fault-below : (i : ℕ) (path : List ℕ) (d : Data) (others : List (List ℕ × Data)) (o : Option TableWhy)
+    → node_fault d ≡ o
     → first_fault (map (place_in i) others) ≡ option_map (below_fault i) (first_fault others)
-    → first_fault (map (place_in i) ((path, d) ∷ others)) ≡ option_map (below_fault i) (first_fault ((path, d) ∷ others))
+    → first_fault (map (place_in i) ((path, d) ∷ others))
+    ≡ option_map (below_fault i) (first_fault ((path, d) ∷ others))
 fault-below i path d others None is ih = rw is ih
 fault-below i path d others (Some why) is ih = rw is refl
 
-pub first_fault-below : (i : ℕ) (xs : List (List ℕ × Data)) → first_fault (map (place_in i) xs) ≡ option_map (below_fault i) (first_fault xs)
+pub first_fault-below : (i : ℕ) (xs : List (List ℕ × Data))
+    → first_fault (map (place_in i) xs) ≡ option_map (below_fault i) (first_fault xs)
 first_fault-below i [] = refl
 first_fault-below i (x ∷ xs) = fault-below i x.0 x.1 xs (node_fault x.1) refl (first_fault-below i xs)
 
 -- the first fault of a node with those below it
-pub first_fault-table : (ms : Members) (ps : List (List ℕ × Data)) → broken_rule ms ≡ None → first_fault (([], table ms) ∷ ps) ≡ first_fault ps
+pub first_fault-table : (ms : Members) (ps : List (List ℕ × Data)) → broken_rule ms ≡ None
+    → first_fault (([], table ms) ∷ ps) ≡ first_fault ps
 first_fault-table ms ps kept = rw kept
 
 -- the first fault of some items: that of the first item, or else that of the others
-pub first_fault-item : (i : ℕ) (d : Data) (ds : Items) → first_fault (preorder_items i (item d ds)) ≡ option_or (option_map (below_fault i) (first_fault (preorder d))) (first_fault (preorder_items (i + 1) ds))
+pub first_fault-item : (i : ℕ) (d : Data) (ds : Items)
+    → first_fault (preorder_items i (item d ds))
+    ≡ option_or (option_map (below_fault i) (first_fault (preorder d))) (first_fault (preorder_items (i + 1) ds))
 first_fault-item i d ds =
     first_fault-append (map (place_in i) (preorder d)) (preorder_items (i + 1) ds)
     ∙ ap (λ f. option_or f (first_fault (preorder_items (i + 1) ds))) (first_fault-below i (preorder d))
@@ -57,7 +70,9 @@ preorder_array-items (table ms) = refl
 
 at_nodes : (o : Ordering) (d : Data) (ms : Members) → preorder_children ms ≡ preorder_items 0 (children ms)
     → match_ordering o (preorder_children ms) (preorder_array d) (preorder_children ms)
-    ≡ preorder_items 0 (unwrap_or (option_and_then as_array (match_ordering o (get_member (codes "nodes") ms) (Some d) (get_member (codes "nodes") ms))) no_items)
+    ≡ preorder_items 0 (unwrap_or
+    (option_and_then as_array
+    (match_ordering o (get_member (codes "nodes") ms) (Some d) (get_member (codes "nodes") ms))) no_items)
 at_nodes Less d ms ih = ih
 at_nodes Equal d ms ih = preorder_array-items d
 at_nodes Greater d ms ih = ih
@@ -65,17 +80,21 @@ at_nodes Greater d ms ih = ih
 -- what is below a node is what is below its children
 pub preorder_children-items : (ms : Members) → preorder_children ms ≡ preorder_items 0 (children ms)
 preorder_children-items no_members = refl
-preorder_children-items (member key d ms) = at_nodes (slice_cmp nat_cmp (codes "nodes") key) d ms (preorder_children-items ms)
+preorder_children-items (member key d ms) =
+    at_nodes (slice_cmp nat_cmp (codes "nodes") key) d ms (preorder_children-items ms)
 
-pub first_fault-node : (ms : Members) → broken_rule ms ≡ None → first_fault (preorder (table ms)) ≡ first_fault (preorder_items 0 (children ms))
-first_fault-node ms kept = first_fault-table ms (preorder_children ms) kept ∙ ap first_fault (preorder_children-items ms)
+pub first_fault-node : (ms : Members) → broken_rule ms ≡ None
+    → first_fault (preorder (table ms)) ≡ first_fault (preorder_items 0 (children ms))
+first_fault-node ms kept =
+    first_fault-table ms (preorder_children ms) kept ∙ ap first_fault (preorder_children-items ms)
 
 mutual
   pub node-faultless : (d : Data) (n : Node) → IsNode d n → first_fault (preorder d) ≡ None
   node-faultless d n (node ms m kept says are) = first_fault-node ms kept ∙ nodes-faultless 0 (children ms) _ are
 
   -- nodes have no fault
-  pub nodes-faultless : (i : ℕ) (ds : Items) (ns : List Node) → AreNodes ds ns → first_fault (preorder_items i ds) ≡ None
+  pub nodes-faultless : (i : ℕ) (ds : Items) (ns : List Node) → AreNodes ds ns
+      → first_fault (preorder_items i ds) ≡ None
   nodes-faultless i ds ns none = refl
   nodes-faultless i ds ns (more d n es ms one others) =
       first_fault-item i d es ∙ rw (node-faultless d n one) (nodes-faultless (i + 1) es ms others)

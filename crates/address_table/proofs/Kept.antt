@@ -8,7 +8,8 @@ use Rattle.address_table.specs.declared.refusal.TableWhy.{TableWhy}
 use Rattle.address_table.specs.declared.refusal.TableWhy.TheVariants.{Shape}
 
 -- no rule of a list is broken: the first is kept, and none of the rest is broken
-pub first_kept : (why : TableWhy) (kept : Bool) (rest : List (TableWhy × Bool)) → first_broken ((why, kept) ∷ rest) ≡ None → (kept ≡ true) × (first_broken rest ≡ None)
+pub first_kept : (why : TableWhy) (kept : Bool) (rest : List (TableWhy × Bool))
+    → first_broken ((why, kept) ∷ rest) ≡ None → (kept ≡ true) × (first_broken rest ≡ None)
 first_kept why true rest h = (refl, h)
 first_kept why false rest h = cc
 
@@ -43,4 +44,11 @@ texts ms kept =
     let (mode, c) = and_parts _ _ b in
     let (name, d) = and_parts _ _ c in
     let (tags, e) = and_parts _ _ d in
-    record { id = id; permission = permission; mode = mode; «module» = name; tags = tags; description = (and_parts _ _ e).0 }
+    record {
+      id = id;
+      permission = permission;
+      mode = mode;
+      «module» = name;
+      tags = tags;
+      description = (and_parts _ _ e).0;
+    }

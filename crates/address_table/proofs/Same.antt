@@ -1,7 +1,9 @@
 -- A value is at most one table.
 use Rattle.std.proofs.Common.{◌≡◌, List, [], ◌∷◌, Option, Some}
-use Rattle.toml.specs.Data.{Data, string, integer, float, boolean, datetime, array, table, Items, no_items, item, Members}
-use Rattle.address_table.specs.Tables.{SaysKeys, children, IsNode, node, AreNodes, none, more, IsTable, SameKeys, SameNodes, neither, both, SameTable}
+use Rattle.toml.specs.Data.{Data, string, integer, float, boolean, datetime, array, table, Items, no_items, item}
+use Rattle.toml.specs.Data.{Members}
+use Rattle.address_table.specs.Tables.{SaysKeys, children, IsNode, node, AreNodes, none, more, IsTable, SameKeys}
+use Rattle.address_table.specs.Tables.{SameNodes, neither, both, SameTable}
 use Rattle.address_table.specs.declared.nodes.Node.{Node, out-Node}
 use Rattle.address_table.specs.declared.nodes.Table.{Table}
 
@@ -46,21 +48,26 @@ no_more (m ∷ ms) h = absurd h
 abbrev SameNode : Node → Node → Type 0
 SameNode n m = SameKeys n m × SameNodes (out-Node n).nodes.items (out-Node m).nodes.items
 
-more_both : (d : Data) (n : Node) (ds : Items) (ns ms : List Node) → ((m : Node) → IsNode d m → SameNode n m) → ((ks : List Node) → AreNodes ds ks → SameNodes ns ks)
+more_both : (d : Data) (n : Node) (ds : Items) (ns ms : List Node) → ((m : Node) → IsNode d m → SameNode n m)
+    → ((ks : List Node) → AreNodes ds ks → SameNodes ns ks)
     → AsNodes (item d ds) ms → SameNodes (n ∷ ns) ms
 more_both d n ds ns [] first others h = absurd h
-more_both d n ds ns (m ∷ ms) first others h = let (keys, below) = first m h.0 in both n m ns ms keys below (others ms h.1)
+more_both d n ds ns (m ∷ ms) first others h =
+    let (keys, below) = first m h.0 in both n m ns ms keys below (others ms h.1)
 
 mutual
   one_node : (d : Data) (n m : Node) → IsNode d n → IsNode d m → SameNode n m
   one_node d n m (node ms k kept says are) other =
-      let (says_too, are_too) = as_node (table ms) m other in
-      (same-keys ms k m says says_too, one_list (children ms) (out-Node k).nodes.items (out-Node m).nodes.items are are_too)
+      let (says_too, are_too) = as_node (table ms) m other in (
+        same-keys ms k m says says_too,
+        one_list (children ms) (out-Node k).nodes.items (out-Node m).nodes.items are are_too,
+      )
 
   one_list : (ds : Items) (ns ms : List Node) → AreNodes ds ns → AreNodes ds ms → SameNodes ns ms
   one_list ds ns ms none other = no_more ms (as_nodes no_items ms other)
   one_list ds ns ms (more d n es ks one others) other =
-      more_both d n es ks ms (λ m is. one_node d n m one is) (λ js are. one_list es ks js others are) (as_nodes (item d es) ms other)
+      more_both d n es ks ms (λ m is. one_node d n m one is) (λ js are. one_list es ks js others are)
+      (as_nodes (item d es) ms other)
 
 pub one_table : (value : Data) (t u : Table) → IsTable value t → IsTable value u → SameTable t u
 one_table (array ds) t u a b = one_list ds t.nodes.items u.nodes.items a b

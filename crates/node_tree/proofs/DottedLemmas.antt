@@ -1,5 +1,6 @@
 -- A name that begins with another and a dot, byte by byte.
-use Rattle.std.proofs.Common.{◌≡◌, ℕ, ◌≤◌, [], ◌∷◌, Bool, true, false, ◌&&◌, ◌==◌, nat_eq, length, take, slice_index, refl, ap, ◌∙◌, arith}
+use Rattle.std.proofs.Common.{◌≡◌, ℕ, ◌≤◌, [], ◌∷◌, Bool, true, false, ◌&&◌, ◌==◌, nat_eq, length, take, slice_index}
+use Rattle.std.proofs.Common.{refl, ap, ◌∙◌, arith}
 use Rattle.std.proofs.lemmas.Bool.Decides.{nat_tests}
 use Rattle.std.specs.Str.{bytes_eq}
 use Rattle.node_tree.specs.Named.{Name}
@@ -16,12 +17,15 @@ and_assoc false b c = refl
 same_either_way : (a b : ℕ) → nat_eq a b ≡ nat_eq b a
 same_either_way a b = grind (arith, nat_tests)
 
-pub dotted : (name other : Name) → is_dotted_prefix name other ≡ (bytes_eq (take (length name) other) name && (slice_index other (length name) == 46))
+pub dotted : (name other : Name)
+    → is_dotted_prefix name other
+    ≡ (bytes_eq (take (length name) other) name && (slice_index other (length name) == 46))
 dotted [] [] = refl
 dotted [] (x ∷ xs) = and_true (nat_eq 46 x) ∙ same_either_way 46 x
 dotted (n ∷ ns) [] = refl
 dotted (n ∷ ns) (x ∷ xs) =
-    ap (λ rest. nat_eq n x && rest) (dotted ns xs) ∙ ap (λ b. b && (bytes_eq (take (length ns) xs) ns && (slice_index xs (length ns) == 46))) (same_either_way n x)
+    ap (λ rest. nat_eq n x && rest) (dotted ns xs)
+    ∙ ap (λ b. b && (bytes_eq (take (length ns) xs) ns && (slice_index xs (length ns) == 46))) (same_either_way n x)
     ∙ and_assoc (nat_eq x n) (bytes_eq (take (length ns) xs) ns) (slice_index xs (length ns) == 46)
 
 and_false : (b : Bool) → (b && false) ≡ false

@@ -1,8 +1,10 @@
 -- Events in their order.
-use Rattle.std.proofs.Common.{◌≡◌, ◌⊎◌, inl, inr, ℕ, zero, suc, ◌+◌, ◌<◌, ◌≤◌, List, [], ◌∷◌, ◌++◌, length, take, get_or, false, ap, sym, ◌∙◌, subst, arith}
+use Rattle.std.proofs.Common.{◌≡◌, ◌⊎◌, inl, inr, ℕ, zero, suc, ◌+◌, ◌<◌, ◌≤◌, List, [], ◌∷◌, ◌++◌, length, take}
+use Rattle.std.proofs.Common.{get_or, false, ap, sym, ◌∙◌, subst, arith}
 use Rattle.std.specs.List.{All, Contains}
 use Rattle.std.proofs.lemmas.List.{take_more, get_or_default}
-use Rattle.std.proofs.lemmas.List.Elements.{All-contains, Contains-get_or, Contains-push, Contains-push_cases, Contains-append_left, Contains-append_right, Contains-append_cases}
+use Rattle.std.proofs.lemmas.List.Elements.{All-contains, Contains-get_or, Contains-push, Contains-push_cases}
+use Rattle.std.proofs.lemmas.List.Elements.{Contains-append_left, Contains-append_right, Contains-append_cases}
 use Rattle.node_tree.specs.declared.overlapping.events.Event.{Event}
 use Rattle.node_tree.specs.OverlapSearch.{Before, IsPart}
 use Rattle.node_tree.proofs.CycleLemmas.{either}
@@ -50,13 +52,16 @@ before-last (e ∷ es) z x there =
     (λ here. inl (one_contained e x here, Contains-push es z))
     (λ later. inr (before-last es z x later))
 
-pub before-push_cases : (es : List Event) (z x y : Event) → Before (es ++ z ∷ []) x y → Before es x y ⊎ (Contains es x × (z ≡ y))
+pub before-push_cases : (es : List Event) (z x y : Event) → Before (es ++ z ∷ []) x y
+    → Before es x y ⊎ (Contains es x × (z ≡ y))
 before-push_cases [] z x y (inl h) = absurd (none_there y h.1)
 before-push_cases [] z x y (inr h) = absurd h
 before-push_cases (e ∷ es) z x y (inl h) =
-    either (Contains-push_cases es z y h.1) (λ there. inl (inl (h.0, there))) (λ same. inr (head_there e x es h.0, same))
+    either (Contains-push_cases es z y h.1) (λ there. inl (inl (h.0, there)))
+    (λ same. inr (head_there e x es h.0, same))
 before-push_cases (e ∷ es) z x y (inr h) =
-    either (before-push_cases es z x y h) (λ before. inl (inr before)) (λ (there, same). inr (tail_there e x es there, same))
+    either (before-push_cases es z x y h) (λ before. inl (inr before))
+    (λ (there, same). inr (tail_there e x es there, same))
 
 module _ (es : List Event) (i : ℕ) (e : Event) (within : i < length es) (here : e ≡ get_or es i e) where
   pub take-is : take (i + 1) es ≡ take i es ++ e ∷ []
@@ -77,11 +82,13 @@ module _ (es : List Event) (i : ℕ) (e : Event) (within : i < length es) (here 
   pub take-last : (x : Event) → Contains (take i es) x → Before (take (i + 1) es) x e
   take-last x there = subst (λ xs. Before xs x e) (sym take-is) (before-last (take i es) e x there)
 
-  pub take-before_cases : (x y : Event) → Before (take (i + 1) es) x y → Before (take i es) x y ⊎ (Contains (take i es) x × (e ≡ y))
+  pub take-before_cases : (x y : Event) → Before (take (i + 1) es) x y
+      → Before (take i es) x y ⊎ (Contains (take i es) x × (e ≡ y))
   take-before_cases x y before = before-push_cases (take i es) e x y (subst (λ xs. Before xs x y) take-is before)
 
   -- a part of the events so far, with the next one or without it
-  pub part-with : (P : Event → Type 0) (some : List Event) → P e → IsPart P (take i es) some → IsPart P (take (i + 1) es) (some ++ e ∷ [])
+  pub part-with : (P : Event → Type 0) (some : List Event) → P e → IsPart P (take i es) some
+      → IsPart P (take (i + 1) es) (some ++ e ∷ [])
   part-with P some own part = record {
     only = λ x there. either (Contains-push_cases some e x there)
         (λ before. let (in_all, holds) = part.only x before in (take-there x in_all, holds))
@@ -97,7 +104,8 @@ module _ (es : List Event) (i : ℕ) (e : Event) (within : i < length es) (here 
         (λ (there, same). subst (λ z. Before (some ++ e ∷ []) x z) same (before-last some e x (part.each x there p)));
   }
 
-  pub part-without : (P : Event → Type 0) (some : List Event) → (P e → ⊥) → IsPart P (take i es) some → IsPart P (take (i + 1) es) some
+  pub part-without : (P : Event → Type 0) (some : List Event) → (P e → ⊥) → IsPart P (take i es) some
+      → IsPart P (take (i + 1) es) some
   part-without P some not_own part = record {
     only = λ x there. let (in_all, holds) = part.only x there in (take-there x in_all, holds);
     each = λ x there p. either (take-there_cases x there)
@@ -126,7 +134,10 @@ part-none P = record {
 }
 
 -- what holds of the places of all events holds of those of a part
-pub part-places : (P : Event → Type 0) (events some : List Event) (n m : ℕ) → n ≡ m → IsPart P events some → All (λ e. e.place < n) events → All (λ e. e.place < m) some
+pub part-places : (P : Event → Type 0) (events some : List Event) (n m : ℕ) → n ≡ m → IsPart P events some
+    → All (λ e. e.place < n) events → All (λ e. e.place < m) some
 part-places P events some n m same part all k d less =
-    let here = All-contains (λ e. e.place < n) events (get_or some k d) all (part.only (get_or some k d) (Contains-get_or some k d less)).0 in
+    let here =
+    All-contains (λ e. e.place < n) events (get_or some k d) all
+    (part.only (get_or some k d) (Contains-get_or some k d less)).0 in
     omega (arith, here)

@@ -18,6 +18,7 @@ pub mod PairLemmas
 pub mod NotingLemmas
 pub mod EventLemmas
 pub mod SettlingLemmas
+pub mod NameOrder
 pub mod TimelineLemmas
 pub mod RepeatLemmas
 pub mod SiblingLemmas

@@ -1,5 +1,6 @@
 -- The modules of nodes, node by node.
-use Rattle.std.proofs.Common.{◌≡◌, ℕ, zero, suc, ◌+◌, ◌<◌, ◌≤◌, List, [], ◌∷◌, length, drop, get_or, Some, sym, ap, ◌∙◌, subst}
+use Rattle.std.proofs.Common.{◌≡◌, ℕ, zero, suc, ◌+◌, ◌<◌, ◌≤◌, List, [], ◌∷◌, length, drop, get_or, Some, sym, ap, ◌∙◌}
+use Rattle.std.proofs.Common.{subst}
 use Rattle.std.proofs.lemmas.List.{drop_more, drop_all}
 use Rattle.address_table.specs.declared.nodes.Node.{Node, out-Node}
 use Rattle.node_tree.specs.Named.{Name}
@@ -14,7 +15,9 @@ none_after ns i m h mention = none_mentioned m (subst (λ ms. Mentions ms m) (dr
 -- what holds of the modules of each part of a list
 abbrev pub HoldsOfParts : (Name → Type 0) → List Node → Type 0
 HoldsOfParts P [] = Unit {0}
-HoldsOfParts P (n ∷ ns) = ((m : Name) → (out-Node n).«module» ≡ Some m → P m) × ((m : Name) → Mentions (out-Node n).nodes.items m → P m) × ((m : Name) → Mentions ns m → P m)
+HoldsOfParts P (n ∷ ns) =
+    ((m : Name) → (out-Node n).«module» ≡ Some m → P m) × ((m : Name) → Mentions (out-Node n).nodes.items m → P m)
+    × ((m : Name) → Mentions ns m → P m)
 
 by_parts : (P : Name → Type 0) (ns : List Node) (m : Name) → Mentions ns m → HoldsOfParts P ns → P m
 by_parts P ns m (itself n others name is) parts = parts.0 name is
@@ -26,7 +29,8 @@ rest_is ns i n h here = drop_more ns i n h ∙ ap (λ x. x ∷ drop (i + 1) ns) 
 
 -- a module of the nodes from a place on is one of the node there, of what is below it, or of the later nodes
 pub from_place : (P : Name → Type 0) (ns : List Node) (i : ℕ) (n : Node) → i < length ns → n ≡ get_or ns i n
-    → ((m : Name) → (out-Node n).«module» ≡ Some m → P m) → ((m : Name) → Mentions (out-Node n).nodes.items m → P m) → ((m : Name) → Mentions (drop (i + 1) ns) m → P m)
+    → ((m : Name) → (out-Node n).«module» ≡ Some m → P m) → ((m : Name) → Mentions (out-Node n).nodes.items m → P m)
+    → ((m : Name) → Mentions (drop (i + 1) ns) m → P m)
     → (m : Name) → Mentions (drop i ns) m → P m
 from_place P ns i n h here own inner rest m mention =
     by_parts P (n ∷ drop (i + 1) ns) m (subst (λ ms. Mentions ms m) (rest_is ns i n h here) mention) (own, inner, rest)
@@ -38,8 +42,12 @@ in_whole (n ∷ ns) zero m mention = mention
 in_whole (n ∷ ns) (suc i) m mention = later n ns m (in_whole ns i m mention)
 
 -- a module of the node at a place, or of what is below it
-pub own_module : (ns : List Node) (i : ℕ) (n : Node) (m : Name) → i < length ns → n ≡ get_or ns i n → (out-Node n).«module» ≡ Some m → Mentions ns m
-own_module ns i n m h here is = in_whole ns i m (subst (λ ms. Mentions ms m) (sym (rest_is ns i n h here)) (itself n (drop (i + 1) ns) m is))
+pub own_module : (ns : List Node) (i : ℕ) (n : Node) (m : Name) → i < length ns → n ≡ get_or ns i n
+    → (out-Node n).«module» ≡ Some m → Mentions ns m
+own_module ns i n m h here is =
+    in_whole ns i m (subst (λ ms. Mentions ms m) (sym (rest_is ns i n h here)) (itself n (drop (i + 1) ns) m is))
 
-pub inner_module : (ns : List Node) (i : ℕ) (n : Node) (m : Name) → i < length ns → n ≡ get_or ns i n → Mentions (out-Node n).nodes.items m → Mentions ns m
-inner_module ns i n m h here mention = in_whole ns i m (subst (λ ms. Mentions ms m) (sym (rest_is ns i n h here)) (child n (drop (i + 1) ns) m mention))
+pub inner_module : (ns : List Node) (i : ℕ) (n : Node) (m : Name) → i < length ns → n ≡ get_or ns i n
+    → Mentions (out-Node n).nodes.items m → Mentions ns m
+inner_module ns i n m h here mention =
+    in_whole ns i m (subst (λ ms. Mentions ms m) (sym (rest_is ns i n h here)) (child n (drop (i + 1) ns) m mention))

@@ -16,7 +16,8 @@ pub parts : (ns : List Node) → AreValid ns → Parts ns
 parts ns no_nodes = tt
 parts ns (and_node n ms valid below others) = (valid, below, others)
 
-nodes_if : (o : Option Table) → ((t : Table) → o ≡ Some t → IsValid t) → AreValid (option_map_or (λ t. t.nodes.items) o [])
+nodes_if : (o : Option Table) → ((t : Table) → o ≡ Some t → IsValid t)
+    → AreValid (option_map_or (λ t. t.nodes.items) o [])
 nodes_if None valid = no_nodes
 nodes_if (Some t) valid = valid t refl
 

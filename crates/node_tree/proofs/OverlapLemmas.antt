@@ -1,5 +1,6 @@
 -- Pairs of registers, entry by entry.
-use Rattle.std.proofs.Common.{◌≡◌, ℕ, zero, suc, ◌+◌, ◌<◌, List, [], ◌∷◌, ◌++◌, length, take, drop, get_or, cond, Some, None, slice_get, slice_index, String, Global, string_bytes, refl, ap, sym, ◌∙◌, arith}
+use Rattle.std.proofs.Common.{◌≡◌, ℕ, zero, suc, ◌+◌, ◌<◌, List, [], ◌∷◌, ◌++◌, length, take, drop, get_or, cond, Some}
+use Rattle.std.proofs.Common.{None, slice_get, slice_index, String, Global, string_bytes, refl, ap, sym, ◌∙◌, arith}
 use Rattle.std.specs.List.{position_from}
 use Rattle.std.proofs.lemmas.Bool.{lt-ltb, le-ltb, cases_lt}
 use Rattle.std.proofs.lemmas.List.{drop_more, take_more, length-take-le}
@@ -22,13 +23,16 @@ Registers = List (Name × Register)
 
 -- the pair of the next entry, and those of the later ones
 next_pair : (xs : Registers) (i : ℕ) (e : Name × Register) → slice_get xs i ≡ Some e
-    → overlapping (take i xs) (drop i xs) ≡ pair_with i (position_from (λ a. overlap a e) 0 (take i xs)) ++ overlapping (take (i + 1) xs) (drop (i + 1) xs)
+    → overlapping (take i xs) (drop i xs) ≡ pair_with i (position_from (λ a. overlap a e) 0 (take i xs))
+    ++ overlapping (take (i + 1) xs) (drop (i + 1) xs)
 next_pair xs i e is =
     let within = slice_get_within xs i e is in
     let here : get_or xs i e ≡ e = get_or_from_slice_get xs i e e is in
     ap (λ rest. overlapping (take i xs) rest) (drop_more xs i e within ∙ ap (λ x. x ∷ drop (i + 1) xs) here)
-    ∙ ap (λ n. pair_with n (position_from (λ a. overlap a e) 0 (take i xs)) ++ overlapping (take i xs ++ e ∷ []) (drop (i + 1) xs)) (length-take-le i xs (omega arith))
-    ∙ ap (λ before. pair_with i (position_from (λ a. overlap a e) 0 (take i xs)) ++ overlapping before (drop (i + 1) xs)) (sym (take_more xs i e within ∙ ap (λ x. take i xs ++ x ∷ []) here))
+    ∙ ap (λ n. pair_with n (position_from (λ a. overlap a e) 0 (take i xs))
+    ++ overlapping (take i xs ++ e ∷ []) (drop (i + 1) xs)) (length-take-le i xs (omega arith))
+    ∙ ap (λ before. pair_with i (position_from (λ a. overlap a e) 0 (take i xs))
+    ++ overlapping before (drop (i + 1) xs)) (sym (take_more xs i e within ∙ ap (λ x. take i xs ++ x ∷ []) here))
 
 -- a place among the first ones
 get-take : (xs : Registers) (i c : ℕ) → c < i → slice_get (take i xs) c ≡ slice_get xs c
@@ -38,8 +42,11 @@ get-take (x ∷ xs) zero c h = absurd (omega arith)
 get-take (x ∷ xs) (suc i) zero h = refl
 get-take (x ∷ xs) (suc i) (suc c) h = get-take xs i c (omega arith)
 
-at-take : (xs : Registers) (i c : ℕ) (e : Name × Register) → slice_get xs i ≡ Some e → c < i → passes (λ a. overlap a e) (slice_get (take i xs) c) ≡ overlap_at xs c i
-at-take xs i c e is less = ap (passes (λ a. overlap a e)) (get-take xs i c less) ∙ sym (ap (passes (λ y. passes (λ x. overlap x y) (slice_get xs c))) is)
+at-take : (xs : Registers) (i c : ℕ) (e : Name × Register) → slice_get xs i ≡ Some e → c < i
+    → passes (λ a. overlap a e) (slice_get (take i xs) c) ≡ overlap_at xs c i
+at-take xs i c e is less =
+    ap (passes (λ a. overlap a e)) (get-take xs i c less)
+    ∙ sym (ap (passes (λ y. passes (λ x. overlap x y) (slice_get xs c))) is)
 
 -- the pair of an entry, from the place of the first that it overlaps
 told : (xs : Registers) (firsts : List ℕ) (i : ℕ) (e : Name × Register) → AreFirsts xs firsts → slice_get xs i ≡ Some e
@@ -62,10 +69,13 @@ told xs firsts i e are is =
     ap (pair_with i) none ∙ sym (ap (λ b. cond b ((f, i) ∷ []) []) (le-ltb f i more)))
 
 there_is : (xs : Registers) (i : ℕ) → i < length xs → (e : Name × Register) × (slice_get xs i ≡ Some e)
-there_is xs i h = either (slice_get_cases xs i).1 (λ (e, within, is, same). (e, is)) (λ (past, none). absurd (omega arith))
+there_is xs i h =
+    either (slice_get_cases xs i).1 (λ (e, within, is, same). (e, is)) (λ (past, none). absurd (omega arith))
 
 pub next_told : (xs : Registers) (firsts : List ℕ) (i : ℕ) → AreFirsts xs firsts → i < length xs
-    → pair_before (slice_index firsts i) i ++ overlapping (take (i + 1) xs) (drop (i + 1) xs) ≡ overlapping (take i xs) (drop i xs)
+    → pair_before (slice_index firsts i) i
+    ++ overlapping (take (i + 1) xs) (drop (i + 1) xs) ≡ overlapping (take i xs) (drop i xs)
 next_told xs firsts i are within =
     let (e, is) = there_is xs i within in
-    ap (λ pairs. pairs ++ overlapping (take (i + 1) xs) (drop (i + 1) xs)) (sym (told xs firsts i e are is)) ∙ sym (next_pair xs i e is)
+    ap (λ pairs. pairs ++ overlapping (take (i + 1) xs) (drop (i + 1) xs)) (sym (told xs firsts i e are is))
+    ∙ sym (next_pair xs i e is)

@@ -1,5 +1,7 @@
 -- The pairs of registers that overlap: which they are, and that their second places rise.
-use Rattle.std.proofs.Common.{◌≡◌, ℕ, zero, suc, ◌+◌, ◌<◌, ◌≤◌, List, [], ◌∷◌, ◌++◌, length, map, Bool, true, false, cond, Option, Some, None, slice_get, nat_lt, Less, refl, ap, sym, ◌∙◌, subst, arith, append_assoc, length-append}
+use Rattle.std.proofs.Common.{◌≡◌, ℕ, zero, suc, ◌+◌, ◌<◌, ◌≤◌, List, [], ◌∷◌, ◌++◌, length, map, Bool, true, false}
+use Rattle.std.proofs.Common.{cond, Option, Some, None, slice_get, nat_lt, Less, refl, ap, sym, ◌∙◌, subst, arith}
+use Rattle.std.proofs.Common.{append_assoc, length-append}
 use Rattle.std.specs.List.{Contains, position_from}
 use Rattle.std.specs.List.{AllByRecursion}
 use Rattle.std.specs.List.Sorted.{IsStrictlySortedBy, IsStrictlyIncreasing}
@@ -15,21 +17,24 @@ use Rattle.node_tree.specs.Named.{Name}
 use Rattle.address_table.specs.declared.kinds.Mode.{Mode}
 use Rattle.address_table.specs.declared.kinds.Mode.TheVariants.{Single, Block, Port, Hierarchical}
 use Rattle.node_tree.specs.Walk.{words_of}
-use Rattle.node_tree.specs.Overlaps.{overlap, overlapping, pair_with, passes, overlap_at, IsFirstOverlap, share_an_address, HasAddress}
+use Rattle.node_tree.specs.Overlaps.{overlap, overlapping, pair_with, passes, overlap_at, IsFirstOverlap}
+use Rattle.node_tree.specs.Overlaps.{share_an_address, HasAddress}
 use Rattle.node_tree.proofs.CycleLemmas.{either}
 
 abbrev Entry : Type 0
 Entry = Name × Register
 
 -- the first place that passes, counted from a number
-pub found-first : (t : Entry → Bool) (k : ℕ) (xs : List Entry) (i : ℕ) → passes t (slice_get xs i) ≡ true → ((c : ℕ) → c < i → passes t (slice_get xs c) ≡ false) → position_from t k xs ≡ Some (k + i)
+pub found-first : (t : Entry → Bool) (k : ℕ) (xs : List Entry) (i : ℕ) → passes t (slice_get xs i) ≡ true
+    → ((c : ℕ) → c < i → passes t (slice_get xs c) ≡ false) → position_from t k xs ≡ Some (k + i)
 found-first t k [] i h first = absurd (false≢true h)
 found-first t k (x ∷ xs) zero h first = rw h (ap Some (sym (omega arith)))
 found-first t k (x ∷ xs) (suc i) h first =
     rw (first 0 (omega arith))
     (found-first t (k + 1) xs i h (λ c less. first (suc c) (omega arith)) ∙ ap Some (omega arith))
 
-pub found-none : (t : Entry → Bool) (k : ℕ) (xs : List Entry) → ((c : ℕ) → passes t (slice_get xs c) ≡ false) → position_from t k xs ≡ None
+pub found-none : (t : Entry → Bool) (k : ℕ) (xs : List Entry) → ((c : ℕ) → passes t (slice_get xs c) ≡ false)
+    → position_from t k xs ≡ None
 found-none t k [] apart = refl
 found-none t k (x ∷ xs) apart = rw (apart 0) (found-none t (k + 1) xs (λ c. apart (suc c)))
 
@@ -38,18 +43,23 @@ pub record IsFound (t : Entry → Bool) (xs : List Entry) (i : ℕ) : Type 0 whe
   pub here : passes t (slice_get xs i) ≡ true
   pub before : (c : ℕ) → c < i → passes t (slice_get xs c) ≡ false
 
-step_first : (t : Entry → Bool) (x : Entry) (xs : List Entry) (i c : ℕ) → t x ≡ false → IsFound t xs i → c < suc i → passes t (slice_get (x ∷ xs) c) ≡ false
+step_first : (t : Entry → Bool) (x : Entry) (xs : List Entry) (i c : ℕ) → t x ≡ false → IsFound t xs i → c < suc i
+    → passes t (slice_get (x ∷ xs) c) ≡ false
 step_first t x xs i zero miss found less = miss
 step_first t x xs i (suc c) miss found less = found.before c (omega arith)
 
-by_head : (t : Entry → Bool) (k : ℕ) (x : Entry) (xs : List Entry) (m : ℕ) (b : Bool) → t x ≡ b → cond b (Some k) (position_from t (k + 1) xs) ≡ Some m
-    → (position_from t (k + 1) xs ≡ Some m → (i : ℕ) × (m ≡ k + 1 + i) × IsFound t xs i) → (i : ℕ) × (m ≡ k + i) × IsFound t (x ∷ xs) i
-by_head t k x xs m true hit is rest = let same : k ≡ m = cc in (0, omega arith, record { here = hit; before = λ c less. absurd (omega arith) })
+by_head : (t : Entry → Bool) (k : ℕ) (x : Entry) (xs : List Entry) (m : ℕ) (b : Bool) → t x ≡ b
+    → cond b (Some k) (position_from t (k + 1) xs) ≡ Some m
+    → (position_from t (k + 1) xs ≡ Some m → (i : ℕ) × (m ≡ k + 1 + i) × IsFound t xs i)
+    → (i : ℕ) × (m ≡ k + i) × IsFound t (x ∷ xs) i
+by_head t k x xs m true hit is rest =
+    let same : k ≡ m = cc in (0, omega arith, record { here = hit; before = λ c less. absurd (omega arith) })
 by_head t k x xs m false miss is rest =
     let (i, place, found) = rest is in
     (suc i, omega arith, record { here = found.here; before = λ c less. step_first t x xs i c miss found less })
 
-pub first-found : (t : Entry → Bool) (k : ℕ) (xs : List Entry) (m : ℕ) → position_from t k xs ≡ Some m → (i : ℕ) × (m ≡ k + i) × IsFound t xs i
+pub first-found : (t : Entry → Bool) (k : ℕ) (xs : List Entry) (m : ℕ) → position_from t k xs ≡ Some m
+    → (i : ℕ) × (m ≡ k + i) × IsFound t xs i
 first-found t k [] m is = cc
 first-found t k (x ∷ xs) m is = by_head t k x xs m (t x) refl is (first-found t (k + 1) xs m)
 
@@ -63,7 +73,8 @@ get-seam : (xs ys : List Entry) (y : Entry) → slice_get (xs ++ y ∷ ys) (leng
 get-seam [] ys y = refl
 get-seam (x ∷ xs) ys y = get-seam xs ys y
 
-at-seam : (before es : List Entry) (e : Entry) (c : ℕ) → c < length before → overlap_at (before ++ e ∷ es) c (length before) ≡ passes (λ a. overlap a e) (slice_get before c)
+at-seam : (before es : List Entry) (e : Entry) (c : ℕ) → c < length before
+    → overlap_at (before ++ e ∷ es) c (length before) ≡ passes (λ a. overlap a e) (slice_get before c)
 at-seam before es e c less =
     ap (λ o. passes (λ y. passes (λ x. overlap x y) (slice_get (before ++ e ∷ es) c)) o) (get-seam before es e)
     ∙ ap (passes (λ a. overlap a e)) (get-before before (e ∷ es) c less)
@@ -74,7 +85,8 @@ within-passes t (x ∷ xs) zero h = omega arith
 within-passes t (x ∷ xs) (suc i) h = let rest = within-passes t xs i h in omega (arith, rest)
 
 -- the pair of an entry with those before it
-seam-first : (before es : List Entry) (e : Entry) (i : ℕ) → IsFound (λ a. overlap a e) before i → IsFirstOverlap (before ++ e ∷ es) i (length before)
+seam-first : (before es : List Entry) (e : Entry) (i : ℕ) → IsFound (λ a. overlap a e) before i
+    → IsFirstOverlap (before ++ e ∷ es) i (length before)
 seam-first before es e i found =
     let less : i < length before = within-passes (λ a. overlap a e) before i found.here in
     record {
@@ -83,10 +95,13 @@ seam-first before es e i found =
       first = λ c below. at-seam before es e c (omega arith) ∙ found.before c below;
     }
 
-first-seam : (before es : List Entry) (e : Entry) (i : ℕ) → IsFirstOverlap (before ++ e ∷ es) i (length before) → IsFound (λ a. overlap a e) before i
+first-seam : (before es : List Entry) (e : Entry) (i : ℕ) → IsFirstOverlap (before ++ e ∷ es) i (length before)
+    → IsFound (λ a. overlap a e) before i
 first-seam before es e i first = record {
   here = sym (at-seam before es e i first.later) ∙ first.found;
-  before = λ c below. let less : c < length before = (let later = first.later in omega arith) in sym (at-seam before es e c less) ∙ first.first c below;
+  before =
+      λ c below. let less : c < length before =
+      (let later = first.later in omega arith) in sym (at-seam before es e c less) ∙ first.first c below;
 }
 
 none_contained : {X : Type 0} (x : X) → Contains [] x → ⊥
@@ -99,44 +114,60 @@ one_contained y x (suc k, within, is) = absurd (omega arith)
 one_there : {X : Type 0} (x : X) → Contains (x ∷ []) x
 one_there x = (0, omega arith, refl)
 
-from_pair : (before es : List Entry) (e : Entry) (o : Option ℕ) (a b : ℕ) → position_from (λ x. overlap x e) 0 before ≡ o → Contains (pair_with (length before) o) (a, b) → IsFirstOverlap (before ++ e ∷ es) a b × (length before ≤ b)
+from_pair : (before es : List Entry) (e : Entry) (o : Option ℕ) (a b : ℕ)
+    → position_from (λ x. overlap x e) 0 before ≡ o → Contains (pair_with (length before) o) (a, b)
+    → IsFirstOverlap (before ++ e ∷ es) a b × (length before ≤ b)
 from_pair before es e None a b is there = absurd (none_contained (a, b) there)
 from_pair before es e (Some m) a b is there =
     let (i, place, found) = first-found (λ x. overlap x e) 0 before m is in
     let pair = one_contained (m, length before) (a, b) there in
     let second : length before ≡ b = ap (λ p. p.1) pair in
-    let which : i ≡ a = (let m_is = ap (λ p. p.0) pair in omega (arith, m_is, place)) in
-    (subst (λ n. IsFirstOverlap (before ++ e ∷ es) n b) which (subst (IsFirstOverlap (before ++ e ∷ es) i) second (seam-first before es e i found)), omega arith)
+    let which : i ≡ a = (let m_is = ap (λ p. p.0) pair in omega (arith, m_is, place)) in (
+      subst (λ n. IsFirstOverlap (before ++ e ∷ es) n b) which
+          (subst (IsFirstOverlap (before ++ e ∷ es) i) second (seam-first before es e i found)),
+      omega arith,
+    )
 
-to_pair : (before es : List Entry) (e : Entry) (a : ℕ) → IsFirstOverlap (before ++ e ∷ es) a (length before) → Contains (pair_with (length before) (position_from (λ x. overlap x e) 0 before)) (a, length before)
+to_pair : (before es : List Entry) (e : Entry) (a : ℕ) → IsFirstOverlap (before ++ e ∷ es) a (length before)
+    → Contains (pair_with (length before) (position_from (λ x. overlap x e) 0 before)) (a, length before)
 to_pair before es e a first =
     let found = first-seam before es e a first in
-    let place : position_from (λ x. overlap x e) 0 before ≡ Some a = found-first (λ x. overlap x e) 0 before a found.here found.before ∙ ap Some (omega arith) in
+    let place : position_from (λ x. overlap x e) 0 before ≡ Some a =
+    found-first (λ x. overlap x e) 0 before a found.here found.before ∙ ap Some (omega arith) in
     rw place (one_there (a, length before))
 
 -- the second entry of a pair is there
 second-within : (es : List Entry) (a b : ℕ) → overlap_at es a b ≡ true → b < length es
 second-within es a b h = within-passes (λ y. passes (λ x. overlap x y) (slice_get es a)) es b h
 
-pub pairs-are : (before es : List Entry) (a b : ℕ) → Contains (overlapping before es) (a, b) → IsFirstOverlap (before ++ es) a b × (length before ≤ b)
+pub pairs-are : (before es : List Entry) (a b : ℕ) → Contains (overlapping before es) (a, b)
+    → IsFirstOverlap (before ++ es) a b × (length before ≤ b)
 pairs-are before [] a b there = absurd (none_contained (a, b) there)
 pairs-are before (e ∷ es) a b there =
-    either (Contains-append_cases (pair_with (length before) (position_from (λ x. overlap x e) 0 before)) (overlapping (before ++ e ∷ []) es) (a, b) there)
+    either (Contains-append_cases (pair_with (length before) (position_from (λ x. overlap x e) 0 before))
+    (overlapping (before ++ e ∷ []) es) (a, b) there)
     (from_pair before es e (position_from (λ x. overlap x e) 0 before) a b refl)
-    (λ later. let (first, above) = pairs-are (before ++ e ∷ []) es a b later in
-    (subst (λ xs. IsFirstOverlap xs a b) (append_assoc before (e ∷ []) es) first, omega (arith, length-append before (e ∷ []), above)))
+    (λ later. let (first, above) = pairs-are (before ++ e ∷ []) es a b later in (
+      subst (λ xs. IsFirstOverlap xs a b) (append_assoc before (e ∷ []) es) first,
+      omega (arith, length-append before (e ∷ []), above),
+    ))
 
-pub pairs-have : (before es : List Entry) (a b : ℕ) → IsFirstOverlap (before ++ es) a b → length before ≤ b → Contains (overlapping before es) (a, b)
+pub pairs-have : (before es : List Entry) (a b : ℕ) → IsFirstOverlap (before ++ es) a b → length before ≤ b
+    → Contains (overlapping before es) (a, b)
 pairs-have before [] a b first above =
     let within = second-within (before ++ []) a b first.found in
     absurd (omega (arith, within, ap length (append-nil before)))
 pairs-have before (e ∷ es) a b first above =
     either (eq-or-lt_of_le above)
-    (λ same. Contains-append_left (pair_with (length before) (position_from (λ x. overlap x e) 0 before)) (overlapping (before ++ e ∷ []) es) (a, b)
+    (λ same. Contains-append_left (pair_with (length before) (position_from (λ x. overlap x e) 0 before))
+    (overlapping (before ++ e ∷ []) es) (a, b)
     (subst (λ n. Contains (pair_with (length before) (position_from (λ x. overlap x e) 0 before)) (a, n)) same
     (to_pair before es e a (subst (IsFirstOverlap (before ++ e ∷ es) a) (sym same) first))))
-    (λ more. Contains-append_right (pair_with (length before) (position_from (λ x. overlap x e) 0 before)) (overlapping (before ++ e ∷ []) es) (a, b)
-    (pairs-have (before ++ e ∷ []) es a b (subst (λ xs. IsFirstOverlap xs a b) (sym (append_assoc before (e ∷ []) es)) first) (omega (arith, length-append before (e ∷ []), more))))
+    (λ more. Contains-append_right (pair_with (length before) (position_from (λ x. overlap x e) 0 before))
+    (overlapping (before ++ e ∷ []) es) (a, b)
+    (pairs-have (before ++ e ∷ []) es a b
+    (subst (λ xs. IsFirstOverlap xs a b) (sym (append_assoc before (e ∷ []) es)) first)
+    (omega (arith, length-append before (e ∷ []), more))))
 
 -- numbers from one on, each below the next
 record RisesFrom (least : ℕ) (xs : List ℕ) : Type 0 where
@@ -154,10 +185,15 @@ all_weaker n (x ∷ xs) all = (omega (arith, all.0), all_weaker n xs all.1)
 abbrev pub second : ℕ × ℕ → ℕ
 second pair = pair.1
 
-rises-pair : (n : ℕ) (o : Option ℕ) (pairs : List (ℕ × ℕ)) → RisesFrom (n + 1) (map second pairs) → RisesFrom n (map second (pair_with n o ++ pairs))
+rises-pair : (n : ℕ) (o : Option ℕ) (pairs : List (ℕ × ℕ)) → RisesFrom (n + 1) (map second pairs)
+    → RisesFrom n (map second (pair_with n o ++ pairs))
 unfolding IsStrictlySortedBy
 rises-pair n None pairs r = record { sorted = r.sorted; above = all_weaker n (map second pairs) r.above }
-rises-pair n (Some m) pairs r = record { sorted = (all_below n (map second pairs) r.above, r.sorted); above = (omega arith, all_weaker n (map second pairs) r.above) }
+rises-pair n (Some m) pairs r =
+    record {
+      sorted = (all_below n (map second pairs) r.above, r.sorted);
+      above = (omega arith, all_weaker n (map second pairs) r.above);
+    }
 
 rises : (before es : List Entry) → RisesFrom (length before) (map second (overlapping before es))
 unfolding IsStrictlySortedBy
@@ -176,9 +212,12 @@ some_words Block size h = h
 some_words Port size h = omega arith
 some_words Hierarchical size h = omega arith
 
-pub share-have : (a b : Register) → 1 ≤ a.size → 1 ≤ b.size → share_an_address a b ≡ true → (x : ℕ) × HasAddress a x × HasAddress b x
+pub share-have : (a b : Register) → 1 ≤ a.size → 1 ≤ b.size → share_an_address a b ≡ true
+    → (x : ℕ) × HasAddress a x × HasAddress b x
 share-have a b p q h =
-    let parts = and_parts (nat_lt a.address (b.address + words_of b.mode b.size)) (nat_lt b.address (a.address + words_of a.mode a.size)) h in
+    let parts =
+    and_parts (nat_lt a.address (b.address + words_of b.mode b.size))
+    (nat_lt b.address (a.address + words_of a.mode a.size)) h in
     let a_below : a.address < b.address + words_of b.mode b.size = ltb-true _ _ parts.0 in
     let b_below : b.address < a.address + words_of a.mode a.size = ltb-true _ _ parts.1 in
     let a_some : 1 ≤ words_of a.mode a.size = some_words a.mode a.size p in

@@ -1,23 +1,29 @@
 -- Tables that have the same nodes compile alike, and tables and a root have one index.
-use Rattle.std.proofs.Common.{◌≡◌, ◌↔◌, ◌⊎◌, inl, inr, ℕ, zero, suc, ◌+◌, List, [], ◌∷◌, ◌++◌, map, Bool, true, false, ◌&&◌, ◌||◌, T, cond, Option, Some, None, IsSome, is_some, bytes_eq, refl, ap, sym, ◌∙◌, subst}
+use Rattle.std.proofs.Common.{◌≡◌, ◌↔◌, ◌⊎◌, inl, inr, ℕ, zero, suc, ◌+◌, List, [], ◌∷◌, ◌++◌, map, Bool, true, false}
+use Rattle.std.proofs.Common.{◌&&◌, ◌||◌, T, cond, Option, Some, None, IsSome, is_some, bytes_eq, refl, ap, sym, ◌∙◌}
+use Rattle.std.proofs.Common.{subst}
 use Rattle.std.specs.List.{AllByRecursion}
 use Rattle.std.specs.Option.{option_map, option_map_or}
 use Rattle.std.specs.Ordering.{eq_by_cmp}
-use Rattle.std.specs.FinMap.{get, entries, entries_sorted, get-entries, find, is_sorted, same_map, nat_cmp-IsAntisymmetric, slice_cmp-IsAntisymmetric}
+use Rattle.std.specs.FinMap.{get, entries, entries_sorted, get-entries, find, is_sorted, same_map}
+use Rattle.std.specs.FinMap.{nat_cmp-IsAntisymmetric, slice_cmp-IsAntisymmetric}
 use Rattle.std.specs.FinMap.Entries.{below_all, same_entries}
 use Rattle.std.proofs.lemmas.Cmp.{nat_list_cmp_total}
 use Rattle.address_table.specs.Tables.{SameKeys, SameNodes, neither, both}
 use Rattle.address_table.specs.declared.nodes.Node.{Node, out-Node}
 use Rattle.address_table.specs.declared.nodes.Table.{Table}
 use Rattle.node_tree.specs.declared.register.Register.{Register}
-use Rattle.node_tree.specs.declared.refusal.CompileWhy.TheVariants.{UnknownModule, ModuleCycle, TooMany, TooDeep, Duplicate, AddressPastEnd}
+use Rattle.node_tree.specs.declared.refusal.CompileWhy.TheVariants.{UnknownModule, ModuleCycle, TooMany, TooDeep}
+use Rattle.node_tree.specs.declared.refusal.CompileWhy.TheVariants.{Duplicate, AddressPastEnd}
 use Rattle.node_tree.specs.declared.refusal.CompileRefusal.{CompileRefusal}
 use Rattle.node_tree.specs.declared.refusal.CompileRefusal.TheVariants.{At, NoMemory}
 use Rattle.node_tree.specs.Limits.{most_ids}
 use Rattle.node_tree.specs.Maps.{Name, TableMap, RegisterMap, nodes_of}
-use Rattle.node_tree.specs.Names.{Names, itself, child, later, children_of, node_name, node_address, register_of, name_below, IsIndexOf}
+use Rattle.node_tree.specs.Names.{Names, itself, child, later, children_of, node_name, node_address, register_of}
+use Rattle.node_tree.specs.Names.{name_below, IsIndexOf}
 use Rattle.node_tree.specs.Modules as modules
-use Rattle.node_tree.specs.Modules.{Mentions, Reaches, direct, through, HasUnknown, ReachesItself, NoTable, IsFirstTable}
+use Rattle.node_tree.specs.Modules.{Mentions, Reaches, direct, through, HasUnknown, ReachesItself, NoTable}
+use Rattle.node_tree.specs.Modules.{IsFirstTable}
 use Rattle.node_tree.specs.Refusals.{AreKnown, KeepsRules, TellsUnknown, TellsCycle, TellsNode, IsRefusal}
 use Rattle.node_tree.specs.Same.{SameFound, SameTables}
 use Rattle.node_tree.specs.Walk.{visit_of, has_id, siblings, walk, root_walk, first_fault}
@@ -26,7 +32,8 @@ use Rattle.node_tree.proofs.EntryLemmas.{first, second}
 use Rattle.node_tree.proofs.Runs.{Below}
 
 -- two maps that have the same at each name are one
-same_option : (o p : Option Register) → ((r : Register) → o ≡ Some r → p ≡ Some r) → ((r : Register) → p ≡ Some r → o ≡ Some r) → o ≡ p
+same_option : (o p : Option Register) → ((r : Register) → o ≡ Some r → p ≡ Some r)
+    → ((r : Register) → p ≡ Some r → o ≡ Some r) → o ≡ p
 same_option None None to from = refl
 same_option None (Some r) to from = from r refl
 same_option (Some r) p to from = sym (to r refl)
@@ -34,10 +41,12 @@ same_option (Some r) p to from = sym (to r refl)
 by_bytes-apart : (x y : Name) → by_bytes x y ≡ Rattle.std.proofs.Common.Equal → x ≡ y
 by_bytes-apart x y h = slice_cmp-IsAntisymmetric nat_cmp-IsAntisymmetric x y h
 
-pub one_index : (tables : TableMap) (root : Name) (index other : RegisterMap) → IsIndexOf tables root index → IsIndexOf tables root other → index ≡ other
+pub one_index : (tables : TableMap) (root : Name) (index other : RegisterMap) → IsIndexOf tables root index
+    → IsIndexOf tables root other → index ≡ other
 one_index tables root index other is same =
     same_map nat_list_cmp_total (slice_cmp-IsAntisymmetric nat_cmp-IsAntisymmetric) index other
-    (λ name. same_option (get index name) (get other name) (λ r there. (same name r).1 ((is name r).0 there)) (λ r there. (is name r).1 ((same name r).0 there)))
+    (λ name. same_option (get index name) (get other name) (λ r there. (same name r).1 ((is name r).0 there))
+    (λ r there. (is name r).1 ((same name r).0 there)))
 
 keys-sym : (n m : Node) → SameKeys n m → SameKeys m n
 keys-sym n m k = record {
@@ -54,7 +63,8 @@ keys-sym n m k = record {
 
 nodes-sym : (ns ms : List Node) → SameNodes ns ms → SameNodes ms ns
 nodes-sym ns ms neither = neither
-nodes-sym ns ms (both n m ns' ms' keys below rest) = both m n ms' ns' (keys-sym n m keys) (nodes-sym _ _ below) (nodes-sym ns' ms' rest)
+nodes-sym ns ms (both n m ns' ms' keys below rest) =
+    both m n ms' ns' (keys-sym n m keys) (nodes-sym _ _ below) (nodes-sym ns' ms' rest)
 
 found-sym : (o p : Option Table) → SameFound o p → SameFound p o
 found-sym None None h = tt
@@ -65,7 +75,8 @@ found-sym (Some t) (Some u) h = nodes-sym _ _ h
 tables-sym : (tables others : TableMap) → SameTables tables others → SameTables others tables
 tables-sym tables others same = λ name. found-sym (get tables name) (get others name) (same name)
 
-pub both_ways : (P : TableMap → Type 0) → ((tables others : TableMap) → SameTables tables others → P tables → P others) → (tables others : TableMap)
+pub both_ways : (P : TableMap → Type 0) → ((tables others : TableMap) → SameTables tables others → P tables → P others)
+    → (tables others : TableMap)
     → SameTables tables others → P tables ↔ P others
 both_ways P move tables others same = (move tables others same, move others tables (tables-sym tables others same))
 
@@ -84,14 +95,18 @@ AsSame (n ∷ ns) ms = IsLike n ns ms
 
 as_same : (ns ms : List Node) → SameNodes ns ms → AsSame ns ms
 as_same ns ms neither = tt
-as_same ns ms (both n m ns' ms' keys below rest) = record { like = m; rest = ms'; is = refl; keys = keys; below = below; others = rest }
+as_same ns ms (both n m ns' ms' keys below rest) =
+    record { like = m; rest = ms'; is = refl; keys = keys; below = below; others = rest }
 
-nodes-append : (ns ms : List Node) (n m : Node) → SameNodes ns ms → SameKeys n m → SameNodes (out-Node n).nodes.items (out-Node m).nodes.items
+nodes-append : (ns ms : List Node) (n m : Node) → SameNodes ns ms → SameKeys n m
+    → SameNodes (out-Node n).nodes.items (out-Node m).nodes.items
     → SameNodes (ns ++ n ∷ []) (ms ++ m ∷ [])
 nodes-append ns ms n m neither keys below = both n m [] [] keys below neither
-nodes-append ns ms n m (both x y xs ys k b rest) keys below = both x y (xs ++ n ∷ []) (ys ++ m ∷ []) k b (nodes-append xs ys n m rest keys below)
+nodes-append ns ms n m (both x y xs ys k b rest) keys below =
+    both x y (xs ++ n ∷ []) (ys ++ m ∷ []) k b (nodes-append xs ys n m rest keys below)
 
-found-nodes : (o p : Option Table) → SameFound o p → SameNodes (option_map_or (λ t. t.nodes.items) o []) (option_map_or (λ t. t.nodes.items) p [])
+found-nodes : (o p : Option Table) → SameFound o p
+    → SameNodes (option_map_or (λ t. t.nodes.items) o []) (option_map_or (λ t. t.nodes.items) p [])
 found-nodes None None h = neither
 found-nodes None (Some u) h = absurd h
 found-nodes (Some t) None h = absurd h
@@ -116,35 +131,46 @@ module _ (tables others : TableMap) (same : SameTables tables others) where
   nodes-same : (name : Name) → SameNodes (nodes_of tables name) (nodes_of others name)
   nodes-same name = found-nodes (get tables name) (get others name) (same name)
 
-  children_if : (name : Option Name) (ns ms : List Node) → SameNodes ns ms → SameNodes (option_map_or (nodes_of tables) name ns) (option_map_or (nodes_of others) name ms)
+  children_if : (name : Option Name) (ns ms : List Node) → SameNodes ns ms
+      → SameNodes (option_map_or (nodes_of tables) name ns) (option_map_or (nodes_of others) name ms)
   children_if None ns ms below = below
   children_if (Some name) ns ms below = nodes-same name
 
-  children-same : (n m : Node) → SameKeys n m → SameNodes (out-Node n).nodes.items (out-Node m).nodes.items → SameNodes (children_of tables n) (children_of others m)
+  children-same : (n m : Node) → SameKeys n m → SameNodes (out-Node n).nodes.items (out-Node m).nodes.items
+      → SameNodes (children_of tables n) (children_of others m)
   children-same n m keys below =
-      subst (λ name. SameNodes (children_of tables n) (option_map_or (nodes_of others) name (out-Node m).nodes.items)) keys.«module»
+      subst (λ name. SameNodes (children_of tables n) (option_map_or (nodes_of others) name (out-Node m).nodes.items))
+      keys.«module»
       (children_if (out-Node n).«module» (out-Node n).nodes.items (out-Node m).nodes.items below)
 
   -- what nodes name
-  names-same : (ks ms : List Node) (above : Name) (base : ℕ) (name : Name) (r : Register) → SameNodes ks ms → Names tables ks above base name r → Names others ms above base name r
+  names-same : (ks ms : List Node) (above : Name) (base : ℕ) (name : Name) (r : Register) → SameNodes ks ms
+      → Names tables ks above base name r → Names others ms above base name r
   names-same ks ms above base name r alike (itself n ns above' base') =
       let like = as_same (n ∷ ns) ms alike in
       let m = like.like in
       subst (λ ls. Names others ls above' base' (node_name above' n) (register_of base' n)) (sym like.is)
-      (subst (λ x. Names others (m ∷ like.rest) above' base' x (register_of base' n)) (sym (name-same above' n m like.keys))
-      (subst (λ x. Names others (m ∷ like.rest) above' base' (node_name above' m) x) (sym (register-same base' n m like.keys)) (itself m like.rest above' base')))
+      (subst (λ x. Names others (m ∷ like.rest) above' base' x (register_of base' n))
+      (sym (name-same above' n m like.keys))
+      (subst (λ x. Names others (m ∷ like.rest) above' base' (node_name above' m) x)
+      (sym (register-same base' n m like.keys)) (itself m like.rest above' base')))
   names-same ks ms above base name r alike (child n ns above' base' name' r' named) =
       let like = as_same (n ∷ ns) ms alike in
       let m = like.like in
-      let below = names-same (children_of tables n) (children_of others m) (node_name above' n) (node_address base' n) name' r' (children-same n m like.keys like.below) named in
+      let below =
+      names-same (children_of tables n) (children_of others m) (node_name above' n) (node_address base' n) name' r'
+      (children-same n m like.keys like.below) named in
       subst (λ ls. Names others ls above' base' name' r') (sym like.is)
       (child m like.rest above' base' name' r'
-      (subst (λ x. Names others (children_of others m) x (node_address base' m) name' r') (name-same above' n m like.keys)
-      (subst (λ x. Names others (children_of others m) (node_name above' n) x name' r') (address-same base' n m like.keys) below)))
+      (subst (λ x. Names others (children_of others m) x (node_address base' m) name' r')
+      (name-same above' n m like.keys)
+      (subst (λ x. Names others (children_of others m) (node_name above' n) x name' r')
+      (address-same base' n m like.keys) below)))
   names-same ks ms above base name r alike (later n ns above' base' name' r' named) =
       let like = as_same (n ∷ ns) ms alike in
       subst (λ ls. Names others ls above' base' name' r') (sym like.is)
-      (later like.like like.rest above' base' name' r' (names-same ns like.rest above' base' name' r' like.others named))
+      (later like.like like.rest above' base' name' r'
+      (names-same ns like.rest above' base' name' r' like.others named))
 
   -- the modules of nodes, and what they lead to
   mentions-same : (ks ms : List Node) (name : Name) → SameNodes ks ms → Mentions ks name → Mentions ms name
@@ -153,17 +179,21 @@ module _ (tables others : TableMap) (same : SameTables tables others) where
       subst (λ ls. Mentions ls x) (sym like.is) (modules.itself like.like like.rest x (sym like.keys.«module» ∙ is))
   mentions-same ks ms name alike (modules.child n ns x mention) =
       let like = as_same (n ∷ ns) ms alike in
-      subst (λ ls. Mentions ls x) (sym like.is) (modules.child like.like like.rest x (mentions-same _ _ x like.below mention))
+      subst (λ ls. Mentions ls x) (sym like.is)
+      (modules.child like.like like.rest x (mentions-same _ _ x like.below mention))
   mentions-same ks ms name alike (modules.later n ns x mention) =
       let like = as_same (n ∷ ns) ms alike in
-      subst (λ ls. Mentions ls x) (sym like.is) (modules.later like.like like.rest x (mentions-same ns like.rest x like.others mention))
+      subst (λ ls. Mentions ls x) (sym like.is)
+      (modules.later like.like like.rest x (mentions-same ns like.rest x like.others mention))
 
   reaches-same : (a b : Name) → Reaches tables a b → Reaches others a b
   reaches-same a b (direct x y mention) = direct x y (mentions-same _ _ y (nodes-same x) mention)
-  reaches-same a b (through x y z mention rest) = through x y z (mentions-same _ _ y (nodes-same x) mention) (reaches-same y z rest)
+  reaches-same a b (through x y z mention rest) =
+      through x y z (mentions-same _ _ y (nodes-same x) mention) (reaches-same y z rest)
 
   unknown-same : (name : Name) → HasUnknown tables name → HasUnknown others name
-  unknown-same name (m, mention, none) = (m, mentions-same _ _ m (nodes-same name) mention, sym (found-some (get tables m) (get others m) (same m)) ∙ none)
+  unknown-same name (m, mention, none) =
+      (m, mentions-same _ _ m (nodes-same name) mention, sym (found-some (get tables m) (get others m) (same m)) ∙ none)
 
   -- the walk
   has_id-same : (a b : Name) (ns ms : List Node) → a ≡ b → SameNodes ns ms → has_id a ns ≡ has_id b ms
@@ -172,34 +202,53 @@ module _ (tables others : TableMap) (same : SameTables tables others) where
       ap (λ x. bytes_eq x a || has_id a ns') keys.id ∙ ap (λ x. bytes_eq (out-Node m).id x || has_id a ns') is
       ∙ ap (λ x. bytes_eq (out-Node m).id b || x) (has_id-same a b ns' ms' is rest)
 
-  visit-same : (level : ℕ) (above : Name) (base : ℕ) (earlier before : List Node) (n m : Node) → SameNodes earlier before → SameKeys n m
+  visit-same : (level : ℕ) (above : Name) (base : ℕ) (earlier before : List Node) (n m : Node)
+      → SameNodes earlier before → SameKeys n m
       → visit_of level above base earlier n ≡ visit_of level above base before m
   visit-same level above base earlier before n m alike keys =
-      rw (name-same above n m keys, has_id-same (out-Node n).id (out-Node m).id earlier before keys.id alike, register-same base n m keys) refl
+      rw (
+        name-same above n m keys,
+        has_id-same (out-Node n).id (out-Node m).id earlier before keys.id alike,
+        register-same base n m keys,
+      ) refl
 
   abbrev SameBelow : Below → Below → Type 0
-  SameBelow deeper deeper' = (called : Name) (address : ℕ) (ns ms : List Node) → SameNodes ns ms → deeper called address ns ≡ deeper' called address ms
+  SameBelow deeper deeper' =
+      (called : Name) (address : ℕ) (ns ms : List Node) → SameNodes ns ms
+      → deeper called address ns ≡ deeper' called address ms
 
-  siblings-same : (deeper deeper' : Below) → SameBelow deeper deeper' → (level : ℕ) (above : Name) (base : ℕ) (earlier before ns ms : List Node)
+  siblings-same : (deeper deeper' : Below) → SameBelow deeper deeper'
+      → (level : ℕ) (above : Name) (base : ℕ) (earlier before ns ms : List Node)
       → SameNodes earlier before → SameNodes ns ms
       → siblings deeper tables level above base earlier ns ≡ siblings deeper' others level above base before ms
   unfolding siblings
   siblings-same deeper deeper' each level above base earlier before ns ms alike neither = refl
   siblings-same deeper deeper' each level above base earlier before ns ms alike (both n m ns' ms' keys below rest) =
-      let inner : deeper (node_name above n) (node_address base n) (children_of tables n) ≡ deeper' (node_name above m) (node_address base m) (children_of others m) =
-      each (node_name above n) (node_address base n) (children_of tables n) (children_of others m) (children-same n m keys below)
+      let inner : deeper (node_name above n) (node_address base n) (children_of tables n)
+      ≡ deeper' (node_name above m) (node_address base m) (children_of others m) =
+      each (node_name above n) (node_address base n) (children_of tables n) (children_of others m)
+      (children-same n m keys below)
       ∙ ap (λ x. deeper' x (node_address base n) (children_of others m)) (name-same above n m keys)
       ∙ ap (λ x. deeper' (node_name above m) x (children_of others m)) (address-same base n m keys) in
-      let after = siblings-same deeper deeper' each level above base (earlier ++ n ∷ []) (before ++ m ∷ []) ns' ms' (nodes-append earlier before n m alike keys below) rest in
-      ap (λ v. v ∷ (deeper (node_name above n) (node_address base n) (children_of tables n) ++ siblings deeper tables level above base (earlier ++ n ∷ []) ns')) (visit-same level above base earlier before n m alike keys)
-      ∙ ap (λ vs. visit_of level above base before m ∷ (vs ++ siblings deeper tables level above base (earlier ++ n ∷ []) ns')) inner
-      ∙ ap (λ vs. visit_of level above base before m ∷ (deeper' (node_name above m) (node_address base m) (children_of others m) ++ vs)) after
+      let after =
+      siblings-same deeper deeper' each level above base (earlier ++ n ∷ []) (before ++ m ∷ []) ns' ms'
+      (nodes-append earlier before n m alike keys below) rest in
+      ap (λ v. v ∷ (deeper (node_name above n) (node_address base n) (children_of tables n)
+      ++ siblings deeper tables level above base (earlier ++ n ∷ []) ns'))
+      (visit-same level above base earlier before n m alike keys)
+      ∙ ap (λ vs. visit_of level above base before m
+      ∷ (vs ++ siblings deeper tables level above base (earlier ++ n ∷ []) ns')) inner
+      ∙ ap (λ vs. visit_of level above base before m
+      ∷ (deeper' (node_name above m) (node_address base m) (children_of others m) ++ vs)) after
 
-  walk-same : (levels level : ℕ) (above : Name) (base : ℕ) (ns ms : List Node) → SameNodes ns ms → walk tables levels level above base ns ≡ walk others levels level above base ms
+  walk-same : (levels level : ℕ) (above : Name) (base : ℕ) (ns ms : List Node) → SameNodes ns ms
+      → walk tables levels level above base ns ≡ walk others levels level above base ms
   unfolding walk
   walk-same zero level above base ns ms alike = refl
   walk-same (suc levels) level above base ns ms alike =
-      siblings-same (walk tables levels (level + 1)) (walk others levels (level + 1)) (λ called address ks ls. walk-same levels (level + 1) called address ks ls) level above base [] [] ns ms neither alike
+      siblings-same (walk tables levels (level + 1)) (walk others levels (level + 1))
+      (λ called address ks ls. walk-same levels (level + 1) called address ks ls) level above base [] [] ns ms
+      neither alike
 
   root_walk-same : (root : Name) → root_walk tables root ≡ root_walk others root
   root_walk-same root = walk-same (most_ids + 1) 1 [] 0 (nodes_of tables root) (nodes_of others root) (nodes-same root)
@@ -223,13 +272,15 @@ sorted-keys (e ∷ es) h = pair_of _ _ (below-keys e.0 es (first _ _ h)) (sorted
 abbrev forget : Option Table → Option (Unit {0})
 forget o = option_map (λ _. tt) o
 
-forget-cond : (b : Bool) (t : Table) (o : Option Table) (p : Option (Unit {0})) → p ≡ forget o → cond b (Some tt) p ≡ forget (cond b (Some t) o)
+forget-cond : (b : Bool) (t : Table) (o : Option Table) (p : Option (Unit {0})) → p ≡ forget o
+    → cond b (Some tt) p ≡ forget (cond b (Some t) o)
 forget-cond true t o p h = refl
 forget-cond false t o p h = h
 
 find-keys : (q : Name) (es : List (Name × Table)) → find by_bytes q (keys es) ≡ forget (find by_bytes q es)
 find-keys q [] = refl
-find-keys q (e ∷ es) = forget-cond (eq_by_cmp by_bytes q e.0) e.1 (find by_bytes q es) (find by_bytes q (keys es)) (find-keys q es)
+find-keys q (e ∷ es) =
+    forget-cond (eq_by_cmp by_bytes q e.0) e.1 (find by_bytes q es) (find by_bytes q (keys es)) (find-keys q es)
 
 forget-same : (o p : Option Table) → SameFound o p → forget o ≡ forget p
 forget-same None None h = refl
@@ -241,9 +292,12 @@ keys-same : (tables others : TableMap) → SameTables tables others → keys (en
 keys-same tables others same =
     same_entries by_bytes nat_list_cmp_total by_bytes-apart (keys (entries tables)) (keys (entries others))
     (sorted-keys (entries tables) (entries_sorted tables)) (sorted-keys (entries others) (entries_sorted others))
-    (λ q. find-keys q (entries tables) ∙ ap forget (sym (get-entries tables q)) ∙ forget-same (get tables q) (get others q) (same q) ∙ ap forget (get-entries others q) ∙ sym (find-keys q (entries others)))
+    (λ q. find-keys q (entries tables) ∙ ap forget (sym (get-entries tables q))
+    ∙ forget-same (get tables q) (get others q) (same q) ∙ ap forget (get-entries others q)
+    ∙ sym (find-keys q (entries others)))
 
-head_name : (e f : Name × Table) (es fs : List (Name × Table)) → keys (e ∷ es) ≡ keys (f ∷ fs) → (e.0 ≡ f.0) × (keys es ≡ keys fs)
+head_name : (e f : Name × Table) (es fs : List (Name × Table)) → keys (e ∷ es) ≡ keys (f ∷ fs)
+    → (e.0 ≡ f.0) × (keys es ≡ keys fs)
 head_name e f es fs h =
     let head : ◌≡◌ {A = Name × Unit {0}} (e.0, tt) (f.0, tt) = cc in
     let tail : keys es ≡ keys fs = cc in
@@ -252,7 +306,8 @@ head_name e f es fs h =
 abbrev None_of : (Name → Type 0) → List (Name × Table) → Type 0
 None_of P es = AllByRecursion (λ e. P e.0 → ⊥) es
 
-none-same : (P Q : Name → Type 0) → ((name : Name) → Q name → P name) → (es fs : List (Name × Table)) → keys es ≡ keys fs → None_of P es → None_of Q fs
+none-same : (P Q : Name → Type 0) → ((name : Name) → Q name → P name) → (es fs : List (Name × Table))
+    → keys es ≡ keys fs → None_of P es → None_of Q fs
 none-same P Q from [] [] h none = tt
 none-same P Q from [] (f ∷ fs) h none = let bad : ⊥ = cc in absurd bad
 none-same P Q from (e ∷ es) [] h none = let bad : ⊥ = cc in absurd bad
@@ -268,7 +323,8 @@ record IsPlace (before : List (Name × Table)) (name : Name) (fs : List (Name ×
   place : fs ≡ earlier ++ (name, found) ∷ later
   alike : keys before ≡ keys earlier
 
-place-same : (before : List (Name × Table)) (name : Name) (t : Table) (after fs : List (Name × Table)) → keys (before ++ (name, t) ∷ after) ≡ keys fs → IsPlace before name fs
+place-same : (before : List (Name × Table)) (name : Name) (t : Table) (after fs : List (Name × Table))
+    → keys (before ++ (name, t) ∷ after) ≡ keys fs → IsPlace before name fs
 place-same [] name t after [] h = let bad : ⊥ = cc in absurd bad
 place-same [] name t after (f ∷ fs) h =
     let (head, tail) = head_name (name, t) f after fs h in
@@ -289,9 +345,12 @@ module _ (tables others : TableMap) (same : SameTables tables others) where
   no_table-same : (P Q : Name → Type 0) → ((name : Name) → Q name → P name) → NoTable tables P → NoTable others Q
   no_table-same P Q from none = none-same P Q from (entries tables) (entries others) (keys-same tables others same) none
 
-  first-same : (P Q : Name → Type 0) (name : Name) → ((x : Name) → P x → Q x) → ((x : Name) → Q x → P x) → IsFirstTable tables P name → IsFirstTable others Q name
+  first-same : (P Q : Name → Type 0) (name : Name) → ((x : Name) → P x → Q x) → ((x : Name) → Q x → P x)
+      → IsFirstTable tables P name → IsFirstTable others Q name
   first-same P Q name to from is =
-      let other = place-same is.before name is.«table» is.after (entries others) (ap keys (sym is.place) ∙ keys-same tables others same) in
+      let other =
+      place-same is.before name is.«table» is.after (entries others)
+      (ap keys (sym is.place) ∙ keys-same tables others same) in
       record {
         before = other.earlier;
         «table» = other.found;
@@ -305,10 +364,13 @@ module _ (tables others : TableMap) (same : SameTables tables others) where
   back = tables-sym tables others same
 
   no_unknown-same : NoTable tables (HasUnknown tables) → NoTable others (HasUnknown others)
-  no_unknown-same none = no_table-same (HasUnknown tables) (HasUnknown others) (λ name. unknown-same others tables back name) none
+  no_unknown-same none =
+      no_table-same (HasUnknown tables) (HasUnknown others) (λ name. unknown-same others tables back name) none
 
   no_cycle-same : NoTable tables (ReachesItself tables) → NoTable others (ReachesItself others)
-  no_cycle-same none = no_table-same (ReachesItself tables) (ReachesItself others) (λ name. reaches-same others tables back name name) none
+  no_cycle-same none =
+      no_table-same (ReachesItself tables) (ReachesItself others)
+      (λ name. reaches-same others tables back name name) none
 
   some-same : (o p : Option Table) → SameFound o p → IsSome o → IsSome p
   some-same o p alike h = sym (found-some o p alike) ∙ h
@@ -319,7 +381,11 @@ module _ (tables others : TableMap) (same : SameTables tables others) where
   none_found-same (Some t) p alike h = let bad : ⊥ = cc in absurd bad
 
   known-same : (root : Name) → AreKnown tables root → AreKnown others root
-  known-same root known = record { modules = no_unknown-same known.modules; root_table = some-same (get tables root) (get others root) (same root) known.root_table }
+  known-same root known =
+      record {
+        modules = no_unknown-same known.modules;
+        root_table = some-same (get tables root) (get others root) (same root) known.root_table;
+      }
 
   pub kept-same : (root : Name) → KeepsRules tables root → KeepsRules others root
   kept-same root kept = record {
@@ -330,25 +396,38 @@ module _ (tables others : TableMap) (same : SameTables tables others) where
 
   pub index-same : (root : Name) (index : RegisterMap) → IsIndexOf tables root index → IsIndexOf others root index
   index-same root index is = λ name r. (
-    λ there. names-same tables others same (nodes_of tables root) (nodes_of others root) [] 0 name r (nodes-same tables others same root) ((is name r).0 there),
-    λ named. (is name r).1 (names-same others tables back (nodes_of others root) (nodes_of tables root) [] 0 name r (nodes-same others tables back root) named),
+    λ there. names-same tables others same (nodes_of tables root) (nodes_of others root) [] 0 name r
+        (nodes-same tables others same root) ((is name r).0 there),
+    λ named. (is name r).1
+        (names-same others tables back (nodes_of others root) (nodes_of tables root) [] 0 name r
+        (nodes-same others tables back root) named),
   )
 
   unknown_told-same : (root name : Name) → TellsUnknown tables root name → TellsUnknown others root name
   unknown_told-same root name (inl is) =
-      inl (first-same (HasUnknown tables) (HasUnknown others) name (λ x. unknown-same tables others same x) (λ x. unknown-same others tables back x) is)
+      inl (first-same (HasUnknown tables) (HasUnknown others) name (λ x. unknown-same tables others same x)
+      (λ x. unknown-same others tables back x) is)
   unknown_told-same root name (inr (none, is, missing)) =
       inr (no_unknown-same none, is, none_found-same (get tables root) (get others root) (same root) missing)
 
   cycle_told-same : (root name : Name) → TellsCycle tables root name → TellsCycle others root name
-  cycle_told-same root name (known, is) =
-      (known-same root known, first-same (ReachesItself tables) (ReachesItself others) name (λ x. reaches-same tables others same x x) (λ x. reaches-same others tables back x x) is)
+  cycle_told-same root name (known, is) = (
+    known-same root known,
+    first-same (ReachesItself tables) (ReachesItself others) name (λ x. reaches-same tables others same x x)
+        (λ x. reaches-same others tables back x x) is,
+  )
 
-  node_told-same : (root name path : Name) (why : Rattle.node_tree.specs.declared.refusal.CompileWhy.CompileWhy) → TellsNode tables root name path why → TellsNode others root name path why
-  node_told-same root name path why (known, acyclic, is, fault) =
-      (known-same root known, no_cycle-same acyclic, is, ap (first_fault 0) (sym (root_walk-same tables others same root)) ∙ fault)
+  node_told-same : (root name path : Name) (why : Rattle.node_tree.specs.declared.refusal.CompileWhy.CompileWhy)
+      → TellsNode tables root name path why → TellsNode others root name path why
+  node_told-same root name path why (known, acyclic, is, fault) = (
+    known-same root known,
+    no_cycle-same acyclic,
+    is,
+    ap (first_fault 0) (sym (root_walk-same tables others same root)) ∙ fault,
+  )
 
-  pub refused-same : (root : Name) (refusal : CompileRefusal) → IsRefusal tables root refusal → IsRefusal others root refusal
+  pub refused-same : (root : Name) (refusal : CompileRefusal) → IsRefusal tables root refusal
+      → IsRefusal others root refusal
   refused-same root NoMemory h = tt
   refused-same root (At name path UnknownModule) h = (h.0, unknown_told-same root name h.1)
   refused-same root (At name path ModuleCycle) h = (h.0, cycle_told-same root name h.1)

@@ -1,5 +1,7 @@
 -- A binary search among entries in byte order of their names.
-use Rattle.std.proofs.Common.{◌≡◌, ◌⊎◌, inl, inr, ℕ, zero, suc, ◌<◌, ◌≤◌, List, [], ◌∷◌, length, get_or, true, false, T, Some, None, is_eq, Ordering, Less, Equal, Greater, String, Global, string_bytes, refl, ap, sym, ◌∙◌, subst, arith}
+use Rattle.std.proofs.Common.{◌≡◌, ◌⊎◌, inl, inr, ℕ, zero, suc, ◌<◌, ◌≤◌, List, [], ◌∷◌, length, get_or, true, false, T}
+use Rattle.std.proofs.Common.{Some, None, is_eq, Ordering, Less, Equal, Greater, String, Global, string_bytes, refl, ap}
+use Rattle.std.proofs.Common.{sym, ◌∙◌, subst, arith}
 use Rattle.std.specs.Ordering.{eq_by_cmp, ordering_index, ordering_reverse}
 use Rattle.std.specs.List.Sorted.{IsNonDecreasingBy, IsPartitionPoint}
 use Rattle.std.proofs.Math.Nat.{eq-or-lt_of_le}
@@ -20,11 +22,13 @@ at_most_two Less = omega arith
 at_most_two Equal = omega arith
 at_most_two Greater = omega arith
 
-index_rises : (a b q : Name) (r : Ordering) → by_bytes b q ≡ r → by_bytes a b ≡ Less → ordering_index (by_bytes a q) ≤ ordering_index r
+index_rises : (a b q : Name) (r : Ordering) → by_bytes b q ≡ r → by_bytes a b ≡ Less
+    → ordering_index (by_bytes a q) ≤ ordering_index r
 index_rises a b q Less is less = rw (nat_list_cmp_total.trans a b q less is) (omega arith)
 index_rises a b q Equal is less =
     let back : by_bytes q a ≡ by_bytes b a = sym (nat_list_cmp_total.congr b q a is) in
-    let same : by_bytes a q ≡ by_bytes a b = nat_list_cmp_total.antisymm a q ∙ ap ordering_reverse back ∙ sym (nat_list_cmp_total.antisymm a b) in
+    let same : by_bytes a q ≡ by_bytes a b =
+    nat_list_cmp_total.antisymm a q ∙ ap ordering_reverse back ∙ sym (nat_list_cmp_total.antisymm a b) in
     rw (same, less) (omega arith)
 index_rises a b q Greater is less = at_most_two (by_bytes a q)
 
@@ -43,24 +47,31 @@ module _ {V : Type 0} where
   key_cmp q e = by_bytes (string_bytes e.0) q
 
   -- where no name is the one that is sought
-  find-none : (q : Name) (es : List (String Global × V)) → ((k : ℕ) (d : String Global × V) → k < length es → (key_cmp q (get_or es k d) ≡ Less) ⊎ (key_cmp q (get_or es k d) ≡ Greater))
+  find-none : (q : Name) (es : List (String Global × V))
+      → ((k : ℕ) (d : String Global × V) → k < length es
+      → (key_cmp q (get_or es k d) ≡ Less) ⊎ (key_cmp q (get_or es k d) ≡ Greater))
       → find by_bytes q (named es) ≡ None
   find-none q [] apart_all = refl
   find-none q (e ∷ es) apart_all =
-      rw (no_tie (by_bytes q (string_bytes e.0)) (key_cmp q e) (nat_list_cmp_total.antisymm q (string_bytes e.0)) (apart_all zero e (omega arith)))
+      rw (no_tie (by_bytes q (string_bytes e.0)) (key_cmp q e) (nat_list_cmp_total.antisymm q (string_bytes e.0))
+      (apart_all zero e (omega arith)))
       (find-none q es (λ k d h. apart_all (suc k) d (omega arith)))
 
-  pub find-gap : (q : Name) (es : List (String Global × V)) (i : ℕ) → IsPartitionPoint (λ e. key_cmp q e ≡ Less) (λ e. key_cmp q e ≡ Greater) es i → find by_bytes q (named es) ≡ None
+  pub find-gap : (q : Name) (es : List (String Global × V)) (i : ℕ)
+      → IsPartitionPoint (λ e. key_cmp q e ≡ Less) (λ e. key_cmp q e ≡ Greater) es i → find by_bytes q (named es) ≡ None
   find-gap q es i parts =
-      find-none q es (λ k d h. elim (cases_lt k i) [ inl low ↦ inl (parts.0 k d (omega arith) low) | inr high ↦ inr (parts.1 k d high h) ])
+      find-none q es (λ k d h. elim
+      (cases_lt k i) [ inl low ↦ inl (parts.0 k d (omega arith) low) | inr high ↦ inr (parts.1 k d high h) ])
 
   -- a later name is above an earlier one
-  head-below : (x : Name) (es : List (String Global × V)) (j : ℕ) (d : String Global × V) → T (below_all by_bytes x (named es)) → j < length es → by_bytes x (string_bytes (get_or es j d).0) ≡ Less
+  head-below : (x : Name) (es : List (String Global × V)) (j : ℕ) (d : String Global × V)
+      → T (below_all by_bytes x (named es)) → j < length es → by_bytes x (string_bytes (get_or es j d).0) ≡ Less
   head-below x [] j d h k = absurd (omega arith)
   head-below x (e ∷ es) zero d h k = less_of _ (first _ _ h)
   head-below x (e ∷ es) (suc j) d h k = head-below x es j d (second _ _ h) (omega arith)
 
-  rising : (es : List (String Global × V)) (i j : ℕ) (d : String Global × V) → T (is_sorted by_bytes (named es)) → i < j → j < length es
+  rising : (es : List (String Global × V)) (i j : ℕ) (d : String Global × V) → T (is_sorted by_bytes (named es)) → i < j
+      → j < length es
       → by_bytes (string_bytes (get_or es i d).0) (string_bytes (get_or es j d).0) ≡ Less
   rising [] i j d h a b = absurd (omega arith)
   rising (e ∷ es) zero zero d h a b = absurd (omega arith)
@@ -68,21 +79,28 @@ module _ {V : Type 0} where
   rising (e ∷ es) (suc i) zero d h a b = absurd (omega arith)
   rising (e ∷ es) (suc i) (suc j) d h a b = rising es i j d (second _ _ h) (omega arith) (omega arith)
 
-  pub rises : (q : Name) (es : List (String Global × V)) → T (is_sorted by_bytes (named es)) → IsNonDecreasingBy (λ e. ordering_index (key_cmp q e)) es
+  pub rises : (q : Name) (es : List (String Global × V)) → T (is_sorted by_bytes (named es))
+      → IsNonDecreasingBy (λ e. ordering_index (key_cmp q e)) es
   rises q es h i j d le more =
       elim (eq-or-lt_of_le le) [
-        | inl same ↦ subst (λ k. ordering_index (key_cmp q (get_or es i d)) ≤ ordering_index (key_cmp q (get_or es k d))) same (omega arith)
-        | inr lt ↦ index_rises (string_bytes (get_or es i d).0) (string_bytes (get_or es j d).0) q (key_cmp q (get_or es j d)) refl (rising es i j d h lt more)
+        | inl same ↦ subst (λ k. ordering_index (key_cmp q (get_or es i d)) ≤ ordering_index
+            (key_cmp q (get_or es k d))) same (omega arith)
+        | inr lt ↦ index_rises (string_bytes (get_or es i d).0) (string_bytes (get_or es j d).0) q
+            (key_cmp q (get_or es j d)) refl (rising es i j d h lt more)
       ]
 
   -- the entry at a place whose name is the one that is sought
-  pub find-place : (q : Name) (es : List (String Global × V)) (i : ℕ) (e : String Global × V) → T (is_sorted by_bytes (named es)) → i < length es → e ≡ get_or es i e → key_cmp q e ≡ Equal
+  pub find-place : (q : Name) (es : List (String Global × V)) (i : ℕ) (e : String Global × V)
+      → T (is_sorted by_bytes (named es)) → i < length es → e ≡ get_or es i e → key_cmp q e ≡ Equal
       → find by_bytes q (named es) ≡ Some e.1
   find-place q [] i e h k here equal = absurd (omega arith)
   find-place q (x ∷ es) zero e h k here equal =
       let same : key_cmp q x ≡ Equal = subst (λ y. key_cmp q y ≡ Equal) here equal in
-      rw (tie_of (by_bytes q (string_bytes x.0)) (key_cmp q x) (nat_list_cmp_total.antisymm q (string_bytes x.0)) same) (ap (λ y. Some y.1) (sym here))
+      rw (tie_of (by_bytes q (string_bytes x.0)) (key_cmp q x) (nat_list_cmp_total.antisymm q (string_bytes x.0)) same)
+      (ap (λ y. Some y.1) (sym here))
   find-place q (x ∷ es) (suc i) e h k here equal =
       let less : by_bytes (string_bytes x.0) (string_bytes e.0) ≡ Less =
-      subst (λ y. by_bytes (string_bytes x.0) (string_bytes y.0) ≡ Less) (sym here) (head-below (string_bytes x.0) es i e (first _ _ h) (omega arith)) in
-      rw (tied_below (string_bytes x.0) q (string_bytes e.0) less equal) (find-place q es i e (second _ _ h) (omega arith) here equal)
+      subst (λ y. by_bytes (string_bytes x.0) (string_bytes y.0) ≡ Less) (sym here)
+      (head-below (string_bytes x.0) es i e (first _ _ h) (omega arith)) in
+      rw (tied_below (string_bytes x.0) q (string_bytes e.0) less equal)
+      (find-place q es i e (second _ _ h) (omega arith) here equal)

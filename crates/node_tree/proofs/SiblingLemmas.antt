@@ -1,12 +1,14 @@
 -- A node that is told as a duplicate has an earlier sibling with its id.
-use Rattle.std.proofs.Common.{◌≡◌, ◌⊎◌, inl, inr, ℕ, zero, suc, ◌+◌, List, [], ◌∷◌, ◌++◌, length, Bool, true, false, not, Option, Some, None, refl, ap, sym, ◌∙◌, subst, append_assoc}
+use Rattle.std.proofs.Common.{◌≡◌, ◌⊎◌, inl, inr, ℕ, zero, suc, ◌+◌, List, [], ◌∷◌, ◌++◌, length, Bool, true, false}
+use Rattle.std.proofs.Common.{not, Option, Some, None, refl, ap, sym, ◌∙◌, subst, append_assoc}
 use Rattle.std.proofs.lemmas.Bool.{false≢true}
 use Rattle.std.specs.Option.{option_or}
 use Rattle.address_table.specs.Rules.{first_broken}
 use Rattle.address_table.specs.declared.nodes.Node.{Node, out-Node}
 use Rattle.node_tree.specs.Limits.{most_ids}
 use Rattle.node_tree.specs.declared.refusal.CompileWhy.{CompileWhy}
-use Rattle.node_tree.specs.declared.refusal.CompileWhy.TheVariants.{UnknownModule, ModuleCycle, TooMany, TooDeep, Duplicate, AddressPastEnd}
+use Rattle.node_tree.specs.declared.refusal.CompileWhy.TheVariants.{UnknownModule, ModuleCycle, TooMany, TooDeep}
+use Rattle.node_tree.specs.declared.refusal.CompileWhy.TheVariants.{Duplicate, AddressPastEnd}
 use Rattle.node_tree.specs.declared.refusal.CompileRefusal.{CompileRefusal}
 use Rattle.node_tree.specs.declared.refusal.CompileRefusal.TheVariants.{At, NoMemory}
 use Rattle.node_tree.specs.Maps.{Name, TableMap, nodes_of}
@@ -20,17 +22,21 @@ use Rattle.node_tree.proofs.Runs.{Below}
 abbrev Duplicates : Name → Option (Name × CompileWhy) → Type 0
 Duplicates path fault = fault ≡ Some (path, Duplicate)
 
-first_case : (v : Visit) (o : Option CompileWhy) (rest : Option (Name × CompileWhy)) (path : Name) → Duplicates path (fault_or v o rest) → ((o ≡ Some Duplicate) × (v.name ≡ path)) ⊎ Duplicates path rest
+first_case : (v : Visit) (o : Option CompileWhy) (rest : Option (Name × CompileWhy)) (path : Name)
+    → Duplicates path (fault_or v o rest) → ((o ≡ Some Duplicate) × (v.name ≡ path)) ⊎ Duplicates path rest
 first_case v None rest path h = inr h
 first_case v (Some why) rest path h =
     let same : ◌≡◌ {A = Name × CompileWhy} (v.name, why) (path, Duplicate) = cc in
     inl (ap (λ f. Some f.1) same, ap (λ f. f.0) same)
 
-either_fault : (a b : Option (Name × CompileWhy)) (path : Name) → Duplicates path (option_or a b) → Duplicates path a ⊎ Duplicates path b
+either_fault : (a b : Option (Name × CompileWhy)) (path : Name) → Duplicates path (option_or a b)
+    → Duplicates path a ⊎ Duplicates path b
 either_fault None b path h = inr h
 either_fault (Some fault) b path h = inl h
 
-repeated_rule : (a b c d : Bool) → first_broken ((TooMany, a) ∷ (TooDeep, b) ∷ (Duplicate, c) ∷ (AddressPastEnd, d) ∷ []) ≡ Some Duplicate → c ≡ false
+repeated_rule : (a b c d : Bool)
+    → first_broken ((TooMany, a) ∷ (TooDeep, b) ∷ (Duplicate, c) ∷ (AddressPastEnd, d) ∷ []) ≡ Some Duplicate
+    → c ≡ false
 repeated_rule true true true true h = let bad : ⊥ = cc in absurd bad
 repeated_rule true true true false h = let bad : ⊥ = cc in absurd bad
 repeated_rule true true false d h = refl
@@ -43,9 +49,12 @@ not_false false h = absurd (false≢true (sym h))
 
 module _ (tables : TableMap) (root : Name) where
   repeated-in : (deeper : Below) (path : Name)
-      → ((called : Name) (address : ℕ) (ms : List Node) (count : ℕ) → AreSiblings tables root called ms → Duplicates path (first_fault count (deeper called address ms)) → IsRepeated tables root path)
-      → (level : ℕ) (above : Name) (base : ℕ) (ns done : List Node) (count : ℕ) → AreSiblings tables root above (done ++ ns)
-      → Duplicates path (first_fault count (siblings deeper tables level above base done ns)) → IsRepeated tables root path
+      → ((called : Name) (address : ℕ) (ms : List Node) (count : ℕ) → AreSiblings tables root called ms
+      → Duplicates path (first_fault count (deeper called address ms)) → IsRepeated tables root path)
+      → (level : ℕ) (above : Name) (base : ℕ) (ns done : List Node) (count : ℕ)
+      → AreSiblings tables root above (done ++ ns)
+      → Duplicates path (first_fault count (siblings deeper tables level above base done ns))
+      → IsRepeated tables root path
   unfolding siblings
   repeated-in deeper path inner_case level above base [] done count sibs fault = let bad : ⊥ = cc in absurd bad
   repeated-in deeper path inner_case level above base (n ∷ ns) done count sibs fault =
@@ -62,27 +71,36 @@ module _ (tables : TableMap) (root : Name) where
           called = sym here.1;
           earlier = true-id (out-Node n).id done (not_false _ (repeated_rule _ _ _ _ here.0));
         }
-        | inr later ↦ elim (either_fault (first_fault (count + 1) inner) (first_fault (count + 1 + length inner) rest) path (sym (first_fault-append inner rest (count + 1)) ∙ later)) [
-          | inl fault_in ↦ inner_case (node_name above n) (node_address base n) (children_of tables n) (count + 1) (below above done n ns sibs) fault_in
-          | inr fault_after ↦ repeated-in deeper path inner_case level above base ns (done ++ n ∷ []) (count + 1 + length inner)
-              (subst (AreSiblings tables root above) (sym (append_assoc done (n ∷ []) ns)) sibs) fault_after
-        ]
+        | inr later ↦ elim (either_fault (first_fault (count + 1) inner)
+            (first_fault (count + 1 + length inner) rest) path
+            (sym (first_fault-append inner rest (count + 1)) ∙ later)) [
+              | inl fault_in ↦ inner_case (node_name above n) (node_address base n) (children_of tables n) (count + 1)
+                  (below above done n ns sibs) fault_in
+              | inr fault_after ↦ repeated-in deeper path inner_case level above base ns (done ++ n ∷ [])
+                  (count + 1 + length inner)
+                  (subst (AreSiblings tables root above) (sym (append_assoc done (n ∷ []) ns)) sibs) fault_after
+            ]
       ]
 
-  repeated-walk : (path : Name) (levels level : ℕ) (above : Name) (base : ℕ) (ns : List Node) (count : ℕ) → AreSiblings tables root above ns
+  repeated-walk : (path : Name) (levels level : ℕ) (above : Name) (base : ℕ) (ns : List Node) (count : ℕ)
+      → AreSiblings tables root above ns
       → Duplicates path (first_fault count (walk tables levels level above base ns)) → IsRepeated tables root path
   unfolding walk
   repeated-walk path zero level above base ns count sibs fault = let bad : ⊥ = cc in absurd bad
   repeated-walk path (suc levels) level above base ns count sibs fault =
       repeated-in (walk tables levels (level + 1)) path
-      (λ called address ms inner_count sibs_ms inner. repeated-walk path levels (level + 1) called address ms inner_count sibs_ms inner)
+      (λ called address ms inner_count sibs_ms inner. repeated-walk path levels
+      (level + 1) called address ms inner_count sibs_ms inner)
       level above base ns [] count sibs fault
 
 -- the first fault is a duplicate only where an earlier sibling has the id
-pub repeated-root : (tables : TableMap) (root path : Name) → first_fault 0 (root_walk tables root) ≡ Some (path, Duplicate) → IsRepeated tables root path
-repeated-root tables root path fault = repeated-walk tables root path (most_ids + 1) 1 [] 0 (nodes_of tables root) 0 top fault
+pub repeated-root : (tables : TableMap) (root path : Name)
+    → first_fault 0 (root_walk tables root) ≡ Some (path, Duplicate) → IsRepeated tables root path
+repeated-root tables root path fault =
+    repeated-walk tables root path (most_ids + 1) 1 [] 0 (nodes_of tables root) 0 top fault
 
-pub tells-repeated : (tables : TableMap) (root : Name) (refusal : CompileRefusal) → IsRefusal tables root refusal → TellsRepeated tables root refusal
+pub tells-repeated : (tables : TableMap) (root : Name) (refusal : CompileRefusal) → IsRefusal tables root refusal
+    → TellsRepeated tables root refusal
 tells-repeated tables root NoMemory told = tt
 tells-repeated tables root (At name path UnknownModule) told = λ same. let bad : ⊥ = cc in absurd bad
 tells-repeated tables root (At name path ModuleCycle) told = λ same. let bad : ⊥ = cc in absurd bad

@@ -1,14 +1,17 @@
 -- What reading a parsed document gives, said of the bytes that it was parsed from.
-use Rattle.std.proofs.Common.{◌≡◌, ◌≢◌, ℕ, List, [], Option, Some, None, Result, Ok, Err, IfOk, IfErr, MatchResult, slice_get, refl, sym, ◌∙◌, subst}
+use Rattle.std.proofs.Common.{◌≡◌, ◌≢◌, ℕ, List, [], Option, Some, None, Result, Ok, Err, IfOk, IfErr, MatchResult}
+use Rattle.std.proofs.Common.{slice_get, refl, sym, ◌∙◌, subst}
 use Rattle.toml.specs.Data.{Data, Members}
 use Rattle.address_table.specs.declared.nodes.Table.{Table}
 use Rattle.address_table.specs.declared.refusal.TableRefusal.TheVariants as table_refusal
 use Rattle.address_table.proofs.Same.{one_table}
-use Rattle.script_lang.specs.declared.refusal.DocWhy.TheVariants.{NotToml, Shape, NoBoards, ManyBoards, ManyClients, DuplicateBoard}
+use Rattle.script_lang.specs.declared.refusal.DocWhy.TheVariants.{NotToml, Shape, NoBoards, ManyBoards, ManyClients}
+use Rattle.script_lang.specs.declared.refusal.DocWhy.TheVariants.{DuplicateBoard}
 use Rattle.script_lang.specs.declared.refusal.SessionRefusal.{SessionRefusal}
 use Rattle.script_lang.specs.declared.refusal.SessionRefusal.TheVariants as refusal
 use Rattle.script_lang.specs.declared.session.Session.{Session}
-use Rattle.script_lang.specs.Document.{Fault, faults, IsTableAt, IsSession, IsToml, IsNotToml, StandsFor, IsRefusal, SameTableAt, SameSession}
+use Rattle.script_lang.specs.Document.{Fault, faults, IsTableAt, IsSession, IsToml, IsNotToml, StandsFor, IsRefusal}
+use Rattle.script_lang.specs.Document.{SameTableAt, SameSession}
 use Rattle.script_lang.specs.Reading.{TellsFault}
 
 same_at : (value : Option Data) (t u : Option Table) → IsTableAt value t → IsTableAt value u → SameTableAt t u
@@ -51,7 +54,8 @@ only_memory fs (refusal.Table name table_refusal.NoMemory) none h = absurd h
 only_memory fs refusal.NoMemory none h = refl
 
 -- bytes that stand for a session are TOML, so that only want of memory is left
-pub memory_alone : (bytes : List ℕ) (r : SessionRefusal) (session : Session) → (r ≢ refusal.NoMemory → IsNotToml bytes) → StandsFor bytes session → r ≡ refusal.NoMemory
+pub memory_alone : (bytes : List ℕ) (r : SessionRefusal) (session : Session) → (r ≢ refusal.NoMemory → IsNotToml bytes)
+    → StandsFor bytes session → r ≡ refusal.NoMemory
 memory_alone bytes (refusal.Document path why) session h stands = absurd (h (λ same. cc) stands.0 stands.1)
 memory_alone bytes (refusal.Table name why) session h stands = absurd (h (λ same. cc) stands.0 stands.1)
 memory_alone bytes refusal.NoMemory session h stands = refl
@@ -68,13 +72,17 @@ module _ (bytes : List ℕ) (document : Members) (toml : IsToml bytes document) 
   refused_as (refusal.Table name table_refusal.NoMemory) h = absurd h
   refused_as refusal.NoMemory h = tt
 
-  pub refused : (result : Result Session SessionRefusal) → IfErr result (TellsFault (faults document)) → IfErr result (IsRefusal bytes)
+  pub refused : (result : Result Session SessionRefusal) → IfErr result (TellsFault (faults document))
+      → IfErr result (IsRefusal bytes)
   refused (Ok read) h = tt
   refused (Err r) h = refused_as r h
 
-  pub only : (result : Result Session SessionRefusal) → IfOk result (IsSession document) → IfErr result (TellsFault (faults document)) → (session : Session) → StandsFor bytes session
+  pub only : (result : Result Session SessionRefusal) → IfOk result (IsSession document)
+      → IfErr result (TellsFault (faults document)) → (session : Session) → StandsFor bytes session
       → MatchResult result (λ read. SameSession read session) (λ r. r ≡ refusal.NoMemory)
   only (Ok read) found told session stands =
-      one_session document read session found (subst (λ d. IsSession d session) (one_document bytes stands.0 document stands.1 toml) stands.2)
+      one_session document read session found
+      (subst (λ d. IsSession d session) (one_document bytes stands.0 document stands.1 toml) stands.2)
   only (Err r) found told session stands =
-      only_memory (faults document) r (subst (λ d. faults d ≡ []) (one_document bytes stands.0 document stands.1 toml) stands.2.faultless) told
+      only_memory (faults document) r
+      (subst (λ d. faults d ≡ []) (one_document bytes stands.0 document stands.1 toml) stands.2.faultless) told

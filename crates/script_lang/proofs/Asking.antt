@@ -1,5 +1,6 @@
 -- A line that asks for an operation has the numbers that the operation takes.
-use Rattle.std.proofs.Common.{◌≡◌, ℕ, Bool, true, false, if◌then◌else◌, List, [], ◌∷◌, Option, Some, None, codes, refl, sym, subst}
+use Rattle.std.proofs.Common.{◌≡◌, ℕ, Bool, true, false, if◌then◌else◌, List, [], ◌∷◌, Option, Some, None, codes, refl}
+use Rattle.std.proofs.Common.{sym, subst}
 use Rattle.std.specs.Str.{bytes_eq}
 use Rattle.ipb_base.specs.Word.{AreWords}
 use Rattle.script_lang.specs.declared.call.Call.{Call}
@@ -22,13 +23,15 @@ by_takes verb board name numbers true are is = (is, are)
 by_takes verb board name numbers false are is = tt
 
 by_numbers : (verb : Verb) (board name : List ℕ) (found : Option (List ℕ)) → AreSmall found
-    → AsksWell (found >>= λ numbers. if takes verb numbers then Some (Ask (record { verb = verb; board = board; name = name; numbers = numbers })) else None)
+    → AsksWell (found >>= λ numbers. if takes verb numbers then Some
+    (Ask (record { verb = verb; board = board; name = name; numbers = numbers })) else None)
 by_numbers verb board name None are = tt
 by_numbers verb board name (Some numbers) are = by_takes verb board name numbers (takes verb numbers) are refl
 
 by_names : (verb : Verb) (words : List (List ℕ)) (found : Option (List ℕ × List ℕ))
     → AsksWell (found >>= λ names. numbers_of words >>= λ numbers.
-    if takes verb numbers then Some (Ask (record { verb = verb; board = names.0; name = names.1; numbers = numbers })) else None)
+    if takes verb numbers then Some
+    (Ask (record { verb = verb; board = names.0; name = names.1; numbers = numbers })) else None)
 by_names verb words None = tt
 by_names verb words (Some names) = by_numbers verb names.0 names.1 (numbers_of words) (all_small words)
 
@@ -51,10 +54,14 @@ by_word false one other first second = second
 pub command_asks : (words : List (List ℕ)) → AsksWell (command_of words)
 command_asks [] = tt
 command_asks (word ∷ words) =
-    by_word (is_comment word) (Some Nothing) (if bytes_eq word (codes "dispatch") then dispatch_of words else (verb_named word >>= λ verb. call_of verb words)) tt
-    (by_word (bytes_eq word (codes "dispatch")) (dispatch_of words) (verb_named word >>= λ verb. call_of verb words) (dispatch_asks words) (by_verb words (verb_named word)))
+    by_word (is_comment word) (Some Nothing)
+    (if bytes_eq word (codes "dispatch") then dispatch_of words else
+    (verb_named word >>= λ verb. call_of verb words)) tt
+    (by_word (bytes_eq word (codes "dispatch")) (dispatch_of words) (verb_named word >>= λ verb. call_of verb words)
+    (dispatch_asks words) (by_verb words (verb_named word)))
 
-pub takes_asked : (words : List (List ℕ)) (call : Call) → Some (Ask call) ≡ command_of words → takes call.verb call.numbers ≡ true
+pub takes_asked : (words : List (List ℕ)) (call : Call) → Some (Ask call) ≡ command_of words
+    → takes call.verb call.numbers ≡ true
 takes_asked words call is = (subst AsksWell (sym is) (command_asks words)).0
 
 pub numbers_asked : (words : List (List ℕ)) (call : Call) → Some (Ask call) ≡ command_of words → AreWords call.numbers

@@ -1,7 +1,8 @@
 -- The first of all faults of a document, in lists that are put together.
 use Rattle.std.proofs.Common.{◌≡◌, List, [], ◌∷◌, ◌++◌, Some, slice_get}
 use Rattle.address_table.specs.declared.refusal.TableRefusal.TheVariants as table_refusal
-use Rattle.script_lang.specs.declared.refusal.DocWhy.TheVariants.{NotToml, Shape, NoBoards, ManyBoards, ManyClients, DuplicateBoard}
+use Rattle.script_lang.specs.declared.refusal.DocWhy.TheVariants.{NotToml, Shape, NoBoards, ManyBoards, ManyClients}
+use Rattle.script_lang.specs.declared.refusal.DocWhy.TheVariants.{DuplicateBoard}
 use Rattle.script_lang.specs.declared.refusal.SessionRefusal.{SessionRefusal}
 use Rattle.script_lang.specs.declared.refusal.SessionRefusal.TheVariants as refusal
 use Rattle.script_lang.specs.Document.{Fault}
@@ -24,11 +25,14 @@ front_fault xs ys (refusal.Table name table_refusal.NoMemory) h = absurd h
 front_fault xs ys refusal.NoMemory h = tt
 
 -- the same, where the lists before it have no fault
-pub second_fault : (xs ys zs ws : List Fault) (r : SessionRefusal) → xs ≡ [] → TellsFault ys r → TellsFault (xs ++ ys ++ zs ++ ws) r
+pub second_fault : (xs ys zs ws : List Fault) (r : SessionRefusal) → xs ≡ [] → TellsFault ys r
+    → TellsFault (xs ++ ys ++ zs ++ ws) r
 second_fault xs ys zs ws r a h = rw a (front_fault (ys ++ zs) ws r (front_fault ys zs r h))
 
-pub third_fault : (xs ys zs ws : List Fault) (r : SessionRefusal) → xs ≡ [] → ys ≡ [] → TellsFault zs r → TellsFault (xs ++ ys ++ zs ++ ws) r
+pub third_fault : (xs ys zs ws : List Fault) (r : SessionRefusal) → xs ≡ [] → ys ≡ [] → TellsFault zs r
+    → TellsFault (xs ++ ys ++ zs ++ ws) r
 third_fault xs ys zs ws r a b h = rw (a, b) (front_fault zs ws r h)
 
-pub last_fault : (xs ys zs ws : List Fault) (r : SessionRefusal) → xs ≡ [] → ys ≡ [] → zs ≡ [] → TellsFault ws r → TellsFault (xs ++ ys ++ zs ++ ws) r
+pub last_fault : (xs ys zs ws : List Fault) (r : SessionRefusal) → xs ≡ [] → ys ≡ [] → zs ≡ [] → TellsFault ws r
+    → TellsFault (xs ++ ys ++ zs ++ ws) r
 last_fault xs ys zs ws r a b c h = rw (a, b, c) h

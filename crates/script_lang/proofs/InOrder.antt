@@ -9,11 +9,16 @@ use Rattle.script_lang.specs.Reading.{TellsFault}
 use Rattle.script_lang.proofs.FaultLists.{third_fault, last_fault}
 
 module _ (document : Members) (shaped : misfits document ≡ []) (sized : size_faults document ≡ []) where
-  pub at_names : (r : Result Session SessionRefusal) → IfErr r (TellsFault (duplicates [] 0 (boards_of document))) → IfErr r (TellsFault (faults document))
+  pub at_names : (r : Result Session SessionRefusal) → IfErr r (TellsFault (duplicates [] 0 (boards_of document)))
+      → IfErr r (TellsFault (faults document))
   at_names (Ok session) told = tt
-  at_names (Err r) told = third_fault (misfits document) (size_faults document) (duplicates [] 0 (boards_of document)) (tables_faults (tables_of document)) r shaped sized told
+  at_names (Err r) told =
+      third_fault (misfits document) (size_faults document) (duplicates [] 0 (boards_of document))
+      (tables_faults (tables_of document)) r shaped sized told
 
   pub at_tables : duplicates [] 0 (boards_of document) ≡ [] → (r : Result Session SessionRefusal)
       → IfErr r (TellsFault (tables_faults (tables_of document))) → IfErr r (TellsFault (faults document))
   at_tables named (Ok session) told = tt
-  at_tables named (Err r) told = last_fault (misfits document) (size_faults document) (duplicates [] 0 (boards_of document)) (tables_faults (tables_of document)) r shaped sized named told
+  at_tables named (Err r) told =
+      last_fault (misfits document) (size_faults document) (duplicates [] 0 (boards_of document))
+      (tables_faults (tables_of document)) r shaped sized named told

@@ -1,5 +1,6 @@
 -- The numbers of a session lie in their ranges, its fates are known, and it has so many boards and clients.
-use Rattle.std.proofs.Common.{◌≡◌, ℕ, ◌≤◌, ◌==◌, if◌then◌else◌, List, [], ◌∷◌, ◌++◌, length, Bool, true, false, Option, Some, None, codes, nat_lt, refl, subst, arith}
+use Rattle.std.proofs.Common.{◌≡◌, ℕ, ◌≤◌, ◌==◌, if◌then◌else◌, List, [], ◌∷◌, ◌++◌, length, Bool, true, false, Option}
+use Rattle.std.proofs.Common.{Some, None, codes, nat_lt, refl, subst, arith}
 use Rattle.std.specs.List.{AllByRecursion, list_all}
 use Rattle.std.specs.Option.{option_and_then, unwrap_or}
 use Rattle.toml.specs.Data.{Data, Members, get_member, as_str, as_table}
@@ -34,7 +35,8 @@ kept_text : (o : Option (List ℕ)) → holds_of (keeps Fates) o ≡ true → li
 kept_text None h = cc
 kept_text (Some text) h = h
 
-text_there : (ms : Members) (o : Option Data) → get_member (codes "fates") ms ≡ o → is_udp ms ≡ false → keys_faults (board_keys ms) ms ≡ []
+text_there : (ms : Members) (o : Option Data) → get_member (codes "fates") ms ≡ o → is_udp ms ≡ false
+    → keys_faults (board_keys ms) ms ≡ []
     → list_all is_fate (text_at (codes "fates") ms) ≡ true
 text_there ms None is sim none = rw is refl
 text_there ms (Some value) is sim none =
@@ -43,7 +45,8 @@ text_there ms (Some value) is sim none =
     let kept = kept_value sim_keys (codes "fates") ms value (subst (λ keys. keys_faults keys ms ≡ []) rule none) is in
     rw is (kept_text (as_str value) (no_fault (holds_of (keeps Fates) (as_str value)) kept))
 
-fates_there : (ms : Members) (noise : Bool) → has_key (codes "noise") ms ≡ noise → is_udp ms ≡ false → keys_faults (board_keys ms) ms ≡ [] → AreFates (fates_of ms)
+fates_there : (ms : Members) (noise : Bool) → has_key (codes "noise") ms ≡ noise → is_udp ms ≡ false
+    → keys_faults (board_keys ms) ms ≡ [] → AreFates (fates_of ms)
 fates_there ms true is sim none =
     let number = in_rule 0 0xffffffff 0 (codes "noise") ms (omega arith) (omega arith) in
     rw is (omega (arith, number.not_large))
@@ -64,15 +67,18 @@ sim_in_rules ms sim none =
 udp_in_rules : (ms : Members) → LinkKeepsRules (udp_of ms)
 udp_in_rules ms = in_rule 1 10000 100 (codes "wait") ms (omega arith) (omega arith)
 
-link_in_rules : (ms : Members) (udp : Bool) → is_udp ms ≡ udp → keys_faults (board_keys ms) ms ≡ [] → LinkKeepsRules (link_of ms)
+link_in_rules : (ms : Members) (udp : Bool) → is_udp ms ≡ udp → keys_faults (board_keys ms) ms ≡ []
+    → LinkKeepsRules (link_of ms)
 link_in_rules ms true is none = rw is (udp_in_rules ms)
 link_in_rules ms false is none = rw is (sim_in_rules ms is none)
 
 board_in_rules : (ms : Members) → table_faults (board_keys ms) ms ≡ [] → KeepsRules (board_of ms)
-board_in_rules ms none = link_in_rules ms (is_udp ms) refl (parts_none (keys_faults (board_keys ms) ms) (missing (board_keys ms) ms) none).0
+board_in_rules ms none =
+    link_in_rules ms (is_udp ms) refl (parts_none (keys_faults (board_keys ms) ms) (missing (board_keys ms) ms) none).0
 
 boards_in_rules : (document : Members) → shape_faults document ≡ []
-    → AllByRecursion KeepsRules (boards_of document) × (length (boards_of document) ≡ length (items_at (codes "board") document))
+    → AllByRecursion KeepsRules (boards_of document)
+    × (length (boards_of document) ≡ length (items_at (codes "board") document))
 boards_in_rules document none =
     let keys = parts_none (keys_faults document_keys document) (missing document_keys document) none in
     let kept = items_kept document_keys (items.Table Board) (codes "board") document keys.0 refl in
@@ -84,7 +90,8 @@ few most n f h = grind (arith, nat_tests)
 some : (n : ℕ) (f : Fault) → (if n == 0 then f ∷ [] else []) ≡ [] → 1 ≤ n
 some n f h = grind (arith, nat_tests)
 
-kept_more : {A : Type 0} (read : Members → A) (d : Data) (ds : List Data) (o : Option Members) → as_table d ≡ o → length (tables_in read ds) ≤ length ds → length (tables_in read (d ∷ ds)) ≤ length (d ∷ ds)
+kept_more : {A : Type 0} (read : Members → A) (d : Data) (ds : List Data) (o : Option Members) → as_table d ≡ o
+    → length (tables_in read ds) ≤ length ds → length (tables_in read (d ∷ ds)) ≤ length (d ∷ ds)
 kept_more read d ds None is h = rw is (omega arith)
 kept_more read d ds (Some ms) is h = rw is (omega arith)
 
@@ -97,10 +104,14 @@ within bytes session stands =
     let document = stands.0 in
     let boards = items_at (codes "board") document in
     let clients = items_at (codes "client") document in
-    let named = parts_none (misfits document ++ size_faults document ++ duplicates [] 0 (boards_of document)) _ stands.2.faultless in
+    let named =
+    parts_none (misfits document ++ size_faults document ++ duplicates [] 0 (boards_of document)) _
+    stands.2.faultless in
     let sized = parts_none (misfits document ++ size_faults document) _ named.0 in
     let counted = parts_none (misfits document) _ sized.0 in
-    let last = parts_none ((if length boards == 0 then breaks NoBoards else []) ++ (if nat_lt MAX_BOARDS (length boards) then breaks ManyBoards else [])) _ counted.1 in
+    let last =
+    parts_none ((if length boards == 0 then breaks NoBoards else [])
+    ++ (if nat_lt MAX_BOARDS (length boards) then breaks ManyBoards else [])) _ counted.1 in
     let many = parts_none (if length boards == 0 then breaks NoBoards else []) _ last.0 in
     let ruled = boards_in_rules document (mapped_none _ (shape_faults document) counted.0) in
     let some_boards : 1 ≤ length boards = some (length boards) _ many.0 in

@@ -9,13 +9,18 @@ use Rattle.reliable_engine.specs.Settings.{AreLimits}
 use Rattle.script_lang.specs.Sessions.{settings_of}
 
 pub between-checked : (least most default : ℕ) (o : Option ℕ) → least ≤ default → default ≤ most
-    → (least ≤ unwrap_or (checked (is_between least most) o) default) × (unwrap_or (checked (is_between least most) o) default ≤ most)
+    → (least ≤ unwrap_or (checked (is_between least most) o) default)
+    × (unwrap_or (checked (is_between least most) o) default ≤ most)
 between-checked least most default None low high = (low, high)
 between-checked least most default (Some n) low high = grind (arith, nat_tests)
 
 -- the settings of a document are settings
 pub are_limits : (document : Members) → AreLimits (settings_of document)
 are_limits document =
-    let rounds = between-checked 1 255 8 (option_and_then number (get_member (codes "rounds") document)) (omega arith) (omega arith) in
-    let window = between-checked 1 16 16 (option_and_then number (get_member (codes "window") document)) (omega arith) (omega arith) in
+    let rounds =
+    between-checked 1 255 8 (option_and_then number (get_member (codes "rounds") document)) (omega arith)
+    (omega arith) in
+    let window =
+    between-checked 1 16 16 (option_and_then number (get_member (codes "window") document)) (omega arith)
+    (omega arith) in
     record { some_rounds = rounds.0; some_window = window.0; window_in_range = window.1 }

@@ -1,5 +1,6 @@
 -- Reading the tables of a document one after another.
-use Rattle.std.proofs.Common.{◌≡◌, List, [], ◌∷◌, map, String, Global, string_bytes, cond, Option, Some, None, Ordering, Less, Equal, Greater, nat_cmp, refl, sym, ap, ◌∙◌}
+use Rattle.std.proofs.Common.{◌≡◌, List, [], ◌∷◌, map, String, Global, string_bytes, cond, Option, Some, None, Ordering}
+use Rattle.std.proofs.Common.{Less, Equal, Greater, nat_cmp, refl, sym, ap, ◌∙◌}
 use Rattle.std.specs.Ordering.{match_ordering, is_eq}
 use Rattle.std.specs.Cmp.Lexicographic.{slice_cmp}
 use Rattle.std.specs.FinMap.{get, insert, empty, get-insert, get-empty}
@@ -47,11 +48,13 @@ pub none_pending : (all : Members) (tables : TableMap) → ArePending no_members
 none_pending all tables pending name = pending name
 
 -- a name before all others is none of them
-pub absent : (k : String Global) (es : List Entry) → AllByRecursion (λ y. string_cmp k y ≡ Less) (names_of es) → get_member (string_bytes k) (members_view es) ≡ None
+pub absent : (k : String Global) (es : List Entry) → AllByRecursion (λ y. string_cmp k y ≡ Less) (names_of es)
+    → get_member (string_bytes k) (members_view es) ≡ None
 absent k [] h = refl
 absent k (e ∷ es) h = rw h.0 (absent k es h.1)
 
-next_at : (o : Ordering) (rest found : Option Data) (have : Option Table) (d : Data) (t : Table) → (o ≡ Equal → rest ≡ None) → IsTable d t
+next_at : (o : Ordering) (rest found : Option Data) (have : Option Table) (d : Data) (t : Table)
+    → (o ≡ Equal → rest ≡ None) → IsTable d t
     → pending_at (match_ordering o rest (Some d) rest) found have → pending_at rest found (cond (is_eq o) (Some t) have)
 next_at Less rest found have d t last is h = h
 next_at Greater rest found have d t last is h = h
@@ -63,24 +66,30 @@ same_name name k h = (bytes_eq-Decides name k).0 (sym (is_eq-slice_cmp name k) �
 -- one more table is read
 pub next_pending : (k : String Global) (v : Value) (es : List Entry) (all : Members) (tables : TableMap) (t : Table)
     → AllByRecursion (λ y. string_cmp k y ≡ Less) (names_of es) → IsTable (view v) t
-    → ArePending (members_view ((k, v) ∷ es)) all tables → ArePending (members_view es) all (insert tables (string_bytes k) t)
+    → ArePending (members_view ((k, v) ∷ es)) all tables
+    → ArePending (members_view es) all (insert tables (string_bytes k) t)
 next_pending k v es all tables t after is pending name =
     rw (get-insert nat_list_cmp_total tables (string_bytes k) t name)
-    (next_at (slice_cmp nat_cmp name (string_bytes k)) (get_member name (members_view es)) (get_member name all) (get tables name) (view v) t
+    (next_at (slice_cmp nat_cmp name (string_bytes k)) (get_member name (members_view es)) (get_member name all)
+    (get tables name) (view v) t
     (λ same. ap (λ n. get_member n (members_view es)) (same_name name (string_bytes k) same) ∙ absent k es after)
     is (pending name))
 
 -- what is first in a table is first from it on
 pub first-table : (k : String Global) (v : Value) (es : List Entry) (r : SessionRefusal)
-    → TellsFault (table_fault_list (string_bytes k) (table_fault (view v))) r → TellsFault (tables_faults (members_view ((k, v) ∷ es))) r
-first-table k v es r h = front_fault (table_fault_list (string_bytes k) (table_fault (view v))) (tables_faults (members_view es)) r h
+    → TellsFault (table_fault_list (string_bytes k) (table_fault (view v))) r
+    → TellsFault (tables_faults (members_view ((k, v) ∷ es))) r
+first-table k v es r h =
+    front_fault (table_fault_list (string_bytes k) (table_fault (view v))) (tables_faults (members_view es)) r h
 
 -- past a table without faults there are those of the others
-pub past-table : (k : String Global) (v : Value) (es : List Entry) → table_fault (view v) ≡ None → tables_faults (members_view ((k, v) ∷ es)) ≡ tables_faults (members_view es)
+pub past-table : (k : String Global) (v : Value) (es : List Entry) → table_fault (view v) ≡ None
+    → tables_faults (members_view ((k, v) ∷ es)) ≡ tables_faults (members_view es)
 past-table k v es kept = rw kept refl
 
 -- the first of names in order is before the others, which are in order
-pub ordered_parts : (k : String Global) (v : Value) (es : List Entry) → IsStrictlySortedBy string_cmp (names_of ((k, v) ∷ es))
+pub ordered_parts : (k : String Global) (v : Value) (es : List Entry)
+    → IsStrictlySortedBy string_cmp (names_of ((k, v) ∷ es))
     → AllByRecursion (λ y. string_cmp k y ≡ Less) (names_of es) × IsStrictlySortedBy string_cmp (names_of es)
 unfolding IsStrictlySortedBy
 ordered_parts k v es h = h

@@ -69,7 +69,9 @@ call_of verb [] = None
 call_of verb (place ∷ words) = do
   names ← cut_at 58 place
   numbers ← numbers_of words
-  if takes verb numbers then Some (says.Ask (record { verb = verb; board = names.0; name = names.1; numbers = numbers })) else None
+  if takes verb numbers
+      then Some (says.Ask (record { verb = verb; board = names.0; name = names.1; numbers = numbers }))
+      else None
 
 abbrev pub dispatch_of : List (List ℕ) → Option Command
 dispatch_of [] = Some says.Dispatch

@@ -1,5 +1,6 @@
 -- Sessions that are the same, node for node, keep the same rules.
-use Rattle.std.proofs.Common.{◌≡◌, ◌⊎◌, ℕ, Bool, true, false, List, [], ◌∷◌, Option, Some, None, inl, inr, refl, sym, ap, subst, ◌∙◌, slice_get}
+use Rattle.std.proofs.Common.{◌≡◌, ◌⊎◌, ℕ, Bool, true, false, List, [], ◌∷◌, Option, Some, None, inl, inr, refl, sym}
+use Rattle.std.proofs.Common.{ap, subst, ◌∙◌, slice_get}
 use Rattle.std.specs.List.{AllByRecursion, AllZip, list_all}
 use Rattle.std.specs.FinMap.{get}
 use Rattle.address_table.specs.declared.nodes.Table.{Table}
@@ -15,7 +16,8 @@ use Rattle.script_lang.specs.Scripts.{script_faults, steps_of}
 use Rattle.session_input.specs.declared.refusal.Refusal.{Refusal}
 use Rattle.session_input.specs.Below.{TableLaws}
 use Rattle.session_input.specs.Deserved.{IsToldFirst, Compiles, HasIndex, HasBus, AreCompiled, HaveBuses, AreSteps}
-use Rattle.session_input.specs.Deserved.{TellsCompile, TellsBus, TellsLine, TellsFirstBus, BreaksCompiling, BreaksBuses, BreaksScripts, BreaksLinks, BreaksInRun}
+use Rattle.session_input.specs.Deserved.{TellsCompile, TellsBus, TellsLine, TellsFirstBus, BreaksCompiling, BreaksBuses}
+use Rattle.session_input.specs.Deserved.{BreaksScripts, BreaksInRun}
 use Rattle.session_input.proofs.OneAnswer.{of_table}
 
 found_same : (o p : Option Table) → SameTableAt o p → SameFound o p
@@ -24,14 +26,16 @@ found_same None (Some u) same = absurd same
 found_same (Some t) None same = absurd same
 found_same (Some t) (Some u) same = same
 
-first_moved : (Right Right' Told Told' : BoardSpec → Type 0) → ((b : BoardSpec) → Right b → Right' b) → ((b : BoardSpec) → Told b → Told' b)
+first_moved : (Right Right' Told Told' : BoardSpec → Type 0) → ((b : BoardSpec) → Right b → Right' b)
+    → ((b : BoardSpec) → Told b → Told' b)
     → (bs : List BoardSpec) → IsToldFirst Right Told bs → IsToldFirst Right' Told' bs
 first_moved Right Right' Told Told' right told [] first = first
 first_moved Right Right' Told Told' right told (b ∷ bs) (inl here) = inl (told b here)
 first_moved Right Right' Told Told' right told (b ∷ bs) (inr later) =
     inr (right b later.0, first_moved Right Right' Told Told' right told bs later.1)
 
-all_moved : (P Q : BoardSpec → Type 0) → ((b : BoardSpec) → P b → Q b) → (bs : List BoardSpec) → AllByRecursion P bs → AllByRecursion Q bs
+all_moved : (P Q : BoardSpec → Type 0) → ((b : BoardSpec) → P b → Q b) → (bs : List BoardSpec) → AllByRecursion P bs
+    → AllByRecursion Q bs
 all_moved P Q gives [] all = tt
 all_moved P Q gives (b ∷ bs) all = (gives b all.0, all_moved P Q gives bs all.1)
 
@@ -59,12 +63,14 @@ module _ (laws : TableLaws) (s t : Session) (same : SameSession s t) where
   pub told_moved : (root : Name) (r : Refusal) → TellsCompile t.tables root r → TellsCompile s.tables root r
   told_moved root r told =
       let o = of_table t.tables root r told in
-      subst (TellsCompile s.tables root) (sym o.is) ((laws.same_refused s.tables t.tables root (At o.name o.path o.why) same_tables).1 o.of)
+      subst (TellsCompile s.tables root) (sym o.is)
+      ((laws.same_refused s.tables t.tables root (At o.name o.path o.why) same_tables).1 o.of)
 
   compiled_moved : (xs : List RegisterMap) → AreCompiled t xs → AreCompiled s xs
   compiled_moved xs c = record {
     compile = rw same.boards (all_moved (Compiles t.tables) (Compiles s.tables) kept_moved t.boards c.compile);
-    each_index = rw same.boards (zip_moved (HasIndex t.tables) (HasIndex s.tables) index_moved t.boards xs c.each_index);
+    each_index =
+        rw same.boards (zip_moved (HasIndex t.tables) (HasIndex s.tables) index_moved t.boards xs c.each_index);
   }
 
   buses_moved : (xs : List RegisterMap) → HaveBuses t xs → HaveBuses s xs
@@ -81,11 +87,18 @@ module _ (laws : TableLaws) (s t : Session) (same : SameSession s t) where
   pub break_moved : (r : Refusal) → BreaksInRun t r → BreaksInRun s r
   break_moved r (inl a) =
       inl (rw same.boards
-      (first_moved (Compiles t.tables) (Compiles s.tables) (λ b. TellsCompile t.tables b.table r) (λ b. TellsCompile s.tables b.table r)
+      (first_moved (Compiles t.tables) (Compiles s.tables) (λ b. TellsCompile t.tables b.table r)
+      (λ b. TellsCompile s.tables b.table r)
       kept_moved (λ b told. told_moved b.table r told) t.boards a))
   break_moved r (inr (inl b)) =
-      inr (inl (record { indexes = b.indexes; compiled = compiled_moved b.indexes b.compiled; first = rw same.boards b.first }))
-  break_moved r (inr (inr (inl c))) =
-      inr (inr (inl (record { indexes = c.indexes; boards = buses_moved c.indexes c.boards; first = rw (same.boards, same.scripts) c.first })))
-  break_moved r (inr (inr (inr d))) =
-      inr (inr (inr (record { steps = d.steps; scripts = steps_moved d.steps d.scripts; link = rw same.boards d.link; refused = d.refused })))
+      inr (inl (record {
+        indexes = b.indexes;
+        compiled = compiled_moved b.indexes b.compiled;
+        first = rw same.boards b.first;
+      }))
+  break_moved r (inr (inr c)) =
+      inr (inr (record {
+        indexes = c.indexes;
+        boards = buses_moved c.indexes c.boards;
+        first = rw (same.boards, same.scripts) c.first;
+      }))

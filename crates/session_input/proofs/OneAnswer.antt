@@ -1,5 +1,6 @@
 -- A session has one answer to a command.
-use Rattle.std.proofs.Common.{◌≡◌, ◌⊎◌, ℕ, Bool, true, false, List, [], ◌∷◌, Option, Some, None, inl, inr, refl, sym, ap, subst, ◌∙◌, slice_get}
+use Rattle.std.proofs.Common.{◌≡◌, ◌⊎◌, ℕ, Bool, true, false, List, [], ◌∷◌, Option, Some, None, inl, inr, refl, sym}
+use Rattle.std.proofs.Common.{ap, subst, ◌∙◌, slice_get}
 use Rattle.std.specs.List.{AllByRecursion, AllZip, list_all}
 use Rattle.board_bus.specs.declared.range.BusRefusal.{BusRefusal}
 use Rattle.board_bus.specs.Ranges.{refusal_of}
@@ -13,11 +14,13 @@ use Rattle.script_lang.specs.declared.script_refusal.ScriptWhy.{ScriptWhy}
 use Rattle.script_lang.specs.declared.session.Session.{Session}
 use Rattle.script_lang.specs.Scripts.{LineFault, script_faults, steps_of}
 use Rattle.session_input.specs.declared.refusal.Refusal.{Refusal}
-use Rattle.session_input.specs.declared.refusal.Refusal.TheVariants.{TooLong, Document, Table, Compile, Board, Script, NotBuilt}
+use Rattle.session_input.specs.declared.refusal.Refusal.TheVariants.{TooLong, Document, Table, Compile, Board, Script}
 use Rattle.session_input.specs.Below.{TableLaws}
-use Rattle.session_input.specs.Deserved.{IsToldFirst, ranges_of, is_simulated, Compiles, HasIndex, HasBus, AreCompiled, HaveBuses, AreSteps}
-use Rattle.session_input.specs.Deserved.{CanRun, TellsCompile, TellsBus, TellsLine, BreaksCompiling, TellsFirstBus, BreaksBuses, BreaksScripts}
-use Rattle.session_input.specs.Deserved.{BreaksLinks, BreaksInRun}
+use Rattle.session_input.specs.Deserved.{IsToldFirst, ranges_of, Compiles, HasIndex, HasBus, AreCompiled, HaveBuses}
+use Rattle.session_input.specs.Deserved.{AreSteps}
+use Rattle.session_input.specs.Deserved.{TellsCompile, TellsBus, TellsLine, BreaksCompiling, TellsFirstBus, BreaksBuses}
+use Rattle.session_input.specs.Deserved.{BreaksScripts}
+use Rattle.session_input.specs.Deserved.{BreaksInRun}
 
 -- ---- the first board that is not right
 
@@ -28,7 +31,8 @@ all_right Right Told apart (b ∷ bs) right (inl told) = apart b right.0 told
 all_right Right Told apart (b ∷ bs) right (inr later) = all_right Right Told apart bs right.1 later.1
 
 pub one_told : (Right Told Told' : BoardSpec → Type 0) (C : Type 0)
-    → ((b : BoardSpec) → Right b → Told b → ⊥) → ((b : BoardSpec) → Right b → Told' b → ⊥) → ((b : BoardSpec) → Told b → Told' b → C)
+    → ((b : BoardSpec) → Right b → Told b → ⊥) → ((b : BoardSpec) → Right b → Told' b → ⊥)
+    → ((b : BoardSpec) → Told b → Told' b → C)
     → (bs : List BoardSpec) → IsToldFirst Right Told bs → IsToldFirst Right Told' bs → C
 one_told Right Told Told' C apart apart' same [] first second = absurd first
 one_told Right Told Told' C apart apart' same (b ∷ bs) (inl told) (inl told') = same b told told'
@@ -58,7 +62,6 @@ of_bus b (Document path why) told = absurd told
 of_bus b (Table table path why) told = absurd told
 of_bus b (Compile table path why) told = absurd told
 of_bus b (Script client line why) told = absurd told
-of_bus b NotBuilt told = absurd told
 
 pub record IsOfTable (tables : TableMap) (root : Name) (r : Refusal) : Type 0 where
   pub name : Name
@@ -74,7 +77,6 @@ of_table tables root (Document path why) told = absurd told
 of_table tables root (Table table path why) told = absurd told
 of_table tables root (Board name why) told = absurd told
 of_table tables root (Script client line why) told = absurd told
-of_table tables root NotBuilt told = absurd told
 
 pub record IsOfLine (faults : List LineFault) (r : Refusal) : Type 0 where
   pub client : ℕ
@@ -90,7 +92,6 @@ of_line faults (Document path why) told = absurd told
 of_line faults (Table table path why) told = absurd told
 of_line faults (Compile table path why) told = absurd told
 of_line faults (Board name why) told = absurd told
-of_line faults NotBuilt told = absurd told
 
 bus_apart : (r : Refusal) (b : BoardSpec) → HasBus b → TellsBus b r → ⊥
 bus_apart r b right told = let o = of_bus b r told in not_none (refusal_of (ranges_of b.link)) o.why right o.of
@@ -113,15 +114,14 @@ no_line faults r none told =
     let o = of_line faults r told in
     not_none (slice_get faults 0) (o.client, o.line, o.why) (ap (λ fs. slice_get fs 0) none) o.of
 
-true_false : (b : Bool) → b ≡ true → b ≡ false → ⊥
-true_false b x y = cc
-
 module _ (laws : TableLaws) where
-  pub table_apart : (tables : TableMap) (root : Name) (r : Refusal) → KeepsRules tables root → TellsCompile tables root r → ⊥
+  pub table_apart : (tables : TableMap) (root : Name) (r : Refusal) → KeepsRules tables root
+      → TellsCompile tables root r → ⊥
   table_apart tables root r kept told =
       let o = of_table tables root r told in laws.not_refused tables root o.name o.path o.why kept o.of
 
-  pub same_table : (tables : TableMap) (root : Name) (r q : Refusal) → TellsCompile tables root r → TellsCompile tables root q → r ≡ q
+  pub same_table : (tables : TableMap) (root : Name) (r q : Refusal) → TellsCompile tables root r
+      → TellsCompile tables root q → r ≡ q
   same_table tables root r q first second =
       let o = of_table tables root r first in
       let p = of_table tables root q second in
@@ -148,14 +148,9 @@ module _ (laws : TableLaws) where
   -- ---- one session
 
   module _ (s : Session) where
-    later_compiled : (r : Refusal) → BreaksBuses s r ⊎ (BreaksScripts s r ⊎ BreaksLinks s r) → AllByRecursion (Compiles s.tables) s.boards
+    later_compiled : (r : Refusal) → BreaksBuses s r ⊎ BreaksScripts s r → AllByRecursion (Compiles s.tables) s.boards
     later_compiled r (inl b) = b.compiled.compile
-    later_compiled r (inr (inl c)) = c.boards.compiled.compile
-    later_compiled r (inr (inr d)) = d.scripts.boards.compiled.compile
-
-    later_buses : (r : Refusal) → BreaksScripts s r ⊎ BreaksLinks s r → AllByRecursion HasBus s.boards
-    later_buses r (inl c) = c.boards.buses
-    later_buses r (inr d) = d.scripts.boards.buses
+    later_compiled r (inr c) = c.boards.compiled.compile
 
     abbrev faults_of : List RegisterMap → List LineFault
     faults_of indexes = script_faults s.boards indexes s.scripts
@@ -168,19 +163,19 @@ module _ (laws : TableLaws) where
         let same = one_indexes c.indexes d.registers c.boards.compiled d.boards.compiled in
         no_line (faults_of c.indexes) r (ap faults_of same ∙ d.faultless) c.first
 
-    last : (r q : Refusal) → BreaksScripts s r ⊎ BreaksLinks s r → BreaksScripts s q ⊎ BreaksLinks s q → r ≡ q
-    last r q (inl c) (inl e) =
+    last : (r q : Refusal) → BreaksScripts s r → BreaksScripts s q → r ≡ q
+    last r q c e =
         let same = one_indexes e.indexes c.indexes e.boards.compiled c.boards.compiled in
         same_line (faults_of c.indexes) r q c.first (subst (λ xs. TellsLine (faults_of xs) q) same e.first)
-    last r q (inl c) (inr d) = absurd (not_faulty r d.steps c d.scripts)
-    last r q (inr d) (inl c) = absurd (not_faulty q d.steps c d.scripts)
-    last r q (inr d) (inr e) = d.refused ∙ sym e.refused
 
-    after : (r q : Refusal) → BreaksBuses s r ⊎ (BreaksScripts s r ⊎ BreaksLinks s r) → BreaksBuses s q ⊎ (BreaksScripts s q ⊎ BreaksLinks s q) → r ≡ q
+    after : (r q : Refusal) → BreaksBuses s r ⊎ BreaksScripts s r → BreaksBuses s q ⊎ BreaksScripts s q → r ≡ q
     after r q (inl b) (inl e) =
-        one_told HasBus (λ board. TellsBus board r) (λ board. TellsBus board q) (r ≡ q) (bus_apart r) (bus_apart q) (same_bus r q) s.boards b.first e.first
-    after r q (inl b) (inr later) = absurd (all_right HasBus (λ board. TellsBus board r) (bus_apart r) s.boards (later_buses q later) b.first)
-    after r q (inr later) (inl b) = absurd (all_right HasBus (λ board. TellsBus board q) (bus_apart q) s.boards (later_buses r later) b.first)
+        one_told HasBus (λ board. TellsBus board r) (λ board. TellsBus board q) (r ≡ q) (bus_apart r) (bus_apart q)
+        (same_bus r q) s.boards b.first e.first
+    after r q (inl b) (inr later) =
+        absurd (all_right HasBus (λ board. TellsBus board r) (bus_apart r) s.boards later.boards.buses b.first)
+    after r q (inr later) (inl b) =
+        absurd (all_right HasBus (λ board. TellsBus board q) (bus_apart q) s.boards later.boards.buses b.first)
     after r q (inr x) (inr y) = last r q x y
 
     apart : (r : Refusal) (b : BoardSpec) → Compiles s.tables b → TellsCompile s.tables b.table r → ⊥
@@ -188,21 +183,24 @@ module _ (laws : TableLaws) where
 
     pub one_break : (r q : Refusal) → BreaksInRun s r → BreaksInRun s q → r ≡ q
     one_break r q (inl a) (inl e) =
-        one_told (Compiles s.tables) (λ b. TellsCompile s.tables b.table r) (λ b. TellsCompile s.tables b.table q) (r ≡ q) (apart r) (apart q)
+        one_told (Compiles s.tables) (λ b. TellsCompile s.tables b.table r) (λ b. TellsCompile s.tables b.table q)
+        (r ≡ q) (apart r) (apart q)
         (λ b. same_table s.tables b.table r q) s.boards a e
     one_break r q (inl a) (inr later) =
-        absurd (all_right (Compiles s.tables) (λ b. TellsCompile s.tables b.table r) (apart r) s.boards (later_compiled q later) a)
+        absurd (all_right (Compiles s.tables) (λ b. TellsCompile s.tables b.table r) (apart r) s.boards
+        (later_compiled q later) a)
     one_break r q (inr later) (inl a) =
-        absurd (all_right (Compiles s.tables) (λ b. TellsCompile s.tables b.table q) (apart q) s.boards (later_compiled r later) a)
+        absurd (all_right (Compiles s.tables) (λ b. TellsCompile s.tables b.table q) (apart q) s.boards
+        (later_compiled r later) a)
     one_break r q (inr x) (inr y) = after r q x y
 
-    pub runs_unbroken : (r : Refusal) (steps : List (List Step)) → CanRun s steps → BreaksInRun s r → ⊥
+    pub runs_unbroken : (r : Refusal) (steps : List (List Step)) → AreSteps s steps → BreaksInRun s r → ⊥
     runs_unbroken r steps runs (inl a) =
-        all_right (Compiles s.tables) (λ b. TellsCompile s.tables b.table r) (apart r) s.boards runs.scripts.boards.compiled.compile a
+        all_right (Compiles s.tables) (λ b. TellsCompile s.tables b.table r)
+        (apart r) s.boards runs.boards.compiled.compile a
     runs_unbroken r steps runs (inr (inl b)) =
-        all_right HasBus (λ board. TellsBus board r) (bus_apart r) s.boards runs.scripts.boards.buses b.first
-    runs_unbroken r steps runs (inr (inr (inl c))) = not_faulty r steps c runs.scripts
-    runs_unbroken r steps runs (inr (inr (inr d))) = true_false (list_all (λ board. is_simulated board.link) s.boards) runs.links d.link
+        all_right HasBus (λ board. TellsBus board r) (bus_apart r) s.boards runs.boards.buses b.first
+    runs_unbroken r steps runs (inr (inr c)) = not_faulty r steps c runs
 
     pub one_steps : (steps more : List (List Step)) → AreSteps s steps → AreSteps s more → steps ≡ more
     one_steps steps more one other =

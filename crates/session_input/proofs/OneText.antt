@@ -1,17 +1,21 @@
 -- Bytes have one answer to a command.
-use Rattle.std.proofs.Common.{◌≡◌, ◌⊎◌, ℕ, ◌≤◌, ◌<◌, List, [], Option, Some, length, slice_get, inl, inr, refl, sym, ap, subst, ◌∙◌, arith}
+use Rattle.std.proofs.Common.{◌≡◌, ◌⊎◌, ℕ, ◌≤◌, ◌<◌, List, [], Option, Some, length, slice_get, inl, inr, refl, sym, ap}
+use Rattle.std.proofs.Common.{subst, ◌∙◌, arith}
 use Rattle.node_tree.specs.Maps.{Name, RegisterMap}
 use Rattle.script_lang.specs.declared.operation.Step.{Step}
 use Rattle.script_lang.specs.declared.refusal.DocWhy.{DocWhy}
-use Rattle.script_lang.specs.declared.refusal.DocWhy.TheVariants.{NotToml, Shape, NoBoards, ManyBoards, ManyClients, DuplicateBoard}
+use Rattle.script_lang.specs.declared.refusal.DocWhy.TheVariants.{NotToml, Shape, NoBoards, ManyBoards, ManyClients}
+use Rattle.script_lang.specs.declared.refusal.DocWhy.TheVariants.{DuplicateBoard}
 use Rattle.script_lang.specs.declared.session.Session.{Session}
-use Rattle.script_lang.specs.Document.{Fault, in_document, in_table, faults, HasFirstFault, IsToml, IsNotToml, SameSession, StandsFor}
+use Rattle.script_lang.specs.Document.{Fault, in_document, in_table, faults, HasFirstFault, IsToml, IsNotToml}
+use Rattle.script_lang.specs.Document.{SameSession, StandsFor}
 use Rattle.toml.specs.Data.{Members}
 use Rattle.session_input.specs.declared.refusal.Refusal.{Refusal}
-use Rattle.session_input.specs.declared.refusal.Refusal.TheVariants.{TooLong, Document, Table, Compile, Board, Script, NotBuilt}
+use Rattle.session_input.specs.declared.refusal.Refusal.TheVariants.{TooLong, Document, Table, Compile, Board, Script}
 use Rattle.session_input.specs.Below.{DocumentLaws, TableLaws}
 use Rattle.session_input.specs.Numbers.{document_bytes}
-use Rattle.session_input.specs.Deserved.{BreaksInRun, BreaksInCheck, DeservesUnread, BreaksRule, Deserves, IsRunnable, IsListed, TellsCompile, AreSteps}
+use Rattle.session_input.specs.Deserved.{BreaksInRun, BreaksInCheck, DeservesUnread, BreaksRule, Deserves, IsRunnable}
+use Rattle.session_input.specs.Deserved.{IsListed, TellsCompile, AreSteps}
 use Rattle.session_input.proofs.OneAnswer.{one_break, runs_unbroken, one_steps, same_table, table_apart}
 use Rattle.session_input.proofs.Moved.{root_moved, told_moved, steps_moved, break_moved}
 
@@ -40,7 +44,6 @@ kind_of bytes (Table table path why) d = inr (inr (in_table table path why, refl
 kind_of bytes (Compile table path why) d = absurd d
 kind_of bytes (Board name why) d = absurd d
 kind_of bytes (Script client line why) d = absurd d
-kind_of bytes NotBuilt d = absurd d
 
 not_both_sizes : (n : ℕ) → document_bytes < n → n ≤ document_bytes → ⊥
 not_both_sizes n long fits = omega (arith, long, fits)
@@ -54,7 +57,8 @@ one_document bytes d e one other =
 not_first : (fs : List Fault) (f : Fault) → fs ≡ [] → slice_get fs 0 ≡ Some f → ⊥
 not_first fs f none first = cc
 
-stands_unread : (bytes : List ℕ) (s : Session) (r : Refusal) → length bytes ≤ document_bytes → StandsFor bytes s → IsKind bytes r → ⊥
+stands_unread : (bytes : List ℕ) (s : Session) (r : Refusal) → length bytes ≤ document_bytes → StandsFor bytes s
+    → IsKind bytes r → ⊥
 stands_unread bytes s r fits stands (inl long) = not_both_sizes (length bytes) long.1 fits
 stands_unread bytes s r fits stands (inr (inl none)) = none.2 stands.0 stands.1
 stands_unread bytes s r fits stands (inr (inr has)) =
@@ -81,17 +85,22 @@ module _ (documents : DocumentLaws) where
       → ((s t : Session) (r : Refusal) → SameSession s t → Breaks t r → Breaks s r)
       → (bytes : List ℕ) (r q : Refusal) → Deserves Breaks bytes r → Deserves Breaks bytes q → r ≡ q
   one_deserved Breaks one moved bytes r q (inl a) (inl b) = same_kind bytes r q (kind_of bytes r a) (kind_of bytes q b)
-  one_deserved Breaks one moved bytes r q (inl a) (inr b) = absurd (stands_unread bytes b.session r b.fits b.stands (kind_of bytes r a))
-  one_deserved Breaks one moved bytes r q (inr a) (inl b) = absurd (stands_unread bytes a.session q a.fits a.stands (kind_of bytes q b))
+  one_deserved Breaks one moved bytes r q (inl a) (inr b) =
+      absurd (stands_unread bytes b.session r b.fits b.stands (kind_of bytes r a))
+  one_deserved Breaks one moved bytes r q (inr a) (inl b) =
+      absurd (stands_unread bytes a.session q a.fits a.stands (kind_of bytes q b))
   one_deserved Breaks one moved bytes r q (inr a) (inr b) =
-      one a.session r q a.broken (moved a.session b.session q (documents.one_session bytes a.session b.session a.stands b.stands) b.broken)
+      one a.session r q a.broken
+      (moved a.session b.session q (documents.one_session bytes a.session b.session a.stands b.stands) b.broken)
 
   -- a session that keeps the rules of a command
   pub not_deserved : (Breaks : Session → Refusal → Type 0)
       → ((s t : Session) (r : Refusal) → SameSession s t → Breaks t r → Breaks s r)
-      → (bytes : List ℕ) (s : Session) (r : Refusal) → length bytes ≤ document_bytes → StandsFor bytes s → (Breaks s r → ⊥)
+      → (bytes : List ℕ) (s : Session) (r : Refusal) → length bytes ≤ document_bytes → StandsFor bytes s
+      → (Breaks s r → ⊥)
       → Deserves Breaks bytes r → ⊥
-  not_deserved Breaks moved bytes s r fits stands unbroken (inl a) = stands_unread bytes s r fits stands (kind_of bytes r a)
+  not_deserved Breaks moved bytes s r fits stands unbroken (inl a) =
+      stands_unread bytes s r fits stands (kind_of bytes r a)
   not_deserved Breaks moved bytes s r fits stands unbroken (inr b) =
       unbroken (moved s b.session r (documents.one_session bytes s b.session stands b.stands) b.broken)
 
@@ -100,22 +109,26 @@ module _ (documents : DocumentLaws) where
         → IsRunnable bytes s steps → IsRunnable bytes t more → SameSession s t × (steps ≡ more)
     run_once bytes s t steps more one other =
         let same = documents.one_session bytes s t one.stands other.stands in
-        (same, one_steps tables s steps more one.runs.scripts (steps_moved tables s t same more other.runs.scripts))
+        (same, one_steps tables s steps more one.runs (steps_moved tables s t same more other.runs))
 
-    pub run_refused_once : (bytes : List ℕ) (r q : Refusal) → Deserves BreaksInRun bytes r → Deserves BreaksInRun bytes q → r ≡ q
+    pub run_refused_once : (bytes : List ℕ) (r q : Refusal) → Deserves BreaksInRun bytes r
+        → Deserves BreaksInRun bytes q → r ≡ q
     run_refused_once bytes r q one other =
-        one_deserved BreaksInRun (λ s. one_break tables s) (λ s t r same broken. break_moved tables s t same r broken) bytes r q one other
+        one_deserved BreaksInRun (λ s. one_break tables s)
+        (λ s t r same broken. break_moved tables s t same r broken) bytes r q one other
 
     pub run_not_both : (bytes : List ℕ) (s : Session) (steps : List (List Step)) (r : Refusal)
         → IsRunnable bytes s steps → Deserves BreaksInRun bytes r → ⊥
     run_not_both bytes s steps r runs deserved =
-        not_deserved BreaksInRun (λ s t r same broken. break_moved tables s t same r broken) bytes s r runs.fits runs.stands
+        not_deserved BreaksInRun
+        (λ s t r same broken. break_moved tables s t same r broken) bytes s r runs.fits runs.stands
         (runs_unbroken tables s r steps runs.runs) deserved
 
     pub list_once : (bytes root : List ℕ) (x y : RegisterMap) → IsListed bytes root x → IsListed bytes root y → x ≡ y
     list_once bytes root x y one other =
         let same = documents.one_session bytes one.session other.session one.stands other.stands in
-        tables.one_index one.session.tables root x y one.is_index (root_moved tables one.session other.session same root y other.is_index)
+        tables.one_index one.session.tables root x y one.is_index
+        (root_moved tables one.session other.session same root y other.is_index)
 
     pub list_refused_once : (bytes root : List ℕ) (r q : Refusal)
         → Deserves (BreaksInCheck root) bytes r → Deserves (BreaksInCheck root) bytes q → r ≡ q
@@ -123,7 +136,10 @@ module _ (documents : DocumentLaws) where
         one_deserved (BreaksInCheck root) (λ s r q a b. same_table tables s.tables root r q a b)
         (λ s t r same broken. told_moved tables s t same root r broken) bytes r q one other
 
-    pub list_not_both : (bytes root : List ℕ) (x : RegisterMap) (r : Refusal) → IsListed bytes root x → Deserves (BreaksInCheck root) bytes r → ⊥
+    pub list_not_both : (bytes root : List ℕ) (x : RegisterMap) (r : Refusal) → IsListed bytes root x
+        → Deserves (BreaksInCheck root) bytes r → ⊥
     list_not_both bytes root x r lists deserved =
-        not_deserved (BreaksInCheck root) (λ s t r same broken. told_moved tables s t same root r broken) bytes lists.session r lists.fits lists.stands
+        not_deserved (BreaksInCheck root)
+        (λ s t r same broken. told_moved tables s t same root r broken) bytes lists.session r lists.fits
+        lists.stands
         (λ broken. table_apart tables lists.session.tables root r lists.compiles broken) deserved

@@ -1,6 +1,6 @@
 -- What the bytes of a document are to a command: what it runs or lists, or the first rule that they break. Profile.
-use Rattle.std.specs.Prelude.{◌≡◌, ◌⊎◌, ℕ, ◌≤◌, ◌<◌, Bool, true, false, List, [], ◌∷◌, length, Some, None}
-use Rattle.std.specs.List.{AllByRecursion, AllZip, list_all, slice_get}
+use Rattle.std.specs.Prelude.{◌≡◌, ◌⊎◌, ℕ, ◌≤◌, ◌<◌, List, [], ◌∷◌, length, Some, None}
+use Rattle.std.specs.List.{AllByRecursion, AllZip, slice_get}
 use Rattle.board_bus.specs.declared.range.Range.{Range}
 use Rattle.board_bus.specs.Ranges.{refusal_of}
 use Rattle.board_node.specs.declared.spec.LinkSpec.{LinkSpec}
@@ -16,7 +16,7 @@ use Rattle.script_lang.specs.declared.session.Session.{Session}
 use Rattle.script_lang.specs.Document.{HasFirstFault, IsNotToml, StandsFor, in_document, in_table}
 use Rattle.script_lang.specs.Scripts.{LineFault, script_faults, steps_of}
 use Rattle.session_input.specs.declared.refusal.Refusal.{Refusal}
-use Rattle.session_input.specs.declared.refusal.Refusal.TheVariants.{TooLong, Document, Table, Compile, Board, Script, NotBuilt}
+use Rattle.session_input.specs.declared.refusal.Refusal.TheVariants.{TooLong, Document, Table, Compile, Board, Script}
 use Rattle.session_input.specs.declared.refusal.Unread.{Unread}
 use Rattle.session_input.specs.declared.refusal.Unread.TheVariants as unread
 use Rattle.session_input.specs.Numbers.{document_bytes}
@@ -30,11 +30,6 @@ IsToldFirst IsRight IsTold (board ∷ boards) = IsTold board ⊎ (IsRight board 
 abbrev pub ranges_of : LinkSpec → List Range
 ranges_of (Sim mtu buffers first ranges fates) = ranges
 ranges_of (Udp address port wait) = []
-
--- a link to a board in the program's own memory, whatever its network loses
-abbrev pub is_simulated : LinkSpec → Bool
-is_simulated (Sim mtu buffers first ranges fates) = true
-is_simulated (Udp address port wait) = false
 
 -- the board's table is one of these and compiles; the index that it compiles into
 abbrev pub Compiles : TableMap → BoardSpec → Type 0
@@ -57,17 +52,12 @@ pub record HaveBuses (session : Session) (indexes : List RegisterMap) : Type 0 w
   pub compiled : AreCompiled session indexes
   pub buses : AllByRecursion HasBus session.boards
 
--- and no line of a script breaks a rule; then the scripts are these steps
+-- and no line of a script breaks a rule; then the session can be run, and the scripts are these steps
 pub record AreSteps (session : Session) (steps : List (List Step)) : Type 0 where
   pub registers : List RegisterMap
   pub boards : HaveBuses session registers
   pub faultless : script_faults session.boards registers session.scripts ≡ []
   pub meant : steps ≡ steps_of session.boards registers session.scripts
-
--- A session can be run: its tables, its boards and its scripts keep the rules, and every board is simulated.
-pub record CanRun (session : Session) (steps : List (List Step)) : Type 0 where
-  pub scripts : AreSteps session steps
-  pub links : list_all (λ board. is_simulated board.link) session.boards ≡ true
 
 -- what refusals tell of one board, or of one table: the rule that it breaks
 abbrev pub TellsCompile : TableMap → Name → Refusal → Type 0
@@ -84,9 +74,10 @@ TellsLine faults (Script client line why) = slice_get faults 0 ≡ Some (client,
 TellsLine faults _ = ⊥
 
 -- The first rule that a session breaks that is to be run: some table does not compile; or all do, and some board has no
--- bus; or all have one, and a line of a script is faulty; or none is, and some board is not simulated.
+-- bus; or all have one, and a line of a script is faulty.
 abbrev pub BreaksCompiling : TableMap → List BoardSpec → Refusal → Type 0
-BreaksCompiling tables boards refusal = IsToldFirst (Compiles tables) (λ board. TellsCompile tables board.table refusal) boards
+BreaksCompiling tables boards refusal =
+    IsToldFirst (Compiles tables) (λ board. TellsCompile tables board.table refusal) boards
 
 abbrev pub TellsFirstBus : List BoardSpec → Refusal → Type 0
 TellsFirstBus boards refusal = IsToldFirst HasBus (λ board. TellsBus board refusal) boards
@@ -101,18 +92,11 @@ pub record BreaksScripts (session : Session) (refusal : Refusal) : Type 0 where
   pub boards : HaveBuses session indexes
   pub first : TellsLine (script_faults session.boards indexes session.scripts) refusal
 
-pub record BreaksLinks (session : Session) (refusal : Refusal) : Type 0 where
-  pub steps : List (List Step)
-  pub scripts : AreSteps session steps
-  pub link : list_all (λ board. is_simulated board.link) session.boards ≡ false
-  pub refused : refusal ≡ NotBuilt
-
 abbrev pub BreaksInRun : Session → Refusal → Type 0
 BreaksInRun session refusal =
     BreaksCompiling session.tables session.boards refusal
     ⊎ BreaksBuses session refusal
     ⊎ BreaksScripts session refusal
-    ⊎ BreaksLinks session refusal
 
 -- the first rule that the tables of a session break for a listing of this one
 abbrev pub BreaksInCheck : Name → Session → Refusal → Type 0
@@ -123,7 +107,8 @@ abbrev pub DeservesUnread : List ℕ → Refusal → Type 0
 DeservesUnread bytes TooLong = document_bytes < length bytes
 DeservesUnread bytes (Document path NotToml) = (length bytes ≤ document_bytes) × (path ≡ []) × IsNotToml bytes
 DeservesUnread bytes (Document path why) = (length bytes ≤ document_bytes) × HasFirstFault bytes (in_document path why)
-DeservesUnread bytes (Table table path why) = (length bytes ≤ document_bytes) × HasFirstFault bytes (in_table table path why)
+DeservesUnread bytes (Table table path why) =
+    (length bytes ≤ document_bytes) × HasFirstFault bytes (in_table table path why)
 DeservesUnread bytes _ = ⊥
 
 -- the bytes are the document of a session, which breaks a rule of a command first
@@ -141,7 +126,7 @@ Deserves Breaks bytes refusal = DeservesUnread bytes refusal ⊎ BreaksRule Brea
 pub record IsRunnable (bytes : List ℕ) (session : Session) (steps : List (List Step)) : Type 0 where
   pub fits : length bytes ≤ document_bytes
   pub stands : StandsFor bytes session
-  pub runs : CanRun session steps
+  pub runs : AreSteps session steps
 
 -- the bytes stand for a session, of which this is the index of a table
 pub record IsListed (bytes root : List ℕ) (index : RegisterMap) : Type 0 where

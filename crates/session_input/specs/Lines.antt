@@ -3,7 +3,7 @@ use Rattle.std.specs.Prelude.{ℕ, List, [], ◌∷◌, ◌++◌, codes}
 use Rattle.std.specs.List.{flat_map}
 use Rattle.std.specs.Fmt.{decimal}
 use Rattle.session_input.specs.declared.refusal.Refusal.{Refusal}
-use Rattle.session_input.specs.declared.refusal.Refusal.TheVariants.{TooLong, Document, Table, Compile, Board, Script, NotBuilt}
+use Rattle.session_input.specs.declared.refusal.Refusal.TheVariants.{TooLong, Document, Table, Compile, Board, Script}
 use Rattle.session_input.specs.Names.{document_rule, table_rule, compile_rule, bus_rule, script_rule}
 
 -- an empty path is shown as a hyphen
@@ -18,12 +18,15 @@ positions (first ∷ rest) = decimal first ++ flat_map (λ position. codes "." +
 
 abbrev pub refusal_line : Refusal → List ℕ
 refusal_line TooLong = codes "refused: document - TooLong\n"
-refusal_line (Document path why) = codes "refused: document " ++ (shown path ++ (codes " " ++ (document_rule why ++ codes "\n")))
+refusal_line (Document path why) =
+    codes "refused: document " ++ (shown path ++ (codes " " ++ (document_rule why ++ codes "\n")))
 refusal_line (Table table path why) =
-    codes "refused: table " ++ (table ++ (codes " " ++ (shown (positions path) ++ (codes " " ++ (table_rule why ++ codes "\n")))))
+    codes "refused: table "
+    ++ (table ++ (codes " " ++ (shown (positions path) ++ (codes " " ++ (table_rule why ++ codes "\n")))))
 refusal_line (Compile table path why) =
-    codes "refused: compile " ++ (table ++ (codes " " ++ (shown path ++ (codes " " ++ (compile_rule why ++ codes "\n")))))
+    codes "refused: compile "
+    ++ (table ++ (codes " " ++ (shown path ++ (codes " " ++ (compile_rule why ++ codes "\n")))))
 refusal_line (Board name why) = codes "refused: board " ++ (name ++ (codes " " ++ (bus_rule why ++ codes "\n")))
 refusal_line (Script client line why) =
-    codes "refused: script " ++ (decimal client ++ (codes " " ++ (decimal line ++ (codes " " ++ (script_rule why ++ codes "\n")))))
-refusal_line NotBuilt = codes "refused: document - NotBuilt\n"
+    codes "refused: script "
+    ++ (decimal client ++ (codes " " ++ (decimal line ++ (codes " " ++ (script_rule why ++ codes "\n")))))

@@ -1,7 +1,7 @@
-//! The rules on boards: each compiles its table, has a bus, and has a link that the program can run.
+//! The rules on boards: each compiles its table and has a bus.
 
 ghost use Rattle.std.specs.Prelude.{◌≡◌, None, IfOk, IfErr, OnOk};
-ghost use Rattle.std.specs.List.{AllByRecursion, AllZip, list_all};
+ghost use Rattle.std.specs.List.{AllByRecursion, AllZip};
 ghost use Rattle.board_bus.specs.Ranges.{refusal_of};
 ghost use Rattle.node_tree.specs.Refusals.{KeepsRules};
 ghost use Rattle.node_tree.specs.Names.{IsIndexOf};
@@ -80,26 +80,4 @@ pub(crate) fn check_buses(alloc: Global, boards: &[BoardSpec]) -> Result<(), Unr
         check_bus(alloc, board)?;
     }
     Ok(())
-}
-
-/// Whether a link leads to a board in the program's own memory.
-fn is_simulated(link: &LinkSpec) -> bool
-    ensures { result ≡ spec.is_simulated link.now }
-{
-    match link {
-        LinkSpec::Sim { .. } => true,
-        LinkSpec::Udp { .. } => false,
-    }
-}
-
-/// Whether every board is in the program's own memory.
-pub(crate) fn all_simulated(boards: &[BoardSpec]) -> bool
-    ensures { result ≡ list_all (λ board. spec.is_simulated board.link) boards.now }
-{
-    for board in boards {
-        if !is_simulated(&board.link) {
-            return false;
-        }
-    }
-    true
 }

@@ -31,7 +31,6 @@ impl Refusal {
             Refusal::Script { client, line, why } => {
                 script_line(alloc, *client, *line, script_rule(*why))
             }
-            Refusal::NotBuilt => document_line(alloc, "-", "NotBuilt"),
         }
     }
 }

@@ -10,7 +10,7 @@ ghost use Rattle.script_lang.specs.Scripts.{script_faults, steps_of as meant_ste
 ghost use Rattle.session_input.specs.Deserved as spec;
 ghost use Rattle.session_input.specs.Numbers.{document_bytes};
 
-use crate::checking::{all_simulated, check_buses, index_of, indexes_of};
+use crate::checking::{check_buses, index_of, indexes_of};
 use crate::refusal::{MAX_DOCUMENT, Refusal, Unread};
 use address_table::TableRefusal;
 use node_tree::Index;
@@ -88,7 +88,7 @@ fn refused(refusal: SessionRefusal) -> Unread
 /// The steps of a session that can be run.
 fn steps_of(alloc: Global, session: &Session) -> Result<Vec<Steps>, Unread>
     requires { IsWithin session.now }
-    ensures runs { IfOk result (λ steps. spec.CanRun session.now steps.items) }
+    ensures runs { IfOk result (λ steps. spec.AreSteps session.now steps.items) }
     ensures refused { IfErr result (spec.Tells (spec.BreaksInRun session.now)) }
     ensures packed { IfOk result (λ steps. AllByRecursion (AllByRecursion CanBePacked) steps.items) }
     ensures few { IfOk result (λ steps. AllByRecursion HaveFewPieces steps.items) }
@@ -98,12 +98,7 @@ fn steps_of(alloc: Global, session: &Session) -> Result<Vec<Steps>, Unread>
     let boards = session.boards.as_slice();
     let indexes = indexes_of(alloc, &session.tables, boards)?;
     check_buses(alloc, boards)?;
-    let steps = compiled(alloc, session, &indexes)?;
-    if all_simulated(boards) {
-        Ok(steps)
-    } else {
-        Err(Unread::Refused(Refusal::NotBuilt))
-    }
+    compiled(alloc, session, &indexes)
 }
 
 /// The steps of the scripts, by an index for each board.

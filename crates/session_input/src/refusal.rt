@@ -46,8 +46,6 @@ pub enum Refusal {
         line: u32,
         why: ScriptWhy,
     },
-    /// The document is in order, and has a board on a network, which this program cannot run yet.
-    NotBuilt,
 }
 
 /// Why an input gives nothing.

@@ -1,5 +1,6 @@
 use Rattle.std.proofs.Common.{◌≡◌, ◌<◌, ◌≤◌, ◌+◌, get_or, length, sym, subst, ap, refl, ◌∙◌, arith, Some, codes}
-use Rattle.toml.specs.Data.{Data, string, integer, float, boolean, datetime, array, table, Members, as_table, depth, items_depth, members_depth}
+use Rattle.toml.specs.Data.{Data, string, integer, float, boolean, datetime, array, table, Members, as_table, depth}
+use Rattle.toml.specs.Data.{items_depth, members_depth}
 use Rattle.toml.specs.View.{view, array_view, table_view}
 use Rattle.address_table.specs.Tables.{node, none, IsFault}
 use Rattle.address_table.specs.declared.nodes.Node.TheViews.{out-roll-Node}
@@ -22,7 +23,8 @@ read_rest-copy_at-requires-3 t c = (texts _ c.requires.kept).description
 
 pub read_children-read_nodes-requires : goal.read_children-read_nodes-requires
 read_children-read_nodes-requires t c =
-    let shallower : items_depth (array_view c.in-Some.items.now) + 1 ≤ members_depth (table_view c.args.members.now) = depth-children (codes "nodes") _ _ (sym c.in-Some.ensures) in
+    let shallower : items_depth (array_view c.in-Some.items.now) + 1 ≤ members_depth (table_view c.args.members.now) =
+    depth-children (codes "nodes") _ _ (sym c.in-Some.ensures) in
     (omega arith, tt)
 
 pub read_children-returns-in-None-clause-read : goal.read_children-returns-in-None-clause-read
@@ -39,13 +41,19 @@ is_table (table es) ms h = cc
 
 pub read_node-returns-in-Ok-clause-refused : goal.read_node-returns-in-Ok-clause-refused
 read_node-returns-in-Ok-clause-refused t c =
-    rw (is_table (view c.args.value.now) (table_view c.in-Some.members.now) c.in-Some.ensures, first_fault-node _ c.in-Ok.ensures.kept) c.read_rest.ensures.refused
+    rw (
+      is_table (view c.args.value.now) (table_view c.in-Some.members.now) c.in-Some.ensures,
+      first_fault-node _ c.in-Ok.ensures.kept,
+    ) c.read_rest.ensures.refused
 
 pub read_nodes-read_node-requires : goal.read_nodes-read_node-requires
 read_nodes-read_node-requires t c =
-    let within : c.loop-i.i < length c.args.items.now.items = subst (λ vs. c.loop-i.i < length vs) c.deref-item-items.ensures.value c.loop-i-test.true in
-    let here : c.item-item.result ≡ get_or c.args.items.now.items c.loop-i.i c.item-item.result = c.item-item.is ∙ ap (λ vs. get_or vs c.loop-i.i c.item-item.result) c.deref-item-items.ensures.value in
-    let shallower : depth (view c.item-item.result) ≤ items_depth (array_view c.args.items.now) = depth-item _ _ _ within here in
+    let within : c.loop-i.i < length c.args.items.now.items =
+    subst (λ vs. c.loop-i.i < length vs) c.deref-item-items.ensures.value c.loop-i-test.true in
+    let here : c.item-item.result ≡ get_or c.args.items.now.items c.loop-i.i c.item-item.result =
+    c.item-item.is ∙ ap (λ vs. get_or vs c.loop-i.i c.item-item.result) c.deref-item-items.ensures.value in
+    let shallower : depth (view c.item-item.result) ≤ items_depth (array_view c.args.items.now) =
+    depth-item _ _ _ within here in
     (omega arith, tt)
 
 pub read_nodes-loop-i-init : goal.read_nodes-loop-i-init
@@ -53,17 +61,23 @@ read_nodes-loop-i-init t c = record { nodes = rw c.in_ok-nodes.ensures.items non
 
 pub read_nodes-returns-in-Err-clause-refused : goal.read_nodes-returns-in-Err-clause-refused
 read_nodes-returns-in-Err-clause-refused t c =
-    let within : c.loop-i.i < length c.args.items.now.items = subst (λ vs. c.loop-i.i < length vs) c.deref-item-items.ensures.value c.loop-i-test.true in
-    let here : c.item-item.result ≡ get_or c.args.items.now.items c.loop-i.i c.item-item.result = c.item-item.is ∙ ap (λ vs. get_or vs c.loop-i.i c.item-item.result) c.deref-item-items.ensures.value in
+    let within : c.loop-i.i < length c.args.items.now.items =
+    subst (λ vs. c.loop-i.i < length vs) c.deref-item-items.ensures.value c.loop-i-test.true in
+    let here : c.item-item.result ≡ get_or c.args.items.now.items c.loop-i.i c.item-item.result =
+    c.item-item.is ∙ ap (λ vs. get_or vs c.loop-i.i c.item-item.result) c.deref-item-items.ensures.value in
     subst (λ fault. IsFault fault c.refused_below.result) c.loop-i.invariant.rest
     (next_refused _ _ _ c.refused_below.result within here (c.refused_below.ensures _ c.in-Err.ensures.refused))
 
 pub read_nodes-loop-i-preserved : goal.read_nodes-loop-i-preserved
 read_nodes-loop-i-preserved t c =
-    let within : c.loop-i.i < length c.args.items.now.items = subst (λ vs. c.loop-i.i < length vs) c.deref-item-items.ensures.value c.loop-i-test.true in
-    let here : c.item-item.result ≡ get_or c.args.items.now.items c.loop-i.i c.item-item.result = c.item-item.is ∙ ap (λ vs. get_or vs c.loop-i.i c.item-item.result) c.deref-item-items.ensures.value in
+    let within : c.loop-i.i < length c.args.items.now.items =
+    subst (λ vs. c.loop-i.i < length vs) c.deref-item-items.ensures.value c.loop-i-test.true in
+    let here : c.item-item.result ≡ get_or c.args.items.now.items c.loop-i.i c.item-item.result =
+    c.item-item.is ∙ ap (λ vs. get_or vs c.loop-i.i c.item-item.result) c.deref-item-items.ensures.value in
     record {
-      nodes = rw c.in_ok-push-in-Ok.ensures.items (next_node _ _ _ _ _ within here c.loop-i.invariant.nodes c.in-Ok.ensures.read);
+      nodes =
+          rw c.in_ok-push-in-Ok.ensures.items
+          (next_node _ _ _ _ _ within here c.loop-i.invariant.nodes c.in-Ok.ensures.read);
       rest = sym (past_node _ _ _ _ within here c.in-Ok.ensures.read) ∙ c.loop-i.invariant.rest;
     }
 

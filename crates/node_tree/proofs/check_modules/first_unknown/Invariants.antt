@@ -8,4 +8,5 @@ use Rattle.node_tree.proofs.check_modules.first_unknown.Given as goal
 
 abbrev pub invariant-loop-name : goal.invariant-loop-name
 invariant-loop-name l =
-    (done : List (Name × Table)) × (entries l.tables ≡ done ++ named l.name-iterator) × AllByRecursion (λ e. HasUnknown l.tables e.0 → ⊥) done
+    (done : List (Name × Table)) × (entries l.tables ≡ done ++ named l.name-iterator)
+    × AllByRecursion (λ e. HasUnknown l.tables e.0 → ⊥) done

@@ -12,15 +12,21 @@ whole m = same_entries_map _ _ (entries-from_sorted by_bytes (entries m) (entrie
 
 pub from_sorted-requires : goal.from_sorted-requires
 from_sorted-requires c =
-    let same : named c.in_ok-entries.entries.items ≡ entries c.args.found.names = ap named c.in_ok-entries.ensures ∙ c.into_entries.ensures in
-    let all : c.args.found.names ≡ from_sorted (named c.in_ok-entries.entries.items) = sym (ap from_sorted same ∙ whole c.args.found.names) in
+    let same : named c.in_ok-entries.entries.items ≡ entries c.args.found.names =
+    ap named c.in_ok-entries.ensures ∙ c.into_entries.ensures in
+    let all : c.args.found.names ≡ from_sorted (named c.in_ok-entries.entries.items) =
+    sym (ap from_sorted same ∙ whole c.args.found.names) in
     record {
       ordered = entries-in_order c.args.found.names c.in_ok-entries.entries.items same;
-      few = subst (λ n. n ≤ most_nodes) (len-entries c.args.found.names ∙ ap length (sym same) ∙ length-named c.in_ok-entries.entries.items) c.requires.few;
+      few =
+          subst (λ n. n ≤ most_nodes)
+          (len-entries c.args.found.names ∙ ap length (sym same) ∙ length-named c.in_ok-entries.entries.items)
+          c.requires.few;
       registers = subst AreRegisters all c.requires.registers;
     }
 
 pub returns : goal.returns
 returns c =
-    let same : named c.in_ok-entries.entries.items ≡ entries c.args.found.names = ap named c.in_ok-entries.ensures ∙ c.into_entries.ensures in
+    let same : named c.in_ok-entries.entries.items ≡ entries c.args.found.names =
+    ap named c.in_ok-entries.ensures ∙ c.into_entries.ensures in
     c.from_sorted.ensures ∙ ap from_sorted same ∙ whole c.args.found.names

@@ -8,7 +8,8 @@ use Rattle.node_tree.proofs.overlapping.first_overlaps.Goals as goal
 pub lower_firsts-requires-clause-lengths : goal.lower_firsts-requires-clause-lengths
 lower_firsts-requires-clause-lengths c =
     let es = c.args.entries.now in
-    ap length (c.deref_mut.ensures.value ∙ c.in_ok-firsts.ensures.items_if_clones_equal (λ y same. same)) ∙ length-replicate (length es) (length es)
+    ap length (c.deref_mut.ensures.value ∙ c.in_ok-firsts.ensures.items_if_clones_equal (λ y same. same))
+    ∙ length-replicate (length es) (length es)
 
 pub lower_firsts-requires-clause-none : goal.lower_firsts-requires-clause-none
 lower_firsts-requires-clause-none c =

@@ -15,6 +15,7 @@ returns c =
     let es = named c.args.entries.now in
     let n = length-named c.args.entries.now in
     IfOk-weaker c.settle.result _ _
-    (λ _ settles. firsts-found es c.in_ok-events.events.items c.args.firsts.now c.events_of.new.firsts c.settle.new.firsts c.requires.registers (c.requires.lengths ∙ sym n)
+    (λ _ settles. firsts-found es c.in_ok-events.events.items c.args.firsts.now c.events_of.new.firsts
+    c.settle.new.firsts c.requires.registers (c.requires.lengths ∙ sym n)
     (λ b within. c.requires.none b 0 (omega (arith, c.requires.lengths, n)) ∙ sym n) c.in_ok-events.ensures settles)
     c.settle.ensures

@@ -1,4 +1,5 @@
-use Rattle.std.proofs.Common.{◌≡◌, ◌++◌, ◌+◌, ◌<◌, take, drop, length, slice_index, option_to_list, ap, ◌∙◌, append_assoc, arith}
+use Rattle.std.proofs.Common.{◌≡◌, ◌++◌, ◌+◌, ◌<◌, take, drop, length, slice_index, option_to_list, ap, ◌∙◌}
+use Rattle.std.proofs.Common.{append_assoc, arith}
 use Rattle.std.proofs.lemmas.List.{get_or_read}
 use Rattle.node_tree.specs.Named.{named}
 use Rattle.node_tree.specs.Overlaps.{overlapping}
@@ -14,11 +15,14 @@ loop-i-preserved c =
     let firsts = c.in_ok-firsts.firsts.items in
     let rest = overlapping (take (i + 1) xs) (drop (i + 1) xs) in
     let within : i < length xs = omega (arith, length-named c.args.entries.now) in
-    let first : c.index.result.now ≡ slice_index firsts i = get_or_read firsts i _ (omega (arith, c.in_ok-firsts.ensures.each)) c.index.ensures 0 in
-    let pair : option_to_list c.pair_with-pair.result ≡ pair_before (slice_index firsts i) i = c.pair_with-pair.ensures ∙ ap (λ n. pair_before n i) first in
+    let first : c.index.result.now ≡ slice_index firsts i =
+    get_or_read firsts i _ (omega (arith, c.in_ok-firsts.ensures.each)) c.index.ensures 0 in
+    let pair : option_to_list c.pair_with-pair.result ≡ pair_before (slice_index firsts i) i =
+    c.pair_with-pair.ensures ∙ ap (λ n. pair_before n i) first in
     rw c.in_ok-push_some.ensures
     (
     append_assoc c.loop-i.pairs.items (option_to_list c.pair_with-pair.result) rest
-    ∙ ap (λ ps. c.loop-i.pairs.items ++ ps) (ap (λ ps. ps ++ rest) pair ∙ next_told xs firsts i c.in_ok-firsts.ensures within)
+    ∙ ap (λ ps. c.loop-i.pairs.items ++ ps)
+    (ap (λ ps. ps ++ rest) pair ∙ next_told xs firsts i c.in_ok-firsts.ensures within)
     ∙ c.loop-i.invariant
     )

@@ -4,4 +4,6 @@ use Rattle.node_tree.specs.Overlaps.{overlapping}
 use Rattle.node_tree.proofs.overlapping.overlapping_pairs.Given as goal
 
 abbrev pub invariant-loop-i : goal.invariant-loop-i
-invariant-loop-i l = l.pairs.items ++ overlapping (take l.i (named l.entries)) (drop l.i (named l.entries)) ≡ overlapping [] (named l.entries)
+invariant-loop-i l =
+    l.pairs.items ++ overlapping (take l.i (named l.entries)) (drop l.i (named l.entries))
+    ≡ overlapping [] (named l.entries)

@@ -6,4 +6,6 @@ use Rattle.script_lang.proofs.boards.each_script.Given as goal
 
 -- those so far, and those of the items that are left
 abbrev pub invariant-loop-item : goal.invariant-loop-item
-invariant-loop-item l = l.scripts.items ++ tables_in script_of (map view (drop l.item-index l.items)) ≡ tables_in script_of (map view l.items)
+invariant-loop-item l =
+    l.scripts.items ++ tables_in script_of (map view (drop l.item-index l.items))
+    ≡ tables_in script_of (map view l.items)

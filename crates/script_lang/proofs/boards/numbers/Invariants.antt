@@ -5,4 +5,5 @@ use Rattle.script_lang.proofs.boards.numbers.Given as goal
 
 -- those so far, and those of the items that are left
 abbrev pub invariant-loop-item : goal.invariant-loop-item
-invariant-loop-item l = l.words.items ++ numbers_in (map view (drop l.item-index l.items)) ≡ numbers_in (map view l.items)
+invariant-loop-item l =
+    l.words.items ++ numbers_in (map view (drop l.item-index l.items)) ≡ numbers_in (map view l.items)

@@ -6,4 +6,5 @@ use Rattle.script_lang.proofs.boards.ranges.Given as goal
 
 -- those so far, and those of the items that are left
 abbrev pub invariant-loop-item : goal.invariant-loop-item
-invariant-loop-item l = l.ranges.items ++ tables_in range_of (map view (drop l.item-index l.items)) ≡ tables_in range_of (map view l.items)
+invariant-loop-item l =
+    l.ranges.items ++ tables_in range_of (map view (drop l.item-index l.items)) ≡ tables_in range_of (map view l.items)

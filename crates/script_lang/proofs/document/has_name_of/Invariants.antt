@@ -6,4 +6,5 @@ use Rattle.script_lang.proofs.document.has_name_of.Given as goal
 -- the boards that are left decide it
 abbrev pub invariant-loop-other : goal.invariant-loop-other
 invariant-loop-other l =
-    list_any (λ other. bytes_eq other.name l.named.name) (drop l.other-index l.boards) ≡ list_any (λ other. bytes_eq other.name l.named.name) l.boards
+    list_any (λ other. bytes_eq other.name l.named.name) (drop l.other-index l.boards)
+    ≡ list_any (λ other. bytes_eq other.name l.named.name) l.boards

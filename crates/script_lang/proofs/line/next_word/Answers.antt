@@ -14,5 +14,7 @@ returns-clause-words c =
 pub returns-clause-shorter : goal.returns-clause-shorter
 returns-clause-shorter c =
     let some : 0 < length c.trimmed-text.result.now = some_bytes _ _ c.is_empty.ensures c.if-is_empty.false in
-    let byte : 0 < c.word_len.result = rw (c.word_len.ensures, c.as_bytes.ensures.value) (word-some c.trimmed-text.result.now c.trimmed-text.ensures.begun some) in
+    let byte : 0 < c.word_len.result =
+    rw (c.word_len.ensures, c.as_bytes.ensures.value)
+    (word-some c.trimmed-text.result.now c.trimmed-text.ensures.begun some) in
     omega (arith, c.split_at.ensures.back_len, c.trimmed-text.ensures.shorter)

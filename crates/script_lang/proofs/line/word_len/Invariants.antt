@@ -4,4 +4,5 @@ use Rattle.script_lang.specs.Lines.{is_blank}
 use Rattle.script_lang.proofs.line.word_len.Given as goal
 
 abbrev pub invariant-loop-i : goal.invariant-loop-i
-invariant-loop-i l = l.i + prefix_len (λ byte. not (is_blank byte)) (drop l.i l.text) ≡ prefix_len (λ byte. not (is_blank byte)) l.text
+invariant-loop-i l =
+    l.i + prefix_len (λ byte. not (is_blank byte)) (drop l.i l.text) ≡ prefix_len (λ byte. not (is_blank byte)) l.text

@@ -5,13 +5,18 @@ use Rattle.address_table.specs.Tables.{table_fault}
 use Rattle.toml.specs.View.{view, table_view, members_view}
 use Rattle.script_lang.specs.Document.{tables_faults}
 use Rattle.script_lang.specs.Reading.{TellsFault, table_fault_list}
-use Rattle.script_lang.proofs.TableLists.{ArePending, names_of, are_pending, ordered_parts, next_pending, first-table, past-table}
+use Rattle.script_lang.proofs.TableLists.{ArePending, names_of, are_pending, ordered_parts, next_pending, first-table}
+use Rattle.script_lang.proofs.TableLists.{past-table}
 use Rattle.script_lang.proofs.tables.each_table.Goals as goal
 
 pub loop-name-init : goal.loop-name-init
 loop-name-init c =
     rw (c.into_iter-name-iterator.ensures.into_iter_gives, c.iter-name-items.ensures.rest, c.new-tables.ensures)
-    (record { pending = are_pending (table_view c.args.members.now); ordered = c.iter-name-items.ensures.ordered; faults = refl })
+    (record {
+      pending = are_pending (table_view c.args.members.now);
+      ordered = c.iter-name-items.ensures.ordered;
+      faults = refl;
+    })
 
 pub loop-name-preserved : goal.loop-name-preserved
 loop-name-preserved c =
@@ -20,11 +25,18 @@ loop-name-preserved c =
     let rest = c.next.new.self in
     let all = table_view c.args.members.now in
     let steps = c.in-Some.ensures.steps in
-    let pending : ArePending (members_view ((name, value) ∷ rest)) all c.loop-name.tables = subst (λ es. ArePending (members_view es) all c.loop-name.tables) steps c.loop-name.invariant.pending in
-    let ordered = ordered_parts name value rest (subst (λ es. IsStrictlySortedBy string_cmp (names_of es)) steps c.loop-name.invariant.ordered) in
-    let faults : tables_faults (members_view ((name, value) ∷ rest)) ≡ tables_faults all = subst (λ es. tables_faults (members_view es) ≡ tables_faults all) steps c.loop-name.invariant.faults in
+    let pending : ArePending (members_view ((name, value) ∷ rest)) all c.loop-name.tables =
+    subst (λ es. ArePending (members_view es) all c.loop-name.tables) steps c.loop-name.invariant.pending in
+    let ordered =
+    ordered_parts name value rest
+    (subst (λ es. IsStrictlySortedBy string_cmp (names_of es)) steps c.loop-name.invariant.ordered) in
+    let faults : tables_faults (members_view ((name, value) ∷ rest)) ≡ tables_faults all =
+    subst (λ es. tables_faults (members_view es) ≡ tables_faults all) steps c.loop-name.invariant.faults in
     record {
-      pending = rw (c.in_ok-put-in-Ok.ensures.ok, c.as_str.ensures.value) (next_pending name value rest all c.loop-name.tables c.in-Ok.table ordered.0 c.in-Ok.ensures.read pending);
+      pending =
+          rw (c.in_ok-put-in-Ok.ensures.ok, c.as_str.ensures.value)
+          (next_pending name value rest all c.loop-name.tables c.in-Ok.table ordered.0 c.in-Ok.ensures.read
+          pending);
       ordered = ordered.1;
       faults = sym (past-table name value rest c.in-Ok.ensures.accepted) ∙ faults;
     }
@@ -33,7 +45,9 @@ pub returns-in-Err-clause-first : goal.returns-in-Err-clause-first
 returns-in-Err-clause-first c =
     let fault = table_fault (view c.in-Some.value.now) in
     let told : TellsFault (table_fault_list (string_bytes c.in-Some.name.now) fault) c.refused_table.result =
-    subst (λ name. TellsFault (table_fault_list name fault) c.refused_table.result) c.as_str-in-Err.ensures.value (c.refused_table.ensures fault c.in-Err.ensures.refused) in
+    subst (λ name. TellsFault (table_fault_list name fault) c.refused_table.result) c.as_str-in-Err.ensures.value
+    (c.refused_table.ensures fault c.in-Err.ensures.refused) in
     let first : TellsFault (tables_faults (members_view c.loop-name.name-iterator)) c.refused_table.result =
-    rw c.in-Some.ensures.steps (first-table c.in-Some.name.now c.in-Some.value.now c.next.new.self c.refused_table.result told) in
+    rw c.in-Some.ensures.steps
+    (first-table c.in-Some.name.now c.in-Some.value.now c.next.new.self c.refused_table.result told) in
     subst (λ faults. TellsFault faults c.refused_table.result) c.loop-name.invariant.faults first

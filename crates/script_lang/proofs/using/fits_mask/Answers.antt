@@ -3,4 +3,5 @@ use Rattle.script_lang.proofs.MaskedValues.{told}
 use Rattle.script_lang.proofs.using.fits_mask.Goals as goal
 
 pub returns : goal.returns
-returns c = c.is_ok.ensures.value ∙ told c.args.mask c.args.value c.terms.result c.terms.ensures.fits c.terms.ensures.outside
+returns c =
+    c.is_ok.ensures.value ∙ told c.args.mask c.args.value c.terms.result c.terms.ensures.fits c.terms.ensures.outside

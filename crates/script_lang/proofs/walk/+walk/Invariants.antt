@@ -23,10 +23,12 @@ decreases-check_keys l = 6 * members_depth (table_view l.members.now) + 4
 
 -- the faults are those of what is left
 abbrev pub invariant-check_items-loop-i : goal.invariant-check_items-loop-i
-invariant-check_items-loop-i l = items_faults l.kind l.i (items_view (drop l.i l.items.items)) ≡ items_faults l.kind 0 (array_view l.items)
+invariant-check_items-loop-i l =
+    items_faults l.kind l.i (items_view (drop l.i l.items.items)) ≡ items_faults l.kind 0 (array_view l.items)
 
 abbrev pub invariant-check_keys-loop-name : goal.invariant-check_keys-loop-name
 invariant-check_keys-loop-name l = record {
-  faults : keys_faults (form_keys l.form) (members_view l.name-iterator) ≡ keys_faults (form_keys l.form) (table_view l.members);
+  faults : keys_faults (form_keys l.form) (members_view l.name-iterator)
+      ≡ keys_faults (form_keys l.form) (table_view l.members);
   shallow : members_depth (members_view l.name-iterator) ≤ members_depth (table_view l.members);
 }

@@ -6,4 +6,5 @@ use Rattle.script_lang.proofs.walk.check_missing.Goals as goal
 
 pub returns-in-Some-clause-first : goal.returns-in-Some-clause-first
 returns-in-Some-clause-first c =
-    same-first (below (Key c.in-Some.name.now) here) _ _ (sym c.in-Some.ensures) (c.below_key.ensures here c.misfit_here.ensures)
+    same-first (below (Key c.in-Some.name.now) here) _ _ (sym c.in-Some.ensures)
+    (c.below_key.ensures here c.misfit_here.ensures)

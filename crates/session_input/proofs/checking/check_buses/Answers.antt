@@ -10,7 +10,8 @@ returns-in_err-check_bus-clause-refused c =
     let told : IfErr c.from_residual.result (Tells (TellsBus board)) = search rules in
     told_by c.from_residual.result (TellsBus board) (TellsFirstBus c.args.boards.now)
     (λ r here. c.loop-board.invariant.first r
-    (told_here HasBus (λ b. TellsBus b r) c.args.boards.now c.loop-board.board-index board c.loop-board-test.true c.board-item.is here))
+    (told_here HasBus (λ b. TellsBus b r) c.args.boards.now c.loop-board.board-index board c.loop-board-test.true
+    c.board-item.is here))
     told
 
 pub loop-board-preserved : goal.loop-board-preserved
@@ -19,7 +20,9 @@ loop-board-preserved c =
     let right : HasBus board = search rules in
     record {
       right = λ later. c.loop-board.invariant.right
-          (right_later HasBus c.args.boards.now c.loop-board.board-index board c.loop-board-test.true c.board-item.is right later);
+          (right_later HasBus c.args.boards.now c.loop-board.board-index board c.loop-board-test.true c.board-item.is
+          right later);
       first = λ r later. c.loop-board.invariant.first r
-          (told_later HasBus (λ b. TellsBus b r) c.args.boards.now c.loop-board.board-index board c.loop-board-test.true c.board-item.is right later);
+          (told_later HasBus (λ b. TellsBus b r) c.args.boards.now c.loop-board.board-index board c.loop-board-test.true
+          c.board-item.is right later);
     }

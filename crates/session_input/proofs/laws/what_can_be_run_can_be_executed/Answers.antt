@@ -6,7 +6,7 @@ use Rattle.session_input.proofs.laws.what_can_be_run_can_be_executed.Goals as go
 
 pub returns : goal.returns
 returns c bytes session steps is =
-    let scripts = is.runs.scripts in
+    let scripts = is.runs in
     let compiled = scripts.boards.compiled in
     subst (λ (all : List (List Step)). AllByRecursion AreExecutable all) (sym scripts.meant)
     (c.scripts_ask_what_can_be_executed.ensures bytes session scripts.registers is.stands compiled.compile

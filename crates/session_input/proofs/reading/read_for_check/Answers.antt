@@ -8,6 +8,12 @@ returns-in_err-index-clause-refused c =
     let session = c.in_ok-session.session in
     let root = c.args.table.now in
     let told : IfErr c.from_residual-in_err-index.result (Tells (TellsCompile session.tables root)) = search rules in
-    told_by c.from_residual-in_err-index.result (TellsCompile session.tables root) (Deserves (BreaksInCheck root) c.args.bytes.now)
-    (λ r broken. inr (record { fits = c.in_ok-session.ensures.fits; session = session; stands = c.in_ok-session.ensures.stands; broken = broken }))
+    told_by c.from_residual-in_err-index.result (TellsCompile session.tables root)
+    (Deserves (BreaksInCheck root) c.args.bytes.now)
+    (λ r broken. inr (record {
+      fits = c.in_ok-session.ensures.fits;
+      session = session;
+      stands = c.in_ok-session.ensures.stands;
+      broken = broken;
+    }))
     told

@@ -8,5 +8,10 @@ returns-in_err-steps-clause-refused c =
     let session = c.in_ok-session.session in
     let told : IfErr c.from_residual-in_err-steps.result (Tells (BreaksInRun session)) = search rules in
     told_by c.from_residual-in_err-steps.result (BreaksInRun session) (Deserves BreaksInRun c.args.bytes.now)
-    (λ r broken. inr (record { fits = c.in_ok-session.ensures.fits; session = session; stands = c.in_ok-session.ensures.stands; broken = broken }))
+    (λ r broken. inr (record {
+      fits = c.in_ok-session.ensures.fits;
+      session = session;
+      stands = c.in_ok-session.ensures.stands;
+      broken = broken;
+    }))
     told

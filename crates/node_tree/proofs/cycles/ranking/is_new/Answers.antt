@@ -6,4 +6,5 @@ not_true true h = cc
 not_true false h = refl
 
 pub returns-in-Some : goal.returns-in-Some
-returns-in-Some c = λ fresh. (sym c.contains.ensures ∙ not_true c.contains.result fresh, (c.in-Some.field-0.now, sym c.in-Some.ensures))
+returns-in-Some c =
+    λ fresh. (sym c.contains.ensures ∙ not_true c.contains.result fresh, (c.in-Some.field-0.now, sym c.in-Some.ensures))

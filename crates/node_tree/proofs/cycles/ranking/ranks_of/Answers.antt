@@ -8,5 +8,7 @@ entering-smaller c =
     let ranks = c.next_table.new.ranking.ranks in
     let found = rw c.in-Some-2.is at c.in_ok-name.ensures.found in
     let as_many = missing-kept c.entering.ranking.ranks ranks (entries c.args.tables.now) c.in_ok-name.ensures.kept in
-    let fewer = missing-less c.args.tables.now ranks c.enter.new.ranking.ranks c.in-Some-2.name.now found.1.0 c.in_ok-enter.ensures.0 found.0 c.in_ok-enter.ensures.1 found.1.1 in
+    let fewer =
+    missing-less c.args.tables.now ranks c.enter.new.ranking.ranks c.in-Some-2.name.now found.1.0
+    c.in_ok-enter.ensures.0 found.0 c.in_ok-enter.ensures.1 found.1.1 in
     omega (arith, as_many, fewer)

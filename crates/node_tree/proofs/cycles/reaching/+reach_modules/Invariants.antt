@@ -6,6 +6,7 @@ use Rattle.node_tree.proofs.cycles.reaching.+reach_modules.Given as goal
 
 abbrev pub invariant-loop-node : goal.invariant-loop-node
 invariant-loop-node l = record {
-  opens : Opens l.initial.reached l.reached (names_of l.initial.pending.items) (names_of l.pending.items) (Mentions l.nodes);
+  opens : Opens l.initial.reached l.reached (names_of l.initial.pending.items) (names_of l.pending.items)
+      (Mentions l.nodes);
   added : (m : Name) → Mentions l.nodes m → IsIn l.reached m ⊎ Mentions (drop l.node-index l.nodes) m;
 }

@@ -6,7 +6,9 @@ use Rattle.node_tree.proofs.ReachLemmas.{opens-one, opens-same, names-push}
 use Rattle.node_tree.proofs.cycles.reaching.reach.Goals as goal
 
 pub returns-then-contains : goal.returns-then-contains
-returns-then-contains c = opens-same c.args.reached.now (names_of c.args.pending.now.items) (λ m. c.args.name.now ≡ m) (λ m same. subst (IsIn c.args.reached.now) same (sym c.if-contains.ensures))
+returns-then-contains c =
+    opens-same c.args.reached.now (names_of c.args.pending.now.items) (λ m. c.args.name.now ≡ m)
+    (λ m same. subst (IsIn c.args.reached.now) same (sym c.if-contains.ensures))
 
 pub returns : goal.returns
 returns c =
@@ -14,5 +16,6 @@ returns c =
     let name = c.args.name.now in
     let texts = c.args.pending.now.items in
     rw c.in_ok-insert.ensures.ok
-    (subst (λ names. OpensAll set (insert set name tt) (names_of texts) names (λ m. name ≡ m)) (sym (ap names_of c.in_ok-push.ensures.items ∙ names-push texts c.args.name))
+    (subst (λ names. OpensAll set (insert set name tt) (names_of texts) names (λ m. name ≡ m))
+    (sym (ap names_of c.in_ok-push.ensures.items ∙ names-push texts c.args.name))
     (opens-one set name (names_of texts) (sym c.if-contains.ensures)))

@@ -8,4 +8,5 @@ use Rattle.node_tree.proofs.cycles.rising.are_rising.Given as goal
 
 abbrev pub invariant-loop-name : goal.invariant-loop-name
 invariant-loop-name l =
-    (done : List (Name × Table)) × (entries l.tables ≡ done ++ named l.name-iterator) × AllByRecursion (IsRising l.ranks) done
+    (done : List (Name × Table)) × (entries l.tables ≡ done ++ named l.name-iterator)
+    × AllByRecursion (IsRising l.ranks) done

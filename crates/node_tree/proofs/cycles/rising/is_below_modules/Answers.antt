@@ -7,5 +7,6 @@ pub returns : goal.returns
 returns c = λ all. (
   c.in-Some.rank.now,
   sym c.in-Some.ensures,
-  λ m mention. subst (λ least. IsRanked c.args.ranks.now least m) c.in-Some-checked_add.ensures.1 (c.all_ranked.ensures all m (subst (λ ns. Mentions ns m) (sym c.nodes_of.ensures) mention)),
+  λ m mention. subst (λ least. IsRanked c.args.ranks.now least m) c.in-Some-checked_add.ensures.1
+      (c.all_ranked.ensures all m (subst (λ ns. Mentions ns m) (sym c.nodes_of.ensures) mention)),
 )

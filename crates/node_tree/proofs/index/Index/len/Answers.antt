@@ -6,7 +6,9 @@ use Rattle.node_tree.proofs.index.Index.len.Goals as goal
 
 pub returns-clause-registers : goal.returns-clause-registers
 returns-clause-registers c =
-    ap length c.as_slice-entries.ensures.value ∙ sym (len-named c.self.inside.entries.items c.self.invariant.ordered) ∙ ap len c.self.view_is
+    ap length c.as_slice-entries.ensures.value ∙ sym (len-named c.self.inside.entries.items c.self.invariant.ordered)
+    ∙ ap len c.self.view_is
 
 pub returns-clause-few : goal.returns-clause-few
-returns-clause-few c = subst (λ n. n ≤ most_nodes) (ap length (sym c.as_slice-entries.ensures.value)) c.self.invariant.few
+returns-clause-few c =
+    subst (λ n. n ≤ most_nodes) (ap length (sym c.as_slice-entries.ensures.value)) c.self.invariant.few

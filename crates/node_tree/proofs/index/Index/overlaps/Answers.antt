@@ -11,12 +11,18 @@ use Rattle.node_tree.proofs.index.Index.overlaps.Goals as goal
 
 pub returns-clause-pairs : goal.returns-clause-pairs
 returns-clause-pairs c =
-    let same = ap named c.as_slice.ensures.value ∙ sym (entries-from_sorted by_bytes (named c.self.inside.entries.items) (sorted c.self.inside.entries.items c.self.invariant.ordered)) ∙ ap entries c.self.view_is in
-    subst (λ es. IfOk c.overlapping_pairs.result (λ pairs. pairs.items ≡ overlapping [] es)) same c.overlapping_pairs.ensures
+    let same =
+    ap named c.as_slice.ensures.value
+    ∙ sym (entries-from_sorted by_bytes (named c.self.inside.entries.items)
+    (sorted c.self.inside.entries.items c.self.invariant.ordered)) ∙ ap entries c.self.view_is in
+    subst (λ es. IfOk c.overlapping_pairs.result (λ pairs. pairs.items ≡ overlapping [] es)) same
+    c.overlapping_pairs.ensures
 
 pub returns-clause-places : goal.returns-clause-places
 returns-clause-places c =
-    IfOk-weaker c.overlapping_pairs.result _ _ (λ pairs same. subst (All (λ p. (p.0 < p.1) × (p.1 < len c.args.self.now))) (sym same) (overlapping-places c.args.self.now)) (returns-clause-pairs c)
+    IfOk-weaker c.overlapping_pairs.result _ _
+    (λ pairs same. subst (All (λ p. (p.0 < p.1) × (p.1 < len c.args.self.now))) (sym same)
+    (overlapping-places c.args.self.now)) (returns-clause-pairs c)
 
 pub overlapping_pairs-requires-clause-in_order : goal.overlapping_pairs-requires-clause-in_order
 overlapping_pairs-requires-clause-in_order c = subst AreInOrder (sym c.as_slice.ensures.value) c.self.invariant.ordered
@@ -25,4 +31,5 @@ pub overlapping_pairs-requires-clause-registers : goal.overlapping_pairs-require
 overlapping_pairs-requires-clause-registers c =
     let es = c.self.inside.entries.items in
     let whole = entries-from_sorted by_bytes (named es) (sorted es c.self.invariant.ordered) in
-    subst AreNamedRegisters (whole ∙ ap named (sym c.as_slice.ensures.value)) (λ i e is. c.self.invariant.registers e.0 e.1 (get-at (from_sorted (named es)) i e.0 e.1 is))
+    subst AreNamedRegisters (whole ∙ ap named (sym c.as_slice.ensures.value))
+    (λ i e is. c.self.invariant.registers e.0 e.1 (get-at (from_sorted (named es)) i e.0 e.1 is))

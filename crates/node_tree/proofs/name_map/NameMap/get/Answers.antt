@@ -7,5 +7,6 @@ use Rattle.node_tree.proofs.name_map.NameMap.get.Goals as goal
 pub returns : goal.returns
 returns g c =
     c.get.ensures.value ∙ lookup-named c.args.name.now c.self.inside.by_name.entries
-    ∙ sym (get-from_sorted by_bytes (named c.self.inside.by_name.entries) c.args.name.now (sorted c.self.inside.by_name.entries c.self.invariant))
+    ∙ sym (get-from_sorted by_bytes (named c.self.inside.by_name.entries) c.args.name.now
+    (sorted c.self.inside.by_name.entries c.self.invariant))
     ∙ ap (λ m. get m c.args.name.now) c.self.view_is

@@ -9,9 +9,13 @@ returns-then-overlap_entries-clause-lowers c =
     let es = c.args.entries.now in
     subst (Lowers (named es) c.args.firsts.now) (sym c.lower.ensures)
     (lowers-lowered (named es) c.args.firsts.now c.args.later c.args.earlier
-    (λ less. at-plain es c.args.earlier c.args.later c.index-entries-earlier.result c.index-entries-later.result (omega arith) c.index-entries-earlier.is (omega arith) c.index-entries-later.is ∙ sym c.if-overlap_entries.ensures))
+    (λ less. at-plain es c.args.earlier c.args.later c.index-entries-earlier.result c.index-entries-later.result
+    (omega arith) c.index-entries-earlier.is (omega arith) c.index-entries-later.is
+    ∙ sym c.if-overlap_entries.ensures))
 
 pub returns-else-overlap_entries-clause-settled : goal.returns-else-overlap_entries-clause-settled
 returns-else-overlap_entries-clause-settled c =
     let es = c.args.entries.now in
-    λ less. at-plain es c.args.earlier c.args.later c.index-entries-earlier.result c.index-entries-later.result (omega arith) c.index-entries-earlier.is (omega arith) c.index-entries-later.is ∙ sym c.if-overlap_entries.ensures
+    λ less. at-plain es c.args.earlier c.args.later c.index-entries-earlier.result c.index-entries-later.result
+    (omega arith) c.index-entries-earlier.is (omega arith) c.index-entries-later.is
+    ∙ sym c.if-overlap_entries.ensures

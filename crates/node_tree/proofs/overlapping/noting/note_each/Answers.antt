@@ -10,8 +10,11 @@ loop-place-init c = noted-none (named c.args.entries.now) c.args.firsts.now c.ar
 
 pub loop-place-preserved : goal.loop-place-preserved
 loop-place-preserved c =
-    noted-more (named c.args.entries.now) c.args.firsts.now c.loop-place.firsts c.note.new.firsts c.args.earlier.now c.loop-place.place-index c.args.later _ c.loop-place-test.true refl
+    noted-more (named c.args.entries.now) c.args.firsts.now c.loop-place.firsts c.note.new.firsts c.args.earlier.now
+    c.loop-place.place-index c.args.later _ c.loop-place-test.true refl
     c.loop-place.invariant c.note.ensures.lowers c.note.ensures.settled
 
 pub returns : goal.returns
-returns c = subst (λ places. IsNoted (named c.args.entries.now) c.args.firsts.now c.loop-place.firsts places c.args.later) (take_all c.loop-place.place-index c.args.earlier.now c.loop-place-test.false) c.loop-place.invariant
+returns c =
+    subst (λ places. IsNoted (named c.args.entries.now) c.args.firsts.now c.loop-place.firsts places c.args.later)
+    (take_all c.loop-place.place-index c.args.earlier.now c.loop-place-test.false) c.loop-place.invariant

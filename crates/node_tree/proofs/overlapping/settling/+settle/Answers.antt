@@ -12,9 +12,12 @@ returns-then-len-lt2 t c = settles-few _ _ _ _ (omega (arith, c.len.ensures))
 
 pub returns-then-level-eq0 : goal.returns-then-level-eq0
 returns-then-level-eq0 t c =
-    let one : c.args.first + 1 ≡ c.args.first + 2 ^ c.args.level = ap (λ n. c.args.first + 2 ^ n) (sym c.if-level-eq0.true) in
-    subst (λ events. Settles events c.args.first (c.args.first + 2 ^ c.args.level) c.args.firsts.now c.settle_bits.new.firsts) c.deref.ensures.value
-    (subst (λ n. Settles c.deref.result.now c.args.first n c.args.firsts.now c.settle_bits.new.firsts) one (c.settle_bits.ensures c.args.first))
+    let one : c.args.first + 1 ≡ c.args.first + 2 ^ c.args.level =
+    ap (λ n. c.args.first + 2 ^ n) (sym c.if-level-eq0.true) in
+    subst (λ events. Settles events c.args.first
+    (c.args.first + 2 ^ c.args.level) c.args.firsts.now c.settle_bits.new.firsts) c.deref.ensures.value
+    (subst (λ n. Settles c.deref.result.now c.args.first n c.args.firsts.now c.settle_bits.new.firsts) one
+    (c.settle_bits.ensures c.args.first))
 
 pub settle-requires : goal.settle-requires
 settle-requires t c =
@@ -24,7 +27,8 @@ settle-requires t c =
         omega arith,
         (
           omega (arith, half, c.requires.range),
-          part-places _ c.deref-4.result.now c.in_ok-lower.lower.items (length c.args.firsts.now) _ (sym (c.settle_where-2.auto.firsts ∙ c.settle_where.auto.firsts)) c.in_ok-lower.ensures
+          part-places _ c.deref-4.result.now c.in_ok-lower.lower.items (length c.args.firsts.now) _
+              (sym (c.settle_where-2.auto.firsts ∙ c.settle_where.auto.firsts)) c.in_ok-lower.ensures
               (subst (All (λ e. e.place < length c.args.firsts.now)) (sym c.deref-4.ensures.value) c.requires.places),
         ),
       ),
@@ -38,7 +42,9 @@ settle-requires-2 t c =
         omega arith,
         (
           omega (arith, half, c.requires.range, c.half_of-half.ensures),
-          part-places _ c.deref-5.result.now c.in_ok-upper.upper.items (length c.args.firsts.now) _ (sym (c.settle.auto.firsts ∙ c.settle_where-2.auto.firsts ∙ c.settle_where.auto.firsts)) c.in_ok-upper.ensures
+          part-places _ c.deref-5.result.now c.in_ok-upper.upper.items (length c.args.firsts.now) _
+              (sym (c.settle.auto.firsts ∙ c.settle_where-2.auto.firsts ∙ c.settle_where.auto.firsts))
+              c.in_ok-upper.ensures
               (subst (All (λ e. e.place < length c.args.firsts.now)) (sym c.deref-5.ensures.value) c.requires.places),
         ),
       ),
@@ -62,12 +68,18 @@ returns t c =
     let some : 1 ≤ half = let more = some_power (level - 1) in omega (arith, more, is_half) in
     let whole : first + half + half ≡ first + 2 ^ level = omega (arith, power, is_half) in
     let one = subst (λ events. SettlesWhere events covers Each f0 f1) c.deref-2.ensures.value c.settle_where.ensures in
-    let other = subst (λ events. SettlesWhere events Each covers f1 f2) c.deref-3.ensures.value c.settle_where-2.ensures in
-    let part_lo = subst (λ events. IsPart (GoesOn covers first (first + half)) events lo) c.deref-4.ensures.value c.in_ok-lower.ensures in
-    let part_up = subst (λ events. IsPart (GoesOn covers (first + half) (first + half + half)) events up) c.deref-5.ensures.value c.in_ok-upper.ensures in
+    let other =
+    subst (λ events. SettlesWhere events Each covers f1 f2) c.deref-3.ensures.value c.settle_where-2.ensures in
+    let part_lo =
+    subst (λ events. IsPart (GoesOn covers first (first + half)) events lo) c.deref-4.ensures.value
+    c.in_ok-lower.ensures in
+    let part_up =
+    subst (λ events. IsPart (GoesOn covers (first + half) (first + half + half)) events up) c.deref-5.ensures.value
+    c.in_ok-upper.ensures in
     let settles_lo = subst (λ h. Settles lo first (first + h) f2 f3) is_half c.in_ok-settle.ensures in
     IfOk-weaker c.settle-2.result _ _
     (λ _ settles_up.
-    settles-halves c.args.events.items lo up first half (first + 2 ^ level) f0 f1 f2 f3 f4 some whole one other part_lo part_up settles_lo
+    settles-halves c.args.events.items lo up first half
+    (first + 2 ^ level) f0 f1 f2 f3 f4 some whole one other part_lo part_up settles_lo
     (subst (λ h. Settles up (first + half) (first + half + h) f3 f4) is_half settles_up))
     c.settle-2.ensures

@@ -18,9 +18,15 @@ loop-event-preserved c =
     let here = read-event events i nothing within in
     let goes = GoesOn c.args.covers c.args.first c.args.«end» in
     elim c.if-goes_on.branch [
-      | then-goes_on+in_ok-push w ↦ rw (w.some-is, w.in_ok-push.ensures.items) (part-with events i e within here goes c.loop-event.some.items (c.goes_on.ensures.0 w.if-goes_on.true) c.loop-event.invariant)
-      | else-goes_on w ↦ rw w.some-is (part-without events i e within here goes c.loop-event.some.items (λ own. false≢true (sym w.if-goes_on.false ∙ c.goes_on.ensures.1 own)) c.loop-event.invariant)
+      | then-goes_on+in_ok-push w ↦ rw (w.some-is, w.in_ok-push.ensures.items)
+          (part-with events i e within here goes c.loop-event.some.items
+          (c.goes_on.ensures.0 w.if-goes_on.true) c.loop-event.invariant)
+      | else-goes_on w ↦ rw w.some-is
+          (part-without events i e within here goes c.loop-event.some.items
+          (λ own. false≢true (sym w.if-goes_on.false ∙ c.goes_on.ensures.1 own)) c.loop-event.invariant)
     ]
 
 pub returns : goal.returns
-returns c = subst (λ events. IsPart (GoesOn c.args.covers c.args.first c.args.«end») events c.loop-event.some.items) (take_all c.loop-event.event-index c.args.events.now c.loop-event-test.false) c.loop-event.invariant
+returns c =
+    subst (λ events. IsPart (GoesOn c.args.covers c.args.first c.args.«end») events c.loop-event.some.items)
+    (take_all c.loop-event.event-index c.args.events.now c.loop-event-test.false) c.loop-event.invariant

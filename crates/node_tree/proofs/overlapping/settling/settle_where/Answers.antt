@@ -4,7 +4,8 @@ use Rattle.std.proofs.lemmas.List.{take_all}
 use Rattle.node_tree.specs.OverlapSearch.{SettlesWhere}
 use Rattle.node_tree.proofs.EventLemmas.{read-event, nothing}
 use Rattle.node_tree.proofs.SettlingLemmas.{pass-none, pass-kept, pass-put, pass-asks}
-use Rattle.node_tree.proofs.overlapping.settling.settle_where.Goals.{then-event+then-passes, then-event+else-passes, else-event+then-passes-2, else-event+else-passes-2}
+use Rattle.node_tree.proofs.overlapping.settling.settle_where.Goals.{then-event+then-passes, then-event+else-passes}
+use Rattle.node_tree.proofs.overlapping.settling.settle_where.Goals.{else-event+then-passes-2, else-event+else-passes-2}
 use Rattle.node_tree.proofs.overlapping.settling.settle_where.Goals as goal
 
 pub loop-event-init : goal.loop-event-init
@@ -27,18 +28,22 @@ loop-event-preserved c =
     elim c.if-event.branch [
       | then-event+then-passes w ↦
           rw (w.firsts-is, w.least-is, w.lower_to.ensures)
-          (pass-asks put asking events i e within here old f least w.if-event.true (w.passes.ensures.0 w.if-passes.true) inside pass)
+          (pass-asks put asking events i e within here old f least w.if-event.true
+          (w.passes.ensures.0 w.if-passes.true) inside pass)
       | then-event+else-passes w ↦
           rw (w.firsts-is, w.least-is)
           (pass-kept put asking events i e within here old f least
-          (λ _ passes. false≢true (sym w.if-passes.false ∙ w.passes.ensures.1 passes)) (λ put_e _. false≢true (sym put_e ∙ w.if-event.true)) pass)
+          (λ _ passes. false≢true (sym w.if-passes.false ∙ w.passes.ensures.1 passes))
+          (λ put_e _. false≢true (sym put_e ∙ w.if-event.true)) pass)
       | else-event+then-passes-2 w ↦
           rw (w.firsts-is, w.least-is, w.lesser.ensures)
-          (pass-put put asking events i e within here old f least w.if-event.false (w.passes-else-event.ensures.0 w.if-passes-2.true) pass)
+          (pass-put put asking events i e within here old f least w.if-event.false
+          (w.passes-else-event.ensures.0 w.if-passes-2.true) pass)
       | else-event+else-passes-2 w ↦
           rw (w.firsts-is, w.least-is)
           (pass-kept put asking events i e within here old f least
-          (λ asks_e _. false≢true (sym w.if-event.false ∙ asks_e)) (λ _ passes. false≢true (sym w.if-passes-2.false ∙ w.passes-else-event.ensures.1 passes)) pass)
+          (λ asks_e _. false≢true (sym w.if-event.false ∙ asks_e))
+          (λ _ passes. false≢true (sym w.if-passes-2.false ∙ w.passes-else-event.ensures.1 passes)) pass)
     ]
 
 pub returns : goal.returns

@@ -17,31 +17,61 @@ walk-requires t c =
 
 pub returns-in_err-address-clause-stopped : goal.returns-in_err-address-clause-stopped
 returns-in_err-address-clause-stopped t c =
-    let called = c.as_str-in-loop-node.ensures.value ∙ c.in_ok-name.ensures ∙ ap (name_below c.args.above.now) c.as_str.ensures in
-    let told : IfErr c.from_residual-in_err-address.result (IsStop (visit_next c.loop-node.self.found c.as_str-in-loop-node.result.now c.args.level.ids (register_of c.args.level.base c.node-item.result))) = search rules in
+    let called =
+    c.as_str-in-loop-node.ensures.value ∙ c.in_ok-name.ensures
+    ∙ ap (name_below c.args.above.now) c.as_str.ensures in
+    let told : IfErr c.from_residual-in_err-address.result
+    (IsStop (visit_next c.loop-node.self.found c.as_str-in-loop-node.result.now c.args.level.ids
+    (register_of c.args.level.base c.node-item.result))) = search rules in
     IfErr-weaker c.from_residual-in_err-address.result _ _
-    (λ fault stop. subst (λ r. IsStop r fault) c.loop-node.invariant (stopped_at _ _ _ _ _ _ _ _ _ fault c.loop-node-test.true c.node-item.is
-    (subst (λ name. IsStop (visit_next c.loop-node.self.found name c.args.level.ids (register_of c.args.level.base c.node-item.result)) fault) called stop))) told
+    (λ fault stop. subst (λ r. IsStop r fault) c.loop-node.invariant
+    (stopped_at _ _ _ _ _ _ _ _ _ fault c.loop-node-test.true c.node-item.is
+    (subst (λ name. IsStop
+    (visit_next c.loop-node.self.found name c.args.level.ids (register_of c.args.level.base c.node-item.result))
+    fault) called stop))) told
 
 pub returns-in_err-walk-clause-stopped : goal.returns-in_err-walk-clause-stopped
 returns-in_err-walk-clause-stopped t c =
-    let called = c.as_str-in-loop-node.ensures.value ∙ c.in_ok-name.ensures ∙ ap (name_below c.args.above.now) c.as_str.ensures in
-    let again = c.as_str-in-loop-node-2.ensures.value ∙ c.in_ok-name.ensures ∙ ap (name_below c.args.above.now) c.as_str.ensures in
-    let visited = subst (λ name. visit_next c.loop-node.self.found name c.args.level.ids (register_of c.args.level.base c.node-item.result) ≡ Ok c.visit.new.self.found) called c.in_ok-address.ensures.visited in
-    let below = below_is c.args.tables.now c.args.level.ids _ _ _ _ _ _ c.in_ok-address.ensures.shallow again c.in_ok-address.ensures.address c.children-below.ensures in
-    let deeper = siblings (walk c.args.tables.now (most_ids + 1 - (c.args.level.ids + 1)) (c.args.level.ids + 1 + 1)) c.args.tables.now (c.args.level.ids + 1) c.as_str-in-loop-node-2.result.now c.in_ok-address.address [] c.children-below.result.now in
+    let called =
+    c.as_str-in-loop-node.ensures.value ∙ c.in_ok-name.ensures
+    ∙ ap (name_below c.args.above.now) c.as_str.ensures in
+    let again =
+    c.as_str-in-loop-node-2.ensures.value ∙ c.in_ok-name.ensures
+    ∙ ap (name_below c.args.above.now) c.as_str.ensures in
+    let visited =
+    subst (λ name. visit_next c.loop-node.self.found name c.args.level.ids
+    (register_of c.args.level.base c.node-item.result) ≡ Ok c.visit.new.self.found) called
+    c.in_ok-address.ensures.visited in
+    let below =
+    below_is c.args.tables.now c.args.level.ids _ _ _ _ _ _ c.in_ok-address.ensures.shallow again
+    c.in_ok-address.ensures.address c.children-below.ensures in
+    let deeper =
+    siblings (walk c.args.tables.now (most_ids + 1 - (c.args.level.ids + 1)) (c.args.level.ids + 1 + 1))
+    c.args.tables.now (c.args.level.ids + 1) c.as_str-in-loop-node-2.result.now c.in_ok-address.address []
+    c.children-below.result.now in
     let told : IfErr c.from_residual-in_err-walk.result (IsStop (run deeper c.visit.new.self.found)) = search rules in
     IfErr-weaker c.from_residual-in_err-walk.result _ _
     (λ fault stop. subst (λ r. IsStop r fault) c.loop-node.invariant
-    (stopped_below _ _ _ _ _ _ _ _ _ _ fault c.loop-node-test.true c.node-item.is visited (subst (λ vs. IsStop (run vs c.visit.new.self.found) fault) below stop))) told
+    (stopped_below _ _ _ _ _ _ _ _ _ _ fault c.loop-node-test.true c.node-item.is visited
+    (subst (λ vs. IsStop (run vs c.visit.new.self.found) fault) below stop))) told
 
 pub loop-node-preserved : goal.loop-node-preserved
 loop-node-preserved t c =
-    let called = c.as_str-in-loop-node.ensures.value ∙ c.in_ok-name.ensures ∙ ap (name_below c.args.above.now) c.as_str.ensures in
-    let again = c.as_str-in-loop-node-2.ensures.value ∙ c.in_ok-name.ensures ∙ ap (name_below c.args.above.now) c.as_str.ensures in
-    let visited = subst (λ name. visit_next c.loop-node.self.found name c.args.level.ids (register_of c.args.level.base c.node-item.result) ≡ Ok c.visit.new.self.found) called c.in_ok-address.ensures.visited in
-    let below = below_is c.args.tables.now c.args.level.ids _ _ _ _ _ _ c.in_ok-address.ensures.shallow again c.in_ok-address.ensures.address c.children-below.ensures in
-    let walked = subst (λ vs. run vs c.visit.new.self.found ≡ Ok c.walk.new.self.found) below c.in_ok-walk.ensures.walked in
+    let called =
+    c.as_str-in-loop-node.ensures.value ∙ c.in_ok-name.ensures
+    ∙ ap (name_below c.args.above.now) c.as_str.ensures in
+    let again =
+    c.as_str-in-loop-node-2.ensures.value ∙ c.in_ok-name.ensures
+    ∙ ap (name_below c.args.above.now) c.as_str.ensures in
+    let visited =
+    subst (λ name. visit_next c.loop-node.self.found name c.args.level.ids
+    (register_of c.args.level.base c.node-item.result) ≡ Ok c.visit.new.self.found) called
+    c.in_ok-address.ensures.visited in
+    let below =
+    below_is c.args.tables.now c.args.level.ids _ _ _ _ _ _ c.in_ok-address.ensures.shallow again
+    c.in_ok-address.ensures.address c.children-below.ensures in
+    let walked =
+    subst (λ vs. run vs c.visit.new.self.found ≡ Ok c.walk.new.self.found) below c.in_ok-walk.ensures.walked in
     sym (past_both _ _ _ _ _ _ _ _ _ _ _ c.loop-node-test.true c.node-item.is visited walked) ∙ c.loop-node.invariant
 
 pub returns-clause-walked : goal.returns-clause-walked

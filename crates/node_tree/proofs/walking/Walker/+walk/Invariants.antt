@@ -11,5 +11,8 @@ decreases-walk l = most_ids + 2 - l.level.ids
 abbrev pub invariant-loop-node : goal.invariant-loop-node
 invariant-loop-node l =
     let below = walk l.tables (most_ids + 1 - l.level.ids) (l.level.ids + 1) in
-    let rest = siblings below l.tables l.level.ids l.above l.level.base (take l.node-index l.nodes) (drop l.node-index l.nodes) in
-    run rest l.self.found ≡ run (siblings below l.tables l.level.ids l.above l.level.base [] l.nodes) l.initial.self.found
+    let rest =
+    siblings below l.tables l.level.ids l.above l.level.base (take l.node-index l.nodes)
+    (drop l.node-index l.nodes) in
+    run rest l.self.found
+    ≡ run (siblings below l.tables l.level.ids l.above l.level.base [] l.nodes) l.initial.self.found

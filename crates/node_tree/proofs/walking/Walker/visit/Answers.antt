@@ -11,20 +11,29 @@ returns-then-self-ge-MAX_NODES-clause-stopped c =
 
 pub returns-then-level-gt-MAX_IDS-clause-stopped : goal.returns-then-level-gt-MAX_IDS-clause-stopped
 returns-then-level-gt-MAX_IDS-clause-stopped c =
-    subst (λ r. IsStop r c.fault_at-then-level-gt-MAX_IDS.result) (sym (too_deep _ _ _ _ c.if-self-ge-MAX_NODES.false c.if-level-gt-MAX_IDS.true)) c.fault_at-then-level-gt-MAX_IDS.ensures
+    subst (λ r. IsStop r c.fault_at-then-level-gt-MAX_IDS.result)
+    (sym (too_deep _ _ _ _ c.if-self-ge-MAX_NODES.false c.if-level-gt-MAX_IDS.true))
+    c.fault_at-then-level-gt-MAX_IDS.ensures
 
 pub returns-then-contains-clause-stopped : goal.returns-then-contains-clause-stopped
 returns-then-contains-clause-stopped c =
-    subst (λ r. IsStop r c.fault_at-then-contains.result) (sym (duplicate _ _ _ _ c.if-self-ge-MAX_NODES.false c.if-level-gt-MAX_IDS.false (sym c.if-contains.ensures))) c.fault_at-then-contains.ensures
+    subst (λ r. IsStop r c.fault_at-then-contains.result)
+    (sym (duplicate _ _ _ _ c.if-self-ge-MAX_NODES.false c.if-level-gt-MAX_IDS.false (sym c.if-contains.ensures)))
+    c.fault_at-then-contains.ensures
 
 pub returns-in_default-clause-stopped : goal.returns-in_default-clause-stopped
 returns-in_default-clause-stopped c =
-    let past : 2 ^ 32 ≤ last_address (register_of c.args.level.base c.args.node.now) = omega (arith, c.in_default.ensures) in
-    subst (λ r. IsStop r c.fault_at-in_default.result) (sym (past_end _ _ _ _ c.if-self-ge-MAX_NODES.false c.if-level-gt-MAX_IDS.false (sym c.if-contains.ensures) past)) c.fault_at-in_default.ensures
+    let past : 2 ^ 32 ≤ last_address (register_of c.args.level.base c.args.node.now) =
+    omega (arith, c.in_default.ensures) in
+    subst (λ r. IsStop r c.fault_at-in_default.result)
+    (sym (past_end _ _ _ _ c.if-self-ge-MAX_NODES.false c.if-level-gt-MAX_IDS.false
+    (sym c.if-contains.ensures) past)) c.fault_at-in_default.ensures
 
 pub returns-clause-address : goal.returns-clause-address
 returns-clause-address c = ap (λ r. r.address) c.in-Some.ensures.1
 
 pub returns-clause-visited : goal.returns-clause-visited
 returns-clause-visited c =
-    rw (c.in_ok-insert.ensures.ok, c.in-Some.ensures.1) (visited _ _ _ _ c.if-self-ge-MAX_NODES.false c.if-level-gt-MAX_IDS.false (sym c.if-contains.ensures) c.in-Some.ensures.0)
+    rw (c.in_ok-insert.ensures.ok, c.in-Some.ensures.1)
+    (visited _ _ _ _ c.if-self-ge-MAX_NODES.false c.if-level-gt-MAX_IDS.false
+    (sym c.if-contains.ensures) c.in-Some.ensures.0)

@@ -1,0 +1,4 @@
+pub mod Walks
+pub mod Strays
+pub mod Named
+pub mod Bounds

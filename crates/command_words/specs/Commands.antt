@@ -1,0 +1,58 @@
+-- The words of the program's command line, behind its name: the commands that there are. Profile.
+use Rattle.std.specs.Prelude.{ℕ, Bool, false, not, ◌&&◌, ◌==◌, if◌then◌else◌, List, [], ◌∷◌, codes, Option, Some, None}
+use Rattle.std.specs.Str.{bytes_eq}
+use Rattle.script_lang.specs.Texts.{decimal_between}
+use Rattle.command_words.specs.declared.command.Command.{Command}
+use Rattle.command_words.specs.declared.command.Command.TheVariants.{Run, Check, Serve, Load}
+
+-- a word begins with a hyphen
+abbrev pub is_option : List ℕ → Bool
+is_option [] = false
+is_option (byte ∷ bytes) = byte == 45
+
+-- `run`
+abbrev pub command_of_one : List ℕ → Option Command
+command_of_one word = if bytes_eq word (codes "run") then Some Run else None
+
+-- a load of 1 to 100,000 operations
+abbrev pub load_of : Option ℕ → Option Command
+load_of None = None
+load_of (Some count) = Some (Load count)
+
+abbrev pub loaded : List ℕ → Option Command
+loaded count = load_of (decimal_between 1 100000 count)
+
+-- `check` and the name of a table, or `load` and this number
+abbrev pub command_of_two : List ℕ → List ℕ → Option Command
+command_of_two word other =
+    if bytes_eq word (codes "check") && not (is_option other) then Some (Check other)
+    else if bytes_eq word (codes "load") then loaded other
+    else None
+
+-- where both numbers are right
+abbrev pub serve_of : Option ℕ → Option ℕ → Option Command
+serve_of None count = None
+serve_of (Some port) None = None
+serve_of (Some port) (Some count) = Some (Serve port count)
+
+-- a port from 1 to 65535, and from 1 to 64 connections
+abbrev pub served : List ℕ → List ℕ → Option Command
+served port count = serve_of (decimal_between 1 65535 port) (decimal_between 1 64 count)
+
+-- `serve` and these two numbers
+abbrev pub command_of_three : List ℕ → List ℕ → List ℕ → Option Command
+command_of_three word port count = if bytes_eq word (codes "serve") then served port count else None
+
+-- The command that words are: `run`; `check` and the name of a table, which is any text that does not begin with a
+-- hyphen; `serve`, a port and a number of connections; or `load` and a number of operations. Numbers are decimal digits
+-- without a sign or a leading zero. All other words are none.
+abbrev pub command_of : List (List ℕ) → Option Command
+command_of [] = None
+command_of (word ∷ []) = command_of_one word
+command_of (word ∷ (first ∷ [])) = command_of_two word first
+command_of (word ∷ (first ∷ (second ∷ []))) = command_of_three word first second
+command_of (word ∷ (first ∷ (second ∷ (third ∷ others)))) = None
+
+-- the line for words that are no command
+abbrev pub usage_text : List ℕ
+usage_text = codes "usage: ipbus run | check TABLE | serve PORT COUNT | load COUNT\n"

@@ -1,0 +1,79 @@
+//! The commands of the program.
+
+ghost use Rattle.std.specs.Prelude.{◌≡◌, IfOk, map, string_bytes};
+ghost use Rattle.command_words.specs.Commands as spec;
+ghost use Rattle.command_words.specs.Read.{form_of, named};
+ghost use Rattle.script_lang.specs.Texts.{decimal_between};
+
+use crate::line::{Line, LineError, read_line};
+use ipb_base::{NoMemory, Text};
+use script_lang::decimal_between;
+use std::alloc::Global;
+
+/// The line for words that are no command.
+pub const USAGE_LINE: &str = "usage: ipbus run | check TABLE | serve PORT COUNT | load COUNT\n";
+
+/// What the words of a command line ask for (profile).
+#[derive(Debug, Drop)]
+pub enum Command {
+    /// `run`: the scripts of a session document are run on its boards.
+    Run,
+    /// `check TABLE`: the registers of a table of a session document are listed.
+    Check { table: Text },
+    /// `serve PORT COUNT`: connections to a port, from 1, are served on the boards of a session document. There are 1
+    /// to 64 of them.
+    Serve { port: u16, count: u32 },
+    /// `load COUNT`: a generated session of so many operations is run, 1 to 100,000 of them.
+    Load { count: u32 },
+}
+
+/// The command that words are, if they are one. A word that begins with a hyphen is in none: there are no options, and
+/// no words for help or the version.
+pub fn command_of(alloc: Global, words: &[String]) -> Result<Option<Command>, NoMemory>
+    ensures { IfOk result (λ command. command ≡ spec.command_of (map string_bytes words.now)) }
+{
+    match read_line(alloc, words) {
+        Ok(line) => command_in(alloc, line),
+        Err(LineError::Usage) => Ok(None),
+        Err(LineError::NoMemory) => Err(NoMemory),
+    }
+}
+
+/// The command of a line, if its numbers are right.
+fn command_in(alloc: Global, line: Line<'_>) -> Result<Option<Command>, NoMemory>
+    ensures { IfOk result (λ command. command ≡ named (form_of line.entry)) }
+{
+    match line {
+        Line::Run => Ok(Some(Command::Run)),
+        Line::Check(table) => Ok(Some(Command::Check {
+            table: Text::copy_of(alloc, table)?,
+        })),
+        Line::Serve(port, count) => Ok(serve(port.as_bytes(), count.as_bytes())),
+        Line::Load(count) => Ok(load(count.as_bytes())),
+    }
+}
+
+/// The command to serve, if its numbers are right.
+fn serve(port: &[u8], count: &[u8]) -> Option<Command>
+    ensures { result ≡ spec.served port.now count.now }
+{
+    let port = port_in(port)?;
+    let count = decimal_between(1, 64, count)?;
+    Some(Command::Serve { port, count })
+}
+
+/// The command to run a generated session, if its number is right.
+fn load(count: &[u8]) -> Option<Command>
+    ensures { result ≡ spec.loaded count.now }
+{
+    let count = decimal_between(1, 100_000, count)?;
+    Some(Command::Load { count })
+}
+
+/// A port, from 1 to 65535.
+fn port_in(word: &[u8]) -> Option<u16>
+    ensures { result ≡ decimal_between 1 65535 word.now }
+{
+    let number = decimal_between(1, 65535, word)?;
+    u16::try_from(number).ok()
+}

@@ -1,0 +1,142 @@
+//! The words of a command line as `clap` reads them: one command with exactly its words.
+
+ghost use Rattle.std.specs.Prelude.{◌≡◌, ℕ, true, false, IfOk, IsErrOf, Some, List};
+ghost use Rattle.clap.specs.Words.{app_of, rule_of, rows_of, found_of, first_of};
+ghost use Rattle.command_words.specs.Forms.{Form, words_of, IsPlain, ArePlain, texts};
+ghost use Rattle.command_words.specs.App.{ipbus, needed, IsFor, name_of, rows_of_form};
+ghost use Rattle.command_words.specs.Read.{form_of};
+
+use clap::error::ErrorKind;
+use clap::{Arg, ArgMatches, Command, Error};
+use std::alloc::{AllocError, Global};
+
+/// A command, and the words behind its name as they are written.
+#[derive(Clone, Copy, Debug, PartialEq, Eq)]
+pub(crate) enum Line<'a> {
+    Run,
+    Check(&'a str),
+    Serve(&'a str, &'a str),
+    Load(&'a str),
+}
+
+/// Why words are no command, or were not read.
+#[derive(Clone, Copy, Debug, PartialEq, Eq)]
+pub(crate) enum LineError {
+    Usage,
+    NoMemory,
+}
+
+/// A word of a command, which has to be there.
+fn needed<'a>(alloc: Global, name: &'a str) -> Arg<'a>
+    ensures rule { rule_of result ≡ needed name.entry.now }
+    ensures local { result.global ≡ false }
+{
+    Arg::new(alloc, name).required(true)
+}
+
+/// The commands, each with its words; there is no help and no version.
+fn command<'a>(alloc: Global) -> Result<Command<'a>, AllocError>
+    ensures { IfOk result (λ c. app_of c ≡ ipbus) }
+{
+    let run = Command::new(alloc, "run");
+    let check = Command::new(alloc, "check").arg(needed(alloc, "table"))?;
+    let serve = Command::new(alloc, "serve")
+        .arg(needed(alloc, "port"))?
+        .arg(needed(alloc, "count"))?;
+    let load = Command::new(alloc, "load").arg(needed(alloc, "count"))?;
+    Command::new(alloc, "ipbus")
+        .no_binary_name(true)
+        .disable_help_flag(true)
+        .disable_help_subcommand(true)
+        .disable_version_flag(true)
+        .subcommand_required(true)
+        .subcommand(run)?
+        .subcommand(check)?
+        .subcommand(serve)?
+        .subcommand(load)
+}
+
+/// What clap finds in words of which none begins with a hyphen.
+fn matches_for<'a>(alloc: Global, words: &'a [String]) -> Result<ArgMatches<'a>, LineError>
+    requires plain { ArePlain (texts words.now) }
+    ensures ok { IfOk result (λ m. (s : Form) × (texts words.now ≡ words_of s) × IsFor s m) }
+    ensures usage { IsErrOf result LineError.Usage → (s : Form) → texts words.now ≡ words_of s → ⊥ }
+{
+    let Ok(command) = command(alloc) else {
+        return Err(LineError::NoMemory);
+    };
+    match command.try_get_matches_from(words) {
+        Ok(matches) => Ok(matches),
+        Err(error) => {
+            if error.kind() == ErrorKind::OutOfMemory {
+                Err(LineError::NoMemory)
+            } else {
+                Err(LineError::Usage)
+            }
+        }
+    }
+}
+
+/// The command that was entered, with its words.
+fn line_of<'a>(matches: &ArgMatches<'a>) -> Line<'a>
+    ensures { (s : Form) → IsFor s matches.now → form_of result ≡ s }
+{
+    match matches.subcommand() {
+        Some((name, inner)) => entered(name, inner),
+        None => Line::Run,
+    }
+}
+
+/// The command of this name, with the words that it was given.
+fn entered<'a>(name: &'a str, matches: &ArgMatches<'a>) -> Line<'a>
+    ensures { (s : Form) → name.now ≡ name_of s → rows_of (found_of matches.now) ≡ rows_of_form s → form_of result ≡ s }
+{
+    match name {
+        "check" => Line::Check(word(matches, "table")),
+        "serve" => Line::Serve(word(matches, "port"), word(matches, "count")),
+        "load" => Line::Load(word(matches, "count")),
+        _ => Line::Run,
+    }
+}
+
+/// The word of this name.
+fn word<'a>(matches: &ArgMatches<'a>, id: &str) -> &'a str
+    ensures { (t : List ℕ) → first_of id.now (rows_of (found_of matches.now)) ≡ Some t → result.now ≡ t }
+{
+    matches.get_str(id).unwrap_or("")
+}
+
+/// Whether a word begins with a hyphen.
+fn begins_with_hyphen(word: &str) -> bool
+    ensures no { result ≡ false → IsPlain word.now }
+    ensures yes { result ≡ true → ¬ IsPlain word.now }
+{
+    match word.as_bytes() {
+        [first, ..] => *first == b'-',
+        [] => false,
+    }
+}
+
+/// Whether a word of these begins with a hyphen.
+fn has_hyphen(words: &[String]) -> bool
+    ensures no { result ≡ false → ArePlain (texts words.now) }
+    ensures yes { result ≡ true → ¬ ArePlain (texts words.now) }
+{
+    match words {
+        [word, rest @ ..] => begins_with_hyphen(word.as_str()) || has_hyphen(rest),
+        [] => false,
+    }
+}
+
+/// The command that words name, with its words. `Usage` comes exactly where they name none.
+pub(crate) fn read_line<'a>(alloc: Global, words: &'a [String]) -> Result<Line<'a>, LineError>
+    ensures ok { IfOk result (λ line. (texts words.now ≡ words_of (form_of line)) × ArePlain (texts words.now)) }
+    ensures usage { IsErrOf result LineError.Usage → (s : Form) → texts words.now ≡ words_of s
+        → ArePlain (texts words.now) → ⊥ }
+{
+    if has_hyphen(words) {
+        return Err(LineError::Usage);
+    }
+    let matches = matches_for(alloc, words)?;
+    Ok(line_of(&matches))
+}
