@@ -46,5 +46,6 @@ pub alone_in_turn : (bodies : List (List (List ℕ))) (outcomes : List (List Out
     → HasOneOrder bodies outcomes → KeepsScripts bodies outcomes → AreInTurn bodies outcomes
 alone_in_turn bodies outcomes one order keeps =
     let all = all_placed bodies outcomes in
-    subst (λ (ps : List Placed). CountsFrom 1 (places_of ps)) (rising_sorted 1 all (alone_rises bodies outcomes one keeps))
+    subst (λ (ps : List Placed). CountsFrom 1 (places_of ps))
+    (rising_sorted 1 all (alone_rises bodies outcomes one keeps))
     order

@@ -3,6 +3,6 @@ mod Turns
 mod Only
 mod Sends
 pub mod Alone
-mod OwnPlaces
+pub mod OwnPlaces
 pub mod Merging
 mod PlacesShown

@@ -24,7 +24,7 @@ AreApart ps = Rises IsApart ps
 
 -- ---- what stands by place stands apart
 
-counting_apart : (k : ℕ) (ps : List Placed) → CountsFrom k (places_of ps) → AreApart ps
+pub counting_apart : (k : ℕ) (ps : List Placed) → CountsFrom k (places_of ps) → AreApart ps
 counting_apart k [] c = tt
 counting_apart k (p ∷ ps) c = (
   all-map (IsAbove p.place) (IsApart p) ps (λ q above same. omega arith)
@@ -45,7 +45,7 @@ inserted_apart x (y ∷ ys) =
     let first = inserted_all (IsApart y) x ys apart.0 in
     (((λ same. first.0 (sym same)), later.0), (first.1, later.1)))
 
-sorted_apart : (ps : List Placed) → AreApart (by_place ps) → AreApart ps
+pub sorted_apart : (ps : List Placed) → AreApart (by_place ps) → AreApart ps
 sorted_apart [] apart = tt
 sorted_apart (p ∷ ps) apart =
     let both = inserted_apart p (by_place ps) apart in

@@ -24,7 +24,7 @@ use Rattle.transcript.specs.declared.line.OpLine.{OpLine}
 use Rattle.lane_record.specs.declared.outcome.Outcome.{Outcome}
 use Rattle.transcript.specs.Plan.{ClientBodies, operations, ops_on, plan, planned_on, all_dispatches}
 use Rattle.transcript.specs.Ends.{ends_of, piece_result}
-use Rattle.transcript.specs.Lines.{showing, by_pieces, count_on, lines_behind, lines_from}
+use Rattle.transcript.specs.Lines.{showing, by_pieces, count_on, line_of, lines_behind, lines_from}
 use Rattle.direct_run.specs.Runs.{RunsHere, IsRun, AreRuns, greeting_of, plans_on}
 use Rattle.direct_run.specs.Answering.{AskRequests}
 use Rattle.direct_run.specs.Lines.{IsBusResult, IsBusLine}
@@ -170,7 +170,7 @@ module _ (P : OpResult → Type 0) (bus : AllowsBus P) (fitting : Fitting P) whe
       let told = all_at (FinePart P) run.parts client part shows.told found.1 in
       rw shows.live (rw found.1 (rw has.at' (part_allowed part op has.pieces told keeps has.asked)))
 
-  showing_allowed : (scripts : List (List Step)) (run : BoardRun) (client : ℕ) (steps : List Step)
+  pub showing_allowed : (scripts : List (List Step)) (run : BoardRun) (client : ℕ) (steps : List Step)
       (before later : List RegOp) (op : RegOp) → CanShow P op.board scripts run
       → slice_get scripts client ≡ Some steps → before ++ op ∷ later ≡ operations steps → KeepsVerb op
       → P (showing run client (count_on op.board before) op).0
@@ -182,47 +182,54 @@ module _ (P : OpResult → Type 0) (bus : AllowsBus P) (fitting : Fitting P) whe
     ]
   ]
 
-  lines_allowed : (scripts : List (List Step)) (runs : List BoardRun)
-      → ((k : ℕ) (run : BoardRun) → slice_get runs k ≡ Some run → CanShow P k scripts run)
-      → (client : ℕ) (steps : List Step) → slice_get scripts client ≡ Some steps → (before ops : List RegOp)
+-- Each line is that of an operation that can be executed, on a board that is there.
+module _ (scripts : List (List Step)) (runs : List BoardRun) (Q : OpLine → Type 0)
+    (look : (client : ℕ) (steps : List Step) (before later : List RegOp) (op : RegOp) (run : BoardRun)
+    → slice_get scripts client ≡ Some steps → before ++ op ∷ later ≡ operations steps → KeepsVerb op
+    → slice_get runs op.board ≡ Some run → Q (line_of client before op run)) where
+  lines_hold : (client : ℕ) (steps : List Step) → slice_get scripts client ≡ Some steps → (before ops : List RegOp)
       → before ++ ops ≡ operations steps
-      → AllByRecursion KeepsVerb ops → AllByRecursion (IsAllowedLine P) (lines_behind runs client before ops)
-  lines_allowed scripts runs look client steps at before [] same keep = tt
-  lines_allowed scripts runs look client steps at before (op ∷ ops) same keep =
-      let later = lines_allowed scripts runs look client steps at (before ++ op ∷ []) ops
+      → AllByRecursion KeepsVerb ops → AllByRecursion Q (lines_behind runs client before ops)
+  lines_hold client steps at before [] same keep = tt
+  lines_hold client steps at before (op ∷ ops) same keep =
+      let later = lines_hold client steps at (before ++ op ∷ []) ops
       (append_assoc before (op ∷ []) ops ∙ same) keep.1 in
       elim (slice_get_cases runs op.board).1 [
         | inl (run, within, there, again) ↦
-            rw there
-            (showing_allowed scripts run client steps before ops op (look op.board run there) at same keep.0, later)
+            rw there (look client steps before ops op run at same keep.0 there, later)
         | inr (past, none) ↦ rw none later
       ]
 
-  clients_allowed : (scripts : List (List Step)) (runs : List BoardRun)
-      → ((k : ℕ) (run : BoardRun) → slice_get runs k ≡ Some run → CanShow P k scripts run)
-      → (client : ℕ) (rest : List (List Step))
+  clients_hold : (client : ℕ) (rest : List (List Step))
       → ((j : ℕ) (steps : List Step) → slice_get rest j ≡ Some steps → slice_get scripts (client + j) ≡ Some steps)
-      → AllByRecursion KeepVerbs rest → AllByRecursion (AllByRecursion (IsAllowedLine P)) (lines_from runs client rest)
-  clients_allowed scripts runs look client [] at keep = tt
-  clients_allowed scripts runs look client (steps ∷ rest) at keep =
+      → AllByRecursion KeepVerbs rest → AllByRecursion (AllByRecursion Q) (lines_from runs client rest)
+  clients_hold client [] at keep = tt
+  clients_hold client (steps ∷ rest) at keep =
       let first : client + 0 ≡ client = omega arith in (
-        lines_allowed scripts runs look client steps
+        lines_hold client steps
             (subst (λ (c : ℕ). slice_get scripts c ≡ Some steps) first (at 0 steps refl)) [] (operations steps) refl
             keep.0,
-        clients_allowed scripts runs look (client + 1) rest
+        clients_hold (client + 1) rest
             (λ j s h.
             let next : client + suc j ≡ client + 1 + j = omega arith in
             subst (λ (c : ℕ). slice_get scripts c ≡ Some s) next (at (suc j) s h)) keep.1,
       )
 
-  pub session_allowed : (scripts : List (List Step)) (runs : List BoardRun)
-      → ((k : ℕ) (run : BoardRun) → slice_get runs k ≡ Some run → CanShow P k scripts run)
-      → AllByRecursion KeepVerbs scripts → AllByRecursion (AllByRecursion (IsAllowedLine P)) (lines_from runs 0 scripts)
-  session_allowed scripts runs look keep = clients_allowed scripts runs look 0 scripts
+  pub session_holds : AllByRecursion KeepVerbs scripts → AllByRecursion (AllByRecursion Q) (lines_from runs 0 scripts)
+  session_holds keep = clients_hold 0 scripts
       (λ j steps h.
       let same : j ≡ 0 + j = omega arith in
       subst (λ (c : ℕ). slice_get scripts c ≡ Some steps) same h)
       keep
+
+pub session_allowed : (P : OpResult → Type 0) → AllowsBus P → Fitting P → (scripts : List (List Step))
+    (runs : List BoardRun)
+    → ((k : ℕ) (run : BoardRun) → slice_get runs k ≡ Some run → CanShow P k scripts run)
+    → AllByRecursion KeepVerbs scripts → AllByRecursion (AllByRecursion (IsAllowedLine P)) (lines_from runs 0 scripts)
+session_allowed P bus fitting scripts runs look keep = session_holds scripts runs (IsAllowedLine P)
+    (λ client steps before later op run at same keeps there.
+    showing_allowed P bus fitting scripts run client steps before later op (look op.board run there) at same keeps)
+    keep
 
 pub session_bus : Fitting IsBusResult → Telling → (specs : List BoardSpec) (scripts : List (List Step))
     (runs : List BoardRun)

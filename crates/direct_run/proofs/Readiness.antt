@@ -86,14 +86,18 @@ module _ (law : PacksWords) where
       scripts_packed (payload_of mtu) board scripts (omega (arith, bounds.0)) (omega (arith, bounds.1)) can
   packed_for (Udp address port wait) board scripts here can = absurd here
 
+  pub is_ready : (spec : BoardSpec) (board : ℕ) (scripts : List (List Step)) → CanRun spec → OpensOnWords spec
+      → AllByRecursion AreExecutable scripts → IsReady spec board scripts
+  is_ready spec board scripts here words can = record {
+    here = here;
+    words = opens spec.link here words;
+    packed' = packed_for spec.link board scripts here can;
+  }
+
   pub are_ready : (board : ℕ) (specs : List BoardSpec) (scripts : List (List Step)) → AllByRecursion CanRun specs
       → AllByRecursion OpensOnWords specs → AllByRecursion AreExecutable scripts → AreReady board specs scripts
   are_ready board [] scripts here words can = tt
   are_ready board (spec ∷ specs) scripts here words can = (
-    record {
-      here = here.0;
-      words = opens spec.link here.0 words.0;
-      packed' = packed_for spec.link board scripts here.0 can;
-    },
+    is_ready spec board scripts here.0 words.0 can,
     are_ready (board + 1) specs scripts here.1 words.1 can,
   )

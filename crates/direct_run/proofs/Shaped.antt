@@ -83,7 +83,8 @@ module _ (standing : Standing) where
     shape : map (λ (dispatches : List (List Outcome)). map length dispatches) (map dealt parts)
         ≡ map (λ (steps : List Step). (planned_on board told steps).counts) scripts
 
-  pub record SameHeads (board : ℕ) (told : Greeting) (steps : List Step) (scripts : List (List Step)) (part : ClientPart)
+  pub record SameHeads (board : ℕ) (told : Greeting) (steps : List Step) (scripts : List (List Step))
+      (part : ClientPart)
       (parts : List ClientPart) : Type 0 where
     pub plan' : part.planned ≡ planned_on board told steps
     pub plans' : map (λ (p : ClientPart). p.planned) parts ≡ plans_on board told scripts
@@ -122,7 +123,8 @@ module _ (standing : Standing) where
             ∙ ap (λ (p : ClientBodies). record { planned = p; outcomes = part.outcomes }
             ∷ parts_on board told scripts (map dealt parts)) head.plan'
             ∙ ap (λ (os : List Outcome). record { planned = planned_on board told steps; outcomes = os }
-            ∷ parts_on board told scripts (map dealt parts)) (sym (whole_again part.planned part.outcomes cut here.first));
+            ∷ parts_on board told scripts (map dealt parts))
+            (sym (whole_again part.planned part.outcomes cut here.first));
         shape =
             ap (λ (ns : List ℕ). ns ∷ map (λ (dispatches : List (List Outcome)). map length dispatches)
             (map dealt parts)) (in_shape part.planned part.outcomes cut here.first

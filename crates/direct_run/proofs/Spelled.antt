@@ -24,7 +24,8 @@ Spelling = (ops : List Op) (payload : ℕ) (contents : Contents) → IsPacked op
 
 module _ (spelling : Spelling) where
   spelled_from : (payload board : ℕ) (ds : List (List RegOp)) (all : ClientBodies) → AreSpelled all.bodies
-      → AllByRecursion (λ dispatch. IsPacked (ops_on board dispatch) payload (packed payload (ops_on board dispatch))) ds
+      → AllByRecursion (λ dispatch. IsPacked (ops_on board dispatch) payload (packed payload (ops_on board dispatch)))
+      ds
       → AreSpelled (fold with_dispatch all (map (λ dispatch. packed payload (ops_on board dispatch)) ds)).bodies
   spelled_from payload board [] all spelled is = spelled
   spelled_from payload board (d ∷ ds) all spelled is =

@@ -1,4 +1,4 @@
-mod Handed
+pub mod Handed
 mod Did
 mod Partly
 mod Awaits

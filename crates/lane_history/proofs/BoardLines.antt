@@ -1,5 +1,5 @@
 -- What the lines of boards tell of their timeouts.
-use Rattle.std.proofs.Common.{◌≡◌, ℕ, ◌+◌, ◌*◌, ◌≤◌, List, [], ◌∷◌, map, Option, Some, None, subst, ap}
+use Rattle.std.proofs.Common.{◌≡◌, ℕ, ◌+◌, ◌*◌, ◌≤◌, List, [], ◌∷◌, map, Option, Some, None, subst}
 use Rattle.std.specs.Prelude.{IfSome}
 use Rattle.std.specs.List.{AllZip, count_by}
 use Rattle.board_node.specs.declared.spec.BoardSpec.{BoardSpec}
@@ -17,7 +17,7 @@ use Rattle.board_history.specs.GiveUps.{IsExact, time_outs}
 use Rattle.board_history.specs.History.{dispatches_by_client}
 use Rattle.direct_run.specs.Runs.{opening_of}
 use Rattle.lane_history.specs.Links.{LinkReport}
-use Rattle.lane_history.specs.Runs.{AreRunsOver, IsAsTold, IsLiveRun, IsRunOver, IsTrueRun, ShowsScripts}
+use Rattle.lane_history.specs.Runs.{AreRunsOver, IsAsTold, IsTrueRun, ShowsScripts}
 use Rattle.lane_history.specs.Runs.{TimeOutsWaited}
 
 -- the timeouts of a board's line are those of its clients' dispatches
@@ -43,17 +43,16 @@ line_at run told = elim told as (λ _. BoardLine) [
   | Down ↦ board_lines.Down run.name
 ]
 
-line_waited : Counting → (settings : Limits) (spec : BoardSpec) (board : ℕ) (scripts : List (List Step))
-    (run : BoardRun) (link : LinkReport) (told : Greeting) → ShowsScripts spec board scripts run
+pub line_waited : (settings : Limits) (spec : BoardSpec) (run : BoardRun) (link : LinkReport) (told : Greeting)
+    → time_outs (dispatches_by_client run) ≡ count_by is_timed_out (outcomes_on run)
     → IsAsTold settings spec run link told → TimeOutsWaited settings (line_at run told) link
-line_waited counting settings spec board scripts run link (Live payload) shows live =
-    let same = counting spec board scripts run shows in (
-      subst (λ (n : ℕ). IsExact link.quiets → (settings.rounds + 1) * n ≤ settings.window * link.quiets) same
-          live.any_link.rounds.bodies,
-      held_by_line settings spec run link.held link.board same live.told,
-    )
-line_waited counting settings spec board scripts run link Silent shows silent = tt
-line_waited counting settings spec board scripts run link Down shows down = tt
+line_waited settings spec run link (Live payload) same live = (
+  subst (λ (n : ℕ). IsExact link.quiets → (settings.rounds + 1) * n ≤ settings.window * link.quiets) same
+      live.any_link.rounds.bodies,
+  held_by_line settings spec run link.held link.board same live.told,
+)
+line_waited settings spec run link Silent same silent = tt
+line_waited settings spec run link Down same down = tt
 
 pub lines_waited : Counting → (settings : Limits) (board : ℕ) (specs : List BoardSpec) (scripts : List (List Step))
     (runs : List BoardRun) (links : List LinkReport) → AreRunsOver settings board specs scripts runs links
@@ -64,6 +63,6 @@ lines_waited counting settings board [] scripts (run ∷ runs) links is = absurd
 lines_waited counting settings board (spec ∷ specs) scripts [] links is = absurd is
 lines_waited counting settings board (spec ∷ specs) scripts (run ∷ runs) [] is = absurd is
 lines_waited counting settings board (spec ∷ specs) scripts (run ∷ runs) (link ∷ links) is = (
-  line_waited counting settings spec board scripts run link run.greeting is.0.scripts' is.0.as_told,
+  line_waited settings spec run link run.greeting (counting spec board scripts run is.0.scripts') is.0.as_told,
   lines_waited counting settings (board + 1) specs scripts runs links is.1,
 )

@@ -66,6 +66,7 @@ clients_calm cost (os ∷ others) some few l = (
   clients_calm cost others some few.1 l.1,
 )
 
-pub all_calm : (window cost : ℕ) (outcomes : List (List (List Outcome))) → 1 ≤ cost → GaveUpOnlyAfter window cost 0 outcomes
+pub all_calm : (window cost : ℕ) (outcomes : List (List (List Outcome))) → 1 ≤ cost
+    → GaveUpOnlyAfter window cost 0 outcomes
     → AllByRecursion (AllByRecursion IsNotLost) (map joined outcomes) → AllReplied (map joined outcomes)
 all_calm window cost outcomes some patient l = clients_calm cost outcomes some (patient.dispatches (omega arith)) l

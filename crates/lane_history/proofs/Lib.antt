@@ -1,16 +1,21 @@
 pub mod Own
 mod Rans
 mod Lookups
+mod Beside
+mod Planned
 pub mod Opening
 mod Steps
 mod Orders
 mod Histories
-mod Waits
+pub mod Waits
 mod Merges
-mod Calm
+mod Sealed
+pub mod Calm
 mod Growing
 mod Live
 mod Ungarbled
-mod Shown
-mod BoardLines
+pub mod Shown
+pub mod BoardLines
 mod Lines
+mod Rounds
+mod ToldLines

@@ -14,9 +14,10 @@ use Rattle.world_model.specs.Board.{Board}
 use Rattle.world_model.proofs.Lists.{at_map}
 use Rattle.reliable_engine.specs.Settings.{Limits}
 use Rattle.script_lang.specs.declared.operation.Step.{Step}
+use Rattle.script_lang.specs.Executable.{AreExecutable, OpensOnWords}
 use Rattle.lane_record.specs.declared.outcome.Outcome.{Outcome}
 use Rattle.lane_record.specs.declared.outcome.Outcome.TheVariants.{Replied, TimedOut, Unsent, LinkLost}
-use Rattle.lane_record.specs.Outcomes.{TellsRounds, place_of}
+use Rattle.lane_record.specs.Outcomes.{place_of}
 use Rattle.transcript.specs.declared.greeting.Greeting.{Greeting}
 use Rattle.transcript.specs.declared.greeting.Greeting.TheVariants.{Live, Silent, Down}
 use Rattle.transcript.specs.declared.board_run.ClientPart.{ClientPart}
@@ -28,19 +29,19 @@ use Rattle.board_history.specs.Order.{Placed, with_place, placed, all_placed, or
 use Rattle.board_history.specs.Parts.{IsReplyOf, IsReplied}
 use Rattle.board_history.specs.History.{ShowsHistory, bodies_by_client, outcomes_by_client}
 use Rattle.board_history.proofs.Sorting.{all_sorted, sorted_all}
-use Rattle.direct_run.specs.Runs.{RunsHere, greeting_of, opening_of}
+use Rattle.direct_run.specs.Runs.{CanRun, RunsHere, greeting_of, opening_of}
 use Rattle.direct_run.specs.Answering.{AsksRequests, AskRequests}
 use Rattle.direct_run.specs.Lines.{IsBusResult}
 use Rattle.direct_run.proofs.Answering.{Answering, AnsweringAny, Keeping, KeepingAll, Garbling, Joins}
 use Rattle.direct_run.proofs.Asking.{Both}
 use Rattle.direct_run.proofs.BusResults.{IsUntold, IsFine}
 use Rattle.direct_run.proofs.BusLines.{FinePart, Shows, CanShow}
-use Rattle.direct_run.proofs.Readiness.{ArePackedFor, IsReady, AreReady}
+use Rattle.direct_run.proofs.Readiness.{ArePackedFor, IsReady, AreReady, is_ready}
+use Rattle.transcript.proofs.PackedDispatches.{PacksWords}
 use Rattle.direct_run.proofs.Shaped.{Standing, lengths}
 use Rattle.direct_run.proofs.Spelled.{Spelling, parts_spelled}
-use Rattle.lane_history.specs.Links.{LinkReport, IsBoardOf}
+use Rattle.lane_history.specs.Links.{CanBeMade, LinkReport, IsBoardOf, IsFaithful}
 use Rattle.lane_history.specs.Runs.{TellsPayload, IsLiveRun, IsAsTold, IsRunOver, AreRunsOver, AreWholeRuns}
-use Rattle.lane_history.specs.Runs.{ShowsRounds}
 use Rattle.lane_history.proofs.Ungarbled.{StandsIn, all_stand, HasWords, all_words, words_of, reply_told}
 use Rattle.lane_history.proofs.Shown.{is_history}
 
@@ -79,6 +80,26 @@ there_is : (link : LinkSpec) (board : Option Board) → RunsHere link → IsBoar
 there_is (Sim mtu buffers first ranges fates) None here of = absurd of
 there_is (Sim mtu buffers first ranges fates) (Some there) here of = (there, refl)
 there_is (Udp address port wait) board here of = absurd here
+
+-- so it is a board of this process
+pub here_if_told : (link : LinkSpec) (board : Option Board) (there : Board) → CanBeMade link → IsBoardOf link board
+    → board ≡ Some there → RunsHere link
+here_if_told (Sim mtu buffers first ranges fates) board there made of tells = made
+here_if_told (Udp address port wait) None there made of tells = absurd cc
+here_if_told (Udp address port wait) (Some other) there made of tells = absurd of
+
+-- over links that are faithful all boards are
+pub all_here : (settings : Limits) (board : ℕ) (specs : List BoardSpec) (scripts : List (List Step))
+    (runs : List BoardRun) (links : List LinkReport) → AreRunsOver settings board specs scripts runs links
+    → AllByRecursion (λ (spec : BoardSpec). CanBeMade spec.link) specs → AllByRecursion IsFaithful links
+    → AllByRecursion CanRun specs
+all_here settings board [] scripts runs links is made calm = tt
+all_here settings board (spec ∷ specs) scripts [] links is made calm = absurd is
+all_here settings board (spec ∷ specs) scripts (r ∷ runs) [] is made calm = absurd is
+all_here settings board (spec ∷ specs) scripts (r ∷ runs) (l ∷ links) is made calm = (
+  here_if_told spec.link l.board calm.0.there made.0 is.0.board' calm.0.tells,
+  all_here settings (board + 1) specs scripts runs links is.1 made.1 calm.1,
+)
 
 module _ (P : OpResult → Type 0) (answering : Answering) (any : AnsweringAny) (keeping : Keeping)
     (keeping_all : KeepingAll) (garbling : Garbling) (joins : Joins) where
@@ -201,6 +222,50 @@ module _ (P : OpResult → Type 0) (answering : Answering) (any : AnsweringAny) 
       let same : board + 1 + k ≡ board + suc k = omega arith in
       subst (λ (b : ℕ). CanShow P b scripts run) same later
 
+  -- a board whose link tells
+  pub told_shows_at : (standing : Standing) (spelling : Spelling) → PacksWords → (settings : Limits) (board : ℕ)
+      (specs : List BoardSpec) (scripts : List (List Step)) (runs : List BoardRun) (links : List LinkReport)
+      → AreRunsOver settings board specs scripts runs links
+      → AllByRecursion (λ (spec : BoardSpec). CanBeMade spec.link) specs
+      → AllByRecursion OpensOnWords specs → AllByRecursion AreExecutable scripts → AreAllowed P runs
+      → (k : ℕ) (run : BoardRun) (link : LinkReport) (there : Board) → slice_get runs k ≡ Some run
+      → slice_get links k ≡ Some link → link.board ≡ Some there → CanShow P (board + k) scripts run
+  told_shows_at standing spelling packs settings board [] scripts [] [] is made words can may k run link there at also
+      tells =
+      absurd cc
+  told_shows_at standing spelling packs settings board [] scripts []
+      (l ∷ links) is made words can may k run link there at
+      also tells = absurd is
+  told_shows_at standing spelling packs settings board [] scripts
+      (r ∷ runs) links is made words can may k run link there at
+      also tells = absurd is
+  told_shows_at standing spelling packs settings board
+      (spec ∷ specs) scripts [] links is made words can may k run link there
+      at also tells = absurd is
+  told_shows_at standing spelling packs settings board (spec ∷ specs) scripts
+      (r ∷ runs) [] is made words can may k run link
+      there at also tells = absurd is
+  told_shows_at standing spelling packs settings board (spec ∷ specs) scripts (r ∷ runs)
+      (l ∷ links) is made words can may
+      zero run link there at also tells =
+      let told : l.board ≡ Some there = ap (λ (x : LinkReport). x.board) (same_Some l link also) ∙ tells in
+      let ready =
+      is_ready packs spec board scripts
+      (here_if_told spec.link l.board there made.0 is.0.board' told) words.0 can in
+      let here = board_shows standing spelling settings spec board scripts r l r.greeting refl is.0 ready may.0 in
+      let same : board ≡ board + 0 = omega arith in
+      subst (λ (b : ℕ). CanShow P b scripts run) same
+      (subst (λ (x : BoardRun). CanShow P board scripts x) (same_Some r run at) here)
+  told_shows_at standing spelling packs settings board (spec ∷ specs) scripts (r ∷ runs)
+      (l ∷ links) is made words can may
+      (suc k) run link there at also tells =
+      let later =
+      told_shows_at standing spelling packs settings
+      (board + 1) specs scripts runs links is.1 made.1 words.1 can may.1 k run
+      link there at also tells in
+      let same : board + 1 + k ≡ board + suc k = omega arith in
+      subst (λ (b : ℕ). CanShow P b scripts run) same later
+
 -- ---- no line is garbled
 
 abbrev pub IsNotGarbled : OpResult → Type 0
@@ -241,53 +306,6 @@ ungarbled_allowed (run ∷ runs) = (
     down = λ _ e. absurd cc;
   },
   ungarbled_allowed runs,
-)
-
--- ---- what was timed out shows the rounds of the session
-
-pub bus_shows_no_rounds : (rounds : ℕ) (r : OpResult) → IsBusResult r → ShowsRounds rounds r
-bus_shows_no_rounds rounds (result.Value words) bus = tt
-bus_shows_no_rounds rounds result.Done bus = tt
-bus_shows_no_rounds rounds (result.Was word) bus = tt
-bus_shows_no_rounds rounds (result.Error code after) bus = tt
-bus_shows_no_rounds rounds result.Skipped bus = tt
-bus_shows_no_rounds rounds (result.TimedOut shown) bus = absurd bus
-bus_shows_no_rounds rounds result.Unsent bus = tt
-bus_shows_no_rounds rounds result.LinkLost bus = tt
-bus_shows_no_rounds rounds result.Garbled bus = tt
-
-outcome_of_rounds : (rounds : ℕ) (o : Outcome) → TellsRounds rounds o → MayBe (ShowsRounds rounds) o
-outcome_of_rounds rounds (Replied place words) tells body = inl tt
-outcome_of_rounds rounds (TimedOut place told) tells body =
-    inr (record { allowed = λ index. tells; bad = λ index. refl })
-outcome_of_rounds rounds Unsent tells body = inr (record { allowed = λ index. tt; bad = λ index. refl })
-outcome_of_rounds rounds (LinkLost place) tells body = inr (record { allowed = λ index. tt; bad = λ index. refl })
-
-rounds_allowed_over : (settings : Limits) (spec : BoardSpec) (board : ℕ) (scripts : List (List Step)) (run : BoardRun)
-    (link : LinkReport) → IsRunOver settings spec board scripts run link → IsAllowed (ShowsRounds settings.rounds) run
-rounds_allowed_over settings spec board scripts run link is = record {
-  outcomes = λ payload greeted.
-      let live : IsLiveRun settings spec payload run link =
-      subst (IsAsTold settings spec run link) greeted is.as_told in
-      all-map (AllByRecursion (TellsRounds settings.rounds)) (AllByRecursion (MayBe (ShowsRounds settings.rounds)))
-      (outcomes_by_client run)
-      (λ os. all-map (TellsRounds settings.rounds) (MayBe (ShowsRounds settings.rounds)) os
-      (outcome_of_rounds settings.rounds)) live.any_link.tells;
-  silent = λ e. tt;
-  down = λ e. tt;
-}
-
-pub rounds_allowed : (settings : Limits) (board : ℕ) (specs : List BoardSpec) (scripts : List (List Step))
-    (runs : List BoardRun) (links : List LinkReport) → AreRunsOver settings board specs scripts runs links
-    → AreAllowed (ShowsRounds settings.rounds) runs
-rounds_allowed settings board [] scripts [] [] is = tt
-rounds_allowed settings board [] scripts [] (l ∷ links) is = absurd is
-rounds_allowed settings board [] scripts (r ∷ runs) links is = absurd is
-rounds_allowed settings board (spec ∷ specs) scripts [] links is = absurd is
-rounds_allowed settings board (spec ∷ specs) scripts (r ∷ runs) [] is = absurd is
-rounds_allowed settings board (spec ∷ specs) scripts (r ∷ runs) (l ∷ links) is = (
-  rounds_allowed_over settings spec board scripts r l is.0,
-  rounds_allowed settings (board + 1) specs scripts runs links is.1,
 )
 
 -- ---- where all were replied to, lines fail by codes of the bus alone

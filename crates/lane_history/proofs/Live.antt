@@ -31,13 +31,15 @@ use Rattle.direct_run.proofs.Shaped.{Standing, is_cut, whole_again, heads, lengt
 use Rattle.lane_history.specs.Links.{LinkReport, HasFailed, IsBoardOf, IsLostOnlyIfFailed}
 use Rattle.lane_history.specs.Runs.{ShowsScripts, TellsPayload, IsTrueRun, IsLiveRun, IsAsTold, IsRunOver}
 use Rattle.lane_history.specs.Runs.{HoldsOverAnyLink}
-use Rattle.lane_history.specs.Records.{IsClientsRecord}
+use Rattle.lane_history.specs.Records.{IsClientsRecord, IsRecordOf}
 use Rattle.lane_history.specs.Lanes.{IsTrueOf, IsSoundLane}
+use Rattle.lane_history.proofs.Opening.{same_shape}
 use Rattle.lane_history.proofs.Steps.{steps, steps_of_all, finished}
 use Rattle.lane_history.proofs.Orders.{in_order, order_is, one_order, keeps_scripts, sent_bodies}
 use Rattle.lane_history.proofs.Histories.{true_steps, executed_once, replies_of, each_outcome}
 use Rattle.lane_history.proofs.Histories.{became_outcomes}
 use Rattle.lane_history.proofs.Waits.{has_waited}
+use Rattle.lane_history.proofs.Sealed.{is_record_of}
 
 -- ---- the outcomes of a run, dispatch by dispatch
 
@@ -67,21 +69,21 @@ module _ (standing : Standing) where
 -- ---- the parts
 
 pub in_one_order : (bodies : List (List (List ℕ))) (outcomes : List (List (List Outcome))) (items : List Item)
-    (became : List (Option Outcome)) → IsClientsRecord bodies outcomes items → IsLegal items became
+    (became : List (Option Outcome)) → IsRecordOf bodies outcomes items → IsLegal items became
     → HasOneOrder bodies (map joined outcomes)
 in_one_order bodies outcomes items became is legal =
     one_order bodies (map joined outcomes) (steps items) (steps_of_all bodies outcomes items became is legal)
     (in_order items became legal (finished bodies outcomes items became is legal))
 
 pub in_script_order : (bodies : List (List (List ℕ))) (outcomes : List (List (List Outcome))) (items : List Item)
-    (became : List (Option Outcome)) → IsClientsRecord bodies outcomes items → IsLegal items became
+    (became : List (Option Outcome)) → IsRecordOf bodies outcomes items → IsLegal items became
     → KeepsScripts bodies (map joined outcomes)
 in_script_order bodies outcomes items became is legal =
     keeps_scripts bodies (map joined outcomes) (steps items) (steps_of_all bodies outcomes items became is legal)
     (in_order items became legal (finished bodies outcomes items became is legal))
 
 pub done_once : (bodies : List (List (List ℕ))) (outcomes : List (List (List Outcome))) (items : List Item)
-    (became : List (Option Outcome)) (opening : CellMap) (done : List (List ℕ)) → IsClientsRecord bodies outcomes items
+    (became : List (Option Outcome)) (opening : CellMap) (done : List (List ℕ)) → IsRecordOf bodies outcomes items
     → IsLegal items became → IsTrueOf opening (claims items) became done
     → IsExecutedOnce (order bodies (map joined outcomes)) (map joined outcomes) done
 done_once bodies outcomes items became opening done is legal true' =
@@ -91,7 +93,7 @@ done_once bodies outcomes items became opening done is legal true' =
     (true_steps opening items became done legal all true')
 
 pub are_replies : (bodies : List (List (List ℕ))) (outcomes : List (List (List Outcome))) (items : List Item)
-    (became : List (Option Outcome)) (opening : CellMap) (done : List (List ℕ)) → IsClientsRecord bodies outcomes items
+    (became : List (Option Outcome)) (opening : CellMap) (done : List (List ℕ)) → IsRecordOf bodies outcomes items
     → IsLegal items became → IsTrueOf opening (claims items) became done
     → AreRepliesOf opening (order bodies (map joined outcomes)) (map joined outcomes)
 are_replies bodies outcomes items became opening done is legal true' =
@@ -106,18 +108,18 @@ same_lengths [] = refl
 same_lengths (os ∷ others) = ap (λ (ns : List ℕ). length (joined os) ∷ ns) (same_lengths others)
 
 pub is_history : (bodies : List (List (List ℕ))) (outcomes : List (List (List Outcome))) (items : List Item)
-    (became : List (Option Outcome)) (opening : CellMap) (done : List (List ℕ)) → IsClientsRecord bodies outcomes items
+    (became : List (Option Outcome)) (opening : CellMap) (done : List (List ℕ)) → IsRecordOf bodies outcomes items
     → IsLegal items became → IsTrueOf opening (claims items) became done
     → IsHistory opening bodies (map joined outcomes)
 is_history bodies outcomes items became opening done is legal true' = record {
-  shape = same_lengths outcomes ∙ is.shape;
+  shape = same_lengths outcomes ∙ same_shape 1 bodies outcomes items is.each;
   one_order = in_one_order bodies outcomes items became is legal;
   script_order = in_script_order bodies outcomes items became is legal;
   replies = are_replies bodies outcomes items became opening done is legal true';
 }
 
 pub order_sent : (bodies : List (List (List ℕ))) (outcomes : List (List (List Outcome))) (items : List Item)
-    (became : List (Option Outcome)) → IsClientsRecord bodies outcomes items → IsLegal items became
+    (became : List (Option Outcome)) → IsRecordOf bodies outcomes items → IsLegal items became
     → bodies_of (order bodies (map joined outcomes)) ≡ bodies_sent (first_sends items)
 order_sent bodies outcomes items became is legal =
     ap bodies_of (order_is bodies (map joined outcomes) (steps items)
@@ -126,7 +128,7 @@ order_sent bodies outcomes items became is legal =
     ∙ sent_bodies (claims items) (taken items)
 
 pub only_lost : (bodies : List (List (List ℕ))) (outcomes : List (List (List Outcome))) (items : List Item)
-    (became : List (Option Outcome)) (link : LinkReport) → IsClientsRecord bodies outcomes items → IsLegal items became
+    (became : List (Option Outcome)) (link : LinkReport) → IsRecordOf bodies outcomes items → IsLegal items became
     → AreLostOnlyIf (HasFailed link) became
     → AllByRecursion (AllByRecursion (IsLostOnlyIfFailed link)) (map joined outcomes)
 only_lost bodies outcomes items became link is legal lost =
@@ -136,7 +138,7 @@ only_lost bodies outcomes items became link is legal lost =
     (finished bodies outcomes items became is legal) (λ k o e is_so. lost k o e is_so))
 
 pub all_tell : (bodies : List (List (List ℕ))) (outcomes : List (List (List Outcome))) (items : List Item)
-    (became : List (Option Outcome)) (rounds : ℕ) → IsClientsRecord bodies outcomes items → IsLegal items became
+    (became : List (Option Outcome)) (rounds : ℕ) → IsRecordOf bodies outcomes items → IsLegal items became
     → TellRounds rounds became → AllByRecursion (AllByRecursion (TellsRounds rounds)) (map joined outcomes)
 all_tell bodies outcomes items became rounds is legal tell =
     each_outcome (TellsRounds rounds) bodies (map joined outcomes) (steps items)
@@ -151,45 +153,44 @@ told_with : (P Q R : Board → Type 0) (board : Option Board) → ((b : Board) �
 told_with P Q R None f p q = tt
 told_with P Q R (Some b) f p q = f b p q
 
-module _ (standing : Standing) where
-  live_run : (settings : Limits) (spec : BoardSpec) (board : ℕ) (scripts : List (List Step)) (run : BoardRun)
-      (link : LinkReport) (payload : ℕ) (items : List Item) (became : List (Option Outcome)) (given_up : ℕ)
-      → ShowsScripts spec board scripts run → TellsPayload spec.link payload
-      → IsClientsRecord (bodies_by_client run) (dispatches_by_client run) items
-      → IsSoundLane settings (opening_of spec.link) link items became given_up
-      → IsLiveRun settings spec payload run link
-  live_run settings spec board scripts run link payload items became given_up shows packets is lane =
-      let bodies = bodies_by_client run in
-      let outcomes = dispatches_by_client run in
-      let legal = lane.kept.legal in
-      let same = run_joined standing spec board scripts run shows in
-      let any_link : HoldsOverAnyLink settings spec payload run link = record {
-        packets = packets;
-        one_order = subst (HasOneOrder bodies) same (in_one_order bodies outcomes items became is legal);
-        script_order = subst (KeepsScripts bodies) same (in_script_order bodies outcomes items became is legal);
-        rounds = has_waited settings.window (settings.rounds + 1) link.quiets given_up bodies outcomes items became is
-            lane.kept lane.waited;
-        lost = subst (AllByRecursion (AllByRecursion (IsLostOnlyIfFailed link))) same
-            (only_lost bodies outcomes items became link is legal lane.lost);
-        tells = subst (AllByRecursion (AllByRecursion (TellsRounds settings.rounds))) same
-            (all_tell bodies outcomes items became settings.rounds is legal lane.tells);
-      } in record {
-        any_link = any_link;
-        told = told_with (λ (b : Board). IsTrueOf (opening_of spec.link) (claims items) became (executed b))
-            (λ (b : Board). HasReached (settings.rounds * given_up) link.held)
-            (IsTrueRun settings (opening_of spec.link) run link.held) link.board
-            (λ b true' held. record {
-              executed_once = subst
-                  (λ (oss : List (List Outcome)). IsExecutedOnce (order bodies oss) oss (executed b)) same
-                  (done_once bodies outcomes items became (opening_of spec.link) (executed b) is legal true');
-              replies = subst
-                  (λ (oss : List (List Outcome)). AreRepliesOf (opening_of spec.link) (order bodies oss) oss) same
-                  (are_replies bodies outcomes items became (opening_of spec.link) (executed b) is legal true');
-              held' = has_waited settings.window settings.rounds link.held given_up bodies outcomes items became is
-                  lane.kept held;
-            }) lane.told lane.held;
-      }
+pub live : (settings : Limits) (spec : BoardSpec) (run : BoardRun) (link : LinkReport) (payload : ℕ)
+    (items : List Item) (became : List (Option Outcome)) (given_up : ℕ)
+    → map joined (dispatches_by_client run) ≡ outcomes_by_client run → TellsPayload spec.link payload
+    → IsRecordOf (bodies_by_client run) (dispatches_by_client run) items
+    → IsSoundLane settings (opening_of spec.link) link items became given_up
+    → IsLiveRun settings spec payload run link
+live settings spec run link payload items became given_up same packets is lane =
+    let bodies = bodies_by_client run in
+    let outcomes = dispatches_by_client run in
+    let legal = lane.kept.legal in
+    let any_link : HoldsOverAnyLink settings spec payload run link = record {
+      packets = packets;
+      one_order = subst (HasOneOrder bodies) same (in_one_order bodies outcomes items became is legal);
+      script_order = subst (KeepsScripts bodies) same (in_script_order bodies outcomes items became is legal);
+      rounds = has_waited settings.window (settings.rounds + 1) link.quiets given_up bodies outcomes items became is
+          lane.kept lane.waited;
+      lost = subst (AllByRecursion (AllByRecursion (IsLostOnlyIfFailed link))) same
+          (only_lost bodies outcomes items became link is legal lane.lost);
+      tells = subst (AllByRecursion (AllByRecursion (TellsRounds settings.rounds))) same
+          (all_tell bodies outcomes items became settings.rounds is legal lane.tells);
+    } in record {
+      any_link = any_link;
+      told = told_with (λ (b : Board). IsTrueOf (opening_of spec.link) (claims items) became (executed b))
+          (λ (b : Board). HasReached (settings.rounds * given_up) link.held)
+          (IsTrueRun settings (opening_of spec.link) run link.held) link.board
+          (λ b true' held. record {
+            executed_once = subst
+                (λ (oss : List (List Outcome)). IsExecutedOnce (order bodies oss) oss (executed b)) same
+                (done_once bodies outcomes items became (opening_of spec.link) (executed b) is legal true');
+            replies = subst
+                (λ (oss : List (List Outcome)). AreRepliesOf (opening_of spec.link) (order bodies oss) oss) same
+                (are_replies bodies outcomes items became (opening_of spec.link) (executed b) is legal true');
+            held' = has_waited settings.window settings.rounds link.held given_up bodies outcomes items became is
+                lane.kept held;
+          }) lane.told lane.held;
+    }
 
+module _ (standing : Standing) where
   pub run_over : (settings : Limits) (spec : BoardSpec) (board : ℕ) (scripts : List (List Step)) (run : BoardRun)
       (link : LinkReport) (payload : ℕ) (items : List Item) (became : List (Option Outcome)) (given_up : ℕ)
       → ShowsScripts spec board scripts run → IsBoardOf spec.link link.board → run.greeting ≡ Live payload
@@ -201,5 +202,7 @@ module _ (standing : Standing) where
         scripts' = shows;
         board' = of;
         as_told = subst (IsAsTold settings spec run link) (sym greeted)
-            (live_run settings spec board scripts run link payload items became given_up shows packets is lane);
+            (live settings spec run link payload items became given_up
+            (run_joined standing spec board scripts run shows) packets
+            (is_record_of (bodies_by_client run) (dispatches_by_client run) items is) lane);
       }

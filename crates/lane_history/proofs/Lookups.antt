@@ -24,7 +24,7 @@ use Rattle.lane_history.proofs.Rans.{all_asked, all_took}
 abbrev pub IsNot : {A : Type 0} → (What → Option A) → Item → Type 0
 IsNot kind x = kind x.what ≡ None
 
-not_here : {A : Type 0} (b : Bool) (o later : Option A) → o ≡ None → option_or (if b then o else None) later ≡ later
+pub not_here : {A : Type 0} (b : Bool) (o later : Option A) → o ≡ None → option_or (if b then o else None) later ≡ later
 not_here true None later e = refl
 not_here true (Some y) later e = absurd cc
 not_here false o later e = refl
@@ -36,7 +36,7 @@ none_found kind client seq (x ∷ xs) all =
     not_here (is_of client seq x) (kind x.what) (found kind client seq xs) all.0
     ∙ none_found kind client seq xs all.1
 
-no_number : {A : Type 0} (b : Bool) (o : Option A) (seq : ℕ) (ns : List ℕ) → o ≡ None
+pub no_number : {A : Type 0} (b : Bool) (o : Option A) (seq : ℕ) (ns : List ℕ) → o ≡ None
     → (if b && is_some o then seq ∷ ns else ns) ≡ ns
 no_number true None seq ns e = refl
 no_number true (Some y) seq ns e = absurd cc
@@ -74,7 +74,7 @@ rans_are_no_plans client seq (r ∷ rs) =
     (ran_items client (seq + length r.took) rs)
     (tooks_are_not plan_in client seq r.took (λ o n. refl)) (rans_are_no_plans client (seq + length r.took) rs))
 
--- ---- the Plan of a number
+-- ---- the first entry
 
 -- the first entry of a list is found under its number, and no other number
 found_first : {A : Type 0} (kind : What → Option A) (client seq : ℕ) (what : What) (rest : List Item) (y : A)
@@ -95,14 +95,6 @@ found_rest kind client seq j what rest =
     ≡ found kind client (seq + 1 + j) rest)
     (is_of client (seq + suc j) (record { client = client; seq = seq; what = what })) (kind what) None
     (λ e. absurd (grind (arith, nat_tests))) (λ _. refl))
-
-found_plans : (client seq j : ℕ) (bodies : List (List ℕ))
-    → found plan_in client (seq + j) (plans_from client seq bodies) ≡ slice_get bodies j
-found_plans client seq j [] = refl
-found_plans client seq zero (b ∷ bs) =
-    found_first plan_in client seq (Plan b) (plans_from client (seq + 1) bs) b refl
-found_plans client seq (suc j) (b ∷ bs) =
-    found_rest plan_in client seq j (Plan b) (plans_from client (seq + 1) bs) ∙ found_plans client (seq + 1) j bs
 
 -- ---- the Ask of a number
 
@@ -165,7 +157,7 @@ asks_count : (client seq : ℕ) (ns : List ℕ) → length (numbers ask_in clien
 asks_count client seq [] = refl
 asks_count client seq (n ∷ ns) = rw (eq-eqb client client refl) (ap suc (asks_count client (seq + 1) ns))
 
-rans_count : (client seq : ℕ) (rs : List Ran)
+pub rans_count : (client seq : ℕ) (rs : List Ran)
     → length (numbers ask_in client (ran_items client seq rs)) ≡ length (all_asked rs)
 rans_count client seq [] = refl
 rans_count client seq (r ∷ rs) =
@@ -188,41 +180,10 @@ same_counts (r ∷ rs) whole =
     length-append r.asked (all_asked rs) ∙ ap (λ (n : ℕ). n + length (all_asked rs)) whole.0
     ∙ ap (λ (n : ℕ). length r.took + n) (same_counts rs whole.1) ∙ sym (length-append r.took (all_took rs))
 
--- ---- Plans, and then what the client ran
+-- ---- the first number
 
-abbrev pub own_items : ℕ → List (List ℕ) → List Ran → List Item
-own_items client bodies rs = plans_from client 0 bodies ++ ran_items client 0 rs
-
-or_none : {A : Type 0} (o : Option A) → option_or o None ≡ o
-or_none None = refl
-or_none (Some x) = refl
-
-pub own_plan : (client seq : ℕ) (bodies : List (List ℕ)) (rs : List Ran)
-    → found plan_in client seq (own_items client bodies rs) ≡ slice_get bodies seq
-own_plan client seq bodies rs =
+pub own_took : (client seq : ℕ) (rs : List Ran)
+    → found took_in client seq (ran_items client 0 rs) ≡ slice_get (map outcome_took (all_took rs)) seq
+own_took client seq rs =
     let same : seq ≡ 0 + seq = omega arith in
-    found_append plan_in client seq (plans_from client 0 bodies) (ran_items client 0 rs)
-    ∙ ap (option_or (found plan_in client seq (plans_from client 0 bodies)))
-    (none_found plan_in client seq (ran_items client 0 rs) (rans_are_no_plans client 0 rs))
-    ∙ or_none (found plan_in client seq (plans_from client 0 bodies))
-    ∙ ap (λ (k : ℕ). found plan_in client k (plans_from client 0 bodies)) same
-    ∙ found_plans client 0 seq bodies
-
-pub own_took : (client seq : ℕ) (bodies : List (List ℕ)) (rs : List Ran)
-    → found took_in client seq (own_items client bodies rs) ≡ slice_get (map outcome_took (all_took rs)) seq
-own_took client seq bodies rs =
-    let same : seq ≡ 0 + seq = omega arith in
-    found_append took_in client seq (plans_from client 0 bodies) (ran_items client 0 rs)
-    ∙ ap (λ (o : Option Outcome). option_or o (found took_in client seq (ran_items client 0 rs)))
-    (none_found took_in client seq (plans_from client 0 bodies)
-    (plans_are_not took_in client 0 bodies (λ body. refl)))
-    ∙ ap (λ (k : ℕ). found took_in client k (ran_items client 0 rs)) same
-    ∙ found_ran client 0 seq rs
-
-pub own_count : (client : ℕ) (bodies : List (List ℕ)) (rs : List Ran)
-    → length (numbers ask_in client (own_items client bodies rs)) ≡ length (all_asked rs)
-own_count client bodies rs =
-    ap length (numbers_append ask_in client (plans_from client 0 bodies) (ran_items client 0 rs)
-    ∙ ap (λ (ns : List ℕ). ns ++ numbers ask_in client (ran_items client 0 rs))
-    (no_numbers ask_in client (plans_from client 0 bodies) (plans_are_not ask_in client 0 bodies (λ body. refl))))
-    ∙ rans_count client 0 rs
+    ap (λ (k : ℕ). found took_in client k (ran_items client 0 rs)) same ∙ found_ran client 0 seq rs

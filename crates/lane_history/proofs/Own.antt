@@ -21,9 +21,11 @@ pub by_append : (client : ℕ) (xs ys : List Item)
     → entries_by client (xs ++ ys) ≡ entries_by client xs ++ entries_by client ys
 by_append client xs ys = filter-append (is_by client) xs ys
 
-pub acts_append : (client : ℕ) (xs ys : List Item) → actions_by client (xs ++ ys) ≡ actions_by client xs ++ actions_by client ys
+pub acts_append : (client : ℕ) (xs ys : List Item)
+    → actions_by client (xs ++ ys) ≡ actions_by client xs ++ actions_by client ys
 acts_append client xs ys =
-    ap (map numbered_action) (by_append client xs ys) ∙ map-append numbered_action (entries_by client xs) (entries_by client ys)
+    ap (map numbered_action) (by_append client xs ys)
+    ∙ map-append numbered_action (entries_by client xs) (entries_by client ys)
 
 -- all of them are the client's
 abbrev pub IsBy : ℕ → Item → Type 0

@@ -73,7 +73,9 @@ in_parts (x ∷ xs) (a ∷ as') bs e =
       front = x ∷ later.front;
       back = later.back;
       parts = ap (λ (ys : List Item). x ∷ ys) later.parts;
-      first = ap (λ (y : NumberedAction). y ∷ map numbered_action later.front) head ∙ ap (λ (ys : List NumberedAction). a ∷ ys) later.first;
+      first =
+          ap (λ (y : NumberedAction). y ∷ map numbered_action later.front) head
+          ∙ ap (λ (ys : List NumberedAction). a ∷ ys) later.first;
       second = later.second;
     }
 
@@ -111,7 +113,8 @@ pub record AsksIn (client seq many : ℕ) (xs : List Item) : Type 0 where
   pub items : xs ≡ ask_items client seq asked
   pub count : length asked ≡ many
 
-asks_in : (client seq many : ℕ) (xs : List Item) → AllByRecursion (IsBy client) xs → map numbered_action xs ≡ asks_from seq many
+asks_in : (client seq many : ℕ) (xs : List Item) → AllByRecursion (IsBy client) xs
+    → map numbered_action xs ≡ asks_from seq many
     → AsksIn client seq many xs
 asks_in client seq zero [] by e = record { asked = []; items = refl; count = refl }
 asks_in client seq zero (x ∷ xs) by e = absurd cc

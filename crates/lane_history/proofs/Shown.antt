@@ -118,7 +118,7 @@ pub some_then : {A : Type 0} (P Q : A → Type 0) (o : Option A) → ((x : A) �
 some_then P Q None f p = tt
 some_then P Q (Some x) f p = f x p
 
-at_some : {A : Type 0} (P : A → Type 0) (o : Option A) (x : A) → o ≡ Some x → IfSome o P → P x
+pub at_some : {A : Type 0} (P : A → Type 0) (o : Option A) (x : A) → o ≡ Some x → IfSome o P → P x
 at_some P None x e p = absurd cc
 at_some P (Some y) x e p = subst P (same_Some y x e) p
 
@@ -194,7 +194,8 @@ executed_as settings spec board scripts run link (Live payload) greeted shows is
       payload = payload;
       told = is.any_link.packets;
       merge = subst (λ (bss : List (List (List ℕ))). IsMergeOfSome bss (executed b)) bodies
-          (executed_some (bodies_by_client run) (outcomes_by_client run) (executed b) shows.shape is.any_link.script_order
+          (executed_some (bodies_by_client run) (outcomes_by_client run)
+          (executed b) shows.shape is.any_link.script_order
           true'.executed_once);
     }) is.told
 executed_as settings spec board scripts run link Silent greeted shows is =
@@ -217,7 +218,7 @@ all_executed_some settings board (spec ∷ specs) scripts (run ∷ runs) (link �
 
 -- ---- where nothing was held and nothing failed
 
-not_lost : (link : LinkReport) (outcomes : List (List Outcome)) → link.faults ≡ 0
+pub not_lost : (link : LinkReport) (outcomes : List (List Outcome)) → link.faults ≡ 0
     → AllByRecursion (AllByRecursion (IsLostOnlyIfFailed link)) outcomes
     → AllByRecursion (AllByRecursion IsNotLost) outcomes
 not_lost link outcomes none = all-map (AllByRecursion (IsLostOnlyIfFailed link)) (AllByRecursion IsNotLost) outcomes
@@ -225,7 +226,7 @@ not_lost link outcomes none = all-map (AllByRecursion (IsLostOnlyIfFailed link))
     (λ o lost is. let some = lost is in omega (arith, some, none)))
 
 -- a link that tells is to a simulated board
-told_greeting : (spec : LinkSpec) (board : Option Board) (there : Board) (payload : ℕ) → board ≡ Some there
+pub told_greeting : (spec : LinkSpec) (board : Option Board) (there : Board) (payload : ℕ) → board ≡ Some there
     → IsBoardOf spec board → TellsPayload spec payload → Live payload ≡ greeting_of spec
 told_greeting (Sim mtu buffers first ranges fates) board there payload tells of packets = ap Live packets
 told_greeting (Udp address port wait) None there payload tells of packets = absurd cc
@@ -253,9 +254,11 @@ module _ (standing : Standing) where
       subst (IsMergeOfAll (bodies_by_client run))
       (sym (executed_whole (bodies_by_client run) (outcomes_by_client run) (executed calm.there) live.any_link.one_order
       replied true'.executed_once))
-      (order_whole (bodies_by_client run) (outcomes_by_client run) is.scripts'.shape live.any_link.script_order replied) in
+      (order_whole (bodies_by_client run) (outcomes_by_client run) is.scripts'.shape live.any_link.script_order replied)
+      in
       record {
-        greeting = greeted ∙ told_greeting spec.link link.board calm.there payload calm.tells is.board' live.any_link.packets;
+        greeting =
+            greeted ∙ told_greeting spec.link link.board calm.there payload calm.tells is.board' live.any_link.packets;
         replied = replied;
         history = is_history settings spec board scripts run link calm.there payload is greeted calm.tells;
         all_executed = subst (λ (o : Option Board). IfSome o (λ b. IsMergeOfAll (bodies_by_client run) (executed b)))

@@ -10,17 +10,21 @@ use Rattle.ipb_base.proofs.AllLemmas.{AllByRecursion-append, all-map}
 use Rattle.world_model.proofs.Lists.{either, all_get}
 use Rattle.lane_record.specs.declared.outcome.Outcome.{Outcome}
 use Rattle.lane_record.specs.declared.item.Item.{Item}
+use Rattle.lane_record.specs.declared.item.What.{What}
+use Rattle.lane_record.specs.declared.item.What.TheVariants.{Plan, Seal, Ask, Took}
 use Rattle.lane_record.specs.Lists.{CountsFrom}
 use Rattle.lane_record.specs.Items.{plan_in, ask_in, took_in, numbers, found}
 use Rattle.lane_record.specs.Claims.{Claim, claims, claims_behind, claim_in, outcome_taken, taken, IsTaken, IsFinished}
-use Rattle.lane_record.specs.Legal.{IsLegal}
+use Rattle.lane_record.specs.Legal.{HasMaker, IsLegal, IsMade}
 use Rattle.lane_record.proofs.Finished.{asked_as_planned}
-use Rattle.lane_record.specs.Dispatches.{joined}
-use Rattle.lane_history.specs.Records.{IsClientsRecord}
+use Rattle.lane_record.specs.Dispatches.{entries_by, joined}
+use Rattle.lane_history.specs.Records.{IsRecordOf}
 use Rattle.lane_history.proofs.Own.{own_found, own_numbers}
 use Rattle.lane_history.proofs.Rans.{Ran, outcome_took, outcomes_ran, all_took}
-use Rattle.lane_history.proofs.Lookups.{own_plan, own_took, own_count, same_counts}
-use Rattle.lane_history.proofs.Opening.{ClientRan, AllRan, IsAskWithin, each_ran, only_clients_asked}
+use Rattle.lane_history.proofs.Lookups.{own_took, rans_count, same_counts}
+use Rattle.lane_history.proofs.Beside.{found_beside, numbers_beside}
+use Rattle.lane_history.proofs.Planned.{plan_at}
+use Rattle.lane_history.proofs.Opening.{ClientRan, AllRan, IsAskWithin, each_ran}
 
 pub record Step : Type 0 where
   pub client : ℕ
@@ -202,23 +206,28 @@ get_below (x ∷ xs) (suc k) lt = get_below xs k (omega (arith, lt))
 
 -- what the record has of a client
 pub record Holds (client : ℕ) (bodies : List (List ℕ)) (outcomes : List Outcome) (items : List Item) : Type 0 where
-  pub plan_is : (seq : ℕ) → found plan_in client seq items ≡ slice_get bodies seq
+  pub plan_is : (seq : ℕ) (body : List ℕ) → found plan_in client seq items ≡ Some body
+      → slice_get bodies seq ≡ Some body
   pub took_is : (seq : ℕ) → found took_in client seq items ≡ slice_get outcomes seq
   pub asked : length (numbers ask_in client items) ≡ length outcomes
   pub same : length outcomes ≡ length bodies
 
 pub holds : (client : ℕ) (bodies : List (List ℕ)) (dispatches : List (List Outcome)) (items : List Item)
-    → ClientRan client bodies dispatches items → Holds client bodies (joined dispatches) items
-holds client bodies dispatches items ran =
+    → CountsFrom 0 (numbers plan_in client items) → ClientRan client bodies dispatches items
+    → Holds client bodies (joined dispatches) items
+holds client bodies dispatches items counts ran =
+    let mine = entries_by client items in
     let outcomes : joined dispatches ≡ map outcome_took (all_took ran.rans) =
     ap joined ran.same ∙ joined_outcomes ran.rans in
     record {
-      plan_is = λ seq. own_found plan_in client seq items ∙ ap (found plan_in client seq) ran.entries
-          ∙ own_plan client seq bodies ran.rans;
-      took_is = λ seq. own_found took_in client seq items ∙ ap (found took_in client seq) ran.entries
-          ∙ own_took client seq bodies ran.rans ∙ ap (λ (os : List Outcome). slice_get os seq) (sym outcomes);
-      asked = ap length (own_numbers ask_in client items ∙ ap (numbers ask_in client) ran.entries)
-          ∙ own_count client bodies ran.rans ∙ same_counts ran.rans ran.whole
+      plan_is = λ seq body f. subst (λ (bs : List (List ℕ)). slice_get bs seq ≡ Some body) ran.planned
+          (plan_at client seq body items counts f);
+      took_is = λ seq. own_found took_in client seq items ∙ found_beside took_in client seq mine (λ b. refl)
+          ∙ ap (found took_in client seq) ran.entries
+          ∙ own_took client seq ran.rans ∙ ap (λ (os : List Outcome). slice_get os seq) (sym outcomes);
+      asked = ap length (own_numbers ask_in client items ∙ numbers_beside ask_in client mine (λ b. refl)
+          ∙ ap (numbers ask_in client) ran.entries)
+          ∙ rans_count client 0 ran.rans ∙ same_counts ran.rans ran.whole
           ∙ sym (length-map (all_took ran.rans) outcome_took) ∙ ap length (sym outcomes);
       same = ran.count;
     }
@@ -230,15 +239,16 @@ pub record HoldsSome (client : ℕ) (items : List Item) : Type 0 where
   pub holds' : Holds client bodies outcomes items
 
 pub holds_at : (from client : ℕ) (bodies : List (List (List ℕ))) (outcomes : List (List (List Outcome)))
-    (items : List Item) → AllRan from bodies outcomes items → from ≤ client → client < from + length bodies
-    → HoldsSome client items
-holds_at from client [] outcomes items all low high = absurd (omega (arith, low, high))
-holds_at from client (bs ∷ later) [] items all low high = absurd all
-holds_at from client (bs ∷ later) (os ∷ others) items all low high = elim (cases_lt from client) [
-  | inl after ↦ holds_at (from + 1) client later others items all.1 (omega (arith, after)) (omega (arith, high))
+    (items : List Item) → ((c : ℕ) → CountsFrom 0 (numbers plan_in c items)) → AllRan from bodies outcomes items
+    → from ≤ client → client < from + length bodies → HoldsSome client items
+holds_at from client [] outcomes items counts all low high = absurd (omega (arith, low, high))
+holds_at from client (bs ∷ later) [] items counts all low high = absurd all
+holds_at from client (bs ∷ later) (os ∷ others) items counts all low high = elim (cases_lt from client) [
+  | inl after ↦
+      holds_at (from + 1) client later others items counts all.1 (omega (arith, after)) (omega (arith, high))
   | inr here ↦ let same : from ≡ client = omega (arith, low, here) in
       subst (λ (c : ℕ). HoldsSome c items) same
-      (record { bodies = bs; outcomes = joined os; holds' = holds from bs os items all.0 })
+      (record { bodies = bs; outcomes = joined os; holds' = holds from bs os items (counts from) all.0 })
 ]
 
 -- the number of a client's claim is one of its numbers
@@ -269,14 +279,29 @@ pub claims_within : (many : ℕ) (items : List Item) → AllByRecursion (IsAskWi
     → AllByRecursion (λ (c : Claim). (1 ≤ c.client) × (c.client ≤ many)) (claims items)
 claims_within many items within = claims_of_asks (λ (n : ℕ). (1 ≤ n) × (n ≤ many)) [] items within
 
+ask_made : (many client seq : ℕ) (what : What) → HasMaker client seq what → client ≤ many
+    → is_some (ask_in what) ≡ true → (1 ≤ client) × (client ≤ many)
+ask_made many client seq (Plan body) made le e = absurd cc
+ask_made many client seq Seal made le e = absurd cc
+ask_made many client seq (Ask n) made le e = (made, le)
+ask_made many client seq (Took o n) made le e = absurd cc
+
+-- in a record in which nobody else has an entry each Ask is of one of the clients
+pub asked_within : (many : ℕ) (items : List Item) → AllByRecursion IsMade items
+    → AllByRecursion (λ (x : Item). x.client ≤ many) items → AllByRecursion (IsAskWithin many) items
+asked_within many items made within =
+    all_both IsMade (λ (x : Item). x.client ≤ many) (IsAskWithin many) items
+    (λ x made le e. ask_made many x.client x.seq x.what made le e) made within
+
 pub finished : (bodies : List (List (List ℕ))) (outcomes : List (List (List Outcome))) (items : List Item)
-    (became : List (Option Outcome)) → IsClientsRecord bodies outcomes items → IsLegal items became → IsFinished items
+    (became : List (Option Outcome)) → IsRecordOf bodies outcomes items → IsLegal items became → IsFinished items
 finished bodies outcomes items became is legal =
-    let within = claims_within (length bodies) items (only_clients_asked bodies outcomes items is) in
+    let within = claims_within (length bodies) items
+    (asked_within (length bodies) items legal.made is.nobody_else) in
     all_at (IsTaken items) (claims items) (λ k c e.
     let inside = all_get (λ (d : Claim). (1 ≤ d.client) × (d.client ≤ length bodies)) (claims items) k c within e in
-    let has = holds_at 1 c.client bodies outcomes items (each_ran bodies outcomes items is) inside.0
-    (omega (arith, inside.1)) in
+    let has = holds_at 1 c.client bodies outcomes items legal.plans_count.count (each_ran bodies outcomes items is)
+    inside.0 (omega (arith, inside.1)) in
     let below = claim_below items k c e (legal.asks_follow_plans.count c.client) in
     let took = get_below has.outcomes c.seq (omega (arith, below, has.holds'.asked)) in
     (took.0, has.holds'.took_is c.seq ∙ took.1))
@@ -324,7 +349,7 @@ client_steps client bodies outcomes items became legal done has =
     let at_bodies : AllByRecursion (λ (s : Step). slice_get bodies s.seq ≡ Some s.body) mine =
     all_both (IsFoundIn items) (λ (s : Step). s.client ≡ client)
     (λ (s : Step). slice_get bodies s.seq ≡ Some s.body) mine
-    (λ s f c. sym (has.plan_is s.seq) ∙ ap (λ (k : ℕ). found plan_in k s.seq items) (sym c) ∙ f.plan) both own in
+    (λ s f c. has.plan_is s.seq s.body (ap (λ (k : ℕ). found plan_in k s.seq items) (sym c) ∙ f.plan)) both own in
     let at_outcomes : AllByRecursion (λ (s : Step). slice_get outcomes s.seq ≡ Some s.outcome) mine =
     all_both (IsFoundIn items) (λ (s : Step). s.client ≡ client)
     (λ (s : Step). slice_get outcomes s.seq ≡ Some s.outcome) mine
@@ -356,16 +381,18 @@ clients_steps client [] [] items became legal done all = tt
 clients_steps client [] (os ∷ others) items became legal done all = absurd all
 clients_steps client (bs ∷ later) [] items became legal done all = absurd all
 clients_steps client (bs ∷ later) (os ∷ others) items became legal done all = (
-  client_steps client bs (joined os) items became legal done (holds client bs os items all.0),
+  client_steps client bs (joined os) items became legal done
+      (holds client bs os items (legal.plans_count.count client) all.0),
   clients_steps (client + 1) later others items became legal done all.1,
 )
 
 pub steps_of_all : (bodies : List (List (List ℕ))) (outcomes : List (List (List Outcome))) (items : List Item)
-    (became : List (Option Outcome)) → IsClientsRecord bodies outcomes items → IsLegal items became
+    (became : List (Option Outcome)) → IsRecordOf bodies outcomes items → IsLegal items became
     → AreStepsOfAll bodies (map joined outcomes) (steps items)
 steps_of_all bodies outcomes items became is legal =
     let done = finished bodies outcomes items became is legal in
-    let within = claims_within (length bodies) items (only_clients_asked bodies outcomes items is) in
+    let within = claims_within (length bodies) items
+    (asked_within (length bodies) items legal.made is.nobody_else) in
     record {
       clients = clients_steps 1 bodies outcomes items became legal done (each_ran bodies outcomes items is);
       nobody_else = steps_all (IsWithin 1 (length bodies)) (outcome_taken items) (claims items)

@@ -2,7 +2,7 @@
 use Rattle.std.proofs.Common.{◌≡◌, ℕ, zero, suc, ◌+◌, ◌*◌, ◌<◌, ◌≤◌, Bool, true, false, cond, ◌==◌, ◌||◌}
 use Rattle.std.proofs.Common.{List, [], ◌∷◌, ◌++◌, length, map, Option, Some, None, refl, sym, ap, ◌∙◌, subst, arith}
 use Rattle.std.proofs.Common.{append_assoc, append-nil, if◌then◌else◌, inl, inr}
-use Rattle.std.specs.Prelude.{IfSome}
+use Rattle.std.specs.Prelude.{IfSome, is_some, not}
 use Rattle.std.specs.List.{AllByRecursion, count_by, flat_map, slice_get}
 use Rattle.std.specs.Option.{option_or, unwrap_or}
 use Rattle.std.proofs.lemmas.Bool.{eqb-true}
@@ -26,12 +26,12 @@ use Rattle.lane_record.proofs.Finished.{outcomes_taken}
 use Rattle.lane_record.specs.Dispatches.{joined}
 use Rattle.board_history.specs.GiveUps.{time_outs, was_given_up, times_given_up, IsExact, GaveUpOnlyAfter}
 use Rattle.lane_record.specs.Dispatches.{entries_by}
-use Rattle.lane_record.specs.Dispatches.{plans_from}
-use Rattle.lane_history.specs.Records.{IsClientsRecord}
+use Rattle.lane_history.specs.Records.{IsRecordOf, beside_plans, has_become, planned_in}
 use Rattle.lane_history.proofs.Own.{by_append, own_found, Climbs, climbs_of, climbs_lower, own_climbs}
 use Rattle.lane_history.proofs.Rans.{Taking, Ran, outcome_took, outcomes_ran, ask_items, took_items, ran_items}
 use Rattle.lane_history.proofs.Rans.{AreWhole}
-use Rattle.lane_history.proofs.Lookups.{plans_are_not, none_found, tooks_are_not, found_asks}
+use Rattle.lane_history.proofs.Lookups.{none_found, tooks_are_not, found_asks}
+use Rattle.lane_history.proofs.Beside.{beside_append, found_beside, give_ups_beside}
 use Rattle.lane_history.proofs.Opening.{ClientRan, AllRan, each_ran}
 use Rattle.lane_history.proofs.Steps.{Step, steps_of, steps, outcome_in, of, AreOf, IsWithin, AreStepsOfAll}
 use Rattle.lane_history.proofs.Steps.{steps_of_all, finished}
@@ -128,26 +128,45 @@ one_more : (b : Bool) (m n : ℕ) → m ≡ n → cond b 1 0 + m ≡ (if b then 
 one_more true m n e = omega (arith, e)
 one_more false m n e = omega (arith, e)
 
-steps_timed_out : (cs : List Claim) (os : List (Option Outcome)) → length os ≡ length cs
-    → count_by is_timed_out (map outcome_in (steps_of cs os)) ≡ timeouts os
-steps_timed_out [] [] e = refl
-steps_timed_out [] (o ∷ os) e = absurd (omega (arith, e))
-steps_timed_out (c ∷ cs) [] e = absurd (omega (arith, e))
-steps_timed_out (c ∷ cs) (None ∷ os) e =
-    steps_timed_out cs os (omega (arith, e))
-steps_timed_out (c ∷ cs) (Some o ∷ os) e =
-    count_cons is_timed_out o (map outcome_in (steps_of cs os))
-    ∙ one_more (is_timed_out o) (count_by is_timed_out (map outcome_in (steps_of cs os))) (timeouts os)
-    (steps_timed_out cs os (omega (arith, e)))
+steps_counted : (p : Outcome → Bool) (cs : List Claim) (os : List (Option Outcome)) → length os ≡ length cs
+    → count_by p (map outcome_in (steps_of cs os)) ≡ count_by (has_become p) os
+steps_counted p [] [] e = refl
+steps_counted p [] (o ∷ os) e = absurd (omega (arith, e))
+steps_counted p (c ∷ cs) [] e = absurd (omega (arith, e))
+steps_counted p (c ∷ cs) (None ∷ os) e =
+    let later = steps_counted p cs os (omega (arith, e)) in
+    let here = count_cons (has_become p) None os in
+    omega (arith, later, here)
+steps_counted p (c ∷ cs) (Some o ∷ os) e =
+    let later = steps_counted p cs os (omega (arith, e)) in
+    count_cons p o (map outcome_in (steps_of cs os)) ∙ ap (λ (n : ℕ). cond (p o) 1 0 + n) later
+    ∙ sym (count_cons (has_become p) (Some o) os)
 
-time_outs_are : (bodies : List (List (List ℕ))) (outcomes : List (List (List Outcome))) (items : List Item)
-    (became : List (Option Outcome)) → IsClientsRecord bodies outcomes items → IsLegal items became
-    → time_outs outcomes ≡ timeouts became
-time_outs_are bodies outcomes items became is legal =
+-- there are as many outcomes of each kind as Asks that became so
+pub became_counted : (p : Outcome → Bool) (bodies : List (List (List ℕ))) (outcomes : List (List (List Outcome)))
+    (items : List Item) (became : List (Option Outcome)) → IsRecordOf bodies outcomes items → IsLegal items became
+    → count_by p (flat_map joined outcomes) ≡ count_by (has_become p) became
+became_counted p bodies outcomes items became is legal =
     let same = outcomes_taken items became legal (finished bodies outcomes items became is legal) in
     let each : length (taken items) ≡ length (claims items) = length-map (claims items) (outcome_taken items) in
-    same_count is_timed_out bodies outcomes (steps items) (steps_of_all bodies outcomes items became is legal)
-    ∙ steps_timed_out (claims items) (taken items) each ∙ ap timeouts (sym same)
+    same_count p bodies outcomes (steps items) (steps_of_all bodies outcomes items became is legal)
+    ∙ steps_counted p (claims items) (taken items) each ∙ ap (count_by (has_become p)) (sym same)
+
+pub timeouts_counted : (os : List (Option Outcome)) → count_by (has_become is_timed_out) os ≡ timeouts os
+timeouts_counted [] = refl
+timeouts_counted (None ∷ os) =
+    let here = count_cons (has_become is_timed_out) None os in
+    let later = timeouts_counted os in
+    omega (arith, here, later)
+timeouts_counted (Some o ∷ os) =
+    count_cons (has_become is_timed_out) (Some o) os
+    ∙ one_more (is_timed_out o) (count_by (has_become is_timed_out) os) (timeouts os) (timeouts_counted os)
+
+time_outs_are : (bodies : List (List (List ℕ))) (outcomes : List (List (List Outcome))) (items : List Item)
+    (became : List (Option Outcome)) → IsRecordOf bodies outcomes items → IsLegal items became
+    → time_outs outcomes ≡ timeouts became
+time_outs_are bodies outcomes items became is legal =
+    became_counted is_timed_out bodies outcomes items became is legal ∙ timeouts_counted became
 
 -- ---- numbers of give-ups
 
@@ -157,11 +176,6 @@ number_took t = t.give_ups
 abbrev pub numbers_ran : List Ran → List ℕ
 numbers_ran [] = []
 numbers_ran (r ∷ rs) = r.asked ++ (map number_took r.took ++ numbers_ran rs)
-
-plan_numbers : (client seq : ℕ) (bodies : List (List ℕ)) (rest : List Item)
-    → give_ups (plans_from client seq bodies ++ rest) ≡ give_ups rest
-plan_numbers client seq [] rest = refl
-plan_numbers client seq (b ∷ bs) rest = plan_numbers client (seq + 1) bs rest
 
 ask_numbers : (client seq : ℕ) (ns : List ℕ) (rest : List Item)
     → give_ups (ask_items client seq ns ++ rest) ≡ ns ++ give_ups rest
@@ -314,6 +328,34 @@ own_late client front (x ∷ xs) late =
           (append-nil (entries_by client front)) m
     ] refl moved
 
+-- beside Plans the Asks are found as they were
+late_with : (front other : List Item) (x : Item) (what : What)
+    → found ask_in x.client x.seq front ≡ found ask_in x.client x.seq other → IsFoundLate front x what
+    → IsFoundLate other x what
+late_with front other x (Plan body) same late = tt
+late_with front other x Seal same late = tt
+late_with front other x (Ask n) same late = tt
+late_with front other x (Took o n) same late =
+    λ given. subst (λ (z : Option ℕ). IfSome z (λ asked. asked < n)) same (late given)
+
+beside_late : (front xs : List Item) → EachBehind HasLate front xs
+    → EachBehind HasLate (beside_plans front) (beside_plans xs)
+beside_late front [] late = tt
+beside_late front (x ∷ xs) late =
+    let rest = beside_late (front ++ x ∷ []) xs late.1 in
+    let split : beside_plans (front ++ x ∷ []) ≡ beside_plans front ++ beside_plans (x ∷ []) =
+    beside_append front (x ∷ []) in
+    let moved : EachBehind HasLate (beside_plans front ++ beside_plans (x ∷ [])) (beside_plans xs) =
+    subst (λ (zs : List Item). EachBehind HasLate zs (beside_plans xs)) split rest in
+    let same = found_beside ask_in x.client x.seq front (λ b. refl) in
+    elim (planned_in x) as
+    (λ o. EachBehind HasLate (beside_plans front ++ cond (not (is_some o)) (x ∷ []) []) (beside_plans xs)
+    → EachBehind HasLate (beside_plans front) (cond (not (is_some o)) (x ∷ beside_plans xs) (beside_plans xs))) [
+      | None ↦ λ m. (late_with front (beside_plans front) x x.what same late.0, m)
+      | Some body ↦ λ m. subst (λ (zs : List Item). EachBehind HasLate zs (beside_plans xs))
+          (append-nil (beside_plans front)) m
+    ] moved
+
 -- one dispatch's Tooks, behind its Asks
 tooks_late : (client seq : ℕ) (ns : List ℕ) (ts : List Taking) (front : List Item)
     → ((j : ℕ) → found ask_in client (seq + j) front ≡ slice_get ns j)
@@ -432,17 +474,15 @@ client_gave_up : (client given_up : ℕ) (bodies : List (List ℕ)) (dispatches 
     → Climbs 0 given_up (give_ups items) → EachBehind HasLate [] items → ClientRan client bodies dispatches items
     → times_given_up dispatches ≤ given_up
 client_gave_up client given_up bodies dispatches items climbs late ran =
-    let plans = plans_from client 0 bodies in
+    let mine = entries_by client items in
     let runs = ran_items client 0 ran.rans in
-    let numbers : give_ups (entries_by client items) ≡ numbers_ran ran.rans =
-    ap give_ups ran.entries ∙ plan_numbers client 0 bodies runs ∙ ran_numbers client 0 ran.rans in
+    let numbers : give_ups mine ≡ numbers_ran ran.rans =
+    give_ups_beside mine ∙ ap give_ups ran.entries ∙ ran_numbers client 0 ran.rans in
     let own : Climbs 0 given_up (numbers_ran ran.rans) =
     subst (Climbs 0 given_up) numbers (own_climbs client 0 given_up items climbs) in
-    let behind : EachBehind HasLate plans runs =
-    each_behind HasLate [] plans runs
-    (subst (EachBehind HasLate []) ran.entries (own_late client [] items late)) in
-    let later : AllLater ran.rans = rans_late client 0 ran.rans plans ran.whole
-    (λ j. none_found ask_in client (0 + j) plans (plans_are_not ask_in client 0 bodies (λ body. refl))) behind in
+    let behind : EachBehind HasLate [] runs =
+    subst (EachBehind HasLate []) ran.entries (beside_late [] mine (own_late client [] items late)) in
+    let later : AllLater ran.rans = rans_late client 0 ran.rans [] ran.whole (λ j. refl) behind in
     let few = given_up_at_most 0 given_up ran.rans ran.whole later own in
     let same : times_given_up dispatches ≡ count_by gave_up ran.rans =
     ap times_given_up ran.same ∙ count_map outcomes_ran was_given_up ran.rans in
@@ -477,7 +517,7 @@ reached n count has exact = omega (arith, has, exact)
 
 pub has_waited : (window cost paid given_up : ℕ) (bodies : List (List (List ℕ)))
     (outcomes : List (List (List Outcome))) (items : List Item) (became : List (Option Outcome))
-    → IsClientsRecord bodies outcomes items → IsKept items became window given_up → HasReached (cost * given_up) paid
+    → IsRecordOf bodies outcomes items → IsKept items became window given_up → HasReached (cost * given_up) paid
     → GaveUpOnlyAfter window cost paid outcomes
 has_waited window cost paid given_up bodies outcomes items became is kept has =
     let climbs = climbs_of 0 given_up (give_ups items) (omega arith) kept.legal.give_ups_rise.rise kept.within in

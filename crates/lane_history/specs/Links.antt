@@ -4,6 +4,7 @@ use Rattle.board_bus.specs.Ranges.{opening_bus}
 use Rattle.world_model.specs.Board.{Board, executed}
 use Rattle.board_node.specs.declared.spec.LinkSpec.{LinkSpec}
 use Rattle.board_node.specs.declared.spec.LinkSpec.TheVariants.{Sim, Udp}
+use Rattle.direct_run.specs.Runs.{RunsHere}
 use Rattle.lane_record.specs.declared.outcome.Outcome.{Outcome}
 use Rattle.lane_record.specs.Outcomes.{is_lost}
 
@@ -32,6 +33,12 @@ IsBoardOf (Sim mtu buffers first ranges fates) (Some board) = board ≡ record {
 }
 IsBoardOf (Udp address port wait) None = Unit {0}
 IsBoardOf (Udp address port wait) (Some board) = ⊥
+
+-- A board in this process is within the ranges of its numbers, and its ranges open a bus; of one behind a port nothing
+-- is known.
+abbrev pub CanBeMade : LinkSpec → Type 0
+CanBeMade (Sim mtu buffers first ranges fates) = RunsHere (Sim mtu buffers first ranges fates)
+CanBeMade (Udp address port wait) = Unit {0}
 
 -- a body is lost with the link only where the link failed
 abbrev pub IsLostOnlyIfFailed : LinkReport → Outcome → Type 0

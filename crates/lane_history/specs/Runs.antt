@@ -1,6 +1,6 @@
 -- What a run shows of boards whose links may lose, repeat, delay and reorder datagrams, and fail. Profile.
-use Rattle.std.specs.Prelude.{◌≡◌, ◌≢◌, ℕ, ◌+◌, ◌*◌, ◌≤◌, List, [], ◌∷◌, length, map, IfSome}
-use Rattle.std.specs.List.{AllByRecursion}
+use Rattle.std.specs.Prelude.{◌≡◌, ◌≢◌, ℕ, ◌+◌, ◌*◌, ◌≤◌, true, List, [], ◌∷◌, length, map, IfSome, is_some}
+use Rattle.std.specs.List.{AllByRecursion, AllZip}
 use Rattle.ipb_base.specs.Numbers.{payload_of}
 use Rattle.mtu_packer.specs.declared.packing.TheConstants.{MIN_PAYLOAD, MAX_PAYLOAD}
 use Rattle.board_bus.specs.Cells.{CellMap}
@@ -131,6 +131,12 @@ NoneGarbled run = AllByRecursion (λ (part : ClientPart). AllByRecursion IsUngar
 abbrev pub IsUngarbledLine : OpLine → Type 0
 IsUngarbledLine line = line.result ≢ result.Garbled
 
+-- so of the line of an operation on a board whose link tells
+abbrev pub IsUngarbledWhereTold : List BoardRun → List LinkReport → OpLine → Type 0
+IsUngarbledWhereTold runs links line =
+    AllZip (λ (run : BoardRun) (link : LinkReport). run.name ≡ line.board → is_some link.board ≡ true
+    → IsUngarbledLine line) runs links
+
 -- a result that was timed out shows so many rounds
 abbrev pub ShowsRounds : ℕ → OpResult → Type 0
 ShowsRounds rounds (result.TimedOut shown) = shown ≡ rounds
@@ -142,8 +148,8 @@ IsLineOfRounds rounds line = ShowsRounds rounds line.result
 
 -- ---- the line of a board
 
--- With so many timeouts in the line of a live board, its link had quiet receives for the rounds of their give-ups, each of
--- which ended at most `window` bodies, and where it tells it held datagrams in each of these rounds.
+-- With so many timeouts in the line of a live board, its link had quiet receives for the rounds of their give-ups, each
+-- of which ended at most `window` bodies, and where it tells it held datagrams in each of these rounds.
 abbrev pub TimeOutsWaited : Limits → BoardLine → LinkReport → Type 0
 TimeOutsWaited settings (board_lines.Live name sent replied timed_out lost) link =
     (IsExact link.quiets → (settings.rounds + 1) * timed_out ≤ settings.window * link.quiets)
@@ -177,8 +183,8 @@ AreWholeRuns (spec ∷ specs) (run ∷ runs) (link ∷ links) =
     IsWholeRun spec run link × AreWholeRuns specs runs links
 AreWholeRuns specs runs links = ⊥
 
--- The first of these boards has this position. Where one client at most uses a board, what is shown of it is what the bus
--- with a single thread gives when it executes the bodies of that client.
+-- The first of these boards has this position. Where one client at most uses a board, what is shown of it is what the
+-- bus with a single thread gives when it executes the bodies of that client.
 abbrev pub ShowAloneRuns : ℕ → List BoardSpec → List (List Step) → List BoardRun → Type 0
 ShowAloneRuns board [] scripts [] = Unit {0}
 ShowAloneRuns board (spec ∷ specs) scripts (run ∷ runs) =

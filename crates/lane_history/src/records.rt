@@ -1,8 +1,8 @@
 //! From the record that clients leave to what a run may show. These functions do nothing when they run: their clauses
 //! are what is proved.
 
-ghost use Rattle.std.specs.Prelude.{◌≡◌, ℕ, ◌*◌, List, map, IfSome, Option};
-ghost use Rattle.std.specs.List.{AllByRecursion};
+ghost use Rattle.std.specs.Prelude.{◌≡◌, ℕ, ◌*◌, Bool, List, map, IfSome, Option};
+ghost use Rattle.std.specs.List.{AllByRecursion, count_by, flat_map};
 ghost use Rattle.ipb_base.specs.Lists.{IsPrefix};
 ghost use Rattle.board_bus.specs.Cells.{CellMap};
 ghost use Rattle.board_node.specs.declared.spec.BoardSpec.{BoardSpec};
@@ -21,22 +21,29 @@ ghost use Rattle.transcript.specs.declared.board_run.BoardRun.{BoardRun};
 ghost use Rattle.transcript.specs.Plan.{ClientBodies, plans_on};
 ghost use Rattle.board_history.specs.Order.{bodies_of, order};
 ghost use Rattle.board_history.specs.Parts.{HasOneOrder, IsExecutedOnce, KeepsScripts};
-ghost use Rattle.board_history.specs.History.{IsHistory, bodies_by_client, dispatches_by_client};
+ghost use Rattle.board_history.specs.History.{IsHistory, bodies_by_client, dispatches_by_client, outcomes_by_client};
 ghost use Rattle.lane_record.specs.Dispatches.{joined};
 ghost use Rattle.board_history.specs.GiveUps.{GaveUpOnlyAfter};
 ghost use Rattle.board_history.specs.Merges.{IsMergeOfSome};
 ghost use Rattle.direct_run.specs.Runs.{opening_of};
 ghost use Rattle.lane_history.specs.Links.{HasFailed, IsBoardOf, IsLostOnlyIfFailed, IsUntouched, LinkReport};
-ghost use Rattle.lane_history.specs.Runs.{ExecutedSome, IsRunOver, ShowsScripts, TellsPayload};
-ghost use Rattle.lane_history.specs.Records.{IsClientsRecord, IsPartlyPlanned};
+ghost use Rattle.lane_history.specs.Runs.{ExecutedSome, IsLiveRun, IsRunOver, ShowsScripts, TellsPayload};
+ghost use Rattle.lane_history.specs.Records.{IsClientsRecord, IsPartlyPlanned, IsRecordOf, has_become};
 ghost use Rattle.lane_history.specs.Lanes.{IsSoundLane, IsTrueOf, bodies_offered};
 
 use transcript::laws::bodies_stand_dispatch_by_dispatch;
 
-/// In the record that clients leave every Ask has its Took.
+/// The record of clients who planned all their bodies before the Seal, and did their dispatches behind it, is one of
+/// clients who planned these bodies and did these dispatches.
+pub fn a_clients_record_is_a_record_of_clients()
+    ensures { (bodies : List (List (List ℕ))) (outcomes : List (List (List Outcome))) (items : List Item) →
+        IsClientsRecord bodies outcomes items → IsRecordOf bodies outcomes items }
+{}
+
+/// In the record of clients every Ask has its Took.
 pub fn a_clients_record_is_finished()
     ensures { (bodies : List (List (List ℕ))) (outcomes : List (List (List Outcome))) (items : List Item)
-        (became : List (Option Outcome)) → IsClientsRecord bodies outcomes items → IsLegal items became →
+        (became : List (Option Outcome)) → IsRecordOf bodies outcomes items → IsLegal items became →
         IsFinished items }
 {}
 
@@ -44,13 +51,13 @@ pub fn a_clients_record_is_finished()
 /// and each client's bodies stand in the order of its script.
 pub fn the_order_is_the_first_sends()
     ensures order { (bodies : List (List (List ℕ))) (outcomes : List (List (List Outcome))) (items : List Item)
-        (became : List (Option Outcome)) → IsClientsRecord bodies outcomes items → IsLegal items became →
+        (became : List (Option Outcome)) → IsRecordOf bodies outcomes items → IsLegal items became →
         HasOneOrder bodies (map joined outcomes) }
     ensures scripts { (bodies : List (List (List ℕ))) (outcomes : List (List (List Outcome))) (items : List Item)
-        (became : List (Option Outcome)) → IsClientsRecord bodies outcomes items → IsLegal items became →
+        (became : List (Option Outcome)) → IsRecordOf bodies outcomes items → IsLegal items became →
         KeepsScripts bodies (map joined outcomes) }
     ensures sends { (bodies : List (List (List ℕ))) (outcomes : List (List (List Outcome))) (items : List Item)
-        (became : List (Option Outcome)) → IsClientsRecord bodies outcomes items → IsLegal items became →
+        (became : List (Option Outcome)) → IsRecordOf bodies outcomes items → IsLegal items became →
         bodies_of (order bodies (map joined outcomes)) ≡ bodies_sent (first_sends items) }
 {}
 
@@ -59,11 +66,11 @@ pub fn the_order_is_the_first_sends()
 pub fn what_clients_took_is_a_history()
     ensures history { (bodies : List (List (List ℕ))) (outcomes : List (List (List Outcome))) (items : List Item)
         (became : List (Option Outcome)) (opening : CellMap) (done : List (List ℕ)) →
-        IsClientsRecord bodies outcomes items → IsLegal items became →
+        IsRecordOf bodies outcomes items → IsLegal items became →
         IsTrueOf opening (claims items) became done → IsHistory opening bodies (map joined outcomes) }
     ensures executed { (bodies : List (List (List ℕ))) (outcomes : List (List (List Outcome))) (items : List Item)
         (became : List (Option Outcome)) (opening : CellMap) (done : List (List ℕ)) →
-        IsClientsRecord bodies outcomes items → IsLegal items became →
+        IsRecordOf bodies outcomes items → IsLegal items became →
         IsTrueOf opening (claims items) became done →
         IsExecutedOnce (order bodies (map joined outcomes)) (map joined outcomes) done }
 {}
@@ -73,14 +80,14 @@ pub fn what_clients_took_is_a_history()
 pub fn who_gave_up_has_waited()
     ensures { (window cost paid given_up : ℕ) (bodies : List (List (List ℕ)))
         (outcomes : List (List (List Outcome))) (items : List Item) (became : List (Option Outcome)) →
-        IsClientsRecord bodies outcomes items → IsKept items became window given_up →
+        IsRecordOf bodies outcomes items → IsKept items became window given_up →
         HasReached (cost * given_up) paid → GaveUpOnlyAfter window cost paid outcomes }
 {}
 
 /// Bodies are lost with the link only where it failed.
 pub fn bodies_are_lost_with_a_failed_link()
     ensures { (bodies : List (List (List ℕ))) (outcomes : List (List (List Outcome))) (items : List Item)
-        (became : List (Option Outcome)) (link : LinkReport) → IsClientsRecord bodies outcomes items →
+        (became : List (Option Outcome)) (link : LinkReport) → IsRecordOf bodies outcomes items →
         IsLegal items became → AreLostOnlyIf (HasFailed link) became →
         AllByRecursion (AllByRecursion (IsLostOnlyIfFailed link)) (map joined outcomes) }
 {}
@@ -88,19 +95,19 @@ pub fn bodies_are_lost_with_a_failed_link()
 /// A body that was timed out tells the rounds of its lane.
 pub fn timed_out_bodies_tell_the_rounds()
     ensures { (bodies : List (List (List ℕ))) (outcomes : List (List (List Outcome))) (items : List Item)
-        (became : List (Option Outcome)) (rounds : ℕ) → IsClientsRecord bodies outcomes items →
+        (became : List (Option Outcome)) (rounds : ℕ) → IsRecordOf bodies outcomes items →
         IsLegal items became → TellRounds rounds became →
         AllByRecursion (AllByRecursion (TellsRounds rounds)) (map joined outcomes) }
 {}
 
 /// At any moment what a board executed is a merge of subsequences, one of each client's bodies, whatever was asked and
-/// taken so far. The record that clients leave is one whose Plans are their bodies.
+/// taken so far. The record of clients is one whose Plans are their bodies.
 pub fn a_board_executes_a_merge_at_any_moment()
     ensures merge { (bodies : List (List (List ℕ))) (items : List Item) (became : List (Option Outcome))
         (done : List (List ℕ)) → IsLegal items became → IsPartlyPlanned bodies items →
         IsPrefix done (bodies_offered (claims items) became) → IsMergeOfSome bodies done }
     ensures planned { (bodies : List (List (List ℕ))) (outcomes : List (List (List Outcome))) (items : List Item) →
-        IsClientsRecord bodies outcomes items → IsPartlyPlanned bodies items }
+        IsRecordOf bodies outcomes items → IsPartlyPlanned bodies items }
 {}
 
 /// So it is of a lane that was left in the midst of a session, and of a board that was not touched: each executed a
@@ -116,7 +123,25 @@ pub fn a_lane_left_at_any_moment_executed_a_merge()
         IsUntouched link → IfSome link.board (λ there. ExecutedSome spec board scripts (executed there)) }
 {}
 
-/// A finished lane is a live run of its board: what its record and its link tell is what the run may show.
+/// What became of the Asks of a lane is what became of the clients' bodies: there are as many of each kind.
+pub fn a_record_counts_what_became_of_bodies()
+    ensures { (kind : Outcome → Bool) (bodies : List (List (List ℕ))) (outcomes : List (List (List Outcome)))
+        (items : List Item) (became : List (Option Outcome)) → IsRecordOf bodies outcomes items →
+        IsLegal items became → count_by kind (flat_map joined outcomes) ≡ count_by (has_become kind) became }
+{}
+
+/// A finished lane is live: what its record and its link tell is what may be shown of its board, where the outcomes
+/// that are shown stand dispatch by dispatch.
+pub fn a_finished_lane_is_live()
+    ensures { (settings : Limits) (spec : BoardSpec) (run : BoardRun) (link : LinkReport) (payload : ℕ)
+        (items : List Item) (became : List (Option Outcome)) (given_up : ℕ) →
+        map joined (dispatches_by_client run) ≡ outcomes_by_client run → TellsPayload spec.link payload →
+        IsRecordOf (bodies_by_client run) (dispatches_by_client run) items →
+        IsSoundLane settings (opening_of spec.link) link items became given_up →
+        IsLiveRun settings spec payload run link }
+{}
+
+/// So it is a live run of its board where its clients did what their scripts ask.
 pub fn a_finished_lane_is_a_live_run()
     ensures { (settings : Limits) (spec : BoardSpec) (board : ℕ) (scripts : List (List Step)) (run : BoardRun)
         (link : LinkReport) (payload : ℕ) (items : List Item) (became : List (Option Outcome)) (given_up : ℕ) →

@@ -15,12 +15,13 @@ ghost use Rattle.transcript.specs.Lines.{board_line, outcomes_on, transcript_of}
 ghost use Rattle.transcript.specs.Shown.{HaveOwnNames, ShowsAllPlaces};
 ghost use Rattle.board_history.specs.History.{ShowsHistory, dispatches_by_client};
 ghost use Rattle.board_history.specs.GiveUps.{time_outs};
-ghost use Rattle.direct_run.specs.Runs.{CanRun, opening_of, runs_from};
+ghost use Rattle.direct_run.specs.Runs.{opening_of, runs_from};
 ghost use Rattle.direct_run.specs.Lines.{IsBusLine};
 ghost use Rattle.direct_run.specs.Answering.{AskRequests, OpensWithWords};
-ghost use Rattle.lane_history.specs.Links.{IsFaithful, LinkReport};
-ghost use Rattle.lane_history.specs.Runs.{AllExecutedSome, AreRunsOver, AreWholeRuns, IsRunOver, IsUngarbledLine};
-ghost use Rattle.lane_history.specs.Runs.{HaveOwnBoards, IsLineOfRounds, NoneGarbled, ShowAloneRuns, ShowsScripts, TimeOutsWaited};
+ghost use Rattle.lane_history.specs.Links.{CanBeMade, IsFaithful, LinkReport};
+ghost use Rattle.lane_history.specs.Runs.{AllExecutedSome, AreRunsOver, AreWholeRuns, IsRunOver, IsUngarbledWhereTold};
+ghost use Rattle.lane_history.specs.Runs.{HaveOwnBoards, IsLineOfRounds, NoneGarbled, ShowAloneRuns, ShowsScripts};
+ghost use Rattle.lane_history.specs.Runs.{TimeOutsWaited};
 
 use board_bus::laws::{a_reply_answers_its_body, words_stay_words};
 use board_history::laws::a_client_alone_is_in_turn;
@@ -109,8 +110,8 @@ pub fn a_client_alone_has_one_run()
     a_session_has_one_run();
 }
 
-/// Where moreover no two clients use one board, all runs are determined: they are those of clients one after another, on
-/// boards of this process.
+/// Where moreover no two clients use one board, all runs are determined: they are those of clients one after another,
+/// on boards of this process.
 pub fn clients_with_boards_of_their_own_have_one_run()
     ensures { (settings : Limits) (board : ℕ) (specs : List BoardSpec) (scripts : List (List Step))
         (runs : List BoardRun) (links : List LinkReport) → 1 ≤ settings.rounds → AllByRecursion IsFaithful links →
@@ -121,14 +122,15 @@ pub fn clients_with_boards_of_their_own_have_one_run()
     a_client_alone_has_one_run();
 }
 
-/// No line of a session is garbled, whatever the links of its boards lose, repeat, delay or reorder, and where they
-/// fail. The boards are simulated and open with words of 32 bits, and the scripts can be executed, as it is of every
-/// session that can be run.
+/// No line of an operation on a board whose link tells is garbled, whatever the links lose, repeat, delay or reorder,
+/// and where they fail. The simulated boards run here and open with words of 32 bits, the boards have names of their
+/// own, and the scripts can be executed, as it is of every session that can be run.
 pub fn no_line_is_garbled()
     ensures { (settings : Limits) (specs : List BoardSpec) (scripts : List (List Step)) (runs : List BoardRun)
-        (links : List LinkReport) → AreRunsOver settings 0 specs scripts runs links →
-        AllByRecursion CanRun specs → AllByRecursion OpensOnWords specs → AllByRecursion AreExecutable scripts →
-        AllByRecursion (AllByRecursion IsUngarbledLine) (transcript_of scripts runs).clients }
+        (links : List LinkReport) → AreRunsOver settings 0 specs scripts runs links → HaveOwnNames runs →
+        AllByRecursion (λ spec. CanBeMade spec.link) specs → AllByRecursion OpensOnWords specs →
+        AllByRecursion AreExecutable scripts →
+        AllByRecursion (AllByRecursion (IsUngarbledWhereTold runs links)) (transcript_of scripts runs).clients }
 {
     bodies_stand_dispatch_by_dispatch();
     a_reply_answers_its_body();
@@ -141,30 +143,20 @@ pub fn no_line_is_garbled()
     operations_of_words_are_packed();
 }
 
-/// A line of an operation that was timed out shows the rounds of the session.
+/// A line of an operation that was timed out shows the rounds of the session, whether the link tells or not.
 pub fn lines_show_the_rounds_of_the_session()
     ensures { (settings : Limits) (specs : List BoardSpec) (scripts : List (List Step)) (runs : List BoardRun)
         (links : List LinkReport) → AreRunsOver settings 0 specs scripts runs links →
-        AllByRecursion CanRun specs → AllByRecursion OpensOnWords specs → AllByRecursion AreExecutable scripts →
+        AllByRecursion AreExecutable scripts →
         AllByRecursion (AllByRecursion (IsLineOfRounds settings.rounds)) (transcript_of scripts runs).clients }
-{
-    bodies_stand_dispatch_by_dispatch();
-    a_reply_answers_its_body();
-    words_stay_words();
-    joining_is_a_function();
-    each_request_has_one_answer();
-    each_answer_is_that_of_its_request();
-    one_list_for_words();
-    packed_bodies_spell_requests();
-    operations_of_words_are_packed();
-}
+{}
 
 /// Where moreover nothing was held and nothing failed, each line is a value, `done`, `was`, a code of the bus or
 /// skipped: none is garbled, timed out, unsent or lost with its link, in whatever order the clients ran.
 pub fn faithful_lines_fail_by_codes_of_the_bus_alone()
     ensures { (settings : Limits) (specs : List BoardSpec) (scripts : List (List Step)) (runs : List BoardRun)
         (links : List LinkReport) → 1 ≤ settings.rounds → AllByRecursion IsFaithful links →
-        AreRunsOver settings 0 specs scripts runs links → AllByRecursion CanRun specs →
+        AreRunsOver settings 0 specs scripts runs links → AllByRecursion (λ spec. CanBeMade spec.link) specs →
         AllByRecursion OpensOnWords specs → AllByRecursion AreExecutable scripts →
         AllByRecursion (AllByRecursion IsBusLine) (transcript_of scripts runs).clients }
 {

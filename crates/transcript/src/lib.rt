@@ -34,4 +34,4 @@ pub use listing::listing_text;
 pub use planned::{PieceAt, Planned};
 pub use planning::plan_on;
 pub use status::all_good;
-pub use text::{line_text, transcript_text};
+pub use text::{line_text, push_boards, transcript_text};

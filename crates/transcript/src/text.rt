@@ -236,7 +236,8 @@ fn board_text(alloc: Global, line: &BoardLine) -> Result<String, NoMemory>
     }
 }
 
-fn push_boards(alloc: Global, text: &mut String, boards: &[BoardLine]) -> Result<(), NoMemory>
+/// Puts the lines of boards behind a text, each with its line feed (profile).
+pub fn push_boards(alloc: Global, text: &mut String, boards: &[BoardLine]) -> Result<(), NoMemory>
     ensures { OnOk result (string_bytes text.new ≡ string_bytes text.old ++ spec.boards_text boards.now) }
 {
     for line in boards {

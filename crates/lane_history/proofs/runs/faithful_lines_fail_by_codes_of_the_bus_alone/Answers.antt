@@ -3,12 +3,13 @@ use Rattle.direct_run.proofs.BusResults.{pieces_fit}
 use Rattle.direct_run.proofs.BusLines.{CanShow, session_allowed}
 use Rattle.direct_run.proofs.Readiness.{all_verbs_kept, are_ready}
 use Rattle.direct_run.specs.Lines.{IsBusResult}
-use Rattle.lane_history.proofs.Lines.{shows_at, whole_allowed}
+use Rattle.lane_history.proofs.Lines.{all_here, shows_at, whole_allowed}
 use Rattle.lane_history.proofs.Shown.{whole_runs}
 use Rattle.lane_history.proofs.runs.faithful_lines_fail_by_codes_of_the_bus_alone.Goals as goal
 
 pub returns : goal.returns
-returns c = λ settings specs scripts runs links some calm is here words can.
+returns c = λ settings specs scripts runs links some calm is made words can.
+    let here = all_here settings 0 specs scripts runs links is made calm in
     let ready = are_ready c.operations_of_words_are_packed.ensures 0 specs scripts here words can in
     let whole = whole_runs c.bodies_stand_dispatch_by_dispatch.ensures.bodies settings 0 specs scripts runs links some
     calm is in

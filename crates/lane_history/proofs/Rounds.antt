@@ -1,0 +1,148 @@
+-- A line that was timed out shows the rounds of the session.
+use Rattle.std.proofs.Common.{◌≡◌, ℕ, zero, suc, ◌+◌, true, false, if◌then◌else◌, List, [], ◌∷◌, map, Option, Some}
+use Rattle.std.proofs.Common.{None}
+use Rattle.std.proofs.Common.{refl, sym, ap, ◌∙◌, subst, inl, inr}
+use Rattle.std.specs.Prelude.{unwrap_or}
+use Rattle.std.specs.List.{AllByRecursion, slice_get, flat_map, zip}
+use Rattle.std.proofs.lemmas.Bool.{cases_Bool}
+use Rattle.std.proofs.lemmas.Option.{same_Some}
+use Rattle.board_node.specs.declared.spec.BoardSpec.{BoardSpec}
+use Rattle.reliable_engine.specs.Settings.{Limits}
+use Rattle.reply_join.specs.declared.answer.Answer.{Answer}
+use Rattle.reply_join.specs.declared.answer.Answer.TheVariants as answer
+use Rattle.reply_join.specs.ByWords.{answers}
+use Rattle.script_lang.specs.declared.operation.RegOp.{RegOp}
+use Rattle.script_lang.specs.declared.operation.Step.{Step}
+use Rattle.script_lang.specs.declared.operation.Verb.{Verb}
+use Rattle.script_lang.specs.declared.operation.Verb.TheVariants as verb
+use Rattle.lane_record.specs.declared.outcome.Outcome.{Outcome}
+use Rattle.lane_record.specs.declared.outcome.Outcome.TheVariants.{Replied, TimedOut, Unsent, LinkLost}
+use Rattle.lane_record.specs.Outcomes.{TellsRounds}
+use Rattle.transcript.specs.declared.body_end.BodyEnd.{BodyEnd}
+use Rattle.transcript.specs.declared.board_run.ClientPart.{ClientPart}
+use Rattle.transcript.specs.declared.board_run.BoardRun.{BoardRun}
+use Rattle.transcript.specs.declared.greeting.Greeting.{Greeting}
+use Rattle.transcript.specs.declared.greeting.Greeting.TheVariants.{Live, Silent, Down}
+use Rattle.transcript.specs.declared.line.OpResult.{OpResult}
+use Rattle.transcript.specs.declared.line.OpResult.TheVariants as result
+use Rattle.transcript.specs.declared.planned.PieceAt.{PieceAt}
+use Rattle.transcript.specs.Ends.{answered, end_of, ends_of, piece_result, result_in, told_at, told_by, told_of}
+use Rattle.transcript.specs.Lines.{by_pieces, in_part, showing}
+use Rattle.transcript.specs.Results.{combined, first_fault, is_good, shown, values_in, word_before}
+use Rattle.board_history.specs.History.{outcomes_by_client}
+use Rattle.lane_history.specs.Links.{LinkReport}
+use Rattle.lane_history.specs.Runs.{AreRunsOver, IsAsTold, IsLiveRun, IsRunOver, ShowsRounds}
+
+module _ (rounds : ℕ) where
+  -- ---- one piece
+
+  answer_rounds : (one : Option Answer) → ShowsRounds rounds (answered one)
+  answer_rounds None = tt
+  answer_rounds (Some (answer.Values words)) = tt
+  answer_rounds (Some answer.Done) = tt
+  answer_rounds (Some (answer.Fault code after)) = tt
+  answer_rounds (Some answer.Skipped) = tt
+
+  told_rounds : (found : Option (List Answer)) (index : ℕ) → ShowsRounds rounds (told_at (told_by found) index)
+  told_rounds None index = tt
+  told_rounds (Some list) index = answer_rounds (slice_get list index)
+
+  outcome_rounds : (body : List ℕ) (outcome : Outcome) (index : ℕ) → TellsRounds rounds outcome
+      → ShowsRounds rounds (told_at (told_of body outcome) index)
+  outcome_rounds body (Replied place words) index tells = told_rounds (answers body words) index
+  outcome_rounds body (TimedOut place told) index tells = tells
+  outcome_rounds body Unsent index tells = tt
+  outcome_rounds body (LinkLost place) index tells = tt
+
+  end_rounds : (bodies : List (List ℕ)) (outcomes : List Outcome) (k index : ℕ)
+      → AllByRecursion (TellsRounds rounds) outcomes
+      → ShowsRounds rounds (result_in (slice_get (map end_of (zip bodies outcomes)) k) index)
+  end_rounds [] outcomes k index tells = tt
+  end_rounds (body ∷ bodies) [] k index tells = tt
+  end_rounds (body ∷ bodies) (o ∷ os) zero index tells = outcome_rounds body o index tells.0
+  end_rounds (body ∷ bodies) (o ∷ os) (suc k) index tells = end_rounds bodies os k index tells.1
+
+  pieces_rounds : (part : ClientPart) (pieces : List PieceAt) → AllByRecursion (TellsRounds rounds) part.outcomes
+      → AllByRecursion (ShowsRounds rounds) (map (piece_result (ends_of part)) pieces)
+  pieces_rounds part [] tells = tt
+  pieces_rounds part (p ∷ ps) tells =
+      (end_rounds part.planned.bodies part.outcomes p.body p.index tells, pieces_rounds part ps tells)
+
+  -- ---- one operation
+
+  before_rounds : (words : List ℕ) → ShowsRounds rounds (word_before words)
+  before_rounds [] = tt
+  before_rounds (word ∷ words) = tt
+
+  shown_rounds : (v : Verb) (mask : ℕ) (words : List ℕ) → ShowsRounds rounds (shown v mask words)
+  shown_rounds verb.Read mask words = tt
+  shown_rounds verb.Write mask words = tt
+  shown_rounds verb.ReadBlock mask words = tt
+  shown_rounds verb.WriteBlock mask words = tt
+  shown_rounds verb.RmwBits mask words = before_rounds words
+  shown_rounds verb.RmwSum mask words = before_rounds words
+
+  fault_rounds : (rs : List OpResult) (r : OpResult) → AllByRecursion (ShowsRounds rounds) rs
+      → first_fault rs ≡ Some r → ShowsRounds rounds r
+  fault_rounds [] r all is = absurd cc
+  fault_rounds (x ∷ xs) r all is =
+      elim (cases_Bool (is_good x)) [
+        | inl good ↦ fault_rounds xs r all.1 (rw good at is)
+        | inr bad ↦
+            (let same : Some x ≡ Some r = rw bad at is in subst (ShowsRounds rounds) (same_Some x r same) all.0)
+      ]
+
+  by_fault : (v : Verb) (mask : ℕ) (rs : List OpResult) (found : Option OpResult)
+      → AllByRecursion (ShowsRounds rounds) rs → first_fault rs ≡ found
+      → ShowsRounds rounds (unwrap_or found (shown v mask (flat_map values_in rs)))
+  by_fault v mask rs (Some r) all is = fault_rounds rs r all is
+  by_fault v mask rs None all is = shown_rounds v mask (flat_map values_in rs)
+
+  pieces_shown : (part : ClientPart) (op : RegOp) (pieces : Option (List PieceAt))
+      → AllByRecursion (TellsRounds rounds) part.outcomes → ShowsRounds rounds (by_pieces part op pieces).0
+  pieces_shown part op None tells = tt
+  pieces_shown part op (Some pieces) tells =
+      let rs = map (piece_result (ends_of part)) pieces in
+      by_fault op.verb op.mask rs (first_fault rs) (pieces_rounds part pieces tells) refl
+
+  part_shown : (parts : List ClientPart) (client k : ℕ) (op : RegOp)
+      → AllByRecursion (AllByRecursion (TellsRounds rounds)) (map (λ (part : ClientPart). part.outcomes) parts)
+      → ShowsRounds rounds (in_part (slice_get parts client) k op).0
+  part_shown [] client k op tells = tt
+  part_shown (part ∷ parts) zero k op tells = pieces_shown part op (slice_get part.planned.pieces k) tells.0
+  part_shown (part ∷ parts) (suc client) k op tells = part_shown parts client k op tells.1
+
+  -- what is known of the outcomes on a board
+  abbrev TellIfLive : BoardRun → Greeting → Type 0
+  TellIfLive run (Live payload) = AllByRecursion (AllByRecursion (TellsRounds rounds)) (outcomes_by_client run)
+  TellIfLive run Silent = Unit {0}
+  TellIfLive run Down = Unit {0}
+
+  shown_by : (run : BoardRun) (told : Greeting) (client k : ℕ) (op : RegOp) → run.greeting ≡ told → TellIfLive run told
+      → ShowsRounds rounds (showing run client k op).0
+  shown_by run (Live payload) client k op is tells = rw is (part_shown run.parts client k op tells)
+  shown_by run Silent client k op is tells = rw is tt
+  shown_by run Down client k op is tells = rw is tt
+
+-- ---- a session
+
+tells_over : (settings : Limits) (spec : BoardSpec) (run : BoardRun) (link : LinkReport) (told : Greeting)
+    → IsAsTold settings spec run link told → TellIfLive settings.rounds run told
+tells_over settings spec run link (Live payload) is = is.any_link.tells
+tells_over settings spec run link Silent is = tt
+tells_over settings spec run link Down is = tt
+
+pub rounds_at : (settings : Limits) (board : ℕ) (specs : List BoardSpec) (scripts : List (List Step))
+    (runs : List BoardRun) (links : List LinkReport) → AreRunsOver settings board specs scripts runs links
+    → (at : ℕ) (run : BoardRun) → slice_get runs at ≡ Some run → (client k : ℕ) (op : RegOp)
+    → ShowsRounds settings.rounds (showing run client k op).0
+rounds_at settings board [] scripts [] [] is at run there client k op = absurd cc
+rounds_at settings board [] scripts [] (l ∷ links) is at run there client k op = absurd is
+rounds_at settings board [] scripts (r ∷ runs) links is at run there client k op = absurd is
+rounds_at settings board (spec ∷ specs) scripts [] links is at run there client k op = absurd is
+rounds_at settings board (spec ∷ specs) scripts (r ∷ runs) [] is at run there client k op = absurd is
+rounds_at settings board (spec ∷ specs) scripts (r ∷ runs) (l ∷ links) is zero run there client k op =
+    subst (λ (x : BoardRun). ShowsRounds settings.rounds (showing x client k op).0) (same_Some r run there)
+    (shown_by settings.rounds r r.greeting client k op refl (tells_over settings spec r l r.greeting is.0.as_told))
+rounds_at settings board (spec ∷ specs) scripts (r ∷ runs) (l ∷ links) is (suc at) run there client k op =
+    rounds_at settings (board + 1) specs scripts runs links is.1 at run there client k op

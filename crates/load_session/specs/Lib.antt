@@ -1,0 +1,5 @@
+pub mod Generated
+pub mod Summary
+pub mod Claims
+pub mod Examples
+pub mod ScriptLines

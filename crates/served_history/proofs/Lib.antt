@@ -1,0 +1,10 @@
+mod Leaving
+mod Planning
+mod Limits
+mod Before
+mod Parts
+mod Numbers
+mod Places
+mod Replies
+mod Lines
+mod Calm

@@ -1,0 +1,5 @@
+pub mod Connections
+pub mod Planned
+pub mod Boards
+pub mod Shown
+pub mod Examples
