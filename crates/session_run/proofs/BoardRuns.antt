@@ -25,21 +25,12 @@ use Rattle.lane_history.specs.Records.{IsClientsRecord, IsPartlyPlanned}
 use Rattle.lane_history.specs.Lanes.{IsSoundLane}
 use Rattle.lane_history.specs.Runs.{ExecutedSome, IsRunOver, ShowsScripts, TellsPayload}
 use Rattle.direct_run.specs.Runs.{opening_of}
-use Rattle.sound_lanes.specs.Reports.{OpenedWith, report_of}
-use Rattle.hub_lane.specs.Lanes.{BoardStatus, IsLane, LaneState, opening_of as told_opening}
+use Rattle.hub_lane.specs.Lanes.{LaneState}
+use Rattle.board_greeting.specs.Boards.{IsLaneTo}
 use Rattle.session_run.specs.Boards.{IsNamed}
 use Rattle.session_run.specs.Lanes.{IsRunOn, IsStoppedLane}
 use Rattle.session_run.specs.Links.{IsLeft}
-use Rattle.session_run.proofs.LaneRuns.{board_known, opened_so, payload_known, shows_scripts}
-
-abbrev pub SoundLaw : Type 0
-SoundLaw = (settings : Limits) (status : BoardStatus) (hub : Hub) (items : List Item)
-    (outcomes : List (Option Outcome)) (give_ups : ℕ) (down spent : Bool) (telling : Option Telling)
-    (faults quiets gots held : ℕ) (opening : CellMap)
-    → IsLane settings status hub items outcomes give_ups down spent telling faults quiets
-    → IfSome telling (λ _. HasReached (settings.rounds * give_ups) held)
-    → IfSome telling (OpenedWith opening)
-    → IsSoundLane settings opening (report_of faults quiets gots held telling) items outcomes give_ups
+use Rattle.session_run.proofs.LaneRuns.{shows_scripts}
 
 abbrev pub LiveLaw : Type 0
 LiveLaw = (settings : Limits) (spec : BoardSpec) (board : ℕ) (scripts : List (List Step)) (run : BoardRun)
@@ -57,30 +48,11 @@ LeftLaw = (settings : Limits) (spec : BoardSpec) (board : ℕ) (scripts : List (
     → IsSoundLane settings (opening_of spec.link) link items became given_up
     → IfSome link.board (λ there. ExecutedSome spec board scripts (executed there))
 
--- a lane at its end, over the board of its document
-pub record AtEnd {L : Type 0} (settings : Limits) (spec : BoardSpec) (lane : LaneState L) (shown : LinkReport)
-    : Type 0 where
-  pub board' : IsBoardOf spec.link shown.board
-  pub payload : TellsPayload spec.link (payload_of lane.status.mtu)
-  pub sound : IsSoundLane settings (opening_of spec.link) shown lane.items lane.outcomes lane.give_ups
-
-pub at_end : {L : Type 0} → SoundLaw → (settings : Limits) (scripts : List (List Step)) (position : ℕ)
-    (spec : BoardSpec)
-    (lane : LaneState L) (told : Option Telling) (faults quiets gots held : ℕ)
-    → IsStoppedLane settings scripts position spec told lane
-    → IsLane lane.settings lane.status lane.hub lane.items lane.outcomes lane.give_ups lane.down lane.spent told faults
-    quiets → IfSome told (λ _. HasReached (lane.settings.rounds * lane.give_ups) held)
-    → AtEnd settings spec lane (report_of faults quiets gots held told)
-at_end {L} law settings scripts position spec lane told faults quiets gots held stopped is paid =
-    let here = board_known lane.status spec.link told stopped.board' is.told in
-    let shown = report_of faults quiets gots held told in
-    record {
-      board' = here;
-      payload = payload_known lane.status spec.link (told_opening told) stopped.board' is.knows.mtu;
-      sound = subst (λ (s : Limits). IsSoundLane s (opening_of spec.link) shown lane.items lane.outcomes lane.give_ups)
-          stopped.settings' (law lane.settings lane.status lane.hub lane.items lane.outcomes lane.give_ups lane.down
-          lane.spent told faults quiets gots held (opening_of spec.link) is paid (opened_so spec.link told here));
-    }
+pub stopped_at : {L : Type 0} (settings : Limits) (scripts : List (List Step)) (position : ℕ) (spec : BoardSpec)
+    (lane : LaneState L) (told : Option Telling) → IsStoppedLane settings scripts position spec told lane
+    → IsLaneTo settings spec told lane
+stopped_at settings scripts position spec lane told stopped =
+    record { settings' = stopped.settings'; board' = stopped.board' }
 
 at_some : {A : Type 0} (P : A → Type 0) (o : Option A) (x : A) → o ≡ Some x → IfSome o P → P x
 at_some P None x e p = absurd cc

@@ -34,7 +34,8 @@ use Rattle.session_plans.specs.Parts.{HasLanes, outcomes_on_lane, parts_from}
 use Rattle.session_plans.specs.Plans.{AskAllFrom, counts_by_client}
 use Rattle.session_run.specs.Clients.{HasItsCounts, IsWholePart, bodies_of, with_items}
 use Rattle.session_run.specs.Hubs.{CameBack, HoldsAll, RanAtHub}
-use Rattle.session_run.specs.Lanes.{AllFour, AllThree, HasGoneOn, IsPlannedOn, IsRunOn, head_shown, plans_over}
+use Rattle.board_greeting.specs.Boards.{head_shown}
+use Rattle.session_run.specs.Lanes.{AllFour, AllThree, HasGoneOn, IsPlannedOn, IsRunOn, plans_over}
 use Rattle.session_run.proofs.Parts.{AreParts, cuts_of, each_counts, parts_of_dispatches}
 use Rattle.session_run.proofs.Sides.{length_map}
 

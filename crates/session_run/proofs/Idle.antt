@@ -11,7 +11,7 @@ use Rattle.transcript.specs.declared.greeting.Greeting.{Greeting}
 use Rattle.transcript.specs.declared.greeting.Greeting.TheVariants.{Live, Silent, Down}
 use Rattle.transcript.specs.Plan.{ClientBodies, planned_on, plans_on}
 use Rattle.lane_history.specs.Runs.{ShowsScripts}
-use Rattle.session_run.specs.Boards.{IsIdle}
+use Rattle.board_greeting.specs.Boards.{IsIdle}
 use Rattle.session_run.proofs.Parts.{plan_in_part}
 use Rattle.session_run.proofs.Sides.{map_append}
 

@@ -6,8 +6,6 @@ pub mod FewBodies
 pub mod LaneRuns
 pub mod BoardRuns
 pub mod Idle
-mod Boards
-pub mod Splitting
 pub mod PlanningLanes
 pub mod HubRuns
 pub mod Rejoining

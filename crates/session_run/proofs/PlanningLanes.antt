@@ -17,7 +17,8 @@ use Rattle.session_plans.specs.Plans.{ArePlansOnBoard, HasFewBodies}
 use Rattle.lane_history.specs.Records.{IsPartlyPlanned}
 use Rattle.hub_history.specs.Lanes.{sealed_plans}
 use Rattle.session_run.specs.Clients.{KeepsLane, bodies_of, with_items}
-use Rattle.session_run.specs.Lanes.{AllFour, AllThree, HasGoneOn, HasNoEntry, IsPlannedOn, head_shown, plans_over}
+use Rattle.board_greeting.specs.Boards.{HasNoEntry, head_shown}
+use Rattle.session_run.specs.Lanes.{AllFour, AllThree, HasGoneOn, IsPlannedOn, plans_over}
 use Rattle.session_run.proofs.PlansMade.{PartlyAll, PartlyFront, partly_none}
 use Rattle.session_run.proofs.Sides.{four_append, last_of_four, length_map, three_append}
 

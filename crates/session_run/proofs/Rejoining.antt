@@ -8,10 +8,9 @@ use Rattle.world_core.specs.Telling.{Telling}
 use Rattle.reliable_engine.specs.Settings.{Limits}
 use Rattle.board_node.specs.declared.spec.BoardSpec.{BoardSpec}
 use Rattle.board_node.specs.declared.spec.LinkSpec.{LinkSpec}
-use Rattle.board_bus.specs.Cells.{CellMap}
 use Rattle.lane_record.specs.Coding.{Head}
 use Rattle.script_lang.specs.declared.operation.Step.{Step}
-use Rattle.hub_lane.specs.Lanes.{BoardStatus, LaneState, opened, opening_of}
+use Rattle.hub_lane.specs.Lanes.{BoardStatus, LaneState}
 use Rattle.hub_lane.specs.Greeting.{link_of}
 use Rattle.hub_lane.specs.declared.greeting.Greeted.{Greeted}
 use Rattle.hub_lane.specs.declared.greeting.Greeted.TheVariants.{Ready, Silent, Down, NoMemory}
@@ -21,13 +20,12 @@ use Rattle.transcript.specs.Plan.{plans_on}
 use Rattle.lane_history.specs.Links.{IsBoardOf, LinkReport}
 use Rattle.sound_lanes.specs.Reports.{board_there}
 use Rattle.lane_history.specs.Records.{IsPartlyPlanned}
-use Rattle.session_run.specs.Boards.{AreReached, HasMemory, IsReached, shown_by}
+use Rattle.board_greeting.specs.Boards.{AreReached, HasMemory, HasNoEntry, IsLaneTo, IsReached, shown_by}
 use Rattle.session_run.specs.Clients.{bodies_of}
-use Rattle.session_run.specs.Lanes.{AllThree, HasGoneOn, HasNoEntry, IsKnownAs, IsRunOn, IsStoppedLane, head_shown}
-use Rattle.session_run.specs.Places.{AreCameOf, HaveLanes, lanes_in, place_of, positions_from, rejoined}
-use Rattle.session_run.specs.declared.split.Place.{Place}
-use Rattle.session_run.specs.declared.rejoined.Board.{Board}
-use Rattle.session_run.proofs.LaneRuns.{known_as}
+use Rattle.session_run.specs.Lanes.{AllThree, HasGoneOn, IsRunOn, IsStoppedLane}
+use Rattle.board_greeting.specs.Places.{HaveLanes, lanes_in, place_of, positions_from, rejoined}
+use Rattle.session_run.specs.Places.{AreCameOf}
+use Rattle.board_greeting.proofs.Lanes.{lane_back}
 
 -- ---- the lanes that go to the hub
 
@@ -72,18 +70,13 @@ stopped : {L : Type 0} (tells : L → Option Telling) (shows : L → LinkReport)
     → (board : IsBoardOf spec.link (board_there (tells old.link))) → HasGoneOn tells scripts position old new
     → IsStoppedLane settings scripts position spec (tells new.link) new
 stopped {L} tells shows settings scripts position spec old new reached board gone =
-    let opens : old.settings ≡ settings = ap (λ (l : LaneState L). l.settings) reached.as_told.opened' in
-    let same : new.settings ≡ old.settings =
-    ap (λ (h : Head). let s : Limits = record { rounds = h.rounds; window = h.window } in s) gone.head in
     let status : new.status ≡ old.status =
     ap (λ (h : Head). let s : BoardStatus = record { mtu = h.mtu; buffers = h.buffers; next = h.first } in s)
     gone.head in
-    let opening : opening_of (tells new.link) ≡ opening_of (tells old.link) = ap (λ (h : Head). h.opening) gone.head in
-    let known = known_as settings old.status spec.link (tells old.link) board reached.as_told.greeted in
+    let to = lane_back tells (shows old.link) settings spec old new reached board gone.head in
     record {
-      settings' = same ∙ opens;
-      board' = subst (λ (o : Option CellMap). IsKnownAs spec.link new.status o) (sym opening)
-          (subst (λ (s : BoardStatus). IsKnownAs spec.link s (opening_of (tells old.link))) (sym status) known);
+      settings' = to.settings';
+      board' = to.board';
       some = subst (λ (s : BoardStatus). IsPartlyPlanned
           (bodies_of (plans_on position (greeting.Live (payload_of s.mtu)) scripts)) new.items) (sym status) gone.some;
     }

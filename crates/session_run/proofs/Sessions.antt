@@ -11,11 +11,13 @@ use Rattle.reliable_engine.specs.Settings.{Limits}
 use Rattle.board_node.specs.declared.spec.BoardSpec.{BoardSpec}
 use Rattle.script_lang.specs.declared.operation.Step.{Step}
 use Rattle.transcript.specs.declared.board_run.BoardRun.{BoardRun}
+use Rattle.transcript.specs.declared.board_run.ClientPart.{ClientPart}
 use Rattle.lane_history.specs.Links.{IsUntouched, LinkReport}
 use Rattle.lane_history.specs.Runs.{AreRunsOver, ExecutedSome, IsRunOver}
-use Rattle.session_run.specs.Boards.{AreUntouched, HasRoom, OnRun}
+use Rattle.board_greeting.specs.Boards.{AreUntouched, HasRoom}
+use Rattle.session_run.specs.Boards.{OnRun}
 use Rattle.session_run.specs.Places.{AreCameOf, IsCameOf}
-use Rattle.session_run.specs.declared.rejoined.Board.{Board}
+use Rattle.board_greeting.specs.declared.rejoined.Board.{Board}
 use Rattle.session_run.proofs.Sides.{length_map, map_append}
 use Rattle.session_run.specs.Links.{AreLeft, IsLeft}
 
@@ -84,25 +86,28 @@ none_of tells shows settings scripts k (s ∷ specs) came some = came
 
 -- what came of the next board, and of those behind it
 pub record NextBoard {L : Type 0} (tells : L → Option Telling) (shows : L → LinkReport) (settings : Limits)
-    (scripts : List (List Step)) (k : ℕ) (specs : List BoardSpec) (spec : BoardSpec) (board : Board L)
-    (others : List (Board L)) : Type 0 where
+    (scripts : List (List Step)) (k : ℕ) (specs : List BoardSpec) (spec : BoardSpec) (board : Board L (List ClientPart))
+    (others : List (Board L (List ClientPart))) : Type 0 where
   pub came : IsCameOf tells shows settings scripts k spec board
   pub later : AreCameOf tells shows settings scripts (k + 1) (drop (k + 1) specs) others
 
 pub next_board : {L : Type 0} (tells : L → Option Telling) (shows : L → LinkReport) (settings : Limits)
-    (scripts : List (List Step)) (k : ℕ) (specs : List BoardSpec) (spec : BoardSpec) (boards others : List (Board L))
-    (board : Board L) → AreCameOf tells shows settings scripts k (drop k specs) boards → k < length specs
+    (scripts : List (List Step)) (k : ℕ) (specs : List BoardSpec) (spec : BoardSpec) (boards others : List (Board L
+    (List ClientPart)))
+    (board : Board L (List ClientPart)) → AreCameOf tells shows settings scripts k (drop k specs) boards → k < length
+    specs
     → spec ≡ get_or specs k spec → boards ≡ board ∷ others
     → NextBoard tells shows settings scripts k specs spec board others
 next_board {L} tells shows settings scripts k specs spec boards others board came within is here =
     let both = subst (λ (ss : List BoardSpec). AreCameOf tells shows settings scripts k ss (board ∷ others))
     (begins_at specs k spec within is)
-    (subst (λ (bs : List (Board L)). AreCameOf tells shows settings scripts k (drop k specs) bs) here came) in
+    (subst (λ (bs : List (Board L (List ClientPart))). AreCameOf tells shows settings scripts k (drop k specs) bs)
+    here came) in
     record { came = both.0; later = both.1 }
 
 -- some board is left
 pub some_left : {L : Type 0} (tells : L → Option Telling) (shows : L → LinkReport) (settings : Limits)
-    (scripts : List (List Step)) (k : ℕ) (specs : List BoardSpec) (boards : List (Board L))
+    (scripts : List (List Step)) (k : ℕ) (specs : List BoardSpec) (boards : List (Board L (List ClientPart)))
     → AreCameOf tells shows settings scripts k (drop k specs) boards → k < length specs → 0 < length boards
 some_left tells shows settings scripts k specs [] came within =
     let long = length-drop k specs in

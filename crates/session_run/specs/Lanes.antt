@@ -5,15 +5,9 @@ use Rattle.std.specs.List.{AllByRecursion}
 use Rattle.ipb_base.specs.Numbers.{payload_of}
 use Rattle.world_core.specs.Telling.{Telling}
 use Rattle.reliable_engine.specs.Settings.{Limits}
-use Rattle.board_bus.specs.Cells.{CellMap}
-use Rattle.board_bus.specs.Ranges.{opening_bus}
 use Rattle.board_node.specs.declared.spec.BoardSpec.{BoardSpec}
-use Rattle.board_node.specs.declared.spec.LinkSpec.{LinkSpec}
-use Rattle.board_node.specs.declared.spec.LinkSpec.TheVariants.{Sim, Udp}
 use Rattle.script_lang.specs.declared.operation.Step.{Step}
-use Rattle.lane_record.specs.Coding.{Head}
-use Rattle.hub_lane.specs.Lanes.{BoardStatus, LaneState, opening_of}
-use Rattle.hub_lane.specs.Records.{head_of}
+use Rattle.hub_lane.specs.Lanes.{LaneState, opening_of}
 use Rattle.hub_history.specs.Lanes.{sealed_plans}
 use Rattle.transcript.specs.declared.greeting.Greeting.TheVariants.{Live}
 use Rattle.transcript.specs.declared.board_run.ClientPart.{ClientPart}
@@ -21,6 +15,7 @@ use Rattle.transcript.specs.Plan.{ClientBodies, plans_on}
 use Rattle.board_history.specs.History.{dispatches_of}
 use Rattle.lane_history.specs.Records.{IsClientsRecord, IsPartlyPlanned}
 use Rattle.session_plans.specs.Plans.{HasFewBodies}
+use Rattle.board_greeting.specs.Boards.{IsKnownAs, head_shown}
 use Rattle.session_run.specs.Clients.{IsWholePart, bodies_of, with_items}
 
 -- ---- side by side
@@ -38,14 +33,6 @@ AllFour holds (x ∷ xs) (y ∷ ys) (z ∷ zs) (w ∷ ws) = holds x y z w × All
 AllFour holds xs ys zs ws = ⊥
 
 -- ---- from one moment to another
-
--- what the record of a lane tells of its board
-abbrev pub head_shown : {L : Type 0} → (L → Option Telling) → LaneState L → Head
-head_shown tells lane = head_of lane.settings lane.status (tells lane.link)
-
--- a lane that nobody asked anything of
-abbrev pub HasNoEntry : {L : Type 0} → LaneState L → Type 0
-HasNoEntry lane = lane.items ≡ []
 
 -- what the clients' scripts ask of the board at a position over this lane
 abbrev pub plans_over : {L : Type 0} → List (List Step) → ℕ → LaneState L → List ClientBodies
@@ -72,14 +59,6 @@ pub record IsRunOn {L : Type 0} (scripts : List (List Step)) (position : ℕ) (l
   pub planned : map (λ (p : ClientPart). p.planned) parts ≡ plans_over scripts position lane
   pub whole : AllByRecursion IsWholePart parts
   pub left : IsClientsRecord (map (λ (p : ClientPart). p.planned.bodies) parts) (map dispatches_of parts) lane.items
-
--- A board told this status, and opened with this bus if its link tells: so it is that of its document. One behind a
--- port
--- does not tell.
-abbrev pub IsKnownAs : LinkSpec → BoardStatus → Option CellMap → Type 0
-IsKnownAs (Sim mtu buffers first ranges fates) status opening =
-    (status ≡ record { mtu = mtu; buffers = buffers; next = first }) × (opening ≡ Some (opening_bus ranges))
-IsKnownAs (Udp address port wait) status opening = opening ≡ None
 
 -- The lane is of the board of this document, and has entries of the clients whose scripts these are.
 pub record IsStoppedLane {L : Type 0} (settings : Limits) (scripts : List (List Step)) (position : ℕ)

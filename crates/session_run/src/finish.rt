@@ -1,15 +1,16 @@
 //! The run of each board once the clients ran, and its link given back.
 
-ghost use Rattle.std.specs.Prelude.{◌≡◌, ◌<◌, ◌^◌, ◌++◌, ◌∷◌, [], true, length, map, IfOk, IfSome};
+ghost use Rattle.std.specs.Prelude.{◌≡◌, ◌<◌, ◌^◌, ◌++◌, ◌∷◌, [], true, length, IfOk, IfSome};
 ghost use Rattle.std.specs.List.{AllByRecursion};
 ghost use Rattle.script_lang.specs.Packing.{CanBePacked, HaveFewPieces};
 ghost use Rattle.lane_history.specs.Runs.{AreRunsOver, IsRunOver, ShowsScripts};
-ghost use Rattle.session_run.specs.Boards.{HasRoom, IsIdle, IsNamed, OnRun, shown_by};
+ghost use Rattle.board_greeting.specs.Boards.{HasRoom, IsIdle, shown_by};
+ghost use Rattle.session_run.specs.Boards.{IsNamed, OnRun};
 ghost use Rattle.session_run.specs.Lanes.{IsRunOn, IsStoppedLane};
 ghost use Rattle.session_run.specs.Links.{AreLeft, IsLeft, Keeps};
-ghost use Rattle.session_run.specs.Places.{AreCameOf, IsCameOf, IsIdleBoard};
+ghost use Rattle.session_run.specs.Places.{AreCameOf, IsCameOf};
 
-use crate::rejoined::{Board, Rejoined};
+use board_greeting::{Board, Rejoined, close_lane};
 use board_node::BoardSpec;
 use hub_lane::Lane;
 use ipb_base::{NoMemory, Text};
@@ -19,7 +20,6 @@ use lane_history::records::{
 use lossy_network::Rack;
 use reliable_engine::Settings;
 use script_lang::Steps;
-use sound_lanes::laws::a_lane_is_a_sound_one;
 use std::alloc::Global;
 use transcript::{BoardRun, ClientPart, ClientParts, Greeting, Outcomes, plan_on};
 use world_core::Link;
@@ -60,14 +60,11 @@ fn finish_live<L: Link>(
         (shown_by L.faults L.quiets L.gots L.held L.telling result.0)) }
     ensures left { IsLeft spec.now position scripts.now (shown_by L.faults L.quiets L.gots L.held L.telling result.0) }
 {
-    a_lane_is_a_sound_one();
     a_finished_lane_is_a_live_run();
     a_lane_left_at_any_moment_executed_a_merge();
-    lane.is_sound();
-    lane.has_paid();
     let payload = lane.payload();
     let run = named(alloc, spec, Greeting::Live { payload }, parts);
-    (lane.close(), run)
+    (close_lane(lane), run)
 }
 
 /// The run of a board that is not live: its clients ask nothing of it.
@@ -97,7 +94,7 @@ fn run_idle(
 fn finish_board<L: Link>(
     alloc: Global,
     settings: Settings,
-    board: Board<L>,
+    board: Board<L, ClientParts>,
     spec: &BoardSpec,
     position: u32,
     scripts: &[Steps],
@@ -112,8 +109,8 @@ fn finish_board<L: Link>(
 {
     a_lane_left_at_any_moment_executed_a_merge();
     match board {
-        Board::Live { lane, parts } => finish_live(
-            alloc, settings, lane, parts, spec, position, scripts,
+        Board::Live { lane, came } => finish_live(
+            alloc, settings, lane, came, spec, position, scripts,
         ),
         Board::Idle { greeting, link } => (
             link,
@@ -137,7 +134,7 @@ fn add_run(runs: &mut Vec<BoardRun>, run: Result<BoardRun, NoMemory>, is_whole: 
 pub(crate) fn finish_boards<R: Rack>(
     alloc: Global,
     settings: Settings,
-    mut boards: Rejoined<R::L>,
+    mut boards: Rejoined<R::L, ClientParts>,
     specs: &[BoardSpec],
     scripts: &[Steps],
     rack: &mut R,

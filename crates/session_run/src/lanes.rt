@@ -7,7 +7,8 @@ ghost use Rattle.script_lang.specs.Executable.{AreExecutable};
 ghost use Rattle.script_lang.specs.Packing.{AreWithinLimits, CanBePacked, HaveFewPieces};
 ghost use Rattle.session_plans.specs.Parts.{HasClients, HasLanes, parts_from};
 ghost use Rattle.session_plans.specs.Plans.{AskAllFrom};
-ghost use Rattle.session_run.specs.Lanes.{AllFour, AllThree, HasGoneOn, HasNoEntry, IsPlannedOn, IsRunOn};
+ghost use Rattle.board_greeting.specs.Boards.{HasNoEntry};
+ghost use Rattle.session_run.specs.Lanes.{AllFour, AllThree, HasGoneOn, IsPlannedOn, IsRunOn};
 
 use crate::hub::run_at_hub;
 use crate::planning::plan_clients;

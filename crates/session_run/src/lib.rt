@@ -5,13 +5,10 @@
 #![tactic(auto)]
 
 mod finish;
-mod greeting;
 mod hub;
 mod lanes;
 mod planning;
-mod rejoined;
 mod session;
-mod split;
 
 pub use ipb_base::NoMemory;
 pub use session::{RunFault, run_session};

@@ -8,15 +8,13 @@ ghost use Rattle.script_lang.specs.Packing.{AreWithinLimits, CanBePacked, HaveFe
 ghost use Rattle.script_lang.specs.declared.script_refusal.TheConstants.{MAX_LINES};
 ghost use Rattle.lane_history.specs.Links.{IsUntouched};
 ghost use Rattle.lane_history.specs.Runs.{AreRunsOver};
-ghost use Rattle.session_run.specs.Boards.{AreReached, HasMemory, HasRoom, shown_by};
+ghost use Rattle.board_greeting.specs.Boards.{AreReached, HasMemory, HasRoom, shown_by};
+ghost use Rattle.board_greeting.specs.Places.{IsSplitOf};
 ghost use Rattle.session_run.specs.Links.{AreLeft, CanBeReached, Keeps};
-ghost use Rattle.session_run.specs.Places.{IsSplitOf};
 
 use crate::finish::finish_boards;
-use crate::greeting::{greet_boards, keep_all};
 use crate::lanes::run_lanes;
-use crate::rejoined::Rejoined;
-use crate::split::{Split, split_boards};
+use board_greeting::{Rejoined, Split, greet_boards, keep_all, split_boards};
 use board_node::BoardSpec;
 use client_threads::Gate;
 use hub_lane::Greeted;

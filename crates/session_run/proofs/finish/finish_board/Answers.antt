@@ -1,6 +1,7 @@
 use Rattle.std.proofs.Common.{subst}
-use Rattle.session_run.specs.Boards.{shown_by}
-use Rattle.session_run.specs.Places.{IsCameOf, IsIdleBoard}
+use Rattle.board_greeting.specs.Boards.{shown_by}
+use Rattle.board_greeting.specs.Places.{IsIdleBoard}
+use Rattle.session_run.specs.Places.{IsCameOf}
 use Rattle.session_run.proofs.BoardRuns.{untouched_left}
 use Rattle.session_run.proofs.finish.finish_board.Goals as goal
 

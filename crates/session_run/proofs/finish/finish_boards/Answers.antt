@@ -2,7 +2,7 @@ use Rattle.std.proofs.Common.{◌∙◌, List, map, refl, subst, arith}
 use Rattle.std.proofs.lemmas.List.{take_all}
 use Rattle.board_node.specs.declared.spec.BoardSpec.{BoardSpec}
 use Rattle.lane_history.specs.Runs.{AreRunsOver}
-use Rattle.session_run.specs.Boards.{shown_by}
+use Rattle.board_greeting.specs.Boards.{shown_by}
 use Rattle.session_run.proofs.Sessions.{board_more, next_board, none_ran, room_for_one, some_left}
 use Rattle.session_run.proofs.finish.finish_boards.Goals as goal
 

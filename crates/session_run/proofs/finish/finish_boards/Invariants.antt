@@ -1,5 +1,5 @@
 use Rattle.std.proofs.Common.{◌≡◌, drop}
-use Rattle.session_run.specs.Boards.{shown_by}
+use Rattle.board_greeting.specs.Boards.{shown_by}
 use Rattle.session_run.specs.Places.{AreCameOf}
 use Rattle.session_run.proofs.Sessions.{RanBoards}
 use Rattle.session_run.proofs.finish.finish_boards.Given as goal

@@ -2,42 +2,41 @@ use Rattle.ipb_base.specs.Numbers.{payload_of}
 use Rattle.transcript.specs.declared.board_run.BoardRun.{BoardRun}
 use Rattle.transcript.specs.declared.greeting.Greeting.TheVariants.{Live}
 use Rattle.lane_history.specs.Runs.{IsRunOver}
-use Rattle.session_run.specs.Boards.{IsNamed, shown_by}
-use Rattle.session_run.proofs.BoardRuns.{at_end, if_ok, runs_live}
+use Rattle.board_greeting.specs.Boards.{shown_by}
+use Rattle.session_run.specs.Boards.{IsNamed}
+use Rattle.session_run.proofs.BoardRuns.{if_ok, runs_live, stopped_at}
 use Rattle.session_run.proofs.finish.finish_live.Goals as goal
 
 pub returns-clause-ran : goal.returns-clause-ran
 returns-clause-ran g c =
     let link = g.L.Link in
     let lane = c.args.lane in
-    let shown = shown_by link.faults link.quiets link.gots link.held link.telling lane.link in
+    let shown = shown_by link.faults link.quiets link.gots link.held link.telling c.close_lane.result in
     let spec = c.args.spec.now in
     let scripts = c.args.scripts.now in
-    let ended = at_end c.a_lane_is_a_sound_one.ensures c.args.settings scripts c.args.position spec lane
-    (link.telling lane.link) (link.faults lane.link) (link.quiets lane.link) (link.gots lane.link) (link.held lane.link)
-    c.requires.stopped c.is_sound.ensures c.has_paid.ensures in
-    rw c.close.ensures (if_ok (IsNamed spec (Live c.payload-payload.result) c.args.parts)
+    let ended = c.close_lane.ensures.ended c.args.settings spec (stopped_at c.args.settings scripts c.args.position spec
+    lane (link.telling lane.link) c.requires.stopped) in
+    if_ok (IsNamed spec (Live c.payload-payload.result) c.args.parts)
     (λ (run : BoardRun). IsRunOver c.args.settings spec c.args.position scripts run shown) c.named-run.result
     c.named-run.ensures
     (λ run named. (let live = runs_live spec c.args.position c.payload-payload.result scripts lane c.args.parts run
     c.payload-payload.ensures c.requires.ran named in
     c.a_finished_lane_is_a_live_run.ensures c.args.settings spec c.args.position scripts run shown
     (payload_of lane.status.mtu) lane.items lane.outcomes lane.give_ups live.scripts' ended.board' live.greeting'
-    ended.payload live.ran.left ended.sound)))
+    ended.payload live.ran.left ended.sound))
 
 pub returns-clause-left : goal.returns-clause-left
 returns-clause-left g c =
     let link = g.L.Link in
     let lane = c.args.lane in
-    let shown = shown_by link.faults link.quiets link.gots link.held link.telling lane.link in
+    let shown = shown_by link.faults link.quiets link.gots link.held link.telling c.close_lane.result in
     let spec = c.args.spec.now in
     let scripts = c.args.scripts.now in
-    let ended = at_end c.a_lane_is_a_sound_one.ensures c.args.settings scripts c.args.position spec lane
-    (link.telling lane.link) (link.faults lane.link) (link.quiets lane.link) (link.gots lane.link) (link.held lane.link)
-    c.requires.stopped c.is_sound.ensures c.has_paid.ensures in
-    rw c.close.ensures (record {
+    let ended = c.close_lane.ensures.ended c.args.settings spec (stopped_at c.args.settings scripts c.args.position spec
+    lane (link.telling lane.link) c.requires.stopped) in
+    record {
       board' = ended.board';
       executed_some = c.a_lane_left_at_any_moment_executed_a_merge.ensures.lane c.args.settings spec c.args.position
           scripts shown (payload_of lane.status.mtu) lane.items lane.outcomes lane.give_ups ended.payload
           c.requires.stopped.some ended.sound;
-    })
+    }

@@ -1,8 +1,8 @@
 use Rattle.std.proofs.Common.{◌≡◌, ◌∙◌, ℕ, List, Vec, ap, length, map, subst, sym}
 use Rattle.hub_lane.specs.declared.greeting.Greeted.{Greeted}
 use Rattle.hub_lane.specs.Greeting.{link_of}
-use Rattle.session_run.specs.Boards.{AreReached, HasRoom, shown_by}
-use Rattle.session_run.proofs.Boards.{untouched_all}
+use Rattle.board_greeting.specs.Boards.{AreReached, HasRoom, shown_by}
+use Rattle.board_greeting.proofs.Boards.{untouched_all}
 use Rattle.session_run.proofs.Sessions.{untouched_are_left}
 use Rattle.session_run.proofs.Sides.{length_map}
 use Rattle.session_run.proofs.session.run_greeted.Goals as goal

@@ -1,5 +1,5 @@
 use Rattle.std.proofs.Common.{◌∙◌, ◌+◌, ◌++◌, ◌≤◌, ap, map, sym, rules}
-use Rattle.session_run.specs.Boards.{shown_by}
+use Rattle.board_greeting.specs.Boards.{shown_by}
 use Rattle.session_run.proofs.Sessions.{untouched_all, untouched_are_left}
 use Rattle.session_run.proofs.session.run_session.Goals as goal
 

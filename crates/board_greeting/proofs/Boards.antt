@@ -1,0 +1,178 @@
+-- Boards at their greeting.
+use Rattle.std.proofs.Common.{◌≡◌, ℕ, ◌+◌, ◌*◌, ◌≤◌, List, [], ◌∷◌, ◌++◌, length, map, suc}
+use Rattle.std.proofs.Common.{Option, Some, None, refl, sym, ap, ◌∙◌, subst, arith, inl, inr, append_assoc}
+use Rattle.std.specs.Prelude.{IfSome}
+use Rattle.std.specs.List.{AllByRecursion, slice_get}
+use Rattle.ipb_base.specs.Faults.{Rose}
+use Rattle.ipb_base.specs.Word.{AreWords}
+use Rattle.board_bus.specs.declared.range.Range.{Range}
+use Rattle.board_bus.specs.Cells.{HoldsWords}
+use Rattle.board_bus.specs.Ranges.{opening_bus}
+use Rattle.board_node.specs.declared.spec.BoardSpec.{BoardSpec}
+use Rattle.board_node.specs.declared.spec.LinkSpec.{LinkSpec}
+use Rattle.board_node.specs.declared.spec.LinkSpec.TheVariants.{Sim, Udp}
+use Rattle.world_model.specs.Board.{Board, executed}
+use Rattle.reliable_engine.specs.Settings.{AreLimits, Limits}
+use Rattle.world_core.specs.Telling.{IfTelling, Telling}
+use Rattle.script_lang.specs.Executable.{LinkNamesWords}
+use Rattle.lossy_network.specs.Racks.{telling_for}
+use Rattle.hub_lane.specs.declared.greeting.Greeted.{Greeted}
+use Rattle.hub_lane.specs.declared.greeting.Greeted.TheVariants.{Ready, Silent, Down, NoMemory}
+use Rattle.hub_lane.specs.Greeting.{CanBegin, IfDown, IfReady, IfSilent, StaysFresh, link_of}
+use Rattle.hub_lane.specs.Lanes.{IsGreeted, opened}
+use Rattle.sound_lanes.specs.Reports.{board_there}
+use Rattle.lane_history.specs.Links.{IsBoardOf, IsUntouched, LinkReport}
+use Rattle.board_greeting.specs.Boards.{AreReached, AreUntouched, HasRoom, IsGreetedAs, IsReached, shown_by}
+use Rattle.lane_history.specs.Links.{CanBeMade}
+
+abbrev pub WordsLaw : Type 0
+WordsLaw = (ranges : List Range) → AllByRecursion (λ (range : Range). AreWords range.init) ranges
+    → HoldsWords (opening_bus ranges)
+
+can_begin : WordsLaw → (settings : Limits) (spec : LinkSpec) → AreLimits settings → CanBeMade spec
+    → LinkNamesWords spec → IfSome (telling_for spec) (CanBegin settings)
+can_begin law settings (Sim mtu buffers first ranges fates) limits made words = record {
+  few = limits.window_in_range;
+  mtu = made.0.mtu_in_range;
+  buffers = made.0.buffers_in_range;
+  first = made.0.first_in_range;
+  opening = law ranges words;
+  fresh = refl;
+  greetings = tt;
+}
+can_begin law settings (Udp address port wait) limits made words = tt
+
+pub can_begin_here : WordsLaw → (settings : Limits) (spec : LinkSpec) (telling : Option Telling) → AreLimits settings
+    → CanBeMade spec → LinkNamesWords spec → telling ≡ telling_for spec → IfSome telling (CanBegin settings)
+can_begin_here law settings spec telling limits made words is =
+    subst (λ (t : Option Telling). IfSome t (CanBegin settings)) (sym is) (can_begin law settings spec limits made
+    words)
+
+board_of_spec : (settings : Limits) (spec : LinkSpec) (new : Option Telling)
+    → IfTelling (telling_for spec) new (StaysFresh settings) → IsBoardOf spec (board_there new)
+board_of_spec settings (Sim mtu buffers first ranges fates) None call = absurd call
+board_of_spec settings (Sim mtu buffers first ranges fates) (Some u) call =
+    call.same_board ∙ ap (λ (log : List _). record {
+      opening = opening_bus ranges;
+      mtu = mtu;
+      buffers = buffers;
+      first = first;
+      log = log;
+    }) (sym (ap (λ (b : Board). b.log) call.same_board))
+board_of_spec settings (Udp address port wait) None call = tt
+board_of_spec settings (Udp address port wait) (Some u) call = absurd call
+
+untouched_there : (settings : Limits) (spec : LinkSpec) (new : Option Telling)
+    → IfTelling (telling_for spec) new (StaysFresh settings)
+    → IfSome (board_there new) (λ (board : Board). executed board ≡ [])
+untouched_there settings (Sim mtu buffers first ranges fates) None call = absurd call
+untouched_there settings (Sim mtu buffers first ranges fates) (Some u) call = ap executed call.same_board
+untouched_there settings (Udp address port wait) None call = tt
+untouched_there settings (Udp address port wait) (Some u) call = absurd call
+
+there : (P : Type 0) (telling : Option Telling) → IfSome telling (λ _. P)
+    → IfSome (board_there telling) (λ _. P)
+there P None is = tt
+there P (Some t) is = is
+
+first_told : (P Q : Type 0) (telling : Option Telling) → IfSome telling (λ _. P × Q) → IfSome telling (λ _. P)
+first_told P Q None is = tt
+first_told P Q (Some t) is = is.0
+
+second_told : (P Q : Type 0) (telling : Option Telling) → IfSome telling (λ _. P × Q) → IfSome telling (λ _. Q)
+second_told P Q None is = tt
+second_told P Q (Some t) is = is.1
+
+module _ {L : Type 0} (faults quiets gots held : L → ℕ) (telling : L → Option Telling) (settings : Limits) where
+  told_as : (link : L) (board : Greeted L)
+      → IfReady board (λ lane. lane ≡ opened lane.link settings lane.status)
+      → IfReady board (λ lane. IfSome (telling lane.link) (IsGreeted settings lane.status))
+      → IfSilent board (λ after rounds. (rounds ≡ settings.rounds)
+      × (64 * settings.rounds ≤ 64 * quiets after + gots after))
+      → IfSilent board (λ after rounds. IfSome (telling after)
+      (λ _. (settings.rounds ≤ quiets after) × (settings.rounds ≤ held after)))
+      → IfDown board (λ after. Rose (faults link) (faults after))
+      → IsUntouched (shown_by faults quiets gots held telling (link_of board))
+      → IsGreetedAs settings board (telling (link_of board)) (shown_by faults quiets gots held telling (link_of board))
+  told_as link (Ready lane) ready told silent quiet down untouched = record { opened' = ready; greeted = told }
+  told_as link (Silent after rounds) ready told silent quiet down untouched = record {
+    waited = silent.1;
+    quiet = there (settings.rounds ≤ quiets after) (telling after)
+        (first_told (settings.rounds ≤ quiets after) (settings.rounds ≤ held after) (telling after) quiet);
+    held = there (settings.rounds ≤ held after) (telling after)
+        (second_told (settings.rounds ≤ quiets after) (settings.rounds ≤ held after) (telling after) quiet);
+    untouched = untouched;
+  }
+  told_as link (Down after) ready told silent quiet down untouched =
+      record { failed = omega (arith, down); untouched = untouched }
+  told_as link (NoMemory after) ready told silent quiet down untouched = tt
+
+  pub is_reached : (spec : BoardSpec) (link : L) (board : Greeted L) → telling link ≡ telling_for spec.link
+      → IfTelling (telling link) (telling (link_of board)) (StaysFresh settings)
+      → IfReady board (λ lane. lane ≡ opened lane.link settings lane.status)
+      → IfReady board (λ lane. IfSome (telling lane.link) (IsGreeted settings lane.status))
+      → IfSilent board (λ after rounds. (rounds ≡ settings.rounds)
+      × (64 * settings.rounds ≤ 64 * quiets after + gots after))
+      → IfSilent board (λ after rounds. IfSome (telling after)
+      (λ _. (settings.rounds ≤ quiets after) × (settings.rounds ≤ held after)))
+      → IfDown board (λ after. Rose (faults link) (faults after))
+      → IsReached settings spec board (telling (link_of board))
+      (shown_by faults quiets gots held telling (link_of board))
+  is_reached spec link board made fresh ready told silent quiet down =
+      let call = subst (λ (t : Option Telling). IfTelling t (telling (link_of board)) (StaysFresh settings)) made fresh
+      in
+      let untouched = untouched_there settings spec.link (telling (link_of board)) call in
+      record {
+        board' = board_of_spec settings spec.link (telling (link_of board)) call;
+        untouched = untouched;
+        as_told = told_as link board ready told silent quiet down untouched;
+      }
+
+-- ---- links given back
+
+pub room_for_one : (kept made count : ℕ) → HasRoom kept made (suc count) → kept + 1 ≤ made
+room_for_one kept made count (inl none) = absurd (omega (arith, none))
+room_for_one kept made count (inr room) = omega (arith, room)
+
+pub room_for_less : (kept kept_now made made_now count : ℕ) → kept_now ≡ kept + 1 → made_now ≡ made
+    → HasRoom kept made (suc count) → HasRoom kept_now made_now count
+room_for_less kept kept_now made made_now count one same (inl none) = absurd (omega (arith, none))
+room_for_less kept kept_now made made_now count one same (inr room) = inr (omega (arith, room, one, same))
+
+pub one_kept : {L : Type 0} (before old new : List L) (link : L) (rest all : List L) → new ≡ old ++ link ∷ []
+    → old ++ link ∷ rest ≡ before ++ all → new ++ rest ≡ before ++ all
+one_kept before old new link rest all pushed is =
+    ap (λ (l : List _). l ++ rest) pushed ∙ (append_assoc old (link ∷ []) rest ∙ is)
+
+-- ---- boards greeted one after another
+
+pub reached_more : {L : Type 0} (tells : L → Option Telling) (shows : L → LinkReport) (settings : Limits)
+    (specs : List BoardSpec) (boards : List (Greeted L)) (spec : BoardSpec) (board : Greeted L)
+    → slice_get specs (length boards) ≡ Some spec → AreReached tells shows settings specs boards
+    → IsReached settings spec board (tells (link_of board)) (shows (link_of board))
+    → AreReached tells shows settings specs (boards ++ board ∷ [])
+reached_more tells shows settings [] [] spec board at are is = absurd cc
+reached_more tells shows settings [] (b ∷ boards) spec board at are is = absurd are
+reached_more tells shows settings (s ∷ specs) [] spec board at are is =
+    let same : s ≡ spec = cc in (
+      subst (λ (x : BoardSpec). IsReached settings x board (tells (link_of board)) (shows (link_of board))) (sym same)
+          is,
+      tt,
+    )
+reached_more tells shows settings (s ∷ specs) (b ∷ boards) spec board at are is =
+    (are.0, reached_more tells shows settings specs boards spec board at are.1 is)
+
+pub room_for_more : (kept kept_now made made_now count : ℕ) → kept ≤ made → kept_now ≡ kept → made_now ≡ made + 1
+    → HasRoom kept made count → HasRoom kept_now made_now (count + 1)
+room_for_more kept kept_now made made_now count within same one (inl none) =
+    inr (omega (arith, none, within, same, one))
+room_for_more kept kept_now made made_now count within same one (inr room) =
+    inr (omega (arith, room, within, same, one))
+
+pub untouched_all : {L : Type 0} (tells : L → Option Telling) (shows : L → LinkReport) (settings : Limits)
+    (specs : List BoardSpec) (boards : List (Greeted L)) → AreReached tells shows settings specs boards
+    → AreUntouched specs (map shows (map (λ board. link_of board) boards))
+untouched_all tells shows settings specs [] are = tt
+untouched_all tells shows settings [] (b ∷ boards) are = absurd are
+untouched_all tells shows settings (s ∷ specs) (b ∷ boards) are =
+    (are.0.board', are.0.untouched, untouched_all tells shows settings specs boards are.1)

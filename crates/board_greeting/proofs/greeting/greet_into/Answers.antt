@@ -1,0 +1,56 @@
+use Rattle.std.proofs.Common.{◌≡◌, ◌∙◌, ◌∷◌, ◌+◌, ℕ, [], Some, ap, length, length-append, subst, sym, arith}
+use Rattle.std.specs.List.{AllByRecursion, slice_get}
+use Rattle.std.proofs.lemmas.Option.{slice_get-get_or}
+use Rattle.board_node.specs.declared.spec.BoardSpec.{BoardSpec}
+use Rattle.ipb_base.proofs.AllLemmas.{AllByRecursion-append}
+use Rattle.board_greeting.specs.Boards.{AreReached, HasMemory, HasRoom, shown_by}
+use Rattle.board_greeting.proofs.Boards.{reached_more, room_for_more}
+use Rattle.board_greeting.proofs.greeting.greet_into.Goals as goal
+
+pub returns-then-is_last-clause-reached : goal.returns-then-is_last-clause-reached
+returns-then-is_last-clause-reached g c =
+    let shows = shown_by g.R.L.Link.faults g.R.L.Link.quiets g.R.L.Link.gots g.R.L.Link.held g.R.L.Link.telling in
+    let there : slice_get c.args.specs.now (length c.loop-spec.boards.items) ≡ Some c.spec-item.result =
+    ap (slice_get c.args.specs.now) c.loop-spec.invariant.many
+    ∙ (slice_get-get_or c.args.specs.now c.loop-spec.spec-index c.spec-item.result (let test = c.loop-spec-test.true in
+    let end = c.loop-spec.auto.spec-index-end in omega (arith, test, end))
+    ∙ ap (λ (x : BoardSpec). Some x) (sym c.spec-item.is)) in
+    subst (AreReached g.R.L.Link.telling shows c.args.settings c.args.specs.now) (sym c.push_reserved.ensures.items)
+    (reached_more g.R.L.Link.telling shows c.args.settings c.args.specs.now c.loop-spec.boards.items c.spec-item.result
+    c.in_ok-board.board there c.loop-spec.invariant.reached c.in_ok-board.ensures.reached)
+
+pub loop-spec-preserved : goal.loop-spec-preserved
+loop-spec-preserved g c =
+    let shows = shown_by g.R.L.Link.faults g.R.L.Link.quiets g.R.L.Link.gots g.R.L.Link.held g.R.L.Link.telling in
+    let boards = c.loop-spec.boards.items in
+    let board = c.in_ok-board.board in
+    let pushed = c.push_reserved.ensures.items in
+    let longer : length c.push_reserved.new.self.items ≡ length boards + 1 =
+    ap length pushed ∙ length-append boards (board ∷ []) in
+    let many = c.loop-spec.invariant.many in
+    let there : slice_get c.args.specs.now (length boards) ≡ Some c.spec-item.result =
+    ap (slice_get c.args.specs.now) many
+    ∙ (slice_get-get_or c.args.specs.now c.loop-spec.spec-index c.spec-item.result (let test = c.loop-spec-test.true in
+    let end = c.loop-spec.auto.spec-index-end in omega (arith, test, end))
+    ∙ ap (λ (x : BoardSpec). Some x) (sym c.spec-item.is)) in
+    let made = c.in_ok-board.ensures.made in
+    record {
+      many = longer ∙ ap (λ (n : ℕ). n + 1) many;
+      reached = subst (AreReached g.R.L.Link.telling shows c.args.settings c.args.specs.now) (sym pushed)
+          (reached_more g.R.L.Link.telling shows c.args.settings c.args.specs.now boards c.spec-item.result
+          board there c.loop-spec.invariant.reached c.in_ok-board.ensures.reached);
+      memory = subst (AllByRecursion HasMemory) (sym pushed)
+          (AllByRecursion-append HasMemory boards (board ∷ []) c.loop-spec.invariant.memory
+          (c.is_out_of_memory-is_last.ensures c.if-is_last.false, tt));
+      faults = c.in_ok-board.ensures.unfaulted (λ e. cc) ∙ c.loop-spec.invariant.faults;
+      kept = c.greet_board.ensures.kept ∙ c.loop-spec.invariant.kept;
+      made = (let before = c.loop-spec.invariant.made in omega (arith, made, before, longer));
+      room = subst (HasRoom (length (g.R.Rack.kept c.greet_board.new.rack)) (g.R.Rack.made c.greet_board.new.rack))
+          (sym longer) (room_for_more (length (g.R.Rack.kept c.loop-spec.rack))
+          (length (g.R.Rack.kept c.greet_board.new.rack)) (g.R.Rack.made c.loop-spec.rack)
+          (g.R.Rack.made c.greet_board.new.rack) (length boards) c.greet_board.ensures.within
+          (ap length c.greet_board.ensures.kept) made c.loop-spec.invariant.room);
+      place = (let len = c.push_reserved.ensures.len in let cap = c.push_reserved.ensures.capacity in
+          let before = c.loop-spec.invariant.place in let test = c.loop-spec-test.true in
+          omega (arith, len, cap, before, test));
+    }

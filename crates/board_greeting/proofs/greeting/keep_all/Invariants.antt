@@ -1,0 +1,15 @@
+use Rattle.std.proofs.Common.{◌≡◌, ◌++◌, length, map}
+use Rattle.std.specs.Vec.Iter.{into_iter_items}
+use Rattle.hub_lane.specs.Greeting.{link_of}
+use Rattle.board_greeting.specs.Boards.{HasRoom}
+use Rattle.board_greeting.proofs.greeting.keep_all.Given as goal
+
+-- the links so far, and the boards that are left
+abbrev pub invariant-loop-board : goal.invariant-loop-board
+invariant-loop-board g l = record {
+  split : g.R.Rack.kept l.rack ++ map (λ board. link_of board) (into_iter_items l.board-iterator)
+      ≡ g.R.Rack.kept l.initial.rack ++ map (λ board. link_of board) l.fn.boards.items;
+  made : g.R.Rack.made l.rack ≡ g.R.Rack.made l.initial.rack;
+  faults : g.R.Rack.faults l.rack ≡ g.R.Rack.faults l.initial.rack;
+  room : HasRoom (length (g.R.Rack.kept l.rack)) (g.R.Rack.made l.rack) (length (into_iter_items l.board-iterator));
+}

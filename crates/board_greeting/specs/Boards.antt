@@ -1,0 +1,110 @@
+-- Boards at their greeting, and what is known of each by it. Profile.
+use Rattle.std.specs.Prelude.{◌≡◌, ◌⊎◌, ℕ, ◌+◌, ◌≤◌, List, [], ◌∷◌, Option, Some, None, IfSome}
+use Rattle.ipb_base.specs.Numbers.{payload_of}
+use Rattle.world_core.specs.Telling.{Telling}
+use Rattle.reliable_engine.specs.Settings.{Limits}
+use Rattle.board_node.specs.declared.spec.BoardSpec.{BoardSpec}
+use Rattle.lane_record.specs.Coding.{Head}
+use Rattle.hub_lane.specs.Records.{head_of}
+use Rattle.hub_lane.specs.declared.greeting.Greeted.{Greeted}
+use Rattle.hub_lane.specs.declared.greeting.Greeted.TheVariants.{Ready, Silent, Down, NoMemory}
+use Rattle.hub_lane.specs.Greeting.{link_of}
+use Rattle.transcript.specs.declared.greeting.Greeting.{Greeting}
+use Rattle.transcript.specs.declared.greeting.Greeting.TheVariants as greeting
+use Rattle.board_bus.specs.Cells.{CellMap}
+use Rattle.board_bus.specs.Ranges.{opening_bus}
+use Rattle.board_node.specs.declared.spec.LinkSpec.{LinkSpec}
+use Rattle.board_node.specs.declared.spec.LinkSpec.TheVariants.{Sim, Udp}
+use Rattle.hub_lane.specs.Lanes.{BoardStatus, IsGreeted, LaneState, opened, opening_of}
+use Rattle.sound_lanes.specs.Reports.{report_of}
+use Rattle.lane_history.specs.Links.{IsBoardOf, IsUntouched, LinkReport}
+use Rattle.lane_history.specs.Lanes.{IsSoundLane}
+use Rattle.lane_history.specs.Runs.{IsDownRun, IsSilentRun, TellsPayload}
+use Rattle.direct_run.specs.Runs.{opening_of as opens_with}
+
+-- a lane before its first entry, over a link that tells this
+pub record IsReadyLane {L : Type 0} (settings : Limits) (lane : LaneState L) (telling : Option Telling) : Type 0 where
+  pub opened' : lane ≡ opened lane.link settings lane.status
+  pub greeted : IfSome telling (IsGreeted settings lane.status)
+
+-- not that of a live board
+abbrev pub IsIdle : Greeting → Type 0
+IsIdle (greeting.Live payload) = ⊥
+IsIdle greeting.Silent = Unit {0}
+IsIdle greeting.Down = Unit {0}
+
+-- what a greeting came to, over a link that tells this and shows this
+abbrev pub IsGreetedAs : {L : Type 0} → Limits → Greeted L → Option Telling → LinkReport → Type 0
+IsGreetedAs settings (Ready lane) telling shown = IsReadyLane settings lane telling
+IsGreetedAs settings (Silent link rounds) telling shown = IsSilentRun settings shown
+IsGreetedAs settings (Down link) telling shown = IsDownRun shown
+IsGreetedAs settings (NoMemory link) telling shown = Unit {0}
+
+-- The board of this document was greeted, and executed nothing.
+pub record IsReached {L : Type 0} (settings : Limits) (spec : BoardSpec) (greeted : Greeted L)
+    (telling : Option Telling) (shown : LinkReport) : Type 0 where
+  pub board' : IsBoardOf spec.link shown.board
+  pub untouched : IsUntouched shown
+  pub as_told : IsGreetedAs settings greeted telling shown
+
+-- what a link shows; the first five are what contracts see of it
+abbrev pub shown_by : {L : Type 0} → (L → ℕ) → (L → ℕ) → (L → ℕ) → (L → ℕ) → (L → Option Telling) → L → LinkReport
+shown_by faults quiets gots held telling link =
+    report_of (faults link) (quiets link) (gots link) (held link) (telling link)
+
+-- so of the first boards, in order; there may be fewer than documents
+abbrev pub AreReached : {L : Type 0} → (L → Option Telling) → (L → LinkReport) → Limits → List BoardSpec
+    → List (Greeted L) → Type 0
+AreReached tells shows settings specs [] = Unit {0}
+AreReached tells shows settings [] (greeted ∷ others) = ⊥
+AreReached tells shows settings (spec ∷ specs) (greeted ∷ others) =
+    IsReached settings spec greeted (tells (link_of greeted)) (shows (link_of greeted))
+    × AreReached tells shows settings specs others
+
+-- memory did not run out at the greeting
+abbrev pub HasMemory : {L : Type 0} → Greeted L → Type 0
+HasMemory (Ready lane) = Unit {0}
+HasMemory (Silent link rounds) = Unit {0}
+HasMemory (Down link) = Unit {0}
+HasMemory (NoMemory link) = ⊥
+
+-- a rack that keeps so many of so many links has room for so many more
+abbrev pub HasRoom : ℕ → ℕ → ℕ → Type 0
+HasRoom kept made count = (count ≡ 0) ⊎ (kept + count ≤ made)
+
+-- the links are those of the first boards, in order, which executed nothing
+abbrev pub AreUntouched : List BoardSpec → List LinkReport → Type 0
+AreUntouched specs [] = Unit {0}
+AreUntouched [] (link ∷ links) = ⊥
+AreUntouched (spec ∷ specs) (link ∷ links) =
+    IsBoardOf spec.link link.board × IsUntouched link × AreUntouched specs links
+
+-- ---- the board of a lane
+
+-- A board told this status, and opened with this bus if its link tells: so it is that of its document. One behind a
+-- port does not tell.
+abbrev pub IsKnownAs : LinkSpec → BoardStatus → Option CellMap → Type 0
+IsKnownAs (Sim mtu buffers first ranges fates) status opening =
+    (status ≡ record { mtu = mtu; buffers = buffers; next = first }) × (opening ≡ Some (opening_bus ranges))
+IsKnownAs (Udp address port wait) status opening = opening ≡ None
+
+-- a lane with these settings to the board of this document, over a link that tells this
+pub record IsLaneTo {L : Type 0} (settings : Limits) (spec : BoardSpec) (telling : Option Telling)
+    (lane : LaneState L) : Type 0 where
+  pub settings' : lane.settings ≡ settings
+  pub board' : IsKnownAs spec.link lane.status (opening_of telling)
+
+-- what the record of a lane tells of its board
+abbrev pub head_shown : {L : Type 0} → (L → Option Telling) → LaneState L → Head
+head_shown tells lane = head_of lane.settings lane.status (tells lane.link)
+
+-- a lane that nobody asked anything of
+abbrev pub HasNoEntry : {L : Type 0} → LaneState L → Type 0
+HasNoEntry lane = lane.items ≡ []
+
+-- a lane at its end, over a link that shows this: all that the history of its board rests on
+pub record IsEndedLane {L : Type 0} (settings : Limits) (spec : BoardSpec) (lane : LaneState L) (shown : LinkReport)
+    : Type 0 where
+  pub board' : IsBoardOf spec.link shown.board
+  pub payload : TellsPayload spec.link (payload_of lane.status.mtu)
+  pub sound : IsSoundLane settings (opens_with spec.link) shown lane.items lane.outcomes lane.give_ups

@@ -1,0 +1,20 @@
+-- The links of boards, made by a rack and given back to it. Profile.
+use Rattle.std.specs.Prelude.{◌≡◌, ℕ, List, ◌++◌, map, Option}
+use Rattle.world_core.specs.Telling.{Telling}
+use Rattle.sound_lanes.specs.Reports.{report_of}
+use Rattle.board_node.specs.declared.spec.BoardSpec.{BoardSpec}
+use Rattle.script_lang.specs.Executable.{OpensOnWords}
+use Rattle.lane_history.specs.Links.{CanBeMade, LinkReport}
+
+-- These links were given back behind those that were kept before, in this order, and so much holds of what they show.
+-- The first five are what contracts see of a link.
+abbrev pub Keeps : {L : Type 0} → (L → ℕ) → (L → ℕ) → (L → ℕ) → (L → ℕ) → (L → Option Telling) → List L → List L
+    → (List LinkReport → Type 0) → Type 0
+Keeps {L} faults quiets gots held telling old new holds =
+    (links : List L) × (new ≡ old ++ links)
+    × holds (map (λ link. report_of (faults link) (quiets link) (gots link) (held link) (telling link)) links)
+
+-- the link of the board can be made, and its ranges open a bus of words of 32 bits
+pub record CanBeReached (spec : BoardSpec) : Type 0 where
+  pub made : CanBeMade spec.link
+  pub words : OpensOnWords spec

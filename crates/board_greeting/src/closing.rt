@@ -1,0 +1,22 @@
+//! A lane at its end.
+
+ghost use Rattle.std.specs.Prelude.{◌≡◌};
+ghost use Rattle.reliable_engine.specs.Settings.{Limits};
+ghost use Rattle.board_node.specs.declared.spec.BoardSpec.{BoardSpec};
+ghost use Rattle.board_greeting.specs.Boards.{IsEndedLane, IsLaneTo, shown_by};
+
+use hub_lane::Lane;
+use sound_lanes::laws::a_lane_is_a_sound_one;
+use world_core::Link;
+
+/// Ends a lane: its link. What the lane kept, and what the link shows, is all that the history of its board rests on.
+pub fn close_lane<L: Link>(lane: Lane<L>) -> L
+    ensures link { result ≡ lane.link }
+    ensures ended { (settings : Limits) (spec : BoardSpec) → IsLaneTo settings spec (L.telling lane.link) lane
+        → IsEndedLane settings spec lane (shown_by L.faults L.quiets L.gots L.held L.telling result) }
+{
+    a_lane_is_a_sound_one();
+    lane.is_sound();
+    lane.has_paid();
+    lane.close()
+}

@@ -1,0 +1,141 @@
+//! The boards of a document, greeted in order.
+
+ghost use Rattle.std.specs.Prelude.{◌≡◌, ◌≢◌, ◌≤◌, ◌<◌, ◌+◌, ◌++◌, [], Err, length, map, IfOk, OnErr, OnOk, false};
+ghost use Rattle.std.specs.List.{AllByRecursion};
+ghost use Rattle.std.specs.Vec.{vec_capacity, vec_len};
+ghost use Rattle.ipb_base.specs.Faults.{Rose};
+ghost use Rattle.lossy_network.specs.Racks.{made_after};
+ghost use Rattle.hub_lane.specs.Greeting.{link_of};
+ghost use Rattle.board_greeting.specs.Boards.{AreReached, AreUntouched, HasMemory, HasRoom, IsReached, shown_by};
+ghost use Rattle.board_greeting.specs.Links.{CanBeReached, Keeps};
+
+use board_bus::laws::words_stay_words;
+use board_node::BoardSpec;
+use hub_lane::{Greeted, Lane};
+use lossy_network::{Rack, RackFault};
+use reliable_engine::Settings;
+use std::alloc::Global;
+use world_core::Link;
+
+/// The link of a board that was greeted, given back.
+pub fn into_link<L: Link>(board: Greeted<L>) -> L
+    ensures { result ≡ link_of board }
+{
+    match board {
+        Greeted::Ready(lane) => lane.close(),
+        Greeted::Silent { link, rounds: _ } => link,
+        Greeted::Down { link } => link,
+        Greeted::NoMemory { link } => link,
+    }
+}
+
+/// Gives all links back to the rack, in order.
+pub fn keep_all<R: Rack>(rack: &mut R, boards: Vec<Greeted<R::L>>)
+    requires room { HasRoom (length (R.kept rack.old)) (R.made rack.old) (length boards.items) }
+    ensures kept { R.kept rack.new ≡ R.kept rack.old ++ map (λ board. link_of board) boards.items }
+    ensures made { R.made rack.new ≡ R.made rack.old }
+    ensures faults { R.faults rack.new ≡ R.faults rack.old }
+{
+    for board in boards {
+        rack.keep(into_link(board));
+    }
+}
+
+/// Makes the link of a board and greets it.
+fn greet_board<R: Rack>(
+    alloc: Global,
+    settings: Settings,
+    spec: &BoardSpec,
+    rack: &mut R,
+) -> Result<Greeted<R::L>, RackFault>
+    requires reached { CanBeReached spec.now }
+    ensures reached { IfOk result (λ board. IsReached settings spec.now board (R.L.telling (link_of board))
+        (shown_by R.L.faults R.L.quiets R.L.gots R.L.held R.L.telling (link_of board))) }
+    ensures failed { result ≡ Err RackFault.Failed → Rose (R.faults rack.old) (R.faults rack.new) }
+    ensures faults { R.faults rack.old ≤ R.faults rack.new }
+    ensures unfaulted { result ≢ Err RackFault.Failed → R.faults rack.new ≡ R.faults rack.old }
+    ensures kept { R.kept rack.new ≡ R.kept rack.old }
+    ensures made { R.made rack.new ≡ made_after result (R.made rack.old) }
+    ensures within { length (R.kept rack.old) ≤ R.made rack.old }
+{
+    words_stay_words();
+    let _window = settings.window();
+    let link = rack.make(spec)?;
+    Ok(Lane::greet(alloc, link, settings))
+}
+
+/// Whether memory ran out at the greeting.
+fn is_out_of_memory<L: Link>(board: &Greeted<L>) -> bool
+    ensures { result ≡ false → HasMemory board.now }
+{
+    matches!(board, Greeted::NoMemory { .. })
+}
+
+/// Greets the boards in order, and puts them into `boards`, which has room for all. One on whose link memory ran out is
+/// the last.
+fn greet_into<R: Rack>(
+    alloc: Global,
+    settings: Settings,
+    specs: &[BoardSpec],
+    rack: &mut R,
+    boards: &mut Vec<Greeted<R::L>>,
+) -> Result<(), RackFault>
+    requires reached { AllByRecursion CanBeReached specs.now }
+    requires empty { boards.old.items ≡ [] }
+    requires room { vec_len boards.old + length specs.now ≤ vec_capacity boards.old }
+    ensures reached { AreReached R.L.telling (shown_by R.L.faults R.L.quiets R.L.gots R.L.held R.L.telling) settings
+        specs.now boards.new.items }
+    ensures all { OnOk result (length boards.new.items ≡ length specs.now) }
+    ensures memory { OnOk result (AllByRecursion HasMemory boards.new.items) }
+    ensures failed { result ≡ Err RackFault.Failed → Rose (R.faults rack.old) (R.faults rack.new) }
+    ensures faults { R.faults rack.old ≤ R.faults rack.new }
+    ensures unfaulted { result ≢ Err RackFault.Failed → R.faults rack.new ≡ R.faults rack.old }
+    ensures kept { R.kept rack.new ≡ R.kept rack.old }
+    ensures made { R.made rack.new ≡ R.made rack.old + length boards.new.items }
+    ensures room { HasRoom (length (R.kept rack.new)) (R.made rack.new) (length boards.new.items) }
+{
+    for spec in specs {
+        let board = greet_board(alloc, settings, spec, rack)?;
+        let is_last = is_out_of_memory(&board);
+        boards.push_reserved(board);
+        if is_last {
+            return Err(RackFault::NoMemory);
+        }
+    }
+    Ok(())
+}
+
+/// Makes a link for each board and greets it, in order. Where that fails the links that were made are given back to the
+/// rack, in order.
+pub fn greet_boards<R: Rack>(
+    alloc: Global,
+    settings: Settings,
+    specs: &[BoardSpec],
+    rack: &mut R,
+) -> Result<Vec<Greeted<R::L>>, RackFault>
+    requires reached { AllByRecursion CanBeReached specs.now }
+    ensures reached { IfOk result (λ boards. AreReached R.L.telling
+        (shown_by R.L.faults R.L.quiets R.L.gots R.L.held R.L.telling) settings specs.now boards.items) }
+    ensures all { IfOk result (λ boards. length boards.items ≡ length specs.now) }
+    ensures memory { IfOk result (λ boards. AllByRecursion HasMemory boards.items) }
+    ensures kept { OnOk result (R.kept rack.new ≡ R.kept rack.old) }
+    ensures made { OnOk result (R.made rack.new ≡ R.made rack.old + length specs.now) }
+    ensures room { OnOk result (HasRoom (length (R.kept rack.new)) (R.made rack.new) (length specs.now)) }
+    ensures left { OnErr result (Keeps R.L.faults R.L.quiets R.L.gots R.L.held R.L.telling (R.kept rack.old)
+        (R.kept rack.new) (λ links. AreUntouched specs.now links
+        × (R.made rack.new ≡ R.made rack.old + length links))) }
+    ensures failed { result ≡ Err RackFault.Failed → Rose (R.faults rack.old) (R.faults rack.new) }
+    ensures faults { R.faults rack.old ≤ R.faults rack.new }
+    ensures unfaulted { result ≢ Err RackFault.Failed → R.faults rack.new ≡ R.faults rack.old }
+{
+    let Ok(mut boards) = Vec::with_capacity(alloc, specs.len()) else {
+        return Err(RackFault::NoMemory);
+    };
+    match greet_into(alloc, settings, specs, rack, &mut boards) {
+        Ok(()) => Ok(boards),
+        Err(fault) => {
+            keep_all(rack, boards);
+            Err(fault)
+        }
+    }
+}

@@ -1,0 +1,116 @@
+-- What a load leaves, put together from what its steps say.
+use Rattle.std.proofs.Common.{◌≡◌, ◌≤◌, ◌^◌, ℕ, ◌+◌, Bool, List, [], ◌∷◌, ◌++◌, length, map, Result, Ok, Err, IfOk}
+use Rattle.std.proofs.Common.{refl, sym, ap, ◌∙◌, subst, append-nil, arith}
+use Rattle.std.proofs.lemmas.List.{append_cancel_left}
+use Rattle.std.specs.List.{AllByRecursion}
+use Rattle.std.specs.Result.{IsErr, IsErrAnd}
+use Rattle.board_node.specs.declared.spec.BoardSpec.{BoardSpec}
+use Rattle.board_node.specs.declared.spec.LinkSpec.{LinkSpec}
+use Rattle.board_node.specs.declared.spec.LinkSpec.TheVariants.{Sim, Udp}
+use Rattle.direct_run.specs.Runs.{CanRun, RunsHere}
+use Rattle.script_lang.specs.Executable.{OpensOnWords}
+use Rattle.transcript.specs.declared.board_run.BoardRun.{BoardRun}
+use Rattle.transcript.specs.Lines.{transcript_of}
+use Rattle.transcript.specs.Shown.{HaveOwnNames}
+use Rattle.lane_history.specs.Links.{CanBeMade, IsUntouched, LinkReport}
+use Rattle.lane_history.specs.Runs.{AreRunsOver}
+use Rattle.load_session.specs.Generated.{boards, most_operations, settings, steps}
+use Rattle.load_session.specs.Summary.{all_done, summary_of, summary_text}
+use Rattle.session_run.specs.Links.{AreLeft, CanBeReached}
+use Rattle.session_run.specs.declared.session.RunFault.{RunFault}
+use Rattle.session_run.specs.declared.session.RunFault.TheVariants.{NoMemory, Rack}
+use Rattle.load_run.specs.declared.run.Load.{Load}
+use Rattle.load_run.specs.Loading.{IsLoadOf, LoadLaw, LoadLeaves, PrintsLoad}
+
+-- what is said of the links that were given back, by what each shows
+abbrev pub Told : {L : Type 0} → (L → LinkReport) → List L → List L → (List LinkReport → Type 0) → Type 0
+Told {L} shown old new holds = (links : List L) × (new ≡ old ++ links) × holds (map shown links)
+
+pub at_links : {L : Type 0} (shown : L → LinkReport) (old new links : List L) → new ≡ old ++ links
+    → (holds : List LinkReport → Type 0) → Told shown old new holds → holds (map shown links)
+at_links shown old new links grown holds told =
+    subst (λ found. holds (map shown found)) (append_cancel_left old told.0 links (sym told.1 ∙ grown)) told.2
+
+-- one board has a name of its own
+pub one_name : (runs : List BoardRun) (run : BoardRun) → runs ≡ run ∷ [] → HaveOwnNames runs
+one_name runs run one i j d less within =
+    let single = ap length one in absurd (omega (arith, single, less, within))
+
+failure : Result Load RunFault → RunFault
+failure (Ok load) = NoMemory
+failure (Err fault) = fault
+
+pub no_memory_is_no_rack : (fault : RunFault) → fault ≡ NoMemory → fault ≡ Rack → ⊥
+no_memory_is_no_rack fault is rack = cc
+
+module _ (Tells : ℕ → List LinkReport → Bool → List ℕ → Type 0) (count made makes : ℕ) where
+  pub load_failed : (result : Result Load RunFault) (fault : RunFault) (links : List LinkReport)
+      → AreLeft 0 (boards count) (steps count) links → makes ≡ made + length links
+      → IsErr result → IsErrAnd result (λ why. why ≡ fault) → (fault ≡ Rack → AllByRecursion IsUntouched links)
+      → LoadLeaves Tells count made makes result links
+  unfolding failure
+  load_failed (Ok load) fault links left counted fails is untouched = absurd cc
+  load_failed (Err why) fault links left counted fails is untouched = record {
+    left = left;
+    counted = counted;
+    tells = tt;
+    untouched = λ rack. untouched (sym is ∙ ap failure rack);
+  }
+
+  pub load_told : (load : Load) (links : List LinkReport) → AreLeft 0 (boards count) (steps count) links
+      → makes ≡ made + length links → Tells count links load.done load.text.items
+      → LoadLeaves Tells count made makes (Ok load) links
+  load_told load links left counted tells = record {
+    left = left;
+    counted = counted;
+    tells = tells;
+    untouched = λ never. absurd cc;
+  }
+
+-- no link was made
+pub no_load : {L : Type 0} (shown : L → LinkReport) (kept : List L)
+    (Tells : ℕ → List LinkReport → Bool → List ℕ → Type 0) (count made : ℕ) (result : Result Load RunFault)
+    → IsErr result → IsErrAnd result (λ why. why ≡ NoMemory)
+    → Told shown kept kept (LoadLeaves Tells count made made result)
+no_load shown kept Tells count made result fails is = (
+  [],
+  sym (append-nil kept),
+  load_failed Tells count made made result NoMemory [] tt (omega arith) fails is (λ rack. tt),
+)
+
+follows : LoadLaw → (count : ℕ) → count ≤ most_operations → (links : List LinkReport) (result : Result Load RunFault)
+    → IfOk result (λ load. PrintsLoad count links load.done load.text.items)
+    → IfOk result (λ load. IsLoadOf count links load.done load.text.items)
+follows law count most links (Err why) prints = tt
+follows law count most links (Ok load) prints = record {
+  runs = prints.runs;
+  over = prints.over;
+  spelled = prints.spelled;
+  rightly = law count prints.runs links most prints.over;
+  told = prints.told;
+}
+
+pub rightly_left : LoadLaw → (count made makes : ℕ) → count ≤ most_operations → (result : Result Load RunFault)
+    (links : List LinkReport) → LoadLeaves PrintsLoad count made makes result links
+    → LoadLeaves IsLoadOf count made makes result links
+rightly_left law count made makes most result links leaves = record {
+  left = leaves.left;
+  counted = leaves.counted;
+  tells = follows law count most links result leaves.tells;
+  untouched = leaves.untouched;
+}
+
+made_at : (link : LinkSpec) → RunsHere link → CanBeMade link
+made_at (Sim mtu buffers first ranges fates) here = here
+made_at (Udp address port wait) here = absurd here
+
+pub made_of : (specs : List BoardSpec) → AllByRecursion CanRun specs
+    → AllByRecursion (λ (spec : BoardSpec). CanBeMade spec.link) specs
+made_of [] here = tt
+made_of (spec ∷ specs) here = (made_at spec.link here.0, made_of specs here.1)
+
+pub reached_of : (specs : List BoardSpec) → AllByRecursion CanRun specs → AllByRecursion OpensOnWords specs
+    → AllByRecursion CanBeReached specs
+reached_of [] here words = tt
+reached_of (spec ∷ specs) here words =
+    (record { made = made_at spec.link here.0; words = words.0 }, reached_of specs here.1 words.1)
