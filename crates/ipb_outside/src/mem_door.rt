@@ -38,8 +38,8 @@ impl Model for MemDoor {
 }
 
 impl MemDoor {
-    /// A door through which these pairs come, in order. The calls of `listen` and `accept`, numbered together from 1,
-    /// whose numbers are in `fail` answer `Failed`. The room in which pairs are kept is taken here.
+    /// A door through which these pairs come, in order. `fail` lists the calls that fail: those of `listen` and
+    /// `accept` have one numbering, from 1. The memory for keeping the pairs is reserved here.
     pub fn new(
         alloc: Global,
         pairs: Vec<(MemSource, MemSink)>,

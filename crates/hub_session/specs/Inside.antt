@@ -1,0 +1,108 @@
+-- How the code goes through a connection. No public contract cites these.
+use Rattle.std.specs.Prelude.{◌≡◌, ◌⊎◌, ℕ, ◌≤◌, ⊤, List, ◌++◌, length, Option, None}
+use Rattle.std.specs.List.{AllByRecursion}
+use Rattle.std.specs.Io.KnownBytes.{append_known, prepend_known}
+use Rattle.ipb_base.specs.Faults.{Rose}
+use Rattle.ipb_base.specs.Lists.{IsProperPrefix}
+use Rattle.ipb_base.specs.Numbers.{in_64_bits}
+use Rattle.turn_pass.specs.Pass.{Knowledge}
+use Rattle.lane_record.specs.Items.{found, took_in}
+use Rattle.lane_record.specs.Outcomes.{IsShort}
+use Rattle.hub_lane.specs.declared.answers.BoardState.{BoardState}
+use Rattle.hub_multiplexer.specs.OwnItems.{HasTakenAllOf, asked_by, own_items, planned_by}
+use Rattle.hub_multiplexer.specs.Seats.{SeatState}
+use Rattle.hub_framing.specs.Frames.{RequestFrame, IsFrame, frames_bytes}
+use Rattle.hub_session.specs.declared.got.Got.{Got}
+use Rattle.hub_session.specs.declared.got.Got.TheVariants.{NotAsked, Refused, Came}
+use Rattle.hub_session.specs.declared.served.SessionEnd.{SessionEnd}
+use Rattle.hub_session.specs.declared.served.SessionEnd.TheVariants as ends
+use Rattle.hub_session.specs.Answers.{answer}
+use Rattle.hub_session.specs.Exchanges.{Exchange, Exchanges, ExchangesAll, answers, frames_of, request_of}
+use Rattle.hub_session.specs.Serving.{IsServed, IsUnused, Reached, ReachesFor}
+
+-- the client asked all that it planned, and took what became of that and of nothing else
+pub record IsSettled (k : Knowledge) : Type 0 where
+  pub all_asked : asked_by k ≡ planned_by k
+  pub all_taken : HasTakenAllOf k
+  pub none_more : (seq : ℕ) → asked_by k ≤ seq → found took_in k.number seq (own_items k) ≡ None
+
+-- A count of faults before and after a call: it rose where the call failed by it, and else it is the same.
+pub record CountsFaults (failed : Type 0) (before after : ℕ) : Type 0 where
+  pub later : before ≤ after
+  pub fault : failed → Rose before after
+  pub unfaulted : ¬ failed → after ≡ before
+
+-- the seat is of the same client and the same turns
+abbrev pub IsSameSeat : SeatState → SeatState → Type 0
+IsSameSeat old new = (new.client ≡ old.client) × (new.turns ≡ old.turns)
+
+-- a reply that fits a packet, where there is one
+abbrev pub IsShortGot : Got → Type 0
+IsShortGot NotAsked = ⊤
+IsShortGot (Refused why) = ⊤
+IsShortGot (Came outcome) = IsShort outcome
+
+-- what stands of a frame that was not answered
+abbrev pub StandsOf : List BoardState → RequestFrame → SeatState → SeatState → Type 0
+StandsOf boards frame old new = (new ≡ old)
+    ⊎ ((reached : Reached) × ReachesFor (request_of boards frame) reached old new)
+
+-- the hub came to something for a frame, and the answer was written
+pub record HasAnswered (boards : List BoardState) (frame : RequestFrame) (old new : SeatState)
+    (written_before written_after : Option (List ℕ)) : Type 0 where
+  pub got : Got
+  pub exchanged : Exchanges boards (record { frame = frame; got = got }) old new
+  pub written : written_after ≡ append_known written_before (answer boards frame got)
+
+-- a frame was not answered
+abbrev pub FailsToAnswer : List BoardState → RequestFrame → SeatState → SeatState → Option (List ℕ) → Option (List ℕ)
+    → SessionEnd → Type 0
+FailsToAnswer boards frame old new written_before written_after ends.WriteFault = (got : Got) × (part : List ℕ)
+    × Exchanges boards (record { frame = frame; got = got }) old new
+    × IsProperPrefix part (answer boards frame got) × (written_after ≡ append_known written_before part)
+FailsToAnswer boards frame old new written_before written_after ends.NoMemory =
+    StandsOf boards frame old new × (written_after ≡ written_before)
+FailsToAnswer boards frame old new written_before written_after ends.Closed = ⊥
+FailsToAnswer boards frame old new written_before written_after ends.CutFrame = ⊥
+FailsToAnswer boards frame old new written_before written_after ends.BadFrame = ⊥
+FailsToAnswer boards frame old new written_before written_after ends.ReadFault = ⊥
+
+-- A connection as it stands: what the seat knows, the bytes that its source has left and those that its sink was given,
+-- the bytes that the framer holds, and how many frames were answered.
+pub record Connection : Type 0 where
+  pub seat : SeatState
+  pub left : Option (List ℕ)
+  pub written : Option (List ℕ)
+  pub held : List ℕ
+  pub frames : ℕ
+
+-- From its start until now the bytes that were read are the frames that were answered, and those that the framer holds.
+pub record IsServing (boards : List BoardState) (start now : Connection) : Type 0 where
+  pub unused : AllByRecursion IsUnused start.seat.knows
+  pub bytes : List ℕ
+  pub taken : start.left ≡ prepend_known bytes now.left
+  pub answered : List Exchange
+  pub fed : bytes ≡ frames_bytes (frames_of answered) ++ now.held
+  pub each_frame : AllByRecursion IsFrame (frames_of answered)
+  pub counted : now.frames ≡ in_64_bits (length answered)
+  pub written_are : now.written ≡ append_known start.written (answers boards answered)
+  pub exchanged : ExchangesAll boards answered start.seat now.seat
+
+-- it goes on, wherever it started
+abbrev pub GoesOn : List BoardState → Connection → Connection → Type 0
+GoesOn boards old new = (start : Connection) → IsServing boards start old → IsServing boards start new
+
+-- it ends, wherever it started
+abbrev pub ComesToEnd : List BoardState → Connection → Connection → SessionEnd → Type 0
+ComesToEnd boards old new end = (start : Connection) → IsServing boards start old
+    → IsServed boards start.seat new.seat start.left new.left start.written new.written
+    (record { frames = new.frames; end = end })
+
+-- an end where the input ended
+abbrev pub IsAtInputEnd : SessionEnd → Type 0
+IsAtInputEnd ends.Closed = ⊤
+IsAtInputEnd ends.CutFrame = ⊤
+IsAtInputEnd ends.BadFrame = ⊥
+IsAtInputEnd ends.ReadFault = ⊥
+IsAtInputEnd ends.WriteFault = ⊥
+IsAtInputEnd ends.NoMemory = ⊥

@@ -1,0 +1,20 @@
+//! A connection of a client, served under one seat of a hub: each request frame has one reply frame, in order.
+#![tactic(auto)]
+
+mod answering;
+mod asking;
+mod codes;
+pub mod examples;
+mod got;
+pub mod laws;
+mod served;
+mod session;
+
+pub use codes::{
+    BAD_PACKET, BODY_TOO_LONG, LINK_LOST, NO_BOARD, OVERFULL, REPLIED, REPLY_TOO_LONG, TIMED_OUT,
+    UNSENT,
+};
+pub use got::Got;
+pub use hub_lane::BoardState;
+pub use served::{Served, SessionEnd};
+pub use session::serve_one;

@@ -1,0 +1,474 @@
+-- What is shown of boards once their lanes came back.
+use Rattle.std.proofs.Common.{◌≡◌, ◌∙◌, ℕ, ◌+◌, Bool, List, [], ◌∷◌, map, length, Some, Option, refl, sym, ap, subst}
+use Rattle.std.proofs.Common.{suc, zero}
+use Rattle.std.proofs.Common.{arith, count_by}
+use Rattle.std.proofs.lemmas.Option.{none-some, same_Some}
+use Rattle.std.specs.List.{AllByRecursion, slice_get}
+use Rattle.ipb_base.specs.Numbers.{payload_of}
+use Rattle.turn_pass.specs.Pass.{Knowledge}
+use Rattle.turn_pass.specs.Record.{Record}
+use Rattle.world_model.specs.Hub.{Hub}
+use Rattle.world_core.specs.Telling.{Telling}
+use Rattle.reliable_engine.specs.Settings.{Limits}
+use Rattle.board_node.specs.declared.spec.BoardSpec.{BoardSpec}
+use Rattle.lane_record.specs.declared.outcome.Outcome.{Outcome}
+use Rattle.lane_record.specs.declared.item.Item.{Item}
+use Rattle.lane_record.specs.Bounds.{timeouts}
+use Rattle.lane_record.specs.Coding.{Head, record_of}
+use Rattle.lane_record.specs.Submissions.{Submission}
+use Rattle.hub_lane.specs.Calls.{is_lost_at_place, is_replied}
+use Rattle.hub_lane.specs.Greeting.{link_of}
+use Rattle.hub_lane.specs.Lanes.{BoardStatus, IsLane, LaneState}
+use Rattle.hub_lane.specs.declared.greeting.Greeted.{Greeted}
+use Rattle.hub_lane.specs.declared.greeting.Greeted.TheVariants.{Ready, Silent, Down, NoMemory}
+use Rattle.hub_lane.specs.declared.answers.BoardState.{BoardState}
+use Rattle.hub_lane.specs.declared.answers.BoardState.TheVariants as stands
+use Rattle.hub_multiplexer.specs.Ends.{Ends}
+use Rattle.hub_multiplexer.specs.Lanes.{shown}
+use Rattle.client_threads.specs.Running.{AtEach}
+use Rattle.transcript.specs.declared.greeting.Greeting.{Greeting}
+use Rattle.transcript.specs.declared.greeting.Greeting.TheVariants as greeting
+use Rattle.transcript.specs.declared.line.BoardLine.{BoardLine}
+use Rattle.transcript.specs.declared.line.BoardLine.TheVariants as line
+use Rattle.transcript.specs.Lines.{board_line}
+use Rattle.direct_run.specs.Runs.{opening_of}
+use Rattle.lane_history.specs.Links.{IsBoardOf, IsUntouched, LinkReport}
+use Rattle.lane_history.specs.Lanes.{IsSoundLane}
+use Rattle.lane_history.specs.Records.{IsRecordOf}
+use Rattle.lane_history.specs.Runs.{TellsPayload}
+use Rattle.hub_history.specs.Lanes.{came_with}
+use Rattle.served_history.specs.Boards.{AreServedOver, IsServedOver, ServedBoard, run_of}
+use Rattle.served_history.specs.Connections.{WereServedOn, bodies_of, dispatches_of}
+use Rattle.served_history.specs.Planned.{KeepLimits}
+use Rattle.board_greeting.specs.Boards.{AreReached, AreUntouched, HasMemory, HasNoEntry, IsEndedLane, IsLaneTo}
+use Rattle.board_greeting.specs.Boards.{head_shown, shown_by}
+use Rattle.board_greeting.specs.Places.{lanes_in, place_of, rejoined}
+use Rattle.board_greeting.specs.declared.rejoined.Board.{Board}
+use Rattle.board_greeting.proofs.Lanes.{lane_back}
+use Rattle.session_serve.specs.Boards.{AreLinksTo, lines_of, states_from, states_of}
+use Rattle.hub_session.specs.declared.served.Served.{Served}
+use Rattle.session_serve.specs.Connections.{Conversation, HaveExchanged, submissions_to}
+use Rattle.session_serve.specs.Pairs.{PairReport}
+use Rattle.session_serve.specs.Refusals.{AreFilledBefore, AreFramesByRules}
+use Rattle.session_serve.specs.Serving.{AreServed}
+use Rattle.session_serve.specs.Finish.{IsSound, lane_line, lines_in, link_in}
+use Rattle.session_serve.specs.Hubs.{AreServedAt, IsServedLane, KeepsHead, submitted_on}
+use Rattle.session_serve.specs.Prepared.{lane_after, state_at, told_by}
+use Rattle.session_serve.proofs.Lists.{all_map, there}
+
+abbrev pub RecordLaw : Type 0
+RecordLaw = (connections : List (List Submission)) (head head_now : Head) (items : List Item) (after : Knowledge)
+    (final : Record) → WereServedOn connections (came_with head []) after → Ends after final
+    → final ≡ record_of head_now items → IsRecordOf (map bodies_of connections) (map dispatches_of connections) items
+
+abbrev pub ServedLaw : Type 0
+ServedLaw = (settings : Limits) (spec : BoardSpec) (link : LinkReport) (payload : ℕ)
+    (connections : List (List Submission)) (items : List Item) (outcomes : List (Option Outcome)) (give_ups : ℕ)
+    → IsBoardOf spec.link link.board → TellsPayload spec.link payload
+    → IsRecordOf (map bodies_of connections) (map dispatches_of connections) items
+    → IsSoundLane settings (opening_of spec.link) link items outcomes give_ups
+    → IsServedOver settings spec (record { told = greeting.Live payload; connections = connections }) link
+
+abbrev pub LineLaw : Type 0
+LineLaw = (settings : Limits) (status : BoardStatus) (hub : Hub) (items : List Item) (outcomes : List (Option Outcome))
+    (give_ups : ℕ) (down spent : Bool) (telling : Option Telling) (faults quiets : ℕ) (spec : BoardSpec) (payload : ℕ)
+    (connections : List (List Submission))
+    → IsLane settings status hub items outcomes give_ups down spent telling faults quiets
+    → IsRecordOf (map bodies_of connections) (map dispatches_of connections) items
+    → board_line (run_of spec (record { told = greeting.Live payload; connections = connections }))
+    ≡ line.Live spec.name (length hub.sent) (count_by is_replied outcomes) (timeouts outcomes)
+    (count_by is_lost_at_place outcomes)
+
+-- lanes side by side, the first of which has this number
+pub record SideBySide {A B : Type 0} (lane : ℕ) (xs : List A) (ys : List B) (holds : ℕ → A → B → Type 0) : Type 0 where
+  pub long : length ys ≡ length xs
+  pub each : (i : ℕ) (x : A) (y : B) → slice_get xs i ≡ Some x → slice_get ys i ≡ Some y → holds (lane + i) x y
+
+pub from_each : {A B : Type 0} (xs : List A) (ys : List B) (holds : ℕ → A → B → Type 0) → AtEach xs ys holds
+    → SideBySide 0 xs ys holds
+from_each xs ys holds at = record {
+  long = at.long;
+  each = λ i x y ex ey. subst (λ n. holds n x y) (omega arith) (at.each i x y ex ey);
+}
+
+first_of : {A B : Type 0} (lane : ℕ) (x : A) (xs : List A) (y : B) (ys : List B) (holds : ℕ → A → B → Type 0)
+    → SideBySide lane (x ∷ xs) (y ∷ ys) holds → holds lane x y
+first_of lane x xs y ys holds side = subst (λ n. holds n x y) (omega arith) (side.each 0 x y refl refl)
+
+rest_of : {A B : Type 0} (lane : ℕ) (x : A) (xs : List A) (y : B) (ys : List B) (holds : ℕ → A → B → Type 0)
+    → SideBySide lane (x ∷ xs) (y ∷ ys) holds → SideBySide (lane + 1) xs ys holds
+rest_of lane x xs y ys holds side = record {
+  long = (let l = side.long in omega (arith, l));
+  each = λ i a b ea eb. subst (λ n. holds n a b) (omega arith) (side.each (suc i) a b ea eb);
+}
+
+-- ---- the boards
+
+abbrev pub served_board : List BoardState → List Conversation → Greeting → BoardState → ServedBoard
+served_board all conversations told state =
+    record { told = told; connections = map (submissions_to all state) conversations }
+
+abbrev pub served_boards : {L : Type 0} → List BoardState → List Conversation → ℕ → List (Greeted L) → List ServedBoard
+served_boards all conversations lane [] = []
+served_boards all conversations lane (b ∷ boards) =
+    served_board all conversations (told_by b) (state_at lane b)
+    ∷ served_boards all conversations (lane_after lane b) boards
+
+pub told_same : {L : Type 0} (all : List BoardState) (conversations : List Conversation) (lane : ℕ)
+    (boards : List (Greeted L)) → map (λ (s : ServedBoard). s.told) (served_boards all conversations lane boards)
+    ≡ map (λ (b : Greeted L). told_by b) boards
+told_same all conversations lane [] = refl
+told_same all conversations lane (b ∷ boards) =
+    ap (λ (l : List Greeting). told_by b ∷ l) (told_same all conversations (lane_after lane b) boards)
+
+pub asked_same : {L : Type 0} (all : List BoardState) (conversations : List Conversation) (lane : ℕ)
+    (boards : List (Greeted L))
+    → map (λ (s : ServedBoard). s.connections) (served_boards all conversations lane boards)
+    ≡ map (λ (state : BoardState). map (submissions_to all state) conversations)
+    (states_from lane (map (λ (b : Greeted L). told_by b) boards))
+asked_same all conversations lane [] = refl
+asked_same all conversations lane (Ready ready ∷ boards) =
+    ap (λ (l : List (List (List Submission))). map (submissions_to all (stands.Lane lane)) conversations ∷ l)
+    (asked_same all conversations (lane + 1) boards)
+asked_same all conversations lane (Silent link rounds ∷ boards) =
+    ap (λ (l : List (List (List Submission))). map (submissions_to all stands.Silent) conversations ∷ l)
+    (asked_same all conversations lane boards)
+asked_same all conversations lane (Down link ∷ boards) =
+    ap (λ (l : List (List (List Submission))). map (submissions_to all stands.Down) conversations ∷ l)
+    (asked_same all conversations lane boards)
+asked_same all conversations lane (NoMemory link ∷ boards) =
+    ap (λ (l : List (List (List Submission))). map (submissions_to all stands.Down) conversations ∷ l)
+    (asked_same all conversations lane boards)
+
+both_lines : {a b : BoardLine} {x y : List BoardLine} → a ≡ b → x ≡ y → a ∷ x ≡ b ∷ y
+both_lines p q = (λ i. p i ∷ q i)
+
+module _ (L C : Type 0) (faults quiets gots held : L → ℕ) (tells : L → Option Telling) (settings : Limits) where
+  -- the links are those of the boards
+  pub links_to : (lane : ℕ) (specs : List BoardSpec) (boards : List (Greeted L)) (news : List (LaneState L))
+      → length boards ≡ length specs → AllByRecursion HasMemory boards
+      → AreReached tells (shown_by faults quiets gots held tells) settings specs boards
+      → SideBySide lane (lanes_in boards) news (λ n. KeepsHead tells)
+      → AllByRecursion (IsSound faults quiets gots held tells) (rejoined {P = C} (map place_of boards) news [])
+      → AreLinksTo specs (map (shown_by faults quiets gots held tells)
+      (map (λ (b : Board L C). link_in b) (rejoined (map place_of boards) news [])))
+      × (length (rejoined {P = C} (map place_of boards) news []) ≡ length specs)
+  links_to lane [] [] news long memory are side sound = (tt, refl)
+  links_to lane [] (b ∷ boards) news long memory are side sound = absurd cc
+  links_to lane (s ∷ specs) [] news long memory are side sound = absurd cc
+  links_to lane (s ∷ specs) (Ready old ∷ boards) [] long memory are side sound =
+      absurd (let l = side.long in omega (arith, l))
+  links_to lane (s ∷ specs) (Ready old ∷ boards) (n ∷ news) long memory are side sound =
+      let rest = links_to (lane + 1) specs boards news (omega (arith, long)) memory.1 are.1
+      (rest_of lane old (lanes_in boards) n news (λ k. KeepsHead tells) side) sound.1 in
+      let to = lane_back tells (shown_by faults quiets gots held tells old.link) settings s old n are.0 are.0.board'
+      (first_of lane old (lanes_in boards) n news (λ k. KeepsHead tells) side) in
+      (((sound.0.1 settings s to).board', rest.0), ap suc rest.1)
+  links_to lane (s ∷ specs) (Silent link rounds ∷ boards) news long memory are side sound =
+      let rest = links_to lane specs boards news (omega (arith, long)) memory.1 are.1 side sound.1 in
+      ((are.0.board', rest.0), ap suc rest.1)
+  links_to lane (s ∷ specs) (Down link ∷ boards) news long memory are side sound =
+      let rest = links_to lane specs boards news (omega (arith, long)) memory.1 are.1 side sound.1 in
+      ((are.0.board', rest.0), ap suc rest.1)
+  links_to lane (s ∷ specs) (NoMemory link ∷ boards) news long memory are side sound = absurd memory.0
+
+  module _ (record_law : RecordLaw) (served_law : ServedLaw) (line_law : LineLaw) (all : List BoardState)
+      (conversations : List Conversation) where
+    -- what is shown of a live board, and its line
+    live_served : (lane : ℕ) (spec : BoardSpec) (old new : LaneState L)
+        → IsLaneTo settings spec (tells new.link) new → KeepsHead tells old new
+        → IsServedLane tells (submitted_on all lane conversations) old new
+        → IsLane new.settings new.status new.hub new.items new.outcomes new.give_ups new.down new.spent (tells new.link)
+        (faults new.link) (quiets new.link)
+        → IsEndedLane settings spec new (shown_by faults quiets gots held tells new.link)
+        → IsServedOver settings spec (served_board all conversations (greeting.Live (payload_of old.status.mtu))
+        (stands.Lane lane)) (shown_by faults quiets gots held tells new.link)
+        × (board_line (run_of spec (served_board all conversations (greeting.Live (payload_of old.status.mtu))
+        (stands.Lane lane))) ≡ lane_line spec.name new)
+    live_served lane spec old new to heads served is ended =
+        let connections = submitted_on all lane conversations in
+        let left = record_law connections (head_shown tells old) (head_shown tells new) new.items served.after
+        (shown tells new) served.served_on served.ended refl in
+        let mtu : new.status.mtu ≡ old.status.mtu = ap (λ (h : Head). h.mtu) heads in
+        let payload = subst (λ n. TellsPayload spec.link (payload_of n)) mtu ended.payload in (
+          served_law settings spec (shown_by faults quiets gots held tells new.link) (payload_of old.status.mtu)
+              connections new.items new.outcomes new.give_ups ended.board' payload left ended.sound,
+          line_law new.settings new.status new.hub new.items new.outcomes new.give_ups new.down new.spent
+              (tells new.link) (faults new.link) (quiets new.link) spec (payload_of old.status.mtu) connections is left,
+        )
+
+    pub all_served_over : (lane : ℕ) (specs : List BoardSpec) (boards : List (Greeted L)) (news : List (LaneState L))
+        → length boards ≡ length specs → AllByRecursion HasMemory boards
+        → AreReached tells (shown_by faults quiets gots held tells) settings specs boards
+        → SideBySide lane (lanes_in boards) news (λ n. KeepsHead tells)
+        → SideBySide lane (lanes_in boards) news (λ n. IsServedLane tells (submitted_on all n conversations))
+        → AllByRecursion (IsSound faults quiets gots held tells) (rejoined {P = C} (map place_of boards) news [])
+        → AreServedOver settings specs (served_boards all conversations lane boards)
+        (map (shown_by faults quiets gots held tells)
+        (map (λ (b : Board L C). link_in b) (rejoined (map place_of boards) news [])))
+        × (lines_in (map (λ (s : BoardSpec). s.name) specs) (rejoined {P = C} (map place_of boards) news [])
+        ≡ lines_of specs (served_boards all conversations lane boards))
+    all_served_over lane [] [] news long memory are heads served sound = (tt, refl)
+    all_served_over lane [] (b ∷ boards) news long memory are heads served sound = absurd cc
+    all_served_over lane (s ∷ specs) [] news long memory are heads served sound = absurd cc
+    all_served_over lane (s ∷ specs) (Ready old ∷ boards) [] long memory are heads served sound =
+        absurd (let l = heads.long in omega (arith, l))
+    all_served_over lane (s ∷ specs) (Ready old ∷ boards) (n ∷ news) long memory are heads served sound =
+        let head = first_of lane old (lanes_in boards) n news (λ k. KeepsHead tells) heads in
+        let on = first_of lane old (lanes_in boards) n news (λ k. IsServedLane tells (submitted_on all k conversations))
+        served in
+        let to = lane_back tells (shown_by faults quiets gots held tells old.link) settings s old n are.0 are.0.board'
+        head in
+        let one = live_served lane s old n to head on sound.0.0 (sound.0.1 settings s to) in
+        let rest = all_served_over (lane + 1) specs boards news (omega (arith, long)) memory.1 are.1
+        (rest_of lane old (lanes_in boards) n news (λ k. KeepsHead tells) heads)
+        (rest_of lane old (lanes_in boards) n news (λ k. IsServedLane tells (submitted_on all k conversations)) served)
+        sound.1 in
+        ((one.0, rest.0), both_lines (sym one.1) rest.1)
+    all_served_over lane (s ∷ specs) (Silent link rounds ∷ boards) news long memory are heads served sound =
+        let rest = all_served_over lane specs boards news (omega (arith, long)) memory.1 are.1 heads served sound.1 in (
+          (
+            record {
+              asked = all_map (submissions_to all stands.Silent) (λ (l : List Submission). l ≡ []) conversations
+                  (λ c. refl);
+              board' = are.0.board';
+              as_told = are.0.as_told;
+            },
+            rest.0,
+          ),
+          ap (λ (l : List BoardLine). line.Silent s.name ∷ l) rest.1,
+        )
+    all_served_over lane (s ∷ specs) (Down link ∷ boards) news long memory are heads served sound =
+        let rest = all_served_over lane specs boards news (omega (arith, long)) memory.1 are.1 heads served sound.1 in (
+          (
+            record {
+              asked = all_map (submissions_to all stands.Down) (λ (l : List Submission). l ≡ []) conversations (λ c.
+                  refl);
+              board' = are.0.board';
+              as_told = are.0.as_told;
+            },
+            rest.0,
+          ),
+          ap (λ (l : List BoardLine). line.Down s.name ∷ l) rest.1,
+        )
+    all_served_over lane (s ∷ specs) (NoMemory link ∷ boards) news long memory are heads served sound = absurd memory.0
+
+-- ---- the lane of a live board
+
+-- a live board has the lane with this number, and told its payload
+record LiveLane {L : Type 0} (all : List BoardState) (conversations : List Conversation) (first : ℕ)
+    (boards : List (Greeted L)) (payload lane : ℕ) (board : ServedBoard) : Type 0 where
+  pub old : LaneState L
+  pub index : ℕ
+  pub at : slice_get (lanes_in boards) index ≡ Some old
+  pub number : lane ≡ first + index
+  pub payload' : payload ≡ payload_of old.status.mtu
+  pub connections' : board.connections ≡ submitted_on all lane conversations
+
+one_live : {L : Type 0} (all : List BoardState) (conversations : List Conversation) (first : ℕ) (ready : LaneState L)
+    (boards : List (Greeted L)) (payload lane : ℕ) (board : ServedBoard)
+    → served_board all conversations (greeting.Live (payload_of ready.status.mtu)) (stands.Lane first) ≡ board
+    → board.told ≡ greeting.Live payload → stands.Lane first ≡ stands.Lane lane
+    → LiveLane all conversations first (Ready ready ∷ boards) payload lane board
+one_live all conversations first ready boards payload lane board is told state =
+    let same : lane ≡ first = cc in
+    let live : greeting.Live (payload_of ready.status.mtu) ≡ greeting.Live payload =
+    ap (λ (b : ServedBoard). b.told) is ∙ told in
+    record {
+      old = ready;
+      index = 0;
+      at = refl;
+      number = omega (arith, same);
+      payload' = cc;
+      connections' = sym (ap (λ (b : ServedBoard). b.connections) is)
+          ∙ ap (λ n. submitted_on all n conversations) (sym same);
+    }
+
+later_live : {L : Type 0} (all : List BoardState) (conversations : List Conversation) (first : ℕ)
+    (ready : LaneState L) (boards : List (Greeted L)) (payload lane : ℕ) (board : ServedBoard)
+    → LiveLane all conversations (first + 1) boards payload lane board
+    → LiveLane all conversations first (Ready ready ∷ boards) payload lane board
+later_live all conversations first ready boards payload lane board l = let number = l.number in record {
+  old = l.old;
+  index = suc l.index;
+  at = l.at;
+  number = omega (arith, number);
+  payload' = l.payload';
+  connections' = l.connections';
+}
+
+not_live : {P : Type 0} (board : ServedBoard) (told other : Greeting) (payload : ℕ) → board.told ≡ told
+    → board.told ≡ greeting.Live payload → (told ≡ greeting.Live payload → ⊥) → P
+not_live board told other payload is live not = absurd (not (sym is ∙ live))
+
+live_lane : {L : Type 0} (all : List BoardState) (conversations : List Conversation) (first : ℕ)
+    (boards : List (Greeted L)) (position payload lane : ℕ) (board : ServedBoard)
+    → slice_get (served_boards all conversations first boards) position ≡ Some board
+    → board.told ≡ greeting.Live payload
+    → slice_get (states_from first (map (λ (b : Greeted L). told_by b) boards)) position ≡ Some (stands.Lane lane)
+    → LiveLane all conversations first boards payload lane board
+live_lane all conversations first [] position payload lane board at told state = absurd (none-some board at)
+live_lane all conversations first (Ready ready ∷ boards) zero payload lane board at told state =
+    one_live all conversations first ready boards payload lane board (same_Some _ board at) told (same_Some _ _ state)
+live_lane all conversations first (Ready ready ∷ boards) (suc position) payload lane board at told state =
+    later_live all conversations first ready boards payload lane board
+    (live_lane all conversations (first + 1) boards position payload lane board at told state)
+live_lane all conversations first (Silent link rounds ∷ boards) zero payload lane board at told state =
+    let none : stands.Silent ≡ stands.Lane lane = same_Some _ _ state in absurd cc
+live_lane all conversations first (Silent link rounds ∷ boards) (suc position) payload lane board at told state =
+    let l = live_lane all conversations first boards position payload lane board at told state in record {
+      old = l.old;
+      index = l.index;
+      at = l.at;
+      number = l.number;
+      payload' = l.payload';
+      connections' = l.connections';
+    }
+live_lane all conversations first (Down link ∷ boards) zero payload lane board at told state =
+    let none : stands.Down ≡ stands.Lane lane = same_Some _ _ state in absurd cc
+live_lane all conversations first (Down link ∷ boards) (suc position) payload lane board at told state =
+    let l = live_lane all conversations first boards position payload lane board at told state in record {
+      old = l.old;
+      index = l.index;
+      at = l.at;
+      number = l.number;
+      payload' = l.payload';
+      connections' = l.connections';
+    }
+live_lane all conversations first (NoMemory link ∷ boards) zero payload lane board at told state =
+    let none : stands.Down ≡ stands.Lane lane = same_Some _ _ state in absurd cc
+live_lane all conversations first (NoMemory link ∷ boards) (suc position) payload lane board at told state =
+    let l = live_lane all conversations first boards position payload lane board at told state in record {
+      old = l.old;
+      index = l.index;
+      at = l.at;
+      number = l.number;
+      payload' = l.payload';
+      connections' = l.connections';
+    }
+
+-- so much holds of the lane of each live board, and of its payload
+of_live_boards : {L : Type 0} (holds : ℕ → ℕ → List (List Submission) → Type 0) (all : List BoardState)
+    (conversations : List Conversation) (boards : List (Greeted L)) (olds news : List (LaneState L))
+    → olds ≡ lanes_in boards
+    → AtEach olds news (λ lane old new. holds (payload_of old.status.mtu) lane (submitted_on all lane conversations))
+    → (position payload lane : ℕ) (board : ServedBoard)
+    → slice_get (served_boards all conversations 0 boards) position ≡ Some board
+    → board.told ≡ greeting.Live payload
+    → slice_get (states_from 0 (map (λ (b : Greeted L). told_by b) boards)) position ≡ Some (stands.Lane lane)
+    → holds payload lane board.connections
+of_live_boards holds all conversations boards olds news lanes each position payload lane board at told state =
+    let l = live_lane all conversations 0 boards position payload lane board at told state in
+    let number = l.number in
+    let same : l.index ≡ lane = omega (arith, number) in
+    let eo : slice_get olds lane ≡ Some l.old = (λ i. slice_get (lanes i) (sym same i)) ∙ l.at in
+    let new = there olds news lane l.old each.long eo in
+    subst (λ (c : List (List Submission)). holds payload lane c) (sym l.connections')
+    (subst (λ n. holds n lane (submitted_on all lane conversations)) (sym l.payload')
+    (each.each lane l.old new.0 eo new.1))
+
+-- ---- before
+
+pub lanes_unused : {L : Type 0} (tells : L → Option Telling) (shows : L → LinkReport) (settings : Limits)
+    (specs : List BoardSpec) (boards : List (Greeted L)) → AreReached tells shows settings specs boards
+    → AllByRecursion HasNoEntry (lanes_in boards)
+lanes_unused tells shows settings specs [] are = tt
+lanes_unused tells shows settings [] (b ∷ boards) are = absurd are
+lanes_unused tells shows settings (s ∷ specs) (Ready lane ∷ boards) are =
+    (ap (λ (l : LaneState _). l.items) are.0.as_told.opened', lanes_unused tells shows settings specs boards are.1)
+lanes_unused tells shows settings (s ∷ specs) (Silent link rounds ∷ boards) are =
+    lanes_unused tells shows settings specs boards are.1
+lanes_unused tells shows settings (s ∷ specs) (Down link ∷ boards) are =
+    lanes_unused tells shows settings specs boards are.1
+lanes_unused tells shows settings (s ∷ specs) (NoMemory link ∷ boards) are =
+    lanes_unused tells shows settings specs boards are.1
+
+pub rejoined_long : (L C : Type 0) (boards : List (Greeted L)) (news : List (LaneState L))
+    → length news ≡ length (lanes_in boards)
+    → length (rejoined {P = C} (map place_of boards) news []) ≡ length boards
+rejoined_long L C [] news long = refl
+rejoined_long L C (Ready lane ∷ boards) [] long = absurd cc
+rejoined_long L C (Ready lane ∷ boards) (n ∷ news) long =
+    ap suc (rejoined_long L C boards news (omega (arith, long)))
+rejoined_long L C (Silent link rounds ∷ boards) news long = ap suc (rejoined_long L C boards news long)
+rejoined_long L C (Down link ∷ boards) news long = ap suc (rejoined_long L C boards news long)
+rejoined_long L C (NoMemory link ∷ boards) news long = ap suc (rejoined_long L C boards news long)
+
+-- links of boards that were greeted
+pub links_reached : {L : Type 0} (tells : L → Option Telling) (shows : L → LinkReport) (settings : Limits)
+    (specs : List BoardSpec) (boards : List (Greeted L)) → AreReached tells shows settings specs boards
+    → AreLinksTo specs (map shows (map (λ (b : Greeted L). link_of b) boards))
+links_reached tells shows settings specs [] are = tt
+links_reached tells shows settings [] (b ∷ boards) are = absurd are
+links_reached tells shows settings (s ∷ specs) (b ∷ boards) are =
+    (are.0.board', links_reached tells shows settings specs boards are.1)
+
+pub untouched_links : (specs : List BoardSpec) (links : List LinkReport) → AreUntouched specs links
+    → AreLinksTo specs links × AllByRecursion IsUntouched links
+untouched_links specs [] are = (tt, tt)
+untouched_links [] (l ∷ links) are = absurd are
+untouched_links (s ∷ specs) (l ∷ links) are =
+    let rest = untouched_links specs links are.2 in ((are.0, rest.0), (are.1, rest.1))
+
+-- ---- the report
+
+pub are_served : {L C : Type 0} → RecordLaw → ServedLaw → LineLaw → (faults quiets gots held : L → ℕ)
+    (tells : L → Option Telling) (settings : Limits) (specs : List BoardSpec) (boards : List (Greeted L))
+    (olds news : List (LaneState L)) (all : List BoardState) (came back : List PairReport) (served : List Served)
+    (names : List (List ℕ)) (lines : List BoardLine) (ended : List (Board L C))
+    → ended ≡ rejoined (map place_of boards) news [] → olds ≡ lanes_in boards
+    → all ≡ states_from 0 (map (λ (b : Greeted L). told_by b) boards)
+    → names ≡ map (λ (s : BoardSpec). s.name) specs → lines ≡ lines_in names ended
+    → length boards ≡ length specs → AllByRecursion HasMemory boards
+    → AreReached tells (shown_by faults quiets gots held tells) settings specs boards
+    → AtEach olds news (λ lane. KeepsHead tells) → AllByRecursion (IsSound faults quiets gots held tells) ended
+    → AreServedAt tells all olds news came back served
+    → AreServed settings specs (map (shown_by faults quiets gots held tells) (map (λ (b : Board L C). link_in b) ended))
+    came back served lines
+are_served {L} {C} record_law served_law line_law faults quiets gots held tells settings specs boards olds news all
+    came back
+    served names lines ended is lanes states names_are lines_are long memory are heads sound at =
+    let shows = shown_by faults quiets gots held tells in
+    let conversations = at.conversations in
+    let shown_boards = served_boards all conversations 0 boards in
+    let here = subst (λ (l : List (LaneState L)). AtEach l news (λ lane. KeepsHead tells)) lanes heads in
+    let on = subst (λ (l : List (LaneState L)). AtEach l news (λ lane. IsServedLane tells (submitted_on all lane
+    conversations))) lanes at.lanes in
+    let over = all_served_over L C faults quiets gots held tells settings record_law served_law line_law all
+    conversations 0
+    specs boards news long memory are (from_each (lanes_in boards) news (λ lane. KeepsHead tells) here)
+    (from_each (lanes_in boards) news (λ lane. IsServedLane tells (submitted_on all lane conversations)) on)
+    (subst (AllByRecursion (IsSound faults quiets gots held tells)) is sound) in
+    let stand : states_of shown_boards ≡ all = ap (states_from 0) (told_same all conversations 0 boards) ∙ sym states in
+    let states_at : (position lane : ℕ) → slice_get (states_of shown_boards) position ≡ Some (stands.Lane lane)
+    → slice_get (states_from 0 (map (λ (b : Greeted L). told_by b) boards)) position ≡ Some (stands.Lane lane) =
+    λ position lane is'. ap (λ (a : List Greeting). slice_get (states_from 0 a) position)
+    (sym (told_same all conversations 0 boards)) ∙ is' in
+    record {
+      boards = shown_boards;
+      conversations = conversations;
+      over_links = subst (λ (b : List (Board L C)). AreServedOver settings specs shown_boards
+          (map shows (map (λ (x : Board L C). link_in x) b))) (sym is) over.0;
+      lines' = lines_are ∙ (ap (λ (n : List (List ℕ)). lines_in n ended) names_are
+          ∙ (ap (λ (b : List (Board L C)). lines_in (map (λ (s : BoardSpec). s.name) specs) b) is ∙ over.1));
+      exchanged = subst (λ (a : List BoardState). HaveExchanged a 1 conversations came back served) (sym stand)
+          at.exchanged;
+      asked = subst (λ (a : List BoardState). map (λ (b : ServedBoard). b.connections) shown_boards
+          ≡ map (λ (state : BoardState). map (submissions_to a state) conversations) a) (sym stand)
+          (asked_same all conversations 0 boards
+          ∙ ap (λ (a : List BoardState). map (λ (state : BoardState). map (submissions_to all state) conversations) a)
+          (sym states));
+      by_rules = λ position payload lane board live.
+          subst (λ (a : List BoardState). AreFramesByRules payload board.connections a lane conversations) (sym stand)
+          (of_live_boards (λ n l connections. AreFramesByRules n connections all l conversations) all conversations
+          boards olds news lanes at.by_rules position payload lane board live.there live.told'
+          (states_at position lane live.lane'));
+      filled_before = λ position payload lane board live.
+          subst (λ (a : List BoardState). AreFilledBefore board.connections a lane conversations) (sym stand)
+          (of_live_boards (λ n l connections. AreFilledBefore connections all l conversations) all conversations
+          boards olds news lanes at.filled_before position payload lane board live.there live.told'
+          (states_at position lane live.lane'));
+      limits = λ position payload lane board live. of_live_boards (λ n l connections. KeepLimits connections) all
+          conversations boards olds news lanes at.limits position payload lane board live.there live.told'
+          (states_at position lane live.lane');
+    }

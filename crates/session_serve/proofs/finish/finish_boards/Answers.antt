@@ -1,0 +1,91 @@
+use Rattle.std.proofs.Common.{rules, ◌≡◌, ◌∙◌, ◌+◌, ◌++◌, ◌∷◌, [], ℕ, List, ap, length, length-append, refl, subst}
+use Rattle.std.proofs.Common.{arith}
+use Rattle.std.specs.Vec.Iter.{into_iter_items}
+use Rattle.board_greeting.specs.Boards.{HasRoom}
+use Rattle.board_greeting.proofs.Boards.{room_for_less, room_for_one}
+use Rattle.session_serve.specs.Finish.{link_in}
+use Rattle.session_serve.proofs.Finishing.{all_finished, none_finished, one_finished, some_left}
+use Rattle.session_serve.proofs.finish.finish_boards.Goals as goal
+
+pub loop-name-init : goal.loop-name-init
+loop-name-init g c =
+    let link = g.R.L.Link in
+    let same : into_iter_items c.into_iter-name-iterator.result ≡ c.args.names.items =
+    c.into_iter-name-iterator.ensures.into_iter_gives.0 in
+    let place = c.requires.place in
+    let none = ap (λ l. length l) c.requires.empty in
+    let many = ap (λ (l : List (List ℕ)). length l) same in
+    record {
+      so_far = rw same (none_finished link.faults link.quiets link.gots link.held link.telling c.args.names.items
+          c.args.boards c.args.lines.now.items (g.R.Rack.kept c.args.rack.now) c.requires.all c.requires.empty);
+      room = c.requires.room;
+      place = omega (arith, place, none, many);
+      made = refl;
+      faults = refl;
+    }
+
+pub next-board-requires : goal.next-board-requires
+next-board-requires g c =
+    let link = g.R.L.Link in
+    let some = some_left link.faults link.quiets link.gots link.held link.telling c.args.names.items c.args.boards
+    (into_iter_items c.loop-name.name-iterator) (into_iter_items c.next.new.self) c.in-Some.name c.loop-name.boards
+    c.loop-name.lines.items (g.R.Rack.kept c.args.rack.now) (g.R.Rack.kept c.loop-name.rack)
+    c.loop-name.invariant.so_far c.in-Some.ensures.steps.0 in
+    omega (arith, some)
+
+pub keep-requires : goal.keep-requires
+keep-requires g c =
+    let kept = length (g.R.Rack.kept c.loop-name.rack) in
+    let made = g.R.Rack.made c.loop-name.rack in
+    let one = room_for_one kept made (length c.next-board.new.self)
+    (subst (λ (n : ℕ). HasRoom kept made n) (ap (λ l. length l) c.next-board.ensures) c.loop-name.invariant.room) in
+    omega (arith, one)
+
+pub loop-name-preserved : goal.loop-name-preserved
+loop-name-preserved g c =
+    let link = g.R.L.Link in
+    let kept = g.R.Rack.kept c.loop-name.rack in
+    let made = g.R.Rack.made c.loop-name.rack in
+    let board = c.next-board.result in
+    let given = c.keep.ensures.kept ∙ ap (λ l. kept ++ l ∷ []) c.finish_board-link.ensures.link in
+    let pushed = c.push_reserved.ensures.items ∙ ap (λ l. c.loop-name.lines.items ++ l ∷ [])
+    c.finish_board-link.ensures.line in
+    let one : length (g.R.Rack.kept c.keep.new.self) ≡ length kept + 1 =
+    ap (λ l. length l) given ∙ length-append kept (link_in board ∷ []) in
+    let steps = ap (λ (l : List (List ℕ)). length l) c.in-Some.ensures.steps.0 in
+    record {
+      so_far = one_finished link.faults link.quiets link.gots link.held link.telling c.args.names.items c.args.boards
+          (into_iter_items c.loop-name.name-iterator) (into_iter_items c.next.new.self) c.in-Some.name
+          c.loop-name.boards c.next-board.new.self board c.loop-name.lines.items c.push_reserved.new.self.items
+          (g.R.Rack.kept c.args.rack.now) kept (g.R.Rack.kept c.keep.new.self) c.loop-name.invariant.so_far
+          c.in-Some.ensures.steps.0 c.next-board.ensures pushed given c.finish_board-link.ensures.sound;
+      room = room_for_less (length kept) (length (g.R.Rack.kept c.keep.new.self)) made (g.R.Rack.made c.keep.new.self)
+          (length c.next-board.new.self) one c.keep.ensures.made
+          (subst (λ (n : ℕ). HasRoom (length kept) made n) (ap (λ l. length l) c.next-board.ensures)
+          c.loop-name.invariant.room);
+      place = (let len = c.push_reserved.ensures.len in let cap = c.push_reserved.ensures.capacity in
+          let before = c.loop-name.invariant.place in omega (arith, len, cap, before, steps));
+      made = c.keep.ensures.made ∙ c.loop-name.invariant.made;
+      faults = c.keep.ensures.faults ∙ c.loop-name.invariant.faults;
+    }
+
+pub returns-clause-lines : goal.returns-clause-lines
+returns-clause-lines g c =
+    let link = g.R.L.Link in
+    (all_finished link.faults link.quiets link.gots link.held link.telling c.args.names.items c.args.boards
+    (into_iter_items c.loop-name.name-iterator) c.loop-name.boards c.loop-name.lines.items
+    (g.R.Rack.kept c.args.rack.now) (g.R.Rack.kept c.loop-name.rack) c.loop-name.invariant.so_far (search rules)).lines'
+
+pub returns-clause-kept : goal.returns-clause-kept
+returns-clause-kept g c =
+    let link = g.R.L.Link in
+    (all_finished link.faults link.quiets link.gots link.held link.telling c.args.names.items c.args.boards
+    (into_iter_items c.loop-name.name-iterator) c.loop-name.boards c.loop-name.lines.items
+    (g.R.Rack.kept c.args.rack.now) (g.R.Rack.kept c.loop-name.rack) c.loop-name.invariant.so_far (search rules)).links
+
+pub returns-clause-sound : goal.returns-clause-sound
+returns-clause-sound g c =
+    let link = g.R.L.Link in
+    (all_finished link.faults link.quiets link.gots link.held link.telling c.args.names.items c.args.boards
+    (into_iter_items c.loop-name.name-iterator) c.loop-name.boards c.loop-name.lines.items
+    (g.R.Rack.kept c.args.rack.now) (g.R.Rack.kept c.loop-name.rack) c.loop-name.invariant.so_far (search rules)).sound

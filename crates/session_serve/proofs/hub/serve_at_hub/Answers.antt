@@ -1,0 +1,102 @@
+use Rattle.std.proofs.Common.{[], ℕ, List, Vec, Global, length, subst, sym}
+use Rattle.std.specs.List.{AllByRecursion}
+use Rattle.hub_multiplexer.specs.Seats.{SeatState}
+use Rattle.hub_session.specs.declared.served.Served.{Served}
+use Rattle.hub_session.specs.Serving.{IsLaneBelow}
+use Rattle.session_serve.specs.Hubs.{AreServedAt, HasServedAll, served_of, pairs_of}
+use Rattle.session_serve.specs.Pairs.{GivesBack, pair_shown}
+use Rattle.session_serve.specs.Seats.{AreOfClientsFrom, IsOpen, with_seats}
+use Rattle.session_serve.specs.Serving.{HadMemory}
+use Rattle.session_serve.proofs.AtHub.{heads_of, heads_returned, opens_all, served_at}
+use Rattle.session_serve.proofs.EachDone.{both_ok, each_served, if_ok}
+use Rattle.session_serve.proofs.Lists.{came_none, went_none}
+use Rattle.session_serve.proofs.Seating.{clients_front}
+use Rattle.session_serve.proofs.hub.serve_at_hub.Goals as goal
+
+pub serve_under_seats-served-requires-clause-opens : goal.serve_under_seats-served-requires-clause-opens
+serve_under_seats-served-requires-clause-opens g c κs within =
+    subst (AllByRecursion IsOpen) (sym c.in-Ok.ensures.master)
+    (opens_all g.L.Link.telling c.args.lanes.items c.requires.unused)
+
+pub serve_under_seats-served-requires-clause-lanes : goal.serve_under_seats-served-requires-clause-lanes
+serve_under_seats-served-requires-clause-lanes g c κs within =
+    subst (λ (n : ℕ). AllByRecursion (IsLaneBelow n) c.args.states.now) (sym c.in-Ok.ensures.boards) c.requires.lanes
+
+pub returns-in-Ok-clause-heads : goal.returns-in-Ok-clause-heads
+returns-in-Ok-clause-heads g c =
+    let b = c.serve_under_seats-served.ensures.all_back in
+    let back = b.1 in
+    heads_of c.a_lane_comes_back_with_its_record.ensures g.L.Link.telling c.args.lanes.items c.finish.result.items b.0
+    c.in-Ok.master c.serve_under_seats-served.new.master
+    c.in-Ok.ensures.master back c.finish.ensures
+
+pub returns-in-Ok-clause-served : goal.returns-in-Ok-clause-served
+returns-in-Ok-clause-served g c =
+    let shows = pair_shown g.D.Incoming.Source.left g.D.Incoming.Source.faults g.D.Outgoing.Sink.written
+    g.D.Outgoing.Sink.faults
+    g.D.Outgoing.Sink.ended in
+    let door = c.serve_under_seats-served.new.door in
+    let coming = g.D.Door.coming in
+    let kept = g.D.Door.kept in
+    let turns = c.in-Ok.hub.turns in
+    let m = c.in-Ok.master in
+    let end' = c.serve_under_seats-served.new.master in
+    if_ok (λ (served : Vec Served Global). ((seats : List SeatState) × HasServedAll shows c.args.states.now turns seats
+    (with_seats m (length seats)) end' (coming c.args.door.now) (coming door) (kept c.args.door.now) (kept door)
+    served.items)
+    × AllByRecursion HadMemory served.items)
+    (λ (served : Vec Served Global). GivesBack g.D.Incoming.Source.left g.D.Incoming.Source.faults
+    g.D.Outgoing.Sink.written g.D.Outgoing.Sink.faults g.D.Outgoing.Sink.ended (coming c.args.door.now) (coming door)
+    (kept c.args.door.now) (kept door) (λ came back. AreServedAt g.L.Link.telling c.args.states.now c.args.lanes.items
+    c.finish.result.items came back served.items)) c.serve_under_seats-served.result
+    (both_ok (λ (served : Vec Served Global). (seats : List SeatState) × HasServedAll shows c.args.states.now turns
+    seats
+    (with_seats m (length seats)) end' (coming c.args.door.now) (coming door) (kept c.args.door.now) (kept door)
+    served.items)
+    (λ (served : Vec Served Global). AllByRecursion HadMemory served.items) c.serve_under_seats-served.result
+    c.serve_under_seats-served.ensures.served c.serve_under_seats-served.ensures.had_memory)
+    (λ served is. (let h = is.0.1 in (
+      h.all_back.came,
+      pairs_of h.all_back.dones,
+      h.all_back.came',
+      h.all_back.went,
+      served_at c.a_lane_comes_back_with_its_record.ensures
+          c.each_body_was_decided_on_a_record_that_the_seat_saw.ensures.answered
+          c.each_body_was_decided_on_a_record_that_the_seat_saw.ensures.unanswered
+          c.connections_of_a_hub_plan_what_they_submit.ensures
+          c.a_connection_plans_its_first_bodies_first.ensures c.connections_of_a_hub_keep_the_limits.ensures
+          g.L.Link.telling shows c.args.states.now turns c.args.lanes.items c.finish.result.items is.0.0 m end'
+          (coming c.args.door.now) (coming door) (kept c.args.door.now) (kept door) served.items c.in-Ok.ensures.master
+          c.requires.unused c.finish.ensures h is.1,
+    )))
+
+pub returns-in-Ok-clause-pairs : goal.returns-in-Ok-clause-pairs
+returns-in-Ok-clause-pairs g c =
+    let shows = pair_shown g.D.Incoming.Source.left g.D.Incoming.Source.faults g.D.Outgoing.Sink.written
+    g.D.Outgoing.Sink.faults
+    g.D.Outgoing.Sink.ended in
+    let b = c.serve_under_seats-served.ensures.all_back.1 in (
+      b.came,
+      pairs_of b.dones,
+      b.came',
+      b.went,
+      record {
+        served = served_of b.dones;
+        each = each_served shows c.args.states.now 1 b.befores b.came b.dones b.each (clients_front 1 b.befores b.others
+            (subst (AreOfClientsFrom 1) (sym b.all) b.clients)).0;
+      },
+    )
+
+pub returns-in-Err-clause-heads : goal.returns-in-Err-clause-heads
+returns-in-Err-clause-heads g c =
+    heads_returned c.a_record_tells_its_lane.ensures g.L.Link.telling c.args.lanes.items c.in-Err.returned.lanes.items
+    c.in-Err.ensures.returned
+
+pub returns-in-Err-clause-pairs : goal.returns-in-Err-clause-pairs
+returns-in-Err-clause-pairs g c = (
+  [],
+  [],
+  came_none (g.D.Door.coming c.args.door.now),
+  went_none (g.D.Door.kept c.args.door.now),
+  record { served = []; each = tt },
+)

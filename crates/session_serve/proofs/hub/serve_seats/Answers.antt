@@ -1,0 +1,162 @@
+use Rattle.std.proofs.Common.{◌≡◌, ◌∙◌, true, List, Vec, Global, ap, length}
+use Rattle.std.proofs.Common.{subst, sym, arith}
+use Rattle.std.specs.List.{AllByRecursion}
+use Rattle.std.specs.Vec.Iter.{into_iter_items}
+use Rattle.hub_multiplexer.specs.Seats.{SeatState}
+use Rattle.hub_session.specs.declared.served.Served.{Served}
+use Rattle.session_serve.specs.Hubs.{HasServedAll}
+use Rattle.session_serve.specs.Pairs.{pair_shown}
+use Rattle.session_serve.specs.Seats.{AreTakenIn, HasServed, IsFresh}
+use Rattle.session_serve.proofs.EachDone.{all_back, all_in_turn, all_served, each_back, each_long, fresh_all_back}
+use Rattle.session_serve.proofs.EachDone.{fresh_befores}
+use Rattle.session_serve.proofs.EachDone.{if_ok, longer, none_back, on_ok_of, with_ok}
+use Rattle.session_serve.proofs.Lists.{length_map}
+use Rattle.session_serve.proofs.hub.serve_seats.Goals as goal
+
+pub returns-then-is_err-clause-all_back : goal.returns-then-is_err-clause-all_back
+returns-then-is_err-clause-all_back g c =
+    let shows = pair_shown g.D.Incoming.Source.left g.D.Incoming.Source.faults g.D.Outgoing.Sink.written
+    g.D.Outgoing.Sink.faults
+    g.D.Outgoing.Sink.ended in
+    none_back shows c.args.states.now c.args.hub.now.turns c.args.room.seats.items c.args.master.now
+    c.join_all.new.master (g.D.Door.coming c.args.door.now) (g.D.Door.coming c.listen.new.self)
+    (g.D.Door.kept c.args.door.now) (g.D.Door.kept c.listen.new.self) c.listen.ensures.coming_kept
+    c.listen.ensures.others_kept c.requires.seats.fresh c.requires.seats.clients
+    (subst (AreTakenIn c.args.master.now c.join_all.new.master) c.into_iter.ensures.rest c.join_all.ensures.joined)
+
+pub give_back-requires-clause-back : goal.give_back-requires-clause-back
+give_back-requires-clause-back g c κs within =
+    let shows = pair_shown g.D.Incoming.Source.left g.D.Incoming.Source.faults g.D.Outgoing.Sink.written
+    g.D.Outgoing.Sink.faults
+    g.D.Outgoing.Sink.ended in
+    let turns = c.args.hub.now.turns in
+    let ended = c.serve_all-ended.result in
+    let h = c.serve_all-ended.ensures.served in
+    let fresh = subst (AllByRecursion (IsFresh turns)) (sym c.into_iter-2.ensures.rest) c.requires.seats.fresh in
+    each_back shows c.args.states.now turns h.befores h.came ended.done.items h.each
+    (fresh_befores shows c.args.states.now turns (into_iter_items c.into_iter-2.result) ended
+    (g.D.Door.coming c.listen.new.self) (g.D.Door.coming c.serve_all-ended.new.door) h fresh).0
+
+pub give_back-requires-clause-room : goal.give_back-requires-clause-room
+give_back-requires-clause-room g c κs within =
+    let shows = pair_shown g.D.Incoming.Source.left g.D.Incoming.Source.faults g.D.Outgoing.Sink.written
+    g.D.Outgoing.Sink.faults
+    g.D.Outgoing.Sink.ended in
+    let ended = c.serve_all-ended.result in
+    let h = c.serve_all-ended.ensures.served in
+    let long = each_long shows c.args.states.now h.befores h.came ended.done.items h.each in
+    let all = longer h.befores (into_iter_items ended.seats) (into_iter_items c.into_iter-2.result) h.seats' in
+    let same = ap (λ (l : List SeatState). length l) c.into_iter-2.ensures.rest in
+    let room = c.requires.seats.served' in
+    omega (arith, long, all, same, room)
+
+pub join_all-requires-2-clause-back : goal.join_all-requires-2-clause-back
+join_all-requires-2-clause-back g c κs within =
+    let shows = pair_shown g.D.Incoming.Source.left g.D.Incoming.Source.faults g.D.Outgoing.Sink.written
+    g.D.Outgoing.Sink.faults
+    g.D.Outgoing.Sink.ended in
+    let turns = c.args.hub.now.turns in
+    let ended = c.serve_all-ended.result in
+    let h = c.serve_all-ended.ensures.served in
+    let fresh = subst (AllByRecursion (IsFresh turns)) (sym c.into_iter-2.ensures.rest) c.requires.seats.fresh in
+    fresh_all_back turns (into_iter_items ended.seats)
+    (fresh_befores shows c.args.states.now turns (into_iter_items c.into_iter-2.result) ended
+    (g.D.Door.coming c.listen.new.self) (g.D.Door.coming c.serve_all-ended.new.door) h fresh).1
+
+pub returns-clause-all_back : goal.returns-clause-all_back
+returns-clause-all_back g c =
+    let shows = pair_shown g.D.Incoming.Source.left g.D.Incoming.Source.faults g.D.Outgoing.Sink.written
+    g.D.Outgoing.Sink.faults
+    g.D.Outgoing.Sink.ended in
+    let turns = c.args.hub.now.turns in
+    let ended = c.serve_all-ended.result in
+    let coming = g.D.Door.coming in
+    let kept = g.D.Door.kept in
+    let same = c.into_iter-2.ensures.rest in
+    let start = c.args.master.now in
+    all_back shows c.args.states.now turns c.args.room.seats.items ended start c.give_back.new.master
+    c.join_all-2.new.master (coming c.args.door.now) (coming c.listen.new.self) (coming c.serve_all-ended.new.door)
+    (coming c.give_back.new.door) (kept c.args.door.now) (kept c.listen.new.self) (kept c.serve_all-ended.new.door)
+    (kept c.give_back.new.door)
+    (subst (λ (l : List SeatState). HasServed shows c.args.states.now l (coming c.listen.new.self)
+    (coming c.serve_all-ended.new.door) ended) same c.serve_all-ended.ensures.served) c.listen.ensures.coming_kept
+    c.give_back.ensures.coming c.listen.ensures.others_kept c.serve_all-ended.ensures.kept c.give_back.ensures.went
+    c.requires.seats.fresh c.requires.seats.clients c.give_back.ensures.joined c.join_all-2.ensures.joined
+
+pub returns-clause-served : goal.returns-clause-served
+returns-clause-served g c =
+    let shows = pair_shown g.D.Incoming.Source.left g.D.Incoming.Source.faults g.D.Outgoing.Sink.written
+    g.D.Outgoing.Sink.faults
+    g.D.Outgoing.Sink.ended in
+    let turns = c.args.hub.now.turns in
+    let coming = g.D.Door.coming in
+    let kept = g.D.Door.kept in
+    let seats = c.args.room.seats.items in
+    let ended = c.serve_all-ended.result in
+    if_ok (λ there. (there ≡ c.give_back.new.served) × (ended.is_whole ≡ true))
+    (λ (there : Vec Served Global). HasServedAll shows c.args.states.now turns seats c.args.master.now
+    c.join_all-2.new.master (coming c.args.door.now) (coming c.give_back.new.door) (kept c.args.door.now)
+    (kept c.give_back.new.door) there.items) c.conclude.result
+    (with_ok (λ there. there ≡ c.give_back.new.served) (ended.is_whole ≡ true) c.conclude.result
+    c.conclude.ensures.served
+    c.conclude.ensures.whole)
+    (λ there is. all_served shows c.args.states.now turns seats ended c.args.master.now c.give_back.new.master
+    c.join_all-2.new.master (coming c.args.door.now) (coming c.listen.new.self) (coming c.serve_all-ended.new.door)
+    (coming c.give_back.new.door) (kept c.args.door.now) (kept c.listen.new.self) (kept c.serve_all-ended.new.door)
+    (kept c.give_back.new.door) c.give_back.new.served.items there.items
+    (subst (λ (l : List SeatState). HasServed shows c.args.states.now l (coming c.listen.new.self)
+    (coming c.serve_all-ended.new.door) ended) c.into_iter-2.ensures.rest c.serve_all-ended.ensures.served)
+    c.listen.ensures.coming_kept c.give_back.ensures.coming c.listen.ensures.others_kept c.serve_all-ended.ensures.kept
+    c.give_back.ensures.went c.requires.seats.fresh c.requires.seats.clients c.give_back.ensures.joined
+    c.join_all-2.ensures.joined c.give_back.ensures.served (c.serve_all-ended.ensures.served.all is.1)
+    (ap (λ (v : Vec Served Global). v.items) is.0))
+
+pub returns-clause-all : goal.returns-clause-all
+returns-clause-all g c =
+    let shows = pair_shown g.D.Incoming.Source.left g.D.Incoming.Source.faults g.D.Outgoing.Sink.written
+    g.D.Outgoing.Sink.faults
+    g.D.Outgoing.Sink.ended in
+    let seats = c.args.room.seats.items in
+    let ended = c.serve_all-ended.result in
+    let h = c.serve_all-ended.ensures.served in
+    let long = each_long shows c.args.states.now h.befores h.came ended.done.items h.each in
+    let all = longer h.befores (into_iter_items ended.seats) (into_iter_items c.into_iter-2.result) h.seats' in
+    let same = ap (λ (l : List SeatState). length l) c.into_iter-2.ensures.rest in
+    let lines = ap (λ (l : List Served). length l) c.give_back.ensures.served
+    ∙ length_map (λ done. done.served) ended.done.items in
+    if_ok (λ there. (there ≡ c.give_back.new.served) × (ended.is_whole ≡ true))
+    (λ (there : Vec Served Global). length there.items ≡ length seats) c.conclude.result
+    (with_ok (λ there. there ≡ c.give_back.new.served) (ended.is_whole ≡ true) c.conclude.result
+    c.conclude.ensures.served
+    c.conclude.ensures.whole)
+    (λ there is. (let none = ap (λ (l : List SeatState). length l) (h.all is.1) in
+    let here = ap (λ (v : Vec Served Global). length v.items) is.0 in omega (
+      arith,
+      long,
+      all,
+      same,
+      lines,
+      none,
+      here,
+    )))
+
+pub returns-clause-taken_in : goal.returns-clause-taken_in
+returns-clause-taken_in g c =
+    let shows = pair_shown g.D.Incoming.Source.left g.D.Incoming.Source.faults g.D.Outgoing.Sink.written
+    g.D.Outgoing.Sink.faults
+    g.D.Outgoing.Sink.ended in
+    let coming = g.D.Door.coming in
+    let ended = c.serve_all-ended.result in
+    let same = c.into_iter-2.ensures.rest in
+    all_in_turn shows c.args.states.now c.args.room.seats.items ended c.args.master.now c.give_back.new.master
+    c.join_all-2.new.master (coming c.listen.new.self) (coming c.serve_all-ended.new.door)
+    (subst (λ (l : List SeatState). HasServed shows c.args.states.now l (coming c.listen.new.self)
+    (coming c.serve_all-ended.new.door) ended) same c.serve_all-ended.ensures.served) c.requires.seats.clients
+    c.give_back.ensures.taken_in c.join_all-2.ensures.taken_in
+
+pub returns-clause-unfaulted : goal.returns-clause-unfaulted
+returns-clause-unfaulted g c =
+    λ no_door. c.give_back.ensures.faults ∙ (c.serve_all-ended.ensures.unfaulted (c.conclude.ensures.no_door no_door)
+    ∙ on_ok_of (g.D.Door.faults c.listen.new.self ≡ g.D.Door.faults c.args.door.now) c.listen.result
+    c.listen.ensures.unfaulted
+    c.is_err.ensures.value c.if-is_err.false)

@@ -1,0 +1,76 @@
+use Rattle.std.proofs.Common.{[], List, ap, length, refl, subst, sym, arith}
+use Rattle.std.specs.List.{AllByRecursion}
+use Rattle.hub_multiplexer.specs.Ends.{HasTakenIn}
+use Rattle.hub_multiplexer.specs.Seats.{MasterState, SeatState}
+use Rattle.session_serve.specs.Hubs.{AllBack}
+use Rattle.session_serve.specs.Pairs.{pair_shown}
+use Rattle.session_serve.specs.Seats.{AreOfClientsFrom, AreTakenIn, IsBack, with_seats}
+use Rattle.session_serve.proofs.EachDone.{fresh_all_back, none_back}
+use Rattle.session_serve.proofs.Seating.{no_seats, none_taken}
+use Rattle.session_serve.proofs.hub.serve_under_seats.Goals as goal
+
+pub returns-in_err-room-clause-all_back : goal.returns-in_err-room-clause-all_back
+returns-in_err-room-clause-all_back g c =
+    let shows = pair_shown g.D.Incoming.Source.left g.D.Incoming.Source.faults g.D.Outgoing.Sink.written
+    g.D.Outgoing.Sink.faults
+    g.D.Outgoing.Sink.ended in
+    let m = c.args.master.now in (
+      [],
+      none_back shows c.args.states.now c.args.hub.now.turns [] (with_seats m 0) m
+          (g.D.Door.coming c.args.door.now) (g.D.Door.coming c.args.door.now) (g.D.Door.kept c.args.door.now)
+          (g.D.Door.kept c.args.door.now) refl refl tt tt
+          (subst (λ (s : MasterState). AreTakenIn s m []) (no_seats m) (none_taken m)),
+    )
+
+pub join_all-requires-clause-back : goal.join_all-requires-clause-back
+join_all-requires-clause-back g c κs within =
+    let turns = c.args.hub.now.turns in
+    subst (AllByRecursion (IsBack turns)) (sym c.into_iter.ensures.rest)
+    (fresh_all_back turns c.seat_all.new.seats.items c.seat_all.ensures.fresh)
+
+pub returns-in-Ok-clause-all_back : goal.returns-in-Ok-clause-all_back
+returns-in-Ok-clause-all_back g c =
+    let shows = pair_shown g.D.Incoming.Source.left g.D.Incoming.Source.faults g.D.Outgoing.Sink.written
+    g.D.Outgoing.Sink.faults
+    g.D.Outgoing.Sink.ended in
+    let seats = c.seat_all.new.seats.items in (
+      seats,
+      subst (λ (s : MasterState). AllBack shows c.args.states.now c.args.hub.now.turns seats s c.serve_seats.new.master
+          (g.D.Door.coming c.args.door.now) (g.D.Door.coming c.serve_seats.new.door) (g.D.Door.kept c.args.door.now)
+          (g.D.Door.kept c.serve_seats.new.door)) c.seat_all.ensures.made c.serve_seats.ensures.all_back,
+    )
+
+pub returns-in-Ok-clause-taken_in : goal.returns-in-Ok-clause-taken_in
+returns-in-Ok-clause-taken_in g c =
+    let seats = ap (λ (m : MasterState). m.seats) c.serve_seats.ensures.all_back.taken_in.rest_same in
+    let made = ap (λ (m : MasterState). m.seats) c.seat_all.ensures.made in
+    let none = c.requires.none in
+    λ from. subst (λ n. HasTakenIn n c.serve_seats.new.master) (omega (arith, seats, made, none))
+    (c.serve_seats.ensures.taken_in (c.seat_all.ensures.taken_in 1 from))
+
+pub returns-in-Err-clause-all_back : goal.returns-in-Err-clause-all_back
+returns-in-Err-clause-all_back g c =
+    let shows = pair_shown g.D.Incoming.Source.left g.D.Incoming.Source.faults g.D.Outgoing.Sink.written
+    g.D.Outgoing.Sink.faults
+    g.D.Outgoing.Sink.ended in
+    let turns = c.args.hub.now.turns in
+    let seats = c.seat_all.new.seats.items in
+    let rest = c.into_iter.ensures.rest in
+    let joined = subst (AreTakenIn c.seat_all.new.master c.join_all.new.master) rest c.join_all.ensures.joined in (
+      seats,
+      none_back shows c.args.states.now turns seats (with_seats c.args.master.now (length seats)) c.join_all.new.master
+          (g.D.Door.coming c.args.door.now) (g.D.Door.coming c.args.door.now) (g.D.Door.kept c.args.door.now)
+          (g.D.Door.kept c.args.door.now) refl refl c.seat_all.ensures.fresh c.seat_all.ensures.clients
+          (subst (λ (s : MasterState). AreTakenIn s c.join_all.new.master seats) c.seat_all.ensures.made joined),
+    )
+
+pub returns-in-Err-clause-taken_in : goal.returns-in-Err-clause-taken_in
+returns-in-Err-clause-taken_in g c =
+    let rest = c.into_iter.ensures.rest in
+    let long = ap (λ (l : List SeatState). length l) rest in
+    let seats = ap (λ (m : MasterState). m.seats) c.join_all.ensures.joined.rest_same in
+    let made = ap (λ (m : MasterState). m.seats) c.seat_all.ensures.made in
+    let none = c.requires.none in
+    λ from. subst (λ n. HasTakenIn n c.join_all.new.master) (omega (arith, long, seats, made, none))
+    (c.join_all.ensures.taken_in 1 (subst (λ l. AreOfClientsFrom 1 l) (sym rest) c.seat_all.ensures.clients)
+    (c.seat_all.ensures.taken_in 1 from))

@@ -1,0 +1,55 @@
+use Rattle.std.proofs.Common.{◌≡◌, ◌∙◌, ◌∷◌, ◌++◌, [], List, ap, append_assoc, length, length-append, map, subst, sym}
+use Rattle.std.proofs.Common.{arith}
+use Rattle.std.specs.List.{AllByRecursion}
+use Rattle.std.specs.Vec.Iter.{into_iter_items}
+use Rattle.hub_multiplexer.specs.Seats.{SeatState}
+use Rattle.session_serve.specs.Pairs.{Came}
+use Rattle.session_serve.specs.Seats.{IsFresh}
+use Rattle.session_serve.proofs.Lists.{all_middle, all_push, came_more, map_append}
+use Rattle.session_serve.proofs.serving.accept_all.Goals as goal
+
+pub begin-requires-clause-seat : goal.begin-requires-clause-seat
+begin-requires-clause-seat g c κs within =
+    let seats = map (λ r. r.seat) c.loop.running.items in
+    let all = ap (λ (l : List SeatState). seats ++ l) (sym c.in-Some.ensures.items) ∙ sym c.loop.invariant.seats' in
+    (all_middle (IsFresh c.args.hub.now.turns) seats c.in-Some.seat (into_iter_items c.next.new.self)
+    (into_iter_items c.args.seats.now) c.requires.fresh all).turns'
+
+pub begin-requires-clause-unused : goal.begin-requires-clause-unused
+begin-requires-clause-unused g c κs within =
+    let seats = map (λ r. r.seat) c.loop.running.items in
+    let all = ap (λ (l : List SeatState). seats ++ l) (sym c.in-Some.ensures.items) ∙ sym c.loop.invariant.seats' in
+    (all_middle (IsFresh c.args.hub.now.turns) seats c.in-Some.seat (into_iter_items c.next.new.self)
+    (into_iter_items c.args.seats.now) c.requires.fresh all).unused
+
+pub loop-preserved : goal.loop-preserved
+loop-preserved g c =
+    let i = c.loop.invariant in
+    let running = c.loop.running.items in
+    let begun = c.begin.result in
+    let seat = c.in-Some.seat in
+    let rest = into_iter_items c.next.new.self in
+    let pushed = c.push_reserved.ensures.items in
+    let longer = ap (λ l. length l) pushed ∙ length-append running (begun ∷ []) in
+    let many = i.so_many in
+    let out = i.out in
+    let counted = c.in-Ok.ensures.counted in
+    let pairs = ap (λ l. map (λ r. r.pair) l) pushed ∙ (map_append (λ r. r.pair) running (begun ∷ [])
+    ∙ ap (λ p. map (λ r. r.pair) running ++ p ∷ []) c.begin.ensures.pair) in
+    let seats = ap (λ l. map (λ r. r.seat) l) pushed ∙ (map_append (λ r. r.seat) running (begun ∷ [])
+    ∙ ap (λ (s : SeatState). map (λ r. r.seat) running ++ s ∷ []) c.begin.ensures.seat) in
+    record {
+      came = subst (Came (g.D.Door.coming c.args.door.now) (g.D.Door.coming c.accept.new.self)) (sym pairs)
+          (came_more (g.D.Door.coming c.args.door.now) (g.D.Door.coming c.loop.door) (g.D.Door.coming c.accept.new.self)
+          (map (λ r. r.pair) running) (c.in-Ok.src, c.in-Ok.sink) i.came c.in-Ok.ensures.first);
+      seats' = i.seats' ∙ (ap (λ (l : List SeatState). map (λ r. r.seat) running ++ l) c.in-Some.ensures.items
+          ∙ (sym (append_assoc (map (λ r. r.seat) running) (seat ∷ []) rest)
+          ∙ ap (λ (l : List SeatState). l ++ rest) (sym seats)));
+      boards = subst (AllByRecursion (λ r. r.boards ≡ c.args.states.now)) (sym pushed)
+          (all_push (λ r. r.boards ≡ c.args.states.now) running begun i.boards c.begin.ensures.boards);
+      so_many = omega (arith, longer, many);
+      room = (let cap = c.push_reserved.ensures.capacity in let room = i.room in omega (arith, cap, room));
+      out = omega (arith, longer, out, counted);
+      kept = c.accept.ensures.others_kept ∙ i.kept;
+      faults = c.in-Ok.ensures.unfaulted ∙ i.faults;
+    }

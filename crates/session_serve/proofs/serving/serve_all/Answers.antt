@@ -1,0 +1,13 @@
+use Rattle.std.proofs.Common.{rules, subst, Option, List}
+use Rattle.std.specs.Vec.Iter.{into_iter_items}
+use Rattle.session_serve.specs.Pairs.{pair_shown}
+use Rattle.session_serve.specs.Seats.{HasServed}
+use Rattle.session_serve.proofs.serving.serve_all.Goals as goal
+
+pub returns-clause-served : goal.returns-clause-served
+returns-clause-served g c =
+    let shows = pair_shown g.D.Incoming.Source.left g.D.Incoming.Source.faults g.D.Outgoing.Sink.written
+    g.D.Outgoing.Sink.faults
+    g.D.Outgoing.Sink.ended in
+    subst (λ (now : Option (List _)). HasServed shows c.args.states.now (into_iter_items c.args.seats)
+    (g.D.Door.coming c.args.door.now) now c.scoped-back.result.1) (search rules) c.scoped-back.ensures.1.1.0

@@ -1,0 +1,39 @@
+use Rattle.std.proofs.Common.{rules, ◌≡◌, ◌∙◌, List, map, subst, sym, arith}
+use Rattle.std.specs.List.{AllByRecursion}
+use Rattle.std.specs.Vec.Iter.{into_iter_items}
+use Rattle.hub_lane.specs.declared.answers.BoardState.{BoardState}
+use Rattle.session_serve.specs.Pairs.{pair_shown}
+use Rattle.session_serve.specs.Seats.{IsDoneOf}
+use Rattle.session_serve.proofs.Lists.{zip_long}
+use Rattle.session_serve.proofs.EachDone.{each_done}
+use Rattle.session_serve.proofs.serving.serve_in_scope.Goals as goal
+
+pub returns-clause-served : goal.returns-clause-served
+returns-clause-served g c =
+    let accepted = c.accept_all-is_whole in
+    let running = accepted.new.running.items in
+    let shows = pair_shown g.D.Incoming.Source.left g.D.Incoming.Source.faults g.D.Outgoing.Sink.written
+    g.D.Outgoing.Sink.faults
+    g.D.Outgoing.Sink.ended in
+    let boards : c.work.inside.states.now ≡ c.args.work.boards = search rules in
+    let seats : into_iter_items c.work.inside.seats ≡ c.args.work.seats = search rules in
+    record {
+      befores = map (λ r. r.seat) running;
+      came = map (λ r. r.pair) running;
+      came' = accepted.ensures.came;
+      seats' = sym seats ∙ accepted.ensures.seats;
+      each = each_done shows c.args.work.boards running c.wait_for_all.new.done.items c.wait_for_all.ensures
+          (subst (λ (bs : List BoardState). AllByRecursion (λ r. r.boards ≡ bs) running) boards
+          accepted.ensures.boards);
+      all = accepted.ensures.all;
+    }
+
+pub returns-clause-out : goal.returns-clause-out
+returns-clause-out g c =
+    let shows = pair_shown g.D.Incoming.Source.left g.D.Incoming.Source.faults g.D.Outgoing.Sink.written
+    g.D.Outgoing.Sink.faults
+    g.D.Outgoing.Sink.ended in
+    let out = c.accept_all-is_whole.ensures.out in
+    let long = zip_long (IsDoneOf shows) c.accept_all-is_whole.new.running.items c.wait_for_all.new.done.items
+    c.wait_for_all.ensures in
+    omega (arith, out, long)

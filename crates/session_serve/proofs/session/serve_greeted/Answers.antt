@@ -1,0 +1,81 @@
+use Rattle.std.proofs.Common.{◌≡◌, ◌∙◌, [], ℕ, List, Vec, ap, length, map, subst, sym}
+use Rattle.hub_lane.specs.declared.greeting.Greeted.{Greeted}
+use Rattle.hub_lane.specs.Greeting.{link_of}
+use Rattle.board_greeting.specs.Boards.{AreReached, HasRoom, shown_by}
+use Rattle.session_serve.specs.Prepared.{IsPrepared, told_by}
+use Rattle.session_serve.proofs.Lists.{came_none, length_map, went_none}
+use Rattle.session_serve.proofs.Reporting.{links_reached}
+use Rattle.session_serve.proofs.session.serve_greeted.Goals as goal
+
+pub keep_all-requires-clause-room : goal.keep_all-requires-clause-room
+keep_all-requires-clause-room g c κs within =
+    subst (λ (n : ℕ). HasRoom (length (g.R.Rack.kept c.args.rack.now)) (g.R.Rack.made c.args.rack.now) n)
+    (sym c.requires.all) c.requires.room
+
+pub returns-in_default-clause-links : goal.returns-in_default-clause-links
+returns-in_default-clause-links g c =
+    let link = g.R.L.Link in
+    let shows = shown_by link.faults link.quiets link.gots link.held link.telling in
+    let boards = c.args.boards.items in
+    let links = map (λ (b : Greeted _). link_of b) boards in (
+      links,
+      c.keep_all.ensures.kept,
+      (
+        links_reached link.telling shows c.args.settings c.args.specs.now boards c.requires.reached,
+        length_map shows links ∙ (length_map (λ (b : Greeted _). link_of b) boards ∙ c.requires.all),
+      ),
+    )
+
+pub returns-in_default-clause-pairs : goal.returns-in_default-clause-pairs
+returns-in_default-clause-pairs g c = (
+  [],
+  [],
+  came_none (g.D.Door.coming c.args.door.now),
+  went_none (g.D.Door.kept c.args.door.now),
+  ([], record { served = []; each = tt }),
+)
+
+pub serve_split-requires-clause-ready : goal.serve_split-requires-clause-ready
+serve_split-requires-clause-ready g c κs within = record {
+  apart = record {
+    boards = c.args.boards.items;
+    apart = c.in-Ok-split_boards.ensures.apart;
+    all = c.requires.all;
+    memory = c.requires.memory;
+    reached = c.requires.reached;
+  };
+  prepared' = subst (λ (l : List (Greeted _)). IsPrepared c.args.specs.now (map (λ b. told_by b) l) c.in-Ok.prepared)
+      c.deref.ensures.value c.in-Ok.ensures;
+}
+
+pub keep_all-requires-in-Err-clause-room : goal.keep_all-requires-in-Err-clause-room
+keep_all-requires-in-Err-clause-room g c κs within =
+    subst (λ (n : ℕ). HasRoom (length (g.R.Rack.kept c.args.rack.now)) (g.R.Rack.made c.args.rack.now) n)
+    (sym (ap (λ (v : Vec (Greeted _) _). length v.items) c.in-Err.ensures.given_back ∙ c.requires.all)) c.requires.room
+
+pub returns-in-Err-clause-links : goal.returns-in-Err-clause-links
+returns-in-Err-clause-links g c =
+    let link = g.R.L.Link in
+    let shows = shown_by link.faults link.quiets link.gots link.held link.telling in
+    let boards = c.in-Err.boards.items in
+    let links = map (λ (b : Greeted _). link_of b) boards in
+    let same : boards ≡ c.args.boards.items =
+    ap (λ (v : Vec (Greeted _) _). v.items) c.in-Err.ensures.given_back in (
+      links,
+      c.keep_all-in-Err.ensures.kept,
+      (
+        links_reached link.telling shows c.args.settings c.args.specs.now boards
+            (subst (AreReached link.telling shows c.args.settings c.args.specs.now) (sym same) c.requires.reached),
+        length_map shows links ∙ (length_map (λ (b : Greeted _). link_of b) boards
+            ∙ (ap (λ (l : List (Greeted _)). length l) same ∙ c.requires.all)),
+      ),
+    )
+
+pub returns-in-Err-clause-pairs : goal.returns-in-Err-clause-pairs
+returns-in-Err-clause-pairs g c = (
+  [],
+  [],
+  came_none (g.D.Door.coming c.args.door.now),
+  went_none (g.D.Door.kept c.args.door.now),
+  ([], record { served = []; each = tt }),
+)

@@ -1,0 +1,47 @@
+use Rattle.std.proofs.Common.{◌∙◌, [], map, subst}
+use Rattle.std.specs.Prelude.{IfOk}
+use Rattle.board_greeting.specs.Boards.{shown_by}
+use Rattle.board_greeting.specs.Links.{Keeps}
+use Rattle.session_serve.specs.Pairs.{GivesBack}
+use Rattle.session_serve.specs.Serving.{AreServed}
+use Rattle.session_serve.proofs.Lists.{came_none, went_none}
+use Rattle.session_serve.proofs.Reporting.{untouched_links}
+use Rattle.session_serve.proofs.session.serve_session.Goals as goal
+
+pub returns-in_err-boards-clause-links : goal.returns-in_err-boards-clause-links
+returns-in_err-boards-clause-links g c =
+    let link = g.R.L.Link in
+    let shows = shown_by link.faults link.quiets link.gots link.held link.telling in
+    let left = c.in_err-boards.ensures.left in
+    (left.0, left.1, ((untouched_links c.args.specs.now (map shows left.0) left.2.0).0, left.2.1))
+
+pub returns-in_err-boards-clause-pairs : goal.returns-in_err-boards-clause-pairs
+returns-in_err-boards-clause-pairs g c = (
+  [],
+  [],
+  came_none (g.D.Door.coming c.args.door.now),
+  went_none (g.D.Door.kept c.args.door.now),
+  ([], record { served = []; each = tt }),
+)
+
+pub returns-in_err-boards-clause-untouched : goal.returns-in_err-boards-clause-untouched
+returns-in_err-boards-clause-untouched g c =
+    let link = g.R.L.Link in
+    let shows = shown_by link.faults link.quiets link.gots link.held link.telling in
+    let left = c.in_err-boards.ensures.left in
+    λ fault. (left.0, left.1, (untouched_links c.args.specs.now (map shows left.0) left.2.0).1)
+
+pub returns-clause-served : goal.returns-clause-served
+returns-clause-served g c =
+    let link = g.R.L.Link in
+    subst (λ kept. IfOk c.serve_greeted.result (λ report. Keeps link.faults link.quiets link.gots link.held
+    link.telling kept
+    (g.R.Rack.kept c.serve_greeted.new.rack) (λ links. GivesBack g.D.Incoming.Source.left g.D.Incoming.Source.faults
+    g.D.Outgoing.Sink.written g.D.Outgoing.Sink.faults g.D.Outgoing.Sink.ended (g.D.Door.coming c.args.door.now)
+    (g.D.Door.coming c.serve_greeted.new.door) (g.D.Door.kept c.args.door.now) (g.D.Door.kept c.serve_greeted.new.door)
+    (λ came back. AreServed c.args.settings c.args.specs.now links came back report.connections.items
+    report.boards.items)))) c.in_ok-boards.ensures.kept c.serve_greeted.ensures.served
+
+pub returns-clause-rack_unfaulted : goal.returns-clause-rack_unfaulted
+returns-clause-rack_unfaulted g c =
+    λ no_rack. c.serve_greeted.ensures.rack_faults ∙ c.in_ok-boards.ensures.unfaulted (λ e. cc)

@@ -1,0 +1,48 @@
+-- The boards once their lanes came back. What private functions promise one another; no public clause speaks of these.
+use Rattle.std.specs.Prelude.{ℕ, List, [], ◌∷◌, length, count_by, Option}
+use Rattle.world_core.specs.Telling.{Telling}
+use Rattle.reliable_engine.specs.Settings.{Limits}
+use Rattle.board_node.specs.declared.spec.BoardSpec.{BoardSpec}
+use Rattle.lane_record.specs.Bounds.{timeouts}
+use Rattle.hub_lane.specs.Calls.{is_lost_at_place, is_replied}
+use Rattle.hub_lane.specs.Lanes.{IsLane, LaneState}
+use Rattle.transcript.specs.declared.greeting.Greeting.{Greeting}
+use Rattle.transcript.specs.declared.greeting.Greeting.TheVariants as greeting
+use Rattle.transcript.specs.declared.line.BoardLine.{BoardLine}
+use Rattle.transcript.specs.declared.line.BoardLine.TheVariants as line
+use Rattle.board_greeting.specs.Boards.{IsEndedLane, IsLaneTo, shown_by}
+use Rattle.board_greeting.specs.declared.rejoined.Board.{Board}
+use Rattle.board_greeting.specs.declared.rejoined.Board.TheVariants.{Live, Idle}
+
+-- the link of a board
+abbrev pub link_in : {L C : Type 0} → Board L C → L
+link_in (Live lane came) = lane.link
+link_in (Idle told link) = link
+
+-- its line: for a live board the numbers that its lane tells
+abbrev pub idle_line : List ℕ → Greeting → BoardLine
+idle_line name (greeting.Live payload) = line.Down name
+idle_line name greeting.Silent = line.Silent name
+idle_line name greeting.Down = line.Down name
+
+abbrev pub lane_line : {L : Type 0} → List ℕ → LaneState L → BoardLine
+lane_line name lane = line.Live name (length lane.hub.sent) (count_by is_replied lane.outcomes) (timeouts lane.outcomes)
+    (count_by is_lost_at_place lane.outcomes)
+
+abbrev pub line_in : {L C : Type 0} → List ℕ → Board L C → BoardLine
+line_in name (Live lane came) = lane_line name lane
+line_in name (Idle told link) = idle_line name told
+
+abbrev pub lines_in : {L C : Type 0} → List (List ℕ) → List (Board L C) → List BoardLine
+lines_in [] boards = []
+lines_in (name ∷ names) [] = []
+lines_in (name ∷ names) (one ∷ boards) = line_in name one ∷ lines_in names boards
+
+-- Of a live board: its lane keeps what a lane keeps, and has all that the history of its board rests on.
+abbrev pub IsSound : {L C : Type 0} → (L → ℕ) → (L → ℕ) → (L → ℕ) → (L → ℕ) → (L → Option Telling) → Board L C → Type 0
+IsSound faults quiets gots held telling (Live lane came) =
+    IsLane lane.settings lane.status lane.hub lane.items lane.outcomes lane.give_ups lane.down lane.spent
+    (telling lane.link) (faults lane.link) (quiets lane.link)
+    × ((settings : Limits) (spec : BoardSpec) → IsLaneTo settings spec (telling lane.link) lane
+    → IsEndedLane settings spec lane (shown_by faults quiets gots held telling lane.link))
+IsSound faults quiets gots held telling (Idle told link) = Unit {0}

@@ -1,0 +1,11 @@
+pub mod Pairs
+pub mod Connections
+pub mod Refusals
+pub mod Boards
+pub mod Faults
+pub mod Serving
+pub mod Seats
+pub mod Room
+pub mod Hubs
+pub mod Finish
+pub mod Prepared

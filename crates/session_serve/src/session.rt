@@ -1,0 +1,195 @@
+//! Connections of a door served at the boards of a document.
+
+ghost use Rattle.std.specs.Prelude.{◌≡◌, ◌≢◌, ◌^◌, ◌<◌, ◌≤◌, ◌+◌, length, Err, IfOk};
+ghost use Rattle.std.specs.List.{AllByRecursion};
+ghost use Rattle.ipb_base.specs.Faults.{Rose};
+ghost use Rattle.lane_history.specs.Links.{IsUntouched};
+ghost use Rattle.board_greeting.specs.Boards.{AreReached, HasMemory, HasRoom, shown_by};
+ghost use Rattle.board_greeting.specs.Links.{CanBeReached, Keeps};
+ghost use Rattle.session_serve.specs.Boards.{AreLinksTo};
+ghost use Rattle.session_serve.specs.Pairs.{GivesBack};
+ghost use Rattle.session_serve.specs.Prepared.{IsReady};
+ghost use Rattle.session_serve.specs.Serving.{AreBack, AreServed, HadMemory};
+
+use crate::finish::finish_boards;
+use crate::hub::serve_at_hub;
+use crate::prepared::{Prepared, prepare};
+use crate::report::{ServeFault, ServeReport};
+use board_greeting::{Rejoined, Split, greet_boards, keep_all, split_boards};
+use board_node::BoardSpec;
+use hub_lane::Greeted;
+use ipb_outside::Door;
+use lossy_network::Rack;
+use reliable_engine::Settings;
+use served_history::lanes::{
+    a_finished_lane_tells_the_numbers_of_its_line, a_finished_lane_was_served,
+    connections_of_a_hub_leave_what_they_submitted,
+};
+use std::alloc::Global;
+use std::marker::Sync;
+use std::sync::Wait;
+use std::thread::Threads;
+
+/// Serves connections at boards that were taken apart, and gives each link back to the rack.
+fn serve_split<R: Rack, D: Door, T: Threads + Wait + Sync>(
+    rt: &T,
+    alloc: Global,
+    settings: Settings,
+    split: Split<R::L>,
+    prepared: Prepared,
+    specs: &[BoardSpec],
+    port: u16,
+    count: u32,
+    rack: &mut R,
+    door: &mut D,
+) -> Result<ServeReport, ServeFault>
+    requires ready { IsReady R.L.telling (shown_by R.L.faults R.L.quiets R.L.gots R.L.held R.L.telling) settings
+        specs.now split prepared }
+    requires room { HasRoom (length (R.kept rack.old)) (R.made rack.old) (length specs.now) }
+    ensures served { IfOk result (λ report. Keeps R.L.faults R.L.quiets R.L.gots R.L.held R.L.telling
+        (R.kept rack.old) (R.kept rack.new) (λ links. GivesBack D.Incoming.left D.Incoming.faults D.Outgoing.written
+        D.Outgoing.faults D.Outgoing.ended (D.coming door.old) (D.coming door.new) (D.kept door.old) (D.kept door.new)
+        (λ came back. AreServed settings specs.now links came back report.connections.items report.boards.items))) }
+    ensures all { IfOk result (λ report. length report.connections.items ≡ count) }
+    ensures had_memory { IfOk result (λ report. AllByRecursion HadMemory report.connections.items) }
+    ensures links { Keeps R.L.faults R.L.quiets R.L.gots R.L.held R.L.telling (R.kept rack.old) (R.kept rack.new)
+        (λ links. AreLinksTo specs.now links × (length links ≡ length specs.now)) }
+    ensures pairs { GivesBack D.Incoming.left D.Incoming.faults D.Outgoing.written D.Outgoing.faults D.Outgoing.ended
+        (D.coming door.old) (D.coming door.new) (D.kept door.old) (D.kept door.new) AreBack }
+    ensures none_out { D.out door.new ≡ D.out door.old }
+    ensures made { R.made rack.new ≡ R.made rack.old }
+    ensures rack_faults { R.faults rack.new ≡ R.faults rack.old }
+    ensures door_fault { result ≡ Err ServeFault.Door → Rose (D.faults door.old) (D.faults door.new) }
+    ensures door_later { D.faults door.old ≤ D.faults door.new }
+    ensures door_unfaulted { result ≢ Err ServeFault.Door → D.faults door.new ≡ D.faults door.old }
+    ensures not_rack { result ≢ Err ServeFault.Rack }
+{
+    connections_of_a_hub_leave_what_they_submitted();
+    a_finished_lane_was_served();
+    a_finished_lane_tells_the_numbers_of_its_line();
+    let Split {
+        places,
+        positions: _,
+        lanes,
+    } = split;
+    let Prepared {
+        names,
+        mut lines,
+        states,
+    } = prepared;
+    let (lanes, served) = serve_at_hub(rt, alloc, lanes, &states, port, count, door);
+    let boards = Rejoined::of(places, lanes, Vec::new(alloc));
+    finish_boards(boards, names, &mut lines, rack);
+    match served {
+        Ok(connections) => Ok(ServeReport {
+            connections,
+            boards: lines,
+        }),
+        Err(fault) => Err(fault),
+    }
+}
+
+/// Serves connections at boards that were greeted, and gives each link back to the rack.
+fn serve_greeted<R: Rack, D: Door, T: Threads + Wait + Sync>(
+    rt: &T,
+    alloc: Global,
+    settings: Settings,
+    boards: Vec<Greeted<R::L>>,
+    specs: &[BoardSpec],
+    port: u16,
+    count: u32,
+    rack: &mut R,
+    door: &mut D,
+) -> Result<ServeReport, ServeFault>
+    requires few_boards { length specs.now < 2 ^ 32 }
+    requires all { length boards.items ≡ length specs.now }
+    requires memory { AllByRecursion HasMemory boards.items }
+    requires reached { AreReached R.L.telling (shown_by R.L.faults R.L.quiets R.L.gots R.L.held R.L.telling) settings
+        specs.now boards.items }
+    requires room { HasRoom (length (R.kept rack.old)) (R.made rack.old) (length specs.now) }
+    ensures served { IfOk result (λ report. Keeps R.L.faults R.L.quiets R.L.gots R.L.held R.L.telling
+        (R.kept rack.old) (R.kept rack.new) (λ links. GivesBack D.Incoming.left D.Incoming.faults D.Outgoing.written
+        D.Outgoing.faults D.Outgoing.ended (D.coming door.old) (D.coming door.new) (D.kept door.old) (D.kept door.new)
+        (λ came back. AreServed settings specs.now links came back report.connections.items report.boards.items))) }
+    ensures all { IfOk result (λ report. length report.connections.items ≡ count) }
+    ensures had_memory { IfOk result (λ report. AllByRecursion HadMemory report.connections.items) }
+    ensures links { Keeps R.L.faults R.L.quiets R.L.gots R.L.held R.L.telling (R.kept rack.old) (R.kept rack.new)
+        (λ links. AreLinksTo specs.now links × (length links ≡ length specs.now)) }
+    ensures pairs { GivesBack D.Incoming.left D.Incoming.faults D.Outgoing.written D.Outgoing.faults D.Outgoing.ended
+        (D.coming door.old) (D.coming door.new) (D.kept door.old) (D.kept door.new) AreBack }
+    ensures none_out { D.out door.new ≡ D.out door.old }
+    ensures made { R.made rack.new ≡ R.made rack.old }
+    ensures rack_faults { R.faults rack.new ≡ R.faults rack.old }
+    ensures door_fault { result ≡ Err ServeFault.Door → Rose (D.faults door.old) (D.faults door.new) }
+    ensures door_later { D.faults door.old ≤ D.faults door.new }
+    ensures door_unfaulted { result ≢ Err ServeFault.Door → D.faults door.new ≡ D.faults door.old }
+    ensures not_rack { result ≢ Err ServeFault.Rack }
+{
+    let Ok(prepared) = prepare(alloc, specs, &boards) else {
+        keep_all(rack, boards);
+        return Err(ServeFault::NoMemory);
+    };
+    match split_boards(alloc, boards) {
+        Ok(split) => serve_split(
+            rt, alloc, settings, split, prepared, specs, port, count, rack, door,
+        ),
+        Err(boards) => {
+            keep_all(rack, boards);
+            Err(ServeFault::NoMemory)
+        }
+    }
+}
+
+/// Serves `count` connections of a door at the boards of a document (profile). First a link is made for each board and
+/// the board is greeted over it, board by board; only then does the door listen on the port, one time, and let the
+/// connections in. The number of a connection, from 1, is that of its client at a hub of all live boards. A connection
+/// has a thread to itself; if no thread can be had, this call serves the connection before it lets in another. At the
+/// end the door takes back each connection, in the order of acceptance, and the rack each link, in board order. All
+/// memory of this call is taken before the door listens.
+///
+/// If the rack fails, or memory runs out before the door listens, no connection is let in. If the door fails no more
+/// are let in, and those that were are still served until each has ended. If a connection ends with want of memory,
+/// that is the answer, unless the door failed.
+pub fn serve_session<R: Rack, D: Door, T: Threads + Wait + Sync>(
+    rt: &T,
+    alloc: Global,
+    settings: Settings,
+    specs: &[BoardSpec],
+    port: u16,
+    count: u32,
+    rack: &mut R,
+    door: &mut D,
+) -> Result<ServeReport, ServeFault>
+    requires few_boards { length specs.now < 2 ^ 32 }
+    requires reached { AllByRecursion CanBeReached specs.now }
+
+    // What is reported of each board is what its link bears out, and of each connection what its pair does.
+    ensures served { IfOk result (λ report. Keeps R.L.faults R.L.quiets R.L.gots R.L.held R.L.telling
+        (R.kept rack.old) (R.kept rack.new) (λ links. GivesBack D.Incoming.left D.Incoming.faults D.Outgoing.written
+        D.Outgoing.faults D.Outgoing.ended (D.coming door.old) (D.coming door.new) (D.kept door.old) (D.kept door.new)
+        (λ came back. AreServed settings specs.now links came back report.connections.items report.boards.items))) }
+    ensures all { IfOk result (λ report. length report.connections.items ≡ count) }
+    ensures had_memory { IfOk result (λ report. AllByRecursion HadMemory report.connections.items) }
+
+    // Whatever came of it, each link that was made is given back once, in board order, and each connection that was let
+    // in once, in the order of acceptance.
+    ensures links { Keeps R.L.faults R.L.quiets R.L.gots R.L.held R.L.telling (R.kept rack.old) (R.kept rack.new)
+        (λ links. AreLinksTo specs.now links × (R.made rack.new ≡ R.made rack.old + length links)) }
+    ensures pairs { GivesBack D.Incoming.left D.Incoming.faults D.Outgoing.written D.Outgoing.faults D.Outgoing.ended
+        (D.coming door.old) (D.coming door.new) (D.kept door.old) (D.kept door.new) AreBack }
+    ensures none_out { D.out door.new ≡ D.out door.old }
+
+    // The faults of the rack and of the door come only from them. Where the rack failed the door was not called.
+    ensures rack_fault { result ≡ Err ServeFault.Rack → Rose (R.faults rack.old) (R.faults rack.new) }
+    ensures untouched { result ≡ Err ServeFault.Rack → Keeps R.L.faults R.L.quiets R.L.gots R.L.held R.L.telling
+        (R.kept rack.old) (R.kept rack.new) (AllByRecursion IsUntouched) }
+    ensures not_listened { result ≡ Err ServeFault.Rack → door.new ≡ door.old }
+    ensures rack_later { R.faults rack.old ≤ R.faults rack.new }
+    ensures rack_unfaulted { result ≢ Err ServeFault.Rack → R.faults rack.new ≡ R.faults rack.old }
+    ensures door_fault { result ≡ Err ServeFault.Door → Rose (D.faults door.old) (D.faults door.new) }
+    ensures door_later { D.faults door.old ≤ D.faults door.new }
+    ensures door_unfaulted { result ≢ Err ServeFault.Door → D.faults door.new ≡ D.faults door.old }
+{
+    let boards = greet_boards(alloc, settings, specs, rack)?;
+    serve_greeted(rt, alloc, settings, boards, specs, port, count, rack, door)
+}
