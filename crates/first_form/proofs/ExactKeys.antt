@@ -1,5 +1,6 @@
 -- A table that has some different keys, and no more keys than these, has exactly these.
-use Rattle.std.proofs.Common.{◌≡◌, ◌⊎◌, inl, inr, ℕ, ◌+◌, ◌≤◌, List, [], ◌∷◌, length, true, false, Some, None, Ordering, Less, Equal, Greater, nat_cmp, refl, sym, ap, ◌∙◌, subst, arith}
+use Rattle.std.proofs.Common.{◌≡◌, ◌⊎◌, inl, inr, ℕ, ◌+◌, ◌≤◌, List, [], ◌∷◌, length, true, false, Some, None, Ordering}
+use Rattle.std.proofs.Common.{Less, Equal, Greater, nat_cmp, refl, sym, ap, ◌∙◌, subst, arith}
 use Rattle.std.specs.Ordering.{match_ordering, is_eq}
 use Rattle.std.specs.Cmp.Lexicographic.{slice_cmp}
 use Rattle.std.specs.List.{AllByRecursion}
@@ -32,7 +33,8 @@ same_value h = cc
 
 abbrev without : List ℕ → List Entry → List Entry
 without key [] = []
-without key (e ∷ es) = match_ordering (slice_cmp nat_cmp e.0 key) (e ∷ without key es) (without key es) (e ∷ without key es)
+without key (e ∷ es) =
+    match_ordering (slice_cmp nat_cmp e.0 key) (e ∷ without key es) (without key es) (e ∷ without key es)
 
 by_order : (P : Type 0) (o r : Ordering) → o ≡ r → (o ≡ Less → P) → (o ≡ Equal → P) → (o ≡ Greater → P) → P
 by_order P o Less is less same greater = less is
@@ -42,7 +44,8 @@ by_order P o Greater is less same greater = greater is
 never : true ≡ false → ⊥
 never h = cc
 
-others_stay : (key : List ℕ) (es : List Entry) → AllByRecursion (λ other. IsOtherKey other.0 key) es → without key es ≡ es
+others_stay : (key : List ℕ) (es : List Entry) → AllByRecursion (λ other. IsOtherKey other.0 key) es
+    → without key es ≡ es
 others_stay key [] h = refl
 others_stay key (e ∷ es) h =
     by_order (without key (e ∷ es) ≡ e ∷ es) (slice_cmp nat_cmp e.0 key) (slice_cmp nat_cmp e.0 key) refl
@@ -54,7 +57,8 @@ one_less : (key : List ℕ) (es : List Entry) → AreApart es → length es ≤ 
 one_less key [] h = omega arith
 one_less key (e ∷ es) h =
     let rest = one_less key es h.1 in
-    by_order (length (e ∷ es) ≤ length (without key (e ∷ es)) + 1) (slice_cmp nat_cmp e.0 key) (slice_cmp nat_cmp e.0 key) refl
+    by_order (length (e ∷ es) ≤ length (without key (e ∷ es)) + 1) (slice_cmp nat_cmp e.0 key)
+    (slice_cmp nat_cmp e.0 key) refl
     (λ is. rw is (omega (arith, rest)))
     (λ is.
     let stay : without key es ≡ es =
@@ -62,7 +66,8 @@ one_less key (e ∷ es) h =
     rw (is, stay) (omega arith))
     (λ is. rw is (omega (arith, rest)))
 
-kept_of : (P : Entry → Type 0) (key : List ℕ) (es : List Entry) → AllByRecursion P es → AllByRecursion P (without key es)
+kept_of : (P : Entry → Type 0) (key : List ℕ) (es : List Entry) → AllByRecursion P es
+    → AllByRecursion P (without key es)
 kept_of P key [] h = tt
 kept_of P key (e ∷ es) h =
     by_order (AllByRecursion P (without key (e ∷ es))) (slice_cmp nat_cmp e.0 key) (slice_cmp nat_cmp e.0 key) refl
@@ -79,7 +84,8 @@ still_apart key (e ∷ es) h =
     (λ is. rw is (kept_of (λ other. IsOtherKey other.0 e.0) key es h.0, still_apart key es h.1))
 
 -- what stands in a table and is not its first key stands in the rest
-in_rest : (key : List ℕ) (value : Data) (ms : Members) (es : List Entry) → AreIn (member key value ms) es → AreIn ms (without key es)
+in_rest : (key : List ℕ) (value : Data) (ms : Members) (es : List Entry) → AreIn (member key value ms) es
+    → AreIn ms (without key es)
 in_rest key value ms [] h = tt
 in_rest key value ms (e ∷ es) h =
     by_order (AreIn ms (without key (e ∷ es))) (slice_cmp nat_cmp e.0 key) (slice_cmp nat_cmp e.0 key) refl
@@ -105,47 +111,58 @@ module _ (P : List ℕ → Data → Type 0) where
   found_later key value e es same (inr stay) = inr (same ∙ ap (λ rest. e ∷ rest) stay)
 
   -- the first key of a table is one of these, or none of them is it
-  first_is : (key : List ℕ) (value : Data) (ms : Members) (es : List Entry) → AreIn (member key value ms) es → AllByRecursion (λ e. P e.0 e.1) es
+  first_is : (key : List ℕ) (value : Data) (ms : Members) (es : List Entry) → AreIn (member key value ms) es
+      → AllByRecursion (λ e. P e.0 e.1) es
       → P key value ⊎ (without key es ≡ es)
   first_is key value ms [] inside holds = inr refl
   first_is key value ms (e ∷ es) inside holds =
       let later = first_is key value ms es inside.1 holds.1 in
-      by_order (P key value ⊎ (without key (e ∷ es) ≡ e ∷ es)) (slice_cmp nat_cmp e.0 key) (slice_cmp nat_cmp e.0 key) refl
+      by_order (P key value ⊎ (without key (e ∷ es) ≡ e ∷ es)) (slice_cmp nat_cmp e.0 key)
+      (slice_cmp nat_cmp e.0 key) refl
       (λ is. found_later key value e es (rw is refl) later)
       (λ is.
       let here : value ≡ e.1 = same_value (rw is at inside.0) in
       inl (subst (λ k. P k value) (same_name e.0 key is) (subst (λ v. P e.0 v) (sym here) holds.0)))
       (λ is. found_later key value e es (rw is refl) later)
 
-  by_first : (key : List ℕ) (value : Data) (ms : Members) (es : List Entry) → AreApart es → AreIn (member key value ms) es → member_count ms + 1 ≤ length es
-      → (P key value → EachMember P (member key value ms)) → P key value ⊎ (without key es ≡ es) → EachMember P (member key value ms)
+  by_first : (key : List ℕ) (value : Data) (ms : Members) (es : List Entry) → AreApart es
+      → AreIn (member key value ms) es → member_count ms + 1 ≤ length es
+      → (P key value → EachMember P (member key value ms)) → P key value ⊎ (without key es ≡ es)
+      → EachMember P (member key value ms)
   by_first key value ms es apart inside few go (inl found) = go found
   by_first key value ms es apart inside few go (inr stay) =
-      let all : length es ≤ member_count ms = no_more ms es apart (subst (λ xs. AreIn ms xs) stay (in_rest key value ms es inside)) in
+      let all : length es ≤ member_count ms =
+      no_more ms es apart (subst (λ xs. AreIn ms xs) stay (in_rest key value ms es inside)) in
       absurd (omega (arith, all, few))
 
   -- what holds of different keys that are as many as those of the table holds of all of them
-  pub each_member : (ms : Members) (es : List Entry) → AreApart es → AreIn ms es → AllByRecursion (λ e. P e.0 e.1) es → member_count ms ≤ length es → EachMember P ms
+  pub each_member : (ms : Members) (es : List Entry) → AreApart es → AreIn ms es → AllByRecursion (λ e. P e.0 e.1) es
+      → member_count ms ≤ length es → EachMember P ms
   each_member no_members es apart inside holds few = tt
   each_member (member key value ms) es apart inside holds few =
       by_first key value ms es apart inside few
       (λ found. (
         found,
-        each_member ms (without key es) (still_apart key es apart) (in_rest key value ms es inside) (kept_of (λ e. P e.0 e.1) key es holds)
+        each_member ms (without key es) (still_apart key es apart) (in_rest key value ms es inside)
+            (kept_of (λ e. P e.0 e.1) key es holds)
             (omega (arith, one_less key es apart, few)),
       ))
       (first_is key value ms es inside holds)
 
 -- a key that no key of the table is has no value
-pub absent : (name : List ℕ) (ms : Members) → EachMember (λ key value. IsOtherKey name key) ms → get_member name ms ≡ None
+pub absent : (name : List ℕ) (ms : Members) → EachMember (λ key value. IsOtherKey name key) ms
+    → get_member name ms ≡ None
 absent name no_members h = refl
 absent name (member key value ms) h =
-    by_order (get_member name (member key value ms) ≡ None) (slice_cmp nat_cmp name key) (slice_cmp nat_cmp name key) refl
+    by_order (get_member name (member key value ms) ≡ None) (slice_cmp nat_cmp name key)
+    (slice_cmp nat_cmp name key) refl
     (λ is. rw is (absent name ms h.1))
     (λ is. absurd (never (rw is at h.0)))
     (λ is. rw is (absent name ms h.1))
 
 -- the same, by the keys that the table has
-pub absent_key : (name : List ℕ) (ms : Members) (es : List Entry) → AreApart es → AreIn ms es → AllByRecursion (λ e. IsOtherKey name e.0) es
+pub absent_key : (name : List ℕ) (ms : Members) (es : List Entry) → AreApart es → AreIn ms es
+    → AllByRecursion (λ e. IsOtherKey name e.0) es
     → member_count ms ≤ length es → get_member name ms ≡ None
-absent_key name ms es apart inside others few = absent name ms (each_member (λ key value. IsOtherKey name key) ms es apart inside others few)
+absent_key name ms es apart inside others few =
+    absent name ms (each_member (λ key value. IsOtherKey name key) ms es apart inside others few)

@@ -14,7 +14,7 @@ use Rattle.script_lang.specs.declared.session.Session.{Session as WholeSession}
 use Rattle.script_lang.specs.Document.{IsToml}
 use Rattle.session_input.specs.Deserved.{IsRunnable}
 use Rattle.session_input.specs.Numbers.{document_bytes}
-use Rattle.ipbus_program.specs.declared.command.Command.TheVariants.{Run}
+use Rattle.command_words.specs.declared.command.Command.TheVariants.{Run}
 use Rattle.ipbus_program.specs.Numbers.{done_status}
 use Rattle.ipbus_program.specs.Headline.{IsTranscriptOf}
 use Rattle.ipbus_program.specs.Runs.{Owes}
@@ -83,23 +83,20 @@ module _ (laws : LawsBelow) (document : Members) (session : Session) (form : IsF
           fits = fits;
           stands = (document, toml, stands document session form table same);
           runs = record {
-            scripts = record {
-              registers = index_of form.registers ∷ [];
-              boards = record {
-                compiled = record {
-                  compile = (keeps_rules form.table_name table form.registers same form.ids_differ low few_nodes, tt);
-                  each_index = (indexed, tt);
-                };
-                buses = (
-                  is_allowed laws session.board bounds.not_empty bounds.not_large (omega (arith, room, long))
-                      (number_words (values bounds.numbers) session.board.init bounds.words),
-                  tt,
-                );
+            registers = index_of form.registers ∷ [];
+            boards = record {
+              compiled = record {
+                compile = (keeps_rules form.table_name table form.registers same form.ids_differ low few_nodes, tt);
+                each_index = (indexed, tt);
               };
-              faultless = faultless document session form table same (index_of form.registers) indexed;
-              meant = sym (steps document session form table same (index_of form.registers) indexed);
+              buses = (
+                is_allowed laws session.board bounds.not_empty bounds.not_large (omega (arith, room, long))
+                    (number_words (values bounds.numbers) session.board.init bounds.words),
+                tt,
+              );
             };
-            links = refl;
+            faultless = faultless document session form table same (index_of form.registers) indexed;
+            meant = sym (steps document session form table same (index_of form.registers) indexed);
           };
         }
 
@@ -138,7 +135,8 @@ module _ (laws : LawsBelow) (document : Members) (session : Session) (form : IsF
       (whole found.0 found.1, read_script, runnable found.0 found.1 bytes fits toml)
 
   pub owes_only : RunLaws → OwnBoardsLaw → (alloc : Global) (bytes : List ℕ) → length bytes ≤ document_bytes
-      → IsToml bytes document → (links : List LinkReport) → AllByRecursion IsFaithful links → (status : ℕ) (text : List ℕ)
+      → IsToml bytes document → (links : List LinkReport) → AllByRecursion IsFaithful links
+      → (status : ℕ) (text : List ℕ)
       → Owes Run bytes links status text → (status ≡ done_status) × (text ≡ first_text session)
   owes_only apart only alloc bytes fits toml links calm status text owes =
       let found = table_there alloc document session form in

@@ -1,5 +1,6 @@
 -- A range, a board and a client of the first form are those of a whole session document.
-use Rattle.std.proofs.Common.{◌≡◌, ℕ, ◌^◌, ◌≤◌, ◌<◌, List, [], ◌∷◌, codes, length, map, true, Some, None, lt-ltb, refl, ap, arith}
+use Rattle.std.proofs.Common.{◌≡◌, ℕ, ◌^◌, ◌≤◌, ◌<◌, List, [], ◌∷◌, codes, length, map, true, Some, None, lt-ltb, refl}
+use Rattle.std.proofs.Common.{ap, arith}
 use Rattle.std.proofs.lemmas.Bool.Decides.{nat_tests}
 use Rattle.std.specs.List.{AllByRecursion, AllZip}
 use Rattle.std.specs.Option.{is_some}
@@ -19,7 +20,8 @@ use Rattle.first_form.specs.WholeSession.{whole_board, read_line}
 use Rattle.first_form.proofs.ExactKeys.{Entry, IsOtherKey, AreApart, AreIn, EachMember, each_member, absent_key}
 
 -- where no value has a fault, the keys have none
-pub keys_kept : (keys : List KeyRule) (ms : Members) → EachMember (λ key value. value_faults (kind_at keys key) value ≡ []) ms → keys_faults keys ms ≡ []
+pub keys_kept : (keys : List KeyRule) (ms : Members)
+    → EachMember (λ key value. value_faults (kind_at keys key) value ≡ []) ms → keys_faults keys ms ≡ []
 keys_kept keys no_members h = refl
 keys_kept keys (member key value ms) h = rw (h.0, keys_kept keys ms h.1) refl
 
@@ -35,7 +37,8 @@ number_kept value n is = rw (is_number value n is, in_word n is.word) refl
 number_read : (value : Data) (n : ℕ) → IsNumber value n → ruled_number (Some word) (Some value) ≡ n
 number_read value n is = rw (is_number value n is, in_word n is.word) refl
 
-are_numbers : (ds : Items) (ns : List ℕ) → AllZip IsNumber (values ds) ns → AllByRecursion (λ d. is_some (number d) ≡ true) (items_of ds)
+are_numbers : (ds : Items) (ns : List ℕ) → AllZip IsNumber (values ds) ns
+    → AllByRecursion (λ d. is_some (number d) ≡ true) (items_of ds)
 are_numbers no_items ns are = tt
 are_numbers (item d ds) [] are = absurd are
 are_numbers (item d ds) (n ∷ ns) are = (rw (is_number d n are.0) refl, are_numbers ds ns are.1)
@@ -48,7 +51,8 @@ numbers_read (item d ds) (n ∷ ns) are = rw (is_number d n are.0) (ap (λ rest.
 
 module _ (value : Data) (size : ℕ) (init : List ℕ) (is : IsRange value size init) where
   abbrev range_entries : List Entry
-  range_entries = (codes "base", is.base.value) ∷ (codes "size", is.size_key.value) ∷ (codes "init", array is.numbers) ∷ []
+  range_entries =
+      (codes "base", is.base.value) ∷ (codes "size", is.size_key.value) ∷ (codes "init", array is.numbers) ∷ []
 
   range_inside : AreIn is.fields range_entries
   range_inside = (is.base.under_key, (is.size_key.under_key, (is.init_key, tt)))
@@ -60,14 +64,22 @@ module _ (value : Data) (size : ℕ) (init : List ℕ) (is : IsRange value size 
   range_few = omega (arith, is.no_other_key)
 
   no_kind : get_member (codes "kind") is.fields ≡ None
-  no_kind = absent_key (codes "kind") is.fields range_entries range_apart range_inside (refl, (refl, (refl, tt))) range_few
+  no_kind =
+      absent_key (codes "kind") is.fields range_entries range_apart range_inside (refl, (refl, (refl, tt))) range_few
 
   pub range_kept : table_faults range_keys is.fields ≡ []
   range_kept = rw (keys_kept range_keys is.fields each, is.base.under_key, is.size_key.under_key) refl
     where
       each : EachMember (λ key v. value_faults (kind_at range_keys key) v ≡ []) is.fields
-      each = each_member (λ key v. value_faults (kind_at range_keys key) v ≡ []) is.fields range_entries range_apart range_inside
-          (number_kept is.base.value 0 is.base.is_number, (number_kept is.size_key.value size is.size_key.is_number, (numbers_kept 0 is.numbers (are_numbers is.numbers init is.words), tt))) range_few
+      each =
+          each_member (λ key v. value_faults (kind_at range_keys key) v ≡ []) is.fields range_entries range_apart
+          range_inside (
+            number_kept is.base.value 0 is.base.is_number,
+            (
+              number_kept is.size_key.value size is.size_key.is_number,
+              (numbers_kept 0 is.numbers (are_numbers is.numbers init is.words), tt),
+            ),
+          ) range_few
 
   pub range_read : range_of is.fields ≡ record { base = 0; size = size; kind = Rw; init = init }
   range_read =
@@ -85,7 +97,8 @@ module _ (value : Data) (size : ℕ) (init : List ℕ) (is : IsRange value size 
 module _ (table_name : List ℕ) (value : Data) (board : BoardSpec) (is : IsBoard table_name value board) where
   abbrev board_entries : List Entry
   board_entries =
-      (codes "name", string board.name) ∷ (codes "table", string table_name) ∷ (codes "ranges", array (item is.range no_items)) ∷ []
+      (codes "name", string board.name) ∷ (codes "table", string table_name)
+      ∷ (codes "ranges", array (item is.range no_items)) ∷ []
 
   board_inside : AreIn is.fields board_entries
   board_inside = (is.name, (is.table_key, (is.ranges, tt)))
@@ -130,7 +143,9 @@ module _ (table_name : List ℕ) (value : Data) (board : BoardSpec) (is : IsBoar
       named = rw is.name_rule refl
 
       each : EachMember (λ key v. value_faults (kind_at sim_keys_with_noise key) v ≡ []) is.fields
-      each = each_member (λ key v. value_faults (kind_at sim_keys_with_noise key) v ≡ []) is.fields board_entries board_apart board_inside
+      each =
+          each_member (λ key v. value_faults (kind_at sim_keys_with_noise key) v ≡ []) is.fields board_entries
+          board_apart board_inside
           (named, (refl, (one_range_kept, tt))) board_few
 
   pub board_read : board_of is.fields ≡ whole_board table_name board
@@ -162,7 +177,8 @@ module _ (board_name : List ℕ) (registers : List Register) where
   lines_read no_items [] are = refl
   lines_read no_items (r ∷ rs) are = absurd are
   lines_read (item d ds) [] are = absurd are
-  lines_read (item d ds) (r ∷ rs) are = rw are.0.line (ap (λ rest. read_line board_name r ∷ rest) (lines_read ds rs are.1))
+  lines_read (item d ds) (r ∷ rs) are =
+      rw are.0.line (ap (λ rest. read_line board_name r ∷ rest) (lines_read ds rs are.1))
 
   module _ (value : Data) (script : List Register) (is : IsClient board_name registers value script) where
     abbrev client_entries : List Entry
@@ -178,7 +194,9 @@ module _ (board_name : List ℕ) (registers : List Register) where
     client_kept = rw (keys_kept client_keys is.fields each, is.script_key) refl
       where
         each : EachMember (λ key v. value_faults (kind_at client_keys key) v ≡ []) is.fields
-        each = each_member (λ key v. value_faults (kind_at client_keys key) v ≡ []) is.fields client_entries (tt, tt) client_inside
+        each =
+            each_member (λ key v. value_faults (kind_at client_keys key) v ≡ []) is.fields client_entries
+            (tt, tt) client_inside
             (texts_kept 0 is.lines (are_texts is.lines script is.reads), tt) client_few
 
     pub script_read : script_of is.fields ≡ map (read_line board_name) script

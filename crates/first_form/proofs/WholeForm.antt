@@ -1,5 +1,6 @@
 -- A document of the first form is a whole session document, and stands for one session there.
-use Rattle.std.proofs.Common.{◌≡◌, ◌≤◌, List, [], ◌∷◌, codes, length, map, cond, Some, None, Ordering, Less, Equal, Greater, nat_cmp, refl, sym, arith}
+use Rattle.std.proofs.Common.{◌≡◌, ◌≤◌, List, [], ◌∷◌, codes, length, map, cond, Some, None, Ordering, Less, Equal}
+use Rattle.std.proofs.Common.{Greater, nat_cmp, refl, sym, arith}
 use Rattle.std.specs.Ordering.{match_ordering, is_eq}
 use Rattle.std.specs.Cmp.Lexicographic.{slice_cmp}
 use Rattle.std.specs.FinMap.{get, insert, empty, get-insert, get-empty}
@@ -22,7 +23,8 @@ use Rattle.first_form.proofs.ExactKeys.{Entry, AreApart, AreIn, EachMember, each
 use Rattle.first_form.proofs.WholeBoards.{keys_kept, board_kept, board_read, client_kept, script_read}
 use Rattle.first_form.proofs.WholeNodes.{table_nodes}
 
-table_at : (o : Ordering) (d : Data) (t : Table) → IsTable d t → IsTableAt (match_ordering o None (Some d) None) (cond (is_eq o) (Some t) None)
+table_at : (o : Ordering) (d : Data) (t : Table) → IsTable d t
+    → IsTableAt (match_ordering o None (Some d) None) (cond (is_eq o) (Some t) None)
 table_at Less d t is = tt
 table_at Greater d t is = tt
 table_at Equal d t is = is
@@ -54,22 +56,35 @@ module _ (document : Members) (session : Session) (form : IsFirstForm document s
   one_board_kept = rw (form.is_board.is_table, board_kept form.table_name form.board session.board form.is_board) refl
 
   one_client_kept : value_faults (kind_at document_keys (codes "client")) (array (item form.client no_items)) ≡ []
-  one_client_kept = rw (form.is_client.is_table, client_kept session.board.name form.registers form.client session.script form.is_client) refl
+  one_client_kept =
+      rw (
+        form.is_client.is_table,
+        client_kept session.board.name form.registers form.client session.script form.is_client,
+      ) refl
 
   shaped : shape_faults document ≡ []
   shaped = rw (keys_kept document_keys document each) refl
     where
-      named : value_faults (kind_at document_keys (codes "tables")) (table (member form.table_name (array form.nodes) no_members)) ≡ []
+      named : value_faults (kind_at document_keys (codes "tables"))
+          (table (member form.table_name (array form.nodes) no_members)) ≡ []
       named = rw form.table_rule refl
 
       each : EachMember (λ key v. value_faults (kind_at document_keys key) v ≡ []) document
-      each = each_member (λ key v. value_faults (kind_at document_keys key) v ≡ []) document entries apart inside (named, (one_board_kept, (one_client_kept, tt))) few
+      each =
+          each_member (λ key v. value_faults (kind_at document_keys key) v ≡ []) document entries apart inside
+          (named, (one_board_kept, (one_client_kept, tt))) few
 
   boards : boards_of document ≡ whole_board form.table_name session.board ∷ []
-  boards = rw (form.boards, form.is_board.is_table, board_read form.table_name form.board session.board form.is_board) refl
+  boards =
+      rw (form.boards, form.is_board.is_table, board_read form.table_name form.board session.board form.is_board) refl
 
   scripts : scripts_of document ≡ map (read_line session.board.name) session.script ∷ []
-  scripts = rw (form.clients, form.is_client.is_table, script_read session.board.name form.registers form.client session.script form.is_client) refl
+  scripts =
+      rw (
+        form.clients,
+        form.is_client.is_table,
+        script_read session.board.name form.registers form.client session.script form.is_client,
+      ) refl
 
   settings : settings_of document ≡ record { rounds = 8; window = 16 }
   settings = rw (no_rounds, no_window) refl
@@ -90,10 +105,23 @@ module _ (document : Members) (session : Session) (form : IsFirstForm document s
     faultless : faults document ≡ []
     faultless = rw (shaped, sized, named_once, tabled) refl
 
-    each_table : (name : Name) → IsTableAt (get_member name (tables_of document)) (get {R = slice_cmp nat_cmp} (insert empty form.table_name t) name)
+    each_table : (name : Name)
+        → IsTableAt (get_member name (tables_of document))
+        (get {R = slice_cmp nat_cmp} (insert empty form.table_name t) name)
     each_table name =
-        rw (form.tables, get-insert nat_list_cmp_total empty form.table_name t name, get-empty {X = Table} (slice_cmp nat_cmp) name)
+        rw (
+          form.tables,
+          get-insert nat_list_cmp_total empty form.table_name t name,
+          get-empty {X = Table} (slice_cmp nat_cmp) name,
+        )
         (table_at (slice_cmp nat_cmp name form.table_name) (array form.nodes) t is_table)
 
     pub stands : IsSession document (whole_session form.table_name t session)
-    stands = record { faultless = faultless; settings = sym settings; tables = each_table; boards = sym boards; scripts = sym scripts }
+    stands =
+        record {
+          faultless = faultless;
+          settings = sym settings;
+          tables = each_table;
+          boards = sym boards;
+          scripts = sym scripts;
+        }

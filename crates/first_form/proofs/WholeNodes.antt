@@ -58,10 +58,17 @@ module _ (size : ℕ) (value : Data) (register : Register) (is : IsNode size val
   no_nodes = no_key (codes "nodes") (refl, (refl, tt))
 
   is_address : address_at is.fields ≡ Some register.address
-  is_address = rw (is.address.under_key, is.address.is_number.integer, lt-ltb register.address (2 ^ 32) is.address.is_number.word) refl
+  is_address =
+      rw (
+        is.address.under_key,
+        is.address.is_number.integer,
+        lt-ltb register.address (2 ^ 32) is.address.is_number.word,
+      ) refl
 
   known : has_node_keys is.fields ≡ true
-  known = known_keys is.fields (each_member (λ key value. is_node_key key ≡ true) is.fields keys apart inside (refl, (refl, tt)) few)
+  known =
+      known_keys is.fields
+      (each_member (λ key value. is_node_key key ≡ true) is.fields keys apart inside (refl, (refl, tt)) few)
 
   shaped : has_shape is.fields ≡ true
   unfolding has_shape has_texts
@@ -91,11 +98,13 @@ module _ (size : ℕ) (value : Data) (register : Register) (is : IsNode size val
   table_node n h = rw is.is_table (node is.fields n kept (says n h) (rw (no_children, h.no_nodes) none))
 
 -- all nodes of the table
-pub table_nodes : (size : ℕ) (nodes : Items) (registers : List Register) (ns : List Node) → AllZip (IsNode size) (values nodes) registers
+pub table_nodes : (size : ℕ) (nodes : Items) (registers : List Register) (ns : List Node)
+    → AllZip (IsNode size) (values nodes) registers
     → AllZip IsRegisterNode registers ns → AreNodes nodes ns
 table_nodes size no_items [] [] are same = none
 table_nodes size no_items [] (n ∷ ns) are same = absurd same
 table_nodes size no_items (r ∷ rs) ns are same = absurd are
 table_nodes size (item d ds) [] ns are same = absurd are
 table_nodes size (item d ds) (r ∷ rs) [] are same = absurd same
-table_nodes size (item d ds) (r ∷ rs) (n ∷ ns) are same = more d n ds ns (table_node size d r are.0 n same.0) (table_nodes size ds rs ns are.1 same.1)
+table_nodes size (item d ds) (r ∷ rs) (n ∷ ns) are same =
+    more d n ds ns (table_node size d r are.0 n same.0) (table_nodes size ds rs ns are.1 same.1)

@@ -23,7 +23,16 @@ as_long R (x ∷ xs) (y ∷ ys) are = let rest = as_long R xs ys are.1 in omega 
 
 module _ (alloc : Global) where
   abbrev vector_of : (nodes : List Node) → length nodes ≤ 100 → Vec Node
-  vector_of nodes few = record { ptr = null_ptr; len = length nodes; cap = length nodes; alloc = alloc; items = nodes; ok = (refl, omega arith); small = omega (arith, few) }
+  vector_of nodes few =
+      record {
+        ptr = null_ptr;
+        len = length nodes;
+        cap = length nodes;
+        alloc = alloc;
+        items = nodes;
+        ok = (refl, omega arith);
+        small = omega (arith, few);
+      }
 
   abbrev node_of : Register → Node
   node_of register = roll-Node (record {
@@ -60,6 +69,8 @@ module _ (alloc : Global) where
   pub table_there : (document : Members) (session : Session) (form : IsFirstForm document session)
       → (table : Table) × AllZip IsRegisterNode form.registers table.nodes.items
   table_there document session form =
-      let long : length (values form.nodes) ≡ length form.registers = as_long (IsNode session.board.size) (values form.nodes) form.registers form.each_node in
-      let few : length (map node_of form.registers) ≤ 100 = omega (arith, long, form.nodes_listed.1, length-map form.registers node_of) in
+      let long : length (values form.nodes) ≡ length form.registers =
+      as_long (IsNode session.board.size) (values form.nodes) form.registers form.each_node in
+      let few : length (map node_of form.registers) ≤ 100 =
+      omega (arith, long, form.nodes_listed.1, length-map form.registers node_of) in
       (record { nodes = vector_of (map node_of form.registers) few }, are_nodes form.registers)

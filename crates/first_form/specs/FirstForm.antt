@@ -1,9 +1,11 @@
--- The first form of a session document: which parsed TOML stands for which session. A table in which some number of different
--- keys is found, and which has that number of keys, has exactly these. Profile; nodes, ids and addresses as uHAL has them.
+-- The first form of a session document: which parsed TOML stands for which session. A table in which some number of
+-- different keys is found, and which has that number of keys, has exactly these. Profile; nodes, ids and addresses as
+-- uHAL has them.
 use Rattle.std.specs.Prelude.{◌≡◌, ℕ, ◌≤◌, ◌<◌, pos, List, ◌++◌, length, map, codes, Contains, Some, IsTrue}
 use Rattle.std.specs.List.{AllZip, IsDistinct}
 use Rattle.std.specs.Str.{bytes_eq}
-use Rattle.toml.specs.Data.{Data, Items, no_items, item, Members, no_members, member, string, integer, array, table, get_member}
+use Rattle.toml.specs.Data.{Data, Items, no_items, item, Members, no_members, member, string, integer, array, table}
+use Rattle.toml.specs.Data.{get_member}
 use Rattle.ipb_base.specs.Word.{IsWord}
 use Rattle.address_table.specs.Rules.{is_id}
 use Rattle.first_form.specs.Numbers.{listed_items, range_addresses}
@@ -25,7 +27,8 @@ pub record HasNumber (fields : Members) (key : List ℕ) (number : ℕ) : Type 0
   pub under_key : get_member key fields ≡ Some value
   pub is_number : IsNumber value number
 
--- a node of the table has exactly the keys `id`, by the rule of ids, and `address`, a number below the size of the board's range
+-- a node of the table has exactly the keys `id`, by the rule of ids, and `address`, a number below the size of the
+-- board's range
 pub record IsNode (size : ℕ) (value : Data) (register : Register) : Type 0 where
   pub fields : Members
   pub is_table : value ≡ table fields
@@ -35,7 +38,8 @@ pub record IsNode (size : ℕ) (value : Data) (register : Register) : Type 0 whe
   pub address : HasNumber fields (codes "address") register.address
   pub below_size : register.address < size
 
--- a range has exactly the keys `base`, which is 0, `size`, from 1 to 65,536, and `init`, an array of no more numbers than its size
+-- a range has exactly the keys `base`, which is 0, `size`, from 1 to 65,536, and `init`, an array of no more numbers
+-- than its size
 pub record IsRange (value : Data) (size : ℕ) (init : List ℕ) : Type 0 where
   pub fields : Members
   pub is_table : value ≡ table fields
@@ -49,7 +53,8 @@ pub record IsRange (value : Data) (size : ℕ) (init : List ℕ) : Type 0 where
   pub words : AllZip IsNumber (values numbers) init
   pub fits : length (values numbers) ≤ size
 
--- a board has exactly the keys `name`, by the rule of ids, `table`, the name of the table, and `ranges`, an array of one range
+-- a board has exactly the keys `name`, by the rule of ids, `table`, the name of the table, and `ranges`, an array of
+-- one range
 pub record IsBoard (table_name : List ℕ) (value : Data) (board : BoardSpec) : Type 0 where
   pub fields : Members
   pub is_table : value ≡ table fields
@@ -67,7 +72,8 @@ pub record IsRead (board_name : List ℕ) (registers : List Register) (value : D
   pub named : Contains registers register
 
 -- a client has exactly the key `script`, an array of 1 to 100 lines
-pub record IsClient (board_name : List ℕ) (registers : List Register) (value : Data) (script : List Register) : Type 0 where
+pub record IsClient (board_name : List ℕ) (registers : List Register) (value : Data)
+    (script : List Register) : Type 0 where
   pub fields : Members
   pub is_table : value ≡ table fields
   pub no_other_key : member_count fields ≡ 1
@@ -76,8 +82,8 @@ pub record IsClient (board_name : List ℕ) (registers : List Register) (value :
   pub reads : AllZip (IsRead board_name registers) (values lines) script
   pub listed : IsListed (values lines)
 
--- A document has exactly the keys `tables`, which has one table of 1 to 100 nodes with different ids, `board`, an array of one
--- board, and `client`, an array of one client.
+-- A document has exactly the keys `tables`, which has one table of 1 to 100 nodes with different ids, `board`, an array
+-- of one board, and `client`, an array of one client.
 pub record IsFirstForm (document : Members) (session : Session) : Type 0 where
   pub no_other_key : member_count document ≡ 3
   pub table_name : List ℕ

@@ -1,5 +1,5 @@
--- What a document of the first form is among whole session documents: the session of `script_lang` that it stands for. What it
--- leaves out has its default there. Profile.
+-- What a document of the first form is among whole session documents: the session of `script_lang` that it stands for.
+-- What it leaves out has its default there. Profile.
 use Rattle.std.specs.Prelude.{◌≡◌, ℕ, List, [], ◌∷◌, ◌++◌, map, codes, None}
 use Rattle.std.specs.FinMap.{insert, empty}
 use Rattle.address_table.specs.declared.kinds.Mode.TheVariants.{Single}
@@ -26,8 +26,8 @@ pub record IsRegisterNode (register : Register) (node : Node) : Type 0 where
   pub no_description : (out-Node node).description ≡ []
   pub no_nodes : (out-Node node).nodes.items ≡ []
 
--- the board: simulated, with an MTU of 1500 bytes, 16 response buffers and identifiers from 1, one range of read-write words from
--- address 0 on, and a link that delivers each datagram
+-- the board: simulated, with an MTU of 1500 bytes, 16 response buffers and identifiers from 1, one range of read-write
+-- words from address 0 on, and a link that delivers each datagram
 abbrev pub whole_board : List ℕ → BoardSpec → WholeBoard
 whole_board table_name board = record {
   name = board.name;

@@ -19,7 +19,7 @@ ghost use Rattle.transcript.specs.Lines.{transcript_of, run_status};
 ghost use Rattle.transcript.specs.Text.{transcript_text};
 ghost use Rattle.direct_run.specs.Runs.{runs_from};
 ghost use Rattle.session_input.specs.Numbers.{document_bytes};
-ghost use Rattle.ipbus_program.specs.declared.command.Command.TheVariants.{Run};
+ghost use Rattle.command_words.specs.declared.command.Command.TheVariants.{Run};
 ghost use Rattle.ipbus_program.specs.Numbers.{done_status};
 ghost use Rattle.ipbus_program.specs.Runs.{Owes};
 ghost use Rattle.first_form.specs.FirstSteps.{read_steps};
@@ -85,8 +85,8 @@ pub fn the_first_form_prints_opening_words()
 }
 
 /// Bytes of a document of the first form, no more than a document may have, stand for a session that can be run. Over
-/// links that tell, where nothing was held and nothing failed, the command `run` owes it status 0 and the words that the
-/// board opens with, each in its line's place, and nothing else.
+/// links that tell, where nothing was held and nothing failed, the command `run` owes it status 0 and the words that
+/// the board opens with, each in its line's place, and nothing else.
 pub fn a_document_of_the_first_form_runs()
     ensures runnable { (alloc : Global) (bytes : List ℕ) (document : Members) (session : Session)
         → length bytes ≤ document_bytes → IsToml bytes document → IsFirstForm document session

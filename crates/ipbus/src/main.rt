@@ -1,21 +1,18 @@
-//! `ipbus`: reads a session document from standard input, and either runs its scripts on its boards over simulated
-//! links and prints what they answered, or lists the registers of one of its tables. The exit status is that of
-//! `control`; beside some of them a line on standard error says what happened.
+//! `ipbus`: reads a session document from standard input, and either runs its scripts on its boards and prints what
+//! they answered, or serves TCP connections at its boards and prints what they did, or lists the registers of one of
+//! its tables; or runs a generated session and prints its sums. The exit status is that of `control`; beside some
+//! of them a line on standard error says what happened.
 #![tactic(auto)]
 
 use ipbus_program::{
-    NO_MEMORY, NoGate, RACK_FAULT, READ_FAULT, ReaderSource, USAGE, WRITE_FAULT, WriterSink,
-    control,
+    DOOR_FAULT, NO_MEMORY, NoGate, RACK_FAULT, READ_FAULT, USAGE, WRITE_FAULT, control,
 };
-use lossy_network::SimRack;
+use net_edges::{RealRack, StdinSource, StdoutSink, TcpDoor};
 use std::alloc::{AllocError, Global};
 use std::env;
-use std::io::{ErrorKind, Read, Write};
-use std::marker::Sync;
+use std::io::ErrorKind;
 use std::process::ExitCode;
 use std::rt::Env;
-use std::sync::Wait;
-use std::thread::Threads;
 
 /// The words after the program's name. Words that are not UTF-8 are none that the program knows, as no words are.
 fn words<R: Env + AllocGlobal>(rt: &R) -> Result<Vec<String>, AllocError> {
@@ -46,27 +43,32 @@ fn note(status: u8) -> Option<&'static str> {
         WRITE_FAULT => Some("the output could not be written; at most a part of the text was"),
         NO_MEMORY => Some("memory ran out; nothing was written"),
         RACK_FAULT => Some("a link to a board could not be made; nothing was written"),
+        DOOR_FAULT => Some(
+            "the port could not be listened to, or a connection not be accepted; nothing was written",
+        ),
         _ => None,
     }
 }
 
-/// Does what the words ask, over an input, an output and a rack of simulated links, and answers the status.
-fn answer<T: Threads + Wait + Sync, R: Read + Drop, W: Write + Drop>(
-    rt: &T,
-    alloc: Global,
-    words: &[String],
-    input: R,
-    output: W,
-) -> u8 {
-    let mut input = ReaderSource::new(input);
-    let mut out = WriterSink::new(output);
-    let mut rack = SimRack::new(alloc, Vec::new(alloc), Vec::new(alloc));
-    control(rt, alloc, words, &mut input, &mut out, &mut rack, &NoGate)
-}
-
+/// Does what the words ask, over the real outside, and ends with the status.
 fn main(rt: HostRuntime) -> ExitCode {
     let status = match words(&rt) {
-        Ok(words) => answer(&rt, rt.alloc(), &words, rt.stdin(), rt.stdout()),
+        Ok(words) => {
+            let mut input = StdinSource::new(&rt);
+            let mut out = StdoutSink::new(&rt);
+            let mut rack = RealRack::new(&rt);
+            let mut door = TcpDoor::new(&rt);
+            control(
+                &rt,
+                rt.alloc(),
+                &words,
+                &mut input,
+                &mut out,
+                &mut rack,
+                &mut door,
+                &NoGate,
+            )
+        }
         Err(_) => NO_MEMORY,
     };
     if let Some(note) = note(status) {

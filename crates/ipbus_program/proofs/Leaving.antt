@@ -1,9 +1,14 @@
 -- What a run leaves, put together from what its steps say.
-use Rattle.std.proofs.Common.{◌≡◌, inl, inr, ℕ, ◌+◌, ◌≤◌, Bool, true, false, if◌then◌else◌, List, [], length, Result, Ok, Err, IfOk}
-use Rattle.std.proofs.Common.{refl, sym, ap, ◌∙◌, append-nil, arith}
+use Rattle.std.proofs.Common.{◌≡◌, inl, inr, ℕ, ◌+◌, ◌≤◌, Bool, true, false, if◌then◌else◌, List, [], ◌∷◌, length}
+use Rattle.std.proofs.Common.{Result, Ok, Err, IfOk, suc}
+use Rattle.std.proofs.Common.{refl, sym, ap, ◌∙◌, subst, append-nil, arith}
 use Rattle.std.specs.List.{AllByRecursion}
 use Rattle.std.specs.Result.{IsErr, IsErrAnd}
 use Rattle.lane_history.specs.Links.{LinkReport, IsUntouched}
+use Rattle.hub_lane.specs.declared.answers.BoardState.{BoardState}
+use Rattle.hub_session.specs.declared.served.Served.{Served}
+use Rattle.session_serve.specs.Boards.{states_of}
+use Rattle.session_serve.specs.Connections.{Conversation, HaveExchanged}
 use Rattle.lane_history.specs.Runs.{AreRunsOver}
 use Rattle.script_lang.specs.declared.operation.Step.{Step}
 use Rattle.script_lang.specs.declared.session.Session.{Session}
@@ -16,13 +21,22 @@ use Rattle.session_run.specs.Links.{AreLeft}
 use Rattle.transcript.specs.declared.board_run.BoardRun.{BoardRun}
 use Rattle.transcript.specs.Lines.{transcript_of, all_good, run_status}
 use Rattle.transcript.specs.Text.{transcript_text}
-use Rattle.ipbus_program.specs.declared.command.Command.{Command}
-use Rattle.ipbus_program.specs.declared.command.Command.TheVariants.{Run}
-use Rattle.ipbus_program.specs.declared.running.Answer.{Answer}
-use Rattle.ipbus_program.specs.Below.{RunLaws}
+use Rattle.session_serve.specs.declared.report.ServeFault.{ServeFault}
+use Rattle.session_serve.specs.declared.report.ServeFault.TheVariants as serve
+use Rattle.session_serve.specs.Pairs.{PairReport}
+use Rattle.command_words.specs.declared.command.Command.{Command}
+use Rattle.command_words.specs.declared.command.Command.TheVariants.{Run, Serve}
+use Rattle.ipbus_program.specs.declared.answer.Answer.{Answer}
+use Rattle.ipbus_program.specs.Below.{RunLaws, ServeLaws}
+use Rattle.ipbus_program.specs.Headline.{RanSomeOf}
+use Rattle.ipbus_program.specs.Serving.{IsLinkedTo, IsServiceOf}
 use Rattle.ipbus_program.specs.Numbers.{refused_status}
-use Rattle.ipbus_program.specs.Runs.{Owes, breaks_in}
-use Rattle.ipbus_program.specs.Steps.{Prints, RunLeaves, Leaves, RanSomeBy}
+use Rattle.ipbus_program.specs.Runs.{Owes, Reads, breaks_in}
+use Rattle.ipbus_program.specs.declared.answer.NoAnswer.{NoAnswer}
+use Rattle.ipbus_program.specs.declared.answer.NoAnswer.TheVariants.{DoorFault, RackFault, ReadFault}
+use Rattle.ipbus_program.specs.Steps.{IsFailure, no_answer_of, no_answer_served}
+use Rattle.ipbus_program.specs.Steps.{IsRunFailure, IsServeFailure, Leaves, Prints, RunLeaves, ServeLeaves}
+use Rattle.ipbus_program.specs.Steps.{ServesSession}
 use Rattle.ipbus_program.proofs.Kept.{Told}
 
 -- ---- a run
@@ -47,7 +61,8 @@ run_failed session steps made makes (Err why) fault links left counted fails is 
   untouched = λ rack. untouched (sym is ∙ ap failure rack);
 }
 
-pub run_printed : (session : Session) (steps : List (List Step)) (made makes : ℕ) (answer : Answer) (runs : List BoardRun)
+pub run_printed : (session : Session) (steps : List (List Step)) (made makes : ℕ) (answer : Answer)
+    (runs : List BoardRun)
     (links : List LinkReport) → AreLeft 0 session.boards steps links → makes ≡ made + length links
     → AreRunsOver session.settings 0 session.boards steps runs links
     → answer.text.items ≡ transcript_text (transcript_of steps runs)
@@ -70,6 +85,9 @@ not_refused session steps links status text prints refused =
     let small = zero_or_one (all_good (transcript_of steps prints.runs).clients) in
     let told = prints.told in
     omega (arith, small, told, refused)
+
+pub same_Err : {T E : Type 0} (why other : E) → ◌≡◌ {A = Result T E} (Err why) (Err other) → why ≡ other
+same_Err why other same = cc
 
 -- ---- of bytes
 
@@ -96,50 +114,204 @@ owed_by laws bytes session steps links (Ok answer) runs prints =
     })
 owed_by laws bytes session steps links (Err why) runs prints = tt
 
+as_many_came : (boards : List BoardState) (client : ℕ) (cs : List Conversation) (came back : List PairReport)
+    (served : List Served) → HaveExchanged boards client cs came back served → length came ≡ length served
+as_many_came boards client [] [] [] [] is = refl
+as_many_came boards client [] [] [] (served ∷ serveds) is = absurd is
+as_many_came boards client [] [] (back ∷ backs) served is = absurd is
+as_many_came boards client [] (came ∷ cames) back served is = absurd is
+as_many_came boards client (c ∷ cs) [] back served is = absurd is
+as_many_came boards client (c ∷ cs) (came ∷ cames) [] served is = absurd is
+as_many_came boards client (c ∷ cs) (came ∷ cames) (back ∷ backs) [] is = absurd is
+as_many_came boards client (c ∷ cs) (came ∷ cames) (back ∷ backs) (served ∷ serveds) is =
+    ap suc (as_many_came boards (client + 1) cs cames backs serveds is.1)
+
+pub service_of : ServeLaws → (count : ℕ) (bytes : List ℕ) (session : Session) (steps : List (List Step))
+    (links : List LinkReport) (came back : List PairReport) (status : ℕ) (text : List ℕ)
+    → IsRunnable bytes session steps
+    → ServesSession session count links came back status text → IsServiceOf bytes count links came back status text
+service_of laws count bytes session steps links came back status text runs serves = record {
+  session = session;
+  steps = steps;
+  runnable = runs;
+  connections = serves.connections;
+  lines = serves.lines;
+  spelled = serves.spelled;
+  pairs = as_many_came (states_of serves.served.boards) 1 serves.served.conversations came back serves.connections
+      serves.served.exchanged ∙ serves.all;
+  as_many = serves.all;
+  memory = serves.memory;
+  served = serves.served;
+  rightly = laws.rightly bytes session serves.served.boards links runs.stands serves.served.over_links;
+  frames = laws.frames bytes session links came back serves.connections serves.lines serves.served runs.stands;
+  unasked = laws.unasked session.settings session.boards links came back serves.connections serves.lines serves.served;
+  ruled = laws.ruled session.settings session.boards links came back serves.connections serves.lines serves.served;
+  numbers = laws.numbers session.settings session.boards links came back serves.connections serves.lines serves.served
+      serves.memory;
+  status' = serves.told;
+}
+
+service_owed : ServeLaws → (port count : ℕ) (bytes : List ℕ) (session : Session) (steps : List (List Step))
+    (links : List LinkReport) (result : Result Answer ServeFault) → IsRunnable bytes session steps
+    → IfOk result (λ answer. (came : List PairReport) × (back : List PairReport)
+    × ServesSession session count links came back answer.status answer.text.items)
+    → IfOk result (λ answer. Owes (Serve port count) bytes links answer.status answer.text.items)
+service_owed laws port count bytes session steps links (Ok answer) runs serves =
+    inl (
+      serves.0,
+      serves.1,
+      service_of laws count bytes session steps links serves.0 serves.1 answer.status
+          answer.text.items runs serves.2,
+    )
+service_owed laws port count bytes session steps links (Err why) runs serves = tt
+
 pub run_leaves : RunLaws → (bytes : List ℕ) (session : Session) (steps : List (List Step)) (made makes : ℕ)
     (result : Result Answer RunFault) (links : List LinkReport) → IsRunnable bytes session steps
-    → RunLeaves session steps made makes result links → Leaves Run bytes made makes result links
+    → RunLeaves session steps made makes result links → Leaves IsRunFailure Rack Run bytes made makes result links
 run_leaves laws bytes session steps made makes result links runs leaves =
-    let ran : RanSomeBy Run bytes links = record {
-      asked = refl;
-      ran = record { session = session; steps = steps; runnable = runs; left = leaves.left };
-    } in record {
+    let ran : RanSomeOf bytes links =
+    record { session = session; steps = steps; runnable = runs; left = leaves.left } in record {
       used = inr ran;
       counted = leaves.counted;
       owed = owed_by laws bytes session steps links result runs leaves.prints;
-      untouched = λ rack. (ran, leaves.untouched rack);
+      behind = λ fault is failed. ran;
+      untouched = leaves.untouched;
     }
 
--- nothing was made
-nothing_used : (command : Command) (bytes : List ℕ) (made : ℕ) (result : Result Answer RunFault)
-    → IfOk result (λ answer. Owes command bytes [] answer.status answer.text.items) → (result ≡ Err Rack → ⊥)
-    → Leaves command bytes made made result []
-nothing_used command bytes made result owed calm =
-    record { used = inl refl; counted = omega arith; owed = owed; untouched = λ rack. absurd (calm rack) }
+-- ---- a server
 
-pub nothing_left : {L : Type 0} (shown : L → LinkReport) (kept : List L) (command : Command) (bytes : List ℕ) (made : ℕ)
-    (result : Result Answer RunFault)
-    → IfOk result (λ answer. Owes command bytes [] answer.status answer.text.items) → (result ≡ Err Rack → ⊥)
-    → Told shown kept kept (Leaves command bytes made made result)
-nothing_left shown kept command bytes made result owed calm =
-    ([], sym (append-nil kept), nothing_used command bytes made result owed calm)
+pub serve_leaves : ServeLaws → (count port : ℕ) (bytes : List ℕ) (session : Session) (steps : List (List Step))
+    (made makes : ℕ) (result : Result Answer ServeFault) (links : List LinkReport) → IsRunnable bytes session steps
+    → ServeLeaves session made makes result links
+    → IfOk result (λ answer. (came : List PairReport) × (back : List PairReport)
+    × ServesSession session count links came back answer.status answer.text.items)
+    → Leaves IsServeFailure serve.Rack (Serve port count) bytes made makes result links
+serve_leaves laws count port bytes session steps made makes result links runs leaves serves =
+    let linked : IsLinkedTo bytes links =
+    record { session = session; steps = steps; runnable = runs; linked = leaves.linked } in record {
+      used = inr linked;
+      counted = leaves.counted;
+      owed = service_owed laws port count bytes session steps links result runs serves;
+      behind = λ fault is failed. linked;
+      untouched = leaves.untouched;
+    }
 
-pub failure_left : {L : Type 0} (shown : L → LinkReport) (kept : List L) (command : Command) (bytes : List ℕ) (made : ℕ)
-    (result : Result Answer RunFault) (fault : RunFault)
-    → IsErr result → IsErrAnd result (λ why. why ≡ fault) → (fault ≡ Rack → ⊥)
-    → Told shown kept kept (Leaves command bytes made made result)
-unfolding failure
-failure_left shown kept command bytes made (Ok answer) fault fails is calm = absurd cc
-failure_left shown kept command bytes made (Err why) fault fails is calm =
-    nothing_left shown kept command bytes made (Err why) tt (λ rack. calm (sym is ∙ ap failure rack))
+-- ---- nothing was made
 
-pub refusal_left : {L : Type 0} (shown : L → LinkReport) (kept : List L) (command : Command) (bytes : List ℕ) (made : ℕ)
-    (answer : Answer) (refusal : Refusal) → Deserves (breaks_in command) bytes refusal
-    → answer.status ≡ refused_status → answer.text.items ≡ refusal_line refusal
-    → Told shown kept kept (Leaves command bytes made made (Ok answer))
-refusal_left shown kept command bytes made answer refusal deserved status text =
-    nothing_left shown kept command bytes made (Ok answer)
-    (inr (status, record { refusal = refusal; deserved = deserved; line = text })) (λ rack. cc)
+module _ {E : Type 0} (Fails : E → Type 0) (rack_failed : E) where
+  nothing_used : (command : Command) (bytes : List ℕ) (made : ℕ) (result : Result Answer E)
+      → IfOk result (λ answer. Owes command bytes [] answer.status answer.text.items)
+      → ((fault : E) → result ≡ Err fault → Fails fault → ⊥)
+      → Leaves Fails rack_failed command bytes made made result []
+  nothing_used command bytes made result owed calm = record {
+    used = inl refl;
+    counted = omega arith;
+    owed = owed;
+    behind = λ fault is failed. absurd (calm fault is failed);
+    untouched = λ rack. tt;
+  }
+
+  pub nothing_left : {L : Type 0} (shown : L → LinkReport) (kept : List L) (command : Command) (bytes : List ℕ)
+      (made : ℕ)
+      (result : Result Answer E)
+      → IfOk result (λ answer. Owes command bytes [] answer.status answer.text.items)
+      → ((fault : E) → result ≡ Err fault → Fails fault → ⊥)
+      → Told shown kept kept (Leaves Fails rack_failed command bytes made made result)
+  nothing_left shown kept command bytes made result owed calm =
+      ([], sym (append-nil kept), nothing_used command bytes made result owed calm)
+
+  same_error : (result : Result Answer E) (fault other : E) → IsErrAnd result (λ why. why ≡ fault) → result ≡ Err other
+      → other ≡ fault
+  same_error (Ok answer) fault other is same = absurd cc
+  same_error (Err why) fault other is same = sym (same_Err why other same) ∙ is
+
+  pub failure_left : {L : Type 0} (shown : L → LinkReport) (kept : List L) (command : Command) (bytes : List ℕ)
+      (made : ℕ)
+      (result : Result Answer E) (fault : E)
+      → IsErr result → IsErrAnd result (λ why. why ≡ fault) → (Fails fault → ⊥)
+      → Told shown kept kept (Leaves Fails rack_failed command bytes made made result)
+  failure_left shown kept command bytes made (Ok answer) fault fails is calm = absurd cc
+  failure_left shown kept command bytes made (Err why) fault fails is calm =
+      nothing_left shown kept command bytes made (Err why) tt
+      (λ other same failed. calm (subst Fails (same_error (Err why) fault other is same) failed))
+
+  pub error_left : {L : Type 0} (shown : L → LinkReport) (kept : List L) (command : Command) (bytes : List ℕ) (made : ℕ)
+      (why : E) → (Fails why → ⊥) → Told shown kept kept (Leaves Fails rack_failed command bytes made made (Err why))
+  error_left shown kept command bytes made why calm =
+      nothing_left shown kept command bytes made (Err why) tt
+      (λ other same failed. calm (subst Fails (sym (same_Err why other same)) failed))
+
+  pub refusal_left : {L : Type 0} (shown : L → LinkReport) (kept : List L) (command : Command) (bytes : List ℕ)
+      (made : ℕ)
+      (answer : Answer) (refusal : Refusal) → Reads command → Deserves (breaks_in command) bytes refusal
+      → answer.status ≡ refused_status → answer.text.items ≡ refusal_line refusal
+      → Told shown kept kept (Leaves Fails rack_failed command bytes made made (Ok answer))
+  refusal_left shown kept command bytes made answer refusal reads deserved status text =
+      nothing_left shown kept command bytes made (Ok answer)
+      (inr (status, record { reads = reads; refusal = refusal; deserved = deserved; line = text }))
+      (λ fault is failed. absurd cc)
+
+-- ---- the same with another error
+
+pub run_behind : (fault : RunFault) → IsFailure (no_answer_of fault) → IsRunFailure fault
+run_behind Rack failed = tt
+run_behind NoMemory failed = failed
+
+pub run_rack : (fault : RunFault) → no_answer_of fault ≡ RackFault → fault ≡ Rack
+run_rack Rack is = refl
+run_rack NoMemory is = absurd cc
+
+pub run_no_door : (fault : RunFault) (result : Result Answer NoAnswer)
+    → IsErrAnd result (λ why. why ≡ no_answer_of fault)
+    → result ≡ Err DoorFault → ⊥
+run_no_door fault (Ok answer) is door = absurd cc
+run_no_door Rack (Err why) is door = absurd cc
+run_no_door NoMemory (Err why) is door = absurd cc
+
+pub run_no_read : (fault : RunFault) (result : Result Answer NoAnswer)
+    → IsErrAnd result (λ why. why ≡ no_answer_of fault)
+    → result ≡ Err ReadFault → ⊥
+run_no_read fault (Ok answer) is read = absurd cc
+run_no_read Rack (Err why) is read = absurd cc
+run_no_read NoMemory (Err why) is read = absurd cc
+
+pub serve_behind : (fault : ServeFault) → IsFailure (no_answer_served fault) → IsServeFailure fault
+serve_behind serve.Rack failed = tt
+serve_behind serve.Door failed = tt
+serve_behind serve.NoMemory failed = failed
+
+pub serve_rack : (fault : ServeFault) → no_answer_served fault ≡ RackFault → fault ≡ serve.Rack
+serve_rack serve.Rack is = refl
+serve_rack serve.Door is = absurd cc
+serve_rack serve.NoMemory is = absurd cc
+
+module _ {E F : Type 0} (Fails : E → Type 0) (rack : E) (Failed : F → Type 0) (rack_now : F) (command : Command)
+    (bytes : List ℕ) (made makes : ℕ) (links : List LinkReport) where
+  pub done_as : (answer : Answer) → Leaves Fails rack command bytes made makes (Ok answer) links
+      → Leaves Failed rack_now command bytes made makes (Ok answer) links
+  done_as answer leaves = record {
+    used = leaves.used;
+    counted = leaves.counted;
+    owed = leaves.owed;
+    behind = λ fault is failed. absurd cc;
+    untouched = λ is. absurd cc;
+  }
+
+  pub failed_as : (convert : E → F) (fault : E) (result : Result Answer F)
+      → (Failed (convert fault) → Fails fault) → (convert fault ≡ rack_now → fault ≡ rack)
+      → IsErr result → IsErrAnd result (λ why. why ≡ convert fault)
+      → Leaves Fails rack command bytes made makes (Err fault) links
+      → Leaves Failed rack_now command bytes made makes result links
+  failed_as convert fault (Ok answer) behind is_rack fails is leaves = absurd cc
+  failed_as convert fault (Err why) behind is_rack fails is leaves = record {
+    used = leaves.used;
+    counted = leaves.counted;
+    owed = tt;
+    behind = λ other same failed.
+        leaves.behind fault refl
+        (behind (subst Failed (sym (same_Err why other same) ∙ is) failed));
+    untouched = λ same. leaves.untouched (ap Err (is_rack (sym is ∙ same_Err why rack_now same)));
+  }
 
 pub kept_unless_refused : (P : Type 0) (session : Session) (steps : List (List Step)) (links : List LinkReport)
     (result : Result Answer RunFault)

@@ -7,3 +7,5 @@ pub mod OneAnswer
 pub mod Reading
 pub mod Ready
 pub mod Refusing
+pub mod Services
+pub mod Summing

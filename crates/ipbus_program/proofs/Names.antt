@@ -10,7 +10,8 @@ use Rattle.lane_history.specs.Links.{LinkReport}
 use Rattle.lane_history.specs.Runs.{AreRunsOver}
 
 name_at : (settings : Limits) (board : ℕ) (specs : List BoardSpec) (scripts : List (List Step)) (runs : List BoardRun)
-    (links : List LinkReport) → AreRunsOver settings board specs scripts runs links → (k : ℕ) (d : BoardRun) (e : BoardSpec)
+    (links : List LinkReport) → AreRunsOver settings board specs scripts runs links
+    → (k : ℕ) (d : BoardRun) (e : BoardSpec)
     → k < length runs → (k < length specs) × ((get_or runs k d).name ≡ (get_or specs k e).name)
 name_at settings board specs scripts [] links is k d e within = absurd (omega arith)
 name_at settings board [] scripts (run ∷ runs) links is k d e within = absurd is

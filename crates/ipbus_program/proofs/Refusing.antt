@@ -6,23 +6,27 @@ use Rattle.session_input.specs.declared.refusal.Refusal.{Refusal}
 use Rattle.session_input.specs.Deserved.{Deserves, IsListed}
 use Rattle.session_input.specs.Lines.{refusal_line}
 use Rattle.transcript.specs.Listing.{listing_text}
-use Rattle.ipbus_program.specs.declared.command.Command.{Command}
-use Rattle.ipbus_program.specs.declared.command.Command.TheVariants.{Check}
-use Rattle.ipbus_program.specs.declared.running.Answer.{Answer}
+use Rattle.command_words.specs.declared.command.Command.{Command}
+use Rattle.command_words.specs.declared.command.Command.TheVariants.{Check}
+use Rattle.ipbus_program.specs.declared.answer.Answer.{Answer}
 use Rattle.ipbus_program.specs.Numbers.{refused_status}
-use Rattle.ipbus_program.specs.Runs.{Owes, breaks_in, listing_status}
+use Rattle.ipbus_program.specs.Runs.{Owes, Reads, breaks_in, listing_status}
 
-pub refused_answer : {E : Type 0} (command : Command) (bytes : List ℕ) (links : List LinkReport) (refusal : Refusal) (result : Result Answer E)
-    → Deserves (breaks_in command) bytes refusal
-    → IfOk result (λ answer. answer.status ≡ refused_status) → IfOk result (λ answer. answer.text.items ≡ refusal_line refusal)
+pub refused_answer : {E : Type 0} (command : Command) (bytes : List ℕ) (links : List LinkReport) (refusal : Refusal)
+    (result : Result Answer E)
+    → Reads command → Deserves (breaks_in command) bytes refusal
+    → IfOk result (λ answer. answer.status ≡ refused_status)
+    → IfOk result (λ answer. answer.text.items ≡ refusal_line refusal)
     → IfOk result (λ answer. Owes command bytes links answer.status answer.text.items)
-refused_answer command bytes links refusal (Ok answer) deserved status text =
-    inr (status, record { refusal = refusal; deserved = deserved; line = text })
-refused_answer command bytes links refusal (Err why) deserved status text = tt
+refused_answer command bytes links refusal (Ok answer) reads deserved status text =
+    inr (status, record { reads = reads; refusal = refusal; deserved = deserved; line = text })
+refused_answer command bytes links refusal (Err why) reads deserved status text = tt
 
-pub listed_answer : {E : Type 0} (bytes table : List ℕ) (links : List LinkReport) (registers : RegisterMap) (result : Result Answer E)
+pub listed_answer : {E : Type 0} (bytes table : List ℕ) (links : List LinkReport) (registers : RegisterMap)
+    (result : Result Answer E)
     → IsListed bytes table registers
-    → IfOk result (λ answer. answer.text.items ≡ listing_text registers) → IfOk result (λ answer. answer.status ≡ listing_status registers)
+    → IfOk result (λ answer. answer.text.items ≡ listing_text registers)
+    → IfOk result (λ answer. answer.status ≡ listing_status registers)
     → IfOk result (λ answer. Owes (Check table) bytes links answer.status answer.text.items)
 listed_answer bytes table links registers (Ok answer) listed text status =
     inl (record { registers = registers; listed = listed; spelled = text; told = status })

@@ -4,7 +4,7 @@ use Rattle.std.specs.List.{AllByRecursion, AllZip}
 use Rattle.direct_run.specs.Lines.{IsBusLine}
 use Rattle.direct_run.specs.Runs.{runs_from}
 use Rattle.lane_history.specs.Links.{IsFaithful, LinkReport}
-use Rattle.lane_history.specs.Runs.{AreRunsOver, AreWholeRuns, HaveOwnBoards, IsLineOfRounds, IsUngarbledLine}
+use Rattle.lane_history.specs.Runs.{AreRunsOver, AreWholeRuns, HaveOwnBoards, IsLineOfRounds, IsUngarbledWhereTold}
 use Rattle.lane_history.specs.Runs.{ShowAloneRuns, TimeOutsWaited}
 use Rattle.node_tree.specs.Maps.{RegisterMap}
 use Rattle.script_lang.specs.declared.operation.Step.{Step}
@@ -13,9 +13,21 @@ use Rattle.script_lang.specs.Document.{SameSession, StandsFor}
 use Rattle.script_lang.specs.Executable.{AreExecutable, OpensOnWords}
 use Rattle.session_input.specs.declared.refusal.Refusal.{Refusal}
 use Rattle.transcript.specs.declared.board_run.BoardRun.{BoardRun}
+use Rattle.transcript.specs.declared.line.BoardLine.{BoardLine}
+use Rattle.board_node.specs.declared.spec.BoardSpec.{BoardSpec}
+use Rattle.reliable_engine.specs.Settings.{Limits}
+use Rattle.served_history.specs.Boards.{AreServedOver, ServedBoard}
+use Rattle.hub_session.specs.declared.served.Served.{Served}
+use Rattle.session_serve.specs.Boards.{states_of}
+use Rattle.session_serve.specs.Pairs.{PairReport}
+use Rattle.session_serve.specs.Serving.{AreServed, HadMemory}
+use Rattle.served_answers.specs.Answers.{AllTellAnswers, HasWrittenAll}
+use Rattle.served_answers.specs.Frames.{HasUnaskedCodes, OfEachBoard, OfEachFrame}
+use Rattle.served_answers.specs.Ruled.{AreCodedByRules}
 use Rattle.transcript.specs.Lines.{transcript_of}
 use Rattle.transcript.specs.Shown.{ShowsAllPlaces}
 use Rattle.session_input.specs.Deserved.{BreaksInRun, BreaksInCheck, Deserves, IsRunnable, IsListed}
+use Rattle.ipbus_program.specs.Serving.{AreAnsweredRightly, AreServedRightly}
 
 -- bytes have one answer to a command
 pub record InputLaws : Type 0 where
@@ -38,11 +50,11 @@ pub record RunLaws : Type 0 where
   pub places : (bytes : List ℕ) (session : Session) (steps : List (List Step)) (runs : List BoardRun)
       (links : List LinkReport) → IsRunnable bytes session steps
       → AreRunsOver session.settings 0 session.boards steps runs links → ShowsAllPlaces (transcript_of steps runs)
-  -- none is garbled
+  -- none of a board whose link tells is garbled
   pub answered : (bytes : List ℕ) (session : Session) (steps : List (List Step)) (runs : List BoardRun)
       (links : List LinkReport) → IsRunnable bytes session steps
       → AreRunsOver session.settings 0 session.boards steps runs links
-      → AllByRecursion (AllByRecursion IsUngarbledLine) (transcript_of steps runs).clients
+      → AllByRecursion (AllByRecursion (IsUngarbledWhereTold runs links)) (transcript_of steps runs).clients
   -- a timed-out line shows the rounds of the session
   pub rounds : (bytes : List ℕ) (session : Session) (steps : List (List Step)) (runs : List BoardRun)
       (links : List LinkReport) → IsRunnable bytes session steps
@@ -74,9 +86,33 @@ OwnBoardsLaw =
     → IsRunnable bytes session steps → AreRunsOver session.settings 0 session.boards steps runs links
     → AllByRecursion IsFaithful links → HaveOwnBoards 0 session.boards steps → runs ≡ runs_from 0 session.boards steps
 
+-- what follows for the boards of a session that were served, and for the numbers of answers
+pub record ServeLaws : Type 0 where
+  pub rightly : (bytes : List ℕ) (session : Session) (boards : List ServedBoard) (links : List LinkReport)
+      → StandsFor bytes session → AreServedOver session.settings session.boards boards links
+      → AreServedRightly session.settings session.boards boards links
+  pub numbers : (settings : Limits) (specs : List BoardSpec) (links : List LinkReport) (came back : List PairReport)
+      (connections : List Served) (lines : List BoardLine)
+      (is : AreServed settings specs links came back connections lines)
+      → AllByRecursion HadMemory connections → AllByRecursion HasWrittenAll connections
+      → AllTellAnswers (states_of is.boards) is.conversations 0 lines
+  pub frames : (bytes : List ℕ) (session : Session) (links : List LinkReport) (came back : List PairReport)
+      (connections : List Served) (lines : List BoardLine)
+      (is : AreServed session.settings session.boards links came back connections lines) → StandsFor bytes session
+      → OfEachBoard (AreAnsweredRightly session.settings (states_of is.boards) is.conversations) session.boards links
+  pub unasked : (settings : Limits) (specs : List BoardSpec) (links : List LinkReport) (came back : List PairReport)
+      (connections : List Served) (lines : List BoardLine)
+      (is : AreServed settings specs links came back connections lines)
+      → OfEachFrame (HasUnaskedCodes specs (states_of is.boards)) is.conversations
+  pub ruled : (settings : Limits) (specs : List BoardSpec) (links : List LinkReport) (came back : List PairReport)
+      (connections : List Served) (lines : List BoardLine)
+      (is : AreServed settings specs links came back connections lines)
+      → (position : ℕ) → AreCodedByRules is.boards is.conversations position
+
 -- the ranges of a session name words
 abbrev pub RangesNameWords : Type 0
-RangesNameWords = (bytes : List ℕ) (session : Session) → StandsFor bytes session → AllByRecursion OpensOnWords session.boards
+RangesNameWords =
+    (bytes : List ℕ) (session : Session) → StandsFor bytes session → AllByRecursion OpensOnWords session.boards
 
 -- what its scripts ask can be executed
 abbrev pub CanBeExecuted : Type 0

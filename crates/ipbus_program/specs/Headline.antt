@@ -1,20 +1,23 @@
 -- THE HEADLINE: what `run` promises of the text that it writes with status 0 or 1.
 --
 -- Take any session, any way in which the threads of its clients take turns, and any losses, repeats, delays and changes
--- of order on the links. Each board has one order of packets. What is printed as the reply to an operation is what a bus
--- with a single thread answers at the printed places of that order; each packet that a board executed stands there once,
--- and those of a client in the order of its script. `timeout` is printed only after as many rounds as the line says, and
--- of a packet that was executed once or never.
+-- of order on the links. Each board has one order of packets, those of a client in the order of its script. Of a board
+-- whose link tells, as that of every simulated board does: what is printed as the reply to an operation is what a bus
+-- with a single thread answers at the printed places of that order, and each packet that the board executed stands
+-- there once. `timeout` is printed only after as many rounds as the line says, and where the link tells, of a packet
+-- that was executed once or never.
 --
 -- It is one record, `IsTranscriptOf`, whose parts are these words. Profile.
 --
 --   the session                  IsRunnable                              session_input/specs/Deserved
 --   the text                     transcript_of, transcript_text          transcript/specs/Lines, Text
---   one order on each board      HasOneOrder, ShowsAllPlaces             board_history/specs/Parts, transcript/specs/Shown
+--   one order on each board      HasOneOrder, ShowsAllPlaces             board_history/specs/Parts,
+--                                                                        transcript/specs/Shown
 --   each client in its order     KeepsScripts                            board_history/specs/Parts
 --   executed once                IsExecutedOnce                          board_history/specs/Parts
---   each reply                   AreRepliesOf, IsUngarbledLine           board_history/specs/Parts, lane_history/specs/Runs
---   timeouts                     GaveUpOnlyAfter, TimeOutsWaited,        board_history/specs/GiveUps, lane_history/specs/Runs
+--   each reply                   AreRepliesOf, IsUngarbledWhereTold      board_history/specs/Parts,
+--                                                                        lane_history/specs/Runs
+--   timeouts                     GaveUpOnlyAfter, TimeOutsWaited,        board_history/specs/GiveUps,
 --                                IsLineOfRounds                          lane_history/specs/Runs
 --   lost links, down, silent     IsLostOnlyIfFailed, IsDownRun,          lane_history/specs/Links, Runs
 --                                IsSilentRun                             lane_history/specs/Runs
@@ -29,7 +32,7 @@ use Rattle.std.specs.Prelude.{◌≡◌, ℕ, List}
 use Rattle.std.specs.List.{AllByRecursion, AllZip}
 use Rattle.lane_history.specs.Links.{LinkReport, IsFaithful}
 use Rattle.direct_run.specs.Lines.{IsBusLine}
-use Rattle.lane_history.specs.Runs.{AreRunsOver, AreWholeRuns, IsLineOfRounds, IsUngarbledLine}
+use Rattle.lane_history.specs.Runs.{AreRunsOver, AreWholeRuns, IsLineOfRounds, IsUngarbledWhereTold}
 use Rattle.lane_history.specs.Runs.{ShowAloneRuns, TimeOutsWaited}
 use Rattle.script_lang.specs.declared.operation.Step.{Step}
 use Rattle.script_lang.specs.declared.session.Session.{Session}
@@ -47,21 +50,22 @@ pub record IsTranscriptOf (bytes : List ℕ) (links : List LinkReport) (status :
   pub steps : List (List Step)
   pub runnable : IsRunnable bytes session steps
   -- there is an outcome for each body that the scripts ask of a board, such that of each board and its link: the bodies
-  -- that were sent have one order, each client's in that of its script; where the link tells, the board executed a front
-  -- of it, each body once, and each reply is that of a bus with a single thread; bodies were given up only after their
-  -- rounds, and lost only with a link that failed
+  -- that were sent have one order, each client's in that of its script; where the link tells, the board executed a
+  -- front of it, each body once, and each reply is that of a bus with a single thread; bodies were given up only after
+  -- their rounds, and lost only with a link that failed
   pub runs : List BoardRun
   pub boards : AreRunsOver session.settings 0 session.boards steps runs links
   -- the text is the transcript of these outcomes, and nothing else
   pub spelled : text ≡ transcript_text (transcript_of steps runs)
   -- it shows of each board the places 1, 2, .. up to the number in its line, and no other place
   pub places : ShowsAllPlaces (transcript_of steps runs)
-  -- no line is garbled: each reply answers the packet at its place
-  pub answered : AllByRecursion (AllByRecursion IsUngarbledLine) (transcript_of steps runs).clients
+  -- no line of a board whose link tells is garbled: each reply answers the packet at its place
+  pub answered : AllByRecursion (AllByRecursion (IsUngarbledWhereTold runs links)) (transcript_of steps runs).clients
   -- a line that was timed out shows the rounds of the session
-  pub rounds : AllByRecursion (AllByRecursion (IsLineOfRounds session.settings.rounds)) (transcript_of steps runs).clients
-  -- with so many timeouts in the line of a board, its link had the quiet receives of their rounds, and where it tells it
-  -- held a datagram in each
+  pub rounds : AllByRecursion (AllByRecursion (IsLineOfRounds session.settings.rounds))
+      (transcript_of steps runs).clients
+  -- with so many timeouts in the line of a board, its link had the quiet receives of their rounds, and where it tells
+  -- it held a datagram in each
   pub waited : AllZip (TimeOutsWaited session.settings) (transcript_of steps runs).boards links
   -- the status is 0 exactly where every line of an operation is a value, `done` or `was`
   pub told : status ≡ run_status (transcript_of steps runs).clients
@@ -73,9 +77,9 @@ pub record IsTranscriptOf (bytes : List ℕ) (links : List LinkReport) (status :
   pub whole : AllByRecursion IsFaithful links → AreWholeRuns session.boards runs links
   pub alone : AllByRecursion IsFaithful links → ShowAloneRuns 0 session.boards steps runs
 
--- At every status: the bytes stand for a session that can be run, and the links are those of its first boards, in order,
--- each given back once; what each board executed is a merge of bodies that the scripts ask of it, some of each client's,
--- in its order.
+-- At every status: the bytes stand for a session that can be run, and the links are those of its first boards, in
+-- order, each given back once; what each board executed is a merge of bodies that the scripts ask of it, some of each
+-- client's, in its order.
 pub record RanSomeOf (bytes : List ℕ) (links : List LinkReport) : Type 0 where
   pub session : Session
   pub steps : List (List Step)

@@ -1,6 +1,7 @@
 pub mod Numbers
-pub mod Commands
 pub mod Headline
+pub mod Serving
+pub mod Loading
 pub mod Runs
 pub mod Owed
 pub mod Outputs

@@ -1,7 +1,8 @@
 -- The exit statuses that a user of the program sees. Profile.
 use Rattle.std.specs.Prelude.{ℕ}
 
--- every line of an operation is a value, done or was; no registers overlap
+-- The text is whole, and all that it tells went well: no operation failed, no registers overlap, and no connection was
+-- ended otherwise than by its client, behind a whole frame.
 abbrev pub done_status : ℕ
 done_status = 0
 
@@ -32,3 +33,7 @@ no_memory_status = 6
 -- a link could not be made
 abbrev pub rack_fault_status : ℕ
 rack_fault_status = 7
+
+-- a port could not be listened to, or a connection not be accepted
+abbrev pub door_fault_status : ℕ
+door_fault_status = 8

@@ -1,19 +1,25 @@
 -- What the program owes to its words and its input. `before` and `now` are the bytes that the input had left at first
 -- and in the end, where it tells them. Profile.
-use Rattle.std.specs.Prelude.{◌≡◌, ◌⊎◌, ◌≤◌, ℕ, ◌+◌, List, [], length, map, true, Option, Some, None, is_some, string_bytes, String}
+use Rattle.std.specs.Prelude.{◌≡◌, ◌⊎◌, ◌≤◌, ℕ, ◌+◌, List, [], length, map, true, Option, Some, None, is_some}
+use Rattle.std.specs.Prelude.{string_bytes, String}
 use Rattle.std.specs.declared.alloc.Global.{Global}
 use Rattle.std.specs.Io.KnownBytes.{prepend_known, append_known, IsAtEnd}
+use Rattle.ipb_base.specs.Faults.{Rose}
 use Rattle.ipb_outside.specs.Told.{AppendsPart}
 use Rattle.lane_history.specs.Links.{LinkReport}
 use Rattle.session_input.specs.declared.refusal.Refusal.{Refusal}
 use Rattle.session_input.specs.Lines.{refusal_line}
 use Rattle.session_input.specs.Numbers.{document_bytes}
-use Rattle.ipbus_program.specs.declared.command.Command.{Command}
-use Rattle.ipbus_program.specs.declared.command.Command.TheVariants.{Run}
-use Rattle.ipbus_program.specs.Commands.{command_of, usage_text}
+use Rattle.command_words.specs.declared.command.Command.{Command}
+use Rattle.command_words.specs.declared.command.Command.TheVariants.{Run, Check, Serve, Load}
+use Rattle.command_words.specs.Commands.{command_of, usage_text}
 use Rattle.ipbus_program.specs.Numbers.{done_status, not_all_done_status, usage_status, refused_status}
 use Rattle.ipbus_program.specs.Numbers.{read_fault_status, write_fault_status, no_memory_status, rack_fault_status}
+use Rattle.ipbus_program.specs.Numbers.{door_fault_status}
+use Rattle.session_serve.specs.Pairs.{PairReport}
 use Rattle.ipbus_program.specs.Headline.{RanSomeOf}
+use Rattle.ipbus_program.specs.Loading.{AreLoaded}
+use Rattle.ipbus_program.specs.Serving.{IsLinkedTo, IsServiceOf}
 use Rattle.ipbus_program.specs.Runs.{IsDoneOf, IsRefusalOf}
 
 -- the words are this command, some command, or none
@@ -37,11 +43,18 @@ pub record IsRead (before now : Option (List ℕ)) (bytes : List ℕ) : Type 0 w
   pub most : length bytes ≤ document_bytes + 1
   pub stopped : IsAtEnd now ⊎ (length bytes ≡ document_bytes + 1)
 
+-- the command read the input to its end, and these bytes are all that it had; a load reads nothing
+abbrev pub IsReadBy : Command → Option (List ℕ) → Option (List ℕ) → List ℕ → Type 0
+IsReadBy Run before now bytes = IsReadToEnd before now bytes
+IsReadBy (Check table) before now bytes = IsReadToEnd before now bytes
+IsReadBy (Serve port count) before now bytes = IsReadToEnd before now bytes
+IsReadBy (Load count) before now bytes = (now ≡ before) × (bytes ≡ [])
+
 -- the bytes of the whole input break no rule of the command, and this status and this text are what it makes of them
 pub record IsDone (command : Command) (before now : Option (List ℕ)) (links : List LinkReport) (status : ℕ)
     (text : List ℕ) : Type 0 where
   pub bytes : List ℕ
-  pub read : IsReadToEnd before now bytes
+  pub read : IsReadBy command before now bytes
   pub done : IsDoneOf command bytes links status text
 
 -- the bytes that were read deserve a refusal, and the text is its line
@@ -81,11 +94,25 @@ OwesWords words before now links status text =
 abbrev pub OwesText : List (String Global) → Option (List ℕ) → Option (List ℕ) → List LinkReport → List ℕ → Type 0
 OwesText words before now links text = (status : ℕ) × OwesWords words before now links status text
 
+-- what a server owes to its input, where these links were given back, and these pairs came and went back
+pub record OwesService (count : ℕ) (before now : Option (List ℕ)) (links : List LinkReport)
+    (came back : List PairReport) (status : ℕ) (text : List ℕ) : Type 0 where
+  pub bytes : List ℕ
+  pub read : IsReadToEnd before now bytes
+  pub service : IsServiceOf bytes count links came back status text
+
+-- a text that a server owes: what it makes of its input, or the line of a refusal
+abbrev pub OwesServerText : List (String Global) → ℕ → Option (List ℕ) → Option (List ℕ) → List LinkReport
+    → List PairReport → List PairReport → List ℕ → Type 0
+OwesServerText words count before now links came back text =
+    ((status : ℕ) × OwesService count before now links came back status text) ⊎ OwesRefusal words before now text
+
 -- ---- the links
 
 -- The words are `run`, the input stands for a session that can be run, and the links are those of its first boards, in
 -- order: what each board executed is a merge of bodies that the scripts ask of it.
-pub record RanSome (words : List (String Global)) (before now : Option (List ℕ)) (links : List LinkReport) : Type 0 where
+pub record RanSome (words : List (String Global)) (before now : Option (List ℕ)) (links : List LinkReport)
+    : Type 0 where
   pub asked : AreCommand words Run
   pub bytes : List ℕ
   pub read : IsReadToEnd before now bytes
@@ -95,12 +122,65 @@ pub record RanSome (words : List (String Global)) (before now : Option (List ℕ
 abbrev pub RanNoneOrSome : List (String Global) → Option (List ℕ) → Option (List ℕ) → List LinkReport → Type 0
 RanNoneOrSome words before now links = (links ≡ []) ⊎ RanSome words before now links
 
+-- The words are `serve`, the input stands for a session that can be run, and the links are those of its first boards,
+-- in order.
+pub record ServedSome (words : List (String Global)) (before now : Option (List ℕ)) (links : List LinkReport) : Type 0
+  where
+    pub port : ℕ
+    pub count : ℕ
+    pub asked : AreCommand words (Serve port count)
+    pub bytes : List ℕ
+    pub read : IsReadToEnd before now bytes
+    pub linked : IsLinkedTo bytes links
+
+-- The words are `load`, nothing was read, and the links are those of the first boards of the generated session.
+pub record LoadedSome (words : List (String Global)) (before now : Option (List ℕ)) (links : List LinkReport) : Type 0
+  where
+    pub count : ℕ
+    pub asked : AreCommand words (Load count)
+    pub unread : now ≡ before
+    pub loaded : AreLoaded count links
+
+-- one of the three
+abbrev pub UsedSome : List (String Global) → Option (List ℕ) → Option (List ℕ) → List LinkReport → Type 0
+UsedSome words before now links =
+    RanSome words before now links ⊎ ServedSome words before now links ⊎ LoadedSome words before now links
+
+-- so it is where there are links at all
+abbrev pub UsedNoneOrSome : List (String Global) → Option (List ℕ) → Option (List ℕ) → List LinkReport → Type 0
+UsedNoneOrSome words before now links =
+    RanNoneOrSome words before now links ⊎ ServedSome words before now links ⊎ LoadedSome words before now links
+
+-- ---- the door
+
+-- a command that does not serve
+abbrev pub IsNoServer : Command → Type 0
+IsNoServer Run = Unit {0}
+IsNoServer (Check table) = Unit {0}
+IsNoServer (Serve port count) = ⊥
+IsNoServer (Load count) = Unit {0}
+
+-- the words are no command to serve
+abbrev pub AreNoServer : List (String Global) → Type 0
+AreNoServer words = (port count : ℕ) → ¬ AreCommand words (Serve port count)
+
+-- the count of faults of the door did not rise, where the command serves
+abbrev pub IsCalmDoor : Command → ℕ → ℕ → Type 0
+IsCalmDoor Run before now = Unit {0}
+IsCalmDoor (Check table) before now = Unit {0}
+IsCalmDoor (Serve port count) before now = ¬ Rose before now
+IsCalmDoor (Load count) before now = Unit {0}
+
 -- the statuses that there are
 abbrev pub IsStatus : ℕ → Type 0
 IsStatus status =
     (status ≡ done_status) ⊎ (status ≡ not_all_done_status) ⊎ (status ≡ usage_status) ⊎ (status ≡ refused_status)
     ⊎ (status ≡ read_fault_status) ⊎ (status ≡ write_fault_status) ⊎ (status ≡ no_memory_status)
-    ⊎ (status ≡ rack_fault_status)
+    ⊎ (status ≡ rack_fault_status) ⊎ (status ≡ door_fault_status)
+
+-- those with which the text that the input deserves was written whole
+abbrev pub IsDoneStatus : ℕ → Type 0
+IsDoneStatus status = (status ≡ done_status) ⊎ (status ≡ not_all_done_status)
 
 -- ---- the output
 

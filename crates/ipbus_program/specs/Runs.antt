@@ -1,5 +1,5 @@
 -- What a command owes to the bytes of a document: a status and a text. Profile.
-use Rattle.std.specs.Prelude.{◌≡◌, ◌⊎◌, ℕ, ◌==◌, if◌then◌else◌, List, [], length}
+use Rattle.std.specs.Prelude.{◌≡◌, ◌⊎◌, ℕ, ◌==◌, if◌then◌else◌, List, [], length, Option, Some, None}
 use Rattle.std.specs.FinMap.{entries}
 use Rattle.lane_history.specs.Links.{LinkReport}
 use Rattle.node_tree.specs.Maps.{RegisterMap}
@@ -9,9 +9,12 @@ use Rattle.session_input.specs.declared.refusal.Refusal.{Refusal}
 use Rattle.session_input.specs.Deserved.{BreaksInRun, BreaksInCheck, Deserves, IsListed}
 use Rattle.session_input.specs.Lines.{refusal_line}
 use Rattle.transcript.specs.Listing.{listing_text}
-use Rattle.ipbus_program.specs.declared.command.Command.{Command}
-use Rattle.ipbus_program.specs.declared.command.Command.TheVariants.{Run, Check}
+use Rattle.command_words.specs.declared.command.Command.{Command}
+use Rattle.command_words.specs.declared.command.Command.TheVariants.{Run, Check, Serve, Load}
+use Rattle.session_serve.specs.Pairs.{PairReport}
 use Rattle.ipbus_program.specs.Headline.{IsTranscriptOf}
+use Rattle.ipbus_program.specs.Loading.{IsSummaryOf}
+use Rattle.ipbus_program.specs.Serving.{IsServiceOf}
 use Rattle.ipbus_program.specs.Numbers.{done_status, not_all_done_status, refused_status}
 
 -- ---- check
@@ -30,18 +33,36 @@ pub record IsListingOf (bytes root : List ℕ) (status : ℕ) (text : List ℕ) 
 
 -- ---- any command
 
--- what a command makes of bytes that break none of its rules, over links of which it used these
+-- how many operations a command generates, where it generates a session and reads none
+abbrev pub generated_by : Command → Option ℕ
+generated_by Run = None
+generated_by (Check table) = None
+generated_by (Serve port count) = None
+generated_by (Load count) = Some count
+
+-- the command reads the input
+abbrev pub Reads : Command → Type 0
+Reads command = generated_by command ≡ None
+
+-- what a command makes of bytes that break none of its rules, over links of which it used these; a server over some
+-- pairs that came and went back; a load of no bytes
 abbrev pub IsDoneOf : Command → List ℕ → List LinkReport → ℕ → List ℕ → Type 0
 IsDoneOf Run bytes links status text = IsTranscriptOf bytes links status text
 IsDoneOf (Check table) bytes links status text = IsListingOf bytes table status text
+IsDoneOf (Serve port count) bytes links status text =
+    (came : List PairReport) × (back : List PairReport) × IsServiceOf bytes count links came back status text
+IsDoneOf (Load count) bytes links status text = IsSummaryOf count links status text
 
--- the rules of a command on a session
+-- the rules of a command on a session; one that reads none has none
 abbrev pub breaks_in : Command → Session → Refusal → Type 0
 breaks_in Run = BreaksInRun
 breaks_in (Check table) = BreaksInCheck table
+breaks_in (Serve port count) = BreaksInRun
+breaks_in (Load count) = λ session refusal. ⊥
 
--- the bytes deserve a refusal of the command, and the text is its line
+-- the command reads, the bytes deserve a refusal of it, and the text is its line
 pub record IsRefusalOf (command : Command) (bytes : List ℕ) (text : List ℕ) : Type 0 where
+  pub reads : Reads command
   pub refusal : Refusal
   pub deserved : Deserves (breaks_in command) bytes refusal
   pub line : text ≡ refusal_line refusal

@@ -14,15 +14,25 @@ use Rattle.session_run.specs.declared.session.RunFault.TheVariants as fault
 use Rattle.session_run.specs.declared.session.RunFault.TheVariants.{Rack}
 use Rattle.session_run.specs.Links.{AreLeft, CanBeReached}
 use Rattle.transcript.specs.declared.board_run.BoardRun.{BoardRun}
+use Rattle.transcript.specs.declared.line.BoardLine.{BoardLine}
 use Rattle.transcript.specs.Lines.{transcript_of, run_status}
 use Rattle.transcript.specs.Text.{transcript_text}
-use Rattle.ipbus_program.specs.declared.command.Command.{Command}
-use Rattle.ipbus_program.specs.declared.command.Command.TheVariants.{Run}
-use Rattle.ipbus_program.specs.declared.program.NoAnswer.{NoAnswer}
-use Rattle.ipbus_program.specs.declared.program.NoAnswer.TheVariants.{NoMemory, RackFault}
-use Rattle.ipbus_program.specs.declared.running.Answer.{Answer}
-use Rattle.ipbus_program.specs.Owed.{AnswersInput, IsReadToEnd}
+use Rattle.session_serve.specs.declared.report.ServeFault.{ServeFault}
+use Rattle.session_serve.specs.declared.report.ServeFault.TheVariants as serve
+use Rattle.session_serve.specs.Boards.{AreLinksTo}
+use Rattle.session_serve.specs.Pairs.{PairReport}
+use Rattle.session_serve.specs.Serving.{AreServed, HadMemory}
+use Rattle.hub_session.specs.declared.served.Served.{Served}
+use Rattle.serve_text.specs.Text.{serve_text, serve_status}
+use Rattle.command_words.specs.declared.command.Command.{Command}
+use Rattle.command_words.specs.declared.command.Command.TheVariants.{Run, Check, Serve, Load}
+use Rattle.ipbus_program.specs.declared.answer.NoAnswer.{NoAnswer}
+use Rattle.ipbus_program.specs.declared.answer.NoAnswer.TheVariants.{NoMemory, ReadFault, RackFault, DoorFault}
+use Rattle.ipbus_program.specs.declared.answer.Answer.{Answer}
+use Rattle.ipbus_program.specs.Owed.{AnswersInput, IsReadBy}
 use Rattle.ipbus_program.specs.Headline.{RanSomeOf}
+use Rattle.ipbus_program.specs.Loading.{AreLoaded}
+use Rattle.ipbus_program.specs.Serving.{IsLinkedTo}
 use Rattle.ipbus_program.specs.Runs.{Owes}
 
 -- what running a session rests on
@@ -52,35 +62,83 @@ pub record RunLeaves (session : Session) (steps : List (List Step)) (made makes 
   pub prints : IfOk result (λ answer. Prints session steps links answer.status answer.text.items)
   pub untouched : result ≡ Err Rack → AllByRecursion IsUntouched links
 
--- the command is `run`, and ran some of a session that these bytes stand for
-pub record RanSomeBy (command : Command) (bytes : List ℕ) (links : List LinkReport) : Type 0 where
-  pub asked : command ≡ Run
-  pub ran : RanSomeOf bytes links
+-- what serving at the boards of a session rests on
+pub record MayServe (session : Session) : Type 0 where
+  pub few_boards : length session.boards < 2 ^ 32
+  pub reached : AllByRecursion CanBeReached session.boards
 
--- what a command left of a rack by these bytes
-pub record Leaves (command : Command) (bytes : List ℕ) (made makes : ℕ) (result : Result Answer RunFault)
+-- what a server left of a rack
+pub record ServeLeaves (session : Session) (made makes : ℕ) (result : Result Answer ServeFault)
     (links : List LinkReport) : Type 0 where
-  pub used : (links ≡ []) ⊎ RanSomeBy command bytes links
+  pub linked : AreLinksTo session.boards links
+  pub counted : makes ≡ made + length links
+  pub untouched : result ≡ Err serve.Rack → AllByRecursion IsUntouched links
+
+-- the text of connections and boards that were served
+pub record ServesSession (session : Session) (count : ℕ) (links : List LinkReport) (came back : List PairReport)
+    (status : ℕ) (text : List ℕ) : Type 0 where
+  pub connections : List Served
+  pub lines : List BoardLine
+  pub served : AreServed session.settings session.boards links came back connections lines
+  pub all : length connections ≡ count
+  pub memory : AllByRecursion HadMemory connections
+  pub spelled : text ≡ serve_text connections lines
+  pub told : status ≡ serve_status connections
+
+-- the boards of a session that these bytes stand for were used, by a command that has boards
+abbrev pub UsesBoards : Command → List ℕ → List LinkReport → Type 0
+UsesBoards Run bytes links = RanSomeOf bytes links
+UsesBoards (Check table) bytes links = ⊥
+UsesBoards (Serve port count) bytes links = IsLinkedTo bytes links
+UsesBoards (Load count) bytes links = AreLoaded count links
+
+-- faults that come of boards and connections, so of a document that breaks no rule
+abbrev pub IsRunFailure : RunFault → Type 0
+IsRunFailure Rack = Unit {0}
+IsRunFailure fault.NoMemory = ⊥
+
+abbrev pub IsServeFailure : ServeFault → Type 0
+IsServeFailure serve.Rack = Unit {0}
+IsServeFailure serve.Door = Unit {0}
+IsServeFailure serve.NoMemory = ⊥
+
+abbrev pub IsFailure : NoAnswer → Type 0
+IsFailure ReadFault = ⊥
+IsFailure RackFault = Unit {0}
+IsFailure DoorFault = Unit {0}
+IsFailure NoMemory = ⊥
+
+-- What a command left of a rack by these bytes. `Fails` says which faults come of boards, and `rack_failed` is that of
+-- a rack.
+pub record Leaves {E : Type 0} (Fails : E → Type 0) (rack_failed : E) (command : Command) (bytes : List ℕ)
+    (made makes : ℕ) (result : Result Answer E) (links : List LinkReport) : Type 0 where
+  pub used : (links ≡ []) ⊎ UsesBoards command bytes links
   pub counted : makes ≡ made + length links
   pub owed : IfOk result (λ answer. Owes command bytes links answer.status answer.text.items)
-  pub untouched : result ≡ Err Rack → RanSomeBy command bytes links × AllByRecursion IsUntouched links
+  pub behind : (fault : E) → result ≡ Err fault → Fails fault → UsesBoards command bytes links
+  pub untouched : result ≡ Err rack_failed → AllByRecursion IsUntouched links
 
--- the command is `run`, and ran some of a session that the input stands for
-pub record RanSomeFrom (command : Command) (before now : Option (List ℕ)) (links : List LinkReport) : Type 0 where
-  pub asked : command ≡ Run
+-- the same boards, of a session that the input stands for or that was generated
+pub record UsedFrom (command : Command) (before now : Option (List ℕ)) (links : List LinkReport) : Type 0 where
   pub bytes : List ℕ
-  pub read : IsReadToEnd before now bytes
-  pub ran : RanSomeOf bytes links
+  pub read : IsReadBy command before now bytes
+  pub uses : UsesBoards command bytes links
 
--- a run's fault as the call's
+-- a fault of running and one of serving as the call's
 abbrev pub no_answer_of : RunFault → NoAnswer
 no_answer_of Rack = RackFault
 no_answer_of fault.NoMemory = NoMemory
 
+abbrev pub no_answer_served : ServeFault → NoAnswer
+no_answer_served serve.Rack = RackFault
+no_answer_served serve.Door = DoorFault
+no_answer_served serve.NoMemory = NoMemory
+
 -- the same by an input
 pub record InputLeaves (command : Command) (before now : Option (List ℕ)) (made makes : ℕ)
     (result : Result Answer NoAnswer) (links : List LinkReport) : Type 0 where
-  pub used : (links ≡ []) ⊎ RanSomeFrom command before now links
+  pub used : (links ≡ []) ⊎ UsedFrom command before now links
   pub counted : makes ≡ made + length links
   pub owed : IfOk result (λ answer. AnswersInput command before now links answer.status answer.text.items)
-  pub untouched : result ≡ Err RackFault → RanSomeFrom command before now links × AllByRecursion IsUntouched links
+  pub behind : (fault : NoAnswer) → result ≡ Err fault → IsFailure fault → UsedFrom command before now links
+  pub untouched : result ≡ Err RackFault → AllByRecursion IsUntouched links

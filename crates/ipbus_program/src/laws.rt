@@ -2,17 +2,19 @@
 
 ghost use Rattle.std.specs.Prelude.{◌≡◌, ℕ, List};
 ghost use Rattle.ipbus_program.specs.declared.answer.TheConstants.{DONE, NOT_ALL_DONE, USAGE, REFUSED, READ_FAULT};
-ghost use Rattle.ipbus_program.specs.declared.answer.TheConstants.{WRITE_FAULT, NO_MEMORY, RACK_FAULT};
+ghost use Rattle.ipbus_program.specs.declared.answer.TheConstants.{WRITE_FAULT, NO_MEMORY, RACK_FAULT, DOOR_FAULT};
 ghost use Rattle.ipbus_program.specs.Numbers.{done_status, not_all_done_status, usage_status, refused_status};
-ghost use Rattle.ipbus_program.specs.Numbers.{read_fault_status, write_fault_status, no_memory_status, rack_fault_status};
-ghost use Rattle.ipbus_program.specs.declared.command.Command.{Command as CommandValue};
+ghost use Rattle.ipbus_program.specs.Numbers.{read_fault_status, write_fault_status, no_memory_status};
+ghost use Rattle.ipbus_program.specs.Numbers.{rack_fault_status, door_fault_status};
+ghost use Rattle.command_words.specs.declared.command.Command.{Command as CommandValue};
 ghost use Rattle.std.specs.List.{AllByRecursion};
 ghost use Rattle.lane_history.specs.Links.{IsFaithful, LinkReport};
 ghost use Rattle.lane_history.specs.Runs.{HaveOwnBoards};
 ghost use Rattle.script_lang.specs.declared.operation.Step.{Step};
 ghost use Rattle.script_lang.specs.declared.session.Session.{Session};
 ghost use Rattle.session_input.specs.Deserved.{IsRunnable};
-ghost use Rattle.ipbus_program.specs.Runs.{Owes};
+ghost use Rattle.ipbus_program.specs.Owed.{IsNoServer};
+ghost use Rattle.ipbus_program.specs.Runs.{Owes, Reads};
 
 use crate::below::{input_laws, runs_on_own_boards};
 
@@ -26,12 +28,15 @@ pub fn the_numbers_of_the_program()
     ensures write_fault { WRITE_FAULT ≡ write_fault_status }
     ensures no_memory { NO_MEMORY ≡ no_memory_status }
     ensures rack_fault { RACK_FAULT ≡ rack_fault_status }
+    ensures door_fault { DOOR_FAULT ≡ door_fault_status }
 {}
 
-/// Where no two clients use one board, a command owes one status and one text to the bytes of a document over links that
-/// tell, where nothing was held and nothing failed: so such a session has one transcript then.
+/// Where no two clients use one board, a command that reads and does not serve owes one status and one text to the
+/// bytes of a document over links that tell, where nothing was held and nothing failed: so such a session has one
+/// transcript then.
 pub fn one_answer_is_owed()
     ensures { (command : CommandValue) (bytes : List ℕ) (links others : List LinkReport) (s t : ℕ) (a b : List ℕ) →
+        IsNoServer command → Reads command →
         ((session : Session) (steps : List (List Step)) → IsRunnable bytes session steps
         → HaveOwnBoards 0 session.boards steps) →
         AllByRecursion IsFaithful links → AllByRecursion IsFaithful others →

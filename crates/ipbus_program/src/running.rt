@@ -3,20 +3,26 @@
 ghost use Rattle.std.specs.Prelude.{◌≡◌, ◌≢◌, ◌≤◌, ℕ, List, [], Err, IfOk, map};
 ghost use Rattle.ipb_base.specs.Faults.{Rose};
 ghost use Rattle.session_input.specs.Lines.{refusal_line};
-ghost use Rattle.session_run.specs.Links.{Keeps};
+ghost use Rattle.board_greeting.specs.Links.{Keeps};
 ghost use Rattle.transcript.specs.Lines as lines;
 ghost use Rattle.transcript.specs.Listing.{listing_text as listed};
 ghost use Rattle.transcript.specs.Text as texts;
-ghost use Rattle.ipbus_program.specs.declared.command.Command.TheVariants.{Run, Check};
+ghost use Rattle.session_serve.specs.Pairs.{GivesBack};
+ghost use Rattle.session_serve.specs.Serving.{AreBack};
+ghost use Rattle.command_words.specs.declared.command.Command.TheVariants.{Run, Check, Serve};
+ghost use Rattle.ipbus_program.specs.Owed.{IsNoServer};
 ghost use Rattle.ipbus_program.specs.Runs as spec;
-ghost use Rattle.ipbus_program.specs.Steps.{Leaves, MayRun, RunLeaves};
+ghost use Rattle.ipbus_program.specs.Serving.{IsServiceOf};
+ghost use Rattle.ipbus_program.specs.Steps.{IsFailure, IsRunFailure, Leaves, MayRun, RunLeaves};
 ghost use Rattle.ipbus_program.specs.Numbers.{refused_status};
 
-use crate::answer::{DONE, NOT_ALL_DONE, REFUSED};
+use crate::answer::{Answer, DONE, NOT_ALL_DONE, NoAnswer, REFUSED};
 use crate::below::run_laws;
-use crate::command::Command;
+use crate::serving::serve;
 use client_threads::Gate;
+use command_words::Command;
 use ipb_base::NoMemory;
+use ipb_outside::Door;
 use lossy_network::Rack;
 use node_tree::Index;
 use script_lang::laws::the_ranges_of_a_session_name_words;
@@ -32,33 +38,47 @@ use transcript::{
     BoardRun, OpLine, all_good, board_lines, lines_of_clients, listing_text, transcript_text,
 };
 
-/// A status, and the text that goes with it.
-#[derive(Drop)]
-pub(crate) struct Answer {
-    pub(crate) status: u8,
-    pub(crate) text: Vec<u8>,
-}
-
 /// What a command answers to the bytes of a document.
-pub(crate) fn answer_to<R: Rack, T: Threads + Wait + Sync, G: Gate>(
+pub(crate) fn answer_to<R: Rack, D: Door, T: Threads + Wait + Sync, G: Gate>(
     rt: &T,
     alloc: Global,
     command: &Command,
     bytes: &[u8],
     rack: &mut R,
+    door: &mut D,
     gate: &G,
-) -> Result<Answer, RunFault>
+) -> Result<Answer, NoAnswer>
+    requires { spec.Reads command.now }
     ensures leaves { Keeps R.L.faults R.L.quiets R.L.gots R.L.held R.L.telling (R.kept rack.old) (R.kept rack.new)
-        (Leaves command.now bytes.now (R.made rack.old) (R.made rack.new) result) }
-    ensures refused { IfOk result (λ answer. answer.status ≡ refused_status → rack.new ≡ rack.old) }
+        (Leaves IsFailure NoAnswer.RackFault command.now bytes.now (R.made rack.old) (R.made rack.new) result) }
+    ensures serving { (port count : ℕ) → command.now ≡ Serve port count → IfOk result (λ answer.
+        answer.status ≢ refused_status → Keeps R.L.faults R.L.quiets R.L.gots R.L.held R.L.telling (R.kept rack.old)
+        (R.kept rack.new) (λ links. GivesBack D.Incoming.left D.Incoming.faults D.Outgoing.written D.Outgoing.faults
+        D.Outgoing.ended (D.coming door.old) (D.coming door.new) (D.kept door.old) (D.kept door.new)
+        (λ came back. IsServiceOf bytes.now count links came back answer.status answer.text.items))) }
+    ensures pairs { GivesBack D.Incoming.left D.Incoming.faults D.Outgoing.written D.Outgoing.faults D.Outgoing.ended
+        (D.coming door.old) (D.coming door.new) (D.kept door.old) (D.kept door.new) AreBack }
+    ensures refused { IfOk result (λ answer. answer.status ≡ refused_status
+        → (rack.new ≡ rack.old) × (door.new ≡ door.old)) }
     ensures checked { (table : List ℕ) → command.now ≡ Check table → rack.new ≡ rack.old }
-    ensures rack_fault { result ≡ Err RunFault.Rack → Rose (R.faults rack.old) (R.faults rack.new) }
-    ensures later { R.faults rack.old ≤ R.faults rack.new }
-    ensures unfaulted { result ≢ Err RunFault.Rack → R.faults rack.new ≡ R.faults rack.old }
+    ensures shut { IsNoServer command.now → door.new ≡ door.old }
+    ensures not_listened { result ≡ Err NoAnswer.RackFault → door.new ≡ door.old }
+    ensures none_out { D.out door.new ≡ D.out door.old }
+    ensures serves { result ≡ Err NoAnswer.DoorFault → ¬ IsNoServer command.now }
+    ensures not_read_fault { result ≢ Err NoAnswer.ReadFault }
+    ensures rack_fault { result ≡ Err NoAnswer.RackFault → Rose (R.faults rack.old) (R.faults rack.new) }
+    ensures door_fault { result ≡ Err NoAnswer.DoorFault → Rose (D.faults door.old) (D.faults door.new) }
+    ensures later { (R.faults rack.old ≤ R.faults rack.new) × (D.faults door.old ≤ D.faults door.new) }
+    ensures unfaulted_rack { result ≢ Err NoAnswer.RackFault → R.faults rack.new ≡ R.faults rack.old }
+    ensures unfaulted_door { result ≢ Err NoAnswer.DoorFault → D.faults door.new ≡ D.faults door.old }
 {
     match command {
-        Command::Run => run(rt, alloc, bytes, rack, gate),
+        Command::Run => Ok(run(rt, alloc, bytes, rack, gate)?),
         Command::Check { table } => Ok(check(alloc, bytes, table.as_str())?),
+        Command::Serve { port, count } => {
+            Ok(serve(rt, alloc, bytes, *port, *count, rack, door)?)
+        }
+        Command::Load { count: _ } => unreachable!(),
     }
 }
 
@@ -116,7 +136,7 @@ fn run<R: Rack, T: Threads + Wait + Sync, G: Gate>(
     gate: &G,
 ) -> Result<Answer, RunFault>
     ensures leaves { Keeps R.L.faults R.L.quiets R.L.gots R.L.held R.L.telling (R.kept rack.old) (R.kept rack.new)
-        (Leaves Run bytes.now (R.made rack.old) (R.made rack.new) result) }
+        (Leaves IsRunFailure RunFault.Rack Run bytes.now (R.made rack.old) (R.made rack.new) result) }
     ensures refused { IfOk result (λ answer. answer.status ≡ refused_status → rack.new ≡ rack.old) }
     ensures rack_fault { result ≡ Err RunFault.Rack → Rose (R.faults rack.old) (R.faults rack.new) }
     ensures later { R.faults rack.old ≤ R.faults rack.new }

@@ -1,5 +1,5 @@
 use Rattle.ipbus_program.proofs.Names.{own_names}
-use Rattle.ipbus_program.proofs.Ready.{all_here}
+use Rattle.ipbus_program.proofs.Ready.{all_made}
 use Rattle.ipbus_program.proofs.below.run_laws.Goals as goal
 
 pub returns : goal.returns
@@ -11,14 +11,13 @@ returns c = record {
   answered = λ bytes session steps runs links runnable are.
       let within = c.a_session_keeps_its_limits.ensures bytes session runnable.stands in
       c.no_line_is_garbled.ensures session.settings session.boards steps runs links are
-      (all_here session.boards within.boards runnable.runs.scripts.boards.buses runnable.runs.links)
+      (own_names session.settings 0 session.boards steps runs links are
+      (c.the_boards_of_a_session_have_their_own_names.ensures bytes session runnable.stands))
+      (all_made session.boards within.boards runnable.runs.boards.buses)
       (c.the_ranges_of_a_session_name_words.ensures bytes session runnable.stands)
       (c.what_can_be_run_can_be_executed.ensures bytes session steps runnable);
   rounds = λ bytes session steps runs links runnable are.
-      let within = c.a_session_keeps_its_limits.ensures bytes session runnable.stands in
       c.lines_show_the_rounds_of_the_session.ensures session.settings session.boards steps runs links are
-      (all_here session.boards within.boards runnable.runs.scripts.boards.buses runnable.runs.links)
-      (c.the_ranges_of_a_session_name_words.ensures bytes session runnable.stands)
       (c.what_can_be_run_can_be_executed.ensures bytes session steps runnable);
   waited = λ session steps runs links are.
       c.board_lines_waited_for_their_time_outs.ensures session.settings 0 session.boards steps runs links are;
@@ -26,7 +25,7 @@ returns c = record {
       let within = c.a_session_keeps_its_limits.ensures bytes session runnable.stands in
       c.faithful_lines_fail_by_codes_of_the_bus_alone.ensures session.settings session.boards steps runs links
       within.settings.some_rounds calm are
-      (all_here session.boards within.boards runnable.runs.scripts.boards.buses runnable.runs.links)
+      (all_made session.boards within.boards runnable.runs.boards.buses)
       (c.the_ranges_of_a_session_name_words.ensures bytes session runnable.stands)
       (c.what_can_be_run_can_be_executed.ensures bytes session steps runnable);
   whole = λ bytes session steps runs links runnable are calm.

@@ -1,10 +1,10 @@
-use Rattle.std.proofs.Common.{map, rules, refl, subst}
+use Rattle.std.proofs.Common.{map, refl, rules, subst}
 use Rattle.session_input.specs.Deserved.{BreaksInRun, Deserves}
-use Rattle.ipbus_program.specs.declared.command.Command.TheVariants.{Run}
-use Rattle.ipbus_program.specs.Steps.{MayRun, RunLeaves}
-use Rattle.session_run.specs.Boards.{shown_by}
-use Rattle.ipbus_program.proofs.Leaving.{failure_left, kept_unless_refused, no_memory_is_no_rack, nothing_left}
-use Rattle.ipbus_program.proofs.Leaving.{refusal_left, run_leaves}
+use Rattle.session_run.specs.declared.session.RunFault.TheVariants.{NoMemory, Rack}
+use Rattle.command_words.specs.declared.command.Command.TheVariants.{Run}
+use Rattle.ipbus_program.specs.Steps.{IsRunFailure, MayRun, RunLeaves}
+use Rattle.board_greeting.specs.Boards.{shown_by}
+use Rattle.ipbus_program.proofs.Leaving.{error_left, failure_left, kept_unless_refused, refusal_left, run_leaves}
 use Rattle.ipbus_program.proofs.Ready.{may_run}
 use Rattle.ipbus_program.proofs.running.run.Goals as goal
 
@@ -22,8 +22,8 @@ pub returns-in_err-refused-in-Err-Refused-clause-leaves :
     goal.returns-in_err-refused-in-Err-Refused-clause-leaves
 returns-in_err-refused-in-Err-Refused-clause-leaves g c =
     let shown = shown_by g.R.L.Link.faults g.R.L.Link.quiets g.R.L.Link.gots g.R.L.Link.held g.R.L.Link.telling in
-    failure_left shown _ Run c.args.bytes.now _ c.from_residual.result _ c.from_residual.ensures.0
-    c.from_residual.ensures.1 (λ rack. no_memory_is_no_rack _ refl rack)
+    failure_left IsRunFailure Rack shown _ Run c.args.bytes.now _ c.from_residual.result NoMemory
+    c.from_residual.ensures.0 c.from_residual.ensures.1 (λ failed. failed)
 
 pub returns-in-Ok-clause-leaves : goal.returns-in-Ok-clause-leaves
 returns-in-Ok-clause-leaves g c =
@@ -41,17 +41,19 @@ returns-in-Ok-clause-leaves g c =
 
 pub returns-in-Ok-clause-refused : goal.returns-in-Ok-clause-refused
 returns-in-Ok-clause-refused g c =
-    kept_unless_refused _ c.in-Ok.read.session c.deref.result.now _ c.transcript.result c.transcript.ensures.leaves.2.prints
+    kept_unless_refused _ c.in-Ok.read.session c.deref.result.now _ c.transcript.result
+    c.transcript.ensures.leaves.2.prints
 
 pub returns-in_ok-refused-in-Err-Refused-clause-leaves :
     goal.returns-in_ok-refused-in-Err-Refused-clause-leaves
 returns-in_ok-refused-in-Err-Refused-clause-leaves g c =
     let shown = shown_by g.R.L.Link.faults g.R.L.Link.quiets g.R.L.Link.gots g.R.L.Link.held g.R.L.Link.telling in
     let deserved : Deserves BreaksInRun c.args.bytes.now c.in-Err-Refused.refusal = search rules in
-    refusal_left shown _ Run c.args.bytes.now _ c.in_ok-refused-in-Err-Refused.field-0 c.in-Err-Refused.refusal deserved
+    refusal_left IsRunFailure Rack shown _ Run c.args.bytes.now _ c.in_ok-refused-in-Err-Refused.field-0
+    c.in-Err-Refused.refusal refl deserved
     c.in_ok-refused-in-Err-Refused.ensures.status c.in_ok-refused-in-Err-Refused.ensures.text
 
 pub returns-in-Err-NoMemory-clause-leaves : goal.returns-in-Err-NoMemory-clause-leaves
 returns-in-Err-NoMemory-clause-leaves g c =
     let shown = shown_by g.R.L.Link.faults g.R.L.Link.quiets g.R.L.Link.gots g.R.L.Link.held g.R.L.Link.telling in
-    nothing_left shown _ Run c.args.bytes.now _ _ tt (λ never. cc)
+    error_left IsRunFailure Rack shown _ Run c.args.bytes.now _ NoMemory (λ failed. failed)

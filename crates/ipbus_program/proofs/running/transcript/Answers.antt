@@ -6,7 +6,7 @@ use Rattle.script_lang.specs.declared.session.Session.{Session}
 use Rattle.session_run.specs.Links.{AreLeft}
 use Rattle.transcript.specs.Lines.{transcript_of, run_status}
 use Rattle.transcript.specs.Text.{transcript_text}
-use Rattle.session_run.specs.Boards.{shown_by}
+use Rattle.board_greeting.specs.Boards.{shown_by}
 use Rattle.ipbus_program.proofs.Kept.{at_links}
 use Rattle.ipbus_program.proofs.Leaving.{run_failed, run_printed, no_memory_is_no_rack}
 use Rattle.ipbus_program.proofs.running.transcript.Goals as goal
@@ -60,7 +60,8 @@ returns-clause-leaves g c =
           (subst (λ boards. AreLeft 0 boards c.args.steps.now links) boards left.2)
           (at_links shown _ _ left.0 left.1 (λ links. makes ≡ made + length links) c.run_session.ensures.made)
           (subst (λ boards. AreRunsOver session.settings 0 boards c.args.steps.now runs links) boards
-          (at_links shown _ _ left.0 left.1 (AreRunsOver session.settings 0 c.as_slice-boards.result.now c.args.steps.now runs)
+          (at_links shown _ _ left.0 left.1
+          (AreRunsOver session.settings 0 c.as_slice-boards.result.now c.args.steps.now runs)
           c.in_ok-runs.ensures.ran))
           (subst (λ runs. c.in_ok-printed.field-0.text.items ≡ transcript_text (transcript_of c.args.steps.now runs))
           c.deref.ensures.value c.in_ok-printed.ensures.text)

@@ -1,0 +1,121 @@
+//! What a server makes of the bytes of a document.
+
+ghost use Rattle.std.specs.Prelude.{◌≡◌, ◌≢◌, ◌≤◌, Err, IfOk};
+ghost use Rattle.ipb_base.specs.Faults.{Rose};
+ghost use Rattle.board_greeting.specs.Links.{Keeps};
+ghost use Rattle.session_serve.specs.Pairs.{GivesBack};
+ghost use Rattle.session_serve.specs.Serving.{AreBack};
+ghost use Rattle.serve_text.specs.Text as texts;
+ghost use Rattle.command_words.specs.declared.command.Command.TheVariants.{Serve};
+ghost use Rattle.ipbus_program.specs.Numbers.{refused_status};
+ghost use Rattle.ipbus_program.specs.Serving.{IsServiceOf};
+ghost use Rattle.ipbus_program.specs.Steps.{IsServeFailure, Leaves, MayServe, ServeLeaves, ServesSession};
+
+use crate::answer::{Answer, DONE, NOT_ALL_DONE};
+use crate::below::serve_laws;
+use crate::running::refused;
+use ipb_base::NoMemory;
+use ipb_outside::Door;
+use lossy_network::Rack;
+use script_lang::Session;
+use script_lang::laws::the_ranges_of_a_session_name_words;
+use serve_text::{Served, all_closed, serve_text};
+use session_input::{Unread, read_for_run};
+use session_serve::{ServeFault, ServeReport, serve_session};
+use std::alloc::Global;
+use std::marker::Sync;
+use std::sync::Wait;
+use std::thread::Threads;
+
+/// Serves connections at the boards of a session document, whose scripts are checked and not run.
+pub(crate) fn serve<R: Rack, D: Door, T: Threads + Wait + Sync>(
+    rt: &T,
+    alloc: Global,
+    bytes: &[u8],
+    port: u16,
+    count: u32,
+    rack: &mut R,
+    door: &mut D,
+) -> Result<Answer, ServeFault>
+    ensures leaves { Keeps R.L.faults R.L.quiets R.L.gots R.L.held R.L.telling (R.kept rack.old) (R.kept rack.new)
+        (Leaves IsServeFailure ServeFault.Rack (Serve port count) bytes.now (R.made rack.old) (R.made rack.new)
+        result) }
+    ensures serving { IfOk result (λ answer. answer.status ≢ refused_status → Keeps R.L.faults R.L.quiets R.L.gots
+        R.L.held R.L.telling (R.kept rack.old) (R.kept rack.new) (λ links. GivesBack D.Incoming.left D.Incoming.faults
+        D.Outgoing.written D.Outgoing.faults D.Outgoing.ended (D.coming door.old) (D.coming door.new) (D.kept door.old)
+        (D.kept door.new) (λ came back. IsServiceOf bytes.now count links came back answer.status answer.text.items))) }
+    ensures pairs { GivesBack D.Incoming.left D.Incoming.faults D.Outgoing.written D.Outgoing.faults D.Outgoing.ended
+        (D.coming door.old) (D.coming door.new) (D.kept door.old) (D.kept door.new) AreBack }
+    ensures refused { IfOk result (λ answer. answer.status ≡ refused_status
+        → (rack.new ≡ rack.old) × (door.new ≡ door.old)) }
+    ensures not_listened { result ≡ Err ServeFault.Rack → door.new ≡ door.old }
+    ensures none_out { D.out door.new ≡ D.out door.old }
+    ensures rack_fault { result ≡ Err ServeFault.Rack → Rose (R.faults rack.old) (R.faults rack.new) }
+    ensures door_fault { result ≡ Err ServeFault.Door → Rose (D.faults door.old) (D.faults door.new) }
+    ensures later { (R.faults rack.old ≤ R.faults rack.new) × (D.faults door.old ≤ D.faults door.new) }
+    ensures unfaulted_rack { result ≢ Err ServeFault.Rack → R.faults rack.new ≡ R.faults rack.old }
+    ensures unfaulted_door { result ≢ Err ServeFault.Door → D.faults door.new ≡ D.faults door.old }
+{
+    serve_laws();
+    the_ranges_of_a_session_name_words();
+    match read_for_run(alloc, bytes) {
+        Ok(read) => served(rt, alloc, &read.session, port, count, rack, door),
+        Err(Unread::Refused(refusal)) => Ok(refused(alloc, &refusal)?),
+        Err(Unread::NoMemory) => Err(ServeFault::NoMemory),
+    }
+}
+
+/// The text of a server at the boards of a session, and the status that goes with it.
+fn served<R: Rack, D: Door, T: Threads + Wait + Sync>(
+    rt: &T,
+    alloc: Global,
+    session: &Session,
+    port: u16,
+    count: u32,
+    rack: &mut R,
+    door: &mut D,
+) -> Result<Answer, ServeFault>
+    requires { MayServe session.now }
+    ensures leaves { Keeps R.L.faults R.L.quiets R.L.gots R.L.held R.L.telling (R.kept rack.old) (R.kept rack.new)
+        (ServeLeaves session.now (R.made rack.old) (R.made rack.new) result) }
+    ensures serving { IfOk result (λ answer. Keeps R.L.faults R.L.quiets R.L.gots
+        R.L.held R.L.telling (R.kept rack.old) (R.kept rack.new) (λ links. GivesBack D.Incoming.left D.Incoming.faults
+        D.Outgoing.written D.Outgoing.faults D.Outgoing.ended (D.coming door.old) (D.coming door.new) (D.kept door.old)
+        (D.kept door.new)
+        (λ came back. ServesSession session.now count links came back answer.status answer.text.items))) }
+    ensures pairs { GivesBack D.Incoming.left D.Incoming.faults D.Outgoing.written D.Outgoing.faults D.Outgoing.ended
+        (D.coming door.old) (D.coming door.new) (D.kept door.old) (D.kept door.new) AreBack }
+    ensures not_listened { result ≡ Err ServeFault.Rack → door.new ≡ door.old }
+    ensures none_out { D.out door.new ≡ D.out door.old }
+    ensures rack_fault { result ≡ Err ServeFault.Rack → Rose (R.faults rack.old) (R.faults rack.new) }
+    ensures door_fault { result ≡ Err ServeFault.Door → Rose (D.faults door.old) (D.faults door.new) }
+    ensures later { (R.faults rack.old ≤ R.faults rack.new) × (D.faults door.old ≤ D.faults door.new) }
+    ensures unfaulted_rack { result ≢ Err ServeFault.Rack → R.faults rack.new ≡ R.faults rack.old }
+    ensures unfaulted_door { result ≢ Err ServeFault.Door → D.faults door.new ≡ D.faults door.old }
+{
+    let boards = session.boards.as_slice();
+    let report = serve_session(rt, alloc, session.settings, boards, port, count, rack, door)?;
+    Ok(printed(alloc, &report)?)
+}
+
+/// The text of a report, and the status that goes with it.
+fn printed(alloc: Global, report: &ServeReport) -> Result<Answer, NoMemory>
+    ensures text { IfOk result (λ answer. answer.text.items
+        ≡ texts.serve_text report.now.connections.items report.now.boards.items) }
+    ensures status { IfOk result (λ answer. answer.status ≡ texts.serve_status report.now.connections.items) }
+{
+    let text = serve_text(alloc, &report.connections, &report.boards)?;
+    let status = serve_status(&report.connections);
+    Ok(Answer { status, text })
+}
+
+/// 0 where every connection ended between two frames.
+fn serve_status(connections: &[Served]) -> u8
+    ensures { result ≡ texts.serve_status connections.now }
+{
+    if all_closed(connections) {
+        DONE
+    } else {
+        NOT_ALL_DONE
+    }
+}
