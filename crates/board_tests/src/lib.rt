@@ -4,6 +4,8 @@
 #![tactic(auto)]
 
 #[cfg(test)]
+mod board_bus_tests;
+#[cfg(test)]
 mod board_node_tests;
 #[cfg(test)]
 mod direct_run_tests;

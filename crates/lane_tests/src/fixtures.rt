@@ -1,6 +1,6 @@
 //! A lane over a simulated link to a small board, and what is asked of it.
 
-ghost use Rattle.std.specs.Prelude.{◌≡◌, ◌≤◌, IfOk};
+ghost use Rattle.std.specs.Prelude.{[], ◌≡◌, ◌≤◌, IfOk};
 ghost use Rattle.transaction_codec.specs.Answer.{reply_room};
 
 use board_node::{Board, Bus, Fates, Range, RangeKind};
@@ -20,7 +20,9 @@ pub(crate) const FOUR_READ: [u32; 2] = [0x2000_0100, 0xabcd];
 
 /// A lane over a simulated link with these fates, to a board of 16 words with 0xabcd at address 4. The hub sends at
 /// most 4 packets ahead of the replies, and gives up after 3 rounds.
-pub(crate) fn lane(alloc: Global, fates: &str) -> Result<Lane<SimLink>, Fail> {
+pub(crate) fn lane(alloc: Global, fates: &str) -> Result<Lane<SimLink>, Fail>
+    ensures { IfOk result (λ lane. lane.items ≡ []) }
+{
     let range = Range {
         base: 0,
         size: 16,

@@ -10,6 +10,8 @@ mod hub_lane_tests;
 #[cfg(test)]
 mod hub_multiplexer_tests;
 #[cfg(test)]
+mod hub_session_tests;
+#[cfg(test)]
 mod lane_record_tests;
 #[cfg(test)]
 mod turn_pass_tests;

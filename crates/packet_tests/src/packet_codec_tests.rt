@@ -1,8 +1,8 @@
 //! Packets and their headers, in both byte orders.
 
 use packet_codec::{
-    BadPacket, Header, MAX_BODY_WORDS, Order, PacketKind, header_word, read_header, read_packet,
-    write_packet,
+    BadPacket, Head, Header, MAX_BODY_WORDS, Order, PacketKind, append_packet, header_word,
+    put_packet, read_head, read_header, read_packet, write_packet,
 };
 use std::test::Fail;
 
@@ -23,6 +23,39 @@ fn a_packet_in_both_orders_is_read_and_written(rt: HostRuntime) -> Result<(), Fa
         let written = write_packet(rt.alloc(), &packet)?;
         assert_eq!(rt; written.as_slice(), bytes.as_slice());
     }
+    Ok(())
+}
+
+#[test]
+fn a_head_is_read_before_a_body_is(rt: HostRuntime) -> Result<(), Fail> {
+    for (bytes, order) in [(BIG, Order::Big), (LITTLE, Order::Little)] {
+        let head = Head {
+            order,
+            id: 1,
+            kind: PacketKind::Control,
+        };
+        assert_eq!(rt; read_head(&bytes), Ok(head));
+        assert_eq!(rt; read_packet(rt.alloc(), &bytes)?.head(), head);
+    }
+    assert_eq!(rt; read_head(&BIG[..6]), Err(BadPacket::Ragged));
+    Ok(())
+}
+
+#[test]
+fn packets_are_written_after_other_bytes(rt: HostRuntime) -> Result<(), Fail> {
+    let head = Head {
+        order: Order::Big,
+        id: 1,
+        kind: PacketKind::Control,
+    };
+    let body = [0x2000_010f, 4];
+    let mut out = Vec::new(rt.alloc());
+    append_packet(&mut out, head, &body)?;
+    out.reserve(BIG.len())?;
+    put_packet(&mut out, head, &body);
+    let mut twice = Vec::from_slice(rt.alloc(), &BIG)?;
+    twice.extend_from_slice(&BIG)?;
+    assert_eq!(rt; out.as_slice(), twice.as_slice());
     Ok(())
 }
 

@@ -1,6 +1,6 @@
 //! `control` on sessions whose clients run at once.
 
-use crate::program::{calm, run_word};
+use crate::program::{calm, run_word, shut_door};
 use crossbeam_queue::ArrayQueue;
 use ipb_outside::MemSink;
 use ipbus_program::{DONE, Gate, control};
@@ -69,6 +69,7 @@ fn clients_run_at_once(rt: HostRuntime) -> Result<(), Fail> {
     let mut input = calm(alloc, TWO_CLIENTS)?;
     let mut out = MemSink::new(alloc, 1000, Vec::new(alloc))?;
     let mut rack = SimRack::new(alloc, Vec::new(alloc), Vec::new(alloc));
+    let mut door = shut_door(alloc)?;
     let status = control(
         &rt,
         alloc,
@@ -76,6 +77,7 @@ fn clients_run_at_once(rt: HostRuntime) -> Result<(), Fail> {
         &mut input,
         &mut out,
         &mut rack,
+        &mut door,
         &gate,
     );
     assert_eq!(rt; status, DONE);

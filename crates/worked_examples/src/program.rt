@@ -1,7 +1,7 @@
 //! `control` on a source and a sink in memory.
 
 use ipb_base::NoMemory;
-use ipb_outside::{CalmSource, MemSink, MemSource, Sink, Source, read_all};
+use ipb_outside::{CalmSource, MemDoor, MemSink, MemSource, Sink, Source, read_all};
 use ipbus_program::{
     DONE, NO_MEMORY, NOT_ALL_DONE, NoGate, RACK_FAULT, READ_FAULT, REFUSED, USAGE, WRITE_FAULT,
     control,
@@ -35,11 +35,11 @@ const GREETED_DOWN: &str = "client 1\n1 read b0:id link lost\nboard b0 down\n";
 const LOST: &str =
     "client 1\n1 read b0:id link lost @1.1\nboard b0 places 1 replied 0 timeout 0 lost 1\n";
 
-const USAGE_LINE: &str = "usage: ipbus run | check TABLE\n";
+const USAGE_LINE: &str = "usage: ipbus run | check TABLE | serve PORT COUNT | load COUNT\n";
 
 const LONGEST: usize = 16_777_216;
 
-fn words_of(alloc: Global, texts: &[&str]) -> Result<Vec<String>, AllocError> {
+pub(crate) fn words_of(alloc: Global, texts: &[&str]) -> Result<Vec<String>, AllocError> {
     let mut words = Vec::new(alloc);
     for text in texts {
         words.push(String::from_str(alloc, text)?)?;
@@ -66,7 +66,12 @@ fn first_session(rt: HostRuntime) -> Result<(), Fail> {
     Ok(())
 }
 
-/// `control` over simulated links that never fail.
+/// A door through which nothing comes.
+pub(crate) fn shut_door(alloc: Global) -> Result<MemDoor, NoMemory> {
+    MemDoor::new(alloc, Vec::new(alloc), Vec::new(alloc))
+}
+
+/// `control` over simulated links that never fail, and a door through which nothing comes.
 pub(crate) fn over_links<S: Source, O: Sink, T: Threads + Wait + Sync>(
     rt: &T,
     alloc: Global,
@@ -75,7 +80,10 @@ pub(crate) fn over_links<S: Source, O: Sink, T: Threads + Wait + Sync>(
     out: &mut O,
 ) -> u8 {
     let mut rack = SimRack::new(alloc, Vec::new(alloc), Vec::new(alloc));
-    control(rt, alloc, words, input, out, &mut rack, &NoGate)
+    let Ok(mut door) = shut_door(alloc) else {
+        return NO_MEMORY;
+    };
+    control(rt, alloc, words, input, out, &mut rack, &mut door, &NoGate)
 }
 
 /// The status and the text that words get for a document, or want of memory where they are set up.
@@ -202,12 +210,18 @@ fn words_that_are_no_command(rt: HostRuntime) -> Result<(), Fail> {
     assert!(rt; is_usage(&rt, rt.alloc(), &[])?);
     assert!(rt; is_usage(&rt, rt.alloc(), &["check"])?);
     assert!(rt; is_usage(&rt, rt.alloc(), &["run", "main"])?);
+    assert!(rt; is_usage(&rt, rt.alloc(), &["serve", "0", "1"])?);
+    assert!(rt; is_usage(&rt, rt.alloc(), &["serve", "5000", "+1"])?);
+    assert!(rt; is_usage(&rt, rt.alloc(), &["serve", "05000", "1"])?);
+    assert!(rt; is_usage(&rt, rt.alloc(), &["serve", "5000", "65"])?);
+    assert!(rt; is_usage(&rt, rt.alloc(), &["load", "0"])?);
+    assert!(rt; is_usage(&rt, rt.alloc(), &["load", "100001"])?);
     Ok(())
 }
 
 #[test]
 fn words_that_are_options(rt: HostRuntime) -> Result<(), Fail> {
-    assert!(rt; is_usage(&rt, rt.alloc(), &["-v"])?);
+    assert!(rt; is_usage(&rt, rt.alloc(), &["--help"])?);
     assert!(rt; is_usage(&rt, rt.alloc(), &["check", "-main"])?);
     Ok(())
 }
@@ -239,6 +253,7 @@ fn over_failing<T: Threads + Wait + Sync>(
     let mut input = calm(alloc, FIRST)?;
     let mut out = MemSink::new(alloc, 1000, Vec::new(alloc))?;
     let mut rack = SimRack::new(alloc, makes.to_vec(alloc)?, calls.to_vec(alloc)?);
+    let mut door = shut_door(alloc)?;
     let status = control(
         rt,
         alloc,
@@ -246,6 +261,7 @@ fn over_failing<T: Threads + Wait + Sync>(
         &mut input,
         &mut out,
         &mut rack,
+        &mut door,
         &NoGate,
     );
     Ok((status, Vec::from_slice(alloc, out.bytes())?))
@@ -289,5 +305,20 @@ fn a_reply_that_is_lost(rt: HostRuntime) -> Result<(), Fail> {
     let (status, text) = answer(&rt, alloc, &["run"], document.as_str())?;
     assert_eq!(rt; status, DONE);
     assert_eq!(rt; text.as_slice(), TRANSCRIPT.as_bytes());
+    Ok(())
+}
+
+/// Operations of a load, one after another: each is answered the number of those before it, and done.
+#[test]
+fn a_load(rt: HostRuntime) -> Result<(), Fail> {
+    let alloc = rt.alloc();
+    for (count, wanted) in [
+        ("1", "load 1\ndone 1\nwas total 0\nplaces 1\n"),
+        ("5", "load 5\ndone 5\nwas total 10\nplaces 5\n"),
+    ] {
+        let (status, text) = answer(&rt, alloc, &["load", count], "no document")?;
+        assert_eq!(rt; status, DONE, "load {count}");
+        assert_eq!(rt; text.as_slice(), wanted.as_bytes(), "load {count}");
+    }
     Ok(())
 }

@@ -1,7 +1,7 @@
 //! `control` on whole documents: several boards and clients, listings, and refusals.
 
 use crate::program::answer;
-use ipbus_program::{DONE, NOT_ALL_DONE, REFUSED};
+use ipbus_program::{DONE, NOT_ALL_DONE, RACK_FAULT, REFUSED};
 use std::test::Fail;
 
 /// Two front ends, each with two acquisition channels.
@@ -120,7 +120,7 @@ overlap x y
 ";
 
 /// A text of `SHORT_MEMORY`, another that takes its place, and the line that refuses what comes of it.
-const REFUSALS: [(&str, &str, &str); 7] = [
+const REFUSALS: [(&str, &str, &str); 6] = [
     ("[[client]]", "[[x]]", "refused: document x Shape\n"),
     (
         "mask = 1\n",
@@ -135,11 +135,6 @@ const REFUSALS: [(&str, &str, &str); 7] = [
     ("size = 8", "size = 0", "refused: board b0 Empty\n"),
     ("base = 0x100", "base = 0", "refused: board b0 Overlap\n"),
     ("b0:mem 10", "b0:mem 11", "refused: script 1 1 PastSize\n"),
-    (
-        "ranges = [ { base = 0, size = 1, init = [0xabcd] }, { base = 0x100, size = 8 } ]",
-        "link = \"udp\"\naddress = \"10.0.0.1:50001\"",
-        "refused: document - NotBuilt\n",
-    ),
 ];
 
 #[test]
@@ -183,6 +178,21 @@ fn a_refusal_by_each_rule(rt: HostRuntime) -> Result<(), Fail> {
         assert_eq!(rt; status, REFUSED, "{line}");
         assert_eq!(rt; text.as_slice(), line.as_bytes(), "{line}");
     }
+    Ok(())
+}
+
+/// A rack of simulated links makes none over UDP.
+#[test]
+fn a_board_over_udp(rt: HostRuntime) -> Result<(), Fail> {
+    let alloc = rt.alloc();
+    let document = SHORT_MEMORY.replace(
+        alloc,
+        "ranges = [ { base = 0, size = 1, init = [0xabcd] }, { base = 0x100, size = 8 } ]",
+        "link = \"udp\"\naddress = \"10.0.0.1:50001\"",
+    )?;
+    let (status, text) = answer(&rt, alloc, &["run"], document.as_str())?;
+    assert_eq!(rt; status, RACK_FAULT);
+    assert_eq!(rt; text.as_slice(), b"".as_slice());
     Ok(())
 }
 
