@@ -1,0 +1,92 @@
+"""The lines of a printed transcript, read beside the session that they tell of."""
+import itertools
+import re
+
+LIVE = re.compile(r"board (\S+) places (\d+) replied (\d+) timeout (\d+) lost (\d+)")
+NUMBER = r"(?:0|[1-9][0-9]*)"
+PLACES = re.compile(rf"(.*) @({NUMBER}\.{NUMBER}(?:,{NUMBER}\.{NUMBER})*)")
+WORDS = re.compile(r"(=|was)((?: 0x[0-9a-f]{8})+)")
+GOOD = {"read": "=", "readblock": "=", "rmwbits": "was", "rmwsum": "was", "write": "done", "writeblock": "done"}
+
+
+class Wrong(Exception):
+    """The transcript is not one that the session can have."""
+
+
+def check(holds, told):
+    if not holds:
+        raise Wrong(told)
+
+
+class Line:
+    """The line of an operation: its result, its places with the positions that it shows there, and the bodies that it
+    has pieces in with their positions. Positions count from 1."""
+
+    def __init__(self, text, client, operation, board, rounds):
+        begin = f"{operation.number} {operation.verb} {board.name}:{operation.name} "
+        check(text.startswith(begin), f"client {client}: {text!r} does not begin with {begin!r}")
+        self.told = f"client {client} line {operation.number}"
+        self.client = client
+        self.operation = operation
+        found = PLACES.fullmatch(text[len(begin) :])
+        self.result, places = found.groups() if found else (text[len(begin) :], "")
+        pairs = [tuple(map(int, place.split("."))) for place in places.split(",") if place]
+        self.places = grouped(pairs)
+        self.bodies = grouped((body, index + 1) for body, index in operation.pieces)
+        timed_out = f"timeout after {rounds} rounds, execution unknown"
+        # the outcome that a body without a reply has, where the line tells of one
+        self.outcome = {timed_out: "timeout", "unsent": "unsent", "link lost": "link lost"}.get(self.result)
+        self.words = self.shown_words()
+        self.is_good = self.words is not None
+
+    def shown_words(self):
+        """The words that the line shows, if it tells that all its pieces were done."""
+        sign = GOOD[self.operation.verb]
+        if sign == "done":
+            return [] if self.result == sign else None
+        found = WORDS.fullmatch(self.result)
+        words = [int(word, 16) for word in found[2].split()] if found and found[1] == sign else []
+        wanted = sum(request.count for request in self.operation.requests)
+        return words if len(words) == wanted else None
+
+
+def grouped(pairs):
+    """The second ones of neighbours with the same first one."""
+    groups = itertools.groupby(pairs, lambda pair: pair[0])
+    return [(first, tuple(second for _, second in each)) for first, each in groups]
+
+
+class BoardTold:
+    """The lines of one board: those of its operations, and its own with its counts, or `silent` or `down`."""
+
+    def __init__(self, text, board):
+        self.board = board
+        self.lines = []
+        self.unplaced = {f"board {board.name} silent": "unsent", f"board {board.name} down": "link lost"}.get(text)
+        if self.unplaced:
+            return
+        found = LIVE.fullmatch(text)
+        check(found and found[1] == board.name, f"{text!r} is no line of the board {board.name}")
+        counts = found.groups()[1:]
+        check(all(re.fullmatch(NUMBER, count) for count in counts), f"{text!r} has a number that begins with 0")
+        self.sent, *self.counts = map(int, counts)
+        check(self.sent == sum(self.counts), f"{text!r}: the places are not those replied, timed out and lost")
+
+
+def read_lines(session, text):
+    """The lines of a transcript by board."""
+    check(text.endswith("\n"), "the text does not end with a line feed")
+    lines = text.split("\n")[:-1]
+    operations = sum(len(client.operations) for client in session.clients)
+    wanted = len(session.clients) + operations + len(session.boards)
+    check(len(lines) == wanted, f"{len(lines)} lines in place of {wanted}")
+    boards = session.boards
+    told = [BoardTold(line, board) for line, board in zip(lines[len(lines) - len(boards) :], boards)]
+    rest = iter(lines)
+    for number, client in enumerate(session.clients, 1):
+        begin = next(rest)
+        check(begin == f"client {number}", f"{begin!r} in place of 'client {number}'")
+        for operation in client.operations:
+            line = Line(next(rest), number, operation, boards[operation.board], session.rounds)
+            told[operation.board].lines.append(line)
+    return told

@@ -1,0 +1,201 @@
+"""The peers of one case on 127.0.0.1: boards on UDP ports, a hub, and connections to it. All end with the case."""
+import contextlib
+import pathlib
+import random
+import signal
+import socket
+import subprocess
+import sys
+import tempfile
+import time
+from collections import namedtuple
+
+from net.frames import Connection
+from net.packets import identifier_after
+
+HERE = pathlib.Path(__file__).resolve().parent
+# no case may take longer, and no peer outlives that
+CASE_SECONDS = 120
+SECONDS = 150
+
+Ended = namedtuple("Ended", "status text note")
+
+
+class Wrong(Exception):
+    """Something is not as it is owed."""
+
+
+def require(holds, told):
+    if not holds:
+        raise Wrong(told)
+
+
+class Board:
+    """A board of a session: its registers and settings, and what is to befall its datagrams. `wait` is how many
+    milliseconds a receive from it waits, where that is not as of the other boards."""
+
+    def __init__(self, name, ranges, mtu=1500, buffers=16, first=1, wait=None, **more):
+        self.name = name
+        self.ranges = ranges
+        self.mtu = mtu
+        self.buffers = buffers
+        self.first = first
+        self.wait = wait
+        self.more = more
+        self.port = None
+        self.log = None
+
+    def head(self):
+        return f'[[board]]\nname = "{self.name}"\ntable = "main"\n'
+
+    def simulated(self):
+        """Its table in a document, as a simulated board."""
+        text = f"{self.head()}mtu = {self.mtu}\nbuffers = {self.buffers}\nfirst = {self.first}\n"
+        for base, size, kind, words in self.ranges:
+            text += f'[[board.ranges]]\nbase = {base}\nsize = {size}\nkind = "{kind}"\ninit = {words}\n'
+        return text
+
+    def on_network(self, wait):
+        """Its table in a document, as a board behind its port. A receive waits for so many milliseconds, if it does not
+        say otherwise."""
+        return f'{self.head()}link = "udp"\naddress = "127.0.0.1:{self.port}"\nwait = {self.wait or wait}\n'
+
+    def words(self, log):
+        """The words that start it."""
+        words = ["--mtu", self.mtu, "--buffers", self.buffers, "--first", self.first, "--log", log]
+        for base, size, kind, init in self.ranges:
+            words += ["--range", f"{base}:{size}:{kind}:{','.join(map(str, init or [0]))}"]
+        for name, value in self.more.items():
+            words += [f"--{name.replace('_', '-')}"] + ([] if value is True else [value])
+        return [str(word) for word in [*words, "--seconds", SECONDS]]
+
+    def executed(self):
+        """The bodies that it executed, in order, by its log: none twice, and the identifiers without a gap."""
+        bodies = []
+        expected = self.first
+        for line in self.log.read_text().splitlines():
+            kind, *rest = line.split()
+            if kind != "executed":
+                continue
+            require(int(rest[0]) == expected, f"{self.name} executed {rest[0]} in place of {expected}")
+            expected = identifier_after(expected)
+            bodies.append([int(word, 16) for word in rest[1:]])
+        return bodies
+
+
+class Hub:
+    """A hub that serves: its port, and what it came to."""
+
+    def __init__(self, process, port, document):
+        self.process = process
+        self.port = port
+        self.document = document
+
+    def finish(self):
+        """Its end: its status and what it wrote."""
+        text, note = self.process.communicate(timeout=SECONDS)
+        return Ended(self.process.returncode, text.decode(), note.decode())
+
+
+def free_port(kind=socket.SOCK_STREAM):
+    """A port that nobody has. It is below those that the machine gives away by itself, so nobody is given it before it is
+    used, and no connection to it can be one to itself."""
+    while True:
+        port = random.randrange(20_000, 32_768)
+        with contextlib.suppress(OSError), socket.socket(socket.AF_INET, kind) as probe:
+            probe.bind(("", port))
+            return port
+
+
+class Peers:
+    """What a case starts. `command` is the hub: the words before `run` and `serve`."""
+
+    def __init__(self, command):
+        self.command = [str(word) for word in command]
+        self.folder = tempfile.TemporaryDirectory()
+        self.processes = []
+        self.open = []
+
+    def start(self, words, document=None):
+        file = tempfile.TemporaryFile()
+        file.write(document or b"")
+        file.seek(0)
+        process = subprocess.Popen(words, stdin=file, stdout=subprocess.PIPE, stderr=subprocess.PIPE)
+        file.close()
+        self.processes.append(process)
+        return process
+
+    def start_board(self, board):
+        board.log = pathlib.Path(self.folder.name) / f"{board.name}.log"
+        process = self.start([sys.executable, HERE / "board", *board.words(board.log)])
+        line = process.stdout.readline().split()
+        require(line[:1] == [b"port"], f"{board.name} did not start: {process.stderr.read() if not line else line}")
+        board.port = int(line[1])
+
+    def start_boards(self, boards):
+        for board in boards:
+            self.start_board(board)
+
+    def deaf_port(self):
+        """A port on which nobody ever answers."""
+        deaf = socket.socket(socket.AF_INET, socket.SOCK_DGRAM)
+        deaf.bind(("127.0.0.1", 0))
+        self.open.append(deaf)
+        return deaf.getsockname()[1]
+
+    def run(self, document):
+        process = self.start([*self.command, "run"], document)
+        text, note = process.communicate(timeout=SECONDS)
+        return Ended(process.returncode, text.decode(), note.decode())
+
+    def serve(self, document, count):
+        port = free_port()
+        return Hub(self.start([*self.command, "serve", str(port), str(count)], document), port, document)
+
+    def connect(self, hub):
+        """A connection to the hub, which may have to begin to listen first."""
+        end = time.monotonic() + 60
+        while True:
+            try:
+                connection = Connection(hub.port)
+                self.open.append(connection)
+                return connection
+            except ConnectionRefusedError:
+                require(hub.process.poll() is None, f"the hub ended: {hub.process.poll()}")
+                require(time.monotonic() < end, "the hub does not listen")
+                time.sleep(0.01)
+
+    def close(self):
+        for each in self.open:
+            each.close()
+        for process in self.processes:
+            process.kill()
+        for process in self.processes:
+            process.wait()
+            for pipe in (process.stdout, process.stderr):
+                pipe.close()
+        self.folder.cleanup()
+
+
+class Late(Exception):
+    """A case took longer than it may."""
+
+
+def within(seconds, command, case):
+    """What is wrong in a case, as a list of texts. It ends in its time, and so do all its peers."""
+
+    def ring(_signal, _frame):
+        raise Late(f"it took longer than {seconds} s")
+
+    peers = Peers(command)
+    before = signal.signal(signal.SIGALRM, ring)
+    signal.setitimer(signal.ITIMER_REAL, seconds)
+    try:
+        case(peers)
+        return []
+    except Exception as error:
+        return [f"{type(error).__name__}: {error}"]
+    finally:
+        signal.setitimer(signal.ITIMER_REAL, 0)
+        signal.signal(signal.SIGALRM, before)
+        peers.close()
