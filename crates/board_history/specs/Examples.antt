@@ -1,7 +1,6 @@
 -- Values for worked examples: a bus of one register, and clients that read it.
 use Rattle.std.specs.Prelude.{ℕ, List, [], ◌∷◌}
 use Rattle.board_bus.specs.Cells.{CellMap}
-use Rattle.board_bus.specs.declared.range.Range.{Range}
 use Rattle.board_bus.specs.declared.kind.RangeKind.TheVariants.{Rw}
 use Rattle.board_bus.specs.Ranges.{opening_bus}
 use Rattle.lane_record.specs.declared.outcome.Outcome.{Outcome}

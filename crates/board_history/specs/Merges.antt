@@ -36,7 +36,7 @@ abbrev pub AreMerged : ℕ → List (List (List ℕ)) → List Owned → Type 0
 AreMerged client [] os = Unit {0}
 AreMerged client (bodies ∷ later) os = (bodies_by client os ≡ bodies) × AreMerged (client + 1) later os
 
--- The list is a merge of subsequences, one of each client's bodies.
+-- The list can be dealt out to the clients so that each gets some of its bodies, in their order.
 pub record IsMergeOfSome (bodies : List (List (List ℕ))) (merged : List (List ℕ)) : Type 0 where
   pub owned : List Owned
   pub same : merged ≡ bodies_owned owned

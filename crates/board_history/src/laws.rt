@@ -60,8 +60,8 @@ pub fn each_body_has_its_own_place()
         AllByRecursion (λ (part : ClientPart). HaveOwnPlaces (ends_of part)) run.parts }
 {}
 
-/// What a board executed is a merge of subsequences, one of each client's bodies. Where each body was replied to it is
-/// the whole order, and a merge of all bodies of all clients.
+/// What a board executed can be dealt out to the clients so that each gets bodies of its own, in order. Where each body
+/// was replied to it is the whole order, and a merge of all bodies of all clients.
 pub fn what_was_executed_is_a_merge()
     ensures some { (bodies : List (List (List ℕ))) (outcomes : List (List Outcome)) (executed : List (List ℕ)) →
         map length outcomes ≡ map length bodies → KeepsScripts bodies outcomes →

@@ -1,6 +1,6 @@
 -- Bodies sent one after another.
 use Rattle.std.proofs.Common.{◌≡◌, ℕ, suc, ◌+◌, ◌<◌, List, [], ◌∷◌, ◌++◌, length, map, drop, refl, sym, ap, ◌∙◌, subst}
-use Rattle.std.proofs.Common.{arith, append_assoc, append-nil, add-one, drop-cons, get_or}
+use Rattle.std.proofs.Common.{arith, append_assoc, add-one, drop-cons, get_or}
 use Rattle.std.proofs.lemmas.List.{map-append, length-append}
 use Rattle.ipb_base.specs.Numbers.{payload_of}
 use Rattle.board_bus.specs.Cells.{CellMap}
@@ -46,9 +46,6 @@ place_after b bodies =
 
 pub grown_on : (b : Board) (one two : List LogEntry) → grown (grown b one) two ≡ grown b (one ++ two)
 grown_on b one two = ap (λ (log : List LogEntry). record b { log = log }) (append_assoc b.log one two)
-
-pub grown_none : (b : Board) → grown b [] ≡ b
-grown_none b = ap (λ (log : List LogEntry). record b { log = log }) (append-nil b.log)
 
 -- ---- one body more
 

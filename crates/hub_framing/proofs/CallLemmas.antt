@@ -1,7 +1,7 @@
 -- Whole lives of a framer, from any bytes that it held before.
-use Rattle.std.proofs.Common.{◌≡◌, ℕ, List, [], ◌∷◌, ◌++◌, refl, sym, ap, ◌∙◌, append_assoc, append-nil}
-use Rattle.std.specs.List.{AllByRecursion, flat_map}
-use Rattle.hub_framing.specs.Frames.{RequestFrame, IsFrame, IsFrameStream, frame_bytes, frames_bytes}
+use Rattle.std.proofs.Common.{◌≡◌, ℕ, List, [], ◌∷◌, ◌++◌, sym, ap, ◌∙◌, append_assoc, append-nil}
+use Rattle.std.specs.List.{AllByRecursion}
+use Rattle.hub_framing.specs.Frames.{IsFrame, IsFrameStream, frame_bytes, frames_bytes}
 use Rattle.hub_framing.specs.Calls.{FramerCall, Feed, HandOut, Steps, fed, handed_out}
 use Rattle.hub_framing.proofs.FrameLemmas.{one_reading}
 

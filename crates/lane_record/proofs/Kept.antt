@@ -234,12 +234,6 @@ kept_took items outs window g client seq outcome may is = record {
   few = is.few;
 }
 
--- what a lane may take: the numbers of give-ups follow from what it keeps
-pub takes_late : (items : List Item) (outs : List (Option Outcome)) (window g : ℕ) (k : ℕ) (claim : Claim)
-    (outcome : Outcome) → IsKept items outs window g → slice_get (claims items) k ≡ Some claim
-    → slice_get outs k ≡ Some (Some outcome) → is_given_up outcome ≡ true → claim.give_ups < g
-takes_late items outs window g k claim outcome is c e up = is.given_up_before k claim outcome c e up
-
 -- ---- outcomes that were handed out as fates
 
 told_one : (fates : List (ℕ × Fate)) (k : ℕ) (f : Fate) → WasHandedOut fates k f → IsToldBy fates k (outcome_of f)

@@ -209,9 +209,6 @@ by_due : (hub : Hub) (before now : ℕ) (new : Telling)
     → IsDue hub.first (places hub.open_places) new ⊎ Rose before now → OnAfter hub before now new
 by_due hub before now new is = elim is [ inl due ↦ inl (inr (inr due)) | inr rose ↦ inr rose ]
 
-same_all : (ps : List ℕ) → HasAll ps ps
-same_all ps place is = is
-
 module _ (below : RecoveryLaws) where
   -- the status request
   status_sent : (hub : Hub) (before now : ℕ) (old new : Telling)

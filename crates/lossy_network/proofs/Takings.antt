@@ -174,9 +174,6 @@ still (suc k) net Nothing is st = rw is refl
 still (suc k) net (ForHub place bytes) is st = rw is refl
 still (suc k) net (Taken taking after) is st = absurd cc
 
-pub stands_still : (k : ℕ) (net : Network) → stands (front net) ≡ true → takes k net ≡ net
-stands_still k net st = still k net (front net) refl st
-
 pub takes_one : (k : ℕ) (net after : Network) (taking : Taking) → front net ≡ Taken taking after
     → takes (suc k) net ≡ takes k after
 takes_one k net after taking is = rw is refl

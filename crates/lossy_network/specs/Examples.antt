@@ -1,5 +1,5 @@
 -- Links for worked examples, and how they stand: values alone.
-use Rattle.std.specs.Prelude.{ℕ, List, [], ◌∷◌, length, map, Some}
+use Rattle.std.specs.Prelude.{ℕ, List, [], ◌∷◌, length, map}
 use Rattle.std.specs.List.{range_with_len}
 use Rattle.ipb_base.specs.Word.{big_endian}
 use Rattle.world_model.specs.Board.{executed}
@@ -7,7 +7,7 @@ use Rattle.world_model.specs.Examples.{board_with}
 use Rattle.board_node.specs.declared.spec.Fates.{Fates}
 use Rattle.board_node.specs.declared.spec.Fates.TheVariants.{Text}
 use Rattle.lossy_network.specs.declared.fates.DatagramFate.{DatagramFate}
-use Rattle.lossy_network.specs.Fates.{fate_at, fate_of_word}
+use Rattle.lossy_network.specs.Fates.{fate_at}
 use Rattle.lossy_network.specs.Traffic.{place_of}
 use Rattle.lossy_network.specs.Network.{Network, new_network}
 use Rattle.lossy_network.specs.Calls.{Call, Send, after_call}
@@ -65,6 +65,3 @@ stood queue delayed handed held quiets executed_count = record {
 -- the fates of the first datagrams, this many
 abbrev pub fates_to : ℕ → Fates → List DatagramFate
 fates_to count fates = map (fate_at fates) (range_with_len 0 count)
-
-abbrev pub words_to_fates : List ℕ → List DatagramFate
-words_to_fates words = map (λ word. fate_of_word (Some word)) words

@@ -3,7 +3,7 @@
 use Rattle.std.specs.Prelude.{◌≡◌, ℕ, ◌+◌, ◌*◌, ◌/◌, ◌%◌, ◌^◌, ◌≤◌, bit_and}
 use Rattle.std.specs.Int.{w32, bit_not, trailing_zeros}
 
--- z is the greatest number with 2 ^ z dividing the mask
+-- z is the number of zero bits below the lowest one of the mask
 pub record IsShift (mask z : ℕ) : Type 0 where
   pub divides : mask % 2 ^ z ≡ 0
   pub greatest : (k : ℕ) → mask % 2 ^ k ≡ 0 → k ≤ z

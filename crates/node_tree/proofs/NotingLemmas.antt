@@ -114,10 +114,6 @@ pub length-lowered : (f : List ℕ) (at n : ℕ) → length (lowered f at n) ≡
 length-lowered f at n =
     either (lowered-cases f at n) (λ (less, is). ap length is ∙ length-set f at n) (λ (more, is). ap length is)
 
--- a place that is kept after it was lowered is not after the entry
-pub settled-lowered : (xs : Registers) (f : List ℕ) (a b : ℕ) → b < length f → IsSettled xs (lowered f b a) a b
-settled-lowered xs f a b within less = let value = lowered-value f b a within in absurd (omega (arith, value))
-
 pub settled-falls : (xs : Registers) (f g : List ℕ) (a b : ℕ) → slice_index g b ≤ slice_index f b → IsSettled xs f a b
     → IsSettled xs g a b
 settled-falls xs f g a b falls s less = s (omega (arith, falls))

@@ -6,7 +6,7 @@ use crate::Tables;
 use crate::name_map::NameMap;
 use address_table::Node;
 
-/// The first table in byte order that has a node with an unknown module.
+/// The first table, by the bytes of its name, one of whose nodes names a module that is no table.
 pub(crate) fn first_unknown(tables: &Tables) -> Option<&str>
     ensures { let unknown = HasUnknown tables.now in
         MatchOption result (NoTable tables.now unknown) (λ name. IsFirstTable tables.now unknown name.now) }

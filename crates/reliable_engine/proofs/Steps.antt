@@ -1,14 +1,10 @@
 -- What is wanted of open places, one after another.
-use Rattle.std.proofs.Common.{◌≡◌, ◌≤◌, ℕ, zero, suc, true, false, length, get_or, List, [], ◌∷◌, ◌++◌, ◌-◌, Option}
+use Rattle.std.proofs.Common.{◌≡◌, ℕ, true, false, List, [], ◌∷◌, ◌++◌, Option}
 use Rattle.std.proofs.Common.{Some, None}
-use Rattle.std.proofs.Common.{refl, sym, ap, ◌∙◌, arith}
-use Rattle.std.proofs.lemmas.Option.{slice_get-get_or}
+use Rattle.std.proofs.Common.{refl, sym, ap, ◌∙◌}
 use Rattle.packet_ids.specs.Identifier.{identifier_at}
 use Rattle.world_model.specs.declared.offered.OpenPlace.{OpenPlace}
-use Rattle.world_model.specs.declared.offered.Offered.{Offered}
 use Rattle.world_model.specs.declared.sending.Sending.TheVariants as sends
-use Rattle.world_model.specs.Places.{at_place}
-use Rattle.world_model.specs.Hub.{tag_of}
 use Rattle.world_model.specs.Sends.{Wanted, after_open, wanted}
 use Rattle.reliable_engine.specs.Steps.{prepend}
 

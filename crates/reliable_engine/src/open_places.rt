@@ -122,7 +122,7 @@ impl OpenPlaces {
         Some(open)
     }
 
-    /// Takes the first send that is wanted for a place: at one place the re-send request before the control packet.
+    /// Takes the first send that is wanted for a place. Of one place the request for its reply goes before its packet.
     pub(crate) fn take_wanted(&mut self, first: Id) -> Option<Sending>
         ensures send { result ≡ sending_of (wanted first self.old) }
         ensures after { self.new ≡ places_wanted self.old (wanted first self.old) }

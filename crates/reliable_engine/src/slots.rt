@@ -166,7 +166,7 @@ pub(crate) fn is_any_slot_waited(slots: &[Option<Flags>], low: u64) -> bool
     false
 }
 
-/// Takes the first send that is wanted for a place: at one place the re-send request before the control packet.
+/// Takes the first send that is wanted for a place. Of one place the request for its reply goes before its packet.
 pub(crate) fn take_wanted_slot(slots: &mut [Option<Flags>], low: u64, first: Id) -> Option<Sending>
     requires slots { length slots.old ≡ SLOTS }
     requires from_one { 1 ≤ low }

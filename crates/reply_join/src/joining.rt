@@ -19,7 +19,8 @@ use transaction_codec::{FirstReply, FirstRequest, first_request};
 
 /// The answers that a reply's words give to a body's requests, one for each in order. A request behind one that failed
 /// is `Skipped`. `Garbled` comes exactly where the words are no reply to the body by the rules of IPbus 2.0
-/// transactions and the profile; it names the first word at fault, or the reply's length where it ends too early.
+/// transactions and the profile; it names the place of the first wrong word, and the number of words where one is
+/// missing.
 ///
 /// The body is the words of requests alone, as `read_requests` of `transaction_codec` accepts them.
 pub fn join_reply(alloc: Global, body: &[u32], reply: &[u32]) -> Result<Vec<Answer>, JoinRefusal>

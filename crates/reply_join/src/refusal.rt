@@ -9,8 +9,8 @@ use std::fmt;
 /// Why a reply was not joined to a body.
 #[derive(Clone, Copy, Debug, PartialEq, Eq)]
 pub enum JoinRefusal {
-    /// The words are no reply to this body (IPbus 2.0, transactions). `place`, in words from 0, is the first word at
-    /// fault, or the reply's length where it ends too early.
+    /// The words are no reply to this body (IPbus 2.0, transactions). `place`, in words from 0, is that of the first
+    /// wrong word, and the number of words where one is missing.
     Garbled { place: u64 },
     /// Memory ran out.
     NoMemory,

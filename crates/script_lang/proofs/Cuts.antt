@@ -1,9 +1,9 @@
 -- Cutting a text at the first of a byte, one byte after the other.
-use Rattle.std.proofs.Common.{◌≡◌, ℕ, ◌+◌, ◌<◌, ◌==◌, List, [], ◌∷◌, ◌++◌, length, take, drop, suc, get_or, Bool, true}
+use Rattle.std.proofs.Common.{◌≡◌, ℕ, ◌+◌, ◌<◌, ◌==◌, List, [], ◌∷◌, ◌++◌, length, take, drop, suc, Bool, true}
 use Rattle.std.proofs.Common.{false, Option, Some, None, option_map, Bor, refl, ap, sym, subst, arith, ◌∙◌}
 use Rattle.std.specs.List.{position_or_len, before_first, after_first}
 use Rattle.std.specs.Option.{MatchOption}
-use Rattle.std.proofs.lemmas.List.{drop_more, take_more, append_assoc, append-nil}
+use Rattle.std.proofs.lemmas.List.{append_assoc}
 use Rattle.script_lang.specs.Texts.{cut_at}
 
 -- the parts of what follows some bytes without the cut
@@ -14,17 +14,6 @@ one_longer : (front : List ℕ) (byte : ℕ) (parts : Option (List ℕ × List �
     → behind front (option_map (λ p. (byte ∷ p.0, p.1)) parts) ≡ behind (front ++ byte ∷ []) parts
 one_longer front byte None = refl
 one_longer front byte (Some parts) = ap (λ xs. Some (xs, parts.1)) (sym (append_assoc front (byte ∷ []) parts.0))
-
-pub behind-next : (text : List ℕ) (i cut : ℕ) → i < length text → (get_or text i 0 == cut) ≡ false
-    → behind (take i text) (cut_at cut (drop i text)) ≡ behind (take (i + 1) text) (cut_at cut (drop (i + 1) text))
-behind-next text i cut within other =
-    rw (drop_more text i 0 within, other, take_more text i 0 within)
-    (one_longer (take i text) (get_or text i 0) (cut_at cut (drop (i + 1) text)))
-
-pub behind-found : (text : List ℕ) (i cut : ℕ) → i < length text → (get_or text i 0 == cut) ≡ true
-    → behind (take i text) (cut_at cut (drop i text)) ≡ Some (take i text, drop (i + 1) text)
-behind-found text i cut within same =
-    rw (drop_more text i 0 within, same) (ap (λ xs. Some (xs, drop (i + 1) text)) (append-nil (take i text)))
 
 position-more : (cut byte : ℕ) (text : List ℕ) → (byte == cut) ≡ false
     → position_or_len (λ b. b == cut) (byte ∷ text) ≡ suc (position_or_len (λ b. b == cut) text)

@@ -24,11 +24,6 @@ front_fault xs ys (refusal.Table name (table_refusal.At path why)) h = first-of-
 front_fault xs ys (refusal.Table name table_refusal.NoMemory) h = absurd h
 front_fault xs ys refusal.NoMemory h = tt
 
--- the same, where the lists before it have no fault
-pub second_fault : (xs ys zs ws : List Fault) (r : SessionRefusal) → xs ≡ [] → TellsFault ys r
-    → TellsFault (xs ++ ys ++ zs ++ ws) r
-second_fault xs ys zs ws r a h = rw a (front_fault (ys ++ zs) ws r (front_fault ys zs r h))
-
 pub third_fault : (xs ys zs ws : List Fault) (r : SessionRefusal) → xs ≡ [] → ys ≡ [] → TellsFault zs r
     → TellsFault (xs ++ ys ++ zs ++ ws) r
 third_fault xs ys zs ws r a b h = rw (a, b) (front_fault zs ws r h)

@@ -27,11 +27,11 @@ pub enum ScriptWhy {
     NoPermission,
     /// The register is hierarchical.
     WrongMode,
-    /// A block operation has more words than the register's size, except on a port of size 1, which has no bound.
+    /// A block of more words than its register holds. A port of size 1 takes a block of any length.
     PastSize,
     /// The value has a bit outside the mask.
     BitsOutside,
-    /// A block operation, `rmwbits` or `rmwsum` on a register whose mask leaves out a bit.
+    /// The register has a mask that leaves out a bit, and the operation is of a block, `rmwbits` or `rmwsum`.
     NotWhole,
     /// With this line the session has more than `MAX_LINES` lines, `MAX_OPERATIONS` operations or `MAX_BLOCK_WORDS`
     /// words in block operations.

@@ -1,23 +1,22 @@
 -- Sessions that are the same, node for node, keep the same rules.
-use Rattle.std.proofs.Common.{◌≡◌, ◌⊎◌, ℕ, Bool, true, false, List, [], ◌∷◌, Option, Some, None, inl, inr, refl, sym}
-use Rattle.std.proofs.Common.{ap, subst, ◌∙◌, slice_get}
-use Rattle.std.specs.List.{AllByRecursion, AllZip, list_all}
+use Rattle.std.proofs.Common.{List, [], ◌∷◌, Option, Some, None, inl, inr, sym}
+use Rattle.std.proofs.Common.{subst}
+use Rattle.std.specs.List.{AllByRecursion, AllZip}
 use Rattle.std.specs.FinMap.{get}
 use Rattle.address_table.specs.declared.nodes.Table.{Table}
 use Rattle.board_node.specs.declared.spec.BoardSpec.{BoardSpec}
 use Rattle.node_tree.specs.declared.refusal.CompileRefusal.TheVariants.{At}
-use Rattle.node_tree.specs.Maps.{Name, TableMap, RegisterMap}
+use Rattle.node_tree.specs.Maps.{Name, RegisterMap}
 use Rattle.node_tree.specs.Names.{IsIndexOf}
 use Rattle.node_tree.specs.Same.{SameFound, SameTables}
 use Rattle.script_lang.specs.declared.operation.Step.{Step}
 use Rattle.script_lang.specs.declared.session.Session.{Session}
 use Rattle.script_lang.specs.Document.{SameSession, SameTableAt}
-use Rattle.script_lang.specs.Scripts.{script_faults, steps_of}
 use Rattle.session_input.specs.declared.refusal.Refusal.{Refusal}
 use Rattle.session_input.specs.Below.{TableLaws}
-use Rattle.session_input.specs.Deserved.{IsToldFirst, Compiles, HasIndex, HasBus, AreCompiled, HaveBuses, AreSteps}
-use Rattle.session_input.specs.Deserved.{TellsCompile, TellsBus, TellsLine, TellsFirstBus, BreaksCompiling, BreaksBuses}
-use Rattle.session_input.specs.Deserved.{BreaksScripts, BreaksInRun}
+use Rattle.session_input.specs.Deserved.{IsToldFirst, Compiles, HasIndex, AreCompiled, HaveBuses, AreSteps}
+use Rattle.session_input.specs.Deserved.{TellsCompile}
+use Rattle.session_input.specs.Deserved.{BreaksInRun}
 use Rattle.session_input.proofs.OneAnswer.{of_table}
 
 found_same : (o p : Option Table) → SameTableAt o p → SameFound o p

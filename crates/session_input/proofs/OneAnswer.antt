@@ -1,7 +1,7 @@
 -- A session has one answer to a command.
-use Rattle.std.proofs.Common.{◌≡◌, ◌⊎◌, ℕ, Bool, true, false, List, [], ◌∷◌, Option, Some, None, inl, inr, refl, sym}
+use Rattle.std.proofs.Common.{◌≡◌, ◌⊎◌, ℕ, List, [], ◌∷◌, Option, Some, None, inl, inr, refl, sym}
 use Rattle.std.proofs.Common.{ap, subst, ◌∙◌, slice_get}
-use Rattle.std.specs.List.{AllByRecursion, AllZip, list_all}
+use Rattle.std.specs.List.{AllByRecursion, AllZip}
 use Rattle.board_bus.specs.declared.range.BusRefusal.{BusRefusal}
 use Rattle.board_bus.specs.Ranges.{refusal_of}
 use Rattle.board_node.specs.declared.spec.BoardSpec.{BoardSpec}
@@ -16,9 +16,9 @@ use Rattle.script_lang.specs.Scripts.{LineFault, script_faults, steps_of}
 use Rattle.session_input.specs.declared.refusal.Refusal.{Refusal}
 use Rattle.session_input.specs.declared.refusal.Refusal.TheVariants.{TooLong, Document, Table, Compile, Board, Script}
 use Rattle.session_input.specs.Below.{TableLaws}
-use Rattle.session_input.specs.Deserved.{IsToldFirst, ranges_of, Compiles, HasIndex, HasBus, AreCompiled, HaveBuses}
+use Rattle.session_input.specs.Deserved.{IsToldFirst, ranges_of, Compiles, HasIndex, HasBus, AreCompiled}
 use Rattle.session_input.specs.Deserved.{AreSteps}
-use Rattle.session_input.specs.Deserved.{TellsCompile, TellsBus, TellsLine, BreaksCompiling, TellsFirstBus, BreaksBuses}
+use Rattle.session_input.specs.Deserved.{TellsCompile, TellsBus, TellsLine, BreaksBuses}
 use Rattle.session_input.specs.Deserved.{BreaksScripts}
 use Rattle.session_input.specs.Deserved.{BreaksInRun}
 

@@ -1,9 +1,8 @@
 -- Bytes have one answer to a command.
-use Rattle.std.proofs.Common.{◌≡◌, ◌⊎◌, ℕ, ◌≤◌, ◌<◌, List, [], Option, Some, length, slice_get, inl, inr, refl, sym, ap}
+use Rattle.std.proofs.Common.{◌≡◌, ◌⊎◌, ℕ, ◌≤◌, ◌<◌, List, [], Some, length, slice_get, inl, inr, refl, sym, ap}
 use Rattle.std.proofs.Common.{subst, ◌∙◌, arith}
-use Rattle.node_tree.specs.Maps.{Name, RegisterMap}
+use Rattle.node_tree.specs.Maps.{RegisterMap}
 use Rattle.script_lang.specs.declared.operation.Step.{Step}
-use Rattle.script_lang.specs.declared.refusal.DocWhy.{DocWhy}
 use Rattle.script_lang.specs.declared.refusal.DocWhy.TheVariants.{NotToml, Shape, NoBoards, ManyBoards, ManyClients}
 use Rattle.script_lang.specs.declared.refusal.DocWhy.TheVariants.{DuplicateBoard}
 use Rattle.script_lang.specs.declared.session.Session.{Session}
@@ -14,8 +13,8 @@ use Rattle.session_input.specs.declared.refusal.Refusal.{Refusal}
 use Rattle.session_input.specs.declared.refusal.Refusal.TheVariants.{TooLong, Document, Table, Compile, Board, Script}
 use Rattle.session_input.specs.Below.{DocumentLaws, TableLaws}
 use Rattle.session_input.specs.Numbers.{document_bytes}
-use Rattle.session_input.specs.Deserved.{BreaksInRun, BreaksInCheck, DeservesUnread, BreaksRule, Deserves, IsRunnable}
-use Rattle.session_input.specs.Deserved.{IsListed, TellsCompile, AreSteps}
+use Rattle.session_input.specs.Deserved.{BreaksInRun, BreaksInCheck, DeservesUnread, Deserves, IsRunnable}
+use Rattle.session_input.specs.Deserved.{IsListed}
 use Rattle.session_input.proofs.OneAnswer.{one_break, runs_unbroken, one_steps, same_table, table_apart}
 use Rattle.session_input.proofs.Moved.{root_moved, told_moved, steps_moved, break_moved}
 

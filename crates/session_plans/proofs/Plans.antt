@@ -291,12 +291,3 @@ few_count : (client dispatch : ℕ) (planned : List ClientBodies) → AllByRecur
 few_count client dispatch [] few = omega arith
 few_count zero dispatch (p ∷ planned) few = few_get p.counts dispatch few.0
 few_count (suc client) dispatch (p ∷ planned) few = few_count client dispatch planned few.1
-
-pub few_at : (client dispatch lane : ℕ) (boards : List (List ClientBodies)) (planned : List ClientBodies)
-    → AllByRecursion (AllByRecursion HasFewBodies) boards → lane < length boards
-    → planned ≡ get_or boards lane planned → count_at client dispatch planned < 2 ^ 32
-few_at client dispatch lane [] planned few lt is = absurd (omega (arith, lt))
-few_at client dispatch zero (b ∷ boards) planned few lt is =
-    subst (λ (l : List ClientBodies). count_at client dispatch l < 2 ^ 32) (sym is) (few_count client dispatch b few.0)
-few_at client dispatch (suc lane) (b ∷ boards) planned few lt is =
-    few_at client dispatch lane boards planned few.1 (omega (arith, lt)) is

@@ -113,22 +113,6 @@ word_fits bytes place fits = word_below Big (drop (4 * place) bytes) (IsBytes-dr
 next_fits : (next : ℕ) → IsIdentifier next → packet_header next (kind_code Control) < 2 ^ 32
 next_fits next is = let below = is.up_to_end in omega arith
 
--- a reply and a reply out of range begin with the header
-reply_header : (bytes : List ℕ) (mtu buffers next : ℕ) → IsStatusReply bytes mtu buffers next → IsStatusRequest bytes
-reply_header bytes mtu buffers next is =
-    record {
-      whole = is.whole;
-      begins = header_begins bytes status_header mtu buffers
-          (packet_header next (kind_code Control)) is.begins;
-    }
-
-outer_header : (bytes : List ℕ) → IsOutOfRange bytes → IsStatusRequest bytes
-outer_header bytes is = record {
-  whole = is.whole;
-  begins = header_begins bytes status_header is.mtu is.buffers
-      is.next is.begins;
-}
-
 reply_words : (bytes : List ℕ) (mtu buffers next : ℕ) → IsMtu mtu → IsBufferCount buffers → IsIdentifier next
     → IsStatusReply bytes mtu buffers next
     → Begins bytes status_header mtu buffers (packet_header next (kind_code Control))

@@ -53,8 +53,8 @@ AreReplies replies = AllByRecursion IsReply replies
 abbrev pub is_reply_code : ℕ → Bool
 is_reply_code code = code == SUCCESS || code == BAD_HEADER || (nat_le READ_ERROR code && nat_le code WRITE_TIMEOUT)
 
--- Which words fields are wrong: one that is not 0 with code 1; for an RMW one that is not 1 with code 0, or not 0 with
--- another.
+-- Which words fields are wrong: beside code 1 any but 0; of an RMW any but 1 beside code 0, and any but 0 beside every
+-- other.
 abbrev pub is_wrong_count : ℕ → ℕ → ℕ → Bool
 is_wrong_count kind code count =
     (code == BAD_HEADER && not (count == 0)) || (is_rmw kind && not (count == (if code == SUCCESS then 1 else 0)))

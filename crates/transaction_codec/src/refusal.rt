@@ -15,8 +15,8 @@ pub enum Why {
     Kind,
     /// The info code is not 15 in a request; not one of 0, 1, 4, 5, 6, 7 in a reply.
     Code,
-    /// The words field is not 1 in the request of an RMW. In a reply it is not 0 with code 1; in that of an RMW it is
-    /// not 1 with code 0, or not 0 with another code.
+    /// The words field is wrong: in the request of an RMW it must be 1, and in its reply 1 beside code 0 and 0 beside
+    /// every other; in any reply it must be 0 beside code 1.
     Count,
     /// The words end before the transaction does.
     Short,

@@ -1,5 +1,5 @@
 -- Receives, step by step.
-use Rattle.std.proofs.Common.{◌⊎◌, drop}
+use Rattle.std.proofs.Common.{◌⊎◌}
 use Rattle.std.proofs.Common.{◌≡◌, inl, inr, ℕ, ◌+◌, ◌<◌, ◌≤◌, Bool, true, false, cond, List, []}
 use Rattle.std.proofs.Common.{◌∷◌, ◌++◌, length, Option, Some, None, refl, sym, ap, ◌∙◌, subst, arith}
 use Rattle.std.proofs.Common.{length-append}
@@ -15,8 +15,8 @@ use Rattle.world_model.specs.Board.{hear}
 use Rattle.world_model.specs.Air.{goes_to, is_alive}
 use Rattle.world_model.specs.World.{answered}
 use Rattle.world_model.specs.Links.{IsHandedAt, IsHeard, Told, first_sends, heard_by, heard_on, hears_all}
-use Rattle.world_model.specs.Links.{then_told, sent_on}
-use Rattle.world_core.specs.Telling.{IsSent, IsGot, IsReceived, IsSettled, KeepsBut, Telling}
+use Rattle.world_model.specs.Links.{then_told}
+use Rattle.world_core.specs.Telling.{IsGot, IsReceived, IsSettled, KeepsBut, Telling}
 
 -- ---- lists of places
 
@@ -202,52 +202,6 @@ still_there front back more other is = elim (Contains-append_cases front back ot
   | inr later ↦ Contains-append_right front (back ++ more) other (Contains-append_left back more other later)
 ]
 
-pub sent_in_memory : (bytes : List ℕ) (held : ℕ) (told new : Told) (to_board to_hub longer handed : List ℕ)
-    → new ≡ sent_on told bytes → longer ≡ to_board ++ length told.air ∷ []
-    → IsSent bytes held held (telling_with told (to_board ++ to_hub) handed)
-    (telling_with new (longer ++ to_hub) handed)
-sent_in_memory bytes held told new to_board to_hub longer handed sent due = record {
-  told = sent;
-  joins = inl (Contains-append_left longer to_hub (length told.air)
-      (subst (λ (xs : List ℕ). Contains xs (length told.air)) (sym due) (Contains-push to_board (length told.air))));
-  stays = λ place is. inl (elim (Contains-append_cases to_board to_hub place is) [
-    | inl here ↦ Contains-append_left longer to_hub place (subst (λ (xs : List ℕ). Contains xs place) (sym due)
-        (Contains-append_left to_board (length told.air ∷ []) place here))
-    | inr later ↦ Contains-append_right longer to_hub place later
-  ]);
-  handed = refl;
-}
-
-pub heard_in_memory : (held place : ℕ) (told new : Told) (to_hub added later handed : List ℕ)
-    → heard_by told (slice_get told.air place) ≡ Some new
-    → (length told.air < length new.air → Contains added (length told.air))
-    → IsReceived [] held held (telling_with told (place ∷ later ++ to_hub) handed)
-    (telling_with new (later ++ (to_hub ++ added)) handed)
-heard_in_memory held place told new to_hub added later handed heard joins =
-    heard_received held place (telling_with told (place ∷ later ++ to_hub) handed)
-    (telling_with new (later ++ (to_hub ++ added)) handed) heard refl
-    (λ other is. elim (front_cases place (later ++ to_hub) other is) [
-      | inl same ↦ inl same
-      | inr there ↦ inr (still_there later to_hub added other there)
-    ])
-    (λ grows. Contains-append_right later (to_hub ++ added) (length told.air)
-    (Contains-append_right to_hub added (length told.air) (joins grows)))
-
--- the place in front was heard
-pub front_heard : (first mid last place : ℕ) (old : Telling) (air after : Told)
-    (to_board rest popped to_hub longer handed : List ℕ) → first ≤ mid → mid ≤ last → to_board ≡ place ∷ rest
-    → popped ≡ drop 1 to_board
-    → IsReceived [] first mid old (telling_with air (to_board ++ to_hub) handed)
-    → ((later handed : List ℕ) → IsReceived [] mid last (telling_with air (place ∷ later ++ to_hub) handed)
-    (telling_with after (later ++ longer) handed))
-    → IsReceived [] first last old (telling_with after (popped ++ longer) handed)
-front_heard first mid last place old air after to_board rest popped to_hub longer handed earlier later is pop one two =
-    let left : popped ≡ rest = pop ∙ ap (λ (xs : List ℕ). drop 1 xs) is in
-    let here = subst (λ (xs : List ℕ). IsReceived [] first mid old (telling_with air (xs ++ to_hub) handed)) is one in
-    subst (λ (xs : List ℕ). IsReceived [] first last old (telling_with after (xs ++ longer) handed)) (sym left)
-    (received_then [] first mid last old (telling_with air (place ∷ rest ++ to_hub) handed)
-    (telling_with after (rest ++ longer) handed) earlier later here (two rest handed))
-
 -- the board heard all, and then some were given up
 pub all_heard : (first mid last : ℕ) (old : Telling) (air : Told) (to_board to_hub fewer handed : List ℕ)
     → first ≤ mid → mid ≤ last → to_board ≡ []
@@ -259,29 +213,3 @@ all_heard first mid last old air to_board to_hub fewer handed earlier later none
     subst (λ (xs : List ℕ). IsReceived [] first last old (telling_with air (xs ++ fewer) handed)) (sym none)
     (received_then [] first mid last old (telling_with air to_hub handed) (telling_with air fewer handed) earlier later
     here two)
-
--- and the reply in front was handed out
-pub got_in_memory : (first last place : ℕ) (bytes : List ℕ) (old : Telling) (air : Told)
-    (to_board to_hub rest popped handed longer : List ℕ) → first ≤ last → to_hub ≡ place ∷ rest
-    → popped ≡ drop 1 to_hub → longer ≡ handed ++ place ∷ [] → IsHandedAt air bytes place
-    → IsReceived [] first last old (telling_with air (to_board ++ to_hub) handed)
-    → IsGot bytes first last old (telling_with air (to_board ++ popped) longer)
-got_in_memory first last place bytes old air to_board to_hub rest popped handed longer earlier is pop out there one =
-    let left : popped ≡ rest = pop ∙ ap (λ (xs : List ℕ). drop 1 xs) is in
-    let before = telling_with air (to_board ++ to_hub) handed in
-    let after = telling_with air (to_board ++ popped) longer in
-    let keeps : KeepsBut place (to_board ++ to_hub) (to_board ++ popped) =
-    (λ other inside. elim (Contains-append_cases to_board to_hub other inside) [
-      | inl here ↦ inr (Contains-append_left to_board popped other here)
-      | inr later ↦ elim (front_cases place rest other (subst (λ (xs : List ℕ). Contains xs other) is later)) [
-        | inl same ↦ inl same
-        | inr kept ↦ inr (Contains-append_right to_board popped other
-            (subst (λ (xs : List ℕ). Contains xs other) (sym left) kept))
-      ]
-    ]) in
-    let got = out_received last place before after refl out keeps in
-    record {
-      place = place;
-      there = there;
-      received = received_then (place ∷ []) first last last old before after earlier (omega arith) one got;
-    }

@@ -1,20 +1,18 @@
 -- What a board hears keeps the facts, and what it answers is right.
 use Rattle.std.proofs.Common.{◌≡◌, ℕ, zero, suc, ◌+◌, ◌-◌, ◌<◌, ◌≤◌, ◌^◌, Bool, true, false, cond, ◌==◌, ◌||◌, List, []}
-use Rattle.std.proofs.Common.{◌∷◌, ◌++◌, length, map, drop, Option, Some, None, refl, sym, ap, ◌∙◌, subst, arith}
-use Rattle.std.proofs.Common.{length-append, add-one, append_assoc, inl, inr, if◌then◌else◌}
+use Rattle.std.proofs.Common.{◌∷◌, ◌++◌, length, Option, Some, None, refl, sym, ap, ◌∙◌, subst, arith}
+use Rattle.std.proofs.Common.{length-append, add-one}
 use Rattle.std.specs.Prelude.{nat_lt}
-use Rattle.std.proofs.lemmas.Bool.{eqb-true, eq-eqb, cases_lt}
+use Rattle.std.proofs.lemmas.Bool.{eqb-true}
 use Rattle.std.proofs.lemmas.Bool.Decides.{nat_tests}
-use Rattle.std.proofs.lemmas.List.{length-map, map-append, length-drop, append-nil}
+use Rattle.std.proofs.lemmas.List.{length-map, map-append, append-nil}
 use Rattle.std.specs.List.{AllByRecursion, slice_get}
-use Rattle.ipb_base.specs.Lists.{IsPrefix}
 use Rattle.ipb_base.specs.Numbers.{payload_of}
 use Rattle.ipb_base.proofs.AllLemmas.{AllByRecursion-append, all-map}
-use Rattle.packet_ids.specs.Identifier.{identifier_at, IsIdentifier}
+use Rattle.packet_ids.specs.Identifier.{identifier_at}
 use Rattle.packet_codec.specs.declared.packet.Order.{Order}
 use Rattle.packet_codec.specs.declared.packet.Packet.{Packet}
 use Rattle.packet_codec.specs.Packet.{packet_bytes}
-use Rattle.status_packet.specs.Packets.{status_reply}
 use Rattle.transaction_codec.specs.Answer.{reply_room}
 use Rattle.board_bus.specs.Bodies.{replay, run_body}
 use Rattle.world_model.specs.declared.heard.LogEntry.{LogEntry}
@@ -30,14 +28,14 @@ use Rattle.world_model.specs.Places.{at_place}
 use Rattle.world_model.specs.Messages.{ToBoard, ToHub, StatusRequest, ResendRequest, ControlPacket, StatusReply, Reply}
 use Rattle.world_model.specs.Messages.{control_packet, to_board, to_hub}
 use Rattle.world_model.specs.Board.{Board, Hearing, body_of, executed, replies, present_bus, numbered, expected}
-use Rattle.world_model.specs.Board.{numbered_replies, last_of, held, with_id, is_too_long, dropped, tell_status}
+use Rattle.world_model.specs.Board.{numbered_replies, held, with_id, is_too_long, dropped, tell_status}
 use Rattle.world_model.specs.Board.{send_again, execute, hear_control, hear_message, hear}
 use Rattle.world_model.specs.Air.{LIFETIME}
 use Rattle.world_model.specs.Facts.{IsWindow, IsExecuted, IsBoard, IsLogged, IsDatagram, IsSaid, IsSaidToBoard}
 use Rattle.world_model.specs.Facts.{IsSaidToHub, IsControlOf, IsReplyOf, IsToldOf, IsSendable, IsTagged, IsRightFate}
-use Rattle.world_model.specs.Facts.{AreRight, MOST_OPEN, MOST_HELD}
+use Rattle.world_model.specs.Facts.{AreRight, MOST_OPEN}
 use Rattle.world_model.proofs.Lists.{at_front, at_seam, at_from_one, at_within, get_drop, front_grows, front_length}
-use Rattle.world_model.proofs.Lists.{front_more, either, all_get}
+use Rattle.world_model.proofs.Lists.{either, all_get}
 use Rattle.world_model.proofs.Places.{sent_near, executed_next, one_place, not_zero, id_fits, is_identifier}
 use Rattle.world_model.proofs.Readings.{reply_read, status_read}
 use Rattle.world_model.proofs.Replies.{replies_sendable, present_holds, reply_sendable}

@@ -1,10 +1,9 @@
 -- What either side reads is what the grammar of packets says, both ways.
-use Rattle.std.proofs.Common.{◌≡◌, ℕ, zero, suc, ◌+◌, ◌-◌, ◌*◌, ◌/◌, ◌%◌, ◌<◌, ◌≤◌, ◌^◌, Bool, true, false, cond, List}
+use Rattle.std.proofs.Common.{◌≡◌, ℕ, ◌+◌, ◌*◌, ◌/◌, ◌%◌, ◌<◌, ◌^◌, Bool, true, false, cond, List}
 use Rattle.std.proofs.Common.{[], ◌∷◌, ◌++◌, length, Option, Some, None, Result, Ok, Err, refl, sym, ap, ◌∙◌, subst}
 use Rattle.std.proofs.Common.{arith, length-append, append_assoc}
-use Rattle.std.specs.Prelude.{nat_le, ◌&&◌, ◌==◌, if◌then◌else◌}
-use Rattle.std.proofs.lemmas.Bool.{eqb-true, eq-eqb, leb-true}
-use Rattle.std.specs.List.{AllByRecursion}
+use Rattle.std.specs.Prelude.{◌&&◌, ◌==◌, if◌then◌else◌}
+use Rattle.std.proofs.lemmas.Bool.{eqb-true, leb-true}
 use Rattle.ipb_base.specs.Word.{AreWords, big_endian, word_bytes}
 use Rattle.ipb_base.specs.Lists.{IsPrefix}
 use Rattle.ipb_base.proofs.AllLemmas.{back_of_all}
@@ -26,7 +25,6 @@ use Rattle.world_model.specs.Messages.{ToBoard, ToHub, StatusRequest, ResendRequ
 use Rattle.world_model.specs.Messages.{control_packet, said_to_board, said_to_hub, packet_to_board, packet_to_hub}
 use Rattle.world_model.specs.Messages.{to_board, to_hub, status_with, status_told, can_be_told}
 use Rattle.world_model.specs.Below.{Below}
-use Rattle.world_model.proofs.Lists.{either}
 use Rattle.world_model.proofs.Readings.{board_reads, hub_reads, status_is}
 
 -- ---- what a packet that says something is

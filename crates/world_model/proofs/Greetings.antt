@@ -1,19 +1,17 @@
 -- A greeting goes on over a link, and what a link heard stays.
-use Rattle.std.proofs.Common.{◌≡◌, ℕ, zero, suc, ◌+◌, ◌-◌, ◌*◌, ◌%◌, ◌<◌, ◌≤◌, ◌^◌, Bool, true, false, cond, ◌==◌, List}
+use Rattle.std.proofs.Common.{◌≡◌, ℕ, zero, suc, ◌+◌, ◌*◌, ◌≤◌, Bool, ◌==◌, List}
 use Rattle.std.proofs.Common.{[], ◌∷◌, ◌++◌, length, map, Option, Some, None, refl, sym, ap, ◌∙◌, subst, arith}
-use Rattle.std.proofs.Common.{length-append, append_assoc, if◌then◌else◌}
-use Rattle.std.specs.Prelude.{nat_lt, nat_le, IfSome}
-use Rattle.std.proofs.lemmas.List.{length-map, map-append, append-nil}
-use Rattle.std.specs.List.{AllByRecursion, slice_get}
+use Rattle.std.proofs.Common.{if◌then◌else◌}
+use Rattle.std.specs.Prelude.{IfSome}
+use Rattle.std.proofs.lemmas.List.{map-append}
+use Rattle.std.specs.List.{slice_get}
 use Rattle.ipb_base.specs.Lists.{IsPrefix}
 use Rattle.ipb_base.proofs.AllLemmas.{AllByRecursion-append, front_of_all}
-use Rattle.packet_codec.specs.declared.packet.Order.{Order}
-use Rattle.packet_codec.specs.declared.packet.Order.TheVariants.{Big}
 use Rattle.packet_codec.specs.declared.packet.TheConstants.{MAX_PACKET_WORDS, MAX_BODY_WORDS}
 use Rattle.packet_codec.specs.Header.{packet_header}
-use Rattle.packet_codec.specs.Packet.{in_order, packet_bytes}
-use Rattle.packet_ids.specs.Identifier.{identifier_at, IsIdentifier}
-use Rattle.status_packet.specs.Packets.{status_request, status_reply, resend_request}
+use Rattle.packet_codec.specs.Packet.{packet_bytes}
+use Rattle.packet_ids.specs.Identifier.{IsIdentifier}
+use Rattle.status_packet.specs.Packets.{status_request, status_reply}
 use Rattle.board_bus.specs.Bodies.{replay}
 use Rattle.world_model.specs.declared.datagram.Datagram.{Datagram}
 use Rattle.world_model.specs.declared.datagram.Direction.{Direction}
@@ -24,17 +22,17 @@ use Rattle.world_model.specs.declared.sending.Sending.{Sending}
 use Rattle.world_model.specs.declared.sending.Sending.TheVariants as sends
 use Rattle.world_model.specs.Places.{at_place}
 use Rattle.world_model.specs.Messages.{ToBoard, ToHub, StatusRequest, ResendRequest, ControlPacket, StatusReply}
-use Rattle.world_model.specs.Messages.{control_packet, to_board, to_hub}
+use Rattle.world_model.specs.Messages.{to_board, to_hub}
 use Rattle.world_model.specs.Board.{Board, Hearing, body_of, executed, replies, expected, held, with_id, is_too_long}
 use Rattle.world_model.specs.Board.{tell_status, send_again, hear_message, hear}
 use Rattle.world_model.specs.Hub.{Hub, words_of}
 use Rattle.world_model.specs.Sends.{Next, next_send, bytes_to_send}
 use Rattle.world_model.specs.Air.{is_alive, goes_to}
-use Rattle.world_model.specs.World.{World, answered, sent_into}
+use Rattle.world_model.specs.World.{answered, sent_into}
 use Rattle.world_model.specs.Facts.{IsStart, IsGreeting, IsGreetingOf, IsSound, IsSendable, AreSendable, IsDatagram}
 use Rattle.world_model.specs.Facts.{bodies_of}
-use Rattle.world_model.specs.Links.{Told, IsHeard, IsHanded, IsHandedAt, is_first_message, is_first_send}
-use Rattle.world_model.specs.Links.{first_sends_from, first_sends, birth_of, sent_on, heard_on, heard_by, then_told}
+use Rattle.world_model.specs.Links.{Told, IsHeard, IsHanded, is_first_message}
+use Rattle.world_model.specs.Links.{first_sends, birth_of, sent_on, heard_on, heard_by, then_told}
 use Rattle.world_model.specs.Links.{hears_all, together, IsJoined}
 use Rattle.world_model.specs.Below.{Below}
 use Rattle.world_model.proofs.Lists.{either, all_get}

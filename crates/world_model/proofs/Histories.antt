@@ -1,25 +1,23 @@
 -- What follows from the facts.
-use Rattle.std.proofs.Common.{◌≡◌, ℕ, zero, suc, ◌+◌, ◌-◌, ◌<◌, ◌≤◌, List, [], ◌∷◌, ◌++◌, length, map, Option, Some}
-use Rattle.std.proofs.Common.{None, Result, Ok, Err, refl, sym, ap, ◌∙◌, subst, arith, length-append, inl, inr}
+use Rattle.std.proofs.Common.{◌≡◌, ℕ, ◌+◌, ◌<◌, ◌≤◌, List, [], length, Some}
+use Rattle.std.proofs.Common.{Result, sym, ap, ◌∙◌, subst, arith, inl, inr}
 use Rattle.std.specs.Prelude.{IfOk, ◌⊎◌}
 use Rattle.std.proofs.lemmas.Bool.{cases_lt}
 use Rattle.std.proofs.lemmas.List.{length-map}
-use Rattle.std.specs.List.{AllByRecursion, slice_get}
-use Rattle.ipb_base.specs.Lists.{IsPrefix}
 use Rattle.world_model.specs.declared.datagram.Datagram.{Datagram}
 use Rattle.world_model.specs.declared.moves.WorldMove.{WorldMove}
 use Rattle.world_model.specs.declared.offered.Offered.{Offered}
 use Rattle.world_model.specs.declared.offered.Fate.{Fate}
-use Rattle.world_model.specs.declared.offered.Fate.TheVariants.{Replied, TimedOut, Unsent}
+use Rattle.world_model.specs.declared.offered.Fate.TheVariants.{Replied, TimedOut}
 use Rattle.world_model.specs.declared.datagram.Direction.TheVariants as goes
 use Rattle.world_model.specs.Places.{at_place}
 use Rattle.world_model.specs.Messages.{Reply, to_hub}
 use Rattle.world_model.proofs.Places.{one_place}
 use Rattle.world_model.specs.Board.{Board, executed, replies}
 use Rattle.world_model.specs.Hub.{low}
-use Rattle.world_model.specs.World.{World, run_moves, start}
+use Rattle.world_model.specs.World.{World, start}
 use Rattle.world_model.specs.Facts.{IsSound, IsTagged, IsRightFate, IsReplyOf, IsSaidToHub, bodies_of, offered_body}
-use Rattle.world_model.specs.History.{Leads, IsRun, IsHandedOut, IsAliveInAir, IsTrueHistory, IsExecutedThere}
+use Rattle.world_model.specs.History.{IsRun, IsHandedOut, IsAliveInAir, IsTrueHistory, IsExecutedThere}
 use Rattle.world_model.specs.History.{IsExecutedAtMostOnce}
 use Rattle.world_model.proofs.Lists.{at_front, at_from_one, at_within, at_exists, at_map, front_length, all_get}
 use Rattle.world_model.proofs.Boards.{replies_length}

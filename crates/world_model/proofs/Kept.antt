@@ -1,11 +1,10 @@
 -- What was sent, executed and told stays, whatever moves follow.
-use Rattle.std.proofs.Common.{◌≡◌, ℕ, zero, suc, ◌+◌, Bool, true, false, cond, List, [], ◌∷◌, ◌++◌, length, Option}
-use Rattle.std.proofs.Common.{Some, None, Result, Ok, Err, refl, sym, ap, ◌∙◌, subst, append_assoc, if◌then◌else◌}
+use Rattle.std.proofs.Common.{◌≡◌, ℕ, zero, suc, ◌+◌, true, false, List, [], ◌∷◌, ◌++◌, length, Option}
+use Rattle.std.proofs.Common.{Some, None, Result, Ok, Err, refl, sym, ap, ◌∙◌, subst, append_assoc}
 use Rattle.std.specs.Prelude.{nat_lt, nat_le, IfOk, ◌==◌}
 use Rattle.std.proofs.lemmas.List.{append-nil}
 use Rattle.std.specs.List.{slice_get}
 use Rattle.ipb_base.specs.Lists.{IsPrefix}
-use Rattle.packet_codec.specs.declared.packet.Order.{Order}
 use Rattle.world_model.specs.declared.datagram.Datagram.{Datagram}
 use Rattle.world_model.specs.declared.datagram.Direction.TheVariants as goes
 use Rattle.world_model.specs.declared.heard.LogEntry.{LogEntry}
@@ -19,7 +18,7 @@ use Rattle.world_model.specs.Messages.{to_board, to_hub}
 use Rattle.world_model.specs.Board.{Board, Hearing, expected, held, with_id, is_too_long, send_again, hear_message}
 use Rattle.world_model.specs.Board.{hear}
 use Rattle.world_model.specs.declared.offered.OpenPlace.{OpenPlace}
-use Rattle.world_model.specs.Hub.{Hub, low, offer, open_with, settle, recovered, told_place, hear_status, take_message}
+use Rattle.world_model.specs.Hub.{Hub, low, offer, open_with, settle, recovered, told_place, take_message}
 use Rattle.world_model.specs.Hub.{want_status, give_up, hear_quiet, is_waiting}
 use Rattle.world_model.specs.Sends.{Next, Wanted, wanted, first_send, wanted_or_first, next_send, pending}
 use Rattle.world_model.specs.World.{World, sent_into, flush_on, flush, handed_out, with_hub, go_on, taken, hub_hears}

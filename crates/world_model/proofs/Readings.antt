@@ -1,20 +1,17 @@
 -- What either side writes is read by the other.
-use Rattle.std.proofs.Common.{◌≡◌, ℕ, ◌+◌, ◌-◌, ◌*◌, ◌<◌, ◌≤◌, ◌^◌, Bool, true, false, List, [], ◌∷◌, ◌++◌, length}
-use Rattle.std.proofs.Common.{replicate, Option, Some, None, Result, Ok, Err, refl, sym, ap, ◌∙◌, arith, rules, subst}
+use Rattle.std.proofs.Common.{◌≡◌, ℕ, ◌<◌, ◌^◌, List, [], length}
+use Rattle.std.proofs.Common.{Some, Ok, refl, ap, ◌∙◌, arith, rules}
 use Rattle.std.proofs.lemmas.Bool.{le-leb}
-use Rattle.std.specs.Prelude.{nat_le, ◌&&◌, if◌then◌else◌, ◌==◌}
-use Rattle.ipb_base.specs.Word.{AreWords}
 use Rattle.ipb_base.proofs.WordLemmas.{AreWords-zeros}
-use Rattle.packet_codec.specs.declared.header.Header.{Header}
 use Rattle.packet_codec.specs.declared.packet.Order.{Order}
 use Rattle.packet_codec.specs.declared.packet.Packet.{Packet}
 use Rattle.packet_codec.specs.Header.{packet_header}
 use Rattle.packet_codec.specs.Packet.{packet_bytes, IsPacket}
-use Rattle.packet_codec.specs.Reading.{header_of, packet_of}
+use Rattle.packet_codec.specs.Reading.{header_of}
 use Rattle.packet_ids.specs.Identifier.{IsIdentifier}
 use Rattle.status_packet.specs.Range.{IsMtu, IsBufferCount}
 use Rattle.status_packet.specs.Packets.{status_request, status_reply, resend_request}
-use Rattle.world_model.specs.Messages.{ToBoard, ToHub, StatusRequest, ResendRequest, ControlPacket, StatusReply, Reply}
+use Rattle.world_model.specs.Messages.{StatusRequest, ResendRequest, ControlPacket, StatusReply, Reply}
 use Rattle.world_model.specs.Messages.{control_packet, packet_to_board, packet_to_hub, to_board, to_hub, status_with}
 use Rattle.world_model.specs.Facts.{IsSendable}
 use Rattle.world_model.specs.Below.{Below}

@@ -1,5 +1,5 @@
 -- The replies of a board are words, and fit a packet.
-use Rattle.std.proofs.Common.{◌≡◌, ℕ, ◌+◌, ◌-◌, ◌*◌, ◌/◌, ◌<◌, ◌≤◌, ◌^◌, List, [], ◌∷◌, ◌++◌, length, map, sym, subst}
+use Rattle.std.proofs.Common.{ℕ, ◌+◌, ◌<◌, ◌≤◌, ◌^◌, List, [], ◌∷◌, length, map, sym, subst}
 use Rattle.std.proofs.Common.{inl, inr, arith}
 use Rattle.std.specs.List.{AllByRecursion}
 use Rattle.ipb_base.specs.Word.{AreWords}
@@ -7,7 +7,7 @@ use Rattle.ipb_base.specs.Numbers.{payload_of}
 use Rattle.ipb_base.proofs.WordLemmas.{AreWords-append}
 use Rattle.transaction_codec.specs.declared.reply.Reply.{Reply}
 use Rattle.transaction_codec.specs.Reply.{IsReply, AreReplies, HasForm, Carries, reply_words, replies_words}
-use Rattle.transaction_codec.specs.Answer.{reply_room, CanAnswer}
+use Rattle.transaction_codec.specs.Answer.{reply_room}
 use Rattle.board_bus.specs.Cells.{CellMap, HoldsWords}
 use Rattle.board_bus.specs.Bodies.{run_body, replay}
 use Rattle.status_packet.specs.Range.{IsMtu}

@@ -1,16 +1,11 @@
 -- Every move keeps the facts, and so does every run.
-use Rattle.std.proofs.Common.{◌≡◌, ℕ, zero, suc, ◌+◌, ◌-◌, ◌<◌, ◌≤◌, Bool, true, false, cond, List, [], ◌∷◌, ◌++◌}
-use Rattle.std.proofs.Common.{length, map, Option, Some, None, Result, Ok, Err, refl, sym, ap, ◌∙◌, subst, arith}
-use Rattle.std.proofs.Common.{length-append, inl, inr, if◌then◌else◌}
-use Rattle.std.specs.Prelude.{nat_lt, nat_le, min, IfOk}
+use Rattle.std.proofs.Common.{◌≡◌, ℕ, zero, suc, ◌+◌, ◌-◌, ◌≤◌, true, List, [], ◌∷◌, ◌++◌}
+use Rattle.std.proofs.Common.{length, Option, Some, None, Result, Ok, Err, refl, sym, subst, arith}
+use Rattle.std.specs.Prelude.{IfOk}
 use Rattle.std.proofs.lemmas.Bool.{leb-true}
 use Rattle.std.proofs.lemmas.List.{length-map, append-nil}
 use Rattle.std.specs.List.{AllByRecursion, slice_get}
-use Rattle.ipb_base.specs.Lists.{IsPrefix}
 use Rattle.ipb_base.proofs.AllLemmas.{AllByRecursion-append, all-map}
-use Rattle.packet_ids.specs.Identifier.{identifier_at, IsIdentifier}
-use Rattle.packet_codec.specs.Packet.{packet_bytes}
-use Rattle.status_packet.specs.Packets.{status_reply}
 use Rattle.world_model.specs.declared.datagram.Datagram.{Datagram}
 use Rattle.world_model.specs.declared.datagram.Direction.{Direction}
 use Rattle.world_model.specs.declared.datagram.Direction.TheVariants as goes
@@ -19,20 +14,20 @@ use Rattle.world_model.specs.declared.offered.Fate.{Fate}
 use Rattle.world_model.specs.declared.moves.WorldMove.{WorldMove}
 use Rattle.world_model.specs.declared.moves.WorldMove.TheVariants.{Offer, Quiet, HubHears, BoardHears}
 use Rattle.world_model.specs.declared.moves.WorldEnd.{WorldEnd}
-use Rattle.world_model.specs.Messages.{ToHub, StatusRequest, StatusReply, Reply, to_board, to_hub}
+use Rattle.world_model.specs.Messages.{ToHub, StatusReply, Reply, to_hub}
 use Rattle.world_model.specs.Board.{Board, executed, replies, hear}
-use Rattle.world_model.specs.Hub.{Hub, offer, take_message, hear_quiet, is_waiting, places}
+use Rattle.world_model.specs.Hub.{Hub, take_message, is_waiting, places}
 use Rattle.world_model.specs.Sends.{Next, next_send, pending}
 use Rattle.world_model.specs.Air.{LIFETIME, is_alive, goes_to}
 use Rattle.world_model.specs.World.{World, sent_into, flush_on, flush, handed_out, with_hub, go_on, taken, hub_hears}
 use Rattle.world_model.specs.World.{answered, board_hears, when_taken, step, moves_on, run_moves, start}
-use Rattle.world_model.specs.Facts.{IsWindow, IsExecuted, IsBoard, IsDatagram, IsSaid, IsSaidToBoard, IsSaidToHub}
-use Rattle.world_model.specs.Facts.{IsToldOf, AreRight, IsRightFate, Holds, IsSound, bodies_of, offered_body}
+use Rattle.world_model.specs.Facts.{IsDatagram, IsSaid, IsSaidToBoard, IsSaidToHub}
+use Rattle.world_model.specs.Facts.{IsToldOf, AreRight, IsSound, bodies_of, offered_body}
 use Rattle.world_model.specs.Facts.{IsSendable, IsGreetingOf, IsGreeting, IsStart}
 use Rattle.world_model.specs.History.{IsMove}
 use Rattle.world_model.proofs.Lists.{either, all_get}
 use Rattle.world_model.proofs.Readings.{status_read}
-use Rattle.world_model.proofs.Boards.{air_grows, fates_grow, board_heard, HasHeard, IsAnswered, IsHere}
+use Rattle.world_model.proofs.Boards.{air_grows, fates_grow, board_heard, IsAnswered, IsHere}
 use Rattle.world_model.proofs.Hubs.{offer_holds, quiet_holds, status_holds, reply_holds, send_holds, IsSendSound}
 use Rattle.world_model.specs.Below.{Below}
 

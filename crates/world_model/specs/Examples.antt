@@ -5,7 +5,6 @@ use Rattle.world_model.specs.declared.offered.Fate.{Fate}
 use Rattle.world_model.specs.declared.offered.OpenPlace.{OpenPlace}
 use Rattle.world_model.specs.declared.moves.WorldMove.{WorldMove}
 use Rattle.world_model.specs.declared.moves.WorldEnd.{WorldEnd}
-use Rattle.board_bus.specs.declared.range.Range.{Range}
 use Rattle.board_bus.specs.declared.kind.RangeKind.TheVariants.{Rw}
 use Rattle.board_bus.specs.Ranges.{opening_bus}
 use Rattle.world_model.specs.Board.{Board, executed}

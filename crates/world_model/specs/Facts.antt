@@ -34,7 +34,6 @@ use Rattle.world_model.specs.declared.datagram.Direction.{Direction}
 use Rattle.world_model.specs.declared.datagram.Direction.TheVariants.{ToBoard, ToHub}
 use Rattle.world_model.specs.declared.heard.LogEntry.{LogEntry}
 use Rattle.world_model.specs.declared.offered.Offered.{Offered}
-use Rattle.world_model.specs.declared.offered.OpenPlace.{OpenPlace}
 use Rattle.world_model.specs.declared.offered.Fate.{Fate}
 use Rattle.world_model.specs.declared.offered.Fate.TheVariants.{Replied, TimedOut, Unsent}
 use Rattle.world_model.specs.Places.{at_place}

@@ -1,6 +1,6 @@
 -- What holds of every run, however the moves lose, repeat, reorder and delay: the theorem and what follows from it.
-use Rattle.std.specs.Prelude.{◌≡◌, ℕ, zero, suc, ◌+◌, ◌*◌, ◌⊎◌, ◌<◌, ◌≤◌, ◌==◌, Bool, true, false, if◌then◌else◌, List}
-use Rattle.std.specs.Prelude.{[], ◌∷◌, ◌++◌, length, map, Option, Some, None, Result, Ok, Err}
+use Rattle.std.specs.Prelude.{◌≡◌, ℕ, ◌+◌, ◌⊎◌, ◌<◌, ◌≤◌, ◌==◌, if◌then◌else◌, List}
+use Rattle.std.specs.Prelude.{[], ◌∷◌, length, map, Some, Ok}
 use Rattle.std.specs.List.{AllByRecursion, slice_get}
 use Rattle.ipb_base.specs.Lists.{IsPrefix}
 use Rattle.board_bus.specs.Bodies.{replay}
@@ -14,7 +14,7 @@ use Rattle.world_model.specs.declared.moves.WorldMove.{WorldMove}
 use Rattle.world_model.specs.declared.moves.WorldMove.TheVariants.{Offer, Quiet, HubHears, BoardHears}
 use Rattle.world_model.specs.Places.{at_place}
 use Rattle.world_model.specs.Board.{Board, executed}
-use Rattle.world_model.specs.Hub.{Hub, tag_of}
+use Rattle.world_model.specs.Hub.{tag_of}
 use Rattle.world_model.specs.Air.{LIFETIME}
 use Rattle.world_model.specs.World.{World, run_moves, start}
 use Rattle.world_model.specs.Facts.{IsSendable, IsStart, bodies_of}

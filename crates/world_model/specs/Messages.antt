@@ -7,13 +7,11 @@ use Rattle.std.specs.Prelude.{ℕ, ◌==◌, ◌&&◌, nat_le, Bool, if◌then�
 use Rattle.std.specs.Prelude.{Result, Ok, Err}
 use Rattle.packet_codec.specs.declared.header.Header.{Header}
 use Rattle.packet_codec.specs.declared.packet.Order.{Order}
-use Rattle.packet_codec.specs.declared.packet.Order.TheVariants.{Big}
 use Rattle.packet_codec.specs.declared.packet.PacketKind.{PacketKind}
 use Rattle.packet_codec.specs.declared.packet.PacketKind.TheVariants.{Control, Status, Resend}
 use Rattle.packet_codec.specs.declared.packet.Packet.{Packet}
 use Rattle.packet_codec.specs.declared.packet.BadPacket.{BadPacket}
 use Rattle.packet_codec.specs.Header.{kind_code}
-use Rattle.packet_codec.specs.Packet.{packet_bytes}
 use Rattle.packet_codec.specs.Reading.{header_of, packet_of}
 use Rattle.status_packet.specs.declared.status.TheConstants.{MIN_MTU, MAX_MTU, MAX_BUFFERS}
 use Rattle.packet_ids.specs.declared.places.TheConstants.{IDENTIFIERS}

@@ -1,5 +1,5 @@
 -- What a hub sends next. IPbus 2.0, reliability mechanism; the order of sends and the window are the profile's.
-use Rattle.std.specs.Prelude.{ℕ, ◌+◌, nat_le, Bool, true, false, if◌then◌else◌, List, [], ◌∷◌, ◌++◌, length, Option}
+use Rattle.std.specs.Prelude.{ℕ, ◌+◌, nat_le, true, false, if◌then◌else◌, List, [], ◌∷◌, ◌++◌, length, Option}
 use Rattle.std.specs.Prelude.{Some, None}
 use Rattle.packet_ids.specs.Identifier.{identifier_at}
 use Rattle.packet_codec.specs.declared.packet.Order.TheVariants.{Big}

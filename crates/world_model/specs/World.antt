@@ -1,7 +1,7 @@
 -- The world of one hub, one board and the air between them, and its moves. Which datagram is heard next, by whom, how
 -- often and
 -- whether at all is free: so the moves choose what the path does to each datagram. Profile.
-use Rattle.std.specs.Prelude.{ℕ, zero, suc, ◌+◌, Bool, min, if◌then◌else◌, List, [], ◌∷◌, ◌++◌, length, Option, Some}
+use Rattle.std.specs.Prelude.{ℕ, zero, suc, ◌+◌, min, if◌then◌else◌, List, [], ◌∷◌, ◌++◌, length, Option, Some}
 use Rattle.std.specs.Prelude.{None, Result, Ok, Err}
 use Rattle.std.specs.List.{slice_get}
 use Rattle.world_model.specs.declared.datagram.Datagram.{Datagram}
@@ -13,7 +13,7 @@ use Rattle.world_model.specs.declared.moves.WorldMove.TheVariants.{Offer, Quiet,
 use Rattle.world_model.specs.declared.moves.WorldEnd.{WorldEnd}
 use Rattle.world_model.specs.declared.moves.WorldEnd.TheVariants.{NotThere, TooOld}
 use Rattle.world_model.specs.Messages.{to_hub}
-use Rattle.world_model.specs.Board.{Board, Hearing, hear}
+use Rattle.world_model.specs.Board.{Board, hear}
 use Rattle.world_model.specs.Hub.{Hub, offer, take_message, hear_quiet, is_waiting, new_hub}
 use Rattle.world_model.specs.Sends.{Next, next_send, pending, bytes_to_send}
 use Rattle.world_model.specs.Air.{is_alive, goes_to}

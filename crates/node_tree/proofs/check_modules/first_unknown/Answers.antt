@@ -1,7 +1,6 @@
 use Rattle.std.proofs.Common.{◌≡◌, [], ◌∷◌, ◌++◌, false, sym, ap, subst, ◌∙◌, string_bytes}
 use Rattle.std.proofs.lemmas.Bool.{false≢true}
 use Rattle.std.specs.List.{AllByRecursion}
-use Rattle.std.specs.FinMap.{entries}
 use Rattle.node_tree.specs.Named.{named}
 use Rattle.node_tree.specs.Modules.{Mentions, HasUnknown, IsIn, IsFirstTable}
 use Rattle.node_tree.proofs.EntryLemmas.{next_place, past_place, no_more, nodes-entry, all-push}

@@ -1,5 +1,4 @@
 use Rattle.std.proofs.Common.{IfErr, rules}
-use Rattle.node_tree.specs.Names.{IsIndexOf}
 use Rattle.session_input.specs.Deserved.{Compiles, HasIndex, TellsCompile, BreaksCompiling, Tells}
 use Rattle.session_input.proofs.ToldFirst.{told_later, told_here, right_later, zip_more}
 use Rattle.session_input.proofs.Told.{told_by}

@@ -1,4 +1,4 @@
-use Rattle.std.proofs.Common.{rules, ◌≡◌, sym, subst, ap, ◌∙◌, List, ℕ, length}
+use Rattle.std.proofs.Common.{rules, ◌≡◌, subst, ap, ◌∙◌, List, ℕ, length}
 use Rattle.hub_framing.specs.Frames.{IsFrameStream}
 use Rattle.hub_framing.proofs.FrameLemmas.{one_reading, held_is_stream}
 use Rattle.hub_framing.proofs.framer.Framer.rest.Goals as goal
