@@ -2,12 +2,11 @@
 use Rattle.std.proofs.Common.{◌≡◌, ◌≤◌, ℕ, Bool, true, false, ◌&&◌, not, if◌then◌else◌, List, [], ◌∷◌, codes, Option}
 use Rattle.std.proofs.Common.{Some, None, arith, nat_le, refl}
 use Rattle.std.proofs.lemmas.Bool.Decides.{nat_tests}
+use Rattle.std.specs.Prelude.{option_and_then}
 use Rattle.std.specs.Str.{bytes_eq}
-use Rattle.address_table.specs.Numbers.{is_between, number_in_text}
-use Rattle.script_lang.specs.Texts.{checked, decimal_between, is_decimal}
-use Rattle.command_words.specs.declared.command.Command.{Command}
-use Rattle.command_words.specs.declared.command.Command.TheVariants.{Run, Check, Serve, Load}
-use Rattle.command_words.specs.Commands.{command_of, is_option, load_of, loaded, serve_of}
+use Rattle.address_table.specs.Numbers.{digits_number}
+use Rattle.command_words.specs.declared.command.Command.TheVariants.{Run, Check, Load}
+use Rattle.command_words.specs.Commands.{command_of, is_option, load_of, loaded, number_between, serve_of, within}
 
 one_apart : (b : Bool) (count : ℕ) → (if b then Some Run else None) ≡ Some (Load count) → ⊥
 one_apart true count is = cc
@@ -31,18 +30,13 @@ tested low high n count true true test is =
 tested low high n count true false test is = absurd cc
 tested low high n count false b test is = absurd cc
 
-number_within : (number : Option ℕ) (count : ℕ) → load_of (checked (is_between 1 100000) number) ≡ Some (Load count)
-    → count ≤ 100000
+number_within : (number : Option ℕ) (count : ℕ)
+    → load_of (option_and_then (within 1 100000) number) ≡ Some (Load count) → count ≤ 100000
 number_within None count is = absurd cc
 number_within (Some n) count is = tested 1 100000 n count (nat_le 1 n) (nat_le n 100000) refl is
 
-decimal_within : (b : Bool) (number : Option ℕ) (count : ℕ)
-    → load_of (if b then checked (is_between 1 100000) number else None) ≡ Some (Load count) → count ≤ 100000
-decimal_within true number count is = number_within number count is
-decimal_within false number count is = absurd cc
-
 loaded_within : (text : List ℕ) (count : ℕ) → loaded text ≡ Some (Load count) → count ≤ 100000
-loaded_within text count is = decimal_within (is_decimal text) (number_in_text text) count is
+loaded_within text count is = number_within (digits_number 10 10 text) count is
 
 two_within : (a b : Bool) (text : List ℕ) (count : ℕ)
     → (if a then Some (Check text) else if b then loaded text else None) ≡ Some (Load count) → count ≤ 100000
@@ -56,6 +50,6 @@ bounded (word ∷ []) count is = absurd (one_apart (bytes_eq word (codes "run"))
 bounded (word ∷ (first ∷ [])) count is =
     two_within (bytes_eq word (codes "check") && not (is_option first)) (bytes_eq word (codes "load")) first count is
 bounded (word ∷ (first ∷ (second ∷ []))) count is =
-    absurd (three_apart (bytes_eq word (codes "serve")) (decimal_between 1 65535 first)
-    (decimal_between 1 64 second) count is)
+    absurd (three_apart (bytes_eq word (codes "serve")) (number_between 1 65535 first)
+    (number_between 1 64 second) count is)
 bounded (word ∷ (first ∷ (second ∷ (third ∷ others)))) count is = absurd cc

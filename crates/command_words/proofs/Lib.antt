@@ -1,4 +1,5 @@
 pub mod Walks
 pub mod Strays
+pub mod Digits
 pub mod Named
 pub mod Bounds

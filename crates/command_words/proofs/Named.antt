@@ -1,16 +1,16 @@
 -- The command of words is that of their form.
-use Rattle.std.proofs.Common.{◌≡◌, ◌≢◌, ◌∙◌, ◌&&◌, ◌||◌, ◌==◌, ℕ, Bool, true, false, not, if◌then◌else◌, List, [], ◌∷◌}
-use Rattle.std.proofs.Common.{length, codes}
-use Rattle.std.proofs.Common.{Option, Some, None, refl, sym, ap, ap₂, subst, inl, inr, ◌⊎◌, arith}
+use Rattle.std.proofs.Common.{◌≡◌, ◌∙◌, ◌&&◌, ℕ, Bool, true, false, not, if◌then◌else◌, List, [], ◌∷◌}
+use Rattle.std.proofs.Common.{codes}
+use Rattle.std.proofs.Common.{Option, Some, None, refl, sym, ap, subst, inl, inr, ◌⊎◌, arith}
 use Rattle.std.proofs.lemmas.Bool.Decides.{eqb_tells}
 use Rattle.std.specs.Str.{bytes_eq}
-use Rattle.script_lang.specs.Texts.{decimal_between}
-use Rattle.command_words.specs.Commands.{command_of, command_of_one, command_of_two, command_of_three, is_option}
+use Rattle.command_words.specs.Commands.{command_of, is_option, number_between}
 use Rattle.command_words.specs.Commands.{load_of, loaded, serve_of, served}
 use Rattle.command_words.specs.Forms.{Form, words_of, IsPlain, ArePlain, run, check, serve, load}
 use Rattle.command_words.specs.Read.{named}
 use Rattle.command_words.specs.declared.command.Command.{Command}
 use Rattle.command_words.specs.declared.command.Command.TheVariants as command
+use Rattle.command_words.proofs.Digits.{hyphen}
 use Rattle.command_words.proofs.Strays.{is_word}
 use Rattle.command_words.proofs.Walks.{not_hyphen}
 
@@ -38,10 +38,10 @@ named_words (serve port count) plain = refl
 named_words (load count) plain = refl
 
 -- a word that begins with a hyphen is no number
-no_number : (least most : ℕ) (w : List ℕ) → is_option w ≡ true → decimal_between least most w ≡ None
+no_number : (least most : ℕ) (w : List ℕ) → is_option w ≡ true → number_between least most w ≡ None
 no_number least most [] option = cc
 no_number least most (byte ∷ bytes) option = elim (eqb_tells byte 45) [
-  | inl p ↦ subst (λ n. decimal_between least most (n ∷ bytes) ≡ None) (sym p.1) refl
+  | inl p ↦ subst (λ n. number_between least most (n ∷ bytes) ≡ None) (sym p.1) (hyphen least most bytes)
   | inr p ↦ absurd cc
 ]
 
@@ -97,10 +97,10 @@ three : (w p c : List ℕ) → Says (w ∷ p ∷ c ∷ []) → IsNone (w ∷ p �
 three w p c never = elim (is_word w (codes "serve")) [
   | inl other ↦ ap (λ b. if b then served p c else None) other
   | inr is ↦ subst (λ n. IsNone (n ∷ p ∷ c ∷ [])) (sym is) (elim (plain_or p) [
-    | inl option ↦ ap (λ port. serve_of port (decimal_between 1 64 c)) (no_number 1 65535 p option)
+    | inl option ↦ ap (λ port. serve_of port (number_between 1 64 c)) (no_number 1 65535 p option)
     | inr port ↦ elim (plain_or c) [
-      | inl option ↦ ap (serve_of (decimal_between 1 65535 p)) (no_number 1 64 c option)
-          ∙ no_count (decimal_between 1 65535 p)
+      | inl option ↦ ap (serve_of (number_between 1 65535 p)) (no_number 1 64 c option)
+          ∙ no_count (number_between 1 65535 p)
       | inr count ↦ absurd (never (serve p c) (ap (λ n. n ∷ p ∷ c ∷ []) is)
           (subst (λ n. ArePlain (n ∷ p ∷ c ∷ [])) (sym is) ((λ e. absurd (omega (arith, e))), (port, (count, tt)))))
     ]

@@ -1,18 +1,18 @@
 -- The words of each command, walked as clap walks them.
-use Rattle.std.proofs.Common.{◌≡◌, ◌≢◌, ◌∙◌, ◌+◌, ◌==◌, ◌&&◌, ◌||◌, ℕ, Bool, true, false, List, [], ◌∷◌, ◌++◌, Option}
-use Rattle.std.proofs.Common.{Some, None, refl, sym, ap, ap₂, codes, length, if◌then◌else◌, inl, inr}
+use Rattle.std.proofs.Common.{◌≡◌, ◌≢◌, ◌∙◌, ◌==◌, ◌&&◌, ◌||◌, ℕ, Bool, true, false, List, [], ◌∷◌, Option}
+use Rattle.std.proofs.Common.{Some, None, refl, ap, ap₂, codes, if◌then◌else◌, inl, inr}
 use Rattle.std.proofs.lemmas.Bool.Decides.{eqb_tells}
-use Rattle.std.specs.Prelude.{option_and_then, slice_index_or, is_some}
+use Rattle.std.specs.Prelude.{option_and_then, slice_index_or}
 use Rattle.std.specs.List.{list_all}
 use Rattle.std.specs.Option.{option_map_or}
 use Rattle.std.specs.Str.{bytes_eq}
 use Rattle.clap.specs.Lexer.{long_of, long_of_rest, short_of, short_of_rest, strip_byte}
-use Rattle.clap.specs.Walk.{Held, Names, Row, Rule, Step, Text, Waiting, Walk, idle, value, after_step, arg_by_index}
-use Rattle.clap.specs.Walk.{finished, long_or_other, nothing_held, short_or_plain, to_positional, walk, walk_from}
+use Rattle.clap.specs.Walk.{Held, Rule, Step, Text, Walk, idle, value, after_step, arg_by_index}
+use Rattle.clap.specs.Walk.{finished, long_or_other, nothing_held, short_or_plain, to_positional}
 use Rattle.clap.specs.Walk.{walked, word_met, trailing, first_of}
-use Rattle.clap.specs.Simple.{App, Shape, built, is_simple, new_rule, new_shape, subcommand_of}
+use Rattle.clap.specs.Simple.{Shape, is_simple, new_rule, subcommand_of}
 use Rattle.clap.specs.Takes.{default_passes, flag_word_passes, is_valid, level_passes, positional_passes, settle_passes}
-use Rattle.clap.specs.Takes.{step_passes, takes, turn_passes, walk_passes, word_passes, bundle_passes}
+use Rattle.clap.specs.Takes.{step_passes, takes, turn_passes, word_passes, bundle_passes}
 use Rattle.clap.proofs.OnLiterals.{clap_on_literals}
 use Rattle.command_words.specs.Forms.{Form, words_of, IsPlain, ArePlain, run, check, serve, load}
 use Rattle.command_words.specs.App.{ipbus, leaf, start, stand, after_one, after_two, rows_of_form, name_of}

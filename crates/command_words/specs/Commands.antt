@@ -1,7 +1,8 @@
 -- The words of the program's command line, behind its name: the commands that there are. Profile.
 use Rattle.std.specs.Prelude.{ℕ, Bool, false, not, ◌&&◌, ◌==◌, if◌then◌else◌, List, [], ◌∷◌, codes, Option, Some, None}
+use Rattle.std.specs.Prelude.{option_and_then}
 use Rattle.std.specs.Str.{bytes_eq}
-use Rattle.script_lang.specs.Texts.{decimal_between}
+use Rattle.address_table.specs.Numbers.{digits_number, is_between}
 use Rattle.command_words.specs.declared.command.Command.{Command}
 use Rattle.command_words.specs.declared.command.Command.TheVariants.{Run, Check, Serve, Load}
 
@@ -9,6 +10,14 @@ use Rattle.command_words.specs.declared.command.Command.TheVariants.{Run, Check,
 abbrev pub is_option : List ℕ → Bool
 is_option [] = false
 is_option (byte ∷ bytes) = byte == 45
+
+-- the number, if it is one from `least` to `most`
+abbrev pub within : ℕ → ℕ → ℕ → Option ℕ
+within least most number = if is_between least most number then Some number else None
+
+-- the number from `least` to `most` that 1 to 10 decimal digits write; leading zeros count as digits
+abbrev pub number_between : ℕ → ℕ → List ℕ → Option ℕ
+number_between least most word = option_and_then (within least most) (digits_number 10 10 word)
 
 -- `run`
 abbrev pub command_of_one : List ℕ → Option Command
@@ -20,7 +29,7 @@ load_of None = None
 load_of (Some count) = Some (Load count)
 
 abbrev pub loaded : List ℕ → Option Command
-loaded count = load_of (decimal_between 1 100000 count)
+loaded count = load_of (number_between 1 100000 count)
 
 -- `check` and the name of a table, or `load` and this number
 abbrev pub command_of_two : List ℕ → List ℕ → Option Command
@@ -37,15 +46,15 @@ serve_of (Some port) (Some count) = Some (Serve port count)
 
 -- a port from 1 to 65535, and from 1 to 64 connections
 abbrev pub served : List ℕ → List ℕ → Option Command
-served port count = serve_of (decimal_between 1 65535 port) (decimal_between 1 64 count)
+served port count = serve_of (number_between 1 65535 port) (number_between 1 64 count)
 
 -- `serve` and these two numbers
 abbrev pub command_of_three : List ℕ → List ℕ → List ℕ → Option Command
 command_of_three word port count = if bytes_eq word (codes "serve") then served port count else None
 
 -- The command that words are: `run`; `check` and the name of a table, which is any text that does not begin with a
--- hyphen; `serve`, a port and a number of connections; or `load` and a number of operations. Numbers are decimal digits
--- without a sign or a leading zero. All other words are none.
+-- hyphen; `serve`, a port and a number of connections; or `load` and a number of operations. A number is 1 to 10
+-- decimal digits without a sign. All other words are none.
 abbrev pub command_of : List (List ℕ) → Option Command
 command_of [] = None
 command_of (word ∷ []) = command_of_one word

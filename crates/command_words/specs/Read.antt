@@ -1,5 +1,5 @@
 -- What the reader of words answers, and what follows of it. No public clause but the laws speaks of these.
-use Rattle.std.specs.Prelude.{ℕ, List, Option, Some}
+use Rattle.std.specs.Prelude.{Option, Some}
 use Rattle.command_words.specs.Commands.{loaded, served}
 use Rattle.command_words.specs.Forms.{Form, run, check, serve, load}
 use Rattle.command_words.specs.declared.command.Command.{Command}

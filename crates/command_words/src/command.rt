@@ -3,11 +3,10 @@
 ghost use Rattle.std.specs.Prelude.{◌≡◌, IfOk, map, string_bytes};
 ghost use Rattle.command_words.specs.Commands as spec;
 ghost use Rattle.command_words.specs.Read.{form_of, named};
-ghost use Rattle.script_lang.specs.Texts.{decimal_between};
 
 use crate::line::{Line, LineError, read_line};
+use address_table::number_in_text;
 use ipb_base::{NoMemory, Text};
-use script_lang::decimal_between;
 use std::alloc::Global;
 
 /// The line for words that are no command.
@@ -58,7 +57,7 @@ fn serve(port: &[u8], count: &[u8]) -> Option<Command>
     ensures { result ≡ spec.served port.now count.now }
 {
     let port = port_in(port)?;
-    let count = decimal_between(1, 64, count)?;
+    let count = number_between(1, 64, count)?;
     Some(Command::Serve { port, count })
 }
 
@@ -66,14 +65,31 @@ fn serve(port: &[u8], count: &[u8]) -> Option<Command>
 fn load(count: &[u8]) -> Option<Command>
     ensures { result ≡ spec.loaded count.now }
 {
-    let count = decimal_between(1, 100_000, count)?;
+    let count = number_between(1, 100_000, count)?;
     Some(Command::Load { count })
 }
 
 /// A port, from 1 to 65535.
 fn port_in(word: &[u8]) -> Option<u16>
-    ensures { result ≡ decimal_between 1 65535 word.now }
+    ensures { result ≡ spec.number_between 1 65535 word.now }
 {
-    let number = decimal_between(1, 65535, word)?;
+    let number = number_between(1, 65535, word)?;
     u16::try_from(number).ok()
+}
+
+/// The number from `least` to `most` that 1 to 10 decimal digits write.
+#[tactic(auto, using(crate::proofs::Digits::hexadecimal))]
+fn number_between(least: u32, most: u32, word: &[u8]) -> Option<u32>
+    ensures { result ≡ spec.number_between least most word.now }
+{
+    // a text of a document may have hexadecimal digits, a word may not
+    if word.starts_with(b"0x".as_slice()) {
+        return None;
+    }
+    let number = number_in_text(word)?;
+    if least <= number && number <= most {
+        Some(number)
+    } else {
+        None
+    }
 }

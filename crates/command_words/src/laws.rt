@@ -36,7 +36,10 @@ pub fn words_by_hand()
     ensures no_help { command_of (codes "--help" ∷ []) ≡ None }
     ensures port_0 { command_of (codes "serve" ∷ codes "0" ∷ codes "1" ∷ []) ≡ None }
     ensures port_too_high { command_of (codes "serve" ∷ codes "65536" ∷ codes "1" ∷ []) ≡ None }
-    ensures leading_zero { command_of (codes "serve" ∷ codes "05000" ∷ codes "1" ∷ []) ≡ None }
+    ensures leading_zero { command_of (codes "serve" ∷ codes "05000" ∷ codes "1" ∷ []) ≡ Some (Serve 5000 1) }
+    ensures ten_digits { command_of (codes "load" ∷ codes "0000000007" ∷ []) ≡ Some (Load 7) }
+    ensures eleven_digits { command_of (codes "load" ∷ codes "00000000007" ∷ []) ≡ None }
+    ensures hexadecimal { command_of (codes "serve" ∷ codes "0x1388" ∷ codes "1" ∷ []) ≡ None }
     ensures sign { command_of (codes "serve" ∷ codes "5000" ∷ codes "+1" ∷ []) ≡ None }
     ensures no_connections { command_of (codes "serve" ∷ codes "5000" ∷ codes "0" ∷ []) ≡ None }
     ensures too_many_connections { command_of (codes "serve" ∷ codes "5000" ∷ codes "65" ∷ []) ≡ None }

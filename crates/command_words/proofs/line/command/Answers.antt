@@ -1,8 +1,8 @@
-use Rattle.std.proofs.Common.{◌≡◌, ◌∙◌, ◌||◌, ap, ap₂, codes, true, false, Bool}
+use Rattle.std.proofs.Common.{◌≡◌, ◌∙◌, ◌||◌, ap, ap₂, codes, true, Bool}
 use Rattle.std.proofs.lemmas.Result.{IfOk-weaker}
-use Rattle.clap.specs.Simple.{App, Shape, app_of_fields, on_top, new_app, with_rule, with_subcommand}
+use Rattle.clap.specs.Simple.{App, app_of_fields, on_top, new_app, with_rule, with_subcommand}
 use Rattle.clap.specs.Words.{app_of}
-use Rattle.command_words.specs.App.{ipbus, needed, run_app, check_app, serve_app, load_app, bare}
+use Rattle.command_words.specs.App.{needed, check_app, serve_app, load_app, bare}
 use Rattle.command_words.proofs.line.command.Goals as goal
 
 pub returns : goal.returns

@@ -1,6 +1,5 @@
-use Rattle.std.proofs.Common.{rules, ◌≡◌, ◌∙◌, Some}
+use Rattle.std.proofs.Common.{rules}
 use Rattle.clap.proofs.WalkLemmas.{first_value-rows}
-use Rattle.clap.proofs.CallerLemmas.{some_of_text}
 use Rattle.command_words.proofs.line.word.Goals as goal
 
 pub returns : goal.returns
