@@ -100,6 +100,9 @@ fn next_connection(listener: Option<&TcpListener>) -> io::Result<(TcpStream, Tcp
         return Err(io::Error::from(ErrorKind::NotConnected));
     };
     let (stream, _) = listener.accept()?;
+    // An answer is sent at once, also behind one that the client has not acknowledged. Where the machine refuses that,
+    // answers are slower, and no less right.
+    let _ = stream.set_nodelay(true);
     let other = stream.try_clone()?;
     Ok((stream, other))
 }

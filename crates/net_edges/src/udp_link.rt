@@ -91,8 +91,8 @@ impl Link for UdpLink {
     }
 
     /// The next datagram from the board's address and port, and its first 9000 bytes where it is longer. Quiet where
-    /// none came in the time that the link waits, which begins again at each datagram from elsewhere, and after 64 of
-    /// those. Another error, of any kind, is counted.
+    /// none came in the time that the link waits, which begins again at each datagram from elsewhere and where a signal
+    /// interrupts it, and after 64 of those. Another error, of any kind, is counted.
     fn receive(&mut self, into: &mut Vec<u8>) -> Result<Received, LinkFault> {
         make_room(into)?;
         match hear_board(&self.socket, self.board, into.as_mut_slice()) {
@@ -118,7 +118,7 @@ impl Link for UdpLink {
 enum Heard {
     // a datagram from the board, of this many bytes
     Board(usize),
-    // one from another address or port
+    // nothing from the board yet: one from another address or port, or a signal that interrupted the wait
     Elsewhere,
     // none in the time that the socket waits
     Nothing,
@@ -158,6 +158,8 @@ fn hear(socket: &UdpSocket, board: SocketAddr, buf: &mut [u8]) -> Heard
     match socket.recv_from(buf) {
         Ok((count, from)) => heard_from(from, board, count),
         Err(error) => match error.kind() {
+            // a process that is stopped and goes on has lost nothing
+            ErrorKind::Interrupted => Heard::Elsewhere,
             ErrorKind::WouldBlock | ErrorKind::TimedOut => Heard::Nothing,
             _ => Heard::Fault,
         },
