@@ -350,23 +350,6 @@ took_into lane n hads haves had have none a b here now t = record {
   };
 }
 
-pub all_took_none : (n : ℕ → ℕ) (had : List (List Outcome)) (ks : List Knowledge) → ((on : ℕ) → n on ≡ 0)
-    → TookOnEach n had had ks ks
-all_took_none n had ks none = record {
-  long = refl;
-  took = record {
-    long = refl;
-    each = λ on k after ek ea was is ew ei.
-        let same : k ≡ after = same_Some k after (sym ek ∙ ea) in
-        let is_is : is ≡ was = same_Some is was (sym ei ∙ ew) in record {
-          more = [];
-          many = sym (none on);
-          grew = is_is ∙ sym (append-nil was);
-          took = subst (HasTakenThese [] k) same (took_none k);
-        };
-  };
-}
-
 pub all_took_then : (n m r : ℕ → ℕ) (h i j : List (List Outcome)) (a b c : List Knowledge) → TookOnEach n h i a b
     → TookOnEach m i j b c → ((on : ℕ) → n on + m on ≡ r on) → TookOnEach r h j a c
 all_took_then n m r h i j a b c one two e = record {

@@ -334,27 +334,6 @@ took_one_in lane plans results all now ran p r first k other after t is own both
           (did b.1);
     }
 
-pub joined_none : (turns : List TurnId) (m : MasterState) → AreJoined turns m m [] [] true
-joined_none turns m = record {
-  rest_same = refl;
-  lanes = record {
-    long = refl;
-    each = λ lane k after ek ea. let same = same_Some k after (sym ek ∙ ea) in record {
-      passes = [];
-      same_number = ap (λ (z : Knowledge). z.number) (sym same);
-      same_opening = ap (λ (z : Knowledge). z.opening) (sym same);
-      same_mine = ap (λ (z : Knowledge). z.mine) (sym same);
-      same_made = ap (λ (z : Knowledge). z.made) (sym same);
-      more_joined = ap (λ (z : Knowledge). z.joined) (sym same) ∙ sym (append-nil k.joined);
-      numbers = refl;
-      no_plan = tt;
-      did_all = λ e. tt;
-    };
-  };
-  results_fit = tt;
-  taken_in = λ client of h. let n : client ≡ client + 0 = omega arith in subst (λ (c : ℕ). HasTakenIn c m) n h;
-}
-
 pub joined_one : (turns : List TurnId) (old now new : MasterState) (jobs : List Job) (job : Job)
     (results : List ClientResult) (r : ClientResult) (all next : Bool) → AreJoined turns old now jobs results all
     → HasEnded turns job → length old.knows ≡ length turns

@@ -139,11 +139,6 @@ added_at p q k after lane added i a same_client same_planned makers more =
           ∙ (ap (λ (l : List NumberedAction). l ++ map numbered_action added) i.actions ∙ sym more);
     }
 
--- it looked alone
-pub looked_at : (p : Position) (k after : Knowledge) → IsAt p k → MadeInTime k IsNone after → IsAt p after
-looked_at p k after i m = added_at p p k after m.lane [] i (subst (λ (l : List Item). Adds k m.lane l after) m.meaning
-    m.adds) refl refl tt (sym (append-nil (actions_at p)))
-
 -- one Ask more
 pub asked_at : (k after : Knowledge) (seq : ℕ) → MadeInTime k (AskMeans k (asks.Asked seq)) after
     → HasAskedMore 1 k after

@@ -27,7 +27,7 @@ use Rattle.hub_lane.specs.Books.{HasAsked, HasMorePlans, HasNext, IsAskAt, IsBoo
 use Rattle.hub_lane.specs.Books.{TellsBodies, after_ask, after_took, as_asked, as_taken, changed, next_of, plan_of_body}
 use Rattle.hub_lane.specs.Books.{planned_at, replaced, row_of, with_ask, with_plan, with_took}
 use Rattle.hub_lane.proofs.ClientRows.{becomes, grown, row_changed, row_changed_other, row_planned, row_planned_other}
-use Rattle.hub_lane.proofs.OneMore.{and_false, and_true, of_client, one_number, same_number}
+use Rattle.hub_lane.proofs.OneMore.{and_true, one_number, same_number}
 use Rattle.hub_lane.proofs.PlannedBodies.{below_apart, length-replaced, was_body}
 use Rattle.hub_lane.proofs.TakenRows.{taken_ask, taken_plan, taken_seal, taken_took}
 

@@ -20,10 +20,6 @@ use Rattle.hub_lane.proofs.Sends.{one_after}
 put_none_by : (hub : Hub) (t : Telling) → HasPut hub hub t t
 put_none_by hub t = record { count = 0; sends = refl; air = refl; handed = refl }
 
-pub put_none : (hub : Hub) (t : Option Telling) → IfTelling t t (HasPut hub hub)
-put_none hub None = tt
-put_none hub (Some t) = put_none_by hub t
-
 put_last : (told : Told) (first : List (List ℕ)) (bytes : List ℕ)
     → put_on told (first ++ bytes ∷ []) ≡ sent_on (put_on told first) bytes
 put_last told [] bytes = refl

@@ -33,7 +33,7 @@ use Rattle.world_core.specs.declared.link.Received.TheVariants as came
 use Rattle.world_core.specs.Telling.{IfTelling, IsGot, IsQuiet, IsReceived, IsSent, Receives, Telling}
 use Rattle.hub_lane.specs.declared.greeting.Answer.{Answer}
 use Rattle.hub_lane.specs.declared.greeting.Answer.TheVariants as answer
-use Rattle.hub_lane.specs.Greeting.{CanBegin, EndsAskingWith, EndsGreetingWith, EndsRoundWith, IsExpecting}
+use Rattle.hub_lane.specs.Greeting.{CanBegin, EndsAskingWith, EndsRoundWith, IsExpecting}
 use Rattle.hub_lane.specs.Greeting.{HandedOutNone, IsHeardFrom, IsTold, StaysFresh}
 
 -- what the laws of links say of what a board hears
@@ -306,10 +306,6 @@ handed_as R None (Some t) f is = is
 handed_as R (Some s) None f is = is
 handed_as R (Some s) (Some t) f is = f s t is
 
-pub handed_sent : (bytes : List ℕ) (before now : ℕ) (a b : Option Telling) → IfTelling a b (IsSent bytes before now)
-    → IfTelling a b HandedOutNone
-handed_sent bytes before now a b is = handed_as (IsSent bytes before now) a b (λ s t sent. sent.handed) is
-
 pub handed_quiet : (bytes : List ℕ) (before now : ℕ) (a b : Option Telling)
     → IfTelling a b (Receives (Ok came.Quiet) bytes before now) → IfTelling a b HandedOutNone
 handed_quiet bytes before now a b is = handed_as (Receives (Ok came.Quiet) bytes before now) a b
@@ -330,41 +326,12 @@ pub record IsListening (before now : Option Telling) (other quiets quiets_now go
   pub fault : faults ≤ faults_now
   pub hold : held ≤ held_now
 
-pub same_telling : (a : Option Telling) → IfTelling a a IsSameTelling
-same_telling None = tt
-same_telling (Some t) = refl
-
 pub handed_still : (a b : Option Telling) → IfTelling a b IsSameTelling → IfTelling a b HandedOutNone
 handed_still a b is = handed_as IsSameTelling a b (λ s t same. ap (λ (x : Telling). x.handed) same) is
 
 pub handed_after : (a b c : Option Telling) → IfTelling a b IsSameTelling → IfTelling b c HandedOutNone
     → IfTelling a c HandedOutNone
 handed_after a b c same is = handed_then a b c (handed_still a b same) is
-
-pub begins_still : (settings : Limits) (a b : Option Telling) → IfSome a (CanBegin settings)
-    → IfTelling a b IsSameTelling → IfSome b (CanBegin settings)
-begins_still settings None None begins is = tt
-begins_still settings None (Some t) begins is = absurd is
-begins_still settings (Some s) None begins is = absurd is
-begins_still settings (Some s) (Some t) begins is = subst (CanBegin settings) (sym is) begins
-
-pub fresh_after : (settings : Limits) (a b c : Option Telling) → IfTelling a b IsSameTelling
-    → IfTelling b c (StaysFresh settings) → IfTelling a c (StaysFresh settings)
-fresh_after settings None None c same is = is
-fresh_after settings None (Some t) c same is = absurd same
-fresh_after settings (Some s) None c same is = absurd same
-fresh_after settings (Some s) (Some t) None same is = is
-fresh_after settings (Some s) (Some t) (Some u) same is = record
-    { begins = is.begins; same_board = is.same_board ∙ ap (λ (x : Telling). x.told.board) same }
-
-pub fresh_same : (settings : Limits) (a b : Option Telling) → IfSome a (CanBegin settings)
-    → IfTelling a b IsSameTelling → IfTelling a b (StaysFresh settings)
-fresh_same settings a b begins same = on_telling (CanBegin settings) IsSameTelling (StaysFresh settings) a b
-    (λ s t begin e. record {
-      begins = subst (CanBegin settings) (sym e) begin;
-      same_board = ap
-          (λ (x : Telling). x.told.board) e;
-    }) begins same
 
 -- another datagram came: so the link tells nothing
 pub no_other : (a b c : Option Telling) (P : Type 0) → IfTelling a b IsSameTelling → IfTelling b c (λ s t. ⊥)
@@ -385,14 +352,6 @@ told_round settings q q' h h' before now status None (Some t) c same is = absurd
 told_round settings q q' h h' before now status (Some s) None c same is = absurd same
 told_round settings q q' h h' before now status (Some s) (Some t) None same is = absurd is
 told_round settings q q' h h' before now status (Some s) (Some t) (Some u) same is = is
-
-pub round_told : (settings : Limits) (q q' h h' before now : ℕ) (status : Status) (told : Answer)
-    (a b c : Option Telling) → told ≡ answer.Told status → IfTelling a b IsSameTelling
-    → IfTelling b c (IsHeardFrom settings before now told) → IfTelling a c
-    (EndsRoundWith settings q q' h h' (Some status))
-round_told settings q q' h h' before now status told a b c e same is =
-    told_round settings q q' h h' before now status a b c same
-    (subst (λ (x : Answer). IfTelling b c (IsHeardFrom settings before now x)) e is)
 
 nothing_round : (settings : Limits) (q q' h h' now : ℕ) (a b c : Option Telling) → q + 1 ≤ q'
     → IfSome a (λ _. now ≡ h) → IfTelling a b IsSameTelling
@@ -456,15 +415,6 @@ fresh_begins settings None (Some t) is = absurd is
 fresh_begins settings (Some s) None is = tt
 fresh_begins settings (Some s) (Some t) is = is.begins
 
-pub fresh_then : (settings : Limits) (a b c : Option Telling) → IfTelling a b (StaysFresh settings)
-    → IfTelling b c (StaysFresh settings) → IfTelling a c (StaysFresh settings)
-fresh_then settings None None c is js = js
-fresh_then settings None (Some t) c is js = absurd is
-fresh_then settings (Some s) None c is js = absurd is
-fresh_then settings (Some s) (Some t) None is js = js
-fresh_then settings (Some s) (Some t) (Some u) is js = record
-    { begins = js.begins; same_board = js.same_board ∙ is.same_board }
-
 longer_air : (told : Told) (bytes : List ℕ) → length (sent_on told bytes).air ≡ length told.air + 1
 longer_air told bytes = length-append told.air (record {
   direction = goes.ToBoard;
@@ -499,17 +449,6 @@ round_asked settings q q1 q' h h1 h' bytes (Some status) s t u same le more sent
 round_asked settings q q1 q' h h1 h' bytes None s t u same le more sent is =
     (let k = is.0 in omega (arith, k, same), asked_held h h1 h' s t bytes le more sent is.1)
 
-pub asked_round : (settings : Limits) (q q1 q' h h1 h' : ℕ) (bytes : List ℕ) (found : Option Status)
-    (a b c : Option Telling) → q1 ≡ q → h ≤ h1 → h1 ≤ h' → IfTelling a b (IsSent bytes h h1)
-    → IfTelling b c (EndsRoundWith settings q1 q' h1 h' found) → IfTelling a c (EndsAskingWith settings q q' h h' found)
-asked_round settings q q1 q' h h1 h' bytes found None None None same le more sent is = tt
-asked_round settings q q1 q' h h1 h' bytes found None None (Some u) same le more sent is = absurd is
-asked_round settings q q1 q' h h1 h' bytes found None (Some t) c same le more sent is = absurd sent
-asked_round settings q q1 q' h h1 h' bytes found (Some s) None c same le more sent is = absurd sent
-asked_round settings q q1 q' h h1 h' bytes found (Some s) (Some t) None same le more sent is = absurd is
-asked_round settings q q1 q' h h1 h' bytes found (Some s) (Some t)
-    (Some u) same le more sent is = round_asked settings q q1 q' h h1 h' bytes found s t u same le more sent is
-
 -- ---- all rounds
 
 -- over a link that tells each round so far had a quiet receive and held a datagram
@@ -525,36 +464,3 @@ pub record IsAsking (settings : Limits) (before now : Option Telling)
   pub few_gots : gots ≤ 64 * rounds
   pub counted : 64 * rounds ≤ 64 * quiets + gots
   pub fault : faults ≤ faults_now
-
-pub stays_fresh : (settings : Limits) (a : Option Telling) → IfSome a (CanBegin settings)
-    → IfTelling a a (StaysFresh settings)
-stays_fresh settings None begins = tt
-stays_fresh settings (Some t) begins = record { begins = begins; same_board = refl }
-
-pub paid_first : (quiets held : ℕ) (a : Option Telling) → IfSome a (HasPaid 0 quiets held)
-paid_first quiets held None = tt
-paid_first quiets held (Some t) = (omega arith, omega arith)
-
-pub paid_more : (settings : Limits) (rounds q q' h h' : ℕ) (a b : Option Telling) → rounds ≤ 255
-    → IfSome a (HasPaid rounds q h) → IfTelling a b (EndsAskingWith settings q q' h h' None)
-    → IfSome b (HasPaid (rounds + 1) q' h')
-paid_more settings rounds q q' h h' None None few paid is = tt
-paid_more settings rounds q q' h h' None (Some t) few paid is = absurd is
-paid_more settings rounds q q' h h' (Some s) None few paid is = tt
-paid_more settings rounds q q' h h' (Some s) (Some t) few paid is =
-    let p = paid.0 in let r = paid.1 in let more = is.0 in let rose = is.1 in
-    (omega (arith, p, more), omega (arith, few, r, rose))
-
-pub told_at_last : (settings : Limits) (q q' h h' : ℕ) (status : Status) (a b : Option Telling)
-    → IfTelling a b (EndsAskingWith settings q q' h h' (Some status))
-    → IfSome b (EndsGreetingWith settings q' h' (Some status))
-told_at_last settings q q' h h' status None None is = tt
-told_at_last settings q q' h h' status None (Some t) is = absurd is
-told_at_last settings q q' h h' status (Some s) None is = tt
-told_at_last settings q q' h h' status (Some s) (Some t) is = is
-
-pub never_told : (settings : Limits) (rounds q h : ℕ) (a : Option Telling) → settings.rounds ≤ rounds
-    → IfSome a (HasPaid rounds q h) → IfSome a (EndsGreetingWith settings q h None)
-never_told settings rounds q h None all paid = tt
-never_told settings rounds q h (Some t) all paid = let p = paid.0 in let r = paid.1 in
-    (omega (arith, p, all), omega (arith, r, all))

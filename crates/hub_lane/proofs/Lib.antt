@@ -4,6 +4,7 @@ mod Windows
 mod Carrying
 mod Linked
 mod Heard
+mod Datagrams
 mod Greetings
 mod Truth
 mod Tables

@@ -22,10 +22,12 @@ use Rattle.lane_record.specs.Offers.{AddsOnly, Agrees, KeepsOutcomes, all_lost, 
 use Rattle.lane_record.proofs.Lengths.{all_lost_short}
 use Rattle.lane_record.proofs.Rounds.{all_lost_tell}
 use Rattle.hub_lane.specs.declared.answers.Pumped.{Pumped}
-use Rattle.hub_lane.specs.Hearing.{IsEventAs, give_ups_of, hub_after, quiets_of}
+use Rattle.hub_lane.specs.Heard.{HasHeard}
+use Rattle.hub_lane.specs.Hearing.{IsEventAs, give_ups_of, gots_of, hub_after, quiets_of}
 use Rattle.hub_lane.specs.Lanes.{BoardStatus, IsLane, board_of}
 use Rattle.hub_lane.specs.Sends.{HasSent, all_sent, handed_out}
 use Rattle.hub_lane.specs.Standing.{IsRunning, IsStopped, Stops}
+use Rattle.hub_lane.proofs.Datagrams.{heard_after}
 use Rattle.hub_lane.proofs.Exchanges.{GaveUpLaw, IsAfter, IsMid, MessageSettles, QuietSettles, RepliedLaw, SendAgrees}
 use Rattle.hub_lane.proofs.Exchanges.{event_after, mid_after, mid_sent, more_give_ups, same_length}
 use Rattle.hub_lane.proofs.Lanes.{told_still}
@@ -278,3 +280,16 @@ module _ (laws : PumpLaws) (settings : Limits) (status : BoardStatus) (hub : Hub
       faults_now quiets_now) (sym d)
       (lane_spent settings status hub mid items outcomes outcomes_now give_ups give_ups_now telling telling_now faults
       faults_now quiets quiets_now (at_mid mid went) stops more same_give_ups same_outcomes same_board is_up)
+
+  pub pump_heard : (bytes : List ℕ) (pumped : Pumped) (outcomes_now : List (Option Outcome)) (gots gots_now : ℕ)
+      → IsEventAs (all_sent hub) bytes pumped
+      → outcomes_now ≡ put_all (hub_after pumped bytes (all_sent hub)).fates outcomes
+      → gots_now ≡ gots_of pumped gots → HasHeard outcomes gots → HasHeard outcomes_now gots_now
+  pump_heard bytes pumped outcomes_now gots gots_now event outcomes_are rose heard =
+      let mid = all_sent hub in
+      let at = at_mid mid (record { count = pending hub; sends = refl }) in
+      let settled = laws.quiet mid (claims items) outcomes at.ready.window at.ready.drained at.agrees in
+      subst (λ (os : List (Option Outcome)). HasHeard os gots_now) (sym outcomes_are)
+      (heard_after mid bytes pumped outcomes gots gots_now at.ready.drained
+      (same_length (claims items) outcomes (put_all (hear_quiet mid).fates outcomes) at.agrees.counts.each
+      settled.agrees.counts.each) settled.adds event rose heard)

@@ -9,10 +9,10 @@ use Rattle.lane_record.specs.declared.outcome.Outcome.{Outcome}
 use Rattle.lane_record.specs.Offers.{put_all}
 use Rattle.hub_lane.specs.Lanes.{IsReady}
 use Rattle.hub_lane.specs.Sends.{HasSent, handed_out}
-use Rattle.hub_lane.specs.Standing.{GoesOn, IsRunning, IsStopped, Stops}
+use Rattle.hub_lane.specs.Standing.{GoesOn, IsRunning}
 use Rattle.hub_lane.proofs.Linked.{SendKeepsBodies}
 use Rattle.hub_lane.proofs.Sends.{sent_keeps}
-use Rattle.hub_lane.proofs.Standing.{OutLaw, SameFates, drained_running, if_told, stopped_there}
+use Rattle.hub_lane.proofs.Standing.{OutLaw, SameFates, drained_running, if_told}
 use Rattle.hub_lane.proofs.Windows.{IsSameBut, same_here, same_on, send_windowed}
 
 ready_send : SameFates → SendKeepsBodies → (asks : ℕ) (hub : Hub) (next : Next) → next_send hub ≡ Some next
@@ -42,10 +42,3 @@ exchanged law old mid event hub outcomes new before between after hub_is new_is 
     after
     (two limits outcomes (one limits outcomes start))
     (λ t is. drained_running law limits outcomes event t is)))
-
--- a receive that failed, after all sends
-pub stopped_after : (old mid : Hub) (before between after : Option Telling) → GoesOn before old between mid
-    → GoesOn between mid after mid → Stops before old after mid
-stopped_after old mid before between after one two = λ limits outcomes start.
-    if_told (IsRunning limits mid outcomes) (IsStopped limits mid outcomes) after
-    (two limits outcomes (one limits outcomes start)) (λ t is. stopped_there limits outcomes mid t is)

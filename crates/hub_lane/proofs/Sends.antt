@@ -77,9 +77,6 @@ all_out hub none = no_more hub (pending hub) none
 
 -- ---- some sends
 
-pub sent_none : (hub : Hub) → HasSent hub hub
-sent_none hub = record { count = 0; sends = refl }
-
 pub one_after : (count : ℕ) (hub : Hub) → hub_next (after_sends count hub) (next_send (after_sends count hub))
     ≡ after_sends (suc count) hub
 one_after zero hub = refl

@@ -6,6 +6,7 @@ pub mod Lanes
 pub mod Rounds
 pub mod Plans
 pub mod Calls
+pub mod Heard
 pub mod Books
 pub mod Truth
 pub mod Greeting

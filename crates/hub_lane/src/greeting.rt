@@ -88,6 +88,7 @@ impl<L: Link> Lane<L> {
 /// The lane of a link whose board told its status.
 fn begin<L: Link>(alloc: Global, link: L, settings: Settings, status: Status) -> Greeted<L>
     requires greeted { IfSome (L.telling link) (IsGreeted settings (status_of status)) }
+    requires heard { 1 ≤ L.gots link }
     ensures same { link_of result ≡ link }
     ensures ready { IfReady result (λ lane. lane ≡ opened link settings (status_of status)) }
     ensures silent { IfSilent result (λ link rounds. ⊥) }

@@ -16,6 +16,7 @@ ghost use Rattle.lane_record.specs.declared.outcome.Outcome.TheVariants.{LinkLos
 ghost use Rattle.hub_lane.specs.Plans.{CanPlan, IsRefused, Plans};
 ghost use Rattle.world_core.specs.Telling.{IfTelling};
 ghost use Rattle.hub_lane.specs.Carrying.{Pumping};
+ghost use Rattle.hub_lane.specs.Heard.{HasHeard};
 ghost use Rattle.hub_lane.specs.Hearing.{gots_of, quiets_of};
 ghost use Rattle.hub_lane.specs.Calls.{AsksAs, IsReplyAt, IsSameRecord, IsSpent, PumpsAs, TakesAs, WasAsked};
 ghost use Rattle.hub_lane.specs.Calls.{is_lost_at_place, is_replied, sealed};
@@ -68,6 +69,7 @@ pub struct Lane<L: Link> {
 
 impl<L: Link> Model for Lane<L> {
     ghost use Rattle.std.specs.Prelude.{IfSome, ◌||◌};
+    ghost use Rattle.hub_lane.specs.Heard.{HasHeard};
     ghost use Rattle.hub_lane.specs.Lanes.{IsLane, LaneState};
     ghost use Rattle.hub_lane.specs.Rounds.{HasPaid};
 
@@ -90,7 +92,8 @@ impl<L: Link> Model for Lane<L> {
         l.engine l.book.items l.outcomes.items l.give_ups l.down l.spent (L.telling l.link) (L.faults l.link)
         (L.quiets l.link)
         × IfSome (L.telling l.link)
-        (HasPaid (l.down || l.spent) l.mtu l.settings.rounds l.give_ups l.engine (L.held l.link)) };
+        (HasPaid (l.down || l.spent) l.mtu l.settings.rounds l.give_ups l.engine (L.held l.link))
+        × HasHeard l.outcomes.items (L.gots l.link) };
 }
 
 impl<L: Link> Lane<L> {
@@ -113,6 +116,14 @@ impl<L: Link> Lane<L> {
         let _down = &self.down;
     }
 
+    /// What a lane heard, whether its link tells or not: a datagram for each body that was replied to, and one that
+    /// answered the greeting. It does nothing when it runs.
+    pub fn has_heard(&self)
+        ensures { HasHeard self.now.outcomes (L.gots self.now.link) }
+    {
+        let _outcomes = &self.outcomes;
+    }
+
     /// The lane of a link whose board told this status in the greeting. Where memory ran out the link is given back.
     pub(crate) fn new(
         alloc: Global,
@@ -121,6 +132,7 @@ impl<L: Link> Lane<L> {
         status: Status,
     ) -> Result<Lane<L>, L>
         requires greeted { IfSome (L.telling link) (IsGreeted settings (status_of status)) }
+        requires heard { 1 ≤ L.gots link }
         ensures made { IfOk result (λ lane. lane ≡ opened link settings (status_of status)) }
         ensures given_back { IfErr result (λ back. back ≡ link) }
     {

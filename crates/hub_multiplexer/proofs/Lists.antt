@@ -48,9 +48,3 @@ popped (z ∷ zs) (y ∷ ys) x e = let t = popped zs ys x (rest_same y z (ys ++ 
 
     rest_same : {A : Type 0} (a b : A) (as' bs : List A) → a ∷ as' ≡ b ∷ bs → as' ≡ bs
     rest_same a b as' bs e = cc
-
--- what is left after the first of them was taken out
-pub first_removed : {A : Type 0} (all left : List A) (x : A) → 0 < length all → x ≡ get_or all 0 x
-    → left ≡ take 0 all ++ drop 1 all → all ≡ x ∷ left
-first_removed [] left x there first rest = absurd (omega arith)
-first_removed (y ∷ ys) left x there first rest = λ i. sym first i ∷ sym rest i

@@ -367,9 +367,6 @@ pub goes_then_ends : (boards : List BoardState) (a b c : Connection) (end : Sess
     → ComesToEnd boards b c end → ComesToEnd boards a c end
 goes_then_ends boards a b c end one two start s = two start (one start s)
 
-pub goes_nowhere : (boards : List BoardState) (a : Connection) → GoesOn boards a a
-goes_nowhere boards a start s = s
-
 -- ---- what is held is the rest of the stream
 
 empty : (bytes : List ℕ) → length bytes ≡ 0 → bytes ≡ []

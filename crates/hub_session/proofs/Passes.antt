@@ -28,7 +28,7 @@ use Rattle.hub_multiplexer.specs.OwnItems.{HasTakenAllOf, IsOldestOf, asked_by, 
 use Rattle.hub_multiplexer.proofs.OwnItems.{own_are, planned_own}
 use Rattle.hub_session.specs.Exchanges.{GrewBy, HasCome, WasRefused}
 use Rattle.hub_multiplexer.specs.Seats.{ChangesAt, SeatState}
-use Rattle.hub_session.specs.Serving.{HasAskedToo, HasPlannedOnly, IsUnused, Looked, PlannedOnly, Reached, ReachesFor}
+use Rattle.hub_session.specs.Serving.{HasAskedToo, HasPlannedOnly, Looked, PlannedOnly, Reached, ReachesFor}
 use Rattle.hub_session.specs.Inside.{IsSettled}
 
 -- ---- entries behind those before
@@ -165,13 +165,6 @@ none_both : {A : Type 0} (o p : Option A) → o ≡ None → p ≡ None → opti
 none_both o p e f = rw e (rw f refl)
 
 -- ---- a client that is settled
-
-pub settled_first : (k : Knowledge) → IsUnused k → IsSettled k
-settled_first k u = record {
-  all_asked = ap (asked k.number) u.no_entry ∙ sym (ap (planned k.number) u.no_entry);
-  all_taken = λ n low. let none : asked_by k ≡ 0 = ap (asked k.number) u.no_entry in absurd (omega arith);
-  none_more = λ n ge. ap (found took_in k.number n) u.no_entry;
-}
 
 module _ (k after : Knowledge) (body : List ℕ) where
   -- behind the Plan and the Ask of its next body

@@ -1,8 +1,8 @@
 -- What a lane keeps, in the words of the history of its board.
 use Rattle.std.proofs.Common.{◌≡◌, ℕ, ◌+◌, ◌*◌, ◌≤◌, Bool, true, cond, List, [], ◌++◌, map}
-use Rattle.std.proofs.Common.{Option, Some, None, sym, ap, ◌∙◌, subst, arith, ◌||◌, append_assoc}
+use Rattle.std.proofs.Common.{◌∷◌, Option, Some, None, refl, sym, ap, ◌∙◌, subst, arith, ◌||◌, append_assoc}
 use Rattle.std.specs.Prelude.{IfSome}
-use Rattle.std.specs.List.{slice_get}
+use Rattle.std.specs.List.{count_by, slice_get}
 use Rattle.std.proofs.Math.Nat.{mul-le-mul_left, mul_comm}
 use Rattle.std.proofs.lemmas.List.{map-append}
 use Rattle.ipb_base.specs.Lists.{IsPrefix}
@@ -20,10 +20,15 @@ use Rattle.lane_record.specs.declared.item.Item.{Item}
 use Rattle.lane_record.specs.Claims.{Claim, claims}
 use Rattle.lane_record.specs.Bounds.{AreLostOnlyIf, HasReached, HasWaited, IsKept}
 use Rattle.lane_record.specs.Offers.{offers_from}
+use Rattle.lane_record.specs.Outcomes.{is_replied}
+use Rattle.hub_lane.specs.Calls as lane
+use Rattle.hub_lane.specs.Heard.{HasHeard}
 use Rattle.hub_lane.specs.Lanes.{BoardStatus, IsLane}
 use Rattle.hub_lane.specs.Standing.{IsStanding}
 use Rattle.hub_lane.specs.Truth.{AreRightReplies, IsTrueTo}
 use Rattle.board_history.specs.Parts.{IsReplyOf}
+use Rattle.lane_history.specs.Records.{has_become}
+use Rattle.lane_history.proofs.Waits.{count_cons}
 use Rattle.lane_history.specs.Lanes.{IsSoundLane, IsTrueOf, bodies_offered}
 use Rattle.sound_lanes.specs.Reports.{OpenedWith, board_there, report_of}
 
@@ -95,18 +100,38 @@ lost_if : (P Q : Type 0) (outcomes : List (Option Outcome)) → (P → Q) → Ar
     → AreLostOnlyIf Q outcomes
 lost_if P Q outcomes leads are = λ k outcome there lost. leads (are k outcome there lost)
 
+-- ---- replies
+
+reply_counted : (o : Option Outcome) → has_become is_replied o ≡ lane.is_replied o
+reply_counted None = refl
+reply_counted (Some (Replied place words)) = refl
+reply_counted (Some (TimedOut place rounds)) = refl
+reply_counted (Some Unsent) = refl
+reply_counted (Some (LinkLost place)) = refl
+
+replies_counted : (os : List (Option Outcome)) → count_by (has_become is_replied) os ≡ count_by lane.is_replied os
+replies_counted [] = refl
+replies_counted (o ∷ os) = count_cons (has_become is_replied) o os
+    ∙ ap (λ (b : Bool). cond b 1 0 + count_by (has_become is_replied) os) (reply_counted o)
+    ∙ ap (λ (n : ℕ). cond (lane.is_replied o) 1 0 + n) (replies_counted os) ∙ sym (count_cons lane.is_replied o os)
+
+-- ---- a lane
+
 pub sound_lane : TrueLaw → (settings : Limits) (status : BoardStatus) (hub : Hub) (items : List Item)
     (outcomes : List (Option Outcome)) (give_ups : ℕ) (down spent : Bool) (telling : Option Telling)
     (faults quiets gots held : ℕ) (opening : CellMap)
     → IsLane settings status hub items outcomes give_ups down spent telling faults quiets
-    → IfSome telling (λ _. HasReached (settings.rounds * give_ups) held) → IfSome telling (OpenedWith opening)
+    → IfSome telling (λ _. HasReached (settings.rounds * give_ups) held) → HasHeard outcomes gots
+    → IfSome telling (OpenedWith opening)
     → IsSoundLane settings opening (report_of faults quiets gots held telling) items outcomes give_ups
 sound_lane law settings status hub items outcomes give_ups down spent telling faults quiets gots held opening is paid
-    opened = record {
+    heard opened = record {
       kept = wider items outcomes hub.window settings.window give_ups (let w = is.knows.window in omega (arith, w))
           is.kept;
       waited = waited_all settings.rounds give_ups hub.status_requests quiets
           (subst (λ (r : ℕ). HasWaited r give_ups hub.status_requests quiets) is.knows.rounds is.waited);
+      heard = subst (λ (n : ℕ). HasReached (n + 1) gots)
+          (sym (replies_counted outcomes)) heard;
       lost = lost_if (down ≡ true) (1 ≤ faults) outcomes is.fault is.lost;
       tells = is.tells;
       told = shown (IsStanding (down || spent) settings hub outcomes) (OpenedWith opening)

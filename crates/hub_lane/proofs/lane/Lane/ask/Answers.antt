@@ -11,6 +11,7 @@ use Rattle.hub_lane.specs.Lanes.{BoardStatus}
 use Rattle.ipb_base.specs.Numbers.{payload_of}
 use Rattle.hub_lane.proofs.Lanes.{body_sendable, found_fits, lane_asks}
 use Rattle.hub_lane.proofs.Rounds.{pays_asked}
+use Rattle.hub_lane.proofs.Datagrams.{asked_unheard, heard_asked}
 use Rattle.hub_lane.proofs.lane.Lane.ask.Goals as goal
 
 pub invariant_of-self-2 : goal.invariant_of-self-2
@@ -61,4 +62,9 @@ invariant_of-self-2 g c =
           (length l.outcomes.items) c.in_ok-body.body (g.L.Link.held l.link) (g.L.Link.telling l.link) c.if-self.false
           fits
           hub_is c.self.invariant.1,
+      heard_asked (if l.down then Some (LinkLost None) else None) l.outcomes.items c.offer.new.outcomes.items
+          (g.L.Link.gots l.link) (asked_unheard l.down)
+          (c.in_ok-offer.ensures.outcomes ∙ ap (λ (os : List (Option Outcome)). os
+          ++ (if l.down then Some (LinkLost None) else None) ∷ []) c.in_ok-reserve-2.ensures.items)
+          c.self.invariant.2,
     )

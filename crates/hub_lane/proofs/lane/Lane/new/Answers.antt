@@ -1,4 +1,5 @@
 use Rattle.hub_lane.specs.Lanes.{status_of}
+use Rattle.hub_lane.proofs.Datagrams.{heard_first}
 use Rattle.hub_lane.proofs.Lanes.{lane_begun}
 use Rattle.hub_lane.proofs.Rounds.{pays_begun}
 use Rattle.hub_lane.proofs.lane.Lane.new.Goals as goal
@@ -16,4 +17,5 @@ invariant_of-result g c = (
       (g.L.Link.telling c.args.link) (g.L.Link.held c.args.link) c.window-window.ensures.range
       c.args.status.buffers_in_range
       c.in-Ok-new.ensures c.requires.greeted,
+  heard_first c.new-4.result.items (g.L.Link.gots c.args.link) c.new-4.ensures.items c.requires.heard,
 )

@@ -30,4 +30,5 @@ invariant_of-self-2 g c =
           (planned c.args.client items) c.args.body kept
           (record { some_client = c.requires.client; next = refl; unsealed = can.unsealed })) c.self.invariant.0),
       c.self.invariant.1,
+      c.self.invariant.2,
     )

@@ -6,7 +6,8 @@ use Rattle.hub_lane.specs.Carrying.{Pumping}
 use Rattle.hub_lane.specs.Lanes.{BoardStatus, LaneState}
 use Rattle.hub_lane.proofs.Carrying.{pumping}
 use Rattle.hub_lane.specs.Rounds.{HasPaid}
-use Rattle.hub_lane.proofs.Pumps.{PumpLaws, pump_down, pump_received, pump_spent}
+use Rattle.hub_lane.proofs.Datagrams.{heard_down, heard_still}
+use Rattle.hub_lane.proofs.Pumps.{PumpLaws, pump_down, pump_heard, pump_received, pump_spent}
 use Rattle.hub_lane.proofs.Rounds.{pays_pumped, pays_stopped, still_up}
 use Rattle.hub_lane.proofs.lane.Lane.pump.Goals as goal
 
@@ -46,6 +47,11 @@ invariant_of-self g c =
           (still_up l.down l.spent l.settings l.engine l.outcomes.items (telling l.link) c.if-self-2.false
           c.if-self.false
           c.self.invariant.0.standing)) c.self.invariant.1,
+      pump_heard laws l.settings status l.engine l.book.items l.outcomes.items l.give_ups l.down l.spent
+          (telling l.link) (faults l.link) (quiets l.link) c.if-self-2.false c.if-self.false c.self.invariant.0
+          c.exchange.new.buffer.items c.in-Ok.pumped c.exchange.new.outcomes.items (g.L.Link.gots l.link)
+          (g.L.Link.gots c.exchange.new.link) c.in-Ok.ensures.event c.in-Ok.ensures.outcomes c.in-Ok.ensures.gots
+          c.self.invariant.2,
     )
 
 pub invariant_of-self-in-Err-Failed : goal.invariant_of-self-in-Err-Failed
@@ -85,6 +91,9 @@ invariant_of-self-in-Err-Failed g c =
           (telling c.exchange.new.link) c.exchange.ensures.board c.in-Err-Failed.ensures.same_give_ups
           c.exchange.ensures.held
           c.self.invariant.1,
+      heard_down c.sent.result l.outcomes.items c.exchange.new.outcomes.items c.lose_all.new.outcomes.items
+          (g.L.Link.gots l.link) (g.L.Link.gots c.exchange.new.link) (c.exchange.ensures.failed_gots (cc))
+          c.in-Err-Failed.ensures.same_outcomes c.lose_all.ensures c.self.invariant.2,
     )
 
 pub invariant_of-self-in-Err-NoMemory : goal.invariant_of-self-in-Err-NoMemory
@@ -122,6 +131,9 @@ invariant_of-self-in-Err-NoMemory g c =
           (telling l.link) (telling c.exchange.new.link) c.exchange.ensures.board
           c.in-Err-NoMemory.ensures.same_give_ups
           c.exchange.ensures.held c.self.invariant.1),
+      heard_still l.outcomes.items c.exchange.new.outcomes.items (g.L.Link.gots l.link)
+          (g.L.Link.gots c.exchange.new.link) c.exchange.ensures.gots_rise c.in-Err-NoMemory.ensures.same_outcomes
+          c.self.invariant.2,
     )
 
 pub returns-in-Ok-clause-same : goal.returns-in-Ok-clause-same

@@ -16,4 +16,5 @@ invariant_of-self g c =
           (λ kept. c.entries_go_into_the_book.ensures.seal l.book.items l.outcomes.items l.engine.window l.give_ups kept
           (sym c.is_sealed.ensures ∙ c.if-not-is_sealed.true)) c.self.invariant.0),
       c.self.invariant.1,
+      c.self.invariant.2,
     )

@@ -98,6 +98,7 @@ invariant_of-self-2 g c =
             became = became;
           })) c.self.invariant.0),
       c.self.invariant.1,
+      c.self.invariant.2,
     )
 
 pub returns-clause-taken : goal.returns-clause-taken
