@@ -1,4 +1,4 @@
--- What the lines of boards tell of their timeouts.
+-- What the lines of boards tell of their timeouts and of their replies.
 use Rattle.std.proofs.Common.{◌≡◌, ℕ, ◌+◌, ◌*◌, ◌≤◌, List, [], ◌∷◌, map, Option, Some, None, subst}
 use Rattle.std.specs.Prelude.{IfSome}
 use Rattle.std.specs.List.{AllZip, count_by}
@@ -18,7 +18,9 @@ use Rattle.board_history.specs.History.{dispatches_by_client}
 use Rattle.direct_run.specs.Runs.{opening_of}
 use Rattle.lane_history.specs.Links.{LinkReport}
 use Rattle.lane_history.specs.Runs.{AreRunsOver, IsAsTold, IsTrueRun, ShowsScripts}
-use Rattle.lane_history.specs.Runs.{TimeOutsWaited}
+use Rattle.lane_history.specs.Runs.{RepliesCame, TimeOutsWaited}
+
+-- ---- timeouts
 
 -- the timeouts of a board's line are those of its clients' dispatches
 abbrev pub Counting : Type 0
@@ -65,4 +67,25 @@ lines_waited counting settings board (spec ∷ specs) scripts (run ∷ runs) [] 
 lines_waited counting settings board (spec ∷ specs) scripts (run ∷ runs) (link ∷ links) is = (
   line_waited settings spec run link run.greeting (counting spec board scripts run is.0.scripts') is.0.as_told,
   lines_waited counting settings (board + 1) specs scripts runs links is.1,
+)
+
+-- ---- replies
+
+pub line_heard : (settings : Limits) (spec : BoardSpec) (run : BoardRun) (link : LinkReport) (told : Greeting)
+    → IsAsTold settings spec run link told → RepliesCame (line_at run told) link
+line_heard settings spec run link (Live payload) live = live.any_link.heard
+line_heard settings spec run link Silent silent = tt
+line_heard settings spec run link Down down = tt
+
+pub lines_heard : (settings : Limits) (board : ℕ) (specs : List BoardSpec) (scripts : List (List Step))
+    (runs : List BoardRun) (links : List LinkReport) → AreRunsOver settings board specs scripts runs links
+    → AllZip RepliesCame (map board_line runs) links
+lines_heard settings board [] scripts [] [] is = tt
+lines_heard settings board [] scripts [] (link ∷ links) is = absurd is
+lines_heard settings board [] scripts (run ∷ runs) links is = absurd is
+lines_heard settings board (spec ∷ specs) scripts [] links is = absurd is
+lines_heard settings board (spec ∷ specs) scripts (run ∷ runs) [] is = absurd is
+lines_heard settings board (spec ∷ specs) scripts (run ∷ runs) (link ∷ links) is = (
+  line_heard settings spec run link run.greeting is.0.as_told,
+  lines_heard settings (board + 1) specs scripts runs links is.1,
 )

@@ -4,7 +4,7 @@ use Rattle.std.proofs.Common.{refl, sym, ap, ◌∙◌, subst, inl, inr, arith}
 use Rattle.std.specs.List.{AllByRecursion, slice_get}
 use Rattle.std.proofs.lemmas.Option.{same_Some}
 use Rattle.ipb_base.specs.Word.{AreWords}
-use Rattle.ipb_base.proofs.AllLemmas.{all-map, front_of_all, back_of_all}
+use Rattle.ipb_base.proofs.AllLemmas.{front_of_all, back_of_all}
 use Rattle.board_bus.specs.Cells.{CellMap, HoldsWords}
 use Rattle.board_bus.specs.Bodies.{replay}
 use Rattle.board_node.specs.declared.spec.BoardSpec.{BoardSpec}

@@ -1,8 +1,9 @@
 -- A finished lane is a live run of its board.
-use Rattle.std.proofs.Common.{◌≡◌, ℕ, ◌+◌, ◌*◌, List, [], ◌∷◌, length, map, Option, Some, None, refl, sym, ap}
+use Rattle.std.proofs.Common.{◌≡◌, ℕ, ◌+◌, ◌*◌, ◌≤◌, List, [], ◌∷◌, length, map, Option, Some, None, refl, sym, ap}
 use Rattle.std.proofs.Common.{◌∙◌, subst}
 use Rattle.std.specs.Prelude.{IfSome}
-use Rattle.std.specs.List.{AllByRecursion}
+use Rattle.std.specs.List.{AllByRecursion, count_by, flat_map}
+use Rattle.std.proofs.lemmas.List.Folds.{flat_map-map}
 use Rattle.board_bus.specs.Cells.{CellMap}
 use Rattle.board_node.specs.declared.spec.BoardSpec.{BoardSpec}
 use Rattle.world_model.specs.Board.{Board, executed}
@@ -11,7 +12,7 @@ use Rattle.reliable_engine.specs.Settings.{Limits}
 use Rattle.script_lang.specs.declared.operation.Step.{Step}
 use Rattle.lane_record.specs.declared.outcome.Outcome.{Outcome}
 use Rattle.lane_record.specs.declared.item.Item.{Item}
-use Rattle.lane_record.specs.Outcomes.{TellsRounds}
+use Rattle.lane_record.specs.Outcomes.{TellsRounds, is_replied}
 use Rattle.lane_record.specs.Claims.{claims, taken}
 use Rattle.lane_record.specs.FirstSends.{bodies_sent, first_sends}
 use Rattle.lane_record.specs.Legal.{IsLegal}
@@ -20,6 +21,8 @@ use Rattle.transcript.specs.declared.greeting.Greeting.{Greeting}
 use Rattle.transcript.specs.declared.greeting.Greeting.TheVariants.{Live}
 use Rattle.transcript.specs.declared.board_run.ClientPart.{ClientPart}
 use Rattle.transcript.specs.declared.board_run.BoardRun.{BoardRun}
+use Rattle.transcript.specs.Lines.{outcomes_on}
+use Rattle.board_history.specs.GiveUps.{IsExact}
 use Rattle.board_history.specs.Order.{order, bodies_of}
 use Rattle.board_history.specs.Parts.{HasOneOrder, KeepsScripts, IsExecutedOnce, AreRepliesOf}
 use Rattle.board_history.specs.History.{IsHistory, bodies_by_client, outcomes_by_client, dispatches_by_client}
@@ -31,14 +34,14 @@ use Rattle.direct_run.proofs.Shaped.{Standing, is_cut, whole_again, heads, lengt
 use Rattle.lane_history.specs.Links.{LinkReport, HasFailed, IsBoardOf, IsLostOnlyIfFailed}
 use Rattle.lane_history.specs.Runs.{ShowsScripts, TellsPayload, IsTrueRun, IsLiveRun, IsAsTold, IsRunOver}
 use Rattle.lane_history.specs.Runs.{HoldsOverAnyLink}
-use Rattle.lane_history.specs.Records.{IsClientsRecord, IsRecordOf}
+use Rattle.lane_history.specs.Records.{IsClientsRecord, IsRecordOf, has_become}
 use Rattle.lane_history.specs.Lanes.{IsTrueOf, IsSoundLane}
 use Rattle.lane_history.proofs.Opening.{same_shape}
 use Rattle.lane_history.proofs.Steps.{steps, steps_of_all, finished}
 use Rattle.lane_history.proofs.Orders.{in_order, order_is, one_order, keeps_scripts, sent_bodies}
 use Rattle.lane_history.proofs.Histories.{true_steps, executed_once, replies_of, each_outcome}
 use Rattle.lane_history.proofs.Histories.{became_outcomes}
-use Rattle.lane_history.proofs.Waits.{has_waited}
+use Rattle.lane_history.proofs.Waits.{became_counted, has_waited, reached}
 use Rattle.lane_history.proofs.Sealed.{is_record_of}
 
 -- ---- the outcomes of a run, dispatch by dispatch
@@ -65,6 +68,16 @@ module _ (standing : Standing) where
       → ShowsScripts spec board scripts run → map joined (dispatches_by_client run) ≡ outcomes_by_client run
   run_joined spec board scripts run shows =
       parts_joined board run.greeting scripts run.parts shows.plans shows.shape
+
+abbrev in_one : List (List Outcome) → List Outcome
+in_one lists = flat_map (λ outcomes. outcomes) lists
+
+-- they are those that the line of the board counts
+pub in_line : (run : BoardRun) → map joined (dispatches_by_client run) ≡ outcomes_by_client run
+    → flat_map joined (dispatches_by_client run) ≡ outcomes_on run
+in_line run same =
+    sym (flat_map-map (λ (os : List Outcome). os) joined (dispatches_by_client run)) ∙ ap in_one same
+    ∙ flat_map-map (λ (os : List Outcome). os) (λ (part : ClientPart). part.outcomes) run.parts
 
 -- ---- the parts
 
@@ -146,6 +159,18 @@ all_tell bodies outcomes items became rounds is legal tell =
     (became_outcomes (TellsRounds rounds) items became legal (finished bodies outcomes items became is legal)
     (λ k o there. all_get (λ (x : Option Outcome). IfSome x (TellsRounds rounds)) became k (Some o) tell there))
 
+-- a lane counts its replies among the datagrams of its link, and the line of its board counts the same ones
+replies_heard : (run : BoardRun) (gots : ℕ) (items : List Item) (became : List (Option Outcome))
+    → map joined (dispatches_by_client run) ≡ outcomes_by_client run
+    → IsRecordOf (bodies_by_client run) (dispatches_by_client run) items → IsLegal items became
+    → HasReached (count_by (has_become is_replied) became + 1) gots → IsExact gots
+    → count_by is_replied (outcomes_on run) + 1 ≤ gots
+replies_heard run gots items became same is legal heard exact =
+    let counted =
+    became_counted is_replied (bodies_by_client run) (dispatches_by_client run) items became is legal in
+    subst (λ (n : ℕ). n + 1 ≤ gots) (sym counted ∙ ap (count_by is_replied) (in_line run same))
+    (reached (count_by (has_become is_replied) became + 1) gots heard exact)
+
 -- ---- all of it
 
 told_with : (P Q R : Board → Type 0) (board : Option Board) → ((b : Board) → P b → Q b → R b) → IfSome board P
@@ -169,6 +194,7 @@ live settings spec run link payload items became given_up same packets is lane =
       script_order = subst (KeepsScripts bodies) same (in_script_order bodies outcomes items became is legal);
       rounds = has_waited settings.window (settings.rounds + 1) link.quiets given_up bodies outcomes items became is
           lane.kept lane.waited;
+      heard = replies_heard run link.gots items became same is legal lane.heard;
       lost = subst (AllByRecursion (AllByRecursion (IsLostOnlyIfFailed link))) same
           (only_lost bodies outcomes items became link is legal lane.lost);
       tells = subst (AllByRecursion (AllByRecursion (TellsRounds settings.rounds))) same

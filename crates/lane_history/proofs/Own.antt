@@ -1,18 +1,17 @@
 -- The entries of one client in a record.
-use Rattle.std.proofs.Common.{◌≡◌, ℕ, ◌≤◌, Bool, false, cond, ◌==◌, ◌&&◌, List, [], ◌∷◌, ◌++◌, map}
-use Rattle.std.proofs.Common.{Option, Some, None, refl, ap, ◌∙◌, arith, if◌then◌else◌}
+use Rattle.std.proofs.Common.{◌≡◌, ℕ, ◌≤◌, Bool, false, cond, ◌==◌, ◌&&◌, List, [], ◌∷◌, ◌++◌}
+use Rattle.std.proofs.Common.{Option, Some, None, refl, ap, arith, if◌then◌else◌}
 use Rattle.std.specs.Prelude.{is_some}
 use Rattle.std.specs.List.{AllByRecursion}
 use Rattle.std.specs.Option.{option_or}
 use Rattle.std.proofs.lemmas.Bool.{eqb-true, eq-eqb}
 use Rattle.std.proofs.lemmas.List.Elements.{filter-append}
-use Rattle.std.proofs.lemmas.List.{map-append}
 use Rattle.world_model.proofs.Lists.{either}
 use Rattle.lane_record.specs.declared.item.Item.{Item}
 use Rattle.lane_record.specs.declared.item.What.{What}
 use Rattle.lane_record.specs.Lists.{NeverFalls}
 use Rattle.lane_record.specs.Items.{numbers, found, is_of, give_ups, give_ups_in, and_number}
-use Rattle.lane_record.specs.Dispatches.{numbered_action, entries_by, actions_by}
+use Rattle.lane_record.specs.Dispatches.{entries_by}
 
 abbrev pub is_by : ℕ → Item → Bool
 is_by client x = x.client == client
@@ -20,12 +19,6 @@ is_by client x = x.client == client
 pub by_append : (client : ℕ) (xs ys : List Item)
     → entries_by client (xs ++ ys) ≡ entries_by client xs ++ entries_by client ys
 by_append client xs ys = filter-append (is_by client) xs ys
-
-pub acts_append : (client : ℕ) (xs ys : List Item)
-    → actions_by client (xs ++ ys) ≡ actions_by client xs ++ actions_by client ys
-acts_append client xs ys =
-    ap (map numbered_action) (by_append client xs ys)
-    ∙ map-append numbered_action (entries_by client xs) (entries_by client ys)
 
 -- all of them are the client's
 abbrev pub IsBy : ℕ → Item → Type 0

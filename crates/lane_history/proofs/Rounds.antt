@@ -1,7 +1,7 @@
 -- A line that was timed out shows the rounds of the session.
-use Rattle.std.proofs.Common.{◌≡◌, ℕ, zero, suc, ◌+◌, true, false, if◌then◌else◌, List, [], ◌∷◌, map, Option, Some}
+use Rattle.std.proofs.Common.{◌≡◌, ℕ, zero, suc, ◌+◌, List, [], ◌∷◌, map, Option, Some}
 use Rattle.std.proofs.Common.{None}
-use Rattle.std.proofs.Common.{refl, sym, ap, ◌∙◌, subst, inl, inr}
+use Rattle.std.proofs.Common.{refl, subst, inl, inr}
 use Rattle.std.specs.Prelude.{unwrap_or}
 use Rattle.std.specs.List.{AllByRecursion, slice_get, flat_map, zip}
 use Rattle.std.proofs.lemmas.Bool.{cases_Bool}
@@ -18,7 +18,6 @@ use Rattle.script_lang.specs.declared.operation.Verb.TheVariants as verb
 use Rattle.lane_record.specs.declared.outcome.Outcome.{Outcome}
 use Rattle.lane_record.specs.declared.outcome.Outcome.TheVariants.{Replied, TimedOut, Unsent, LinkLost}
 use Rattle.lane_record.specs.Outcomes.{TellsRounds}
-use Rattle.transcript.specs.declared.body_end.BodyEnd.{BodyEnd}
 use Rattle.transcript.specs.declared.board_run.ClientPart.{ClientPart}
 use Rattle.transcript.specs.declared.board_run.BoardRun.{BoardRun}
 use Rattle.transcript.specs.declared.greeting.Greeting.{Greeting}
@@ -28,10 +27,10 @@ use Rattle.transcript.specs.declared.line.OpResult.TheVariants as result
 use Rattle.transcript.specs.declared.planned.PieceAt.{PieceAt}
 use Rattle.transcript.specs.Ends.{answered, end_of, ends_of, piece_result, result_in, told_at, told_by, told_of}
 use Rattle.transcript.specs.Lines.{by_pieces, in_part, showing}
-use Rattle.transcript.specs.Results.{combined, first_fault, is_good, shown, values_in, word_before}
+use Rattle.transcript.specs.Results.{first_fault, is_good, shown, values_in, word_before}
 use Rattle.board_history.specs.History.{outcomes_by_client}
 use Rattle.lane_history.specs.Links.{LinkReport}
-use Rattle.lane_history.specs.Runs.{AreRunsOver, IsAsTold, IsLiveRun, IsRunOver, ShowsRounds}
+use Rattle.lane_history.specs.Runs.{AreRunsOver, IsAsTold, ShowsRounds}
 
 module _ (rounds : ℕ) where
   -- ---- one piece

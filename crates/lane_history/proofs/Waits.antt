@@ -512,7 +512,7 @@ bodies_at_most window cost paid bodies given_up few enough =
     omega (arith, a, b, c)
 
 -- a count that has reached a number and does not stand at its end is at least that number
-reached : (n count : ℕ) → HasReached n count → IsExact count → n ≤ count
+pub reached : (n count : ℕ) → HasReached n count → IsExact count → n ≤ count
 reached n count has exact = omega (arith, has, exact)
 
 pub has_waited : (window cost paid given_up : ℕ) (bodies : List (List (List ℕ)))

@@ -1,6 +1,6 @@
 -- What the lane of a board keeps at every exit of its calls: of its record, of what became of the Asks so far, and of
 -- its link. Profile.
-use Rattle.std.specs.Prelude.{◌≡◌, ℕ, ◌+◌, ◌*◌, List, map, slice_get, Option, Some, IfSome}
+use Rattle.std.specs.Prelude.{◌≡◌, ℕ, ◌+◌, ◌*◌, List, map, slice_get, count_by, Option, Some, IfSome}
 use Rattle.ipb_base.specs.Lists.{IsPrefix}
 use Rattle.board_bus.specs.Cells.{CellMap}
 use Rattle.board_bus.specs.Bodies.{replay}
@@ -12,8 +12,10 @@ use Rattle.lane_record.specs.declared.item.Item.{Item}
 use Rattle.lane_record.specs.Claims.{Claim, claims}
 use Rattle.lane_record.specs.Offers.{offers_from}
 use Rattle.lane_record.specs.Bounds.{IsKept, AreLostOnlyIf, HasReached, TellRounds}
+use Rattle.lane_record.specs.Outcomes.{is_replied}
 use Rattle.board_history.specs.Parts.{IsReplyOf}
 use Rattle.lane_history.specs.Links.{LinkReport, HasFailed}
+use Rattle.lane_history.specs.Records.{has_become}
 
 -- the bodies of the Asks that were sent or may still be, in the order of the Asks
 abbrev pub bodies_offered : List Claim → List (Option Outcome) → List (List ℕ)
@@ -34,6 +36,8 @@ pub record IsSoundLane (settings : Limits) (opening : CellMap) (link : LinkRepor
   pub kept : IsKept items outcomes settings.window given_up
   -- each give-up cost `rounds + 1` quiet receives
   pub waited : HasReached ((settings.rounds + 1) * given_up) link.quiets
+  -- each reply came in a datagram of its own, behind the one that answered the greeting
+  pub heard : HasReached (count_by (has_become is_replied) outcomes + 1) link.gots
   -- bodies are lost with the link only where the link failed
   pub lost : AreLostOnlyIf (HasFailed link) outcomes
   -- a body that was timed out tells the rounds of the settings

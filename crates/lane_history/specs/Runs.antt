@@ -1,5 +1,5 @@
 -- What a run shows of boards whose links may lose, repeat, delay and reorder datagrams, and fail. Profile.
-use Rattle.std.specs.Prelude.{◌≡◌, ◌≢◌, ℕ, ◌+◌, ◌*◌, ◌≤◌, true, List, [], ◌∷◌, length, map, IfSome, is_some}
+use Rattle.std.specs.Prelude.{◌≡◌, ◌≢◌, ℕ, ◌+◌, ◌*◌, ◌≤◌, true, List, [], ◌∷◌, length, map, count_by, IfSome, is_some}
 use Rattle.std.specs.List.{AllByRecursion, AllZip}
 use Rattle.ipb_base.specs.Numbers.{payload_of}
 use Rattle.mtu_packer.specs.declared.packing.TheConstants.{MIN_PAYLOAD, MAX_PAYLOAD}
@@ -9,7 +9,7 @@ use Rattle.board_node.specs.declared.spec.LinkSpec.{LinkSpec}
 use Rattle.board_node.specs.declared.spec.LinkSpec.TheVariants.{Sim, Udp}
 use Rattle.world_model.specs.Board.{Board, executed}
 use Rattle.reliable_engine.specs.Settings.{Limits}
-use Rattle.lane_record.specs.Outcomes.{TellsRounds}
+use Rattle.lane_record.specs.Outcomes.{TellsRounds, is_replied}
 use Rattle.script_lang.specs.declared.operation.Step.{Step}
 use Rattle.transcript.specs.declared.greeting.Greeting.{Greeting}
 use Rattle.transcript.specs.declared.greeting.Greeting.TheVariants.{Live, Silent, Down}
@@ -23,6 +23,7 @@ use Rattle.transcript.specs.declared.line.BoardLine.TheVariants as board_lines
 use Rattle.transcript.specs.declared.board_run.ClientPart.{ClientPart}
 use Rattle.transcript.specs.declared.board_run.BoardRun.{BoardRun}
 use Rattle.transcript.specs.Ends.{ends_of}
+use Rattle.transcript.specs.Lines.{outcomes_on}
 use Rattle.transcript.specs.Plan.{ClientBodies, plans_on}
 use Rattle.transcript.specs.Shown.{IsPlanned}
 use Rattle.board_history.specs.Order.{order}
@@ -70,6 +71,8 @@ pub record HoldsOverAnyLink (settings : Limits) (spec : BoardSpec) (payload : �
   pub script_order : KeepsScripts (bodies_by_client run) (outcomes_by_client run)
   -- the hub gave up only after the rounds of the settings, each of which ended with a quiet receive
   pub rounds : GaveUpOnlyAfter settings.window (settings.rounds + 1) link.quiets (dispatches_by_client run)
+  -- each reply came in a datagram of its own, behind the one that answered the greeting
+  pub heard : IsExact link.gots → count_by is_replied (outcomes_on run) + 1 ≤ link.gots
   -- a body was lost with the link only where the link failed
   pub lost : AllByRecursion (AllByRecursion (IsLostOnlyIfFailed link)) (outcomes_by_client run)
   -- a body that was timed out tells the rounds of the settings
@@ -156,6 +159,13 @@ TimeOutsWaited settings (board_lines.Live name sent replied timed_out lost) link
     × IfSome link.board (λ _. IsExact link.held → settings.rounds * timed_out ≤ settings.window * link.held)
 TimeOutsWaited settings (board_lines.Silent name) link = Unit {0}
 TimeOutsWaited settings (board_lines.Down name) link = Unit {0}
+
+-- The link of a live board handed out a datagram for each reply that the line counts, and one that answered the
+-- greeting.
+abbrev pub RepliesCame : BoardLine → LinkReport → Type 0
+RepliesCame (board_lines.Live name sent replied timed_out lost) link = IsExact link.gots → replied + 1 ≤ link.gots
+RepliesCame (board_lines.Silent name) link = Unit {0}
+RepliesCame (board_lines.Down name) link = Unit {0}
 
 -- ---- at any moment
 

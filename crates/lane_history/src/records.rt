@@ -100,8 +100,8 @@ pub fn timed_out_bodies_tell_the_rounds()
         AllByRecursion (AllByRecursion (TellsRounds rounds)) (map joined outcomes) }
 {}
 
-/// At any moment what a board executed is a merge of subsequences, one of each client's bodies, whatever was asked and
-/// taken so far. The record of clients is one whose Plans are their bodies.
+/// At any moment what a board executed can be dealt out to the clients so that each gets bodies of its own, in order,
+/// whatever was asked and taken so far. The record of clients is one whose Plans are their bodies.
 pub fn a_board_executes_a_merge_at_any_moment()
     ensures merge { (bodies : List (List (List ℕ))) (items : List Item) (became : List (Option Outcome))
         (done : List (List ℕ)) → IsLegal items became → IsPartlyPlanned bodies items →

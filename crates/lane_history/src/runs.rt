@@ -21,7 +21,7 @@ ghost use Rattle.direct_run.specs.Answering.{AskRequests, OpensWithWords};
 ghost use Rattle.lane_history.specs.Links.{CanBeMade, IsFaithful, LinkReport};
 ghost use Rattle.lane_history.specs.Runs.{AllExecutedSome, AreRunsOver, AreWholeRuns, IsRunOver, IsUngarbledWhereTold};
 ghost use Rattle.lane_history.specs.Runs.{HaveOwnBoards, IsLineOfRounds, NoneGarbled, ShowAloneRuns, ShowsScripts};
-ghost use Rattle.lane_history.specs.Runs.{TimeOutsWaited};
+ghost use Rattle.lane_history.specs.Runs.{RepliesCame, TimeOutsWaited};
 
 use board_bus::laws::{a_reply_answers_its_body, words_stay_words};
 use board_history::laws::a_client_alone_is_in_turn;
@@ -81,6 +81,14 @@ pub fn board_lines_waited_for_their_time_outs()
 {
     a_board_line_counts_the_time_outs();
 }
+
+/// For each reply that the line of a board counts its link handed out a datagram, and one that answered the greeting,
+/// whether the link tells or not.
+pub fn board_lines_count_replies_that_came()
+    ensures { (settings : Limits) (board : ℕ) (specs : List BoardSpec) (scripts : List (List Step))
+        (runs : List BoardRun) (links : List LinkReport) → AreRunsOver settings board specs scripts runs links →
+        AllZip RepliesCame (map board_line runs) links }
+{}
 
 /// What each board executed is a merge of bodies that the scripts ask of it, each client's in its order.
 pub fn each_board_executes_a_merge()

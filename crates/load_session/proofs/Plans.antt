@@ -2,10 +2,10 @@
 use Rattle.std.proofs.Common.{◌≡◌, ℕ, zero, suc, ◌+◌, List, [], ◌∷◌, ◌++◌, length, refl, ap, ◌∙◌, arith, append_assoc}
 use Rattle.std.proofs.Common.{length-append}
 use Rattle.std.specs.List.{fold}
-use Rattle.mtu_packer.specs.Packed.{Contents, packed}
+use Rattle.mtu_packer.specs.Packed.{Contents}
 use Rattle.script_lang.specs.declared.operation.RegOp.{RegOp}
 use Rattle.transcript.specs.declared.planned.PieceAt.{PieceAt}
-use Rattle.transcript.specs.Plan.{ClientBodies, with_dispatch, plan, ops_on, operations}
+use Rattle.transcript.specs.Plan.{ClientBodies, with_dispatch, plan, operations}
 use Rattle.load_session.specs.Generated.{operation, steps_behind}
 
 -- one transaction: an RMW sum of 1 at address 0
@@ -19,14 +19,8 @@ payload = 368
 abbrev pub one_dispatch : Contents
 one_dispatch = record { bodies = body ∷ []; pieces = (record { body = 0; index = 0 } ∷ []) ∷ [] }
 
-pub packed-one : (before : ℕ) → packed payload (ops_on 0 (operation before ∷ [])) ≡ one_dispatch
-packed-one before = refl
-
 abbrev pub no_dispatch : Contents
 no_dispatch = record { bodies = []; pieces = [] }
-
-pub packed-none : packed payload (ops_on 0 []) ≡ no_dispatch
-packed-none = refl
 
 -- ---- the plan of a client
 
@@ -48,10 +42,6 @@ planned_behind all before n = fold with_dispatch all (plan payload 0 (steps_behi
 
 abbrev pub one_later : ClientBodies → ClientBodies
 one_later all = with_dispatch all one_dispatch
-
-planned-next : (all : ClientBodies) (before n : ℕ)
-    → planned_behind all before (suc n) ≡ planned_behind (one_later all) (before + 1) n
-planned-next all before n = refl
 
 pub bodies-planned : (all : ClientBodies) (before n : ℕ)
     → (planned_behind all before n).bodies ≡ all.bodies ++ bodies_of n

@@ -5,9 +5,7 @@ use Rattle.std.specs.List.{AllByRecursion, slice_get}
 use Rattle.board_bus.specs.declared.kind.RangeKind.TheVariants.{Rw}
 use Rattle.board_bus.specs.Cells.{Cell, CellMap}
 use Rattle.board_bus.specs.Bodies.{Executed, run_body, replay}
-use Rattle.direct_run.specs.Runs.{opening_of}
 use Rattle.transaction_codec.specs.Request.{request_at}
-use Rattle.load_session.specs.Generated.{link}
 use Rattle.load_session.proofs.Plans.{body}
 
 -- a word that may be read and written
@@ -22,9 +20,6 @@ others =
 -- the bus with this word at address 0
 abbrev pub cells : ℕ → CellMap
 cells word = (0, cell word) ∷ others
-
-pub opening-is : (count : ℕ) → opening_of (link count) ≡ cells 0
-opening-is count = refl
 
 -- a header with code 0 and one word, and the word before
 abbrev pub reply : ℕ → List ℕ

@@ -19,8 +19,8 @@ use Rattle.board_history.specs.GiveUps.{IsExact, time_outs, times_given_up, was_
 use Rattle.board_history.specs.History.{dispatches_by_client}
 use Rattle.direct_run.specs.Runs.{opening_of}
 use Rattle.lane_history.specs.Links.{HasFailed, IsLostOnlyIfFailed, LinkReport}
-use Rattle.lane_history.specs.Runs.{IsAsTold, IsTrueRun, TimeOutsWaited}
-use Rattle.lane_history.proofs.BoardLines.{line_at, line_waited}
+use Rattle.lane_history.specs.Runs.{IsAsTold, IsTrueRun, RepliesCame, TimeOutsWaited}
+use Rattle.lane_history.proofs.BoardLines.{line_at, line_heard, line_waited}
 use Rattle.lane_history.proofs.Shown.{some_then}
 use Rattle.lane_history.proofs.Waits.{count_cons}
 use Rattle.served_history.specs.Connections.{dispatches_of, outcomes_of}
@@ -84,6 +84,12 @@ pub waited : (settings : Limits) (spec : BoardSpec) (served : ServedBoard) (link
     → IsServedOver settings spec served link → TimeOutsWaited settings (board_line (run_of spec served)) link
 waited settings spec served link is =
     line_waited settings spec (run_of spec served) link served.told (time_outs_shown spec served) is.as_told
+
+-- ---- replies
+
+pub heard : (settings : Limits) (spec : BoardSpec) (served : ServedBoard) (link : LinkReport)
+    → IsServedOver settings spec served link → RepliesCame (board_line (run_of spec served)) link
+heard settings spec served link is = line_heard settings spec (run_of spec served) link served.told is.as_told
 
 -- ---- each connection's
 

@@ -13,7 +13,7 @@ ghost use Rattle.transcript.specs.Lines.{board_line, is_lost};
 ghost use Rattle.board_history.specs.Parts.{IsReplied};
 ghost use Rattle.direct_run.specs.Runs.{greeting_of, opening_of};
 ghost use Rattle.lane_history.specs.Links.{IsFaithful, LinkReport};
-ghost use Rattle.lane_history.specs.Runs.{TimeOutsWaited};
+ghost use Rattle.lane_history.specs.Runs.{RepliesCame, TimeOutsWaited};
 ghost use Rattle.served_history.specs.Boards.{AreServedOver, IsServedAt, IsServedOver, ServedBoard, run_of};
 ghost use Rattle.served_history.specs.Connections.{outcomes_of};
 ghost use Rattle.served_history.specs.Shown.{GaveUpOnlyAfterRounds, HasLostOnlyIfFailed, IsAddedUp};
@@ -70,6 +70,13 @@ pub fn a_board_waited_for_what_was_given_up()
         IsServedOver settings spec served link → TimeOutsWaited settings (board_line (run_of spec served)) link }
     ensures connections { (settings : Limits) (spec : BoardSpec) (served : ServedBoard) (link : LinkReport) →
         IsServedOver settings spec served link → GaveUpOnlyAfterRounds settings link served.connections }
+{}
+
+/// For each reply that a board line tells the link handed out a datagram, and one that answered the greeting, whether
+/// the link tells or not.
+pub fn replies_of_a_served_board_came_over_its_link()
+    ensures { (settings : Limits) (spec : BoardSpec) (served : ServedBoard) (link : LinkReport) →
+        IsServedOver settings spec served link → RepliesCame (board_line (run_of spec served)) link }
 {}
 
 /// Bodies are lost with the link only where it failed.

@@ -1,4 +1,3 @@
-use Rattle.std.proofs.Common.{◌+◌, length}
 use Rattle.direct_run.proofs.BusLines.{session_holds}
 use Rattle.direct_run.proofs.Readiness.{all_verbs_kept}
 use Rattle.transcript.specs.Lines.{count_on}
