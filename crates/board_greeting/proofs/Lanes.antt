@@ -1,5 +1,5 @@
 -- A lane and the board of its document.
-use Rattle.std.proofs.Common.{◌≡◌, ℕ, ◌*◌, ◌+◌, ◌≤◌, ◌∙◌, Bool, List, Option, Some, None, refl, sym, ap, subst, arith}
+use Rattle.std.proofs.Common.{◌≡◌, ℕ, ◌*◌, ◌∙◌, Bool, List, Option, Some, None, refl, sym, ap, subst, arith}
 use Rattle.std.specs.Prelude.{IfSome}
 use Rattle.ipb_base.specs.Numbers.{payload_of}
 use Rattle.status_packet.specs.Range.{IsMtu}
@@ -21,6 +21,7 @@ use Rattle.lane_history.specs.Lanes.{IsSoundLane}
 use Rattle.lane_history.specs.Runs.{TellsPayload}
 use Rattle.direct_run.specs.Runs.{opening_of as opens_with}
 use Rattle.sound_lanes.specs.Reports.{OpenedWith, board_there, report_of}
+use Rattle.hub_lane.specs.Heard.{HasHeard}
 use Rattle.hub_lane.specs.Lanes.{BoardStatus, HasToldStatus, IsGreeted, IsLane, LaneState, opening_of}
 use Rattle.hub_lane.specs.declared.greeting.Greeted.TheVariants.{Ready}
 use Rattle.board_greeting.specs.Boards.{IsEndedLane, IsKnownAs, IsLaneTo, IsReached, head_shown}
@@ -116,16 +117,16 @@ SoundLaw = (settings : Limits) (status : BoardStatus) (hub : Hub) (items : List 
     (outcomes : List (Option Outcome)) (give_ups : ℕ) (down spent : Bool) (telling : Option Telling)
     (faults quiets gots held : ℕ) (opening : CellMap)
     → IsLane settings status hub items outcomes give_ups down spent telling faults quiets
-    → IfSome telling (λ _. HasReached (settings.rounds * give_ups) held)
+    → IfSome telling (λ _. HasReached (settings.rounds * give_ups) held) → HasHeard outcomes gots
     → IfSome telling (OpenedWith opening)
     → IsSoundLane settings opening (report_of faults quiets gots held telling) items outcomes give_ups
 
 pub at_end : {L : Type 0} → SoundLaw → (settings : Limits) (spec : BoardSpec) (lane : LaneState L)
     (told : Option Telling) (faults quiets gots held : ℕ) → IsLaneTo settings spec told lane
     → IsLane lane.settings lane.status lane.hub lane.items lane.outcomes lane.give_ups lane.down lane.spent told faults
-    quiets → IfSome told (λ _. HasReached (lane.settings.rounds * lane.give_ups) held)
+    quiets → IfSome told (λ _. HasReached (lane.settings.rounds * lane.give_ups) held) → HasHeard lane.outcomes gots
     → IsEndedLane settings spec lane (report_of faults quiets gots held told)
-at_end {L} law settings spec lane told faults quiets gots held to is paid =
+at_end {L} law settings spec lane told faults quiets gots held to is paid heard =
     let here = board_known lane.status spec.link told to.board' is.told in
     let shown = report_of faults quiets gots held told in
     record {
@@ -133,7 +134,7 @@ at_end {L} law settings spec lane told faults quiets gots held to is paid =
       payload = payload_known lane.status spec.link (opening_of told) to.board' is.knows.mtu;
       sound = subst (λ (s : Limits). IsSoundLane s (opens_with spec.link) shown lane.items lane.outcomes lane.give_ups)
           to.settings' (law lane.settings lane.status lane.hub lane.items lane.outcomes lane.give_ups lane.down
-          lane.spent told faults quiets gots held (opens_with spec.link) is paid (opened_so spec.link told here));
+          lane.spent told faults quiets gots held (opens_with spec.link) is paid heard (opened_so spec.link told here));
     }
 
 -- ---- a lane that came back

@@ -18,5 +18,6 @@ pub fn close_lane<L: Link>(lane: Lane<L>) -> L
     a_lane_is_a_sound_one();
     lane.is_sound();
     lane.has_paid();
+    lane.has_heard();
     lane.close()
 }

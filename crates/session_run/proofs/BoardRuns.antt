@@ -1,52 +1,27 @@
 -- What became of a board whose clients ran on its lane.
-use Rattle.std.proofs.Common.{◌≡◌, ℕ, ◌*◌, ◌∙◌, Bool, List, map, Option, Some, None}
+use Rattle.std.proofs.Common.{◌≡◌, ℕ, ◌∙◌, List, Option, Some, None}
 use Rattle.std.proofs.Common.{sym, ap, subst}
 use Rattle.std.specs.Prelude.{IfSome, IfOk, Result, Ok, Err}
 use Rattle.std.proofs.lemmas.Option.{same_Some}
 use Rattle.ipb_base.specs.Numbers.{payload_of}
-use Rattle.board_bus.specs.Cells.{CellMap}
 use Rattle.world_model.specs.Board.{executed}
-use Rattle.world_model.specs.Hub.{Hub}
 use Rattle.world_core.specs.Telling.{Telling}
 use Rattle.reliable_engine.specs.Settings.{Limits}
 use Rattle.board_node.specs.declared.spec.BoardSpec.{BoardSpec}
-use Rattle.lane_record.specs.declared.outcome.Outcome.{Outcome}
-use Rattle.lane_record.specs.declared.item.Item.{Item}
-use Rattle.lane_record.specs.Bounds.{HasReached}
-use Rattle.board_history.specs.History.{bodies_by_client, dispatches_by_client}
 use Rattle.script_lang.specs.declared.operation.Step.{Step}
 use Rattle.transcript.specs.declared.board_run.ClientPart.{ClientPart}
 use Rattle.transcript.specs.declared.board_run.BoardRun.{BoardRun}
 use Rattle.transcript.specs.declared.greeting.Greeting.{Greeting}
 use Rattle.transcript.specs.declared.greeting.Greeting.TheVariants.{Live}
-use Rattle.transcript.specs.Plan.{ClientBodies, plans_on}
+use Rattle.transcript.specs.Plan.{plans_on}
 use Rattle.lane_history.specs.Links.{IsBoardOf, IsUntouched, LinkReport}
-use Rattle.lane_history.specs.Records.{IsClientsRecord, IsPartlyPlanned}
-use Rattle.lane_history.specs.Lanes.{IsSoundLane}
-use Rattle.lane_history.specs.Runs.{ExecutedSome, IsRunOver, ShowsScripts, TellsPayload}
-use Rattle.direct_run.specs.Runs.{opening_of}
+use Rattle.lane_history.specs.Runs.{ExecutedSome, ShowsScripts}
 use Rattle.hub_lane.specs.Lanes.{LaneState}
 use Rattle.board_greeting.specs.Boards.{IsLaneTo}
 use Rattle.session_run.specs.Boards.{IsNamed}
 use Rattle.session_run.specs.Lanes.{IsRunOn, IsStoppedLane}
 use Rattle.session_run.specs.Links.{IsLeft}
 use Rattle.session_run.proofs.LaneRuns.{shows_scripts}
-
-abbrev pub LiveLaw : Type 0
-LiveLaw = (settings : Limits) (spec : BoardSpec) (board : ℕ) (scripts : List (List Step)) (run : BoardRun)
-    (link : LinkReport) (payload : ℕ) (items : List Item) (became : List (Option Outcome)) (given_up : ℕ)
-    → ShowsScripts spec board scripts run → IsBoardOf spec.link link.board → run.greeting ≡ Live payload
-    → TellsPayload spec.link payload → IsClientsRecord (bodies_by_client run) (dispatches_by_client run) items
-    → IsSoundLane settings (opening_of spec.link) link items became given_up
-    → IsRunOver settings spec board scripts run link
-
-abbrev pub LeftLaw : Type 0
-LeftLaw = (settings : Limits) (spec : BoardSpec) (board : ℕ) (scripts : List (List Step)) (link : LinkReport)
-    (payload : ℕ) (items : List Item) (became : List (Option Outcome)) (given_up : ℕ)
-    → TellsPayload spec.link payload
-    → IsPartlyPlanned (map (λ (p : ClientBodies). p.bodies) (plans_on board (Live payload) scripts)) items
-    → IsSoundLane settings (opening_of spec.link) link items became given_up
-    → IfSome link.board (λ there. ExecutedSome spec board scripts (executed there))
 
 pub stopped_at : {L : Type 0} (settings : Limits) (scripts : List (List Step)) (position : ℕ) (spec : BoardSpec)
     (lane : LaneState L) (told : Option Telling) → IsStoppedLane settings scripts position spec told lane

@@ -1,8 +1,8 @@
 -- Lanes that came back from a hub, and the parts of the clients that ran there.
-use Rattle.std.proofs.Common.{◌≡◌, ◌⊎◌, inl, inr, ℕ, zero, suc, ◌+◌, ◌≤◌, ◌<◌, ◌∙◌, List, [], ◌∷◌, ◌++◌, length, map}
+use Rattle.std.proofs.Common.{◌≡◌, inl, inr, ℕ, suc, ◌+◌, ◌∙◌, List, [], ◌∷◌, ◌++◌, length, map}
 use Rattle.std.proofs.Common.{sum}
-use Rattle.std.proofs.Common.{Option, Some, None, refl, sym, ap, subst, arith, get_or}
-use Rattle.std.specs.List.{AllByRecursion, AllZip, slice_get}
+use Rattle.std.proofs.Common.{Option, Some, refl, sym, ap, subst}
+use Rattle.std.specs.List.{AllByRecursion, slice_get}
 use Rattle.std.proofs.lemmas.Option.{get_or_from_slice_get}
 use Rattle.ipb_base.specs.Lists.{IsPrefix}
 use Rattle.ipb_base.specs.Numbers.{payload_of}
@@ -15,7 +15,7 @@ use Rattle.lane_record.specs.declared.item.Item.{Item}
 use Rattle.lane_record.specs.Coding.{Head, record_of}
 use Rattle.lane_record.specs.Dispatches.{joined}
 use Rattle.hub_lane.specs.Lanes.{BoardStatus, LaneState, opening_of}
-use Rattle.hub_lane.specs.Records.{head_of, record_shown}
+use Rattle.hub_lane.specs.Records.{record_shown}
 use Rattle.hub_multiplexer.specs.Ends.{AreEnded, Ends}
 use Rattle.hub_multiplexer.specs.Lanes.{shown}
 use Rattle.client_threads.specs.Clients.{AreOfClientsFrom, AwaitClients, HaveGoneOn, HaveRunOn, HoldsPlans, OnEachLane}
@@ -24,19 +24,18 @@ use Rattle.client_threads.specs.declared.plan.ClientPlan.{ClientPlan}
 use Rattle.client_threads.specs.declared.result.ClientResult.{ClientResult}
 use Rattle.script_lang.specs.declared.operation.Step.{Step}
 use Rattle.direct_run.specs.Runs.{parts_with}
-use Rattle.board_history.specs.History.{dispatches_of}
 use Rattle.transcript.specs.declared.board_run.ClientPart.{ClientPart}
 use Rattle.transcript.specs.declared.greeting.Greeting.TheVariants.{Live}
 use Rattle.transcript.specs.Plan.{ClientBodies, planned_on, plans_on}
-use Rattle.lane_history.specs.Records.{IsClientsRecord, IsPartlyPlanned}
+use Rattle.lane_history.specs.Records.{IsPartlyPlanned}
 use Rattle.hub_history.specs.Lanes.{AskAll, LeftByClients, came_with, sealed_plans}
 use Rattle.session_plans.specs.Parts.{HasLanes, outcomes_on_lane, parts_from}
 use Rattle.session_plans.specs.Plans.{AskAllFrom, counts_by_client}
-use Rattle.session_run.specs.Clients.{HasItsCounts, IsWholePart, bodies_of, with_items}
+use Rattle.session_run.specs.Clients.{HasItsCounts, bodies_of}
 use Rattle.session_run.specs.Hubs.{CameBack, HoldsAll, RanAtHub}
 use Rattle.board_greeting.specs.Boards.{head_shown}
 use Rattle.session_run.specs.Lanes.{AllFour, AllThree, HasGoneOn, IsPlannedOn, IsRunOn, plans_over}
-use Rattle.session_run.proofs.Parts.{AreParts, cuts_of, each_counts, parts_of_dispatches}
+use Rattle.session_run.proofs.Parts.{each_counts, parts_of_dispatches}
 use Rattle.session_run.proofs.Sides.{length_map}
 
 -- ---- the laws of a lane at a hub

@@ -1,52 +1,26 @@
 -- The run of a board that was asked nothing.
-use Rattle.std.proofs.Common.{◌≡◌, ℕ, ◌+◌, ◌<◌, ◌∙◌, List, [], ◌∷◌, ◌++◌, length, map, refl, sym, ap, take, get_or}
+use Rattle.std.proofs.Common.{◌≡◌, ℕ, ◌+◌, ◌∙◌, List, [], ◌∷◌, ◌++◌, length, map, refl, sym, ap}
 use Rattle.std.specs.List.{AllByRecursion}
-use Rattle.std.proofs.lemmas.List.{take_more}
 use Rattle.board_node.specs.declared.spec.BoardSpec.{BoardSpec}
 use Rattle.lane_record.specs.declared.outcome.Outcome.{Outcome}
 use Rattle.script_lang.specs.declared.operation.Step.{Step}
 use Rattle.transcript.specs.declared.board_run.ClientPart.{ClientPart}
 use Rattle.transcript.specs.declared.board_run.BoardRun.{BoardRun}
 use Rattle.transcript.specs.declared.greeting.Greeting.{Greeting}
-use Rattle.transcript.specs.declared.greeting.Greeting.TheVariants.{Live, Silent, Down}
 use Rattle.transcript.specs.Plan.{ClientBodies, planned_on, plans_on}
 use Rattle.lane_history.specs.Runs.{ShowsScripts}
-use Rattle.board_greeting.specs.Boards.{IsIdle}
 use Rattle.session_run.proofs.Parts.{plan_in_part}
-use Rattle.session_run.proofs.Sides.{map_append}
 
 -- a client that asked nothing
 pub record HasNothing (part : ClientPart) : Type 0 where
   pub no_bodies : part.planned.bodies ≡ []
   pub no_outcomes : part.outcomes ≡ []
 
-pub asks_nothing : (board : ℕ) (told : Greeting) (steps : List Step) → IsIdle told
-    → (planned_on board told steps).bodies ≡ []
-asks_nothing board (Live payload) steps idle = absurd idle
-asks_nothing board Silent steps idle = refl
-asks_nothing board Down steps idle = refl
-
 pub plans_more : (board : ℕ) (told : Greeting) (front : List (List Step)) (s : List Step)
     → plans_on board told (front ++ s ∷ []) ≡ plans_on board told front ++ planned_on board told s ∷ []
 plans_more board told [] s = refl
 plans_more board told (f ∷ front) s = ap (λ (l : List ClientBodies). planned_on board told f ∷ l) (plans_more board
     told front s)
-
--- one more client is planned
-pub idle_planned : (board : ℕ) (told : Greeting) (k : ℕ) (scripts : List (List Step)) (steps asked' : List Step)
-    (parts pushed : List ClientPart) (part : ClientPart)
-    → map plan_in_part parts ≡ plans_on board told (take k scripts) → k < length scripts → steps
-    ≡ get_or scripts k steps
-    → asked' ≡ steps → part.planned ≡ planned_on board told asked' → pushed ≡ parts ++ part ∷ []
-    → map plan_in_part pushed ≡ plans_on board told (take (k + 1) scripts)
-idle_planned board told k scripts steps asked' parts pushed part so_far within is same made push =
-    ap (map plan_in_part) push ∙ (map_append plan_in_part parts part
-    ∙ (ap (λ (l : List ClientBodies). l ++ part.planned ∷ []) so_far
-    ∙ (ap (λ (p : ClientBodies). plans_on board told (take k scripts) ++ p ∷ [])
-    (made ∙ ap (planned_on board told) same)
-    ∙ (sym (plans_more board told (take k scripts) steps)
-    ∙ ap (plans_on board told) (ap (λ (s : List Step). take k scripts ++ s ∷ []) is
-    ∙ sym (take_more scripts k steps within))))))
 
 idle_shape : (parts : List ClientPart) → AllByRecursion HasNothing parts
     → map (λ (l : List Outcome). length l) (map (λ (p : ClientPart). p.outcomes) parts)

@@ -15,8 +15,7 @@ use Rattle.transcript.specs.Plan.{ClientBodies, planned_on}
 use Rattle.session_plans.specs.Parts.{HasClients}
 use Rattle.session_plans.specs.Plans.{ArePlansOnBoard, HasFewBodies}
 use Rattle.lane_history.specs.Records.{IsPartlyPlanned}
-use Rattle.hub_history.specs.Lanes.{sealed_plans}
-use Rattle.session_run.specs.Clients.{KeepsLane, bodies_of, with_items}
+use Rattle.session_run.specs.Clients.{KeepsLane, bodies_of}
 use Rattle.board_greeting.specs.Boards.{HasNoEntry, head_shown}
 use Rattle.session_run.specs.Lanes.{AllFour, AllThree, HasGoneOn, IsPlannedOn, plans_over}
 use Rattle.session_run.proofs.PlansMade.{PartlyAll, PartlyFront, partly_none}

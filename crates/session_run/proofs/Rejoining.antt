@@ -1,17 +1,14 @@
 -- Boards put together again, and what came of each.
-use Rattle.std.proofs.Common.{◌≡◌, ◌⊎◌, inl, inr, ℕ, suc, ◌+◌, ◌≤◌, ◌∙◌, List, [], ◌∷◌, ◌++◌, length, map, Option}
-use Rattle.std.proofs.Common.{Some, None}
+use Rattle.std.proofs.Common.{◌≡◌, ◌⊎◌, inl, inr, ℕ, suc, ◌+◌, ◌≤◌, List, [], ◌∷◌, length, map, Option}
 use Rattle.std.proofs.Common.{refl, sym, ap, subst, arith}
 use Rattle.std.specs.List.{AllByRecursion}
 use Rattle.ipb_base.specs.Numbers.{payload_of}
 use Rattle.world_core.specs.Telling.{Telling}
 use Rattle.reliable_engine.specs.Settings.{Limits}
 use Rattle.board_node.specs.declared.spec.BoardSpec.{BoardSpec}
-use Rattle.board_node.specs.declared.spec.LinkSpec.{LinkSpec}
 use Rattle.lane_record.specs.Coding.{Head}
 use Rattle.script_lang.specs.declared.operation.Step.{Step}
 use Rattle.hub_lane.specs.Lanes.{BoardStatus, LaneState}
-use Rattle.hub_lane.specs.Greeting.{link_of}
 use Rattle.hub_lane.specs.declared.greeting.Greeted.{Greeted}
 use Rattle.hub_lane.specs.declared.greeting.Greeted.TheVariants.{Ready, Silent, Down, NoMemory}
 use Rattle.transcript.specs.declared.greeting.Greeting.TheVariants as greeting
@@ -20,7 +17,7 @@ use Rattle.transcript.specs.Plan.{plans_on}
 use Rattle.lane_history.specs.Links.{IsBoardOf, LinkReport}
 use Rattle.sound_lanes.specs.Reports.{board_there}
 use Rattle.lane_history.specs.Records.{IsPartlyPlanned}
-use Rattle.board_greeting.specs.Boards.{AreReached, HasMemory, HasNoEntry, IsLaneTo, IsReached, shown_by}
+use Rattle.board_greeting.specs.Boards.{AreReached, HasMemory, HasNoEntry, IsReached, shown_by}
 use Rattle.session_run.specs.Clients.{bodies_of}
 use Rattle.session_run.specs.Lanes.{AllThree, HasGoneOn, IsRunOn, IsStoppedLane}
 use Rattle.board_greeting.specs.Places.{HaveLanes, lanes_in, place_of, positions_from, rejoined}

@@ -1,5 +1,5 @@
 -- The runs of boards, one by one. What private functions promise one another; no public clause speaks of these.
-use Rattle.std.specs.Prelude.{◌≡◌, ℕ, List, Option, Some, Result, Ok, Err}
+use Rattle.std.specs.Prelude.{◌≡◌, List, Option, Some, Result, Ok, Err}
 use Rattle.board_node.specs.declared.spec.BoardSpec.{BoardSpec}
 use Rattle.transcript.specs.declared.greeting.Greeting.{Greeting}
 use Rattle.transcript.specs.declared.board_run.BoardRun.{BoardRun}

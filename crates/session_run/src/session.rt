@@ -5,7 +5,6 @@ ghost use Rattle.std.specs.List.{AllByRecursion};
 ghost use Rattle.ipb_base.specs.Faults.{Rose};
 ghost use Rattle.script_lang.specs.Executable.{AreExecutable};
 ghost use Rattle.script_lang.specs.Packing.{AreWithinLimits, CanBePacked, HaveFewPieces};
-ghost use Rattle.script_lang.specs.declared.script_refusal.TheConstants.{MAX_LINES};
 ghost use Rattle.lane_history.specs.Links.{IsUntouched};
 ghost use Rattle.lane_history.specs.Runs.{AreRunsOver};
 ghost use Rattle.board_greeting.specs.Boards.{AreReached, HasMemory, HasRoom, shown_by};
@@ -168,7 +167,6 @@ pub fn run_session<R: Rack, T: Threads + Wait + Sync, G: Gate>(
     requires few { AllByRecursion HaveFewPieces scripts.now }
     requires executable { AllByRecursion AreExecutable scripts.now }
     requires limits { AreWithinLimits scripts.now }
-    requires short { AllByRecursion (λ steps. length steps ≤ MAX_LINES) scripts.now }
     // What the runs show of each board is what its link bears out.
     ensures ran { IfOk result (λ runs. Keeps R.L.faults R.L.quiets R.L.gots R.L.held R.L.telling (R.kept rack.old)
         (R.kept rack.new) (AreRunsOver settings 0 specs.now scripts.now runs.items)) }

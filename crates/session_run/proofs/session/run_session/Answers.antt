@@ -1,4 +1,4 @@
-use Rattle.std.proofs.Common.{◌∙◌, ◌+◌, ◌++◌, ◌≤◌, ap, map, sym, rules}
+use Rattle.std.proofs.Common.{◌∙◌, ◌+◌, ◌++◌, ap, map, sym}
 use Rattle.board_greeting.specs.Boards.{shown_by}
 use Rattle.session_run.proofs.Sessions.{untouched_all, untouched_are_left}
 use Rattle.session_run.proofs.session.run_session.Goals as goal
