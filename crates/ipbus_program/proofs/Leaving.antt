@@ -107,6 +107,7 @@ owed_by laws bytes session steps links (Ok answer) runs prints =
       answered = laws.answered bytes session steps prints.runs links runs prints.boards;
       rounds = laws.rounds bytes session steps prints.runs links runs prints.boards;
       waited = laws.waited session steps prints.runs links prints.boards;
+      heard = laws.heard session steps prints.runs links prints.boards;
       told = prints.told;
       codes = laws.codes bytes session steps prints.runs links runs prints.boards;
       whole = laws.whole bytes session steps prints.runs links runs prints.boards;

@@ -9,15 +9,12 @@ use Rattle.board_node.specs.declared.spec.BoardSpec.{BoardSpec}
 use Rattle.reliable_engine.specs.Settings.{Limits}
 use Rattle.lane_history.specs.Links.{IsUntouched, LinkReport}
 use Rattle.script_lang.specs.declared.session.Session.{Session}
-use Rattle.transcript.specs.declared.line.BoardLine.{BoardLine}
-use Rattle.hub_session.specs.declared.served.Served.{Served}
-use Rattle.serve_text.specs.Text.{serve_text, serve_status}
 use Rattle.session_serve.specs.declared.report.ServeFault.{ServeFault}
 use Rattle.session_serve.specs.declared.report.ServeFault.TheVariants.{NoMemory, Rack}
 use Rattle.session_serve.specs.Boards.{AreLinksTo}
 use Rattle.served_history.specs.Boards.{AreServedOver, IsServedOver, ServedBoard}
 use Rattle.session_serve.specs.Pairs.{GivesBack, PairReport, pair_shown}
-use Rattle.session_serve.specs.Serving.{AreBack, AreServed, HadMemory}
+use Rattle.session_serve.specs.Serving.{AreBack}
 use Rattle.ipbus_program.specs.declared.answer.Answer.{Answer}
 use Rattle.command_words.specs.declared.command.Command.TheVariants.{Serve}
 use Rattle.script_lang.specs.declared.operation.Step.{Step}
@@ -74,28 +71,6 @@ unfolding failure
 serve_failed session made makes (Ok answer) fault links linked counted fails is untouched = absurd cc
 serve_failed session made makes (Err why) fault links linked counted fails is untouched =
     record { linked = linked; counted = counted; untouched = λ rack. untouched (sym is ∙ ap failure rack) }
-
-pub serve_printed : (session : Session) (made makes : ℕ) (answer : Answer) (links : List LinkReport)
-    → AreLinksTo session.boards links → makes ≡ made + length links → ServeLeaves session made makes (Ok answer) links
-serve_printed session made makes answer links linked counted =
-    record { linked = linked; counted = counted; untouched = λ never. absurd cc }
-
-pub session_served : (session : Session) (boards : List BoardSpec) (count : ℕ) (links : List LinkReport)
-    (came back : List PairReport) (answer : Answer) (connections : List Served) (lines : List BoardLine)
-    → boards ≡ session.boards → AreServed session.settings boards links came back connections lines
-    → length connections ≡ count → AllByRecursion HadMemory connections
-    → answer.text.items ≡ serve_text connections lines → answer.status ≡ serve_status connections
-    → ServesSession session count links came back answer.status answer.text.items
-session_served session boards count links came back answer connections lines same served all memory spelled told =
-    record {
-      connections = connections;
-      lines = lines;
-      served = subst (λ bs. AreServed session.settings bs links came back connections lines) same served;
-      all = all;
-      memory = memory;
-      spelled = spelled;
-      told = told;
-    }
 
 -- ---- the links and the pairs together
 

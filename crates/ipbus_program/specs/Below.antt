@@ -5,7 +5,7 @@ use Rattle.direct_run.specs.Lines.{IsBusLine}
 use Rattle.direct_run.specs.Runs.{runs_from}
 use Rattle.lane_history.specs.Links.{IsFaithful, LinkReport}
 use Rattle.lane_history.specs.Runs.{AreRunsOver, AreWholeRuns, HaveOwnBoards, IsLineOfRounds, IsUngarbledWhereTold}
-use Rattle.lane_history.specs.Runs.{ShowAloneRuns, TimeOutsWaited}
+use Rattle.lane_history.specs.Runs.{RepliesCame, ShowAloneRuns, TimeOutsWaited}
 use Rattle.node_tree.specs.Maps.{RegisterMap}
 use Rattle.script_lang.specs.declared.operation.Step.{Step}
 use Rattle.script_lang.specs.declared.session.Session.{Session}
@@ -64,6 +64,10 @@ pub record RunLaws : Type 0 where
   pub waited : (session : Session) (steps : List (List Step)) (runs : List BoardRun) (links : List LinkReport)
       → AreRunsOver session.settings 0 session.boards steps runs links
       → AllZip (TimeOutsWaited session.settings) (transcript_of steps runs).boards links
+  -- the replies in the lines of boards came over their links
+  pub heard : (session : Session) (steps : List (List Step)) (runs : List BoardRun) (links : List LinkReport)
+      → AreRunsOver session.settings 0 session.boards steps runs links
+      → AllZip RepliesCame (transcript_of steps runs).boards links
   -- over faithful links lines fail by codes of the bus alone
   pub codes : (bytes : List ℕ) (session : Session) (steps : List (List Step)) (runs : List BoardRun)
       (links : List LinkReport) → IsRunnable bytes session steps

@@ -19,6 +19,7 @@
 --                                                                        lane_history/specs/Runs
 --   timeouts                     GaveUpOnlyAfter, TimeOutsWaited,        board_history/specs/GiveUps,
 --                                IsLineOfRounds                          lane_history/specs/Runs
+--   replies over any link        RepliesCame                             lane_history/specs/Runs
 --   lost links, down, silent     IsLostOnlyIfFailed, IsDownRun,          lane_history/specs/Links, Runs
 --                                IsSilentRun                             lane_history/specs/Runs
 --   error and skipped            op_result, told_of                      transcript/specs/Results, Ends
@@ -33,7 +34,7 @@ use Rattle.std.specs.List.{AllByRecursion, AllZip}
 use Rattle.lane_history.specs.Links.{LinkReport, IsFaithful}
 use Rattle.direct_run.specs.Lines.{IsBusLine}
 use Rattle.lane_history.specs.Runs.{AreRunsOver, AreWholeRuns, IsLineOfRounds, IsUngarbledWhereTold}
-use Rattle.lane_history.specs.Runs.{ShowAloneRuns, TimeOutsWaited}
+use Rattle.lane_history.specs.Runs.{RepliesCame, ShowAloneRuns, TimeOutsWaited}
 use Rattle.script_lang.specs.declared.operation.Step.{Step}
 use Rattle.script_lang.specs.declared.session.Session.{Session}
 use Rattle.session_input.specs.Deserved.{IsRunnable}
@@ -67,6 +68,8 @@ pub record IsTranscriptOf (bytes : List ℕ) (links : List LinkReport) (status :
   -- with so many timeouts in the line of a board, its link had the quiet receives of their rounds, and where it tells
   -- it held a datagram in each
   pub waited : AllZip (TimeOutsWaited session.settings) (transcript_of steps runs).boards links
+  -- for each reply that the line of a board counts, its link handed out a datagram, and one that answered the greeting
+  pub heard : AllZip RepliesCame (transcript_of steps runs).boards links
   -- the status is 0 exactly where every line of an operation is a value, `done` or `was`
   pub told : status ≡ run_status (transcript_of steps runs).clients
   -- where no link held anything back and none failed, it is 1 only by codes of the bus

@@ -38,6 +38,7 @@
 --   each board and its link      IsServedOver: IsLiveRun, IsSilentRun,   served_history/specs/Boards,
 --                                IsDownRun                               lane_history/specs/Runs
 --   timeouts in those lines      TimeOutsWaited                          lane_history/specs/Runs
+--   replies in those lines       RepliesCame                             lane_history/specs/Runs
 --   lost packets in those lines  HasLostOnlyIfFailed                     served_history/specs/Shown
 --   the numbers of answers       AllTellAnswers                          served_answers/specs/Answers
 --   the frames for each board    OfEachBoard, OfEachWithCode             served_answers/specs/Frames
@@ -67,7 +68,7 @@ use Rattle.transcript.specs.declared.line.BoardLine.{BoardLine}
 use Rattle.transcript.specs.Lines.{board_line}
 use Rattle.direct_run.specs.Runs.{greeting_of, opening_of}
 use Rattle.lane_history.specs.Links.{LinkReport, IsFaithful}
-use Rattle.lane_history.specs.Runs.{TimeOutsWaited}
+use Rattle.lane_history.specs.Runs.{RepliesCame, TimeOutsWaited}
 use Rattle.served_history.specs.Boards.{ServedBoard, run_of}
 use Rattle.served_history.specs.Shown.{HasLostOnlyIfFailed, IsAddedUp, sends_told}
 use Rattle.hub_lane.specs.declared.answers.BoardState.{BoardState}
@@ -96,6 +97,8 @@ pub record IsServedRightly (settings : Limits) (spec : BoardSpec) (served : Serv
     -- with so many timeouts in its line, its link had the quiet receives of their rounds, and where it tells it held a
     -- datagram in each round
     pub waited : TimeOutsWaited settings (board_line (run_of spec served)) link
+    -- for each reply that its line counts, its link handed out a datagram, and one that answered the greeting
+    pub heard : RepliesCame (board_line (run_of spec served)) link
     -- its line tells a packet lost only where the link failed
     pub lost : HasLostOnlyIfFailed (board_line (run_of spec served)) link
     -- where the link tells, held nothing back and did not fail, the board is live

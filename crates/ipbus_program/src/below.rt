@@ -3,10 +3,10 @@
 ghost use Rattle.ipbus_program.specs.Below.{InputLaws, OwnBoardsLaw, RunLaws, ServeLaws};
 
 use lane_history::runs::{
-    a_client_alone_has_one_run, board_lines_waited_for_their_time_outs,
-    clients_with_boards_of_their_own_have_one_run, faithful_lines_fail_by_codes_of_the_bus_alone,
-    faithful_links_answer_all, lines_show_the_order_of_each_board,
-    lines_show_the_rounds_of_the_session, no_line_is_garbled,
+    a_client_alone_has_one_run, board_lines_count_replies_that_came,
+    board_lines_waited_for_their_time_outs, clients_with_boards_of_their_own_have_one_run,
+    faithful_lines_fail_by_codes_of_the_bus_alone, faithful_links_answer_all,
+    lines_show_the_order_of_each_board, lines_show_the_rounds_of_the_session, no_line_is_garbled,
 };
 use script_lang::laws::{
     a_session_keeps_its_limits, the_boards_of_a_session_have_their_own_names,
@@ -22,6 +22,7 @@ use served_history::boards::{
     a_board_line_counts_the_bodies_of_its_connections,
     a_board_that_tells_executed_what_was_replied, a_board_waited_for_what_was_given_up,
     a_faithful_link_serves_all, a_served_board_loses_bodies_only_with_its_link,
+    replies_of_a_served_board_came_over_its_link,
 };
 use session_input::laws::{
     bytes_have_one_answer_to_check, bytes_have_one_answer_to_run, what_can_be_run_can_be_executed,
@@ -44,6 +45,7 @@ pub(crate) fn run_laws()
     no_line_is_garbled();
     lines_show_the_rounds_of_the_session();
     board_lines_waited_for_their_time_outs();
+    board_lines_count_replies_that_came();
     faithful_lines_fail_by_codes_of_the_bus_alone();
     what_can_be_run_can_be_executed();
     the_ranges_of_a_session_name_words();
@@ -67,6 +69,7 @@ pub(crate) fn serve_laws()
     a_board_that_tells_executed_what_was_replied();
     a_board_line_counts_the_bodies_of_its_connections();
     a_board_waited_for_what_was_given_up();
+    replies_of_a_served_board_came_over_its_link();
     a_served_board_loses_bodies_only_with_its_link();
     a_faithful_link_serves_all();
     board_lines_tell_the_numbers_of_answers();

@@ -1,6 +1,6 @@
 -- What a load leaves, put together from what its steps say.
-use Rattle.std.proofs.Common.{◌≡◌, ◌≤◌, ◌^◌, ℕ, ◌+◌, Bool, List, [], ◌∷◌, ◌++◌, length, map, Result, Ok, Err, IfOk}
-use Rattle.std.proofs.Common.{refl, sym, ap, ◌∙◌, subst, append-nil, arith}
+use Rattle.std.proofs.Common.{◌≡◌, ◌≤◌, ℕ, ◌+◌, Bool, List, [], ◌∷◌, ◌++◌, length, map, Result, Ok, Err, IfOk}
+use Rattle.std.proofs.Common.{sym, ap, ◌∙◌, subst, append-nil, arith}
 use Rattle.std.proofs.lemmas.List.{append_cancel_left}
 use Rattle.std.specs.List.{AllByRecursion}
 use Rattle.std.specs.Result.{IsErr, IsErrAnd}
@@ -10,12 +10,9 @@ use Rattle.board_node.specs.declared.spec.LinkSpec.TheVariants.{Sim, Udp}
 use Rattle.direct_run.specs.Runs.{CanRun, RunsHere}
 use Rattle.script_lang.specs.Executable.{OpensOnWords}
 use Rattle.transcript.specs.declared.board_run.BoardRun.{BoardRun}
-use Rattle.transcript.specs.Lines.{transcript_of}
 use Rattle.transcript.specs.Shown.{HaveOwnNames}
 use Rattle.lane_history.specs.Links.{CanBeMade, IsUntouched, LinkReport}
-use Rattle.lane_history.specs.Runs.{AreRunsOver}
-use Rattle.load_session.specs.Generated.{boards, most_operations, settings, steps}
-use Rattle.load_session.specs.Summary.{all_done, summary_of, summary_text}
+use Rattle.load_session.specs.Generated.{boards, most_operations, steps}
 use Rattle.session_run.specs.Links.{AreLeft, CanBeReached}
 use Rattle.session_run.specs.declared.session.RunFault.{RunFault}
 use Rattle.session_run.specs.declared.session.RunFault.TheVariants.{NoMemory, Rack}

@@ -19,7 +19,7 @@ use Rattle.transcript.specs.Lines.{transcript_of}
 use Rattle.transcript.specs.Shown.{ShowsAllPlaces}
 use Rattle.lane_history.specs.Links.{IsFaithful, IsUntouched, LinkReport}
 use Rattle.lane_history.specs.Runs.{AreRunsOver, AreWholeRuns, IsLineOfRounds, IsUngarbledWhereTold}
-use Rattle.lane_history.specs.Runs.{ShowAloneRuns, TimeOutsWaited}
+use Rattle.lane_history.specs.Runs.{RepliesCame, ShowAloneRuns, TimeOutsWaited}
 use Rattle.load_session.specs.Claims.{HasEachBelow, TellsRuns, sum_below}
 use Rattle.load_session.specs.Generated.{boards, most_operations, settings, steps}
 use Rattle.load_session.specs.Summary.{all_done, summary_of, summary_text, words_before}
@@ -42,6 +42,9 @@ pub record IsRightLoad (count : ℕ) (runs : List BoardRun) (links : List LinkRe
   pub rounds : AllByRecursion (AllByRecursion (IsLineOfRounds settings.rounds))
       (transcript_of (steps count) runs).clients
   pub waited : AllZip (TimeOutsWaited settings) (transcript_of (steps count) runs).boards links
+  -- for each reply that the line of the board counts, the link handed out a datagram, and one that answered the
+  -- greeting
+  pub heard : AllZip RepliesCame (transcript_of (steps count) runs).boards links
   -- where the link held nothing back and did not fail, lines fail by codes of the bus alone, every body was replied to,
   -- and the board executed all bodies
   pub codes : AllByRecursion IsFaithful links

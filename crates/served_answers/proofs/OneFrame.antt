@@ -77,14 +77,6 @@ far_refusal refusal.ReplyTooLong = omega arith
 far_refusal refusal.Overfull = omega arith
 far_refusal refusal.NoMemory = omega arith
 
-same_state : (m n : ℕ) → Some (Lane m) ≡ Some (Lane n) → m ≡ n
-same_state m n e = cc
-
-not_the_lane : (b : Bool) (state : BoardState) (lane : ℕ) → (b ≡ true → Some state ≡ Some (Lane lane))
-    → (Some state ≢ Some (Lane lane)) → b ≡ false
-not_the_lane true state lane is never = absurd (never (is refl))
-not_the_lane false state lane is never = refl
-
 module _ (board lane : ℕ) where
   -- where the frame is for the board at the position, that board has the lane, and no other board has it
   lane_became : (b : Bool) (l : ℕ) (packet : Packet) (outcome : Outcome) (found : Bool) → (l == lane) ≡ found

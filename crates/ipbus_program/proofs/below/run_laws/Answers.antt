@@ -21,6 +21,8 @@ returns c = record {
       (c.what_can_be_run_can_be_executed.ensures bytes session steps runnable);
   waited = λ session steps runs links are.
       c.board_lines_waited_for_their_time_outs.ensures session.settings 0 session.boards steps runs links are;
+  heard = λ session steps runs links are.
+      c.board_lines_count_replies_that_came.ensures session.settings 0 session.boards steps runs links are;
   codes = λ bytes session steps runs links runnable are calm.
       let within = c.a_session_keeps_its_limits.ensures bytes session runnable.stands in
       c.faithful_lines_fail_by_codes_of_the_bus_alone.ensures session.settings session.boards steps runs links

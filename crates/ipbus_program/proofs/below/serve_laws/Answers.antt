@@ -11,6 +11,7 @@ returns c = record {
         executed_some = c.a_board_that_tells_executed_what_was_replied.ensures.executed settings spec served link is;
         summed = c.a_board_line_counts_the_bodies_of_its_connections.ensures.sum spec served;
         waited = c.a_board_waited_for_what_was_given_up.ensures.line settings spec served link is;
+        heard = c.replies_of_a_served_board_came_over_its_link.ensures settings spec served link is;
         lost = c.a_served_board_loses_bodies_only_with_its_link.ensures.line settings spec served link is;
         live = λ calm. c.a_faithful_link_serves_all.ensures.live settings spec served link some calm is;
       })

@@ -1,4 +1,3 @@
-use Rattle.std.proofs.Common.{List, ◌≤◌}
 use Rattle.load_session.specs.Generated.{boards, settings, steps}
 use Rattle.load_run.proofs.Loads.{made_of, one_name}
 use Rattle.load_run.proofs.laws.the_run_of_a_generated_session.Goals as goal
@@ -17,6 +16,7 @@ returns c = λ count runs links most over.
       rounds = c.lines_show_the_rounds_of_the_session.ensures settings (boards count) (steps count) runs links over
           (can.executable count);
       waited = c.board_lines_waited_for_their_time_outs.ensures settings 0 (boards count) (steps count) runs links over;
+      heard = c.board_lines_count_replies_that_came.ensures settings 0 (boards count) (steps count) runs links over;
       codes = λ calm. c.faithful_lines_fail_by_codes_of_the_bus_alone.ensures settings (boards count) (steps count) runs
           links some calm over made (can.words count) (can.executable count);
       whole =

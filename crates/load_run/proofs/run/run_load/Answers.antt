@@ -1,4 +1,4 @@
-use Rattle.std.proofs.Common.{◌≡◌, ◌^◌, List, length, map, refl, sym, subst, arith, ap, ◌∙◌}
+use Rattle.std.proofs.Common.{List, map, refl, sym, subst, arith, ◌∙◌}
 use Rattle.board_greeting.specs.Boards.{shown_by}
 use Rattle.board_node.specs.declared.spec.BoardSpec.{BoardSpec}
 use Rattle.reliable_engine.specs.Settings.{Limits}
