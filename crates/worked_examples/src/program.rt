@@ -212,7 +212,7 @@ fn words_that_are_no_command(rt: HostRuntime) -> Result<(), Fail> {
     assert!(rt; is_usage(&rt, rt.alloc(), &["run", "main"])?);
     assert!(rt; is_usage(&rt, rt.alloc(), &["serve", "0", "1"])?);
     assert!(rt; is_usage(&rt, rt.alloc(), &["serve", "5000", "+1"])?);
-    assert!(rt; is_usage(&rt, rt.alloc(), &["serve", "05000", "1"])?);
+    assert!(rt; is_usage(&rt, rt.alloc(), &["serve", "00000005000", "1"])?);
     assert!(rt; is_usage(&rt, rt.alloc(), &["serve", "5000", "65"])?);
     assert!(rt; is_usage(&rt, rt.alloc(), &["load", "0"])?);
     assert!(rt; is_usage(&rt, rt.alloc(), &["load", "100001"])?);
@@ -314,7 +314,7 @@ fn a_load(rt: HostRuntime) -> Result<(), Fail> {
     let alloc = rt.alloc();
     for (count, wanted) in [
         ("1", "load 1\ndone 1\nwas total 0\nplaces 1\n"),
-        ("5", "load 5\ndone 5\nwas total 10\nplaces 5\n"),
+        ("0000000005", "load 5\ndone 5\nwas total 10\nplaces 5\n"),
     ] {
         let (status, text) = answer(&rt, alloc, &["load", count], "no document")?;
         assert_eq!(rt; status, DONE, "load {count}");
