@@ -49,6 +49,10 @@ RARE_LINES = [
 ]
 
 
+# what befalls the datagrams of boards behind the first one; those of the first one always meet noise
+NETWORKS = ["noise", "fates", "fates", ""]
+
+
 class Draw:
     def __init__(self, name):
         self.random = random.Random(name)
@@ -79,9 +83,8 @@ class Draw:
         register = register.format(group=self.random.choice(["low", "high"]))
         return f"{verb} {self.random.choice(boards)}:{register} {numbers}".rstrip() if rest else verb
 
-    def network(self):
-        """The fates of a board's datagrams, if its network is not a faithful one."""
-        kind = self.random.choice(["noise", "noise", "noise", "fates", ""])
+    def network(self, kind):
+        """What befalls a board's datagrams, by noise or by fates, or nothing."""
         if kind == "noise":
             return f"noise = {self.random.getrandbits(32)}\n"
         if kind == "fates":
@@ -90,13 +93,14 @@ class Draw:
             return f'fates = "{"".join(self.random.choices(letters, k=count))}"\n'
         return ""
 
-    def board(self, name):
+    def board(self, name, kinds):
+        """A board whose network is of one of these kinds."""
         mtu = self.random.choice([92, 93, 120, 300, 576, 1500, 9000])
         first = self.random.choice([1, 2, 65530, 65535, self.random.randint(1, 65535)])
         size = self.random.choice([8, 716, 716, 716])
         return (
             f'[[board]]\nname = "{name}"\ntable = "main"\nmtu = {mtu}\nfirst = {first}\n'
-            f"buffers = {self.random.choice([1, 2, 4, 16, 64])}\n{self.network()}ranges = [\n"
+            f"buffers = {self.random.choice([1, 2, 4, 16, 64])}\n{self.network(self.random.choice(kinds))}ranges = [\n"
             f"  {{ base = 0, size = {size}, init = [{self.word()}, 5, {self.word()}] }},\n"
             f'  {{ base = 0x1000, size = 2 }}, {{ base = 0x1002, size = 1, kind = "ro", init = [7] }},\n'
             f'  {{ base = 0x1003, size = 1, kind = "wo" }}, {{ base = 0x1004, size = 712 }},\n'
@@ -108,7 +112,7 @@ class Draw:
         boards = [f"b{place}" for place in range(self.random.choice([1, 1, 2, 3]))]
         rounds = self.random.choice([1, 2, 3, 8, 255])
         text = f"rounds = {rounds}\nwindow = {self.random.randint(1, 16)}\n{REGISTERS}"
-        text += "".join(self.board(board) for board in boards)
+        text += "".join(self.board(board, ["noise"] if board == boards[0] else NETWORKS) for board in boards)
         for _ in range(self.random.choice(clients)):
             script = [self.line(boards) for _ in range(self.random.choice([2, 10, 30, 60]))]
             text += "[[client]]\nscript = [\n" + "".join(f'  "{line}",\n' for line in script) + "]\n"

@@ -1,5 +1,6 @@
 """The peers of one case on 127.0.0.1: boards on UDP ports, a hub, and connections to it. All end with the case."""
 import contextlib
+import os
 import pathlib
 import random
 import signal
@@ -82,6 +83,34 @@ class Board:
             bodies.append([int(word, 16) for word in rest[1:]])
         return bodies
 
+    def require_executed(self, count):
+        """It executed as many bodies as a hub has places for, none twice."""
+        executed = len(self.executed())
+        require(executed == count, f"{self.name} executed {executed} bodies at {count} places")
+
+    def heard(self, kind):
+        """How many lines of its log are of this kind."""
+        return sum(line.split()[0] == kind for line in self.log.read_text().splitlines())
+
+
+def ended(process):
+    """The end of a hub: its status and what it wrote."""
+    text, note = process.communicate(timeout=SECONDS)
+    return Ended(process.returncode, text.decode(), note.decode())
+
+
+def stop_while_it_waits(process, board, kind, count):
+    """Waits until a board heard so many datagrams of a kind from a hub, then stops the hub and lets it go on, twice."""
+    while board.heard(kind) < count:
+        require(process.poll() is None, f"the hub ended: {process.poll()}")
+        time.sleep(0.005)
+    for _ in range(2):
+        time.sleep(0.02)
+        process.send_signal(signal.SIGSTOP)
+        with contextlib.suppress(ChildProcessError):  # it may have ended
+            os.waitid(os.P_PID, process.pid, os.WSTOPPED | os.WEXITED | os.WNOWAIT)
+        process.send_signal(signal.SIGCONT)
+
 
 class Hub:
     """A hub that serves: its port, and what it came to."""
@@ -93,8 +122,7 @@ class Hub:
 
     def finish(self):
         """Its end: its status and what it wrote."""
-        text, note = self.process.communicate(timeout=SECONDS)
-        return Ended(self.process.returncode, text.decode(), note.decode())
+        return ended(self.process)
 
 
 def free_port(kind=socket.SOCK_STREAM):
@@ -143,10 +171,11 @@ class Peers:
         self.open.append(deaf)
         return deaf.getsockname()[1]
 
+    def start_run(self, document):
+        return self.start([*self.command, "run"], document)
+
     def run(self, document):
-        process = self.start([*self.command, "run"], document)
-        text, note = process.communicate(timeout=SECONDS)
-        return Ended(process.returncode, text.decode(), note.decode())
+        return ended(self.start_run(document))
 
     def serve(self, document, count):
         port = free_port()

@@ -7,10 +7,13 @@ LATEST = 0.03
 
 
 class Calm:
-    """Nothing befalls a datagram."""
+    """Nothing befalls a datagram, but that each takes so many seconds."""
+
+    def __init__(self, seconds=0.0):
+        self.seconds = seconds
 
     def delays(self):
-        return [0.0]
+        return [self.seconds]
 
     def strange(self, expected):
         return []
