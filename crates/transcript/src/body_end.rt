@@ -110,7 +110,7 @@ pub(crate) fn ends_of(
     requires { AreSpelled bodies.now }
     ensures { IfOk result (λ ends. ends.items ≡ map spec.end_of (zip bodies.now outcomes.now)) }
 {
-    let mut ends = Vec::new(alloc);
+    let mut ends = Vec::with_capacity(alloc, bodies.len())?;
     for (i, body) in bodies.iter().enumerate() {
         let Some(outcome) = outcomes.get(i) else {
             return Ok(ends);

@@ -30,7 +30,7 @@ fn ends_on(alloc: Global, run: &BoardRun, client: usize) -> Result<Vec<BodyEnd>,
 fn all_ends(alloc: Global, runs: &[BoardRun], client: usize) -> Result<Vec<Vec<BodyEnd>>, NoMemory>
     ensures { IfOk result (λ all. map (λ ends. ends.items) all.items ≡ map (ends_on client) runs.now) }
 {
-    let mut all = Vec::new(alloc);
+    let mut all = Vec::with_capacity(alloc, runs.len())?;
     for run in runs {
         all.push(ends_on(alloc, run, client)?)?;
     }
@@ -166,7 +166,7 @@ pub fn client_lines(
 {
     let ends = all_ends(alloc, runs, client)?;
     let mut progress = Progress {
-        lines: Vec::new(alloc),
+        lines: Vec::with_capacity(alloc, steps.len())?,
         number: 0,
         counts: vec![in alloc; 0; runs.len()]?,
     };

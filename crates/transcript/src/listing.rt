@@ -34,65 +34,58 @@ fn mode_text(mode: Mode) -> &'static str
 }
 
 /// What stands behind a register's address and mask: how it may be used, and its words.
-fn kinds_text(alloc: Global, register: &Register) -> Result<String, NoMemory>
-    ensures { IfOk result (λ text. string_bytes text ≡ spec.kinds_text register.now) }
+fn push_kinds(text: &mut String, register: &Register) -> Result<(), NoMemory>
+    ensures { OnOk result (string_bytes text.new ≡ string_bytes text.old ++ spec.kinds_text register.now) }
 {
     let permission = permission_text(register.permission);
     let mode = mode_text(register.mode);
     let size = register.size;
-    Ok(format!(in alloc; "{permission} {mode} {size}\n")?)
+    Ok(write!(text, "{permission} {mode} {size}\n")?)
 }
 
 /// The line of a register: `NAME ADDRESS MASK PERMISSION MODE SIZE`.
-fn register_text(alloc: Global, name: &str, register: &Register) -> Result<String, NoMemory>
-    ensures { IfOk result (λ text. string_bytes text ≡ spec.register_text (name.now, register.now)) }
+fn push_register(text: &mut String, name: &str, register: &Register) -> Result<(), NoMemory>
+    ensures { OnOk result (string_bytes text.new
+        ≡ string_bytes text.old ++ spec.register_text (name.now, register.now)) }
 {
-    let mut text = String::from_str(alloc, name)?;
+    text.push_str(name)?;
     text.push_str(" ")?;
-    push_word(alloc, &mut text, register.address)?;
+    push_word(text, register.address)?;
     text.push_str(" ")?;
-    push_word(alloc, &mut text, register.mask)?;
+    push_word(text, register.mask)?;
     text.push_str(" ")?;
-    let kinds = kinds_text(alloc, register)?;
-    text.push_str(kinds.as_str())?;
-    Ok(text)
+    push_kinds(text, register)
 }
 
-fn push_registers(alloc: Global, text: &mut String, index: &Index) -> Result<(), NoMemory>
+fn push_registers(text: &mut String, index: &Index) -> Result<(), NoMemory>
     ensures { OnOk result (string_bytes text.new
         ≡ string_bytes text.old ++ flat_map spec.register_text (map.entries index.now)) }
 {
     for i in 0..index.len() {
         let (name, register) = index.at(i);
-        let line = register_text(alloc, name, &register)?;
-        text.push_str(line.as_str())?;
+        push_register(text, name, &register)?;
     }
     Ok(())
 }
 
 /// The line of two registers that overlap, by their places from 0.
-fn overlap_text(alloc: Global, index: &Index, pair: (u32, u32)) -> Result<String, NoMemory>
+fn push_overlap(text: &mut String, index: &Index, pair: (u32, u32)) -> Result<(), NoMemory>
     requires { (pair.0 < map.len index.now) × (pair.1 < map.len index.now) }
-    ensures { IfOk result (λ text. string_bytes text ≡ spec.overlap_text (map.entries index.now) pair) }
+    ensures { OnOk result (string_bytes text.new
+        ≡ string_bytes text.old ++ spec.overlap_text (map.entries index.now) pair) }
 {
     let (first, _) = index.at(pair.0 as usize);
     let (second, _) = index.at(pair.1 as usize);
-    Ok(format!(in alloc; "overlap {first} {second}\n")?)
+    Ok(write!(text, "overlap {first} {second}\n")?)
 }
 
-fn push_overlaps(
-    alloc: Global,
-    text: &mut String,
-    index: &Index,
-    pairs: &[(u32, u32)],
-) -> Result<(), NoMemory>
+fn push_overlaps(text: &mut String, index: &Index, pairs: &[(u32, u32)]) -> Result<(), NoMemory>
     requires { let count = map.len index.now in All (λ p. (p.0 < p.1) × (p.1 < count)) pairs.now }
     ensures { OnOk result (string_bytes text.new
         ≡ string_bytes text.old ++ flat_map (spec.overlap_text (map.entries index.now)) pairs.now) }
 {
     for pair in pairs {
-        let line = overlap_text(alloc, index, *pair)?;
-        text.push_str(line.as_str())?;
+        push_overlap(text, index, *pair)?;
     }
     Ok(())
 }
@@ -103,8 +96,8 @@ pub fn listing_text(alloc: Global, index: &Index) -> Result<Vec<u8>, NoMemory>
     ensures { IfOk result (λ text. text.items ≡ spec.listing_text index.now) }
 {
     let mut text = String::new(alloc);
-    push_registers(alloc, &mut text, index)?;
+    push_registers(&mut text, index)?;
     let pairs = index.overlaps(alloc)?;
-    push_overlaps(alloc, &mut text, index, pairs.as_slice())?;
+    push_overlaps(&mut text, index, pairs.as_slice())?;
     Ok(text.into_bytes())
 }

@@ -66,7 +66,7 @@ fn moved_pieces(alloc: Global, pieces: &[Piece], first: usize) -> Result<OpPiece
     requires { first < 2 ^ 63 }
     ensures { IfOk result (λ moved. moved ≡ map (spec.moved first) pieces.now) }
 {
-    let mut moved = Vec::new(alloc);
+    let mut moved = Vec::with_capacity(alloc, pieces.len())?;
     for piece in pieces {
         moved.push(PieceAt {
             body: first + piece.body as usize,

@@ -71,15 +71,13 @@ fn shown_word(word: u32, mask: u32) -> u32
     if mask == 0 { 0 } else { extract(word, mask) }
 }
 
-/// The fields of words under a mask.
-fn shown_words(alloc: Global, words: &[u32], mask: u32) -> Result<Words, NoMemory>
-    ensures { IfOk result (λ fields. fields ≡ map (λ word. field word mask) words.now) }
+/// Each word becomes its field under a mask.
+fn show_fields(words: &mut [u32], mask: u32)
+    ensures { words.new ≡ map (λ word. field word mask) words.old }
 {
-    let mut fields = Vec::new(alloc);
-    for word in words {
-        fields.push(shown_word(*word, mask))?;
+    for at in 0..words.len() {
+        words[at] = shown_word(words[at], mask);
     }
-    Ok(Words::from_vec(fields))
 }
 
 /// The word before a read-modify-write.
@@ -93,14 +91,17 @@ fn word_before(words: &[u32]) -> OpResult
 }
 
 /// What an operation that was done shows of the words that its pieces gave.
-fn shown(alloc: Global, verb: Verb, mask: u32, words: Vec<u32>) -> Result<OpResult, NoMemory>
-    ensures { IfOk result (λ came_to. came_to ≡ spec.shown verb mask words.items) }
+fn shown(verb: Verb, mask: u32, mut words: Vec<u32>) -> OpResult
+    ensures { result ≡ spec.shown verb mask words.items }
 {
     match verb {
-        Verb::Read => Ok(OpResult::Value(shown_words(alloc, words.as_slice(), mask)?)),
-        Verb::Write | Verb::WriteBlock => Ok(OpResult::Done),
-        Verb::ReadBlock => Ok(OpResult::Value(Words::from_vec(words))),
-        Verb::RmwBits | Verb::RmwSum => Ok(word_before(words.as_slice())),
+        Verb::Read => {
+            show_fields(words.as_mut_slice(), mask);
+            OpResult::Value(Words::from_vec(words))
+        }
+        Verb::Write | Verb::WriteBlock => OpResult::Done,
+        Verb::ReadBlock => OpResult::Value(Words::from_vec(words)),
+        Verb::RmwBits | Verb::RmwSum => word_before(words.as_slice()),
     }
 }
 
@@ -119,7 +120,7 @@ pub(crate) fn op_result(
             return Ok(fault);
         }
     }
-    shown(alloc, op.verb, op.mask, words)
+    Ok(shown(op.verb, op.mask, words))
 }
 
 /// Adds the place of a piece, where its body has one.
@@ -149,7 +150,7 @@ pub(crate) fn op_places(
     requires { AllByRecursion IsWithinBody pieces.now }
     ensures { IfOk result (λ places. places ≡ spec.op_places ends.now pieces.now) }
 {
-    let mut places = Vec::new(alloc);
+    let mut places = Vec::with_capacity(alloc, pieces.len())?;
     for piece in pieces {
         push_place(&mut places, ends, *piece)?;
     }

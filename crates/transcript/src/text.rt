@@ -9,30 +9,20 @@ use ipb_base::NoMemory;
 use script_lang::Verb;
 use std::alloc::Global;
 
-/// Eight lower-case hexadecimal digits.
-fn hex(alloc: Global, word: u32) -> Result<String, NoMemory>
-    ensures { IfOk result (λ text. string_bytes text ≡ spec.hex_text word) }
-{
-    Ok(format!(in alloc; "{word:08x}")?)
-}
-
-/// A word: `0x` and its eight digits.
-pub(crate) fn push_word(alloc: Global, text: &mut String, word: u32) -> Result<(), NoMemory>
+/// Puts a word behind a text: `0x` and eight lower-case hexadecimal digits.
+pub(crate) fn push_word(text: &mut String, word: u32) -> Result<(), NoMemory>
     ensures { OnOk result (string_bytes text.new ≡ string_bytes text.old ++ spec.word_text word) }
 {
-    let digits = hex(alloc, word)?;
-    text.push_str("0x")?;
-    text.push_str(digits.as_str())?;
-    Ok(())
+    Ok(write!(text, "0x{word:08x}")?)
 }
 
 /// The words, each behind a space.
-fn push_words(alloc: Global, text: &mut String, words: &[u32]) -> Result<(), NoMemory>
+fn push_words(text: &mut String, words: &[u32]) -> Result<(), NoMemory>
     ensures { OnOk result (string_bytes text.new ≡ string_bytes text.old ++ spec.words_text words.now) }
 {
     for word in words {
         text.push_str(" ")?;
-        push_word(alloc, text, *word)?;
+        push_word(text, *word)?;
     }
     Ok(())
 }
@@ -51,144 +41,143 @@ fn verb_text(verb: Verb) -> &'static str
     }
 }
 
-/// `error C after N`.
-fn error_text(alloc: Global, code: u8, after: u8) -> Result<String, NoMemory>
-    ensures { IfOk result (λ text. string_bytes text ≡ spec.error_text code after) }
+/// `= 0xW 0xW ..`
+fn push_value(text: &mut String, words: &[u32]) -> Result<(), NoMemory>
+    ensures { OnOk result (string_bytes text.new
+        ≡ string_bytes text.old ++ (codes "=" ++ spec.words_text words.now)) }
 {
-    Ok(format!(in alloc; "error {code} after {after}")?)
+    text.push_str("=")?;
+    push_words(text, words)
 }
 
-/// `timeout after R rounds, execution unknown`.
-fn timeout_text(alloc: Global, rounds: u8) -> Result<String, NoMemory>
-    ensures { IfOk result (λ text. string_bytes text ≡ spec.timeout_text rounds) }
+/// `was 0xW`
+fn push_was(text: &mut String, word: u32) -> Result<(), NoMemory>
+    ensures { OnOk result (string_bytes text.new
+        ≡ string_bytes text.old ++ (codes "was " ++ spec.word_text word)) }
 {
-    Ok(format!(in alloc; "timeout after {rounds} rounds, execution unknown")?)
+    text.push_str("was ")?;
+    push_word(text, word)
 }
 
-fn value_text(alloc: Global, words: &[u32]) -> Result<String, NoMemory>
-    ensures { IfOk result (λ text. string_bytes text ≡ codes "=" ++ spec.words_text words.now) }
+/// `error C after N`
+fn push_error(text: &mut String, code: u8, after: u8) -> Result<(), NoMemory>
+    ensures { OnOk result (string_bytes text.new ≡ string_bytes text.old ++ spec.error_text code after) }
 {
-    let mut text = String::from_str(alloc, "=")?;
-    push_words(alloc, &mut text, words)?;
-    Ok(text)
+    Ok(write!(text, "error {code} after {after}")?)
 }
 
-fn was_text(alloc: Global, word: u32) -> Result<String, NoMemory>
-    ensures { IfOk result (λ text. string_bytes text ≡ codes "was " ++ spec.word_text word) }
+/// `timeout after R rounds, execution unknown`
+fn push_timeout(text: &mut String, rounds: u8) -> Result<(), NoMemory>
+    ensures { OnOk result (string_bytes text.new ≡ string_bytes text.old ++ spec.timeout_text rounds) }
 {
-    let mut text = String::from_str(alloc, "was ")?;
-    push_word(alloc, &mut text, word)?;
-    Ok(text)
+    Ok(write!(text, "timeout after {rounds} rounds, execution unknown")?)
 }
 
-fn result_text(alloc: Global, came_to: &OpResult) -> Result<String, NoMemory>
-    ensures { IfOk result (λ text. string_bytes text ≡ spec.result_text came_to.now) }
+/// What an operation came to.
+fn push_result(text: &mut String, came_to: &OpResult) -> Result<(), NoMemory>
+    ensures { OnOk result (string_bytes text.new ≡ string_bytes text.old ++ spec.result_text came_to.now) }
 {
     match came_to {
-        OpResult::Value(words) => value_text(alloc, words.as_slice()),
-        OpResult::Done => Ok(String::from_str(alloc, "done")?),
-        OpResult::Was(word) => was_text(alloc, *word),
-        OpResult::Error { code, after } => error_text(alloc, *code, *after),
-        OpResult::Skipped => Ok(String::from_str(alloc, "skipped")?),
-        OpResult::TimedOut { rounds } => timeout_text(alloc, *rounds),
-        OpResult::Unsent => Ok(String::from_str(alloc, "unsent")?),
-        OpResult::LinkLost => Ok(String::from_str(alloc, "link lost")?),
-        OpResult::Garbled => Ok(String::from_str(alloc, "garbled")?),
+        OpResult::Value(words) => push_value(text, words.as_slice()),
+        OpResult::Done => Ok(text.push_str("done")?),
+        OpResult::Was(word) => push_was(text, *word),
+        OpResult::Error { code, after } => push_error(text, *code, *after),
+        OpResult::Skipped => Ok(text.push_str("skipped")?),
+        OpResult::TimedOut { rounds } => push_timeout(text, *rounds),
+        OpResult::Unsent => Ok(text.push_str("unsent")?),
+        OpResult::LinkLost => Ok(text.push_str("link lost")?),
+        OpResult::Garbled => Ok(text.push_str("garbled")?),
     }
 }
 
-fn place_text(alloc: Global, place: (u64, u16)) -> Result<String, NoMemory>
-    ensures { IfOk result (λ text. string_bytes text ≡ spec.place_text place) }
+/// The place of a body and the number of a transaction in it.
+fn push_place(text: &mut String, place: (u64, u16)) -> Result<(), NoMemory>
+    ensures { OnOk result (string_bytes text.new ≡ string_bytes text.old ++ spec.place_text place) }
 {
     let (place, transaction) = place;
-    Ok(format!(in alloc; "{place}.{transaction}")?)
+    Ok(write!(text, "{place}.{transaction}")?)
 }
 
 /// Places behind the first, each behind a comma.
-fn push_places(alloc: Global, text: &mut String, places: &[(u64, u16)]) -> Result<(), NoMemory>
+fn push_more_places(text: &mut String, places: &[(u64, u16)]) -> Result<(), NoMemory>
     ensures { OnOk result (string_bytes text.new ≡ string_bytes text.old ++ spec.more_places places.now) }
 {
     for place in places {
-        let next = place_text(alloc, *place)?;
         text.push_str(",")?;
-        text.push_str(next.as_str())?;
+        push_place(text, *place)?;
     }
     Ok(())
 }
 
-fn places_text(alloc: Global, places: &[(u64, u16)]) -> Result<String, NoMemory>
-    ensures { IfOk result (λ text. string_bytes text ≡ spec.places_text places.now) }
+/// The places of an operation, behind an at sign, where it has any.
+fn push_places(text: &mut String, places: &[(u64, u16)]) -> Result<(), NoMemory>
+    ensures { OnOk result (string_bytes text.new ≡ string_bytes text.old ++ spec.places_text places.now) }
 {
     match places {
-        [] => Ok(String::new(alloc)),
+        [] => Ok(()),
         [first, others @ ..] => {
-            let mut text = String::from_str(alloc, " @")?;
-            let first = place_text(alloc, *first)?;
-            text.push_str(first.as_str())?;
-            push_places(alloc, &mut text, others)?;
-            Ok(text)
+            text.push_str(" @")?;
+            push_place(text, *first)?;
+            push_more_places(text, others)
         }
     }
 }
 
 /// What stands before the result: number, verb and register.
-fn asked_text(alloc: Global, line: &OpLine) -> Result<String, NoMemory>
-    ensures { IfOk result (λ text. string_bytes text ≡ spec.asked_text line.now) }
+fn push_asked(text: &mut String, line: &OpLine) -> Result<(), NoMemory>
+    ensures { OnOk result (string_bytes text.new ≡ string_bytes text.old ++ spec.asked_text line.now) }
 {
     let number = line.number;
     let verb = verb_text(line.verb);
     let board = line.board.as_str();
     let name = line.name.as_str();
-    Ok(format!(in alloc; "{number} {verb} {board}:{name} ")?)
+    Ok(write!(text, "{number} {verb} {board}:{name} ")?)
 }
 
-/// The line of an operation as a text.
-fn op_text(alloc: Global, line: &OpLine) -> Result<String, NoMemory>
-    ensures { IfOk result (λ text. string_bytes text ≡ spec.line_text line.now) }
+/// The line of an operation, its line feed included.
+fn push_line(text: &mut String, line: &OpLine) -> Result<(), NoMemory>
+    ensures { OnOk result (string_bytes text.new ≡ string_bytes text.old ++ spec.line_text line.now) }
 {
-    let mut text = asked_text(alloc, line)?;
-    let came_to = result_text(alloc, &line.result)?;
-    let places = places_text(alloc, line.places.as_slice())?;
-    text.push_str(came_to.as_str())?;
-    text.push_str(places.as_str())?;
-    text.push_str("\n")?;
-    Ok(text)
+    push_asked(text, line)?;
+    push_result(text, &line.result)?;
+    push_places(text, line.places.as_slice())?;
+    Ok(text.push_str("\n")?)
 }
 
 /// The line of an operation, its line feed included (profile).
 pub fn line_text(alloc: Global, line: &OpLine) -> Result<Vec<u8>, NoMemory>
     ensures { IfOk result (λ text. text.items ≡ spec.line_text line.now) }
 {
-    Ok(op_text(alloc, line)?.into_bytes())
+    let mut text = String::new(alloc);
+    push_line(&mut text, line)?;
+    Ok(text.into_bytes())
 }
 
 /// The heading of a client, whose number counts from 1.
-fn heading(alloc: Global, client: u64) -> Result<String, NoMemory>
-    ensures { IfOk result (λ text. string_bytes text ≡ spec.heading client) }
+fn push_heading(text: &mut String, client: u64) -> Result<(), NoMemory>
+    ensures { OnOk result (string_bytes text.new ≡ string_bytes text.old ++ spec.heading client) }
 {
-    Ok(format!(in alloc; "client {client}\n")?)
+    Ok(write!(text, "client {client}\n")?)
 }
 
 /// The lines, each behind the one before.
-fn push_lines(alloc: Global, text: &mut String, lines: &[OpLine]) -> Result<(), NoMemory>
+fn push_lines(text: &mut String, lines: &[OpLine]) -> Result<(), NoMemory>
     ensures { OnOk result (string_bytes text.new ≡ string_bytes text.old ++ spec.lines_text lines.now) }
 {
     for line in lines {
-        let next = op_text(alloc, line)?;
-        text.push_str(next.as_str())?;
+        push_line(text, line)?;
     }
     Ok(())
 }
 
 /// Each client's heading and lines, the first of which has this number.
-fn push_clients(alloc: Global, text: &mut String, clients: &[Vec<OpLine>]) -> Result<(), NoMemory>
+fn push_clients(text: &mut String, clients: &[Vec<OpLine>]) -> Result<(), NoMemory>
     ensures { let lines = map (λ client. client.items) clients.now in
         OnOk result (string_bytes text.new ≡ string_bytes text.old ++ spec.clients_text 1 lines) }
 {
     for (i, lines) in clients.iter().enumerate() {
-        let heading = heading(alloc, i as u64 + 1)?;
-        text.push_str(heading.as_str())?;
-        push_lines(alloc, text, lines.as_slice())?;
+        push_heading(text, i as u64 + 1)?;
+        push_lines(text, lines.as_slice())?;
     }
     Ok(())
 }
@@ -258,7 +247,7 @@ pub fn transcript_text(
         ≡ spec.transcript_text (record { clients = lines; boards = boards.now })) }
 {
     let mut text = String::new(alloc);
-    push_clients(alloc, &mut text, clients)?;
+    push_clients(&mut text, clients)?;
     push_boards(alloc, &mut text, boards)?;
     Ok(text.into_bytes())
 }

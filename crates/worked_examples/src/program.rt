@@ -243,10 +243,11 @@ fn the_first_write_fails(rt: HostRuntime) -> Result<(), Fail> {
     Ok(())
 }
 
-/// What a session gets over a rack whose makes and calls with these numbers fail.
+/// What these words get over a rack whose makes and calls with these numbers fail.
 fn over_failing<T: Threads + Wait + Sync>(
     rt: &T,
     alloc: Global,
+    words: &[&str],
     makes: &[u64],
     calls: &[u64],
 ) -> Result<(u8, Vec<u8>), NoMemory> {
@@ -257,7 +258,7 @@ fn over_failing<T: Threads + Wait + Sync>(
     let status = control(
         rt,
         alloc,
-        &run_word(alloc)?,
+        &words_of(alloc, words)?,
         &mut input,
         &mut out,
         &mut rack,
@@ -269,7 +270,7 @@ fn over_failing<T: Threads + Wait + Sync>(
 
 #[test]
 fn a_link_that_cannot_be_made(rt: HostRuntime) -> Result<(), Fail> {
-    let (status, text) = over_failing(&rt, rt.alloc(), &[1], &[])?;
+    let (status, text) = over_failing(&rt, rt.alloc(), &["run"], &[1], &[])?;
     assert_eq!(rt; status, RACK_FAULT);
     assert_eq!(rt; text.as_slice(), b"".as_slice());
     Ok(())
@@ -286,7 +287,7 @@ fn a_link_that_fails(rt: HostRuntime) -> Result<(), Fail> {
         (4, NOT_ALL_DONE, LOST),
         (5, DONE, TRANSCRIPT),
     ] {
-        let (status, text) = over_failing(&rt, alloc, &[], &[call])?;
+        let (status, text) = over_failing(&rt, alloc, &["run"], &[], &[call])?;
         assert_eq!(rt; status, wanted_status, "call {call}");
         assert_eq!(rt; text.as_slice(), wanted.as_bytes(), "call {call}");
     }
@@ -320,5 +321,17 @@ fn a_load(rt: HostRuntime) -> Result<(), Fail> {
         assert_eq!(rt; status, DONE, "load {count}");
         assert_eq!(rt; text.as_slice(), wanted.as_bytes(), "load {count}");
     }
+    Ok(())
+}
+
+/// The first call is that of the greeting, so the board is down and nothing was done.
+#[test]
+fn a_load_over_a_link_that_fails(rt: HostRuntime) -> Result<(), Fail> {
+    let (status, text) = over_failing(&rt, rt.alloc(), &["load", "5"], &[], &[1])?;
+    assert_eq!(rt; status, NOT_ALL_DONE);
+    assert_eq!(rt;
+        text.as_slice(),
+        b"load 5\ndone 0\nwas total 0\nplaces 0\n".as_slice()
+    );
     Ok(())
 }

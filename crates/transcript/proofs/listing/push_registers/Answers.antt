@@ -9,7 +9,7 @@ use Rattle.transcript.proofs.listing.push_registers.Goals as goal
 pub loop-i-preserved : goal.loop-i-preserved
 loop-i-preserved c =
     let rest = ap (flat_map spec.register_text) (drop_at (entries c.args.index.now) c.loop-i.i _ c.at.ensures.entry) in
-    rw (c.in_ok-push_str.ensures.bytes, c.as_str.ensures.value, c.in_ok-line.ensures, append_assoc)
+    rw (c.in_ok-push_register.ensures, append_assoc)
     (rw rest at c.loop-i.invariant)
 
 pub returns : goal.returns
