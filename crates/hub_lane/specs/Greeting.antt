@@ -7,7 +7,6 @@ use Rattle.status_packet.specs.declared.status.Status.{Status}
 use Rattle.world_model.specs.Facts.{IsStart}
 use Rattle.reliable_engine.specs.Settings.{Limits}
 use Rattle.world_core.specs.Telling.{Telling}
-use Rattle.hub_lane.specs.declared.greeting.TheConstants.{MOST_OTHERS}
 use Rattle.hub_lane.specs.declared.greeting.Answer.{Answer}
 use Rattle.hub_lane.specs.declared.greeting.Answer.TheVariants as answer
 use Rattle.hub_lane.specs.declared.greeting.Greeted.{Greeted}
@@ -97,10 +96,14 @@ EndsAskingWith settings quiets quiets_now held held_now (Some status) old new =
     IsGreeted settings (status_of status) new
 EndsAskingWith settings quiets quiets_now held held_now None old new = (quiets + 1 ≤ quiets_now) × Rose held held_now
 
+-- how many other datagrams a round hears at most
+abbrev pub most_others : ℕ
+most_others = 64
+
 -- a round without a status reply ends at a quiet receive, or after as many other datagrams as it hears at most
 abbrev pub IsCounted : ℕ → ℕ → ℕ → ℕ → Type 0
 IsCounted quiets quiets_now gots gots_now =
-    MOST_OTHERS + MOST_OTHERS * quiets + gots ≤ MOST_OTHERS * quiets_now + gots_now
+    most_others + most_others * quiets + gots ≤ most_others * quiets_now + gots_now
 
 abbrev pub IfNotTold : Option Status → Type 0 → Type 0
 IfNotTold None P = P

@@ -9,9 +9,8 @@ ghost use Rattle.status_packet.specs.StatusBytes.{IsStatusReply};
 ghost use Rattle.hub_lane.specs.Greeting.{CanBegin, EndsAskingWith, EndsGreetingWith, EndsRoundWith, IfDown, IfNotTold};
 ghost use Rattle.hub_lane.specs.Greeting.{IfReady, IfSilent, IfTold, IsCounted, IsDatagram, IsHeardFrom, IsTold};
 ghost use Rattle.hub_lane.specs.Greeting.{HandedOutNone, IfNothing, IsUnused, StaysFresh, gots_of_answer, link_of};
-ghost use Rattle.hub_lane.specs.Greeting.{quiets_of_answer};
+ghost use Rattle.hub_lane.specs.Greeting.{most_others, quiets_of_answer};
 ghost use Rattle.hub_lane.specs.Lanes.{IsGreeted, opened, status_of};
-ghost use Rattle.hub_lane.specs.declared.greeting.TheConstants.{MOST_OTHERS};
 
 use crate::lane::Lane;
 use reliable_engine::Settings;
@@ -59,7 +58,7 @@ impl<L: Link> Lane<L> {
         ensures ready { IfReady result (λ lane. lane ≡ opened lane.link settings lane.status) }
         ensures told { IfReady result (λ lane. IfSome (L.telling lane.link) (IsGreeted settings lane.status)) }
         ensures silent { IfSilent result (λ link rounds. (rounds ≡ settings.rounds)
-            × (MOST_OTHERS * settings.rounds ≤ MOST_OTHERS * L.quiets link + L.gots link)) }
+            × (most_others * settings.rounds ≤ most_others * L.quiets link + L.gots link)) }
         ensures silent_told { IfSilent result (λ link rounds. IfSome (L.telling link)
             (λ _. (settings.rounds ≤ L.quiets link) × (settings.rounds ≤ L.held link))) }
         // All that a link that tells hands out in a greeting are status replies of its board.
@@ -67,7 +66,7 @@ impl<L: Link> Lane<L> {
             IfTelling (L.telling link) (L.telling after) HandedOutNone) }
         ensures heard { IfReady result (λ lane. 1 ≤ L.gots lane.link) }
         ensures most_quiets { L.quiets (link_of result) ≤ settings.rounds }
-        ensures most_gots { L.gots (link_of result) ≤ MOST_OTHERS * settings.rounds }
+        ensures most_gots { L.gots (link_of result) ≤ most_others * settings.rounds }
         ensures down { IfDown result (λ after. Rose (L.faults link) (L.faults after)) }
         ensures faults { L.faults link ≤ L.faults (link_of result) }
     {
@@ -112,12 +111,12 @@ fn ask_for_status<L: Link>(
     ensures told { IfOk result (λ found. IfSome (L.telling link.new)
         (EndsGreetingWith settings (L.quiets link.new) (L.held link.new) found)) }
     ensures silent { IfOk result (λ found. IfNotTold found
-        (MOST_OTHERS * settings.rounds ≤ MOST_OTHERS * L.quiets link.new + L.gots link.new)) }
+        (most_others * settings.rounds ≤ most_others * L.quiets link.new + L.gots link.new)) }
     ensures handed { IfOk result (λ found. IfNotTold found
         (IfTelling (L.telling link.old) (L.telling link.new) HandedOutNone)) }
     ensures heard { IfOk result (λ found. IfSome found (λ _. 1 ≤ L.gots link.new)) }
     ensures most_quiets { L.quiets link.new ≤ settings.rounds }
-    ensures most_gots { L.gots link.new ≤ MOST_OTHERS * settings.rounds }
+    ensures most_gots { L.gots link.new ≤ most_others * settings.rounds }
     ensures failed { result ≡ Err LinkFault.Failed → Rose (L.faults link.old) (L.faults link.new) }
     ensures faults { L.faults link.old ≤ L.faults link.new }
 {
@@ -136,7 +135,7 @@ fn ask_once<L: Link>(
     settings: Settings,
 ) -> Result<Option<Status>, LinkFault>
     requires few_quiets { L.quiets link.old ≤ 255 }
-    requires few_gots { L.gots link.old ≤ MOST_OTHERS * 255 }
+    requires few_gots { L.gots link.old ≤ most_others * 255 }
     requires begins { IfSome (L.telling link.old) (CanBegin settings) }
     ensures fresh { IfTelling (L.telling link.old) (L.telling link.new) (StaysFresh settings) }
     ensures told { IfOk result (λ found. IfTelling (L.telling link.old) (L.telling link.new)
@@ -148,7 +147,7 @@ fn ask_once<L: Link>(
     ensures heard { IfOk result (λ found. IfSome found (λ _. L.gots link.old + 1 ≤ L.gots link.new)) }
     ensures quiets { L.quiets link.new ≤ L.quiets link.old + 1 }
     ensures quiets_rise { L.quiets link.old ≤ L.quiets link.new }
-    ensures gots { L.gots link.new ≤ L.gots link.old + MOST_OTHERS }
+    ensures gots { L.gots link.new ≤ L.gots link.old + most_others }
     ensures gots_rise { L.gots link.old ≤ L.gots link.new }
     ensures failed { result ≡ Err LinkFault.Failed → Rose (L.faults link.old) (L.faults link.new) }
     ensures faults { L.faults link.old ≤ L.faults link.new }
@@ -167,7 +166,7 @@ fn listen<L: Link>(
     settings: Settings,
 ) -> Result<Option<Status>, LinkFault>
     requires few_quiets { L.quiets link.old ≤ 255 }
-    requires few_gots { L.gots link.old ≤ MOST_OTHERS * 255 }
+    requires few_gots { L.gots link.old ≤ most_others * 255 }
     requires begins { IfSome (L.telling link.old) (CanBegin settings) }
     ensures fresh { IfTelling (L.telling link.old) (L.telling link.new) (StaysFresh settings) }
     ensures told { IfOk result (λ found. IfTelling (L.telling link.old) (L.telling link.new)
@@ -179,7 +178,7 @@ fn listen<L: Link>(
     ensures heard { IfOk result (λ found. IfSome found (λ _. L.gots link.old + 1 ≤ L.gots link.new)) }
     ensures quiets { L.quiets link.new ≤ L.quiets link.old + 1 }
     ensures quiets_rise { L.quiets link.old ≤ L.quiets link.new }
-    ensures gots { L.gots link.new ≤ L.gots link.old + MOST_OTHERS }
+    ensures gots { L.gots link.new ≤ L.gots link.old + most_others }
     ensures gots_rise { L.gots link.old ≤ L.gots link.new }
     ensures failed { result ≡ Err LinkFault.Failed → Rose (L.faults link.old) (L.faults link.new) }
     ensures faults { L.faults link.old ≤ L.faults link.new }
