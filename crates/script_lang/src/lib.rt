@@ -30,4 +30,3 @@ pub use refusal::{DocWhy, MAX_BOARDS, MAX_CLIENTS, SessionRefusal};
 pub use reliable_engine::Settings;
 pub use script_refusal::{MAX_BLOCK_WORDS, MAX_LINES, MAX_OPERATIONS, ScriptRefusal, ScriptWhy};
 pub use session::{Boards, Script, Scripts, Session};
-pub use texts::decimal_between;

@@ -174,8 +174,8 @@ impl<V: Chronicle + Send> Turn<V> {
     }
 }
 
-/// How often a thread gives way between two exchanges. Each exchange takes the word of the slot from the processor of
-/// the thread that holds the value, so a few more make that thread faster.
+/// How often a thread that waits gives way between two exchanges (profile). So it asks less often for the word of the
+/// slot, which the thread that gives the value back needs too.
 const GIVES_WAY: u32 = 8;
 
 /// Lets other threads run.
