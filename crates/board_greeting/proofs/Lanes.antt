@@ -1,6 +1,7 @@
 -- A lane and the board of its document.
-use Rattle.std.proofs.Common.{◌≡◌, ℕ, ◌*◌, ◌∙◌, Bool, List, Option, Some, None, refl, sym, ap, subst, arith}
+use Rattle.std.proofs.Common.{◌≡◌, ℕ, ◌*◌, ◌∙◌, Bool, List, [], ◌∷◌, Option, Some, None, refl, sym, ap, subst, arith}
 use Rattle.std.specs.Prelude.{IfSome}
+use Rattle.std.specs.List.{AllByRecursion}
 use Rattle.ipb_base.specs.Numbers.{payload_of}
 use Rattle.status_packet.specs.Range.{IsMtu}
 use Rattle.board_bus.specs.Cells.{CellMap}
@@ -23,8 +24,11 @@ use Rattle.direct_run.specs.Runs.{opening_of as opens_with}
 use Rattle.sound_lanes.specs.Reports.{OpenedWith, board_there, report_of}
 use Rattle.hub_lane.specs.Heard.{HasHeard}
 use Rattle.hub_lane.specs.Lanes.{BoardStatus, HasToldStatus, IsGreeted, IsLane, LaneState, opening_of}
-use Rattle.hub_lane.specs.declared.greeting.Greeted.TheVariants.{Ready}
-use Rattle.board_greeting.specs.Boards.{IsEndedLane, IsKnownAs, IsLaneTo, IsReached, head_shown}
+use Rattle.hub_lane.specs.declared.greeting.Greeted.{Greeted}
+use Rattle.hub_lane.specs.declared.greeting.Greeted.TheVariants.{Ready, Silent, Down, NoMemory}
+use Rattle.board_greeting.specs.Boards.{AreReached, HasNoEntry, IsEndedLane, IsKnownAs, IsLaneTo, IsReached}
+use Rattle.board_greeting.specs.Boards.{head_shown}
+use Rattle.board_greeting.specs.Places.{lanes_in}
 
 -- ---- the board
 
@@ -158,3 +162,20 @@ lane_back {L} tells shown settings spec old new reached board head =
       board' = subst (λ (o : Option CellMap). IsKnownAs spec.link new.status o) (sym opening)
           (subst (λ (s : BoardStatus). IsKnownAs spec.link s (opening_of (tells old.link))) (sym status) known);
     }
+
+-- ---- the lanes that go to the hub
+
+-- a lane that was just opened has no entry
+pub lanes_unused : {L : Type 0} (tells : L → Option Telling) (shows : L → LinkReport) (settings : Limits)
+    (specs : List BoardSpec) (boards : List (Greeted L)) → AreReached tells shows settings specs boards
+    → AllByRecursion HasNoEntry (lanes_in boards)
+lanes_unused tells shows settings specs [] are = tt
+lanes_unused tells shows settings [] (b ∷ boards) are = absurd are
+lanes_unused tells shows settings (s ∷ specs) (Ready lane ∷ boards) are =
+    (ap (λ (l : LaneState _). l.items) are.0.as_told.opened', lanes_unused tells shows settings specs boards are.1)
+lanes_unused tells shows settings (s ∷ specs) (Silent link rounds ∷ boards) are =
+    lanes_unused tells shows settings specs boards are.1
+lanes_unused tells shows settings (s ∷ specs) (Down link ∷ boards) are =
+    lanes_unused tells shows settings specs boards are.1
+lanes_unused tells shows settings (s ∷ specs) (NoMemory link ∷ boards) are =
+    lanes_unused tells shows settings specs boards are.1

@@ -3,6 +3,7 @@ use Rattle.std.proofs.Common.{◌≡◌, ℕ, ◌+◌, ◌≤◌, ◌<◌, ◌�
 use Rattle.std.proofs.Common.{arith}
 use Rattle.std.proofs.Common.{append_assoc, append-nil, length-append}
 use Rattle.std.specs.List.{AllByRecursion}
+use Rattle.std.proofs.lemmas.List.{nil_from_length}
 use Rattle.hub_lane.specs.declared.greeting.Greeted.{Greeted}
 use Rattle.hub_lane.specs.declared.greeting.Greeted.TheVariants.{Ready, Silent, Down, NoMemory}
 use Rattle.hub_lane.specs.Lanes.{LaneState}
@@ -48,14 +49,10 @@ split_more {L} boards rest later board old new position so_far is at places posi
       memory = here.memory.1;
     }
 
-no_more : {A : Type 0} (xs : List A) → length xs ≡ 0 → xs ≡ []
-no_more [] over = refl
-no_more (x ∷ xs) over = absurd cc
-
 pub split_all : {L : Type 0} (boards rest : List (Greeted L)) (split : Split L) → SplitSoFar boards rest split
     → length rest ≡ 0 → IsApart boards split
 split_all {L} boards rest split so_far over =
-    let none = no_more rest over in
+    let none = nil_from_length rest over in
     let here = subst (λ (r : List (Greeted L)). SplitSoFar boards r split) none so_far in
     record {
       places' = sym (append-nil split.places.items) ∙ here.places';

@@ -6,3 +6,4 @@ pub mod Alone
 pub mod OwnPlaces
 pub mod Merging
 mod PlacesShown
+pub mod OneRead

@@ -9,6 +9,7 @@ use Rattle.std.proofs.lemmas.Bool.Decides.{nat_tests}
 use Rattle.std.proofs.lemmas.List.{length-map, map-append}
 use Rattle.ipb_base.specs.Lists.{IsPrefix}
 use Rattle.ipb_base.proofs.AllLemmas.{AllByRecursion-append}
+use Rattle.world_model.proofs.Lists.{either}
 use Rattle.lane_record.specs.declared.outcome.Outcome.{Outcome}
 use Rattle.lane_record.specs.declared.outcome.Outcome.TheVariants.{Replied, TimedOut, Unsent, LinkLost}
 use Rattle.lane_record.specs.Outcomes.{place_of}
@@ -19,7 +20,6 @@ use Rattle.board_history.specs.Parts.{HasOneOrder, KeepsScripts, IsExecuted, IsE
 use Rattle.board_history.specs.Merges.{IsSubsequence, Owned, bodies_by, bodies_owned, IsOfClients, AreSubsequences}
 use Rattle.board_history.specs.Merges.{AreMerged, IsMergeOfSome, IsMergeOfAll}
 use Rattle.board_history.proofs.Sorting as sorting
-use Rattle.board_history.proofs.Sorting.{either}
 use Rattle.board_history.proofs.Only.{client_placed, one_by_one}
 
 -- ---- a front of a merge is a merge
@@ -341,7 +341,7 @@ as_bodies : (ts : List Tagged) → bodies_of (map as_placed ts) ≡ map body_in 
 as_bodies [] = refl
 as_bodies (t ∷ ts) = ap (λ (bs : List (List ℕ)). t.body ∷ bs) (as_bodies ts)
 
-sub_skip : (xs : List (List ℕ)) (y : List ℕ) (ys : List (List ℕ)) → IsSubsequence xs ys → IsSubsequence xs (y ∷ ys)
+pub sub_skip : (xs : List (List ℕ)) (y : List ℕ) (ys : List (List ℕ)) → IsSubsequence xs ys → IsSubsequence xs (y ∷ ys)
 sub_skip [] y ys s = tt
 sub_skip (x ∷ xs) y ys s = inr s
 

@@ -5,6 +5,7 @@ use Rattle.std.specs.Prelude.{nat_le}
 use Rattle.std.specs.List.{AllByRecursion, slice_get, zip}
 use Rattle.std.proofs.lemmas.Option.{same_Some}
 use Rattle.ipb_base.proofs.AllLemmas.{front_of_all, back_of_all, all-map}
+use Rattle.world_model.proofs.Lists.{either}
 use Rattle.lane_record.specs.declared.outcome.Outcome.{Outcome}
 use Rattle.transcript.specs.declared.body_end.BodyEnd.{BodyEnd}
 use Rattle.transcript.specs.declared.board_run.ClientPart.{ClientPart}
@@ -14,7 +15,7 @@ use Rattle.transcript.specs.Claims.{Rises, HaveOwnPlaces}
 use Rattle.board_history.specs.Order.{Placed, with_place, placed, all_placed, insert, by_place, order, places_of}
 use Rattle.lane_record.specs.Lists.{CountsFrom}
 use Rattle.board_history.specs.Parts.{HasOneOrder}
-use Rattle.board_history.proofs.Sorting.{either, IsAbove, counts_above, inserted_all, sorted_all}
+use Rattle.board_history.proofs.Sorting.{IsAbove, counts_above, inserted_all, sorted_all}
 
 abbrev pub IsApart : Placed → Placed → Type 0
 IsApart p q = p.place ≢ q.place

@@ -6,6 +6,7 @@ use Rattle.std.specs.List.{AllByRecursion, Any, count_by, slice_get, zip}
 use Rattle.std.proofs.lemmas.Bool.{cases_eq}
 use Rattle.std.proofs.lemmas.Option.{same_Some}
 use Rattle.mtu_packer.proofs.AnyLemmas.{any_nowhere, any_here, any_later, any_cases, any_front, any_back, any_append}
+use Rattle.world_model.proofs.Lists.{either}
 use Rattle.script_lang.specs.declared.operation.Step.{Step}
 use Rattle.transcript.specs.declared.greeting.Greeting.{Greeting}
 use Rattle.transcript.specs.declared.greeting.Greeting.TheVariants.{Live, Silent, Down}
@@ -22,7 +23,6 @@ use Rattle.transcript.proofs.ShownLines.{planned_there, place_on_live}
 use Rattle.board_history.specs.Order.{Placed, with_place, placed, all_placed, insert, by_place, places_of}
 use Rattle.lane_record.specs.Lists.{CountsFrom}
 use Rattle.board_history.specs.History.{IsOrdered, bodies_by_client, outcomes_by_client}
-use Rattle.board_history.proofs.Sorting.{either}
 use Rattle.board_history.proofs.Sends.{sends_are_the_order}
 
 abbrev IsAt : ℕ → Placed → Type 0

@@ -12,6 +12,7 @@ use Rattle.lane_record.specs.declared.item.What.TheVariants.{Plan, Seal, Ask, To
 use Rattle.lane_record.specs.Items.{ask_in, found, numbers, plan_in, took_in}
 use Rattle.lane_record.specs.Dispatches.{Action, Planned, Sealed, Asked, Taken, NumberedAction, action_of, asks_from}
 use Rattle.lane_record.specs.Dispatches.{dispatches_from, joined, numbered_action, plans_from, tooks_from}
+use Rattle.hub_lane.proofs.TakenRows.{or_right}
 
 -- ---- counts of actions
 
@@ -120,10 +121,6 @@ some_first : {A : Type 0} (o p : Option A) → is_some o ≡ true → is_some (o
 some_first None p e = absurd (cc)
 some_first (Some x) p e = refl
 
-some_second : {A : Type 0} (o p : Option A) → is_some p ≡ true → is_some (option_or o p) ≡ true
-some_second None p e = e
-some_second (Some x) p e = refl
-
 none_both : {A : Type 0} (o p : Option A) → o ≡ None → p ≡ None → option_or o p ≡ None
 none_both None p e f = f
 none_both (Some x) p e f = absurd (cc)
@@ -143,7 +140,7 @@ pub takes_append : (a b c : ℕ) (xs ys : List NumberedAction) → Takes a b xs 
 takes_append a b c xs ys t u le le' = record {
   inside = λ seq low high. subst (λ o. is_some o ≡ true) (sym (taken_append seq xs ys)) (elim (cases_lt seq b) [
     | inl lt ↦ some_first (taken_of seq xs) (taken_of seq ys) (t.inside seq low lt)
-    | inr ge ↦ some_second (taken_of seq xs) (taken_of seq ys) (u.inside seq ge high)
+    | inr ge ↦ or_right (taken_of seq xs) (taken_of seq ys) (u.inside seq ge high)
   ]);
   before = λ seq lt. taken_append seq xs ys ∙ none_both (taken_of seq xs) (taken_of seq ys) (t.before seq lt)
       (u.before seq (omega arith));
@@ -181,7 +178,7 @@ tooks_plan_nothing : (seq : ℕ) (outcomes : List Outcome) → count one_if_plan
 tooks_plan_nothing seq [] = refl
 tooks_plan_nothing seq (o ∷ os) = let h = tooks_plan_nothing (seq + 1) os in omega arith
 
-abbrev taken_now : ℕ → Outcome → NumberedAction
+abbrev pub taken_now : ℕ → Outcome → NumberedAction
 taken_now seq outcome = record { seq = seq; action = Taken outcome }
 
 if_same : {A : Type 0} (a b : ℕ) (o p : Option A) → a ≡ b → (if a == b then o else p) ≡ o
@@ -305,9 +302,9 @@ taken_so_far ds asks outcomes =
     (omega arith)) (omega arith) (omega arith)
 
 -- one more dispatch
-joined_push : (ds : List (List Outcome)) (o : List Outcome) → joined (ds ++ o ∷ []) ≡ joined ds ++ o
-joined_push [] o = append-nil o
-joined_push (d ∷ ds) o = ap (λ (l : List Outcome). d ++ l) (joined_push ds o) ∙ sym (append_assoc d (joined ds) o)
+pub joined_more : (ds : List (List Outcome)) (o : List Outcome) → joined (ds ++ o ∷ []) ≡ joined ds ++ o
+joined_more [] o = append-nil o
+joined_more (d ∷ ds) o = ap (λ (l : List Outcome). d ++ l) (joined_more ds o) ∙ sym (append_assoc d (joined ds) o)
 
 dispatch_push : (seq : ℕ) (ds : List (List Outcome)) (o : List Outcome)
     → dispatches_from seq (ds ++ o ∷ []) ≡ dispatches_from seq
@@ -328,9 +325,6 @@ dispatch_push seq (d ∷ ds) o =
     ∙ (ap (λ (l : List NumberedAction). asks ++ l)
     (sym (append_assoc tooks rest (last (seq + length (joined (d ∷ ds))))))
     ∙ sym (append_assoc asks (tooks ++ rest) (last (seq + length (joined (d ∷ ds))))))
-
-pub joined_more : (ds : List (List Outcome)) (o : List Outcome) → joined (ds ++ o ∷ []) ≡ joined ds ++ o
-joined_more = joined_push
 
 pub dispatch_done : (ds : List (List Outcome)) (o : List Outcome) → so_far ds (length o) o ≡ so_far (ds ++ o ∷ []) 0 []
 dispatch_done ds o =

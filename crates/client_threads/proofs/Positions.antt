@@ -18,6 +18,7 @@ use Rattle.hub_lane.specs.declared.answers.Asked.TheVariants as asks
 use Rattle.hub_multiplexer.specs.OwnItems.{IsOldestOf, asked_by, own_items, planned_by}
 use Rattle.hub_multiplexer.specs.Calls.{Adds, AskMeans, FoundLane, IsNone, MadeInTime, PerformMeans}
 use Rattle.hub_multiplexer.specs.declared.answers.Performed.TheVariants as performs
+use Rattle.hub_multiplexer.proofs.AskedAll.{read_back}
 use Rattle.client_threads.specs.Running.{AddsNoPlan, HasAskedMore, HasTakenThese, IsAt, Position, actions_at, asking}
 use Rattle.client_threads.specs.Running.{behind, between, taking}
 use Rattle.client_threads.proofs.Actions.{AreOf, Takes, asked_counted, asked_so_far, asks_push, count, count_append}
@@ -27,10 +28,6 @@ use Rattle.client_threads.proofs.Actions.{plans_counted, plans_take_nothing, tak
 use Rattle.client_threads.proofs.Actions.{tooks_push}
 
 -- ---- what the client's own entries are
-
-read_back : (xs : List Item) → filter_map item_from (map recorded xs) ≡ xs
-read_back [] = refl
-read_back (x ∷ xs) = rw (read_item x) (ap (λ (l : List Item). x ∷ l) (read_back xs))
 
 -- the Plans and then what was done
 abbrev all_items : (p : Position) (k : Knowledge) → IsAt p k → List Item
@@ -43,7 +40,7 @@ own_are p k i =
     ap (λ (n : ℕ). made_by n k.opening.entries) i.number ∙ i.plans.entries in
     ap (λ (l : List Recorded). filter_map item_from (l ++ k.mine)) there
     ∙ (ap (λ (l : List Recorded). filter_map item_from (map recorded plans ++ l)) i.coded
-    ∙ (ap (filter_map item_from) (sym (map-append recorded plans i.items)) ∙ read_back (plans ++ i.items)))
+    ∙ (ap (filter_map item_from) (sym (map-append recorded plans i.items)) ∙ read_back read_item (plans ++ i.items)))
 
 all_are_of : (p : Position) (k : Knowledge) (i : IsAt p k) → AreOf p.client (all_items p k i)
 all_are_of p k i = of_append p.client (plans_from p.client 0 i.plans.bodies) i.items

@@ -21,6 +21,7 @@ use Rattle.client_threads.specs.declared.result.ClientResult.{ClientResult}
 use Rattle.client_threads.specs.Clients.{DidPlan, HasTook, counts_on, outcome_of}
 use Rattle.client_threads.proofs.Each.{sum_joined}
 use Rattle.client_threads.proofs.Jobs.{all_get, map_get}
+use Rattle.client_threads.proofs.Actions.{taken_now}
 
 -- x stands in xs
 abbrev Has : {A : Type 0} → List A → A → Type 0
@@ -38,19 +39,16 @@ has_second : {A : Type 0} (xs ys : List A) (x : A) → Has ys x → Has (xs ++ y
 has_second [] ys x h = h
 has_second (z ∷ zs) ys x h = let later = has_second zs ys x h in (suc later.0, later.1)
 
-abbrev taken : ℕ → Outcome → NumberedAction
-taken seq outcome = record { seq = seq; action = Taken outcome }
-
 took_there : (seq : ℕ) (outcomes : List Outcome) (i : ℕ) (outcome : Outcome) → slice_get outcomes i ≡ Some outcome
-    → Has (tooks_from seq outcomes) (taken (seq + i) outcome)
+    → Has (tooks_from seq outcomes) (taken_now (seq + i) outcome)
 took_there seq [] i outcome e = absurd (none-some outcome e)
 took_there seq (o ∷ os) zero outcome e =
     let n : seq ≡ seq + 0 = omega arith in
-    (0, ap Some ((λ j. taken (n j) (same_Some o outcome e j))))
+    (0, ap Some ((λ j. taken_now (n j) (same_Some o outcome e j))))
 took_there seq (o ∷ os) (suc i) outcome e =
     let later = took_there (seq + 1) os i outcome e in
     let n : seq + 1 + i ≡ seq + suc i = omega arith in
-    (suc later.0, later.1 ∙ ap (λ (m : ℕ). Some (taken m outcome)) n)
+    (suc later.0, later.1 ∙ ap (λ (m : ℕ). Some (taken_now m outcome)) n)
 
 get_second : {A : Type 0} (xs ys : List A) (i : ℕ) (x : A) → length xs ≤ i → slice_get (xs ++ ys) i ≡ Some x
     → (k : ℕ) × (length xs + k ≡ i) × (slice_get ys k ≡ Some x)
@@ -66,19 +64,19 @@ get_first (z ∷ zs) ys zero x low e = e
 get_first (z ∷ zs) ys (suc i) x low e = get_first zs ys i x (omega arith) e
 
 dispatch_there : (seq : ℕ) (ds : List (List Outcome)) (i : ℕ) (outcome : Outcome)
-    → slice_get (joined ds) i ≡ Some outcome → Has (dispatches_from seq ds) (taken (seq + i) outcome)
+    → slice_get (joined ds) i ≡ Some outcome → Has (dispatches_from seq ds) (taken_now (seq + i) outcome)
 dispatch_there seq [] i outcome e = absurd (none-some outcome e)
 dispatch_there seq (o ∷ ds) i outcome e =
     let asks = asks_from seq (length o) in
     let tooks = tooks_from seq o in
     let rest = dispatches_from (seq + length o) ds in
-    has_second asks (tooks ++ rest) (taken (seq + i) outcome) (elim (cases_lt i (length o)) [
-      | inl low ↦ has_first tooks rest (taken (seq + i) outcome)
+    has_second asks (tooks ++ rest) (taken_now (seq + i) outcome) (elim (cases_lt i (length o)) [
+      | inl low ↦ has_first tooks rest (taken_now (seq + i) outcome)
           (took_there seq o i outcome (get_first o (joined ds) i outcome low e))
       | inr le ↦ let k = get_second o (joined ds) i outcome le e in
           let m = k.1 in
           let n : seq + length o + k.0 ≡ seq + i = omega arith in
-          has_second tooks rest (taken (seq + i) outcome) (subst (λ (q : ℕ). Has rest (taken q outcome)) n
+          has_second tooks rest (taken_now (seq + i) outcome) (subst (λ (q : ℕ). Has rest (taken_now q outcome)) n
           (dispatch_there (seq + length o) ds k.0 outcome k.2))
     ])
 
@@ -111,10 +109,10 @@ pub outcome_took : (lane seq : ℕ) (plan : ClientPlan) (result : ClientResult) 
 outcome_took lane seq plan result pass outcome d e =
     let zero_more : 0 + seq ≡ seq = omega arith in
     let action = dispatch_there 0 d.dispatches seq outcome (sym (outcome_read lane seq plan result pass d) ∙ e) in
-    let at : slice_get (map numbered_action d.items) action.0 ≡ Some (taken seq outcome) =
+    let at : slice_get (map numbered_action d.items) action.0 ≡ Some (taken_now seq outcome) =
     ap (λ (l : List NumberedAction). slice_get l action.0) d.actions
-    ∙ (action.1 ∙ ap (λ (q : ℕ). Some (taken q outcome)) zero_more) in
-    let item = map_get numbered_action d.items action.0 (taken seq outcome) at in
+    ∙ (action.1 ∙ ap (λ (q : ℕ). Some (taken_now q outcome)) zero_more) in
+    let item = map_get numbered_action d.items action.0 (taken_now seq outcome) at in
     let number : item.0.seq ≡ seq = ap (λ (a : NumberedAction). a.seq) item.2 in
     let what = took_is item.0.what outcome (ap (λ (a : NumberedAction). a.action) item.2) in
     let client : item.0.client ≡ plan.client = all_get (λ (x : Item). x.client ≡ plan.client) d.items action.0 item.0

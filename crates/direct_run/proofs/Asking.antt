@@ -12,6 +12,7 @@ use Rattle.transaction_codec.specs.declared.request.Op.{Op}
 use Rattle.transaction_codec.specs.declared.request.Op.TheVariants.{Read, ReadPort, Write, WritePort, RmwBits, RmwSum}
 use Rattle.transaction_codec.specs.declared.request.Request.{Request}
 use Rattle.transaction_codec.specs.Request.{AreRequests, requests_words}
+use Rattle.world_model.proofs.Lists.{get_front}
 use Rattle.mtu_packer.specs.declared.packed.Piece.{Piece}
 use Rattle.mtu_packer.specs.Cutting.{cut, piece}
 use Rattle.mtu_packer.specs.Packing.{requests_from, body_requests, body_words, AreReadable}
@@ -62,11 +63,6 @@ both_same R S [] [] g both = tt
 both_same R S [] (y ∷ ys) g both = absurd both
 both_same R S (x ∷ xs) [] g both = absurd both
 both_same R S (x ∷ xs) (y ∷ ys) g both = (g x y both.0, both_same R S xs ys g both.1)
-
-get_front : {A : Type 0} (xs ys : List A) (k : ℕ) (x : A) → slice_get xs k ≡ Some x → slice_get (xs ++ ys) k ≡ Some x
-get_front [] ys k x here = absurd cc
-get_front (z ∷ xs) ys zero x here = here
-get_front (z ∷ xs) ys (suc k) x here = get_front xs ys k x here
 
 get_back : {A : Type 0} (xs ys : List A) (k : ℕ) (x : A) → slice_get ys k ≡ Some x
     → slice_get (xs ++ ys) (length xs + k) ≡ Some x

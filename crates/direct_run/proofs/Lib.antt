@@ -1,6 +1,6 @@
 mod ReplyWords
 mod Exchanges
-mod Sending
+pub mod Sending
 mod Running
 mod Shown
 pub mod Answering

@@ -1,23 +1,14 @@
 -- What a board can answer is words.
-use Rattle.std.proofs.Common.{ℕ, ◌<◌, ◌^◌, List, [], ◌∷◌, length, sym, subst, inl, inr, arith}
+use Rattle.std.proofs.Common.{ℕ, List, [], ◌∷◌, length, sym, subst, arith}
 use Rattle.ipb_base.specs.Word.{AreWords}
 use Rattle.ipb_base.proofs.WordLemmas.{AreWords-append}
 use Rattle.transaction_codec.specs.declared.reply.Reply.{Reply}
-use Rattle.transaction_codec.specs.Reply.{IsReply, AreReplies, HasForm, Carries, reply_words, replies_words}
+use Rattle.transaction_codec.specs.Reply.{IsReply, AreReplies, reply_words, replies_words}
 use Rattle.transaction_codec.specs.Answer.{CanAnswer}
-
-small_kind : (done kind count carried : ℕ) → Carries done kind count carried → kind < 2 ^ 4
-small_kind done kind count carried (inl x) = elim x.0 [ inl a ↦ omega arith | inr b ↦ omega arith ]
-small_kind done kind count carried (inr (inl x)) = elim x.0 [ inl a ↦ omega arith | inr b ↦ omega arith ]
-small_kind done kind count carried (inr (inr x)) = elim x.0 [ inl a ↦ omega arith | inr b ↦ omega arith ]
-
-small_form : (kind code count carried : ℕ) → HasForm kind code count carried → (kind < 2 ^ 4) × (code < 2 ^ 4)
-small_form kind code count carried (inl x) = (small_kind 1 kind count carried x.1, omega arith)
-small_form kind code count carried (inr (inl x)) = (small_kind 0 kind count carried x.1, omega (arith, x.0.1))
-small_form kind code count carried (inr (inr x)) = (omega arith, omega arith)
+use Rattle.transaction_codec.proofs.Replies.{fields_fit}
 
 one_reply : (r : Reply) → IsReply r → AreWords (reply_words r)
-one_reply r is = let f = small_form r.kind r.code r.count (length r.values) is.form in
+one_reply r is = let f = fields_fit r.kind r.code r.count (length r.values) is.form in
     (omega (arith, is.tid, is.count, f.0, f.1), is.values)
 
 all_replies : (rs : List Reply) → AreReplies rs → AreWords (replies_words rs)

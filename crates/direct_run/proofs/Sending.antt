@@ -17,9 +17,9 @@ use Rattle.direct_run.specs.Runs.{next_place}
 use Rattle.direct_run.specs.Steps.{entry_of, IsSending}
 
 -- what is left begins with the next item
-pub left : {A : Type 0} (xs : List A) (i : ℕ) (x : A) → i < length xs → x ≡ get_or xs i x
+pub begins_at : {A : Type 0} (xs : List A) (i : ℕ) (x : A) → i < length xs → x ≡ get_or xs i x
     → drop i xs ≡ x ∷ drop (i + 1) xs
-left xs i x within is = drop-cons xs i x within ∙ (ap (λ y. y ∷ drop (suc i) xs) (sym is) ∙ rw add-one refl)
+begins_at xs i x within is = drop-cons xs i x within ∙ (ap (λ y. y ∷ drop (suc i) xs) (sym is) ∙ rw add-one refl)
 
 -- ---- a board that executed bodies more
 

@@ -1,9 +1,10 @@
 -- The words of a line that reads a register.
-use Rattle.std.proofs.Common.{◌≡◌, ℕ, ◌==◌, ◌&&◌, List, [], ◌∷◌, ◌++◌, Bool, codes, true, false, Some, refl, arith}
+use Rattle.std.proofs.Common.{◌≡◌, ℕ, ◌==◌, List, [], ◌∷◌, ◌++◌, codes, true, false, Some, refl, arith}
 use Rattle.std.proofs.Common.{append_assoc}
 use Rattle.std.specs.List.{AllByRecursion, list_all}
 use Rattle.std.proofs.lemmas.Bool.Decides.{nat_tests}
 use Rattle.address_table.specs.Rules.{is_id, is_id_byte}
+use Rattle.lane_record.proofs.Lookups.{and_true}
 use Rattle.script_lang.specs.Lines.{is_blank, pieces, is_word}
 use Rattle.script_lang.specs.Texts.{cut_at}
 use Rattle.first_form.specs.Session.{Register}
@@ -21,23 +22,16 @@ solid_byte byte h = grind (arith, nat_tests)
 no_colon_byte : (byte : ℕ) → is_id_byte byte ≡ true → IsNoColon byte
 no_colon_byte byte h = grind (arith, nat_tests)
 
-both : (a b : Bool) → (a && b) ≡ true → (a ≡ true) × (b ≡ true)
-both true b h = (refl, h)
-both false b h = absurd (never h)
-  where
-    never : false ≡ true → ⊥
-    never h = cc
-
 solid_bytes : (text : List ℕ) → list_all is_id_byte text ≡ true → AllByRecursion IsSolid text
 solid_bytes [] h = tt
 solid_bytes (byte ∷ text) h =
-    let parts = both (is_id_byte byte) (list_all is_id_byte text) h in
+    let parts = and_true (is_id_byte byte) (list_all is_id_byte text) h in
     (solid_byte byte parts.0, solid_bytes text parts.1)
 
 colonless : (text : List ℕ) → list_all is_id_byte text ≡ true → AllByRecursion IsNoColon text
 colonless [] h = tt
 colonless (byte ∷ text) h =
-    let parts = both (is_id_byte byte) (list_all is_id_byte text) h in
+    let parts = and_true (is_id_byte byte) (list_all is_id_byte text) h in
     (no_colon_byte byte parts.0, colonless text parts.1)
 
 -- a text without blanks is one piece
@@ -72,8 +66,8 @@ pub record Said (board : List ℕ) (register : Register) : Type 0 where
 pub line_says : (board : List ℕ) (register : Register) → is_id board ≡ true → is_id register.id ≡ true
     → Said board register
 line_says board register named known =
-    let one = both _ (list_all is_id_byte board) named in
-    let other = both _ (list_all is_id_byte register.id) known in
+    let one = and_true _ (list_all is_id_byte board) named in
+    let other = and_true _ (list_all is_id_byte register.id) known in
     record {
       line = line_spelled board register;
       whole = one_piece (board ++ 58 ∷ register.id)

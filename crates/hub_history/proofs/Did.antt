@@ -1,7 +1,8 @@
 -- What clients left on a lane, each of whom did its plan.
-use Rattle.std.proofs.Common.{◌≡◌, ℕ, suc, ◌+◌, ◌<◌, ◌≤◌, List, [], ◌∷◌, length, map, sum, Option, Some}
+use Rattle.std.proofs.Common.{◌≡◌, ℕ, ◌+◌, ◌<◌, ◌≤◌, List, [], ◌∷◌, length, map, sum, Option, Some}
 use Rattle.std.proofs.Common.{refl, sym, ap, subst, ◌∙◌, arith, append_assoc}
 use Rattle.std.specs.List.{AllByRecursion, Contains, slice_get}
+use Rattle.std.proofs.lemmas.List.{length-map}
 use Rattle.std.proofs.lemmas.List.Concat.{length-flat_map}
 use Rattle.std.proofs.lemmas.List.Sums.{sum-map}
 use Rattle.ipb_base.proofs.AllLemmas.{all-map}
@@ -103,15 +104,11 @@ pub one_of_clients : (plans : List ClientPlan) (n : ℕ) → AreOfClientsFrom 1 
 one_of_clients plans n are there = of_contained (IsFrom 1 (length plans)) (clients_of plans) n
     (clients_within 1 1 (length plans) plans (omega arith) (omega arith) are) there
 
-length_map : {A B : Type 0} (f : A → B) (xs : List A) → length (map f xs) ≡ length xs
-length_map f [] = refl
-length_map f (x ∷ xs) = ap suc (length_map f xs)
-
 ask_many : (lane : ℕ) (plans : List ClientPlan) (bodies : List (List (List ℕ))) → AskAll lane plans bodies
     → length plans ≡ length bodies
 ask_many lane plans bodies ask =
-    sym (length_map (λ (plan : ClientPlan). sum (counts_on lane plan)) plans)
-    ∙ (ap (λ (l : List ℕ). length l) ask ∙ length_map (λ (bs : List (List ℕ)). length bs) bodies)
+    sym (length-map plans (λ (plan : ClientPlan). sum (counts_on lane plan)))
+    ∙ (ap (λ (l : List ℕ). length l) ask ∙ length-map bodies (λ (bs : List (List ℕ)). length bs))
 
 -- ---- the record of the clients
 

@@ -7,6 +7,7 @@ use Rattle.std.specs.List.{slice_get}
 use Rattle.std.proofs.lemmas.List.{map-append}
 use Rattle.std.proofs.lemmas.Bool.{cases_lt, eq-eqb}
 use Rattle.std.proofs.lemmas.Bool.Decides.{eqb_tells}
+use Rattle.std.proofs.Math.Bool.{and-true, or-true}
 use Rattle.std.specs.Option.{option_or, unwrap_or}
 use Rattle.world_model.proofs.Lists.{get_front, get_seam}
 use Rattle.transaction_codec.specs.Answer.{reply_room}
@@ -27,7 +28,7 @@ use Rattle.hub_lane.specs.Books.{HasAsked, HasMorePlans, HasNext, IsAskAt, IsBoo
 use Rattle.hub_lane.specs.Books.{TellsBodies, after_ask, after_took, as_asked, as_taken, changed, next_of, plan_of_body}
 use Rattle.hub_lane.specs.Books.{planned_at, replaced, row_of, with_ask, with_plan, with_took}
 use Rattle.hub_lane.proofs.ClientRows.{becomes, grown, row_changed, row_changed_other, row_planned, row_planned_other}
-use Rattle.hub_lane.proofs.OneMore.{and_true, one_number, same_number}
+use Rattle.hub_lane.proofs.OneMore.{one_number, same_number}
 use Rattle.hub_lane.proofs.PlannedBodies.{below_apart, length-replaced, was_body}
 use Rattle.hub_lane.proofs.TakenRows.{taken_ask, taken_plan, taken_seal, taken_took}
 
@@ -67,7 +68,7 @@ row_other items x client (Some r) plan ask is = tells_other items x client r.bod
 plan_for : (client seq other : ℕ) (body : List ℕ) (items : List Item)
     → planned other (items ++ plan_of client seq body ∷ []) ≡ planned other items + cond (client == other) 1 0
 plan_for client seq other body items = one_number plan_in other items (plan_of client seq body)
-    ∙ ap (λ (b : Bool). planned other items + cond b 1 0) (and_true (client == other))
+    ∙ ap (λ (b : Bool). planned other items + cond b 1 0) (and-true (client == other))
 
 plan_found : (client : ℕ) (body : List ℕ) (items : List Item) → Count plan_in items
     → found plan_in client (planned client items) (items ++ plan_of client (planned client items) body ∷ [])
@@ -144,7 +145,7 @@ rows_plan items rows client body count are other = elim (eqb_tells client other)
 ask_for : (client seq other g : ℕ) (items : List Item)
     → asked other (items ++ ask_of client seq g ∷ []) ≡ asked other items + cond (client == other) 1 0
 ask_for client seq other g items = one_number ask_in other items (ask_of client seq g)
-    ∙ ap (λ (b : Bool). asked other items + cond b 1 0) (and_true (client == other))
+    ∙ ap (λ (b : Bool). asked other items + cond b 1 0) (and-true (client == other))
 
 -- its number is that of the Asks before it
 new_ask : (items : List Item) (client seq g : ℕ)
@@ -383,10 +384,6 @@ or_false : (b : Bool) → (b || false) ≡ b
 or_false true = refl
 or_false false = refl
 
-or_true : (b : Bool) → (b || true) ≡ true
-or_true true = refl
-or_true false = refl
-
 module _ (items : List Item) (entries : List Entry) (rows : List Row) (asks bodies words : ℕ)
     (closed : Bool) (room : ℕ) (is : IsBook items entries rows asks bodies words closed room) where
   -- an entry that is no Plan and no Ask
@@ -428,7 +425,7 @@ module _ (items : List Item) (entries : List Entry) (rows : List Row) (asks bodi
   pub book_seal : (new : List Entry) (after : ℕ) → new ≡ entries ++ entry_of the_seal ∷ []
       → IsBook (items ++ the_seal ∷ []) new rows asks bodies words true after
   book_seal new after entry =
-      let sealed : is_sealed (items ++ the_seal ∷ []) ≡ true = sealed_append items (the_seal ∷ []) ∙ or_true
+      let sealed : is_sealed (items ++ the_seal ∷ []) ≡ true = sealed_append items (the_seal ∷ []) ∙ or-true
       (is_sealed items) in
       book_other the_seal new rows after refl refl entry true (sym sealed) (λ open_still. absurd cc)
       (λ client. row_other items the_seal client (row_of client rows) (same_number plan_in client items the_seal refl)

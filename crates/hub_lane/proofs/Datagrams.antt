@@ -29,7 +29,7 @@ replied_cons : (o : Option Outcome) (os : List (Option Outcome))
     → count_by is_replied (o ∷ os) ≡ cond (is_replied o) 1 0 + count_by is_replied os
 replied_cons o os = sum_by-cons (λ p. cond (is_replied p) 1 0) o os
 
-at_most_one : (b : Bool) → cond b 1 0 ≤ 1
+pub at_most_one : (b : Bool) → cond b 1 0 ≤ 1
 at_most_one true = omega arith
 at_most_one false = omega arith
 

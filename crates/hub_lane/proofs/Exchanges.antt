@@ -2,7 +2,6 @@
 use Rattle.std.proofs.Common.{◌≡◌, ℕ, ◌+◌, ◌*◌, ◌<◌, ◌≤◌, Bool, true, false, cond, List, [], ◌∷◌}
 use Rattle.std.proofs.Common.{length, map, Option, Some, refl, sym, ap, ◌∙◌, subst, arith, inl, inr, ◌||◌}
 use Rattle.std.specs.Prelude.{◌==◌, nat_lt}
-use Rattle.std.proofs.Math.Nat.{mul-add}
 use Rattle.ipb_base.specs.Faults.{one_more}
 use Rattle.world_model.specs.declared.offered.Fate.{Fate}
 use Rattle.world_model.specs.declared.offered.OpenPlace.{OpenPlace}
@@ -26,6 +25,7 @@ use Rattle.lane_record.specs.Outcomes.{AreShort, is_given_up, is_lost, is_replie
 use Rattle.lane_record.specs.Offers.{AddsOnly, AgreesWith, KeepsOutcomes, Settles, put_all}
 use Rattle.lane_record.proofs.Rounds.{give_up_tells, message_tells}
 use Rattle.lane_record.proofs.Lengths.{give_up_short, message_short}
+use Rattle.lane_recovery.proofs.Rounds.{mul_more}
 use Rattle.hub_lane.specs.declared.answers.Pumped.{Pumped}
 use Rattle.hub_lane.specs.declared.answers.Pumped.TheVariants.{Reply, Status, Stray, Quiet, Idle, LinkDown}
 use Rattle.hub_lane.specs.Hearing.{IsEventAs, give_ups_of, hub_after, quiets_of}
@@ -250,9 +250,6 @@ asked_after settings status mid items outcomes give_ups quiets quiets_now waitin
       short = is.short;
       keeps = λ k o e. e;
     }))
-
-mul_more : (w g : ℕ) → w * (g + 1) ≡ w * g + w
-mul_more w g = let a : w * 1 ≡ w = omega arith in mul-add w g 1 ∙ ap (λ (z : ℕ). w * g + z) a
 
 given_up_after : GaveUpLaw → (settings : Limits) (status : BoardStatus) (mid : Hub) (items : List Item)
     (outcomes : List (Option Outcome)) (give_ups quiets quiets_now : ℕ) → is_waiting mid ≡ true

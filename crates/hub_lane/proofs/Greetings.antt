@@ -1,13 +1,11 @@
 -- Lemmas on the greeting of a board over a link that tells: each datagram is a status reply, and a receive is quiet
 -- only where datagrams were held.
-use Rattle.std.proofs.Common.{◌≡◌, ℕ, zero, suc, ◌+◌, ◌*◌, ◌<◌, ◌≤◌, true, List, [], ◌∷◌, ◌++◌, length, Option}
+use Rattle.std.proofs.Common.{◌≡◌, ℕ, ◌+◌, ◌*◌, ◌<◌, ◌≤◌, List, [], ◌∷◌, ◌++◌, length, Option}
 use Rattle.std.proofs.Common.{Some, None}
-use Rattle.std.proofs.Common.{refl, sym, ap, ◌∙◌, subst, arith, inl, inr, ◌⊎◌, length-append, if◌then◌else◌}
+use Rattle.std.proofs.Common.{refl, sym, ap, ◌∙◌, subst, arith, inl, inr, ◌⊎◌, length-append}
 use Rattle.std.specs.Prelude.{Result, Ok, Err, IfSome}
-use Rattle.std.specs.List.{Contains, slice_get, slice_index_or}
 use Rattle.std.proofs.lemmas.List.{append-nil}
 use Rattle.ipb_base.specs.Faults.{Rose}
-use Rattle.ipb_base.specs.Lists.{IsPrefix}
 use Rattle.packet_codec.specs.Packet.{packet_bytes}
 use Rattle.packet_ids.specs.Identifier.{IsIdentifier}
 use Rattle.status_packet.specs.declared.status.Status.{Status}
@@ -19,18 +17,18 @@ use Rattle.world_model.specs.declared.datagram.Direction.{Direction}
 use Rattle.world_model.specs.declared.datagram.Direction.TheVariants as goes
 use Rattle.world_model.specs.Messages.{ToBoard, StatusRequest, to_board}
 use Rattle.world_model.specs.Board.{Board, expected, hear_message}
-use Rattle.world_model.specs.Air.{goes_to, is_alive}
 use Rattle.world_model.specs.World.{answered}
 use Rattle.world_model.specs.Facts.{IsGreeting, IsGreetingOf, IsStart}
-use Rattle.world_model.specs.Links.{Told, IsHeard, birth_of, first_sends, heard_by, heard_on, hears_all, sent_on}
-use Rattle.world_model.specs.Links.{then_told}
-use Rattle.world_model.proofs.Lists.{all_get, either, get_front, get_seam, get_within}
+use Rattle.world_model.specs.Links.{Told, IsHeard, birth_of, first_sends, heard_on, hears_all, sent_on}
+use Rattle.world_model.proofs.Lists.{all_get, get_seam, get_within}
 use Rattle.reliable_engine.specs.Settings.{Limits}
 use Rattle.world_core.specs.declared.link.LinkFault.{LinkFault}
 use Rattle.world_core.specs.declared.link.LinkFault.TheVariants as fault
 use Rattle.world_core.specs.declared.link.Received.{Received}
 use Rattle.world_core.specs.declared.link.Received.TheVariants as came
 use Rattle.world_core.specs.Telling.{IfTelling, IsGot, IsQuiet, IsReceived, IsSent, Receives, Telling}
+use Rattle.lane_recovery.proofs.Heard.{AirGrows, GoesThere, contains_get, front_goes, heard_first, heard_goes}
+use Rattle.lane_recovery.proofs.Heard.{nothing_due, one_way}
 use Rattle.hub_lane.specs.declared.greeting.Answer.{Answer}
 use Rattle.hub_lane.specs.declared.greeting.Answer.TheVariants as answer
 use Rattle.hub_lane.specs.Greeting.{CanBegin, EndsAskingWith, EndsRoundWith, IsExpecting}
@@ -40,9 +38,6 @@ use Rattle.hub_lane.specs.Greeting.{HandedOutNone, IsHeardFrom, IsTold, StaysFre
 abbrev pub HeardGoesOn : Type 0
 HeardGoesOn = (window : ℕ) (old new : Told) → IsStart window old.board old.air → IsHeard old new
     → IsStart window new.board new.air × (new.board ≡ old.board)
-
-abbrev pub AirGrows : Type 0
-AirGrows = (old new : Told) → IsHeard old new → IsPrefix {T = Datagram} old.air new.air
 
 -- ---- over any link
 
@@ -54,60 +49,6 @@ on_telling P R S (Some s) None f begins is = is
 on_telling P R S (Some s) (Some t) f begins is = f s t begins is
 
 -- ---- what the board heard
-
--- the board heard a datagram of the air, and then the others
-record HeardFirst (t u : Told) (k : ℕ) (ks : List ℕ) : Type 0 where
-  d : Datagram
-  there : slice_get t.air k ≡ Some d
-  to_board : d.direction ≡ goes.ToBoard
-  later : hears_all (heard_on t d.bytes) ks ≡ Some u
-
-same_direction : (d : Direction) → goes_to goes.ToBoard d ≡ true → d ≡ goes.ToBoard
-same_direction goes.ToBoard e = refl
-same_direction goes.ToHub e = absurd (cc)
-
-heard_at : (t u : Told) (k : ℕ) (ks : List ℕ) (r : Option Datagram) → slice_get t.air k ≡ r
-    → then_told (heard_by t r) (λ after. hears_all after ks) ≡ Some u → HeardFirst t u k ks
-heard_at t u k ks None there e = absurd (cc)
-heard_at t u k ks (Some d) there e =
-    either (λ (x : Option Told). then_told x (λ after. hears_all after ks) ≡ Some u → HeardFirst t u k ks)
-    (goes_to goes.ToBoard d.direction)
-    (if is_alive (first_sends t) d then Some (heard_on t d.bytes) else None) None
-    (λ way. either (λ (x : Option Told). then_told x (λ after. hears_all after ks) ≡ Some u → HeardFirst t u k ks)
-    (is_alive (first_sends t) d) (Some (heard_on t d.bytes)) None
-    (λ alive e. record { d = d; there = there; to_board = same_direction d.direction way; later = e })
-    (λ dead e. absurd (cc)))
-    (λ other e. absurd (cc))
-    e
-
-heard_first : (t u : Told) (k : ℕ) (ks : List ℕ) → hears_all t (k ∷ ks) ≡ Some u → HeardFirst t u k ks
-heard_first t u k ks e = heard_at t u k ks (slice_get t.air k) refl e
-
--- a datagram of the air that goes one way
-record GoesThere (way : Direction) (air : List Datagram) (place : ℕ) : Type 0 where
-  d : Datagram
-  there : slice_get air place ≡ Some d
-  direction : d.direction ≡ way
-
-front_goes : (way : Direction) (front all : List Datagram) (place : ℕ) → IsPrefix front all
-    → GoesThere way front place → GoesThere way all place
-front_goes way front all place is at = record {
-  d = at.d;
-  there = ap (λ (l : List Datagram). slice_get l place) is.1 ∙ get_front front is.0 place at.d at.there;
-  direction = at.direction;
-}
-
--- what the board heard goes to the board
-heard_goes : AirGrows → (t u : Told) (ks : List ℕ) (place j : ℕ) → hears_all t ks ≡ Some u
-    → slice_get ks j ≡ Some place → GoesThere goes.ToBoard u.air place
-heard_goes grows t u [] place j e at = absurd (cc)
-heard_goes grows t u (k ∷ ks) place zero e at =
-    let h = heard_first t u k ks e in
-    let k_is : k ≡ place = cc in
-    front_goes goes.ToBoard t.air u.air place (grows t u (record { places = k ∷ ks; heard = e }))
-    (record { d = h.d; there = ap (slice_get t.air) (sym k_is) ∙ h.there; direction = h.to_board })
-heard_goes grows t u (k ∷ ks) place (suc j) e at =
-    let h = heard_first t u k ks e in heard_goes grows (heard_on t h.d.bytes) u ks place j h.later at
 
 -- a status request is answered
 request_answered : (board : Board) (birth : ℕ) (air : List Datagram) (message : Option ToBoard)
@@ -147,13 +88,6 @@ answer_there grows window t u k ks is e =
     (grows (heard_on t h.d.bytes) u (record { places = ks; heard = h.later }))
     (request_answered t.board (first_sends t) t.air (to_board h.d.bytes) asked)
 
-one_way : (air : List Datagram) (place : ℕ) → GoesThere goes.ToBoard air place → GoesThere goes.ToHub air place → ⊥
-one_way air place a b =
-    let same : Some a.d ≡ Some b.d = sym a.there ∙ b.there in
-    let d_is : a.d ≡ b.d = cc in
-    let way : goes.ToBoard ≡ goes.ToHub = sym a.direction ∙ (ap (λ (d : Datagram). d.direction) d_is ∙ b.direction) in
-    absurd (cc)
-
 -- ---- one receive
 
 received_fresh : HeardGoesOn → (settings : Limits) (by_hub : List ℕ) (before now : ℕ) (old new : Telling)
@@ -181,14 +115,6 @@ fresh_on law settings result bytes before now old new begins is =
     on_telling (CanBegin settings) (Receives result bytes before now) (StaysFresh settings) old new
     (receives_fresh law settings result bytes before now) begins is
 
-nothing_due : (due : List ℕ) (place : ℕ) → due ≡ [] → Contains due place → ⊥
-nothing_due due place e is = let few = is.1 in let none : length due ≡ 0 = ap length e in omega (arith, few, none)
-
-get_there : (xs : List ℕ) (j x : ℕ) → j < length xs → slice_index_or xs j x ≡ x → slice_get xs j ≡ Some x
-get_there [] j x lt e = absurd (omega (arith, lt))
-get_there (y ∷ xs) zero x lt e = ap (λ (z : ℕ). Some z) e
-get_there (y ∷ xs) (suc j) x lt e = get_there xs j x (omega (arith, lt)) e
-
 -- the answer to what the board heard is neither still to be heard nor handed out
 answer_rose : AirGrows → (before now : ℕ) (old new : Telling) → IsQuiet before now old new
     → GoesThere goes.ToHub new.told.air (length old.told.air) → Rose before now
@@ -199,7 +125,7 @@ answer_rose grows before now old new is at =
       | inr rest ↦ elim rest [
         | inl heard ↦ absurd (one_way new.told.air place
             (heard_goes grows old.told new.told is.received.by_board.places place heard.0 is.received.by_board.heard
-            (get_there is.received.by_board.places heard.0 place heard.1 heard.2)) at)
+            (contains_get is.received.by_board.places place heard)) at)
         | inr rest ↦ elim rest [
           | inl handed ↦ absurd (nothing_due [] place refl handed)
           | inr rose ↦ rose

@@ -30,6 +30,7 @@ use Rattle.lane_record.proofs.Lengths.{ShortIfThere}
 use Rattle.lane_record.proofs.Rounds.{TellsIfThere}
 use Rattle.hub_lane.specs.Lanes.{BoardStatus, HasToldStatus, IsGreeted, FitsBoard, IsFittingPlan, IsLane, board_of}
 use Rattle.hub_lane.specs.Standing.{IsRunning, IsStopped}
+use Rattle.hub_lane.proofs.Datagrams.{at_most_one}
 use Rattle.hub_lane.proofs.Standing.{BeginLaw, OfferLaw, asked_lost, asked_running, begins_running, if_told}
 use Rattle.hub_lane.proofs.Standing.{offered_running, pushed_get}
 use Rattle.hub_lane.proofs.Windows.{new_windowed, offer_windowed}
@@ -165,10 +166,6 @@ asked_claims : (items : List Item) (client seq g : ℕ) (body : List ℕ) → fo
 asked_claims items client seq g body there = claims_push items (ask_of client seq g)
     ∙ ap (λ (o : Option (List ℕ)). claims items ++ claim_of client seq g (unwrap_or o []) ∷ []) there
 
-one_at_most : (b : Bool) → cond b 1 0 ≤ 1
-one_at_most true = omega arith
-one_at_most false = omega arith
-
 pub lane_offered : OfferLaw → (settings : Limits) (status : BoardStatus) (hub : Hub) (items : List Item)
     (outcomes : List (Option Outcome)) (give_ups : ℕ) (telling : Option Telling)
     (faults quiets : ℕ) (client seq : ℕ) (body : List ℕ)
@@ -209,7 +206,7 @@ lane_offered law settings status hub items outcomes give_ups telling faults quie
           (outcomes ++ None ∷ [])) (sym (asked_claims items client seq give_ups body there)) agrees);
       kept = kept is.kept;
       waited = is.waited;
-      fewer = (let h = is.fewer in let w = one_at_most (is_waiting (offer hub o)) in omega (arith, h, longer, w));
+      fewer = (let h = is.fewer in let w = at_most_one (is_waiting (offer hub o)) in omega (arith, h, longer, w));
       fits = AllByRecursion-append (IsFittingPlan (payload_of status.mtu)) items (ask_of client seq give_ups ∷ [])
           is.fits (tt, tt);
       fault = is.fault;

@@ -18,6 +18,6 @@ mod Books
 mod Lanes
 mod Exchanges
 mod Pumps
-mod TakenRows
+pub mod TakenRows
 mod Steps
 mod Records

@@ -12,6 +12,7 @@ use Rattle.reliable_engine.specs.Answers.{hub_next}
 use Rattle.world_model.specs.Board.{Board}
 use Rattle.world_core.specs.declared.link.Received.{Received}
 use Rattle.world_core.specs.declared.link.Received.TheVariants.{Got, Quiet as received_quiet}
+use Rattle.lane_recovery.proofs.Heard.{AirGrows}
 use Rattle.hub_lane.specs.Lanes.{board_of}
 use Rattle.world_core.specs.declared.link.LinkFault.{LinkFault}
 use Rattle.world_core.specs.declared.link.LinkFault.TheVariants.{Failed, NoMemory}
@@ -23,7 +24,7 @@ use Rattle.hub_lane.specs.Hearing.{IsHeardAs, WasReceived}
 use Rattle.hub_lane.specs.Rounds.{PaysOn}
 use Rattle.hub_lane.specs.Sends.{HasSent, all_sent}
 use Rattle.hub_lane.specs.Standing.{GoesOn, IsRunning, IsStopped, Stops}
-use Rattle.hub_lane.proofs.Standing.{AirGrows, HandedLaw, HeardLaw, QuietLaw, SameBoard, SameFates, SendLaw}
+use Rattle.hub_lane.proofs.Standing.{HandedLaw, HeardLaw, QuietLaw, SameBoard, SameFates, SendLaw}
 use Rattle.hub_lane.proofs.Standing.{after_call, got_running, if_told, other_running, quiet_running, refused_stopped}
 use Rattle.hub_lane.proofs.Standing.{sent_running}
 

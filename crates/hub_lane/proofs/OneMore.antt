@@ -3,6 +3,7 @@ use Rattle.std.proofs.Common.{◌≡◌, ℕ, ◌+◌, Bool, true, false, cond, 
 use Rattle.std.proofs.Common.{None, refl, ap, ◌∙◌, arith, length-append}
 use Rattle.std.specs.Prelude.{is_some}
 use Rattle.std.proofs.lemmas.Bool.{eqb-true}
+use Rattle.std.proofs.Math.Bool.{and-false}
 use Rattle.lane_record.specs.declared.item.Item.{Item}
 use Rattle.lane_record.specs.declared.item.What.{What}
 use Rattle.lane_record.specs.Items.{numbers}
@@ -18,14 +19,6 @@ one_number kind client items x =
     (elim ((x.client == client) && is_some (kind x.what))
     as (λ b. length (cond b (x.seq ∷ []) []) ≡ cond b 1 0) [ true ↦ refl | false ↦ refl ]))
 
-pub and_false : (b : Bool) → (b && false) ≡ false
-and_false true = refl
-and_false false = refl
-
-pub and_true : (b : Bool) → (b && true) ≡ b
-and_true true = refl
-and_true false = refl
-
 pub same_number : {A : Type 0} (kind : What → Option A) (client : ℕ) (items : List Item) (x : Item) → kind x.what ≡ None
     → length (numbers kind client (items ++ x ∷ [])) ≡ length (numbers kind client items)
 same_number kind client items x none =
@@ -33,7 +26,7 @@ same_number kind client items x none =
     let n = one_number kind client items x in
     let off : ◌≡◌ {A = ℕ} (cond ((x.client == client) && is_some (kind x.what)) 1 0) 0 =
     ap (λ (b : Bool). cond ((x.client == client) && b) 1 0) told
-    ∙ ap (λ (b : Bool). cond b 1 0) (and_false (x.client == client)) in
+    ∙ ap (λ (b : Bool). cond b 1 0) (and-false (x.client == client)) in
     omega (arith, n, off)
 
 pub of_client : (client other : ℕ) → (client == other) ≡ true → client ≡ other

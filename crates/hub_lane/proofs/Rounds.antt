@@ -5,12 +5,12 @@ use Rattle.std.specs.Prelude.{IfSome, min, nat_lt}
 use Rattle.std.proofs.lemmas.Bool.{ltb-true}
 use Rattle.std.specs.List.{AllByRecursion}
 use Rattle.ipb_base.specs.Numbers.{payload_of}
-use Rattle.ipb_base.proofs.AllLemmas.{AllByRecursion-append, all-map}
+use Rattle.ipb_base.proofs.AllLemmas.{AllByRecursion-append}
 use Rattle.transaction_codec.specs.Answer.{reply_room}
 use Rattle.world_model.specs.declared.offered.Offered.{Offered}
 use Rattle.world_model.specs.declared.offered.OpenPlace.{OpenPlace}
 use Rattle.world_model.specs.Messages.{ToHub, to_hub}
-use Rattle.world_model.specs.Board.{Board, is_too_long}
+use Rattle.world_model.specs.Board.{Board}
 use Rattle.world_model.specs.Hub.{Hub, abandoned, give_up, hear_quiet, is_waiting, new_hub, offer, some_waited}
 use Rattle.world_model.specs.Hub.{take_message, want_status}
 use Rattle.world_model.specs.Links.{IsJoined, Told}
@@ -23,6 +23,7 @@ use Rattle.lane_record.specs.declared.outcome.Outcome.{Outcome}
 use Rattle.lane_record.specs.Bounds.{HasReached}
 use Rattle.lane_recovery.specs.Rounds.{IsPaid}
 use Rattle.lane_recovery.specs.UnderWay.{CanRecover, CanTake}
+use Rattle.lane_recovery.proofs.Rounds.{fits_on, reached_later}
 use Rattle.hub_lane.specs.declared.answers.Pumped.{Pumped}
 use Rattle.hub_lane.specs.declared.answers.Pumped.TheVariants.{Reply, Status, Stray, Quiet, Idle, LinkDown}
 use Rattle.hub_lane.specs.Hearing.{IsHeardAs, give_ups_after, give_ups_of}
@@ -32,17 +33,6 @@ use Rattle.hub_lane.specs.Rounds.{HasPaid, PaysFor, PaysOn, PaysRounds}
 use Rattle.hub_lane.specs.Sends.{handed_out}
 use Rattle.hub_lane.specs.Standing.{GoesOn, IsRunning, IsStanding}
 use Rattle.hub_lane.proofs.Standing.{SameBoard, after_call, if_told}
-
--- ---- the same board takes the same bodies
-
-too_long_same : (old new : Board) (body : List ℕ) → new.mtu ≡ old.mtu → is_too_long new body ≡ is_too_long old body
-too_long_same old new body e = ap (λ (mtu : ℕ). nat_lt (payload_of mtu) (length body + 1)
-    || nat_lt (payload_of mtu) (reply_room body + 1)) e
-
-taken_on : (old new : Board) (bodies : List Offered) → new.mtu ≡ old.mtu → AllByRecursion (CanTake old) bodies
-    → AllByRecursion (CanTake new) bodies
-taken_on old new bodies e are = all-map (CanTake old) (CanTake new) bodies
-    (λ o takes. too_long_same old new o.body e ∙ takes) are
 
 can_recover : (mtu rounds g : ℕ) (hub : Hub) (held : ℕ) (t : Telling) → IsJoined hub t.told
     → PaysRounds mtu rounds g hub held t → CanRecover hub t
@@ -57,8 +47,8 @@ pays_with mtu rounds g g_now old new before now t u window same holds sent queue
   board = same ∙ is.board;
   some_window = (let w = is.some_window in omega (arith, w, window));
   holds = (let h = is.holds in omega (arith, h, holds, window));
-  sent = taken_on t.told.board u.told.board new.sent same sent;
-  queued = taken_on t.told.board u.told.board new.queue same queued;
+  sent = fits_on t.told.board u.told.board new.sent same sent;
+  queued = fits_on t.told.board u.told.board new.queue same queued;
   paid = paid;
 }
 
@@ -287,9 +277,6 @@ pays_asked laws false spent mtu rounds g hub new tag body held telling up fits n
 
 neither : (down spent : Bool) → down ≡ false → spent ≡ false → (down || spent) ≡ false
 neither down spent d s = ap (λ (b : Bool). b || spent) d ∙ s
-
-reached_later : (n before now : ℕ) → before ≤ now → HasReached n before → HasReached n now
-reached_later n before now le is = omega (arith, le, is)
 
 -- give-ups stay paid, whatever became of the hub
 still_paid : RoundLaws → (stopped : Bool) (mtu rounds g : ℕ) (hub : Hub) (held now : ℕ) (t : Telling) → held ≤ now

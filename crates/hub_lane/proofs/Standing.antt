@@ -7,7 +7,6 @@ use Rattle.std.proofs.lemmas.List.{append-nil}
 use Rattle.std.proofs.lemmas.Bool.{eqb-true}
 use Rattle.std.proofs.lemmas.List.Elements.{Contains-append_left, Contains-append_right}
 use Rattle.ipb_base.proofs.AllLemmas.{AllByRecursion-append}
-use Rattle.ipb_base.specs.Lists.{IsPrefix}
 use Rattle.packet_ids.specs.Identifier.{identifier_at}
 use Rattle.world_model.specs.declared.datagram.Datagram.{Datagram}
 use Rattle.world_model.specs.declared.offered.Fate.{Fate}
@@ -34,6 +33,7 @@ use Rattle.lane_record.specs.declared.outcome.Outcome.{Outcome}
 use Rattle.lane_record.specs.declared.outcome.Outcome.TheVariants as became
 use Rattle.lane_record.specs.Offers.{AreToldBy, IsToldBy, all_lost, lost_after, outcome_of, put, put_all}
 use Rattle.lane_record.specs.Outcomes.{is_sent}
+use Rattle.lane_recovery.proofs.Heard.{AirGrows}
 use Rattle.hub_lane.specs.Standing.{IsHandedFate, IsRunning, IsStopped}
 
 -- ---- the laws of world_core and world_model that these rest on
@@ -74,9 +74,6 @@ QuietLaw = (begin : World) (fates : List (ℕ × Fate)) (hub : Hub) (told : Told
 abbrev pub OutLaw : Type 0
 OutLaw = (begin : World) (fates : List (ℕ × Fate)) (hub : Hub) (told : Told) → IsReached begin fates hub told
     → IsReached begin (fates ++ hub.fates) (record hub { fates = [] }) told
-
-abbrev pub AirGrows : Type 0
-AirGrows = (old new : Told) → IsHeard old new → IsPrefix {T = Datagram} old.air new.air
 
 abbrev pub SameBoard : Type 0
 SameBoard = (old new : Told) → IsHeard old new → record new.board { log = old.board.log } ≡ old.board

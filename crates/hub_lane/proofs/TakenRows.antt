@@ -7,6 +7,7 @@ use mathlib.Core.Logic.{dite}
 use native.Mathlib.Decide.{ℕ_discrete}
 use Rattle.std.proofs.lemmas.Bool.{eq-eqb}
 use Rattle.std.proofs.lemmas.Bool.Decides.{eqb_tells}
+use Rattle.std.proofs.Math.Bool.{and-false}
 use Rattle.std.specs.Option.{option_or}
 use Rattle.lane_record.specs.declared.outcome.Outcome.{Outcome}
 use Rattle.lane_record.specs.declared.item.Item.{Item}
@@ -139,7 +140,7 @@ found_apart client seq items x apart = found_append took_in client seq items (x 
     ∙ (ap (λ (b : Bool). option_or (found took_in client seq items)
     (option_or (if b then took_in x.what else None) None)) apart ∙ or_none (found took_in client seq items))
 
-or_right : {A : Type 0} (o p : Option A) → is_some p ≡ true → is_some (option_or o p) ≡ true
+pub or_right : {A : Type 0} (o p : Option A) → is_some p ≡ true → is_some (option_or o p) ≡ true
 or_right None p e = e
 or_right (Some x) p e = refl
 
@@ -153,10 +154,6 @@ now_taken client seq g outcome items =
     ap is_some (found_append took_in client seq items (x ∷ []))
     ∙ or_right (found took_in client seq items) (found took_in client seq (x ∷ [])) here
 
-and_off : (a : Bool) → (a && false) ≡ false
-and_off true = refl
-and_off false = refl
-
 number_apart : (client seq n : ℕ) (outcome : Outcome) (g : ℕ) → (n ≡ seq → ⊥)
     → is_of client n (took_of client seq outcome g) ≡ false
 number_apart client seq n outcome g apart =
@@ -164,7 +161,7 @@ number_apart client seq n outcome g apart =
       | inl same ↦ absurd (apart (sym same.1))
       | inr other ↦ other.0
     ] in
-    ap (λ (b : Bool). (client == client) && b) differs ∙ and_off (client == client)
+    ap (λ (b : Bool). (client == client) && b) differs ∙ and-false (client == client)
 
 -- the body of this number was taken
 tells_took : (items : List Item) (client seq g : ℕ) (outcome : Outcome) (bodies : List PlannedBody) (asks : ℕ)

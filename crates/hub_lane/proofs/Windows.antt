@@ -1,6 +1,7 @@
 -- What the hub of a lane keeps, whatever the link does: its window, and bodies that can be sent.
 use Rattle.std.proofs.Common.{◌≡◌, ℕ, ◌+◌, ◌≤◌, Bool, true, false, List, [], ◌∷◌, ◌++◌, length}
 use Rattle.std.proofs.Common.{Option, Some, None, refl, sym, ap, ◌∙◌, subst, arith, length-append}
+use Rattle.std.proofs.Math.Bool.{or-true}
 use Rattle.std.specs.Prelude.{IfSome, ◌||◌}
 use Rattle.std.proofs.lemmas.List.{map-append}
 use Rattle.world_model.specs.declared.offered.Offered.{Offered}
@@ -73,10 +74,6 @@ or_append (o ∷ os) ps = elim o.waited
       | false ↦ or_append os ps
     ]
 
-or_true : (b : Bool) → (b || true) ≡ true
-or_true true = refl
-or_true false = refl
-
 abbrev pub SameWaits : List OpenPlace → Option Wanted → Type 0
 SameWaits os None = Unit {0}
 SameWaits os (Some w) = some_waited w.open_places ≡ some_waited os
@@ -118,8 +115,8 @@ send_same hub next e = some_is (λ (n : Next). IsSameBut hub n.hub) (next_send h
       rounds = refl;
       status_requests = refl;
       waits = ap (λ (b : Bool). some_queued later || b)
-          (or_append hub.open_places (opened (length hub.sent + 1) ∷ []) ∙ or_true (some_waited hub.open_places))
-          ∙ (or_true (some_queued later)
+          (or_append hub.open_places (opened (length hub.sent + 1) ∷ []) ∙ or-true (some_waited hub.open_places))
+          ∙ (or-true (some_queued later)
           ∙ sym (ap (λ (queue_is : List Offered). some_queued queue_is || some_waited hub.open_places) queue));
     }))
 

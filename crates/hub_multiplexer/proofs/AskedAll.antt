@@ -21,7 +21,7 @@ use Rattle.hub_multiplexer.proofs.OwnItems.{CanBeRead}
 abbrev pub AllAsked : Knowledge → Type 0
 AllAsked k = asked_by k ≡ planned_by k
 
-read_back : CanBeRead → (items : List Item) → filter_map item_from (map recorded items) ≡ items
+pub read_back : CanBeRead → (items : List Item) → filter_map item_from (map recorded items) ≡ items
 read_back read [] = refl
 read_back read (x ∷ xs) = rw (read x) (ap (λ l. x ∷ l) (read_back read xs))
 

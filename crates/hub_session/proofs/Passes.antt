@@ -21,10 +21,12 @@ use Rattle.ipb_base.specs.Numbers.{payload_of}
 use Rattle.hub_lane.specs.Plans.{IsRefused}
 use Rattle.hub_lane.specs.declared.answers.PlanRefusal.{PlanRefusal}
 use Rattle.hub_lane.specs.declared.answers.PlanRefusal.TheVariants as refusals
+use Rattle.hub_lane.proofs.TakenRows.{or_right}
 use Rattle.hub_multiplexer.specs.Calls.{Adds, FoundLane, HasSubmitted, HasTaken, IsNone, MadeInTime, PerformMeans}
 use Rattle.hub_multiplexer.specs.Calls.{SubmitRefused}
 use Rattle.hub_multiplexer.specs.declared.answers.Performed.TheVariants as performs
 use Rattle.hub_multiplexer.specs.OwnItems.{HasTakenAllOf, IsOldestOf, asked_by, own_items, planned_by}
+use Rattle.hub_multiplexer.proofs.AskedAll.{read_back}
 use Rattle.hub_multiplexer.proofs.OwnItems.{own_are, planned_own}
 use Rattle.hub_session.specs.Exchanges.{GrewBy, HasCome, WasRefused}
 use Rattle.hub_multiplexer.specs.Seats.{ChangesAt, SeatState}
@@ -33,15 +35,11 @@ use Rattle.hub_session.specs.Inside.{IsSettled}
 
 -- ---- entries behind those before
 
-read_back : (items : List Item) → filter_map item_from (map recorded items) ≡ items
-read_back [] = refl
-read_back (x ∷ xs) = rw (read_item x) (ap (λ (l : List Item). x ∷ l) (read_back xs))
-
 pub mine_read : (k after : Knowledge) (added : List Item) → GrewBy added k after
     → filter_map item_from after.mine ≡ filter_map item_from k.mine ++ added
 mine_read k after added g = ap (filter_map item_from) g.mine_now
     ∙ (filter_map-append item_from k.mine (map recorded added)
-    ∙ ap (λ (l : List Item). filter_map item_from k.mine ++ l) (read_back added))
+    ∙ ap (λ (l : List Item). filter_map item_from k.mine ++ l) (read_back read_item added))
 
 pub number_same : (k after : Knowledge) (added : List Item) → GrewBy added k after → after.number ≡ k.number
 number_same k after added g = ap (λ (z : Knowledge). z.number) g.rest_same
@@ -52,7 +50,7 @@ own_grew k after added g =
     (λ i. filter_map item_from (made_by (g.rest_same i).number (g.rest_same i).opening.entries ++ g.mine_now i))
     ∙ (ap (filter_map item_from) (sym (append_assoc opened k.mine (map recorded added)))
     ∙ (filter_map-append item_from (opened ++ k.mine) (map recorded added)
-    ∙ ap (λ (l : List Item). own_items k ++ l) (read_back added)))
+    ∙ ap (λ (l : List Item). own_items k ++ l) (read_back read_item added)))
 
 asked_grew : (k after : Knowledge) (added : List Item) → GrewBy added k after
     → asked_by after ≡ asked_by k + asked k.number added
@@ -157,10 +155,6 @@ some_front : {A : Type 0} (o p : Option A) → is_some o ≡ true → is_some (o
 some_front None p e = absurd cc
 some_front (Some x) p e = refl
 
-some_back : {A : Type 0} (o p : Option A) → is_some p ≡ true → is_some (option_or o p) ≡ true
-some_back None p e = e
-some_back (Some x) p e = refl
-
 none_both : {A : Type 0} (o p : Option A) → o ≡ None → p ≡ None → option_or o p ≡ None
 none_both o p e f = rw e (rw f refl)
 
@@ -218,7 +212,7 @@ module _ (k after : Knowledge) (body : List ℕ) where
         all_taken = λ m low. ap is_some (took_grew k after _ h.grew m) ∙ elim (cases_lt m (asked_by k)) [
           | inl lt ↦ some_front (found took_in k.number m (own_items k)) _ (s.all_taken m lt)
           | inr ge ↦ let same : n ≡ m = omega arith in
-              some_back (found took_in k.number m (own_items k)) _
+              or_right (found took_in k.number m (own_items k)) _
               (subst (λ (z : ℕ). is_some (found took_in k.number z three) ≡ true) same
               (taken_of_three k.number n body outcome h.asked_at h.took_at))
         ];

@@ -25,7 +25,7 @@ use Rattle.ipbus_program.specs.Steps.{UsedFrom, UsesBoards}
 use Rattle.ipbus_program.specs.Outputs.{Delivers}
 use Rattle.ipbus_program.specs.Runs.{IsDoneOf, Owes, Reads}
 
-zero_or_one : (b : Bool) → (if b then 0 else 1) ≤ 1
+pub zero_or_one : (b : Bool) → (if b then 0 else 1) ≤ 1
 zero_or_one true = omega arith
 zero_or_one false = omega arith
 

@@ -1,5 +1,5 @@
 -- What a run leaves, put together from what its steps say.
-use Rattle.std.proofs.Common.{◌≡◌, inl, inr, ℕ, ◌+◌, ◌≤◌, Bool, true, false, if◌then◌else◌, List, [], ◌∷◌, length}
+use Rattle.std.proofs.Common.{◌≡◌, inl, inr, ℕ, ◌+◌, List, [], ◌∷◌, length}
 use Rattle.std.proofs.Common.{Result, Ok, Err, IfOk, suc}
 use Rattle.std.proofs.Common.{refl, sym, ap, ◌∙◌, subst, append-nil, arith}
 use Rattle.std.specs.List.{AllByRecursion}
@@ -37,16 +37,14 @@ use Rattle.ipbus_program.specs.declared.answer.NoAnswer.TheVariants.{DoorFault, 
 use Rattle.ipbus_program.specs.Steps.{IsFailure, no_answer_of, no_answer_served}
 use Rattle.ipbus_program.specs.Steps.{IsRunFailure, IsServeFailure, Leaves, Prints, RunLeaves, ServeLeaves}
 use Rattle.ipbus_program.specs.Steps.{ServesSession}
-use Rattle.ipbus_program.proofs.Kept.{Told}
+use Rattle.load_run.proofs.Loads.{Told}
+use Rattle.ipbus_program.proofs.Causes.{zero_or_one}
 
 -- ---- a run
 
 failure : Result Answer RunFault → RunFault
 failure (Ok answer) = NoMemory
 failure (Err fault) = fault
-
-pub no_memory_is_no_rack : (fault : RunFault) → fault ≡ NoMemory → fault ≡ Rack → ⊥
-no_memory_is_no_rack fault is rack = cc
 
 pub run_failed : (session : Session) (steps : List (List Step)) (made makes : ℕ) (result : Result Answer RunFault)
     (fault : RunFault) (links : List LinkReport) → AreLeft 0 session.boards steps links → makes ≡ made + length links
@@ -74,10 +72,6 @@ run_printed session steps made makes answer runs links left counted boards spell
   prints = record { runs = runs; boards = boards; spelled = spelled; told = told };
   untouched = λ never. absurd cc;
 }
-
-zero_or_one : (b : Bool) → (if b then 0 else 1) ≤ 1
-zero_or_one true = omega arith
-zero_or_one false = omega arith
 
 pub not_refused : (session : Session) (steps : List (List Step)) (links : List LinkReport) (status : ℕ) (text : List ℕ)
     → Prints session steps links status text → status ≡ refused_status → ⊥

@@ -1,6 +1,5 @@
 pub mod Causes
 pub mod Deserved
-pub mod Kept
 pub mod Leaving
 pub mod Names
 pub mod OneAnswer

@@ -14,7 +14,7 @@ use Rattle.ipbus_program.specs.Loading.{AreLoaded}
 use Rattle.ipbus_program.specs.Runs.{Owes, Reads, generated_by}
 use Rattle.ipbus_program.specs.Steps.{InputLeaves, IsFailure, Leaves, UsedFrom, UsesBoards}
 use Rattle.ipbus_program.proofs.Causes.{input_answered, read_by}
-use Rattle.ipbus_program.proofs.Kept.{Told}
+use Rattle.load_run.proofs.Loads.{Told}
 use Rattle.ipbus_program.proofs.Leaving.{same_Err}
 
 module _ (command : Command) (reads : Reads command) (before now : Option (List ℕ)) (bytes : List ℕ)
@@ -46,24 +46,21 @@ module _ (command : Command) (reads : Reads command) (before now : Option (List 
   }
 
 -- what a load left
-generates : (command : Command) (count : ℕ) → generated_by command ≡ Some count → command ≡ Load count
-generates Run count is = absurd cc
-generates (Check table) count is = absurd cc
-generates (Serve port more) count is = absurd cc
-generates (Load more) count is = cc
-
 pub loads : (command : Command) (count : ℕ) → generated_by command ≡ Some count → command ≡ Load count
-loads command count is = generates command count is
+loads Run count is = absurd cc
+loads (Check table) count is = absurd cc
+loads (Serve port more) count is = absurd cc
+loads (Load more) count is = cc
 
 pub no_server_loads : (command : Command) (n port count : ℕ) → generated_by command ≡ Some n
     → command ≡ Serve port count → ⊥
 no_server_loads command n port count is serve =
-    let apart : Serve port count ≡ Load n = sym serve ∙ generates command n is in cc
+    let apart : Serve port count ≡ Load n = sym serve ∙ loads command n is in cc
 
 pub no_check_loads : (command : Command) (n : ℕ) (table : List ℕ) → generated_by command ≡ Some n
     → command ≡ Check table → ⊥
 no_check_loads command n table is check =
-    let apart : Check table ≡ Load n = sym check ∙ generates command n is in cc
+    let apart : Check table ≡ Load n = sym check ∙ loads command n is in cc
 
 module _ (count : ℕ) (left : Option (List ℕ)) (made makes : ℕ) (links : List LinkReport) where
   used_load : AreLoaded count links → UsedFrom (Load count) left left links

@@ -24,7 +24,7 @@ use Rattle.ipbus_program.specs.Below.{ServeLaws}
 use Rattle.ipbus_program.specs.Numbers.{refused_status}
 use Rattle.ipbus_program.specs.Owed.{IsReadToEnd, OwesService}
 use Rattle.ipbus_program.specs.Steps.{ServeLeaves, ServesSession}
-use Rattle.ipbus_program.proofs.Kept.{Told, at_links}
+use Rattle.load_run.proofs.Loads.{Told, at_links}
 use Rattle.ipbus_program.proofs.Leaving.{service_of}
 use Rattle.ipbus_program.specs.Serving.{AreServedRightly, IsServedRightly, IsServiceOf}
 

@@ -66,11 +66,12 @@ use Rattle.script_lang.specs.declared.operation.Step.{Step}
 use Rattle.script_lang.specs.declared.session.Session.{Session}
 use Rattle.transcript.specs.declared.line.BoardLine.{BoardLine}
 use Rattle.transcript.specs.Lines.{board_line}
+use Rattle.transcript.specs.Shown.{places_told}
 use Rattle.direct_run.specs.Runs.{greeting_of, opening_of}
 use Rattle.lane_history.specs.Links.{LinkReport, IsFaithful}
 use Rattle.lane_history.specs.Runs.{RepliesCame, TimeOutsWaited}
 use Rattle.served_history.specs.Boards.{ServedBoard, run_of}
-use Rattle.served_history.specs.Shown.{HasLostOnlyIfFailed, IsAddedUp, sends_told}
+use Rattle.served_history.specs.Shown.{HasLostOnlyIfFailed, IsAddedUp}
 use Rattle.hub_lane.specs.declared.answers.BoardState.{BoardState}
 use Rattle.hub_session.specs.declared.served.Served.{Served}
 use Rattle.hub_session.specs.Codes.{replied_code, timed_out_code, unsent_code}
@@ -91,7 +92,7 @@ pub record IsServedRightly (settings : Limits) (spec : BoardSpec) (served : Serv
   where
     -- where the link tells, the board executed no more packets than its line tells places
     pub executed_some : IfSome link.board
-        (λ board. length (executed board) ≤ sends_told (board_line (run_of spec served)))
+        (λ board. length (executed board) ≤ places_told (board_line (run_of spec served)))
     -- each place in its line was replied to, timed out or lost
     pub summed : IsAddedUp (board_line (run_of spec served))
     -- with so many timeouts in its line, its link had the quiet receives of their rounds, and where it tells it held a

@@ -1,7 +1,7 @@
 -- What a board executed is a merge, at any moment.
 use Rattle.std.proofs.Common.{◌≡◌, ℕ, zero, suc, ◌+◌, ◌≤◌, Bool, true, false, ◌==◌, List, [], ◌∷◌}
 use Rattle.std.proofs.Common.{◌++◌, length, map, drop, Option, Some, refl, sym, ap, ◌∙◌, subst, arith}
-use Rattle.std.proofs.Common.{append-nil, if◌then◌else◌, inl, inr}
+use Rattle.std.proofs.Common.{append-nil, if◌then◌else◌, inl}
 use Rattle.std.specs.List.{AllByRecursion, cons_option, filter_map, slice_get}
 use Rattle.std.proofs.lemmas.Bool.{eqb-true, eq-eqb}
 use Rattle.ipb_base.specs.Lists.{IsPrefix}
@@ -18,7 +18,7 @@ use Rattle.lane_record.specs.Offers.{offers_from}
 use Rattle.lane_record.specs.Legal.{IsLegal}
 use Rattle.board_history.specs.Merges.{IsSubsequence, Owned, bodies_by, bodies_owned, IsOfClients, AreSubsequences}
 use Rattle.board_history.specs.Merges.{IsMergeOfSome}
-use Rattle.board_history.proofs.Merging.{front_of_merge}
+use Rattle.board_history.proofs.Merging.{front_of_merge, sub_skip}
 use Rattle.lane_history.specs.Records.{planned_in, bodies_planned, ArePlansOf, IsPartlyPlanned}
 use Rattle.lane_record.specs.Dispatches.{plans_from, all_plans_from}
 use Rattle.lane_history.specs.Records.{HaveLeft, IsRecordOf}
@@ -71,10 +71,6 @@ drop_at : (k : ℕ) (bodies : List (List ℕ)) (body : List ℕ) → slice_get b
 drop_at k [] body e = absurd cc
 drop_at zero (b ∷ bodies) body e = let s : b ≡ body = cc in ap (λ (z : List ℕ). z ∷ bodies) s
 drop_at (suc k) (b ∷ bodies) body e = drop_at k bodies body e
-
-sub_skip : (xs : List (List ℕ)) (y : List ℕ) (ys : List (List ℕ)) → IsSubsequence xs ys → IsSubsequence xs (y ∷ ys)
-sub_skip [] y ys s = tt
-sub_skip (x ∷ xs) y ys s = inr s
 
 -- its own offer, or none
 own_offer : (client : ℕ) (c : Claim) (b : Bool) (os : List Owned) (ys : List (List ℕ)) → c.client ≡ client

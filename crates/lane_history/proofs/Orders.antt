@@ -4,6 +4,7 @@ use Rattle.std.proofs.Common.{map, Option, Some, None, refl, sym, ap, ◌∙◌,
 use Rattle.std.specs.Prelude.{nat_le}
 use Rattle.std.specs.List.{AllByRecursion}
 use Rattle.std.proofs.lemmas.Bool.Decides.{nat_tests}
+use Rattle.world_model.proofs.Lists.{either}
 use Rattle.lane_record.specs.declared.outcome.Outcome.{Outcome}
 use Rattle.lane_record.specs.declared.item.Item.{Item}
 use Rattle.lane_record.specs.Outcomes.{place_of}
@@ -16,7 +17,7 @@ use Rattle.lane_record.proofs.Finished.{first_sends_count}
 use Rattle.board_history.specs.Order.{Placed, with_place, placed, all_placed, insert, by_place, order, places_of}
 use Rattle.board_history.specs.Order.{bodies_of, RisesFrom}
 use Rattle.board_history.specs.Parts.{HasOneOrder, KeepsScripts}
-use Rattle.board_history.proofs.Sorting.{either, IsAbove, AreAbove, insert_low, counts_above, all_sorted, sorted_all}
+use Rattle.board_history.proofs.Sorting.{IsAbove, AreAbove, insert_low, counts_above, all_sorted, sorted_all}
 use Rattle.lane_history.proofs.Steps.{Step, steps_of, steps, body_in, outcome_in, of, AreStepsOf, AreOf}
 use Rattle.lane_history.proofs.Steps.{IsWithin, AreStepsOfAll}
 

@@ -21,7 +21,7 @@ use Rattle.lane_record.specs.Claims.{Claim, claims, claims_behind, claim_in, tak
 use Rattle.lane_record.specs.Legal.{IsLegal, IsLate, IsLateEnough}
 use Rattle.lane_record.specs.Bounds.{IsKept, HasReached, timeouts}
 use Rattle.lane_record.proofs.Lookups.{found_append, found_other, first_or, if_some, and_true}
-use Rattle.lane_record.proofs.Sequences.{each_then}
+use Rattle.lane_record.proofs.Sequences.{each_front, each_then}
 use Rattle.lane_record.proofs.Finished.{outcomes_taken}
 use Rattle.lane_record.specs.Dispatches.{joined}
 use Rattle.board_history.specs.GiveUps.{time_outs, was_given_up, times_given_up, IsExact, GaveUpOnlyAfter}
@@ -272,11 +272,6 @@ each_behind P front [] ys is = subst (λ zs. EachBehind P zs ys) (sym (append-ni
 each_behind P front (x ∷ xs) ys is = subst (λ zs. EachBehind P zs ys) (append_assoc front (x ∷ []) xs)
     (each_behind P (front ++ x ∷ []) xs ys is.1)
 
-each_before : {A : Type 0} (P : List A → A → Type 0) (front xs ys : List A) → EachBehind P front (xs ++ ys)
-    → EachBehind P front xs
-each_before P front [] ys is = tt
-each_before P front (x ∷ xs) ys is = (is.0, each_before P (front ++ x ∷ []) xs ys is.1)
-
 -- the same, where the Ask is looked up
 abbrev pub IsFoundLate : List Item → Item → What → Type 0
 IsFoundLate front x (Plan body) = Unit {0}
@@ -402,7 +397,7 @@ rans_late client seq (r ∷ rs) front whole none late =
     ∙ none_found ask_in client (seq + length r.took + j) tooks
     (tooks_are_not ask_in client seq r.took (λ o n. refl)) in (
       tooks_late client seq r.asked r.took (front ++ asks) at
-          (each_before HasLate (front ++ asks) tooks later behind),
+          (each_front HasLate (front ++ asks) tooks later behind),
       rans_late client (seq + length r.took) rs ((front ++ asks) ++ tooks) whole.1 next
           (each_behind HasLate (front ++ asks) tooks later behind),
     )

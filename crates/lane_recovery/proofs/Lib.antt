@@ -5,4 +5,4 @@ pub mod Heard
 mod Receiving
 mod Sending
 mod Lowest
-mod Rounds
+pub mod Rounds

@@ -103,7 +103,7 @@ message_round hub t m = message_cases (OverOr hub t) hub m
 reached_less : (m n count : ℕ) → m ≤ n → HasReached n count → HasReached m count
 reached_less m n count le is = omega (arith, le, is)
 
-reached_later : (n before now : ℕ) → before ≤ now → HasReached n before → HasReached n now
+pub reached_later : (n before now : ℕ) → before ≤ now → HasReached n before → HasReached n now
 reached_later n before now le is = omega (arith, le, is)
 
 reached_rose : (n before now : ℕ) → HasReached n before → Rose before now → HasReached (n + 1) now
@@ -152,7 +152,7 @@ too_long_same : (old new : Board) (body : List ℕ) → new.mtu ≡ old.mtu → 
 too_long_same old new body e = ap (λ (mtu : ℕ). nat_lt (payload_of mtu) (length body + 1) || nat_lt (payload_of mtu)
     (reply_room body + 1)) e
 
-fits_on : (old new : Board) (sent : List Offered) → new.mtu ≡ old.mtu → AllByRecursion (CanTake old) sent
+pub fits_on : (old new : Board) (sent : List Offered) → new.mtu ≡ old.mtu → AllByRecursion (CanTake old) sent
     → AllByRecursion (CanTake new) sent
 fits_on old new sent e is = all-map (CanTake old) (CanTake new) sent (λ o fits. too_long_same old new o.body e ∙
     fits) is
@@ -161,7 +161,7 @@ only_one : (x y j : ℕ) → slice_get (x ∷ []) j ≡ Some y → x ≡ y
 only_one x y zero e = cc
 only_one x y (suc j) e = absurd (cc)
 
-mul_more : (r g : ℕ) → r * (g + 1) ≡ r * g + r
+pub mul_more : (r g : ℕ) → r * (g + 1) ≡ r * g + r
 mul_more r g = let a : r * 1 ≡ r = omega arith in mul-add r g 1 ∙ ap (λ (z : ℕ). r * g + z) a
 
 same_count : (os ps : List OpenPlace) → places ps ≡ places os → length os ≤ length ps

@@ -6,6 +6,7 @@ use Rattle.std.specs.Prelude.{nat_le}
 use Rattle.std.specs.List.{AllByRecursion, flat_map, count_by, sum, sum_by}
 use Rattle.std.proofs.lemmas.List.Sums.{sum_by-cons, sum_by-append}
 use Rattle.ipb_base.proofs.AllLemmas.{AllByRecursion-append}
+use Rattle.world_model.proofs.Lists.{either}
 use Rattle.lane_record.specs.declared.outcome.Outcome.{Outcome}
 use Rattle.lane_record.specs.declared.outcome.Outcome.TheVariants.{Replied, TimedOut, Unsent, LinkLost}
 use Rattle.lane_record.specs.Lists.{CountsFrom}
@@ -15,7 +16,7 @@ use Rattle.transcript.specs.Lines.{outcomes_in}
 use Rattle.board_history.specs.Order.{Placed, with_place, placed, all_placed, insert, by_place, places_of}
 use Rattle.board_history.specs.Order as orders
 use Rattle.board_history.specs.Parts.{IsReplied, IsReplyOf}
-use Rattle.board_history.proofs.Sorting.{either, all_sorted}
+use Rattle.board_history.proofs.Sorting.{all_sorted}
 use Rattle.load_session.specs.Claims.{has_succeeded, is_done, word_in, word_in_reply, word_at_place, sum_below}
 use Rattle.load_session.proofs.Plans.{bodies-length, bodies_of, body}
 use Rattle.load_session.proofs.Replies.{AreAlike, cells, replied, replies_on, reply}

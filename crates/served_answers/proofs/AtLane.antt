@@ -20,14 +20,13 @@ use Rattle.hub_framing.specs.Frames.{ReplyFrame}
 use Rattle.board_bus.specs.Cells.{CellMap}
 use Rattle.board_history.specs.Parts.{IsReplied}
 use Rattle.lane_history.specs.Links.{HasFailed, LinkReport}
+use Rattle.lane_history.proofs.Waits.{count_cons}
 use Rattle.served_history.specs.Shown.{IsNotLostUnlessFailed, IsRightlyReplied, given_up, places_in}
 use Rattle.served_answers.specs.Answers.{has_code_at}
 use Rattle.served_answers.specs.Frames.{IsAnsweredRightly, is_given_up_at, place_in, place_on}
-use Rattle.served_answers.proofs.Counting.{IsCodeOf, count_cons}
+use Rattle.served_answers.proofs.Counting.{IsCodeOf}
+use Rattle.served_answers.proofs.Lanes.{same_lane}
 use Rattle.served_answers.proofs.OneFrame.{Became, HasBecome, IsAsked, IsNothing, at_packet}
-
-same_lane : (m n : ℕ) → Some (Lane m) ≡ Some (Lane n) → m ≡ n
-same_lane m n e = cc
 
 any_of : (xs : List Submission) → AllByRecursion (λ (s : Submission). Unit {0}) xs
 any_of [] = tt

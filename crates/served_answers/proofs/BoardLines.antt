@@ -13,6 +13,7 @@ use Rattle.transcript.specs.declared.greeting.Greeting.{Greeting}
 use Rattle.transcript.specs.declared.greeting.Greeting.TheVariants.{Live, Silent, Down}
 use Rattle.transcript.specs.declared.line.BoardLine.TheVariants as board_lines
 use Rattle.transcript.specs.Lines.{board_line, is_lost}
+use Rattle.lane_history.proofs.Waits.{count_cons}
 use Rattle.hub_session.specs.Codes.{replied_code, timed_out_code}
 use Rattle.hub_session.specs.Exchanges.{Exchange, submissions_on}
 use Rattle.served_history.specs.Boards.{ServedBoard, run_of}
@@ -22,7 +23,7 @@ use Rattle.session_serve.specs.Connections.{Conversation, and_then, exchanges_of
 use Rattle.served_answers.specs.Answers.{AllTellAnswers, TellsAnswers, answers_by, has_code_at}
 use Rattle.served_answers.proofs.Asked.{AreAsked}
 use Rattle.served_answers.proofs.AtLane.{coded_are}
-use Rattle.served_answers.proofs.Counting.{IsCodeOf, count_cons, replied_is, timed_out_is}
+use Rattle.served_answers.proofs.Counting.{IsCodeOf, replied_is, timed_out_is}
 use Rattle.served_answers.proofs.EachBoard.{AskedOf, submitted, told_at}
 use Rattle.served_answers.proofs.Lanes.{lane_at, one_place}
 use Rattle.served_answers.proofs.Whole.{IsAllAnswered}

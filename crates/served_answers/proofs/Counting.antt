@@ -1,17 +1,12 @@
 -- The codes of what became of bodies, and counts of them.
-use Rattle.std.proofs.Common.{◌≡◌, ◌≢◌, ℕ, ◌+◌, ◌≤◌, ◌==◌, Bool, true, cond, List, ◌∷◌, None, refl, arith, count_by}
+use Rattle.std.proofs.Common.{◌≡◌, ◌≢◌, ℕ, ◌≤◌, ◌==◌, Bool, true, None, refl, arith}
 use Rattle.std.specs.Prelude.{is_some}
-use Rattle.std.proofs.lemmas.List.Sums.{sum_by-cons}
 use Rattle.packet_codec.specs.declared.packet.Order.{Order}
 use Rattle.lane_record.specs.declared.outcome.Outcome.{Outcome}
 use Rattle.lane_record.specs.declared.outcome.Outcome.TheVariants.{Replied, TimedOut, Unsent, LinkLost}
 use Rattle.lane_record.specs.Outcomes.{is_replied, is_timed_out, place_of}
 use Rattle.hub_session.specs.Answers.{reply_of_outcome}
 use Rattle.hub_session.specs.Codes.{link_lost_code, replied_code, timed_out_code, unsent_code}
-
-pub count_cons : {X : Type 0} (p : X → Bool) (x : X) (xs : List X)
-    → count_by p (x ∷ xs) ≡ cond (p x) 1 0 + count_by p xs
-count_cons p x xs = sum_by-cons (λ y. cond (p y) 1 0) x xs
 
 -- a code is that of the outcomes of one kind
 pub record IsCodeOf (kind : Outcome → Bool) (code : ℕ) : Type 0 where

@@ -7,7 +7,7 @@ use Rattle.transcript.specs.declared.greeting.Greeting.{Greeting}
 use Rattle.transcript.specs.declared.greeting.Greeting.TheVariants.{Live, Silent, Down}
 use Rattle.session_serve.specs.Boards.{states_from}
 
-same_lane : (m n : ℕ) → Some (Lane m) ≡ Some (Lane n) → m ≡ n
+pub same_lane : (m n : ℕ) → Some (Lane m) ≡ Some (Lane n) → m ≡ n
 same_lane m n e = cc
 
 at_least : (lane : ℕ) (told : List Greeting) (i k : ℕ) → slice_get (states_from lane told) i ≡ Some (Lane k) → lane ≤ k

@@ -1,6 +1,7 @@
 -- What a frame is to the board at one position: a body was submitted there for it, or nothing.
 use Rattle.std.proofs.Common.{◌≡◌, ◌≢◌, ℕ, ◌≤◌, ◌==◌, ◌&&◌, Bool, true, false, if◌then◌else◌}
 use Rattle.std.proofs.Common.{List, Option, Some, None, refl, sym, ap, ◌∙◌, inl, inr, arith}
+use Rattle.std.proofs.lemmas.Bool.{and_right}
 use Rattle.std.proofs.lemmas.Bool.Decides.{eqb_tells}
 use Rattle.packet_codec.specs.declared.packet.Packet.{Packet}
 use Rattle.lane_record.specs.declared.outcome.Outcome.{Outcome}
@@ -60,14 +61,10 @@ none_if : (b : Bool) (got : Got) → place_in got ≡ None → place_if b got �
 none_if true got none = none
 none_if false got none = refl
 
-and_false : (b : Bool) → (b && false) ≡ false
-and_false true = refl
-and_false false = refl
-
 pub far_code : (b : Bool) (c code : ℕ) → 4 ≤ c → code ≤ 3 → (b && (c == code)) ≡ false
 far_code b c code far near = elim (eqb_tells c code) [
   | inl same ↦ (let equal = same.1 in absurd (omega (arith, far, near, equal)))
-  | inr apart ↦ ap (λ (x : Bool). b && x) apart.0 ∙ and_false b
+  | inr apart ↦ ap (λ (x : Bool). b && x) apart.0 ∙ and_right b false refl
 ]
 
 far_refusal : (why : PlanRefusal) → 4 ≤ refusal_code why

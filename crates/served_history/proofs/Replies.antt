@@ -23,6 +23,7 @@ use Rattle.transcript.specs.declared.board_run.BoardRun.{BoardRun}
 use Rattle.transcript.specs.declared.greeting.Greeting.{Greeting}
 use Rattle.transcript.specs.declared.greeting.Greeting.TheVariants.{Live, Silent, Down}
 use Rattle.transcript.specs.Lines.{outcomes_on}
+use Rattle.transcript.specs.Shown.{places_told}
 use Rattle.board_history.specs.History.{bodies_by_client, outcomes_by_client}
 use Rattle.board_history.specs.Order.{Placed, all_placed, bodies_of as bodies_in, order, placed, places_of, with_place}
 use Rattle.board_history.specs.Parts.{AreRepliesOf, HasOneOrder, IsExecuted, IsExecutedOnce, IsReplyOf}
@@ -34,7 +35,7 @@ use Rattle.lane_history.proofs.BoardLines.{line_at}
 use Rattle.lane_history.proofs.Shown.{some_then}
 use Rattle.served_history.specs.Connections.{bodies_of, outcomes_of}
 use Rattle.served_history.specs.Boards.{IsAskedOnlyIfLive, IsServedOver, ServedBoard, run_of}
-use Rattle.served_history.specs.Shown.{IsRight, IsRightlyReplied, OfEach, sends_told}
+use Rattle.served_history.specs.Shown.{IsRight, IsRightlyReplied, OfEach}
 use Rattle.served_history.proofs.Parts.{bodies_shown, outcomes_shown, same_lengths}
 
 -- ---- the first sends
@@ -58,7 +59,7 @@ none_executed line link none =
 executed_as : Sends → (settings : Limits) (spec : BoardSpec) (served : ServedBoard) (link : LinkReport)
     (told : Greeting) → IsAsTold settings spec (run_of spec served) link told
     → IfSome link.board
-    (λ (board : Board). length (executed board) ≤ sends_told (line_at (run_of spec served) told))
+    (λ (board : Board). length (executed board) ≤ places_told (line_at (run_of spec served) told))
 executed_as sends settings spec served link (Live payload) is =
     let run = run_of spec served in
     let placed_bodies = order (bodies_by_client run) (outcomes_by_client run) in
@@ -236,7 +237,7 @@ replied_as settings spec served link Down asked is =
 pub executed_within : Sends → (settings : Limits) (spec : BoardSpec) (served : ServedBoard) (link : LinkReport)
     → IsServedOver settings spec served link
     → IfSome link.board
-    (λ (board : Board). length (executed board) ≤ sends_told (line_at (run_of spec served) served.told))
+    (λ (board : Board). length (executed board) ≤ places_told (line_at (run_of spec served) served.told))
 executed_within sends settings spec served link is =
     executed_as sends settings spec served link served.told is.as_told
 

@@ -54,13 +54,7 @@ IsRightlyReplied opening done s = IsRight opening done s.body s.outcome
 
 -- ---- the line of a board
 
--- the first sends that the line tells; a board that is not live has none
-abbrev pub sends_told : BoardLine → ℕ
-sends_told (Live name sent replied timed_out lost) = sent
-sends_told (Silent name) = 0
-sends_told (Down name) = 0
-
--- and the bodies that it tells lost with the link
+-- the bodies that the line tells lost with the link; a board that is not live has none
 abbrev pub lost_told : BoardLine → ℕ
 lost_told (Live name sent replied timed_out lost) = lost
 lost_told (Silent name) = 0

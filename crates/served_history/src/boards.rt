@@ -10,6 +10,7 @@ ghost use Rattle.lane_record.specs.Outcomes.{is_replied, is_sent, is_timed_out};
 ghost use Rattle.transcript.specs.declared.greeting.Greeting.TheVariants.{Live};
 ghost use Rattle.transcript.specs.declared.line.BoardLine.TheVariants as board_lines;
 ghost use Rattle.transcript.specs.Lines.{board_line, is_lost};
+ghost use Rattle.transcript.specs.Shown.{places_told};
 ghost use Rattle.board_history.specs.Parts.{IsReplied};
 ghost use Rattle.direct_run.specs.Runs.{greeting_of, opening_of};
 ghost use Rattle.lane_history.specs.Links.{IsFaithful, LinkReport};
@@ -18,7 +19,7 @@ ghost use Rattle.served_history.specs.Boards.{AreServedOver, IsServedAt, IsServe
 ghost use Rattle.served_history.specs.Connections.{outcomes_of};
 ghost use Rattle.served_history.specs.Shown.{GaveUpOnlyAfterRounds, HasLostOnlyIfFailed, IsAddedUp};
 ghost use Rattle.served_history.specs.Shown.{IsNotLostUnlessFailed, IsRightlyReplied, OfEach, PlacesDiffer};
-ghost use Rattle.served_history.specs.Shown.{PlacesRise, sends_told};
+ghost use Rattle.served_history.specs.Shown.{PlacesRise};
 
 use board_history::laws::the_first_sends_are_the_order;
 
@@ -42,7 +43,7 @@ pub fn each_body_has_a_place_of_its_own()
 pub fn a_board_that_tells_executed_what_was_replied()
     ensures executed { (settings : Limits) (spec : BoardSpec) (served : ServedBoard) (link : LinkReport) →
         IsServedOver settings spec served link →
-        IfSome link.board (λ board. length (executed board) ≤ sends_told (board_line (run_of spec served))) }
+        IfSome link.board (λ board. length (executed board) ≤ places_told (board_line (run_of spec served))) }
     ensures replied { (settings : Limits) (spec : BoardSpec) (served : ServedBoard) (link : LinkReport) →
         IsServedOver settings spec served link → IfSome link.board
         (λ board. OfEach (IsRightlyReplied (opening_of spec.link) (executed board)) served.connections) }

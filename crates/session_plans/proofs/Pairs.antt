@@ -1,13 +1,10 @@
 -- Pairs of a lane and a number of bodies.
 use Rattle.std.proofs.Common.{◌≡◌, ℕ, zero, ◌+◌, ◌≤◌, ◌<◌, ◌==◌, ◌∙◌, Bool, true, false, cond, List, [], ◌∷◌, ◌++◌}
 use Rattle.std.proofs.Common.{length, get_or, refl, sym, ap, arith, append-nil, append_assoc, suc}
+use Rattle.std.proofs.lemmas.Bool.{cond_both}
 use Rattle.std.proofs.lemmas.Bool.Decides.{nat_tests}
 use Rattle.client_threads.specs.Clients.{AreRisingFrom, bodies_on}
 use Rattle.session_plans.specs.Plans.{pair_of, pairs_from}
-
-pub either : {A : Type 0} (P : A → Type 0) (b : Bool) (x y : A) → (b ≡ true → P x) → (b ≡ false → P y) → P (cond b x y)
-either P true x y f g = f refl
-either P false x y f g = g refl
 
 -- one more lane
 pub pairs_more : (lane : ℕ) (counts : List ℕ) (count : ℕ)
@@ -32,8 +29,8 @@ pub pairs_rise : (lane many : ℕ) (counts : List ℕ) → lane + length counts 
 pairs_rise lane many [] le = tt
 pairs_rise lane many (count ∷ counts) le =
     let later = pairs_rise (lane + 1) many counts (omega (arith, le)) in
-    either (λ (front : List (ℕ × ℕ)). AreRisingFrom lane many (front ++ pairs_from (lane + 1) counts)) (count == 0) []
-    ((lane, count) ∷ [])
+    cond_both (count == 0) [] ((lane, count) ∷ [])
+    (λ (front : List (ℕ × ℕ)). AreRisingFrom lane many (front ++ pairs_from (lane + 1) counts))
     (λ _. rising_lower lane (lane + 1) many (pairs_from (lane + 1) counts) (omega arith) later)
     (λ _. (omega arith, omega (arith, le), later))
 
@@ -43,8 +40,8 @@ none_before at lane [] lt = refl
 none_before at lane (count ∷ counts) lt =
     let later = none_before at (lane + 1) counts (omega (arith, lt)) in
     let apart : (lane == at) ≡ false = grind (arith, nat_tests) in
-    either (λ (front : List (ℕ × ℕ)). bodies_on at (front ++ pairs_from (lane + 1) counts) ≡ 0) (count == 0) []
-    ((lane, count) ∷ [])
+    cond_both (count == 0) [] ((lane, count) ∷ [])
+    (λ (front : List (ℕ × ℕ)). bodies_on at (front ++ pairs_from (lane + 1) counts) ≡ 0)
     (λ _. later)
     (λ _. ap (λ (b : Bool). cond b (count + bodies_on at (pairs_from (lane + 1) counts))
     (bodies_on at (pairs_from (lane + 1) counts))) apart ∙ later)
@@ -57,16 +54,15 @@ bodies_at at lane zero (count ∷ counts) is =
     let here : (lane == at) ≡ true = grind (arith, nat_tests) in
     let none = none_before at (lane + 1) counts (omega (arith, is)) in
     let rest = bodies_on at (pairs_from (lane + 1) counts) in
-    either (λ (front : List (ℕ × ℕ)). bodies_on at (front ++ pairs_from (lane + 1) counts) ≡ count) (count == 0) []
-    ((lane, count) ∷ [])
+    cond_both (count == 0) [] ((lane, count) ∷ [])
+    (λ (front : List (ℕ × ℕ)). bodies_on at (front ++ pairs_from (lane + 1) counts) ≡ count)
     (λ e. let zero_count : count ≡ 0 = grind (arith, nat_tests) in none ∙ sym zero_count)
     (λ _. ap (λ (b : Bool). cond b (count + rest) rest) here ∙ omega (arith, none))
 bodies_at at lane (suc index) (count ∷ counts) is =
     let apart : (lane == at) ≡ false = grind (arith, nat_tests) in
     let rest = bodies_on at (pairs_from (lane + 1) counts) in
     let later = bodies_at at (lane + 1) index counts (omega (arith, is)) in
-    either (λ (front : List (ℕ × ℕ)). bodies_on at (front ++ pairs_from (lane + 1) counts) ≡ get_or counts index 0)
-    (count == 0) []
-    ((lane, count) ∷ [])
+    cond_both (count == 0) [] ((lane, count) ∷ [])
+    (λ (front : List (ℕ × ℕ)). bodies_on at (front ++ pairs_from (lane + 1) counts) ≡ get_or counts index 0)
     (λ _. later)
     (λ _. ap (λ (b : Bool). cond b (count + rest) rest) apart ∙ later)

@@ -2,17 +2,14 @@
 use Rattle.std.proofs.Common.{◌≡◌, ℕ, zero, suc, ◌+◌, ◌<◌, ◌∙◌, List, [], ◌∷◌, ◌++◌, length, drop, get_or, map}
 use Rattle.std.proofs.Common.{refl, sym, ap, subst, arith, append_assoc, append-nil, set, take}
 use Rattle.std.specs.List.{AllByRecursion}
-use Rattle.std.proofs.lemmas.List.{drop_all, drop_more, length-take-le, map-append, take_all, take_more}
+use Rattle.std.proofs.lemmas.List.{drop_all, drop_more, length-map, length-take-le, map-append, nil_from_length}
+use Rattle.std.proofs.lemmas.List.{set_at, take_all, take_more}
 use Rattle.lane_record.specs.declared.outcome.Outcome.{Outcome}
 use Rattle.client_threads.specs.declared.result.ClientResult.{ClientResult}
 use Rattle.direct_run.specs.Runs.{parts_with}
 use Rattle.transcript.specs.declared.board_run.ClientPart.{ClientPart}
 use Rattle.transcript.specs.Plan.{ClientBodies}
 use Rattle.session_plans.specs.Parts.{HasClients, HasLanes, HasNext, next_of, others_of, outcomes_on_lane, parts_from}
-
-length_map : {A B : Type 0} (f : A → B) (xs : List A) → length (map f xs) ≡ length xs
-length_map f [] = refl
-length_map f (x ∷ xs) = ap suc (length_map f xs)
 
 -- the parts on each board, by what is left of each client's outcomes
 abbrev pub parts_by : List (List ClientBodies) → List (List (List Outcome)) → List (List ClientPart)
@@ -77,13 +74,7 @@ pub record PartsSoFar (k : ℕ) (planned rest : List ClientBodies) (before now :
   pub others : now ≡ map others_of (take k before) ++ drop k before
   pub many : length rest + k ≡ length before
 
-set_at : {A : Type 0} (front : List A) (x y : A) (rest : List A) (k : ℕ) → length front ≡ k
-    → set (front ++ x ∷ rest) k y ≡ front ++ y ∷ rest
-set_at [] x y rest k is = subst (λ (n : ℕ). set (x ∷ rest) n y ≡ y ∷ rest) is refl
-set_at (f ∷ front) x y rest zero is = absurd cc
-set_at (f ∷ front) x y rest (suc k) is = ap (λ l. f ∷ l) (set_at front x y rest k (omega (arith, is)))
-
-get_behind : {A : Type 0} (front rest : List A) (k : ℕ) (d : A) → length front ≡ k
+pub get_behind : {A : Type 0} (front rest : List A) (k : ℕ) (d : A) → length front ≡ k
     → get_or (front ++ rest) k d ≡ get_or rest 0 d
 get_behind [] rest k d is = ap (λ (n : ℕ). get_or rest n d) (sym is)
 get_behind (f ∷ front) rest zero d is = absurd cc
@@ -100,7 +91,7 @@ client_done k planned rest later p before now after client left outcomes parts m
     let front = map others_of (take k before) in
     let behind = drop (k + 1) before in
     let part : ClientPart = record { planned = p; outcomes = outcomes } in
-    let long : length front ≡ k = (let e = length_map others_of (take k before) in
+    let long : length front ≡ k = (let e = length-map (take k before) others_of in
     let g = length-take-le k before (omega (arith, within)) in omega (arith, e, g)) in
     let here : client ≡ get_or before k client = at
     ∙ (ap (λ (l : List (List (List Outcome))). get_or l k client) so_far.others
@@ -123,7 +114,7 @@ client_done k planned rest later p before now after client left outcomes parts m
       others = put
           ∙ (ap (λ (l : List (List (List Outcome))). set l k left)
           (so_far.others ∙ ap (λ (l : List (List (List Outcome))). front ++ l) begins)
-          ∙ (set_at front client left behind k long
+          ∙ (set_at front client behind left k long
           ∙ (ap (λ (l : List (List Outcome)). front ++ others_of l ∷ behind) (sym taken)
           ∙ (sym (append_assoc front (others_of client ∷ []) behind)
           ∙ ap (λ (l : List (List (List Outcome))). l ++ behind)
@@ -159,7 +150,7 @@ none_done boards results now is lanes clients = record {
   left = subst (AllByRecursion (HasLeft (length boards))) (sym is) (lanes_left (length boards) results lanes);
   clients' = subst (λ (n : ℕ). AllByRecursion (HasClients n) boards)
       (sym (ap (λ (l : List (List (List Outcome))). length l) is
-      ∙ length_map (λ (r : ClientResult). r.lanes) results)) clients;
+      ∙ length-map results (λ (r : ClientResult). r.lanes))) clients;
 }
 
 some_next : (many : ℕ) (clients : List (List (List Outcome))) → 0 < many → AllByRecursion (HasLeft many) clients
@@ -201,19 +192,15 @@ board_done boards rest later planned lanes now after parts more made so_far is m
           ∙ (ap (λ (l : List ClientPart). parts ++ l ∷ rests) makes ∙ here.whole)));
       left = subst (AllByRecursion (HasLeft (length later))) (sym others) (one_less (length later) now here.left);
       clients' = subst (λ (n : ℕ). AllByRecursion (HasClients n) later)
-          (sym (ap (λ (l : List (List (List Outcome))). length l) others ∙ length_map others_of now)) here.clients'.1;
+          (sym (ap (λ (l : List (List (List Outcome))). length l) others ∙ length-map now others_of)) here.clients'.1;
     }
-
-no_more : {A : Type 0} (xs : List A) → length xs ≡ 0 → xs ≡ []
-no_more [] over = refl
-no_more (x ∷ xs) over = absurd cc
 
 pub all_done : (boards rest : List (List ClientBodies)) (results : List ClientResult)
     (now : List (List (List Outcome))) (parts : List (List ClientPart))
     → BoardsSoFar boards rest (map (λ (r : ClientResult). r.lanes) results) now parts → length rest ≡ 0
     → parts ≡ parts_from 0 boards results
 all_done boards rest results now parts so_far over =
-    let none = no_more rest over in
+    let none = nil_from_length rest over in
     let here = subst (λ (l : List (List ClientBodies)). BoardsSoFar boards l (map (λ (r : ClientResult). r.lanes)
     results)
     now parts) none so_far in
@@ -224,6 +211,6 @@ pub written_back : (n : ℕ) (old new : List (List (List Outcome))) → n ≡ le
     → take n (new ++ drop (length new) old) ≡ map others_of old
 written_back n old new is made =
     let same : length new ≡ length old =
-    ap (λ (l : List (List (List Outcome))). length l) made ∙ length_map others_of old in
+    ap (λ (l : List (List (List Outcome))). length l) made ∙ length-map old others_of in
     ap (λ (l : List (List (List Outcome))). take n (new ++ l)) (drop_all (length new) old (omega (arith, same)))
     ∙ (ap (take n) (append-nil new) ∙ (take_all n new (omega (arith, same, is)) ∙ made))

@@ -1,9 +1,9 @@
 -- The plans of the clients over all boards.
 use Rattle.std.proofs.Common.{◌≡◌, ℕ, zero, suc, ◌+◌, ◌≤◌, ◌<◌, ◌∙◌, ◌^◌, List, [], ◌∷◌, ◌++◌, length, get_or, map}
-use Rattle.std.proofs.Common.{refl, sym, ap, subst, arith, append_assoc, drop, take, length-append, Option, Some}
+use Rattle.std.proofs.Common.{refl, sym, ap, subst, arith, append_assoc, take, length-append, Option, Some}
 use Rattle.std.specs.List.{AllByRecursion, range_with_len, slice_get}
 use Rattle.std.specs.Prelude.{option_and_then, unwrap_or}
-use Rattle.std.proofs.lemmas.List.{drop_more, length-take-le, map-append, take_more}
+use Rattle.std.proofs.lemmas.List.{length-map, length-take-le, map-append, take_more}
 use Rattle.std.proofs.lemmas.List.FromFn.{map-range_with_len_more}
 use Rattle.std.specs.Prelude.{fold}
 use Rattle.mtu_packer.specs.Packed.{Contents, packed}
@@ -43,10 +43,6 @@ pub one_at_most : (step : Step) → ends_in step ≤ 1
 one_at_most (Do op) = omega arith
 one_at_most dispatch_step = omega arith
 
-pub begins_at : {A : Type 0} (xs : List A) (i : ℕ) (x : A) → i < length xs → x ≡ get_or xs i x
-    → drop i xs ≡ x ∷ drop (i + 1) xs
-begins_at xs i x within is = drop_more xs i x within ∙ ap (λ y. y ∷ drop (i + 1) xs) (sym is)
-
 fronts_at : {A : Type 0} (xs : List A) (i : ℕ) (x : A) → i < length xs → x ≡ get_or xs i x
     → take (i + 1) xs ≡ take i xs ++ x ∷ []
 fronts_at xs i x within is = take_more xs i x within ∙ ap (λ y. take i xs ++ y ∷ []) (sym is)
@@ -60,22 +56,18 @@ folded_counts all (d ∷ ds) n e =
     let more = length-append all.counts (length d.bodies ∷ []) in
     folded_counts (with_dispatch all d) ds (n + 1) (omega (arith, more, e)) ∙ omega arith
 
-length_map : {A B : Type 0} (f : A → B) (xs : List A) → length (map f xs) ≡ length xs
-length_map f [] = refl
-length_map f (x ∷ xs) = ap suc (length_map f xs)
-
 -- a client's plan has a number of bodies for each dispatch of its script
 planned_counts : (position payload : ℕ) (steps : List Step)
     → length (planned_on position (Live payload) steps).counts ≡ length (dispatches steps)
 planned_counts position payload steps =
-    let same = length_map (λ (d : List RegOp). packed payload (ops_on position d)) (dispatches steps) in
+    let same = length-map (dispatches steps) (λ (d : List RegOp). packed payload (ops_on position d)) in
     folded_counts no_bodies (plan payload position steps) 0 refl ∙ omega (arith, same)
 
 abbrev pub dispatch_counts : List (List Step) → List ℕ
 dispatch_counts scripts = map (λ (steps : List Step). length (dispatches steps)) scripts
 
 pub counts_long : (scripts : List (List Step)) → length (dispatch_counts scripts) ≡ length scripts
-counts_long scripts = length_map (λ (steps : List Step). length (dispatches steps)) scripts
+counts_long scripts = length-map scripts (λ (steps : List Step). length (dispatches steps))
 
 all_counts : (position payload : ℕ) (scripts : List (List Step))
     → map (λ (p : ClientBodies). length p.counts) (plans_on position (Live payload) scripts) ≡ dispatch_counts scripts
@@ -117,7 +109,7 @@ dispatches_for : (boards : List (List ClientBodies)) (client : ℕ) (ds : List �
     → AllByRecursion (λ (d : Dispatch). AreRisingFrom 0 (length boards) d.asks) (map (dispatch_over boards client) ds)
 dispatches_for boards client [] = tt
 dispatches_for boards client (d ∷ ds) =
-    let same = length_map (count_at client d) boards in (
+    let same = length-map boards (count_at client d) in (
       pairs_rise 0 (length boards) (map (count_at client d) boards) (omega (arith, same)),
       dispatches_for boards client ds,
     )
@@ -140,7 +132,7 @@ lane_more client dispatch k lane count boards board old new within is so_far at 
     let f = count_at client dispatch in
     let front = map f (take k boards) in
     let long : 0 + length front ≡ k =
-    (let e = length_map f (take k boards) in let g = length-take-le k boards (omega (arith, within)) in omega (
+    (let e = length-map (take k boards) f in let g = length-take-le k boards (omega (arith, within)) in omega (
       arith,
       e,
       g,
@@ -172,7 +164,7 @@ pub client_more : (boards : List (List ClientBodies)) (k many : ℕ) (scripts : 
 client_more boards k many scripts steps old new made within is so_far count plan push =
     let manys = dispatch_counts (take k scripts) in
     let long : 0 + length manys ≡ k =
-    (let e = length_map (λ (s : List Step). length (dispatches s)) (take k scripts) in
+    (let e = length-map (take k scripts) (λ (s : List Step). length (dispatches s)) in
     let g = length-take-le k scripts (omega (arith, within)) in omega (arith, e, g)) in
     push
     ∙ (ap (λ (ps : List ClientPlan). ps ++ made ∷ []) so_far

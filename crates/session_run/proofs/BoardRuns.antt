@@ -1,8 +1,7 @@
 -- What became of a board whose clients ran on its lane.
-use Rattle.std.proofs.Common.{◌≡◌, ℕ, ◌∙◌, List, Option, Some, None}
-use Rattle.std.proofs.Common.{sym, ap, subst}
-use Rattle.std.specs.Prelude.{IfSome, IfOk, Result, Ok, Err}
-use Rattle.std.proofs.lemmas.Option.{same_Some}
+use Rattle.std.proofs.Common.{◌≡◌, ℕ, ◌∙◌, List, Option}
+use Rattle.std.proofs.Common.{sym, ap}
+use Rattle.std.specs.Prelude.{IfSome}
 use Rattle.ipb_base.specs.Numbers.{payload_of}
 use Rattle.world_model.specs.Board.{executed}
 use Rattle.world_core.specs.Telling.{Telling}
@@ -16,6 +15,7 @@ use Rattle.transcript.specs.declared.greeting.Greeting.TheVariants.{Live}
 use Rattle.transcript.specs.Plan.{plans_on}
 use Rattle.lane_history.specs.Links.{IsBoardOf, IsUntouched, LinkReport}
 use Rattle.lane_history.specs.Runs.{ExecutedSome, ShowsScripts}
+use Rattle.lane_history.proofs.Shown.{at_some}
 use Rattle.hub_lane.specs.Lanes.{LaneState}
 use Rattle.board_greeting.specs.Boards.{IsLaneTo}
 use Rattle.session_run.specs.Boards.{IsNamed}
@@ -28,10 +28,6 @@ pub stopped_at : {L : Type 0} (settings : Limits) (scripts : List (List Step)) (
     → IsLaneTo settings spec told lane
 stopped_at settings scripts position spec lane told stopped =
     record { settings' = stopped.settings'; board' = stopped.board' }
-
-at_some : {A : Type 0} (P : A → Type 0) (o : Option A) (x : A) → o ≡ Some x → IfSome o P → P x
-at_some P None x e p = absurd cc
-at_some P (Some y) x e p = subst P (same_Some y x e) p
 
 -- the run of a lane's clients, by its name and its parts
 pub record RunsLive {L : Type 0} (spec : BoardSpec) (board : ℕ) (scripts : List (List Step)) (lane : LaneState L)
@@ -53,10 +49,6 @@ runs_live {L} spec board payload scripts lane parts run same ran named =
       greeting' = greeting;
       ran = alone;
     }
-
-pub if_ok : {A E : Type 0} (P Q : A → Type 0) (r : Result A E) → IfOk r P → ((x : A) → P x → Q x) → IfOk r Q
-if_ok P Q (Ok x) p leads = leads x p
-if_ok P Q (Err e) p leads = tt
 
 abbrev pub UntouchedLaw : Type 0
 UntouchedLaw = (spec : BoardSpec) (board : ℕ) (scripts : List (List Step)) (link : LinkReport)

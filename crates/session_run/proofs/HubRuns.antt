@@ -3,6 +3,7 @@ use Rattle.std.proofs.Common.{◌≡◌, inl, inr, ℕ, suc, ◌+◌, ◌∙◌,
 use Rattle.std.proofs.Common.{sum}
 use Rattle.std.proofs.Common.{Option, Some, refl, sym, ap, subst}
 use Rattle.std.specs.List.{AllByRecursion, slice_get}
+use Rattle.std.proofs.lemmas.List.{length-map}
 use Rattle.std.proofs.lemmas.Option.{get_or_from_slice_get}
 use Rattle.ipb_base.specs.Lists.{IsPrefix}
 use Rattle.ipb_base.specs.Numbers.{payload_of}
@@ -36,7 +37,6 @@ use Rattle.session_run.specs.Hubs.{CameBack, HoldsAll, RanAtHub}
 use Rattle.board_greeting.specs.Boards.{head_shown}
 use Rattle.session_run.specs.Lanes.{AllFour, AllThree, HasGoneOn, IsPlannedOn, IsRunOn, plans_over}
 use Rattle.session_run.proofs.Parts.{each_counts, parts_of_dispatches}
-use Rattle.session_run.proofs.Sides.{length_map}
 
 -- ---- the laws of a lane at a hub
 
@@ -127,9 +127,9 @@ hold_all scripts plans lane (p ∷ positions) (o ∷ olds) (m ∷ mids) (w ∷ a
 
 few_bodies : (position payload : ℕ) (scripts : List (List Step))
     → length (bodies_of (plans_on position (Live payload) scripts)) ≡ length scripts
-few_bodies position payload scripts = length_map (λ (p : ClientBodies). p.bodies) (plans_on position (Live payload)
-    scripts)
-    ∙ length_map (planned_on position (Live payload)) scripts
+few_bodies position payload scripts = length-map (plans_on position (Live payload) scripts)
+    (λ (p : ClientBodies). p.bodies)
+    ∙ length-map scripts (planned_on position (Live payload))
 
 -- ---- the lanes that came back
 

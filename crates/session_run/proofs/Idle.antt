@@ -1,5 +1,5 @@
 -- The run of a board that was asked nothing.
-use Rattle.std.proofs.Common.{◌≡◌, ℕ, ◌+◌, ◌∙◌, List, [], ◌∷◌, ◌++◌, length, map, refl, sym, ap}
+use Rattle.std.proofs.Common.{◌≡◌, ℕ, ◌∙◌, List, [], ◌∷◌, length, map, refl, sym, ap}
 use Rattle.std.specs.List.{AllByRecursion}
 use Rattle.board_node.specs.declared.spec.BoardSpec.{BoardSpec}
 use Rattle.lane_record.specs.declared.outcome.Outcome.{Outcome}
@@ -7,7 +7,7 @@ use Rattle.script_lang.specs.declared.operation.Step.{Step}
 use Rattle.transcript.specs.declared.board_run.ClientPart.{ClientPart}
 use Rattle.transcript.specs.declared.board_run.BoardRun.{BoardRun}
 use Rattle.transcript.specs.declared.greeting.Greeting.{Greeting}
-use Rattle.transcript.specs.Plan.{ClientBodies, planned_on, plans_on}
+use Rattle.transcript.specs.Plan.{plans_on}
 use Rattle.lane_history.specs.Runs.{ShowsScripts}
 use Rattle.session_run.proofs.Parts.{plan_in_part}
 
@@ -15,12 +15,6 @@ use Rattle.session_run.proofs.Parts.{plan_in_part}
 pub record HasNothing (part : ClientPart) : Type 0 where
   pub no_bodies : part.planned.bodies ≡ []
   pub no_outcomes : part.outcomes ≡ []
-
-pub plans_more : (board : ℕ) (told : Greeting) (front : List (List Step)) (s : List Step)
-    → plans_on board told (front ++ s ∷ []) ≡ plans_on board told front ++ planned_on board told s ∷ []
-plans_more board told [] s = refl
-plans_more board told (f ∷ front) s = ap (λ (l : List ClientBodies). planned_on board told f ∷ l) (plans_more board
-    told front s)
 
 idle_shape : (parts : List ClientPart) → AllByRecursion HasNothing parts
     → map (λ (l : List Outcome). length l) (map (λ (p : ClientPart). p.outcomes) parts)

@@ -3,7 +3,8 @@ use Rattle.std.proofs.Common.{◌≡◌, ℕ, zero, suc, ◌+◌, ◌≤◌, ◌
 use Rattle.std.proofs.Common.{set}
 use Rattle.std.proofs.Common.{Option, Some, None, refl, sym, ap, subst, arith, append_assoc, append-nil, length-append}
 use Rattle.std.specs.List.{AllByRecursion}
-use Rattle.std.proofs.lemmas.List.{drop_all, drop_more, length-drop, take-append-drop, take_all, take_more}
+use Rattle.std.proofs.lemmas.List.{drop_all, drop_more, length-drop, length-map, set_at, take-append-drop, take_all}
+use Rattle.std.proofs.lemmas.List.{take_more}
 use Rattle.ipb_base.specs.Numbers.{payload_of}
 use Rattle.world_core.specs.Telling.{Telling}
 use Rattle.world_model.specs.Board.{Board}
@@ -14,12 +15,13 @@ use Rattle.transcript.specs.declared.greeting.Greeting.TheVariants.{Live}
 use Rattle.transcript.specs.Plan.{ClientBodies, planned_on}
 use Rattle.session_plans.specs.Parts.{HasClients}
 use Rattle.session_plans.specs.Plans.{ArePlansOnBoard, HasFewBodies}
+use Rattle.session_plans.proofs.PartLists.{get_behind}
 use Rattle.lane_history.specs.Records.{IsPartlyPlanned}
 use Rattle.session_run.specs.Clients.{KeepsLane, bodies_of}
 use Rattle.board_greeting.specs.Boards.{HasNoEntry, head_shown}
 use Rattle.session_run.specs.Lanes.{AllFour, AllThree, HasGoneOn, IsPlannedOn, plans_over}
 use Rattle.session_run.proofs.PlansMade.{PartlyAll, PartlyFront, partly_none}
-use Rattle.session_run.proofs.Sides.{four_append, last_of_four, length_map, three_append}
+use Rattle.session_run.proofs.Sides.{four_append, last_of_four, three_append}
 
 -- ---- one lane
 
@@ -82,18 +84,6 @@ pub none_planned : {L : Type 0} (tells : L → Option Telling) (scripts : List (
 none_planned tells scripts positions olds =
     record { front = []; whole = refl; long = refl; planned = tt; gone = tt }
 
-set_at : {A : Type 0} (front : List A) (x y : A) (rest : List A) (k : ℕ) → length front ≡ k
-    → set (front ++ x ∷ rest) k y ≡ front ++ y ∷ rest
-set_at [] x y rest k is = subst (λ (n : ℕ). set (x ∷ rest) n y ≡ y ∷ rest) is refl
-set_at (f ∷ front) x y rest zero is = absurd cc
-set_at (f ∷ front) x y rest (suc k) is = ap (λ l. f ∷ l) (set_at front x y rest k (omega (arith, is)))
-
-get_behind : {A : Type 0} (front rest : List A) (k : ℕ) (d : A) → length front ≡ k
-    → get_or (front ++ rest) k d ≡ get_or rest 0 d
-get_behind [] rest k d is = ap (λ (n : ℕ). get_or rest n d) (sym is)
-get_behind (f ∷ front) rest zero d is = absurd cc
-get_behind (f ∷ front) rest (suc k) d is = get_behind front rest k d (omega (arith, is))
-
 -- the lane that is planned next is as it was
 pub next_lane : {L : Type 0} (tells : L → Option Telling) (scripts : List (List Step)) (k : ℕ) (positions : List ℕ)
     (olds nows : List (LaneState L)) (all : List (List ClientBodies)) (lane : LaneState L)
@@ -133,7 +123,7 @@ lane_planned {L} tells scripts k position positions olds nows later all more old
     record {
       front = front ++ new ∷ [];
       whole = put ∙ (ap (λ (l : List (LaneState L)). set l k new) (so_far.whole ∙ ap (λ l. front ++ l) begins)
-          ∙ (set_at front old new rest k so_far.long ∙ sym (append_assoc front (new ∷ []) rest)));
+          ∙ (set_at front old rest new k so_far.long ∙ sym (append_assoc front (new ∷ []) rest)));
       long = (let e = length-append front (new ∷ []) in let f = so_far.long in omega (arith, e, f));
       planned = rw (places, fronts, push) (four_append (IsPlannedOn scripts) (take k positions) (position ∷ [])
           (take k olds) (old ∷ []) front (new ∷ []) all (planned ∷ []) so_far.planned (plans, tt));
@@ -180,7 +170,7 @@ gone_within {L} front every tells scripts k position positions olds nows later a
     (none_behind (k + 1) olds none) in
     let now : later ≡ so_far.front ++ new ∷ rest = put
     ∙ (ap (λ (l : List (LaneState L)). set l k new) (so_far.whole ∙ ap (λ l. so_far.front ++ l) begins)
-    ∙ set_at so_far.front old new rest k so_far.long) in
+    ∙ set_at so_far.front old rest new k so_far.long) in
     let whole : take k olds ++ old ∷ rest ≡ olds =
     ap (λ (l : List (LaneState L)). take k olds ++ l) (sym begins) ∙ take-append-drop k olds in
     let all_places : take k positions ++ position ∷ drop (k + 1) positions ≡ positions =
@@ -233,4 +223,4 @@ pub boards_of_clients : {L : Type 0} (scripts : List (List Step)) (positions : L
 boards_of_clients scripts positions olds news all many planned same =
     last_of_four (IsPlannedOn scripts) (HasClients many) positions olds news all
     (λ position old new planned is. ap (λ (l : List ClientBodies). length l) is.plans
-    ∙ length_map (planned_on position (Live (payload_of old.status.mtu))) scripts ∙ sym same) planned
+    ∙ length-map scripts (planned_on position (Live (payload_of old.status.mtu))) ∙ sym same) planned

@@ -4,7 +4,7 @@ use Rattle.std.proofs.Common.{length, refl, sym, ap, ◌∙◌, subst, arith, ap
 use Rattle.std.proofs.Common.{take, drop, get_or}
 use Rattle.std.proofs.lemmas.Bool.{eq-eqb}
 use Rattle.std.proofs.lemmas.Bool.Decides.{nat_tests}
-use Rattle.std.proofs.lemmas.List.{append-nil, drop_more, take-append-drop, take_more}
+use Rattle.std.proofs.lemmas.List.{append-nil, take-append-drop, take_more}
 use Rattle.ipb_base.specs.Lists.{IsPrefix}
 use Rattle.lane_record.specs.declared.item.Item.{Item}
 use Rattle.lane_record.specs.Items.{is_sealed, numbers, plan_in, planned}
@@ -16,6 +16,7 @@ use Rattle.script_lang.specs.declared.operation.Step.{Step}
 use Rattle.transcript.specs.declared.greeting.Greeting.{Greeting}
 use Rattle.transcript.specs.Plan.{ClientBodies, planned_on, plans_on}
 use Rattle.lane_record.specs.Dispatches.{all_plans_from, plans_from}
+use Rattle.direct_run.proofs.Sending.{begins_at}
 use Rattle.lane_history.specs.Records.{IsPartlyPlanned}
 use Rattle.session_run.specs.Clients.{PlannedSome, bodies_of, with_items}
 
@@ -146,10 +147,6 @@ plans_front client k bodies = (
 
 -- ---- all clients
 
-pub begins_with : {A : Type 0} (xs : List A) (i : ℕ) (x : A) → i < length xs → x ≡ get_or xs i x
-    → drop i xs ≡ x ∷ drop (i + 1) xs
-begins_with xs i x within is = drop_more xs i x within ∙ ap (λ y. y ∷ drop (i + 1) xs) (sym is)
-
 abbrev pub PartlyFront : Type 0
 PartlyFront = (bodies : List (List (List ℕ))) (front items : List Item) → IsPrefix front items
     → IsPartlyPlanned bodies items → IsPartlyPlanned bodies front
@@ -251,7 +248,7 @@ pub record PlanningClients {L : Type 0} (board : ℕ) (told : Greeting) (scripts
   pub plans' : plans ≡ plans_on board told scripts
   pub lane' : now ≡ with_items before (all_plans_from 1 (bodies_of plans))
 
-plans_more : (board : ℕ) (told : Greeting) (front : List (List Step)) (s : List Step)
+pub plans_more : (board : ℕ) (told : Greeting) (front : List (List Step)) (s : List Step)
     → plans_on board told (front ++ s ∷ []) ≡ plans_on board told front ++ planned_on board told s ∷ []
 plans_more board told [] s = refl
 plans_more board told (f ∷ front) s = ap (λ (l : List ClientBodies). planned_on board told f ∷ l) (plans_more board
@@ -306,6 +303,6 @@ partly_stopped {L} front all board told k client scripts steps asked' plans plan
     let asked_bodies : here ≡ (planned_on board told steps).bodies = bodies
     ∙ (ap (λ (p : ClientBodies). p.bodies) made ∙ ap (λ (s : List Step). (planned_on board told s).bodies) same) in
     partly_within front all board told k client scripts steps new.items some.front
-    (begins_with scripts k steps within is) (omega (arith, who, many))
+    (begins_at scripts k steps within is) (omega (arith, who, many))
     (subst (λ (bs : List (List ℕ)). IsPrefix some.front (plans_from client 0 bs)) asked_bodies some.is_front)
     (ap (λ (l : LaneState L). l.items) some.became ∙ ap (λ (l : List Item). l ++ some.front) began)

@@ -17,7 +17,7 @@ use Rattle.transcript.specs.Plan.{plans_on}
 use Rattle.lane_history.specs.Links.{IsBoardOf, LinkReport}
 use Rattle.sound_lanes.specs.Reports.{board_there}
 use Rattle.lane_history.specs.Records.{IsPartlyPlanned}
-use Rattle.board_greeting.specs.Boards.{AreReached, HasMemory, HasNoEntry, IsReached, shown_by}
+use Rattle.board_greeting.specs.Boards.{AreReached, HasMemory, IsReached, shown_by}
 use Rattle.session_run.specs.Clients.{bodies_of}
 use Rattle.session_run.specs.Lanes.{AllThree, HasGoneOn, IsRunOn, IsStoppedLane}
 use Rattle.board_greeting.specs.Places.{HaveLanes, lanes_in, place_of, positions_from, rejoined}
@@ -25,20 +25,6 @@ use Rattle.session_run.specs.Places.{AreCameOf}
 use Rattle.board_greeting.proofs.Lanes.{lane_back}
 
 -- ---- the lanes that go to the hub
-
-pub lanes_unused : {L : Type 0} (tells : L → Option Telling) (shows : L → LinkReport) (settings : Limits)
-    (specs : List BoardSpec) (boards : List (Greeted L)) → AreReached tells shows settings specs boards
-    → AllByRecursion HasNoEntry (lanes_in boards)
-lanes_unused tells shows settings specs [] are = tt
-lanes_unused tells shows settings [] (b ∷ boards) are = absurd are
-lanes_unused tells shows settings (s ∷ specs) (Ready lane ∷ boards) are =
-    (ap (λ (l : LaneState _). l.items) are.0.as_told.opened', lanes_unused tells shows settings specs boards are.1)
-lanes_unused tells shows settings (s ∷ specs) (Silent link rounds ∷ boards) are =
-    lanes_unused tells shows settings specs boards are.1
-lanes_unused tells shows settings (s ∷ specs) (Down link ∷ boards) are =
-    lanes_unused tells shows settings specs boards are.1
-lanes_unused tells shows settings (s ∷ specs) (NoMemory link ∷ boards) are =
-    lanes_unused tells shows settings specs boards are.1
 
 pub places_long : {L : Type 0} (position : ℕ) (boards : List (Greeted L))
     → length (positions_from position boards) ≡ length (lanes_in boards)

@@ -4,7 +4,7 @@ use Rattle.std.proofs.Common.{Option, refl, sym, ap, subst, arith, append_assoc,
 use Rattle.std.proofs.Common.{drop, get_or}
 use Rattle.std.specs.Prelude.{IfOk, IfSome, Result, Ok, Err}
 use Rattle.std.specs.List.{AllByRecursion}
-use Rattle.std.proofs.lemmas.List.{drop_more, length-drop, length-take-le, take_more}
+use Rattle.std.proofs.lemmas.List.{length-drop, length-map, length-take-le, map_push, take_more}
 use Rattle.world_model.specs.Board.{executed}
 use Rattle.world_core.specs.Telling.{Telling}
 use Rattle.reliable_engine.specs.Settings.{Limits}
@@ -18,7 +18,7 @@ use Rattle.board_greeting.specs.Boards.{AreUntouched, HasRoom}
 use Rattle.session_run.specs.Boards.{OnRun}
 use Rattle.session_run.specs.Places.{AreCameOf, IsCameOf}
 use Rattle.board_greeting.specs.declared.rejoined.Board.{Board}
-use Rattle.session_run.proofs.Sides.{length_map, map_append}
+use Rattle.direct_run.proofs.Sending.{begins_at}
 use Rattle.session_run.specs.Links.{AreLeft, IsLeft}
 
 left_more : (board : ℕ) (specs rest : List BoardSpec) (scripts : List (List Step)) (links : List LinkReport)
@@ -73,10 +73,6 @@ none_ran shows settings specs scripts kept = record {
   left = tt;
   ran = λ e. tt;
 }
-
-pub begins_at : {A : Type 0} (xs : List A) (i : ℕ) (x : A) → i < length xs → x ≡ get_or xs i x
-    → drop i xs ≡ x ∷ drop (i + 1) xs
-begins_at xs i x within is = drop_more xs i x within ∙ ap (λ y. y ∷ drop (i + 1) xs) (sym is)
 
 none_of : {L : Type 0} (tells : L → Option Telling) (shows : L → LinkReport) (settings : Limits)
     (scripts : List (List Step)) (k : ℕ) (specs : List BoardSpec)
@@ -138,7 +134,7 @@ whole_more {L} shows settings k specs scripts runs later links spec run link are
     let few : length (take k specs) ≡ k = length-take-le k specs (omega (arith, within)) in
     let front : take (k + 1) specs ≡ take k specs ++ spec ∷ [] = take_more specs k spec within
     ∙ ap (λ (s : BoardSpec). take k specs ++ s ∷ []) (sym is) in
-    rw (front, is_later, map_append shows links link)
+    rw (front, is_later, map_push shows links link)
     (runs_more settings 0 (take k specs) scripts runs (map shows links) spec run (shows link) are
     (subst (λ n. IsRunOver settings spec n scripts run (shows link)) (omega (arith, few)) over))
 
@@ -154,14 +150,14 @@ board_more {L} {E} shows settings k specs scripts runs later is_whole added kept
     within is
     push left ran was adds =
     let links = so_far.links in
-    let count = length_map shows links in
+    let count = length-map links shows in
     let many = so_far.many in
     let place : length (map shows links) ≡ k = count ∙ many in
     record {
       links = links ++ link ∷ [];
       grown = push ∙ (ap (λ (l : List L). l ++ link ∷ []) so_far.grown ∙ append_assoc kept links (link ∷ []));
       many = length-append links (link ∷ []) ∙ ap (λ n. n + 1) many;
-      left = subst (AreLeft 0 specs scripts) (sym (map_append shows links link))
+      left = subst (AreLeft 0 specs scripts) (sym (map_push shows links link))
           (left_more 0 specs (drop (k + 1) specs) scripts (map shows links) spec (shows link) so_far.left
           (ap (λ n. drop n specs) place ∙ begins_at specs k spec within is)
           (subst (λ n. IsLeft spec n scripts (shows link)) (omega (arith, place)) left));

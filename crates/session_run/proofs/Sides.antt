@@ -1,5 +1,5 @@
 -- Lists side by side.
-use Rattle.std.proofs.Common.{◌≡◌, ◌∙◌, ◌⊎◌, inl, inr, subst, sym, ℕ, List, [], ◌∷◌, ◌++◌, length, map, ap, suc, refl}
+use Rattle.std.proofs.Common.{◌≡◌, ◌∙◌, ◌⊎◌, inl, inr, subst, sym, ℕ, List, [], ◌∷◌, ◌++◌, length, ap, suc, refl}
 use Rattle.std.proofs.Common.{arith, append-nil, drop, take}
 use Rattle.std.specs.Prelude.{IfOk, IsOkAnd, OnErr, Result, Ok, Err}
 use Rattle.std.proofs.lemmas.List.{drop_all, take_all}
@@ -81,14 +81,6 @@ four_long holds (x ∷ xs) (y ∷ ys) [] ws all = absurd all
 four_long holds (x ∷ xs) (y ∷ ys) (z ∷ zs) [] all = absurd all
 four_long holds (x ∷ xs) (y ∷ ys) (z ∷ zs) (w ∷ ws) all = ap suc (four_long holds xs ys zs ws all.1)
 
-pub length_map : {A B : Type 0} (f : A → B) (xs : List A) → length (map f xs) ≡ length xs
-length_map f [] = refl
-length_map f (x ∷ xs) = ap suc (length_map f xs)
-
-pub map_append : {A B : Type 0} (f : A → B) (xs : List A) (x : A) → map f (xs ++ x ∷ []) ≡ map f xs ++ f x ∷ []
-map_append f [] x = refl
-map_append f (y ∷ xs) x = ap (λ l. f y ∷ l) (map_append f xs x)
-
 pub three_long : {A B C : Type 0} (holds : A → B → C → Type 0) (xs : List A) (ys : List B) (zs : List C)
     → AllThree holds xs ys zs → length zs ≡ length ys
 three_long holds [] [] [] all = refl
@@ -112,10 +104,6 @@ pub ok_then : {A B E F : Type 0} (one : Result A E) (other : Result B F) (Q : A 
 ok_then (Ok a) (Ok b) Q R P both there leads = leads a b both there
 ok_then (Ok a) (Err e) Q R P both there leads = absurd both
 ok_then (Err e) other Q R P both there leads = tt
-
-pub ok_leads : {A E : Type 0} (one : Result A E) (P Q : A → Type 0) → IfOk one P → ((a : A) → P a → Q a) → IfOk one Q
-ok_leads (Ok a) P Q there leads = leads a there
-ok_leads (Err e) P Q there leads = tt
 
 -- what is so of the items of a result is so of a list that has them, or that is empty where there is no result
 pub items_or_none : {A E X : Type 0} (one : Result A E) (items : A → List X) (list : List X) (Q : List X → Type 0)

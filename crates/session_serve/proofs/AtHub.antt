@@ -4,6 +4,7 @@ use Rattle.std.proofs.Common.{subst, suc}
 use Rattle.std.proofs.Common.{Bool, true, false, ◌==◌, zero, arith, append-nil, length-append, inl, inr}
 use Rattle.std.specs.Prelude.{◌⊎◌, ◌≢◌, if◌then◌else◌, option_map}
 use Rattle.std.specs.List.{AllByRecursion, AllZip, cons_option, filter_map, slice_get}
+use Rattle.std.proofs.lemmas.List.{length-map}
 use Rattle.std.proofs.lemmas.List.Elements.{filter_map-append}
 use Rattle.std.proofs.lemmas.Option.{none-some, same_Some}
 use Rattle.ipb_base.specs.Lists.{IsPrefix}
@@ -27,6 +28,7 @@ use Rattle.hub_multiplexer.specs.Seats.{MasterState, SeatState}
 use Rattle.client_threads.specs.Clients.{TookIn}
 use Rattle.client_threads.specs.Jobs.{made_more}
 use Rattle.client_threads.specs.Running.{AtEach}
+use Rattle.direct_run.proofs.Asking.{all_at}
 use Rattle.hub_history.specs.Lanes.{came_with}
 use Rattle.hub_session.specs.declared.got.Got.{Got}
 use Rattle.hub_session.specs.declared.got.Got.TheVariants.{NotAsked, Refused, Came}
@@ -51,7 +53,7 @@ use Rattle.session_serve.specs.Seats.{with_seats}
 use Rattle.session_serve.specs.Serving.{HadMemory}
 use Rattle.session_serve.specs.declared.connection.Done.{Done}
 use Rattle.session_serve.proofs.EachDone.{each_long}
-use Rattle.session_serve.proofs.Lists.{all_get, length_map, there, zip_long}
+use Rattle.session_serve.proofs.Lists.{there, zip_long}
 use Rattle.session_serve.proofs.Rules.{AnsweredLaw, AreDecidedFrom, FirstLaw, LimitsLaw, PlannedLaw, UnansweredLaw}
 use Rattle.session_serve.proofs.Rules.{all_by_rules, all_filled_before, all_planned_last, decided_later, decided_push}
 
@@ -101,7 +103,7 @@ shown_at tells (x ∷ ms) (y ∷ ns) (suc i) m n is em en =
 pub heads_returned : {L : Type 0} → TellsLaw → (tells : L → Option Telling) (olds news : List (LaneState L))
     → map (shown tells) news ≡ map (shown tells) olds → AtEach olds news (λ lane. KeepsHead tells)
 heads_returned law tells olds news is = record {
-  long = sym (length_map (shown tells) news) ∙ (ap (λ (l : List Record). length l) is ∙ length_map (shown tells) olds);
+  long = sym (length-map news (shown tells)) ∙ (ap (λ (l : List Record). length l) is ∙ length-map olds (shown tells));
   each = λ i m n em en. same_head law tells m n (shown_at tells olds news i m n is em en);
 }
 
@@ -143,12 +145,12 @@ ended_long : {L : Type 0} (tells : L → Option Telling) (olds news : List (Lane
     → length news ≡ length olds
 ended_long tells olds news seats m end' opened taken ended =
     let a = zip_long Ends end'.knows (map (shown tells) news) ended in
-    let b = length_map (shown tells) news in
+    let b = length-map news (shown tells) in
     let c = taken.lanes.long in
-    let d = length_map (made_more (length seats)) m.knows in
+    let d = length-map m.knows (made_more (length seats)) in
     let e = ap (λ (l : List Knowledge). length l) opened in
-    let f = length_map first_knowledge (map (shown tells) olds) in
-    let h = length_map (shown tells) olds in
+    let f = length-map (map (shown tells) olds) first_knowledge in
+    let h = length-map olds (shown tells) in
     omega (arith, a, b, c, d, e, f, h)
 
 lane_at : {L : Type 0} (tells : L → Option Telling) (olds news : List (LaneState L)) (seats : List SeatState)
@@ -212,7 +214,7 @@ heads_of {L} {I} {O} {shows} {boards} law tells olds news seats m end' opened b 
     let many : length (seats_of b.dones ++ b.others) ≡ length seats =
     length-append (seats_of b.dones) b.others
     ∙ (both_long (length (seats_of b.dones)) (length b.dones) (length b.befores) (length b.others)
-    (length_map (λ (d : Done I O). d.seat) b.dones) (each_long shows boards b.befores b.came b.dones b.each)
+    (length-map b.dones (λ (d : Done I O). d.seat)) (each_long shows boards b.befores b.came b.dones b.each)
     ∙ (sym (length-append b.befores b.others) ∙ ap (λ (l : List SeatState). length l) b.all)) in
     heads_back law tells olds news (seats_of b.dones ++ b.others) m end' opened
     (subst (λ n. AreTakenIn (with_seats m n) end' (seats_of b.dones ++ b.others)) (sym many) b.taken_in) ended
@@ -312,7 +314,7 @@ submitted_all turns boards client lane before after came back served pass fresh 
     let on = s.on_lanes lane was.0 k was.1 at.1 in
     record {
       number = ap (λ (j : Joined). j.number) at.2 ∙ (ap (λ (z : Knowledge). z.number) on.rest_same
-          ∙ (all_get (λ (z : Knowledge). z.number ≡ before.client) before.knows lane was.0 fresh.numbers was.1 ∙ is));
+          ∙ (all_at (λ (z : Knowledge). z.number ≡ before.client) before.knows lane was.0 fresh.numbers was.1 ∙ is));
       actions = ap (λ (j : Joined). map numbered_action (filter_map item_from j.mine)) at.2
           ∙ (on.actions ∙ all_actions boards lane s.answered s.unanswered all);
     }
@@ -346,8 +348,8 @@ talk_decided answered unanswered turns boards client lane before after came back
     let s = d.under.as_served in
     let was = there after.knows before.knows lane k (sym s.known) at in
     let number : was.0.number ≡ client =
-    all_get (λ (z : Knowledge). z.number ≡ before.client) before.knows lane was.0 fresh.numbers was.1 ∙ is in
-    let none = none_before was.0 (all_get IsUnused before.knows lane was.0 fresh.unused was.1) in
+    all_at (λ (z : Knowledge). z.number ≡ before.client) before.knows lane was.0 fresh.numbers was.1 ∙ is in
+    let none = none_before was.0 (all_at IsUnused before.knows lane was.0 fresh.unused was.1) in
     let front = subst (λ c. AreFramesDecidedIn k.seen c 0 boards lane s.answered) number
     (subst (λ n. AreFramesDecidedIn k.seen was.0.number n boards lane s.answered) none
     (answered boards before after came.left back.left came.written back.written served s lane was.0 k was.1 at)) in
@@ -568,7 +570,7 @@ served_at {L} {I} {O} law answered unanswered planned first limits tells shows b
     let many : length (seats_of b.dones ++ b.others) ≡ length seats =
     ap (λ (l : List SeatState). length (seats_of b.dones ++ l)) h.no_others
     ∙ (ap (λ (l : List SeatState). length l) (append-nil (seats_of b.dones))
-    ∙ (length_map (λ (d : Done I O). d.seat) b.dones ∙ (each_long shows boards b.befores b.came b.dones b.each
+    ∙ (length-map b.dones (λ (d : Done I O). d.seat) ∙ (each_long shows boards b.befores b.came b.dones b.each
     ∙ ap (λ (l : List SeatState). length l) all))) in
     let taken = subst (λ n. AreTakenIn (with_seats m n) end' (seats_of b.dones ++ b.others)) (sym many) b.taken_in in
     let long = ended_long tells olds news (seats_of b.dones ++ b.others) m end' opened taken ended in
@@ -577,7 +579,7 @@ served_at {L} {I} {O} law answered unanswered planned first limits tells shows b
     λ lane old new eo en. lane_served law planned first limits tells boards lane (seats_of b.dones) b.others h.no_others
     talked.conversations old new
     (lane_at tells olds news (seats_of b.dones ++ b.others) m end' lane old new opened taken ended eo en)
-    (all_get HasNoEntry olds lane old unused eo) (talked.submitted lane) (talked.decided lane) in
+    (all_at HasNoEntry olds lane old unused eo) (talked.submitted lane) (talked.decided lane) in
     record {
       conversations = talked.conversations;
       exchanged = subst (λ (l : List Served). HaveExchanged boards 1 talked.conversations (map shows b.came)

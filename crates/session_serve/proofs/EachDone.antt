@@ -5,6 +5,8 @@ use Rattle.std.specs.List.{AllByRecursion, AllZip, slice_get}
 use Rattle.std.specs.Prelude.{IfOk, OnOk, Result, Ok, Err}
 use Rattle.std.specs.Vec.Iter.{into_iter_items}
 use Rattle.turn_pass.specs.Pass.{Knowledge, TurnId}
+use Rattle.ipb_base.proofs.AllLemmas.{front_of_all, back_of_all}
+use Rattle.direct_run.proofs.Asking.{all_at}
 use Rattle.hub_lane.specs.declared.answers.BoardState.{BoardState}
 use Rattle.hub_multiplexer.specs.Ends.{HasTakenIn}
 use Rattle.hub_multiplexer.specs.Seats.{MasterState, SeatState}
@@ -16,7 +18,7 @@ use Rattle.session_serve.specs.declared.serving.Ended.{Ended}
 use Rattle.session_serve.specs.Seats.{AreOfClientsFrom, AreTakenIn, Begun, EachDone, HasServed, IsBack, IsDone}
 use Rattle.session_serve.specs.Seats.{IsDoneOf, IsFresh}
 use Rattle.session_serve.specs.declared.connection.Done.{Done}
-use Rattle.session_serve.proofs.Lists.{all_behind, all_front, all_get, came_none, there, went_none}
+use Rattle.session_serve.proofs.Lists.{came_none, there, went_none}
 use Rattle.session_serve.proofs.Seating.{both_taken, clients_front}
 
 pub each_done : {I O : Type 0} (shows : I × O → PairReport) (boards : List BoardState) (begun : List (Begun I O))
@@ -55,7 +57,7 @@ done_back turns boards before after came back served fresh done =
       alone = all_from_get (λ (k : Knowledge). k.joined ≡ []) after.knows
           (λ i x e. (let was = there after.knows before.knows i x (fresh.known ∙ sym known) e in
           ap (λ (k : Knowledge). k.joined) (done.under.as_served.on_lanes i was.0 x was.1 e).rest_same
-          ∙ all_get (λ (k : Knowledge). k.joined ≡ []) before.knows i was.0 fresh.alone was.1));
+          ∙ all_at (λ (k : Knowledge). k.joined ≡ []) before.knows i was.0 fresh.alone was.1));
       known = known;
     }
 
@@ -183,8 +185,8 @@ pub fresh_befores : {I O : Type 0} (shows : I × O → PairReport) (boards : Lis
     → AllByRecursion (IsFresh turns) h.befores × AllByRecursion (IsFresh turns) (into_iter_items ended.seats)
 fresh_befores shows boards turns seats ended coming coming_now h fresh =
     let both = subst (AllByRecursion (IsFresh turns)) h.seats' fresh in (
-      all_front (IsFresh turns) h.befores (into_iter_items ended.seats) both,
-      all_behind (IsFresh turns) h.befores (into_iter_items ended.seats) both,
+      front_of_all (IsFresh turns) h.befores (into_iter_items ended.seats) both,
+      back_of_all (IsFresh turns) h.befores (into_iter_items ended.seats) both,
     )
 
 pub longer : (xs ys zs : List SeatState) → zs ≡ xs ++ ys → length zs ≡ length xs + length ys
@@ -210,10 +212,6 @@ all_in_turn shows boards seats ended start mid end' coming coming_now h of one t
     let there' = one 1 (each_clients shows boards 1 h.befores h.came dones h.each parts.0) from in
     subst (λ n. HasTakenIn n end') (omega (arith, long, all)) (two (1 + length dones)
     (subst (λ n. AreOfClientsFrom n rest) (omega (arith, long)) parts.1) there')
-
-pub if_ok : {A E : Type 0} (P Q : A → Type 0) (r : Result A E) → IfOk r P → ((x : A) → P x → Q x) → IfOk r Q
-if_ok P Q (Ok x) p leads = leads x p
-if_ok P Q (Err e) p leads = tt
 
 pub both_ok : {A E : Type 0} (P Q : A → Type 0) (r : Result A E) → IfOk r P → IfOk r Q → IfOk r (λ x. P x × Q x)
 both_ok P Q (Ok x) p q = (p, q)

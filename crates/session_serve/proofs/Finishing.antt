@@ -2,6 +2,7 @@
 use Rattle.std.proofs.Common.{◌≡◌, ◌∙◌, ℕ, List, [], ◌∷◌, ◌++◌, map, length, Option, refl, sym, ap, subst, suc, arith}
 use Rattle.std.proofs.Common.{append_assoc, append-nil}
 use Rattle.std.specs.List.{AllByRecursion}
+use Rattle.std.proofs.lemmas.List.{nil_from_length}
 use Rattle.world_core.specs.Telling.{Telling}
 use Rattle.transcript.specs.declared.line.BoardLine.{BoardLine}
 use Rattle.board_greeting.specs.declared.rejoined.Board.{Board}
@@ -51,10 +52,6 @@ one_finished {L} {C} faults quiets gots held telling names boards names_left nam
           (sound, rest));
     }
 
-no_more : {A : Type 0} (xs : List A) → length xs ≡ 0 → xs ≡ []
-no_more [] over = refl
-no_more (x ∷ xs) over = absurd cc
-
 pub record Finished {L C : Type 0} (faults quiets gots held : L → ℕ) (telling : L → Option Telling)
     (names : List (List ℕ)) (boards : List (Board L C)) (lines : List BoardLine) (kept kept_now : List L) : Type 0 where
   pub lines' : lines ≡ lines_in names boards
@@ -67,8 +64,8 @@ pub all_finished : {L C : Type 0} (faults quiets gots held : L → ℕ) (telling
     → FinishedSoFar faults quiets gots held telling names boards names_left left lines kept now
     → length names_left ≡ 0 → Finished faults quiets gots held telling names boards lines kept now
 all_finished {L} {C} faults quiets gots held telling names boards names_left left lines kept now so_far over =
-    let no_names = no_more names_left over in
-    let no_boards = no_more left (let a = so_far.all in omega (arith, a, over)) in
+    let no_names = nil_from_length names_left over in
+    let no_boards = nil_from_length left (let a = so_far.all in omega (arith, a, over)) in
     let here = subst (λ (b : List (Board L C)). FinishedSoFar faults quiets gots held telling names boards [] b lines
     kept
     now) no_boards (subst (λ (n : List (List ℕ)). FinishedSoFar faults quiets gots held telling names boards n left

@@ -40,7 +40,7 @@ use Rattle.hub_history.specs.Lanes.{came_with}
 use Rattle.served_history.specs.Boards.{AreServedOver, IsServedOver, ServedBoard, run_of}
 use Rattle.served_history.specs.Connections.{WereServedOn, bodies_of, dispatches_of}
 use Rattle.served_history.specs.Planned.{KeepLimits}
-use Rattle.board_greeting.specs.Boards.{AreReached, AreUntouched, HasMemory, HasNoEntry, IsEndedLane, IsLaneTo}
+use Rattle.board_greeting.specs.Boards.{AreReached, AreUntouched, HasMemory, IsEndedLane, IsLaneTo}
 use Rattle.board_greeting.specs.Boards.{head_shown, shown_by}
 use Rattle.board_greeting.specs.Places.{lanes_in, place_of, rejoined}
 use Rattle.board_greeting.specs.declared.rejoined.Board.{Board}
@@ -368,20 +368,6 @@ of_live_boards holds all conversations boards olds news lanes each position payl
     (each.each lane l.old new.0 eo new.1))
 
 -- ---- before
-
-pub lanes_unused : {L : Type 0} (tells : L → Option Telling) (shows : L → LinkReport) (settings : Limits)
-    (specs : List BoardSpec) (boards : List (Greeted L)) → AreReached tells shows settings specs boards
-    → AllByRecursion HasNoEntry (lanes_in boards)
-lanes_unused tells shows settings specs [] are = tt
-lanes_unused tells shows settings [] (b ∷ boards) are = absurd are
-lanes_unused tells shows settings (s ∷ specs) (Ready lane ∷ boards) are =
-    (ap (λ (l : LaneState _). l.items) are.0.as_told.opened', lanes_unused tells shows settings specs boards are.1)
-lanes_unused tells shows settings (s ∷ specs) (Silent link rounds ∷ boards) are =
-    lanes_unused tells shows settings specs boards are.1
-lanes_unused tells shows settings (s ∷ specs) (Down link ∷ boards) are =
-    lanes_unused tells shows settings specs boards are.1
-lanes_unused tells shows settings (s ∷ specs) (NoMemory link ∷ boards) are =
-    lanes_unused tells shows settings specs boards are.1
 
 pub rejoined_long : (L C : Type 0) (boards : List (Greeted L)) (news : List (LaneState L))
     → length news ≡ length (lanes_in boards)

@@ -7,10 +7,11 @@ use Rattle.turn_pass.specs.Pass.{Joined, Knowledge, TurnId, kept_of, newcomer, o
 use Rattle.hub_multiplexer.specs.Ends.{HasTakenIn}
 use Rattle.hub_multiplexer.specs.Seats.{MasterState, SeatState, knows_after_join}
 use Rattle.client_threads.specs.Jobs.{made_more}
+use Rattle.direct_run.proofs.Asking.{all_at}
 use Rattle.hub_session.specs.Serving.{IsUnused}
 use Rattle.session_serve.specs.Seats.{AreOfClientsFrom, ArePassesOn, AreTakenIn, IsBack, IsFresh, IsOpen, TookSeats}
 use Rattle.session_serve.specs.Seats.{with_seats}
-use Rattle.session_serve.proofs.Lists.{all_get, all_map, there}
+use Rattle.session_serve.proofs.Lists.{all_map, there}
 
 -- ---- made
 
@@ -153,7 +154,7 @@ one_taken turns old now new seats seat j back known is =
             let a = after_join_at now.knows seat.knows lane after seat_long
             (sym (ap (λ (l : List Knowledge). slice_get l lane) knows_are) ∙ ea) in
             took_one lane seats seat k a.0 a.1 after (j.lanes.each lane k a.0 ek a.2) a.3
-            (all_get (λ (z : Knowledge). z.joined ≡ []) seat.knows lane a.1 back.alone a.3) a.4;
+            (all_at (λ (z : Knowledge). z.joined ≡ []) seat.knows lane a.1 back.alone a.3) a.4;
       };
     }
 

@@ -1,7 +1,7 @@
 use Rattle.std.proofs.Common.{◌≡◌, ◌+◌, ◌∷◌, drop, subst}
 use Rattle.std.specs.List.{AllByRecursion}
 use Rattle.direct_run.specs.Runs.{CanRun}
-use Rattle.direct_run.proofs.Sending.{left}
+use Rattle.direct_run.proofs.Sending.{begins_at}
 use Rattle.direct_run.proofs.Running.{board_more}
 use Rattle.direct_run.proofs.boards.run_boards.Goals as goal
 
@@ -10,7 +10,7 @@ loop-position-preserved c =
     let boards = c.args.boards.now in
     let k = c.loop-position.position in
     let begins : drop k boards ≡ c.index-boards-position.result ∷ drop (k + 1) boards =
-    left boards k c.index-boards-position.result c.loop-position-test.true c.index-boards-position.is in
+    begins_at boards k c.index-boards-position.result c.loop-position-test.true c.index-boards-position.is in
     record {
       told = rw (c.in_ok-push.ensures.items, c.in_ok-run_board.ensures)
           (board_more boards c.args.scripts.now k c.index-boards-position.result (drop k boards)

@@ -7,7 +7,7 @@ use Rattle.transcript.specs.declared.board_run.ClientPart.{ClientPart}
 use Rattle.transcript.specs.Plan.{planned_on}
 use Rattle.direct_run.specs.Runs.{plans_on}
 use Rattle.direct_run.specs.Steps.{IsRunning}
-use Rattle.direct_run.proofs.Sending.{left}
+use Rattle.direct_run.proofs.Sending.{begins_at}
 use Rattle.direct_run.proofs.Running.{board_after, part_on, client_more, same_part}
 use Rattle.direct_run.proofs.clients.run_clients.Goals as goal
 
@@ -20,7 +20,7 @@ loop-steps-preserved c =
     let plans = plans_on c.args.position (Live c.args.payload) scripts in
     let plan = planned_on c.args.position (Live c.args.payload) c.as_slice.result.now in
     let begins : drop c.loop-steps.steps-index scripts ≡ c.as_slice.result.now ∷ rest =
-    left scripts c.loop-steps.steps-index c.steps-item.result c.loop-steps-test.true c.steps-item.is
+    begins_at scripts c.loop-steps.steps-index c.steps-item.result c.loop-steps-test.true c.steps-item.is
     ∙ ap (λ (steps : List Step). steps ∷ rest) (sym c.as_slice.ensures) in
     let so_far = subst (λ (left : List (List Step)). IsRunning start now plans
     (plans_on c.args.position (Live c.args.payload) left) c.loop-steps.parts.items)

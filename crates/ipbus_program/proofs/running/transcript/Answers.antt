@@ -7,8 +7,8 @@ use Rattle.session_run.specs.Links.{AreLeft}
 use Rattle.transcript.specs.Lines.{transcript_of, run_status}
 use Rattle.transcript.specs.Text.{transcript_text}
 use Rattle.board_greeting.specs.Boards.{shown_by}
-use Rattle.ipbus_program.proofs.Kept.{at_links}
-use Rattle.ipbus_program.proofs.Leaving.{run_failed, run_printed, no_memory_is_no_rack}
+use Rattle.load_run.proofs.Loads.{at_links, no_memory_is_no_rack}
+use Rattle.ipbus_program.proofs.Leaving.{run_failed, run_printed}
 use Rattle.ipbus_program.proofs.running.transcript.Goals as goal
 
 pub returns-in_err-runs-clause-leaves : goal.returns-in_err-runs-clause-leaves

@@ -3,7 +3,7 @@ use Rattle.std.specs.List.{AllByRecursion}
 use Rattle.lane_history.specs.Links.{IsUntouched}
 use Rattle.board_greeting.specs.Boards.{shown_by}
 use Rattle.session_serve.specs.Boards.{AreLinksTo}
-use Rattle.ipbus_program.proofs.Kept.{at_links}
+use Rattle.load_run.proofs.Loads.{at_links}
 use Rattle.ipbus_program.proofs.Services.{serve_failed}
 use Rattle.ipbus_program.proofs.serving.served.Goals as goal
 

@@ -1,7 +1,6 @@
 use Rattle.std.proofs.Common.{◌≡◌, ℕ, List, [], ◌∷◌, Option, Some, refl, sym, ap, ap₂, ◌∙◌, subst, arith}
 use Rattle.std.specs.List.{slice_get}
 use Rattle.std.proofs.lemmas.Option.{same_Some}
-use Rattle.transaction_codec.specs.Request.{request_at}
 use Rattle.packet_codec.specs.declared.packet.Order.TheVariants.{Big}
 use Rattle.packet_codec.specs.declared.packet.PacketKind.TheVariants.{Control}
 use Rattle.packet_codec.specs.declared.packet.Packet.{Packet}
@@ -10,16 +9,12 @@ use Rattle.packet_codec.specs.Reading.{packet_of, start_of}
 use Rattle.board_bus.specs.Bodies.{replay}
 use Rattle.world_model.specs.Places.{at_place}
 use Rattle.board_history.specs.Examples.{read_body, seven}
+use Rattle.board_history.proofs.OneRead.{answered}
 use Rattle.hub_framing.specs.Frames.{ReplyFrame}
 use Rattle.hub_session.specs.Answers.{control_packet, reply_packet, reply_to}
 use Rattle.hub_session.specs.Examples.{three_boards}
 use Rattle.served_answers.specs.Examples.{read_at}
 use Rattle.served_answers.proofs.examples.wrong_answers_are_refused.Goals as goal
-
--- what the bus answers
-answered : slice_get (replay seven (read_body ∷ [])).replies 0 ≡ Some (0x20000100 ∷ 7 ∷ [])
-unfolding request_at
-answered = refl
 
 asks : control_packet (read_at 1 8).frame.packet
     ≡ Some (record { order = Big; id = 0; kind = Control; body = read_body })

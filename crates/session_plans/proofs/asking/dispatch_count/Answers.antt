@@ -1,7 +1,8 @@
 use Rattle.std.proofs.Common.{◌≡◌, ◌+◌, ◌∷◌, List, ap, arith, drop, length}
 use Rattle.script_lang.specs.declared.operation.Step.{Step}
 use Rattle.transcript.specs.Plan.{dispatches}
-use Rattle.session_plans.proofs.Plans.{begins_at, one_at_most, step_more}
+use Rattle.direct_run.proofs.Sending.{begins_at}
+use Rattle.session_plans.proofs.Plans.{one_at_most, step_more}
 use Rattle.session_plans.proofs.asking.dispatch_count.Goals as goal
 
 pub loop-step-preserved : goal.loop-step-preserved

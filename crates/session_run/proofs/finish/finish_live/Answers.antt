@@ -1,10 +1,11 @@
+use Rattle.std.proofs.lemmas.Result.{IfOk-weaker}
 use Rattle.ipb_base.specs.Numbers.{payload_of}
 use Rattle.transcript.specs.declared.board_run.BoardRun.{BoardRun}
 use Rattle.transcript.specs.declared.greeting.Greeting.TheVariants.{Live}
 use Rattle.lane_history.specs.Runs.{IsRunOver}
 use Rattle.board_greeting.specs.Boards.{shown_by}
 use Rattle.session_run.specs.Boards.{IsNamed}
-use Rattle.session_run.proofs.BoardRuns.{if_ok, runs_live, stopped_at}
+use Rattle.session_run.proofs.BoardRuns.{runs_live, stopped_at}
 use Rattle.session_run.proofs.finish.finish_live.Goals as goal
 
 pub returns-clause-ran : goal.returns-clause-ran
@@ -16,14 +17,14 @@ returns-clause-ran g c =
     let scripts = c.args.scripts.now in
     let ended = c.close_lane.ensures.ended c.args.settings spec (stopped_at c.args.settings scripts c.args.position spec
     lane (link.telling lane.link) c.requires.stopped) in
-    if_ok (IsNamed spec (Live c.payload-payload.result) c.args.parts)
-    (λ (run : BoardRun). IsRunOver c.args.settings spec c.args.position scripts run shown) c.named-run.result
-    c.named-run.ensures
+    IfOk-weaker c.named-run.result (IsNamed spec (Live c.payload-payload.result) c.args.parts)
+    (λ (run : BoardRun). IsRunOver c.args.settings spec c.args.position scripts run shown)
     (λ run named. (let live = runs_live spec c.args.position c.payload-payload.result scripts lane c.args.parts run
     c.payload-payload.ensures c.requires.ran named in
     c.a_finished_lane_is_a_live_run.ensures c.args.settings spec c.args.position scripts run shown
     (payload_of lane.status.mtu) lane.items lane.outcomes lane.give_ups live.scripts' ended.board' live.greeting'
     ended.payload live.ran.left ended.sound))
+    c.named-run.ensures
 
 pub returns-clause-left : goal.returns-clause-left
 returns-clause-left g c =

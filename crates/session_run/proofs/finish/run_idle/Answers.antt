@@ -1,20 +1,20 @@
 use Rattle.std.proofs.Common.{◌∙◌, Some, ap, map, sym, subst}
 use Rattle.std.proofs.lemmas.Option.{same_Some}
+use Rattle.std.proofs.lemmas.Result.{IfOk-weaker}
 use Rattle.std.specs.List.{AllByRecursion}
 use Rattle.std.proofs.lemmas.List.{take_all}
 use Rattle.transcript.specs.Plan.{plans_on}
 use Rattle.lane_history.specs.Runs.{ShowsScripts}
 use Rattle.session_run.specs.Boards.{IsNamed}
 use Rattle.session_run.proofs.Parts.{plan_in_part}
-use Rattle.session_run.proofs.BoardRuns.{if_ok}
 use Rattle.session_run.proofs.Idle.{HasNothing, idle_shows}
 use Rattle.session_run.proofs.finish.run_idle.Goals as goal
 
 pub returns-clause-scripts : goal.returns-clause-scripts
 returns-clause-scripts c =
     let scripts = c.args.scripts.now in
-    if_ok (IsNamed c.args.spec.now c.args.greeting (Some c.from_vec.result))
-    (ShowsScripts c.args.spec.now c.args.position scripts) c.named.result c.named.ensures
+    IfOk-weaker c.named.result (IsNamed c.args.spec.now c.args.greeting (Some c.from_vec.result))
+    (ShowsScripts c.args.spec.now c.args.position scripts)
     (λ run named. (let parts = same_Some c.from_vec.result run.parts named.parts' in
     let here = sym parts ∙ c.from_vec.ensures in
     idle_shows c.args.spec.now c.args.position c.args.greeting scripts run named.name' named.greeting'
@@ -22,3 +22,4 @@ returns-clause-scripts c =
     ∙ ap (plans_on c.args.position c.args.greeting) (take_all c.loop-steps.steps-index scripts
     c.loop-steps-test.false)))
     (subst (AllByRecursion HasNothing) (sym here) c.loop-steps.invariant.nothing)))
+    c.named.ensures

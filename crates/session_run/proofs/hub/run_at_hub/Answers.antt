@@ -1,5 +1,6 @@
 use Rattle.std.proofs.Common.{◌≡◌, ◌+◌, ℕ, Vec, arith, inl, inr, length, map, subst, sym}
 use Rattle.std.specs.List.{AllByRecursion}
+use Rattle.std.proofs.lemmas.Result.{IfOk-weaker}
 use Rattle.turn_pass.specs.Pass.{first_knowledge}
 use Rattle.hub_multiplexer.specs.Ends.{HasTakenIn}
 use Rattle.hub_multiplexer.specs.Lanes.{shown}
@@ -7,7 +8,6 @@ use Rattle.client_threads.specs.Clients.{AreOfClientsFrom, AreResultsFor, AwaitC
 use Rattle.client_threads.specs.declared.result.ClientResult.{ClientResult}
 use Rattle.session_run.specs.Hubs.{RanAtHub}
 use Rattle.session_plans.specs.Parts.{HasLanes}
-use Rattle.session_run.proofs.BoardRuns.{if_ok}
 use Rattle.session_run.proofs.HubRuns.{all_await, each_awaits, results_lanes, results_long}
 use Rattle.session_run.proofs.hub.run_at_hub.Goals as goal
 
@@ -42,19 +42,18 @@ pub returns-in-Ok-clause-all : goal.returns-in-Ok-clause-all
 returns-in-Ok-clause-all g c =
     let clients = c.args.clients.now in
     let lanes = length c.in-Ok.hub.turns in
-    if_ok (λ (r : Vec ClientResult _). AreResultsFor lanes clients r.items)
-    (λ (r : Vec ClientResult _). length r.items ≡ length clients) c.run_clients-results.result
-    c.run_clients-results.ensures.results (λ r are. results_long lanes clients r.items are)
+    IfOk-weaker c.run_clients-results.result (λ (r : Vec ClientResult _). AreResultsFor lanes clients r.items)
+    (λ (r : Vec ClientResult _). length r.items ≡ length clients)
+    (λ r are. results_long lanes clients r.items are) c.run_clients-results.ensures.results
 
 pub returns-in-Ok-clause-lanes : goal.returns-in-Ok-clause-lanes
 returns-in-Ok-clause-lanes g c =
     let clients = c.args.clients.now in
     let lanes = length c.in-Ok.hub.turns in
-    if_ok (λ (r : Vec ClientResult _). AreResultsFor lanes clients r.items)
+    IfOk-weaker c.run_clients-results.result (λ (r : Vec ClientResult _). AreResultsFor lanes clients r.items)
     (λ (r : Vec ClientResult _). AllByRecursion (HasLanes (length c.args.lanes.items)) r.items)
-    c.run_clients-results.result c.run_clients-results.ensures.results
     (λ r are. subst (λ (n : ℕ). AllByRecursion (HasLanes n) r.items) c.in-Ok.ensures.boards
-    (results_lanes lanes clients r.items are))
+    (results_lanes lanes clients r.items are)) c.run_clients-results.ensures.results
 
 pub returns-in-Ok-clause-back : goal.returns-in-Ok-clause-back
 returns-in-Ok-clause-back g c = inr (record {
@@ -71,9 +70,9 @@ pub returns-in-Ok-clause-ran : goal.returns-in-Ok-clause-ran
 returns-in-Ok-clause-ran g c =
     let clients = c.args.clients.now in
     let after = c.run_clients-results.new.master in
-    if_ok (λ (r : Vec ClientResult _). HaveRun clients r.items c.in-Ok.master after)
+    IfOk-weaker c.run_clients-results.result
+    (λ (r : Vec ClientResult _). HaveRun clients r.items c.in-Ok.master after)
     (λ (r : Vec ClientResult _). RanAtHub g.L.Link.telling clients r.items c.args.lanes.items c.finish.result.items)
-    c.run_clients-results.result c.run_clients-results.ensures.ran
     (λ r ran. record {
       hub = record {
         before = c.in-Ok.master;
@@ -82,7 +81,7 @@ returns-in-Ok-clause-ran g c =
         ended = c.finish.ensures;
       };
       ran = ran;
-    })
+    }) c.run_clients-results.ensures.ran
 
 pub returns-in-Err-clause-back : goal.returns-in-Err-clause-back
 returns-in-Err-clause-back g c = inl c.in-Err.ensures.returned

@@ -1,6 +1,7 @@
 use Rattle.std.proofs.Common.{◌≡◌, ◌∙◌, ℕ, List, ap, length, subst, sym}
 use Rattle.std.specs.List.{AllByRecursion}
 use Rattle.std.specs.Prelude.{IfOk}
+use Rattle.std.proofs.lemmas.Result.{IfOk-weaker}
 use Rattle.client_threads.specs.Clients.{OnLanesFrom}
 use Rattle.client_threads.specs.declared.plan.ClientPlan.{ClientPlan}
 use Rattle.session_plans.specs.Parts.{HasClients, HasLanes, parts_from}
@@ -8,7 +9,7 @@ use Rattle.session_run.specs.Hubs.{CameBack, HoldsAll, RanAtHub}
 use Rattle.session_run.specs.Lanes.{AllFour, AllThree, HasGoneOn, IsPlannedOn, IsRunOn}
 use Rattle.session_run.proofs.HubRuns.{hold_all, lanes_gone, parts_ran}
 use Rattle.session_run.proofs.PlanningLanes.{boards_of_clients}
-use Rattle.session_run.proofs.Sides.{four_long, ok_leads, ok_then, three_long, written_back}
+use Rattle.session_run.proofs.Sides.{four_long, ok_then, three_long, written_back}
 use Rattle.session_run.proofs.lanes.run_lanes.Goals as goal
 
 pub run_at_hub-lanes-requires-clause-planned : goal.run_at_hub-lanes-requires-clause-planned
@@ -57,10 +58,11 @@ parts_if_ran-requires-clause-clients g c =
     let all = c.in-Ok.boards.items in
     let planned = subst (λ l. AllFour (IsPlannedOn scripts) positions l mids all) c.deref_mut.ensures.value
     c.in-Ok.ensures.planned in
-    ok_leads c.run_at_hub-lanes.result.1 (λ there. length there.items ≡ length c.deref.result.now)
-    (λ there. AllByRecursion (HasClients (length there.items)) all) c.run_at_hub-lanes.ensures.all
+    IfOk-weaker c.run_at_hub-lanes.result.1 (λ there. length there.items ≡ length c.deref.result.now)
+    (λ there. AllByRecursion (HasClients (length there.items)) all)
     (λ there is. boards_of_clients scripts positions olds mids all (length there.items) planned
     (is ∙ (ap (λ (l : List ClientPlan). length l) c.deref.ensures.value ∙ c.in-Ok.ensures.all)))
+    c.run_at_hub-lanes.ensures.all
 
 pub returns-in-Ok-clause-gone_on : goal.returns-in-Ok-clause-gone_on
 returns-in-Ok-clause-gone_on g c =

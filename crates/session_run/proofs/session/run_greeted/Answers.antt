@@ -1,10 +1,10 @@
 use Rattle.std.proofs.Common.{◌≡◌, ◌∙◌, ℕ, List, Vec, ap, length, map, subst, sym}
+use Rattle.std.proofs.lemmas.List.{length-map}
 use Rattle.hub_lane.specs.declared.greeting.Greeted.{Greeted}
 use Rattle.hub_lane.specs.Greeting.{link_of}
 use Rattle.board_greeting.specs.Boards.{AreReached, HasRoom, shown_by}
 use Rattle.board_greeting.proofs.Boards.{untouched_all}
 use Rattle.session_run.proofs.Sessions.{untouched_are_left}
-use Rattle.session_run.proofs.Sides.{length_map}
 use Rattle.session_run.proofs.session.run_greeted.Goals as goal
 
 pub run_split-requires-clause-reached : goal.run_split-requires-clause-reached
@@ -36,7 +36,7 @@ returns-in-Err-clause-left g c =
             c.args.scripts.now (map shows links)
             (untouched_all link.telling shows c.args.settings c.args.specs.now boards
             (subst (AreReached link.telling shows c.args.settings c.args.specs.now) (sym same) c.requires.reached)),
-        length_map shows links ∙ (length_map (λ (b : Greeted _). link_of b) boards
+        length-map links shows ∙ (length-map boards (λ (b : Greeted _). link_of b)
             ∙ (ap (λ (l : List (Greeted _)). length l) same ∙ c.requires.all)),
       ),
     )

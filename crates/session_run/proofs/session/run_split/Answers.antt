@@ -5,8 +5,9 @@ use Rattle.board_greeting.specs.Boards.{shown_by}
 use Rattle.board_greeting.specs.Boards.{HasNoEntry}
 use Rattle.session_run.specs.Lanes.{AllThree, HasGoneOn, IsRunOn}
 use Rattle.board_greeting.specs.Places.{HaveLanes, positions_from, rejoined}
+use Rattle.board_greeting.proofs.Lanes.{lanes_unused}
 use Rattle.session_run.specs.Places.{AreCameOf}
-use Rattle.session_run.proofs.Rejoining.{boards_came, few_positions, have_lanes, lanes_unused, places_long}
+use Rattle.session_run.proofs.Rejoining.{boards_came, few_positions, have_lanes, places_long}
 use Rattle.session_run.proofs.Sides.{items_or_none}
 use Rattle.session_run.proofs.session.run_split.Goals as goal
 

@@ -1,11 +1,12 @@
 use Rattle.std.proofs.Common.{◌≡◌, ◌∙◌, ◌∷◌, ◌++◌, ◌+◌, [], ℕ, List, ap, append_assoc, length, length-append, refl}
 use Rattle.std.proofs.Common.{subst, sym, arith}
+use Rattle.std.proofs.lemmas.List.{map-append}
 use Rattle.hub_multiplexer.specs.Ends.{HasTakenIn}
 use Rattle.hub_multiplexer.specs.Seats.{SeatState}
 use Rattle.session_serve.specs.Hubs.{pairs_of, seats_of}
 use Rattle.session_serve.specs.Pairs.{Went}
 use Rattle.session_serve.specs.Seats.{AreOfClientsFrom, AreTakenIn, IsBack}
-use Rattle.session_serve.proofs.Lists.{all_middle, map_append, went_more, went_none}
+use Rattle.session_serve.proofs.Lists.{all_middle, went_more, went_none}
 use Rattle.session_serve.proofs.Seating.{none_taken, one_taken, taken_more}
 use Rattle.session_serve.proofs.hub.give_back.Goals as goal
 
@@ -41,7 +42,7 @@ loop-one-preserved g c =
     let back = all_middle (λ one. IsBack c.args.hub.now.turns one.seat) yielded one rest c.args.done.items
     c.requires.back all in
     let seats : seats_of (yielded ++ one ∷ []) ≡ seats_of yielded ++ one.seat ∷ [] =
-    map_append (λ done. done.seat) yielded (one ∷ []) in
+    map-append (λ done. done.seat) yielded (one ∷ []) in
     let out = i.out in
     let counted = c.keep.ensures.counted in
     let longer = length-append yielded (one ∷ []) in
@@ -53,10 +54,10 @@ loop-one-preserved g c =
           → HasTakenIn (client + length l) new) (sym seats)
           (taken_more client (seats_of yielded) one.seat old c.loop-one.master new i.taken_in c.join.ensures.taken_in);
       lines = c.push_reserved.ensures.items ∙ (ap (λ l. l ++ one.served ∷ []) i.lines
-          ∙ sym (map_append (λ done. done.served) yielded (one ∷ [])));
+          ∙ sym (map-append (λ done. done.served) yielded (one ∷ [])));
       room = c.push_reserved.ensures.capacity ∙ i.room;
       went = subst (Went (g.D.Door.kept c.args.door.now) (g.D.Door.kept c.keep.new.self))
-          (sym (map_append (λ done. (done.src, done.sink)) yielded (one ∷ [])))
+          (sym (map-append (λ done. (done.src, done.sink)) yielded (one ∷ [])))
           (went_more (g.D.Door.kept c.args.door.now) (g.D.Door.kept c.loop-one.door) (g.D.Door.kept c.keep.new.self)
           (pairs_of yielded) (one.src, one.sink) i.went c.keep.ensures.given);
       out = omega (arith, out, counted, longer);

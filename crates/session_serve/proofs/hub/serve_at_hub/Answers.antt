@@ -1,5 +1,6 @@
 use Rattle.std.proofs.Common.{[], ℕ, List, Vec, Global, length, subst, sym}
 use Rattle.std.specs.List.{AllByRecursion}
+use Rattle.std.proofs.lemmas.Result.{IfOk-weaker}
 use Rattle.hub_multiplexer.specs.Seats.{SeatState}
 use Rattle.hub_session.specs.declared.served.Served.{Served}
 use Rattle.hub_session.specs.Serving.{IsLaneBelow}
@@ -8,7 +9,7 @@ use Rattle.session_serve.specs.Pairs.{GivesBack, pair_shown}
 use Rattle.session_serve.specs.Seats.{AreOfClientsFrom, IsOpen, with_seats}
 use Rattle.session_serve.specs.Serving.{HadMemory}
 use Rattle.session_serve.proofs.AtHub.{heads_of, heads_returned, opens_all, served_at}
-use Rattle.session_serve.proofs.EachDone.{both_ok, each_served, if_ok}
+use Rattle.session_serve.proofs.EachDone.{both_ok, each_served}
 use Rattle.session_serve.proofs.Lists.{came_none, went_none}
 use Rattle.session_serve.proofs.Seating.{clients_front}
 use Rattle.session_serve.proofs.hub.serve_at_hub.Goals as goal
@@ -41,20 +42,15 @@ returns-in-Ok-clause-served g c =
     let turns = c.in-Ok.hub.turns in
     let m = c.in-Ok.master in
     let end' = c.serve_under_seats-served.new.master in
-    if_ok (λ (served : Vec Served Global). ((seats : List SeatState) × HasServedAll shows c.args.states.now turns seats
+    IfOk-weaker c.serve_under_seats-served.result
+    (λ (served : Vec Served Global). ((seats : List SeatState) × HasServedAll shows c.args.states.now turns seats
     (with_seats m (length seats)) end' (coming c.args.door.now) (coming door) (kept c.args.door.now) (kept door)
     served.items)
     × AllByRecursion HadMemory served.items)
     (λ (served : Vec Served Global). GivesBack g.D.Incoming.Source.left g.D.Incoming.Source.faults
     g.D.Outgoing.Sink.written g.D.Outgoing.Sink.faults g.D.Outgoing.Sink.ended (coming c.args.door.now) (coming door)
     (kept c.args.door.now) (kept door) (λ came back. AreServedAt g.L.Link.telling c.args.states.now c.args.lanes.items
-    c.finish.result.items came back served.items)) c.serve_under_seats-served.result
-    (both_ok (λ (served : Vec Served Global). (seats : List SeatState) × HasServedAll shows c.args.states.now turns
-    seats
-    (with_seats m (length seats)) end' (coming c.args.door.now) (coming door) (kept c.args.door.now) (kept door)
-    served.items)
-    (λ (served : Vec Served Global). AllByRecursion HadMemory served.items) c.serve_under_seats-served.result
-    c.serve_under_seats-served.ensures.served c.serve_under_seats-served.ensures.had_memory)
+    c.finish.result.items came back served.items))
     (λ served is. (let h = is.0.1 in (
       h.all_back.came,
       pairs_of h.all_back.dones,
@@ -69,6 +65,12 @@ returns-in-Ok-clause-served g c =
           (coming c.args.door.now) (coming door) (kept c.args.door.now) (kept door) served.items c.in-Ok.ensures.master
           c.requires.unused c.finish.ensures h is.1,
     )))
+    (both_ok (λ (served : Vec Served Global). (seats : List SeatState) × HasServedAll shows c.args.states.now turns
+    seats
+    (with_seats m (length seats)) end' (coming c.args.door.now) (coming door) (kept c.args.door.now) (kept door)
+    served.items)
+    (λ (served : Vec Served Global). AllByRecursion HadMemory served.items) c.serve_under_seats-served.result
+    c.serve_under_seats-served.ensures.served c.serve_under_seats-served.ensures.had_memory)
 
 pub returns-in-Ok-clause-pairs : goal.returns-in-Ok-clause-pairs
 returns-in-Ok-clause-pairs g c =

@@ -2,6 +2,8 @@ use Rattle.std.proofs.Common.{◌≡◌, ◌∙◌, true, List, Vec, Global, ap,
 use Rattle.std.proofs.Common.{subst, sym, arith}
 use Rattle.std.specs.List.{AllByRecursion}
 use Rattle.std.specs.Vec.Iter.{into_iter_items}
+use Rattle.std.proofs.lemmas.List.{length-map}
+use Rattle.std.proofs.lemmas.Result.{IfOk-weaker}
 use Rattle.hub_multiplexer.specs.Seats.{SeatState}
 use Rattle.hub_session.specs.declared.served.Served.{Served}
 use Rattle.session_serve.specs.Hubs.{HasServedAll}
@@ -9,8 +11,7 @@ use Rattle.session_serve.specs.Pairs.{pair_shown}
 use Rattle.session_serve.specs.Seats.{AreTakenIn, HasServed, IsFresh}
 use Rattle.session_serve.proofs.EachDone.{all_back, all_in_turn, all_served, each_back, each_long, fresh_all_back}
 use Rattle.session_serve.proofs.EachDone.{fresh_befores}
-use Rattle.session_serve.proofs.EachDone.{if_ok, longer, none_back, on_ok_of, with_ok}
-use Rattle.session_serve.proofs.Lists.{length_map}
+use Rattle.session_serve.proofs.EachDone.{longer, none_back, on_ok_of, with_ok}
 use Rattle.session_serve.proofs.hub.serve_seats.Goals as goal
 
 pub returns-then-is_err-clause-all_back : goal.returns-then-is_err-clause-all_back
@@ -93,13 +94,10 @@ returns-clause-served g c =
     let kept = g.D.Door.kept in
     let seats = c.args.room.seats.items in
     let ended = c.serve_all-ended.result in
-    if_ok (λ there. (there ≡ c.give_back.new.served) × (ended.is_whole ≡ true))
+    IfOk-weaker c.conclude.result (λ there. (there ≡ c.give_back.new.served) × (ended.is_whole ≡ true))
     (λ (there : Vec Served Global). HasServedAll shows c.args.states.now turns seats c.args.master.now
     c.join_all-2.new.master (coming c.args.door.now) (coming c.give_back.new.door) (kept c.args.door.now)
-    (kept c.give_back.new.door) there.items) c.conclude.result
-    (with_ok (λ there. there ≡ c.give_back.new.served) (ended.is_whole ≡ true) c.conclude.result
-    c.conclude.ensures.served
-    c.conclude.ensures.whole)
+    (kept c.give_back.new.door) there.items)
     (λ there is. all_served shows c.args.states.now turns seats ended c.args.master.now c.give_back.new.master
     c.join_all-2.new.master (coming c.args.door.now) (coming c.listen.new.self) (coming c.serve_all-ended.new.door)
     (coming c.give_back.new.door) (kept c.args.door.now) (kept c.listen.new.self) (kept c.serve_all-ended.new.door)
@@ -110,6 +108,9 @@ returns-clause-served g c =
     c.give_back.ensures.went c.requires.seats.fresh c.requires.seats.clients c.give_back.ensures.joined
     c.join_all-2.ensures.joined c.give_back.ensures.served (c.serve_all-ended.ensures.served.all is.1)
     (ap (λ (v : Vec Served Global). v.items) is.0))
+    (with_ok (λ there. there ≡ c.give_back.new.served) (ended.is_whole ≡ true) c.conclude.result
+    c.conclude.ensures.served
+    c.conclude.ensures.whole)
 
 pub returns-clause-all : goal.returns-clause-all
 returns-clause-all g c =
@@ -123,12 +124,9 @@ returns-clause-all g c =
     let all = longer h.befores (into_iter_items ended.seats) (into_iter_items c.into_iter-2.result) h.seats' in
     let same = ap (λ (l : List SeatState). length l) c.into_iter-2.ensures.rest in
     let lines = ap (λ (l : List Served). length l) c.give_back.ensures.served
-    ∙ length_map (λ done. done.served) ended.done.items in
-    if_ok (λ there. (there ≡ c.give_back.new.served) × (ended.is_whole ≡ true))
-    (λ (there : Vec Served Global). length there.items ≡ length seats) c.conclude.result
-    (with_ok (λ there. there ≡ c.give_back.new.served) (ended.is_whole ≡ true) c.conclude.result
-    c.conclude.ensures.served
-    c.conclude.ensures.whole)
+    ∙ length-map ended.done.items (λ done. done.served) in
+    IfOk-weaker c.conclude.result (λ there. (there ≡ c.give_back.new.served) × (ended.is_whole ≡ true))
+    (λ (there : Vec Served Global). length there.items ≡ length seats)
     (λ there is. (let none = ap (λ (l : List SeatState). length l) (h.all is.1) in
     let here = ap (λ (v : Vec Served Global). length v.items) is.0 in omega (
       arith,
@@ -139,6 +137,9 @@ returns-clause-all g c =
       none,
       here,
     )))
+    (with_ok (λ there. there ≡ c.give_back.new.served) (ended.is_whole ≡ true) c.conclude.result
+    c.conclude.ensures.served
+    c.conclude.ensures.whole)
 
 pub returns-clause-taken_in : goal.returns-clause-taken_in
 returns-clause-taken_in g c =

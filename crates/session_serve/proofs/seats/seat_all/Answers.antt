@@ -1,8 +1,8 @@
 use Rattle.std.proofs.Common.{◌≡◌, ◌∙◌, ◌∷◌, [], ◌+◌, ℕ, List, ap, length, length-append, refl, subst, sym, arith}
 use Rattle.std.specs.List.{AllByRecursion}
+use Rattle.ipb_base.proofs.AllLemmas.{AllByRecursion-append}
 use Rattle.hub_multiplexer.specs.Seats.{SeatState}
 use Rattle.session_serve.specs.Seats.{AreOfClientsFrom, IsFresh, with_seats}
-use Rattle.session_serve.proofs.Lists.{all_push}
 use Rattle.session_serve.proofs.Seating.{clients_push, fresh_seat, no_seats, one_more_seat}
 use Rattle.session_serve.proofs.seats.seat_all.Goals as goal
 
@@ -39,7 +39,8 @@ loop-preserved g c =
     c.in_ok-seat.ensures.seat c.is_of_its_client.ensures.numbers c.is_of_its_client.ensures.boards in
     let client = new.1 in
     record {
-      fresh = subst (AllByRecursion (IsFresh turns)) (sym pushed) (all_push (IsFresh turns) seats seat i.fresh new.0);
+      fresh = subst (AllByRecursion (IsFresh turns)) (sym pushed)
+          (AllByRecursion-append (IsFresh turns) seats (seat ∷ []) i.fresh (new.0, tt));
       clients = subst (AreOfClientsFrom 1) (sym pushed) (clients_push 1 seats seat i.clients (omega (arith, client)));
       many = omega (arith, longer, many);
       made = one_more_seat m c.loop.master c.seat.new.self n i.made c.in_ok-seat.ensures.made

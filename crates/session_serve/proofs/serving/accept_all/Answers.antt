@@ -2,10 +2,12 @@ use Rattle.std.proofs.Common.{◌≡◌, ◌∙◌, ◌∷◌, ◌++◌, [], Lis
 use Rattle.std.proofs.Common.{arith}
 use Rattle.std.specs.List.{AllByRecursion}
 use Rattle.std.specs.Vec.Iter.{into_iter_items}
+use Rattle.std.proofs.lemmas.List.{map-append}
+use Rattle.ipb_base.proofs.AllLemmas.{AllByRecursion-append}
 use Rattle.hub_multiplexer.specs.Seats.{SeatState}
 use Rattle.session_serve.specs.Pairs.{Came}
 use Rattle.session_serve.specs.Seats.{IsFresh}
-use Rattle.session_serve.proofs.Lists.{all_middle, all_push, came_more, map_append}
+use Rattle.session_serve.proofs.Lists.{all_middle, came_more}
 use Rattle.session_serve.proofs.serving.accept_all.Goals as goal
 
 pub begin-requires-clause-seat : goal.begin-requires-clause-seat
@@ -34,9 +36,9 @@ loop-preserved g c =
     let many = i.so_many in
     let out = i.out in
     let counted = c.in-Ok.ensures.counted in
-    let pairs = ap (λ l. map (λ r. r.pair) l) pushed ∙ (map_append (λ r. r.pair) running (begun ∷ [])
+    let pairs = ap (λ l. map (λ r. r.pair) l) pushed ∙ (map-append (λ r. r.pair) running (begun ∷ [])
     ∙ ap (λ p. map (λ r. r.pair) running ++ p ∷ []) c.begin.ensures.pair) in
-    let seats = ap (λ l. map (λ r. r.seat) l) pushed ∙ (map_append (λ r. r.seat) running (begun ∷ [])
+    let seats = ap (λ l. map (λ r. r.seat) l) pushed ∙ (map-append (λ r. r.seat) running (begun ∷ [])
     ∙ ap (λ (s : SeatState). map (λ r. r.seat) running ++ s ∷ []) c.begin.ensures.seat) in
     record {
       came = subst (Came (g.D.Door.coming c.args.door.now) (g.D.Door.coming c.accept.new.self)) (sym pairs)
@@ -46,7 +48,8 @@ loop-preserved g c =
           ∙ (sym (append_assoc (map (λ r. r.seat) running) (seat ∷ []) rest)
           ∙ ap (λ (l : List SeatState). l ++ rest) (sym seats)));
       boards = subst (AllByRecursion (λ r. r.boards ≡ c.args.states.now)) (sym pushed)
-          (all_push (λ r. r.boards ≡ c.args.states.now) running begun i.boards c.begin.ensures.boards);
+          (AllByRecursion-append (λ r. r.boards ≡ c.args.states.now) running (begun ∷ []) i.boards
+          (c.begin.ensures.boards, tt));
       so_many = omega (arith, longer, many);
       room = (let cap = c.push_reserved.ensures.capacity in let room = i.room in omega (arith, cap, room));
       out = omega (arith, longer, out, counted);

@@ -1,9 +1,10 @@
 use Rattle.std.proofs.Common.{◌≡◌, ◌∙◌, [], ℕ, List, Vec, ap, length, map, subst, sym}
+use Rattle.std.proofs.lemmas.List.{length-map}
 use Rattle.hub_lane.specs.declared.greeting.Greeted.{Greeted}
 use Rattle.hub_lane.specs.Greeting.{link_of}
 use Rattle.board_greeting.specs.Boards.{AreReached, HasRoom, shown_by}
 use Rattle.session_serve.specs.Prepared.{IsPrepared, told_by}
-use Rattle.session_serve.proofs.Lists.{came_none, length_map, went_none}
+use Rattle.session_serve.proofs.Lists.{came_none, went_none}
 use Rattle.session_serve.proofs.Reporting.{links_reached}
 use Rattle.session_serve.proofs.session.serve_greeted.Goals as goal
 
@@ -22,7 +23,7 @@ returns-in_default-clause-links g c =
       c.keep_all.ensures.kept,
       (
         links_reached link.telling shows c.args.settings c.args.specs.now boards c.requires.reached,
-        length_map shows links ∙ (length_map (λ (b : Greeted _). link_of b) boards ∙ c.requires.all),
+        length-map links shows ∙ (length-map boards (λ (b : Greeted _). link_of b) ∙ c.requires.all),
       ),
     )
 
@@ -66,7 +67,7 @@ returns-in-Err-clause-links g c =
       (
         links_reached link.telling shows c.args.settings c.args.specs.now boards
             (subst (AreReached link.telling shows c.args.settings c.args.specs.now) (sym same) c.requires.reached),
-        length_map shows links ∙ (length_map (λ (b : Greeted _). link_of b) boards
+        length-map links shows ∙ (length-map boards (λ (b : Greeted _). link_of b)
             ∙ (ap (λ (l : List (Greeted _)). length l) same ∙ c.requires.all)),
       ),
     )

@@ -1,19 +1,20 @@
 use Rattle.std.proofs.Common.{◌≡◌, ◌∙◌, ℕ, List, Vec, Global, Err, ap, length, map, subst, sym}
 use Rattle.std.specs.List.{AllByRecursion}
 use Rattle.std.specs.Prelude.{IfOk}
+use Rattle.std.proofs.lemmas.List.{length-map}
 use Rattle.hub_session.specs.declared.served.Served.{Served}
 use Rattle.hub_session.specs.Serving.{IsLaneBelow}
 use Rattle.client_threads.specs.Running.{AtEach}
 use Rattle.board_greeting.specs.Boards.{HasNoEntry, HasRoom, shown_by}
 use Rattle.board_greeting.specs.Places.{HaveLanes, lanes_in, place_of, rejoined}
+use Rattle.board_greeting.proofs.Lanes.{lanes_unused}
 use Rattle.board_greeting.proofs.Splitting.{have_lanes}
 use Rattle.session_serve.specs.Boards.{AreLinksTo}
 use Rattle.session_serve.specs.Finish.{IsSound, link_in}
 use Rattle.session_serve.specs.Hubs.{AreServedAt, KeepsHead}
 use Rattle.session_serve.specs.declared.report.ServeFault.TheVariants.{Door}
 use Rattle.session_serve.specs.Pairs.{GivesBack}
-use Rattle.session_serve.proofs.Lists.{length_map}
-use Rattle.session_serve.proofs.Reporting.{are_served, from_each, lanes_unused, links_to, rejoined_long}
+use Rattle.session_serve.proofs.Reporting.{are_served, from_each, links_to, rejoined_long}
 use Rattle.session_serve.specs.Prepared.{told_by}
 use Rattle.session_serve.proofs.Standing.{back_as_told, states_within}
 use Rattle.session_serve.proofs.session.serve_split.Goals as goal
@@ -68,7 +69,7 @@ finish_boards-requires-clause-all g c κs within =
     c.serve_at_hub-lanes.ensures.heads in
     let is = c.of-boards.ensures ∙ (ap (λ p. rejoined p news c.new.result.items) apart.apart.places'
     ∙ ap (λ l. rejoined (map place_of boards) news l) c.new.ensures.items) in
-    ap (λ (l : List (List ℕ)). length l) ready.prepared'.names' ∙ (length_map (λ s. s.name) c.args.specs.now
+    ap (λ (l : List (List ℕ)). length l) ready.prepared'.names' ∙ (length-map c.args.specs.now (λ s. s.name)
     ∙ (sym apart.all ∙ (sym (rejoined_long _ _ boards news heads.long) ∙ sym (ap (λ l. length l) is))))
 
 pub finish_boards-requires-clause-room : goal.finish_boards-requires-clause-room
@@ -110,7 +111,7 @@ returns-in-Err-clause-links g c =
       c.finish_boards.ensures.kept,
       (
         subst (λ b. AreLinksTo c.args.specs.now (map shows (map (λ x. link_in x) b))) (sym is) to.0,
-        length_map shows (map (λ b. link_in b) ended) ∙ (length_map (λ b. link_in b) ended ∙ (ap (λ l. length l) is ∙
+        length-map (map (λ b. link_in b) ended) shows ∙ (length-map ended (λ b. link_in b) ∙ (ap (λ l. length l) is ∙
             to.1)),
       ),
     )
@@ -138,7 +139,7 @@ returns-in-Ok-clause-links g c =
       c.finish_boards.ensures.kept,
       (
         subst (λ b. AreLinksTo c.args.specs.now (map shows (map (λ x. link_in x) b))) (sym is) to.0,
-        length_map shows (map (λ b. link_in b) ended) ∙ (length_map (λ b. link_in b) ended ∙ (ap (λ l. length l) is ∙
+        length-map (map (λ b. link_in b) ended) shows ∙ (length-map ended (λ b. link_in b) ∙ (ap (λ l. length l) is ∙
             to.1)),
       ),
     )
