@@ -1,5 +1,0 @@
-use Rattle.transcript.proofs.Hex.{eight_digits}
-use Rattle.transcript.proofs.text.hex.Goals as goal
-
-pub returns : goal.returns
-returns c = rw eight_digits at (rw (c.laid_out.ensures, c.in_radix.ensures) at c.in_ok-format.ensures.ok)
