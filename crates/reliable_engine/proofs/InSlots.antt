@@ -13,10 +13,11 @@ use Rattle.world_model.specs.Sends.{opened}
 use Rattle.world_model.specs.Facts.{AreRising}
 use Rattle.world_model.proofs.Hubs.{places_without}
 use Rattle.world_model.proofs.Lists.{either}
-use Rattle.world_model.proofs.Places.{least_push, rising_end, rising_from, rising_less}
+use Rattle.world_model.proofs.Places.{least_from, least_push, rising_end, rising_from, rising_least, rising_less}
+use Rattle.world_model.proofs.Places.{rising_push}
 use Rattle.reliable_engine.specs.declared.slots.Flags.{Flags}
 use Rattle.reliable_engine.specs.declared.slots.TheConstants.{SLOTS}
-use Rattle.reliable_engine.specs.Slots.{AreUpTo, IsPut, IsSlotted, changed, open_at, open_from, place_with_flags}
+use Rattle.reliable_engine.specs.Slots.{EndsAt, IsPut, IsSlotted, changed, open_at, open_from, place_with_flags}
 use Rattle.reliable_engine.specs.Slots.{put_before}
 
 -- ---- one slot
@@ -62,18 +63,23 @@ none_before o (x ∷ xs) ys e = absurd (cc)
 
 -- ---- the open places from a place on
 
+halves : (slots : List (Option Flags)) (place count m at k : ℕ) → at ≡ place + m → count ≡ m + k
+    → open_from slots place count ≡ open_from slots place m ++ open_from slots at k
+unfolding open_from
+halves slots place count zero at k there all =
+    let here : at ≡ place = omega arith in
+    let same : count ≡ k = omega arith in
+    rw (here, same) refl
+halves slots place count (suc m) at k there all =
+    let one : count ≡ suc (m + k) = omega arith in
+    rw one (ap (put_before (open_at slots place)) (halves slots (place + 1) (m + k) m at k (omega arith) refl)
+    ∙ sym (before_append (open_at slots place) (open_from slots (place + 1) m) _))
+
 pub parts : (slots : List (Option Flags)) (place count m at k : ℕ) → at ≡ place + m → count ≡ m + (k + 1)
     → open_from slots place count
     ≡ open_from slots place m ++ put_before (open_at slots at) (open_from slots (at + 1) k)
 unfolding open_from
-parts slots place count zero at k there all =
-    let here : at ≡ place = omega arith in
-    let one : count ≡ suc k = omega arith in
-    rw (here, one) refl
-parts slots place count (suc m) at k there all =
-    let one : count ≡ suc (m + (k + 1)) = omega arith in
-    rw one (ap (put_before (open_at slots place)) (parts slots (place + 1) (m + (k + 1)) m at k (omega arith) refl)
-    ∙ sym (before_append (open_at slots place) (open_from slots (place + 1) m) _))
+parts slots place count m at k there all = halves slots place count m at (suc k) there (omega arith)
 
 pub same_from : (old new : List (Option Flags)) (place count : ℕ)
     → ((other : ℕ) → place ≤ other → other < place + count → open_at new other ≡ open_at old other)
@@ -127,6 +133,40 @@ rising_open slots place zero = omega arith
 rising_open slots place (suc count) =
     let past : place + suc count ≡ place + 1 + count = omega arith in
     rw past (rising_before (open_at slots place) place _ _ (place_at slots place) (rising_open slots (place + 1) count))
+
+-- ---- the end of the open places
+
+none_above : (place from past : ℕ) (xs ys : List OpenPlace) → AreRising from place (places (xs ++ ys))
+    → AreRising place past (places ys) → ys ≡ []
+none_above place from past [] [] r above = refl
+none_above place from past [] (y ∷ ys) r above =
+    let e = rising_end (y.place + 1) place (places ys) r.1 in absurd (omega (arith, above.0))
+none_above place from past (x ∷ xs) ys r above = none_above place (x.place + 1) past xs ys r.1 above
+
+-- nothing stands between an end and itself
+pub none_between : (low end : ℕ) (os : List OpenPlace) → AreRising low end (places os) → low ≡ end → os ≡ []
+none_between low end [] r same = refl
+none_between low end (o ∷ os) r same =
+    let e = rising_end (o.place + 1) end (places os) r.1 in absurd (omega (arith, r.0))
+
+pub none_behind : (slots : List (Option Flags)) (low end place : ℕ) → EndsAt low end (open_from slots low SLOTS)
+    → end ≤ place → open_from slots place (low + SLOTS - place) ≡ []
+none_behind slots low end place ends past =
+    let from = rising_end low end _ ends.rising in
+    let k = low + 16 - end in
+    let all = halves slots low SLOTS (end - low) end k (omega arith) (omega (arith, ends.near)) in
+    let none : open_from slots end k ≡ [] =
+    none_above end low (end + k) (open_from slots low (end - low)) (open_from slots end k)
+    (subst (λ (os : List OpenPlace). AreRising low end (places os)) all ends.rising) (rising_open slots end k) in
+    closed_from slots place (low + 16 - place)
+    (λ other f b. closed_there slots end k other none (omega arith) (omega arith))
+
+all_in_front : (slots : List (Option Flags)) (low place : ℕ) → low ≤ place → place ≤ low + SLOTS
+    → open_from slots place (low + SLOTS - place) ≡ [] → open_from slots low SLOTS ≡ open_from slots low (place - low)
+all_in_front slots low place from below none =
+    let front = open_from slots low (place - low) in
+    halves slots low SLOTS (place - low) place (low + 16 - place) (omega arith) (omega arith)
+    ∙ (ap (λ (os : List OpenPlace). front ++ os) none ∙ append-nil front)
 
 -- ---- step by step
 
@@ -232,19 +272,7 @@ least_again : (ps : List ℕ) (next : ℕ) → least ps (least ps next) ≡ leas
 least_again [] next = refl
 least_again (p ∷ ps) next = refl
 
-least_between : (from past next : ℕ) (ps : List ℕ) → AreRising from past ps → from ≤ next → next < past
-    → (from ≤ least ps next) × (least ps next < past)
-least_between from past next [] r one end = (one, end)
-least_between from past next (p ∷ ps) r one end = let e = rising_end (p + 1) past ps r.1 in (r.0, omega arith)
-
 -- ---- a place is opened above the others
-
-none_above : (place from past : ℕ) (xs ys : List OpenPlace) → AreRising from place (places (xs ++ ys))
-    → AreRising place past (places ys) → ys ≡ []
-none_above place from past [] [] r above = refl
-none_above place from past [] (y ∷ ys) r above =
-    let e = rising_end (y.place + 1) place (places ys) r.1 in absurd (omega (arith, above.0))
-none_above place from past (x ∷ xs) ys r above = none_above place (x.place + 1) past xs ys r.1 above
 
 pub open_next : (old new : List (Option Flags)) (low place : ℕ) → low ≤ place → place < low + SLOTS
     → AreRising low place (places (open_from old low SLOTS)) → IsPut place (Some (opened place)) old new
@@ -266,47 +294,42 @@ open_next old new low place from below r put =
     ∙ (ap (λ (os : List OpenPlace). front ++ opened place ∷ os) after
     ∙ ap (λ (os : List OpenPlace). os ++ opened place ∷ []) (sym same))
 
-pub slotted_open : (low place : ℕ) (os : List OpenPlace) → 1 ≤ low → low ≤ 2 ^ 62 → low ≡ least (places os) place
-    → IsSlotted low (os ++ opened place ∷ [])
-slotted_open low place os one end is = record {
-  from_one = one;
-  up_to_end = end;
-  lowest = ap (λ (ps : List ℕ). least ps low) (map-append place_of os (opened place ∷ []))
-      ∙ (least_push place low (places os) ∙ sym is);
-}
+pub slotted_open : (low place : ℕ) (os : List OpenPlace) → 1 ≤ low → place ≤ 2 ^ 62 → low ≡ least (places os) place
+    → AreRising low place (places os) → place < low + SLOTS → IsSlotted low (place + 1) (os ++ opened place ∷ [])
+slotted_open low place os one last is r near =
+    let all = map-append place_of os (opened place ∷ []) in
+    record {
+      from_one = one;
+      up_to_end = omega arith;
+      lowest = ap (λ (ps : List ℕ). least ps low) all ∙ (least_push place low (places os) ∙ sym is);
+      ends = record {
+        rising = subst (AreRising low (place + 1)) (sym all) (rising_push low place (places os) r);
+        near = omega arith;
+      };
+    }
 
-pub record IsLowFor (low place : ℕ) : Type 0 where
-  pub from_one : 1 ≤ low
-  pub up_to_end : low ≤ 2 ^ 62
-  pub up_to_place : low ≤ place
+low_from_one : (low place : ℕ) (ps : List ℕ) → least ps low ≡ low → 1 ≤ low → 1 ≤ place → 1 ≤ least ps place
+low_from_one low place [] lowest from one = one
+low_from_one low place (p ∷ ps) lowest from one = omega (arith, lowest)
 
-pub low_for : (low place : ℕ) (os : List OpenPlace) → least (places os) low ≡ low → 1 ≤ low → low ≤ 2 ^ 62 → 1 ≤ place
-    → place ≤ 2 ^ 62 → AreRising (least (places os) place) place (places os) → IsLowFor (least (places os) place) place
-low_for low place [] lowest from end one last r = record {
-  from_one = one;
-  up_to_end = last;
-  up_to_place = omega arith;
-}
-low_for low place (o ∷ os) lowest from end one last r =
-    let past = rising_end (o.place + 1) place (places os) r.1 in
-    record { from_one = omega (arith, lowest); up_to_end = omega (arith, lowest); up_to_place = omega arith }
-
-pub opened_after : (old new : List (Option Flags)) (before low place : ℕ) (os : List OpenPlace)
-    → open_from old before SLOTS ≡ os → IsSlotted before (open_from old before SLOTS) → low ≡ least (places os) place
-    → 1 ≤ place → place ≤ 2 ^ 62 → AreRising (least (places os) place) place (places os)
-    → place < least (places os) place + SLOTS → IsPut place (Some (opened place)) old new
-    → (open_from new low SLOTS ≡ os ++ opened place ∷ []) × IsSlotted low (os ++ opened place ∷ [])
-opened_after old new before low place os seen is low_is from end r near put =
+pub opened_after : (old new : List (Option Flags)) (before end low place : ℕ) (os : List OpenPlace)
+    → open_from old before SLOTS ≡ os → IsSlotted before end (open_from old before SLOTS)
+    → low ≡ least (places os) place → 1 ≤ place → place ≤ 2 ^ 62
+    → AreRising (least (places os) place) place (places os) → place < least (places os) place + SLOTS
+    → IsPut place (Some (opened place)) old new
+    → (open_from new low SLOTS ≡ os ++ opened place ∷ []) × IsSlotted low (place + 1) (os ++ opened place ∷ [])
+opened_after old new before end low place os seen is low_is from last r near put =
     let lowest : least (places os) before ≡ before =
     subst (λ (qs : List OpenPlace). least (places qs) before ≡ before) seen is.lowest in
-    let fits = low_for before place os lowest is.from_one is.up_to_end from end r in
+    let one = low_from_one before place (places os) lowest is.from_one from in
+    let rising : AreRising low place (places os) = subst (λ (n : ℕ). AreRising n place (places os)) (sym low_is) r in
+    let up_to_place = rising_end low place (places os) rising in
     let same : open_from old low SLOTS ≡ os =
     ap (λ (n : ℕ). open_from old n SLOTS) low_is ∙ from_least old before place os seen lowest in (
-      open_next old new low place (omega (arith, low_is, fits.up_to_place)) (omega (arith, low_is, near))
-          (subst (λ (qs : List OpenPlace). AreRising low place (places qs)) (sym same)
-          (subst (λ (n : ℕ). AreRising n place (places os)) (sym low_is) r)) put
+      open_next old new low place up_to_place (omega (arith, low_is, near))
+          (subst (λ (qs : List OpenPlace). AreRising low place (places qs)) (sym same) rising) put
           ∙ ap (λ (qs : List OpenPlace). qs ++ opened place ∷ []) same,
-      slotted_open low place os (omega (arith, low_is, fits.from_one)) (omega (arith, low_is, fits.up_to_end)) low_is,
+      slotted_open low place os (omega (arith, low_is, one)) last low_is rising (omega (arith, low_is, near)),
     )
 
 -- ---- an open place is found and taken out
@@ -391,23 +414,32 @@ one_named slots first id low place from below named only =
     ∙ (behind first id front (put_before (open_at slots place) rest) before
     ∙ in_slot first id place (open_at slots place) rest (place_at slots place) named after)
 
-pub slotted_less : (low place : ℕ) (os : List OpenPlace) → 1 ≤ low → low ≤ 2 ^ 62 → AreUpTo (2 ^ 62) os
-    → IsSlotted (least (places (without place os)) low) (without place os)
-slotted_less low place os one end up_to =
-    let left : AreRising 1 (2 ^ 62 + 1) (places (without place os)) =
-    rw (places_without place os) (rising_less place 1 (2 ^ 62 + 1) (places os) up_to) in
-    let range = least_between 1 (2 ^ 62 + 1) low (places (without place os)) left one (omega arith) in
+pub ends_less : (low end place : ℕ) (os : List OpenPlace) → EndsAt low end os → EndsAt low end (without place os)
+ends_less low end place os ends = record {
+  rising = rw (places_without place os) (rising_less place low end (places os) ends.rising);
+  near = ends.near;
+}
+
+pub slotted_less : (low end place : ℕ) (os : List OpenPlace) → IsSlotted low end os
+    → IsSlotted (least (places (without place os)) end) end (without place os)
+slotted_less low end place os is =
+    let left = places (without place os) in
+    let ends = ends_less low end place os is.ends in
+    let from = least_from low end left ends.rising in
     record {
-      from_one = range.0;
-      up_to_end = omega (arith, range.1);
-      lowest = least_again (places (without place os)) low;
+      from_one = omega (arith, is.from_one);
+      up_to_end = is.up_to_end;
+      lowest = least_again left end;
+      ends = record { rising = rising_least low end left ends.rising; near = omega (arith, is.ends.near) };
     }
 
-pub slotted_same : (low : ℕ) (os qs : List OpenPlace) → IsSlotted low os → places qs ≡ places os → IsSlotted low qs
-slotted_same low os qs is same = record {
+pub slotted_same : (low end : ℕ) (os qs : List OpenPlace) → IsSlotted low end os → places qs ≡ places os
+    → IsSlotted low end qs
+slotted_same low end os qs is same = record {
   from_one = is.from_one;
   up_to_end = is.up_to_end;
   lowest = ap (λ (ps : List ℕ). least ps low) same ∙ is.lowest;
+  ends = record { rising = subst (AreRising low end) (sym same) is.ends.rising; near = is.ends.near };
 }
 
 -- a place is put in place of the open one in its slot
@@ -455,11 +487,16 @@ change_next change low place old before after from below is put =
       rest = λ other f b. put.others other (λ e. absurd (omega arith)) ∙ is.rest other (omega arith) b;
     }
 
-pub change_all : (change : OpenPlace → OpenPlace) (low place : ℕ) (old new : List (Option Flags)) → place ≡ low + SLOTS
-    → IsChangedTo change low place old new → open_from new low SLOTS ≡ map change (open_from old low SLOTS)
-change_all change low place old new end is =
-    let all : place - low ≡ 16 = omega arith in
-    rw all at is.front
+pub change_all : (change : OpenPlace → OpenPlace) (low end place : ℕ) (old new : List (Option Flags))
+    → EndsAt low end (open_from old low SLOTS) → place ≡ end → IsChangedTo change low place old new
+    → open_from new low SLOTS ≡ map change (open_from old low SLOTS)
+change_all change low end place old new ends here is =
+    let from = rising_end low end _ ends.rising in
+    let below : place ≤ low + SLOTS = omega (arith, ends.near) in
+    let none = none_behind old low end place ends (omega arith) in
+    let same = same_from old new place (low + SLOTS - place) (λ other f b. is.rest other f (omega arith)) in
+    all_in_front new low place (omega arith) below (same ∙ none)
+    ∙ (is.front ∙ ap (map change) (sym (all_in_front old low place (omega arith) below none)))
 
 below_none : (o : OpenPlace) → recover 0 o ≡ want_control o
 below_none o = either (λ (x : OpenPlace). x ≡ want_control o) (nat_lt o.place 0) _ _

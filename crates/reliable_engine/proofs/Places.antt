@@ -1,6 +1,5 @@
 -- The places of a window.
-use Rattle.std.proofs.Common.{◌≡◌, ℕ, ◌+◌, ◌≤◌, true, List, [], ◌∷◌, arith}
-use Rattle.std.specs.Prelude.{◌^◌}
+use Rattle.std.proofs.Common.{◌≡◌, ℕ, ◌+◌, ◌≤◌, true, List, arith}
 use Rattle.packet_ids.specs.Identifier.{identifier_at, IsIdentifier}
 use Rattle.world_model.specs.declared.offered.OpenPlace.{OpenPlace}
 use Rattle.world_model.specs.Hub.{least, places}
@@ -35,12 +34,3 @@ open_once first window sent a b ps id is there other same =
 
 pub up_to_sent : (window sent : ℕ) (os : List OpenPlace) → IsWindow window sent (places os) → AreUpTo sent os
 up_to_sent window sent os is = rising_from 1 (least (places os) (sent + 1)) (sent + 1) (places os) is.from_one is.rising
-
-rising_to : (from past end : ℕ) (ps : List ℕ) → past ≤ end → AreRising from past ps → AreRising from end ps
-rising_to from past end [] more r = omega arith
-rising_to from past end (p ∷ ps) more r = (r.0, rising_to (p + 1) past end ps more r.1)
-
-pub up_to_end : (window sent : ℕ) (os : List OpenPlace) → IsWindow window sent (places os) → sent ≤ 2 ^ 62
-    → AreUpTo (2 ^ 62) os
-up_to_end window sent os is few =
-    rising_to 1 (sent + 1) (2 ^ 62 + 1) (places os) (omega arith) (up_to_sent window sent os is)

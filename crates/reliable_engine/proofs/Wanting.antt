@@ -12,9 +12,9 @@ use Rattle.world_model.specs.Sends.{Wanted, wanted}
 use Rattle.world_model.proofs.Hubs.{IsWantedOr, wanted_is}
 use Rattle.reliable_engine.specs.declared.slots.Flags.{Flags}
 use Rattle.reliable_engine.specs.declared.slots.TheConstants.{SLOTS}
-use Rattle.reliable_engine.specs.Slots.{IsPut, open_at, open_from, put_before}
+use Rattle.reliable_engine.specs.Slots.{EndsAt, IsPut, open_at, open_from, put_before}
 use Rattle.reliable_engine.specs.Steps.{places_wanted, prepend}
-use Rattle.reliable_engine.proofs.InSlots.{end_from, place_at, put_again, rest_is, up_to_next}
+use Rattle.reliable_engine.proofs.InSlots.{end_from, none_behind, place_at, put_again, rest_is, up_to_next}
 use Rattle.reliable_engine.proofs.Steps.{IsQuietUpTo, quiet_all, quiet_control, quiet_next, quiet_resend}
 
 -- nothing is wanted of the places below one
@@ -96,12 +96,13 @@ take_control first low place old new o from below there no_resend wants past put
       after = put_again old new low place o (record o { control = false }) from below there put;
     }
 
-pub take_none : (first low place : ℕ) (slots : List (Option Flags)) → low + SLOTS ≤ place
-    → IsQuietTo first low place slots → wanted first (open_from slots low SLOTS) ≡ None
-take_none first low place slots end past =
+pub take_none : (first low end place : ℕ) (slots : List (Option Flags)) → EndsAt low end (open_from slots low SLOTS)
+    → end ≤ place → IsQuietTo first low place slots → wanted first (open_from slots low SLOTS) ≡ None
+take_none first low end place slots ends behind past =
     let front = open_from slots low (place - low) in
     quiet_all first (open_from slots low SLOTS) front
-    (past ∙ ap (λ (rest : List OpenPlace). prepend front (wanted first rest)) (end_from slots place (low + SLOTS) end))
+    (past
+    ∙ ap (λ (rest : List OpenPlace). prepend front (wanted first rest)) (none_behind slots low end place ends behind))
 
 same_places : (first : ℕ) (os : List OpenPlace) (r : Option Wanted) → IsWantedOr first os r
     → places (places_wanted os r) ≡ places os

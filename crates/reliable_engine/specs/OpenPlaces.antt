@@ -9,4 +9,4 @@ abbrev pub open_places_of : Inside → List OpenPlace
 open_places_of kept = open_from kept.slots kept.low SLOTS
 
 abbrev pub AreKept : Inside → Type 0
-AreKept kept = IsSlotted kept.low (open_from kept.slots kept.low SLOTS)
+AreKept kept = IsSlotted kept.low kept.end (open_from kept.slots kept.low SLOTS)

@@ -40,8 +40,14 @@ pub record IsPut (place : ℕ) (now : Option OpenPlace) (old new : List (Option 
 abbrev pub AreUpTo : ℕ → List OpenPlace → Type 0
 AreUpTo last os = AreRising 1 (last + 1) (places os)
 
--- the place from which on the open ones are read is the lowest of them, if there is one; and it has an identifier
-pub record IsSlotted (low : ℕ) (os : List OpenPlace) : Type 0 where
+-- the open places are from `low` on and below `end`, and their slots are apart
+pub record EndsAt (low end : ℕ) (os : List OpenPlace) : Type 0 where
+  pub rising : AreRising low end (places os)
+  pub near : end ≤ low + SLOTS
+
+-- the place from which on the open ones are read is the lowest of them, if there is one; and each has an identifier
+pub record IsSlotted (low end : ℕ) (os : List OpenPlace) : Type 0 where
   pub from_one : 1 ≤ low
-  pub up_to_end : low ≤ 2 ^ 62
+  pub up_to_end : end ≤ 2 ^ 62 + 1
   pub lowest : least (places os) low ≡ low
+  pub ends : EndsAt low end os

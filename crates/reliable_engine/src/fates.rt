@@ -5,7 +5,7 @@ ghost use Rattle.std.specs.List.{insert};
 ghost use Rattle.std.specs.VecDeque.{deque_len, deque_capacity};
 ghost use Rattle.world_model.specs.declared.offered.Fate.{Fate as FateValue};
 ghost use Rattle.world_model.specs.Hub.{insert_fate, goes_before, time_out, unsent};
-ghost use Rattle.reliable_engine.specs.Slots.{AreUpTo, open_from};
+ghost use Rattle.reliable_engine.specs.Slots.{AreUpTo, EndsAt, open_from};
 ghost use Rattle.reliable_engine.specs.Steps.{waits};
 
 use crate::slots::{Flags, SLOTS, read_slot};
@@ -48,23 +48,24 @@ pub(crate) fn put_fate(fates: &mut VecDeque<(u64, Fate)>, place: u64, tag: u64, 
     fates.insert(at, (tag, fate)).unwrap();
 }
 
-/// Gives each place that is waited for the fate of a time-out, where the lowest open place is `low`.
+/// Gives each place that is waited for the fate of a time-out, where the open places are from `low` on and below `end`.
 pub(crate) fn put_time_outs(
     fates: &mut VecDeque<(u64, Fate)>,
     sent: &[Offered],
     slots: &[Option<Flags>],
     low: u64,
+    end: u64,
     rounds: u8,
 )
     requires slots { length slots.now ≡ SLOTS }
-    requires low { low ≤ 2 ^ 62 }
+    requires end { EndsAt low end (open_from slots.now low SLOTS) }
     requires room { deque_len fates.old + waits (open_from slots.now low SLOTS) ≤ deque_capacity fates.old }
     requires places { AreUpTo (length sent.now) (open_from slots.now low SLOTS) }
     ensures items { fates.new.items ≡ time_out rounds sent.now (open_from slots.now low SLOTS) fates.old.items }
     ensures len { deque_len fates.new ≡ deque_len fates.old + waits (open_from slots.now low SLOTS) }
     ensures capacity { deque_capacity fates.old ≤ deque_capacity fates.new }
 {
-    for place in low..low + SLOTS {
+    for place in low..end {
         let Some(open) = read_slot(slots, place) else {
             continue;
         };

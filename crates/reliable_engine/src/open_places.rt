@@ -23,8 +23,10 @@ use world_model::{Fate, Offered, OpenPlace, Sending};
 #[derive(Drop)]
 pub(crate) struct OpenPlaces {
     slots: [Option<Flags>; SLOTS as usize],
-    /// The lowest open place: the others are less than `SLOTS` above it. Where none is open, any place.
+    /// The lowest open place: the others are less than `SLOTS` above it. Where none is open, any place up to `end`.
     low: u64,
+    /// All open places are below it.
+    end: u64,
 }
 
 impl Model for OpenPlaces {
@@ -48,6 +50,7 @@ impl OpenPlaces {
         OpenPlaces {
             slots: [None; SLOTS as usize],
             low: 1,
+            end: 1,
         }
     }
 
@@ -70,6 +73,7 @@ impl OpenPlaces {
         ensures { self.new ≡ self.old ++ opened place ∷ [] }
     {
         self.low = self.low(place);
+        self.end = place + 1;
         put_slot(
             &mut self.slots,
             OpenPlace {
@@ -92,33 +96,35 @@ impl OpenPlaces {
     pub(crate) fn abandon_all(&mut self)
         ensures { self.new ≡ map abandoned self.old }
     {
-        abandon_slots(&mut self.slots, self.low);
+        abandon_slots(&mut self.slots, self.low, self.end);
     }
 
     /// Has each place recovered, where the board expects the packet of the place `told`.
     pub(crate) fn recover_all(&mut self, told: u64)
         ensures { self.new ≡ map (recover told) self.old }
     {
-        recover_slots(&mut self.slots, self.low, told);
+        recover_slots(&mut self.slots, self.low, self.end, told);
     }
 
     /// Whether the fate of one of the places is owed to somebody.
     pub(crate) fn is_any_waited(&self) -> bool
         ensures { result ≡ some_waited self.now }
     {
-        is_any_slot_waited(&self.slots, self.low)
+        is_any_slot_waited(&self.slots, self.low, self.end)
     }
 
     /// Takes out the place with an identifier, which tells how far above the lowest it is.
     pub(crate) fn take_open(&mut self, first: Id, id: Id) -> Option<OpenPlace>
-        requires places { AreUpTo (2 ^ 62) self.old }
         ensures found { result ≡ open_with first id self.old }
         ensures after { self.new ≡ places_after self.old result }
     {
+        if self.low == self.end {
+            return None; // none is open
+        }
         let place = place_of(first, self.low, SLOTS, id)?;
         let open = read_slot(&self.slots, place)?;
         clear_slot(&mut self.slots, place);
-        self.low = lowest_open(&self.slots, self.low);
+        self.low = lowest_open(&self.slots, self.low, self.end);
         Some(open)
     }
 
@@ -127,7 +133,7 @@ impl OpenPlaces {
         ensures send { result ≡ sending_of (wanted first self.old) }
         ensures after { self.new ≡ places_wanted self.old (wanted first self.old) }
     {
-        take_wanted_slot(&mut self.slots, self.low, first)
+        take_wanted_slot(&mut self.slots, self.low, self.end, first)
     }
 
     /// Gives each place that is waited for the fate of a time-out.
@@ -143,6 +149,6 @@ impl OpenPlaces {
         ensures len { deque_len fates.new ≡ deque_len fates.old + waits self.now }
         ensures capacity { deque_capacity fates.old ≤ deque_capacity fates.new }
     {
-        put_time_outs(fates, sent, &self.slots, self.low, rounds);
+        put_time_outs(fates, sent, &self.slots, self.low, self.end, rounds);
     }
 }

@@ -1,9 +1,9 @@
 //! The slots of places: place `p` stands in slot `p % SLOTS`, so any `SLOTS` places in a row have a slot each.
 
-ghost use Rattle.std.specs.Prelude.{◌≡◌, ◌≤◌, ◌%◌, ◌^◌, length, map, None, Some};
+ghost use Rattle.std.specs.Prelude.{◌≡◌, ◌≤◌, ◌+◌, ◌%◌, ◌^◌, length, map, None, Some};
 ghost use Rattle.world_model.specs.Hub.{abandoned, least, places, recover, some_waited};
 ghost use Rattle.world_model.specs.Sends.{wanted};
-ghost use Rattle.reliable_engine.specs.Slots.{IsPut, changed, open_at, open_from};
+ghost use Rattle.reliable_engine.specs.Slots.{EndsAt, IsPut, changed, open_at, open_from};
 ghost use Rattle.reliable_engine.specs.Steps.{places_wanted, sending_of};
 
 use crate::settings::MAX_WINDOW;
@@ -67,28 +67,28 @@ pub(crate) fn clear_slot(slots: &mut [Option<Flags>], place: u64)
     slots[slot_of(place)] = None;
 }
 
-/// The lowest open place, from `low` on, or `low` where none is open.
-pub(crate) fn lowest_open(slots: &[Option<Flags>], low: u64) -> u64
+/// The lowest open place of those from `low` on and below `end`, or `end` where none is open.
+pub(crate) fn lowest_open(slots: &[Option<Flags>], low: u64, end: u64) -> u64
     requires slots { length slots.now ≡ SLOTS }
-    requires low { low ≤ 2 ^ 62 }
-    ensures lowest { result ≡ least (places (open_from slots.now low SLOTS)) low }
+    requires end { EndsAt low end (open_from slots.now low SLOTS) }
+    ensures lowest { result ≡ least (places (open_from slots.now low SLOTS)) end }
     ensures same { open_from slots.now result SLOTS ≡ open_from slots.now low SLOTS }
 {
-    for place in low..low + SLOTS {
+    for place in low..end {
         if let Some(open) = read_slot(slots, place) {
             return open.place;
         }
     }
-    low
+    end
 }
 
 /// Nobody waits for the places any more, and nothing is to be sent for them.
-pub(crate) fn abandon_slots(slots: &mut [Option<Flags>], low: u64)
+pub(crate) fn abandon_slots(slots: &mut [Option<Flags>], low: u64, end: u64)
     requires slots { length slots.old ≡ SLOTS }
-    requires low { low ≤ 2 ^ 62 }
+    requires end { EndsAt low end (open_from slots.old low SLOTS) }
     ensures { open_from slots.new low SLOTS ≡ map abandoned (open_from slots.old low SLOTS) }
 {
-    for place in low..low + SLOTS {
+    for place in low..end {
         abandon_slot(slots, place);
     }
 }
@@ -112,12 +112,12 @@ fn abandon_slot(slots: &mut [Option<Flags>], place: u64)
 }
 
 /// Has each place recovered, where the board expects the packet of the place `told`.
-pub(crate) fn recover_slots(slots: &mut [Option<Flags>], low: u64, told: u64)
+pub(crate) fn recover_slots(slots: &mut [Option<Flags>], low: u64, end: u64, told: u64)
     requires slots { length slots.old ≡ SLOTS }
-    requires low { low ≤ 2 ^ 62 }
+    requires end { EndsAt low end (open_from slots.old low SLOTS) }
     ensures { open_from slots.new low SLOTS ≡ map (recover told) (open_from slots.old low SLOTS) }
 {
-    for place in low..low + SLOTS {
+    for place in low..end {
         recover_slot(slots, place, told);
     }
 }
@@ -150,12 +150,12 @@ fn recovered(entry: OpenPlace, told: u64) -> OpenPlace
 }
 
 /// Whether the fate of one of the places is owed to somebody.
-pub(crate) fn is_any_slot_waited(slots: &[Option<Flags>], low: u64) -> bool
+pub(crate) fn is_any_slot_waited(slots: &[Option<Flags>], low: u64, end: u64) -> bool
     requires slots { length slots.now ≡ SLOTS }
-    requires low { low ≤ 2 ^ 62 }
+    requires end { EndsAt low end (open_from slots.now low SLOTS) }
     ensures { result ≡ some_waited (open_from slots.now low SLOTS) }
 {
-    for place in low..low + SLOTS {
+    for place in low..end {
         let Some(open) = read_slot(slots, place) else {
             continue;
         };
@@ -167,15 +167,21 @@ pub(crate) fn is_any_slot_waited(slots: &[Option<Flags>], low: u64) -> bool
 }
 
 /// Takes the first send that is wanted for a place. Of one place the request for its reply goes before its packet.
-pub(crate) fn take_wanted_slot(slots: &mut [Option<Flags>], low: u64, first: Id) -> Option<Sending>
+pub(crate) fn take_wanted_slot(
+    slots: &mut [Option<Flags>],
+    low: u64,
+    end: u64,
+    first: Id,
+) -> Option<Sending>
     requires slots { length slots.old ≡ SLOTS }
     requires from_one { 1 ≤ low }
-    requires low { low ≤ 2 ^ 62 }
+    requires up_to_end { end ≤ 2 ^ 62 + 1 }
+    requires end { EndsAt low end (open_from slots.old low SLOTS) }
     ensures send { result ≡ sending_of (wanted first (open_from slots.old low SLOTS)) }
     ensures after { open_from slots.new low SLOTS
         ≡ places_wanted (open_from slots.old low SLOTS) (wanted first (open_from slots.old low SLOTS)) }
 {
-    for place in low..low + SLOTS {
+    for place in low..end {
         let Some(open) = read_slot(slots, place) else {
             continue;
         };

@@ -5,14 +5,14 @@ use Rattle.world_model.proofs.Places.{rising_end, rising_from}
 use Rattle.reliable_engine.specs.declared.slots.TheConstants.{SLOTS}
 use Rattle.reliable_engine.specs.Slots.{AreUpTo, open_from}
 use Rattle.reliable_engine.specs.Steps.{waits}
-use Rattle.reliable_engine.proofs.InSlots.{end_from, rest_is}
+use Rattle.reliable_engine.proofs.InSlots.{none_behind, rest_is}
 use Rattle.reliable_engine.proofs.fates.put_time_outs.Goals as goal
 
 pub loop-place-preserved-in_default : goal.loop-place-preserved-in_default
 loop-place-preserved-in_default c =
     let is = c.loop-place.invariant in
-    let same = rest_is c.args.slots.now c.loop-place.place (c.args.low + SLOTS) None (omega arith)
-    (sym c.read_slot.ensures ∙ c.in_default.is) in
+    let same = rest_is c.args.slots.now c.loop-place.place (c.args.low + SLOTS) None
+    (omega (arith, c.requires.end.near)) (sym c.read_slot.ensures ∙ c.in_default.is) in
     record {
       items = ap (λ (os : List OpenPlace). time_out c.args.rounds c.args.sent.now os c.loop-place.fates.items)
           (sym same) ∙ is.items;
@@ -27,7 +27,7 @@ put_time_out-requires c =
     let o = c.in-Some.open in
     let past = c.args.low + SLOTS in
     let rest = open_from c.args.slots.now (c.loop-place.place + 1) (past - (c.loop-place.place + 1)) in
-    let same = rest_is c.args.slots.now c.loop-place.place past (Some o) (omega arith)
+    let same = rest_is c.args.slots.now c.loop-place.place past (Some o) (omega (arith, c.requires.end.near))
     (sym c.read_slot.ensures ∙ c.in-Some.is) in
     let at : AreUpTo (length c.args.sent.now) (o ∷ rest) = subst (AreUpTo (length c.args.sent.now)) same is.places in
     let end = rising_end (o.place + 1) (length c.args.sent.now + 1) (places rest) at.1 in
@@ -44,7 +44,7 @@ loop-place-preserved c =
     let sent = c.args.sent.now in
     let past = c.args.low + SLOTS in
     let rest = open_from c.args.slots.now (c.loop-place.place + 1) (past - (c.loop-place.place + 1)) in
-    let same = rest_is c.args.slots.now c.loop-place.place past (Some o) (omega arith)
+    let same = rest_is c.args.slots.now c.loop-place.place past (Some o) (omega (arith, c.requires.end.near))
     (sym c.read_slot.ensures ∙ c.in-Some.is) in
     let at : AreUpTo (length sent) (o ∷ rest) = subst (AreUpTo (length sent)) same is.places in
     record {
@@ -59,7 +59,7 @@ loop-place-preserved c =
 pub returns : goal.returns
 returns c =
     let is = c.loop-place.invariant in
-    let none = end_from c.args.slots.now c.loop-place.place (c.args.low + SLOTS) (omega arith) in
+    let none = none_behind c.args.slots.now c.args.low c.args.end c.loop-place.place c.requires.end (omega arith) in
     record {
       items = ap (λ (os : List OpenPlace). time_out c.args.rounds c.args.sent.now os c.loop-place.fates.items)
           (sym none) ∙ is.items;

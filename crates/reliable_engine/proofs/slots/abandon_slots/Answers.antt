@@ -1,5 +1,6 @@
 use Rattle.std.proofs.Common.{arith}
 use Rattle.world_model.specs.Hub.{abandoned}
+use Rattle.world_model.proofs.Places.{rising_end}
 use Rattle.reliable_engine.proofs.InSlots.{change_all, change_next, change_none}
 use Rattle.reliable_engine.proofs.slots.abandon_slots.Goals as goal
 
@@ -9,9 +10,11 @@ loop-place-init c = change_none abandoned c.args.low c.args.slots.now
 pub loop-place-preserved : goal.loop-place-preserved
 loop-place-preserved c =
     change_next abandoned c.args.low c.loop-place.place c.args.slots.now c.loop-place.slots
-    c.abandon_slot.new.slots (omega arith) (omega arith) c.loop-place.invariant c.abandon_slot.ensures
+    c.abandon_slot.new.slots (omega arith) (omega (arith, c.requires.end.near)) c.loop-place.invariant
+    c.abandon_slot.ensures
 
 pub returns : goal.returns
 returns c =
-    change_all abandoned c.args.low c.loop-place.place c.args.slots.now c.loop-place.slots (omega arith)
-    c.loop-place.invariant
+    let from = rising_end c.args.low c.args.end _ c.requires.end.rising in
+    change_all abandoned c.args.low c.args.end c.loop-place.place c.args.slots.now c.loop-place.slots
+    c.requires.end (omega arith) c.loop-place.invariant

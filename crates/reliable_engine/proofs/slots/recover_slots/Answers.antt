@@ -1,5 +1,6 @@
 use Rattle.std.proofs.Common.{arith}
 use Rattle.world_model.specs.Hub.{recover}
+use Rattle.world_model.proofs.Places.{rising_end}
 use Rattle.reliable_engine.proofs.InSlots.{change_all, change_next, change_none}
 use Rattle.reliable_engine.proofs.slots.recover_slots.Goals as goal
 
@@ -9,9 +10,11 @@ loop-place-init c = change_none (recover c.args.told) c.args.low c.args.slots.no
 pub loop-place-preserved : goal.loop-place-preserved
 loop-place-preserved c =
     change_next (recover c.args.told) c.args.low c.loop-place.place c.args.slots.now c.loop-place.slots
-    c.recover_slot.new.slots (omega arith) (omega arith) c.loop-place.invariant c.recover_slot.ensures
+    c.recover_slot.new.slots (omega arith) (omega (arith, c.requires.end.near)) c.loop-place.invariant
+    c.recover_slot.ensures
 
 pub returns : goal.returns
 returns c =
-    change_all (recover c.args.told) c.args.low c.loop-place.place c.args.slots.now c.loop-place.slots (omega arith)
-    c.loop-place.invariant
+    let from = rising_end c.args.low c.args.end _ c.requires.end.rising in
+    change_all (recover c.args.told) c.args.low c.args.end c.loop-place.place c.args.slots.now c.loop-place.slots
+    c.requires.end (omega arith) c.loop-place.invariant

@@ -6,17 +6,10 @@ use Rattle.world_model.specs.Hub.{Hub, hear_reply, insert_fate, open_with, tag_o
 use Rattle.reliable_engine.specs.Answers.{NamesOpenPlace}
 use Rattle.reliable_engine.specs.Steps.{places_after, waits}
 use Rattle.reliable_engine.specs.View.{hub_of}
-use Rattle.reliable_engine.proofs.Places.{up_to_end}
 use Rattle.reliable_engine.proofs.Keeping.{found}
 use Rattle.reliable_engine.proofs.Hubs.{at_front_of, fates_waited, found_sent, names, names_none, reply_keeps}
 use Rattle.reliable_engine.proofs.Hubs.{settle_is}
 use Rattle.reliable_engine.proofs.engine.Engine.on_reply.Goals as goal
-
-pub take_open-requires : goal.take_open-requires
-take_open-requires c =
-    let i = c.self.inside in
-    let is = c.self.invariant in
-    record { places = up_to_end i.window i.sent i.open_places is.in_window (omega (arith, is.within, is.few)) }
 
 pub returns-in_default-clause-taken : goal.returns-in_default-clause-taken
 returns-in_default-clause-taken c =

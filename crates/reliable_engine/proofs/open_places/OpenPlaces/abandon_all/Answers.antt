@@ -10,5 +10,5 @@ pub invariant_of-self : goal.invariant_of-self
 invariant_of-self c =
     let i = c.self.inside in
     let os = open_from i.slots i.low SLOTS in
-    slotted_same i.low os (open_from c.abandon_slots.new.slots i.low SLOTS) c.self.invariant
+    slotted_same i.low i.end os (open_from c.abandon_slots.new.slots i.low SLOTS) c.self.invariant
     (ap places c.abandon_slots.ensures ∙ places_map abandoned os (λ _. refl))

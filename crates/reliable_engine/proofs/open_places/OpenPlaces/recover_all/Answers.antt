@@ -10,5 +10,5 @@ pub invariant_of-self : goal.invariant_of-self
 invariant_of-self c =
     let i = c.self.inside in
     let os = open_from i.slots i.low SLOTS in
-    slotted_same i.low os (open_from c.recover_slots.new.slots i.low SLOTS) c.self.invariant
+    slotted_same i.low i.end os (open_from c.recover_slots.new.slots i.low SLOTS) c.self.invariant
     (ap places c.recover_slots.ensures ∙ places_map (recover c.args.told) os (recover_place c.args.told))

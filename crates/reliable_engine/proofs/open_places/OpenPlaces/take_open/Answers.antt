@@ -1,10 +1,35 @@
-use Rattle.std.proofs.Common.{◌≡◌, ◌^◌, ℕ, List, Some, None, ap, sym, ◌∙◌, subst}
+use Rattle.std.proofs.Common.{◌≡◌, ℕ, List, Some, None, ap, sym, ◌∙◌, subst, arith}
 use Rattle.world_model.specs.declared.offered.OpenPlace.{OpenPlace}
 use Rattle.world_model.specs.Hub.{least, open_with, places, without}
+use Rattle.world_model.proofs.Places.{rising_end}
 use Rattle.reliable_engine.specs.declared.slots.TheConstants.{SLOTS}
-use Rattle.reliable_engine.specs.Slots.{AreUpTo, IsSlotted, open_at, open_from}
-use Rattle.reliable_engine.proofs.InSlots.{none_named, one_named, place_at, slotted_less, taken_out}
+use Rattle.reliable_engine.specs.Slots.{EndsAt, IsSlotted, open_at, open_from}
+use Rattle.reliable_engine.proofs.InSlots.{ends_less, none_between, none_named, one_named, place_at, slotted_less, taken_out}
 use Rattle.reliable_engine.proofs.open_places.OpenPlaces.take_open.Goals as goal
+
+pub returns-then-self-clause-found : goal.returns-then-self-clause-found
+returns-then-self-clause-found c =
+    let i = c.self.inside in
+    let os = open_from i.slots i.low SLOTS in
+    let none = none_between i.low i.end os c.self.invariant.ends.rising c.if-self.true in
+    ap (open_with c.args.first c.args.id) (sym none ∙ c.self.view_is)
+
+pub place_of-requires-clause-up_to_end : goal.place_of-requires-clause-up_to_end
+place_of-requires-clause-up_to_end c =
+    let i = c.self.inside in
+    let from = rising_end i.low i.end (places (open_from i.slots i.low SLOTS)) c.self.invariant.ends.rising in
+    omega (arith, c.self.invariant.up_to_end)
+
+pub lowest_open-self-inside-requires-clause-end : goal.lowest_open-self-inside-requires-clause-end
+lowest_open-self-inside-requires-clause-end c =
+    let i = c.self.inside in
+    let place = c.in_ok-place.place in
+    let at = c.in_ok-place.ensures.found in
+    let there : open_at i.slots place ≡ Some c.in_ok-open.open = sym c.read_slot.ensures ∙ c.in_ok-open.was in
+    let out = taken_out i.slots c.clear_slot.new.slots i.low place c.in_ok-open.open at.from_low at.within there
+    c.clear_slot.ensures in
+    subst (EndsAt i.low i.end) (sym out)
+    (ends_less i.low i.end place (open_from i.slots i.low SLOTS) c.self.invariant.ends)
 
 pub returns-in_err-place-clause-found : goal.returns-in_err-place-clause-found
 returns-in_err-place-clause-found c =
@@ -45,12 +70,11 @@ invariant_of-self c =
     let out = taken_out i.slots c.clear_slot.new.slots i.low place c.in_ok-open.open at.from_low at.within there
     c.clear_slot.ensures in
     let low = c.lowest_open-self-inside.result in
-    let lowest : low ≡ least (places (without place os)) i.low =
-    c.lowest_open-self-inside.ensures.lowest ∙ ap (λ (qs : List OpenPlace). least (places qs) i.low) out in
-    subst (IsSlotted low) (sym (c.lowest_open-self-inside.ensures.same ∙ out))
-    (subst (λ (n : ℕ). IsSlotted n (without place os)) (sym lowest)
-    (slotted_less i.low place os c.self.invariant.from_one c.self.invariant.up_to_end
-    (subst (AreUpTo (2 ^ 62)) (sym c.self.view_is) c.requires.places)))
+    let lowest : low ≡ least (places (without place os)) i.end =
+    c.lowest_open-self-inside.ensures.lowest ∙ ap (λ (qs : List OpenPlace). least (places qs) i.end) out in
+    subst (IsSlotted low i.end) (sym (c.lowest_open-self-inside.ensures.same ∙ out))
+    (subst (λ (n : ℕ). IsSlotted n i.end (without place os)) (sym lowest)
+    (slotted_less i.low i.end place os c.self.invariant))
 
 pub returns-clause-after : goal.returns-clause-after
 returns-clause-after c =
