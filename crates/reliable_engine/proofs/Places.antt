@@ -3,7 +3,7 @@ use Rattle.std.proofs.Common.{◌≡◌, ℕ, ◌+◌, ◌≤◌, true, List, ar
 use Rattle.packet_ids.specs.Identifier.{identifier_at, IsIdentifier}
 use Rattle.world_model.specs.declared.offered.OpenPlace.{OpenPlace}
 use Rattle.world_model.specs.Hub.{least, places}
-use Rattle.world_model.specs.Facts.{AreRising, has, IsWindow}
+use Rattle.world_model.specs.Facts.{has, IsWindow}
 use Rattle.world_model.proofs.Places.{has_below, has_from, one_place, rising_from}
 use Rattle.reliable_engine.specs.Slots.{AreUpTo}
 
