@@ -8,7 +8,7 @@ use Rattle.std.proofs.lemmas.List.{map-append}
 use Rattle.std.proofs.lemmas.Bool.{cases_lt, eq-eqb}
 use Rattle.std.proofs.lemmas.Bool.Decides.{eqb_tells}
 use Rattle.std.proofs.Math.Bool.{and-true, or-true}
-use Rattle.std.specs.Option.{option_or, unwrap_or}
+use Rattle.std.specs.Option.{option_or}
 use Rattle.world_model.proofs.Lists.{get_front, get_seam}
 use Rattle.transaction_codec.specs.Answer.{reply_room}
 use Rattle.turn_pass.specs.declared.chronicle.Entry.{Entry}
@@ -16,20 +16,19 @@ use Rattle.lane_record.specs.declared.outcome.Outcome.{Outcome}
 use Rattle.lane_record.specs.declared.item.Item.{Item}
 use Rattle.lane_record.specs.declared.item.What.TheVariants.{Plan}
 use Rattle.lane_record.specs.Items.{ask_in, asked, found, is_sealed, plan_in, planned}
-use Rattle.lane_record.specs.Claims.{Claim, claim_in, claims, claims_behind}
 use Rattle.lane_record.specs.NextEntry.{ask_of, plan_of, the_seal, took_of}
-use Rattle.lane_record.proofs.Asks.{ask_front, get_split}
-use Rattle.lane_record.proofs.Lookups.{Count, claims_push, count_push, found_append, found_front, found_within}
+use Rattle.lane_record.proofs.Asks.{get_split}
+use Rattle.lane_record.proofs.Lookups.{Count, count_push, found_append, found_front, found_within}
 use Rattle.lane_record.proofs.Lookups.{none_next, sealed_append}
 use Rattle.lane_record.specs.Coding.{entry_of}
 use Rattle.hub_lane.specs.Plans.{IsFull, one_with, planned_bodies, planned_words, words_with}
 use Rattle.hub_lane.specs.declared.rows.PlannedBody.{PlannedBody}
-use Rattle.hub_lane.specs.Books.{HasAsked, HasMorePlans, HasNext, IsAskAt, IsBook, IsPlanAt, IsRow, IsTakenRow, Row}
+use Rattle.hub_lane.specs.Books.{HasAsked, HasMorePlans, HasNext, IsBook, IsPlanAt, IsRow, IsTakenRow, Row}
 use Rattle.hub_lane.specs.Books.{TellsBodies, after_ask, after_took, as_asked, as_taken, changed, next_of, plan_of_body}
 use Rattle.hub_lane.specs.Books.{planned_at, replaced, row_of, with_ask, with_plan, with_took}
 use Rattle.hub_lane.proofs.ClientRows.{becomes, grown, row_changed, row_changed_other, row_planned, row_planned_other}
 use Rattle.hub_lane.proofs.OneMore.{one_number, same_number}
-use Rattle.hub_lane.proofs.PlannedBodies.{below_apart, length-replaced, was_body}
+use Rattle.hub_lane.proofs.PlannedBodies.{length-replaced, was_body}
 use Rattle.hub_lane.proofs.TakenRows.{taken_ask, taken_plan, taken_seal, taken_took}
 
 -- ---- what a row tells stays so
@@ -42,10 +41,6 @@ plan_stays items x client seq place is = record {
   first = found_front plan_in client seq items (x ∷ []) is.body is.first;
 }
 
-ask_stays : (items : List Item) (x : Item) (client seq k : ℕ) → IsAskAt items client seq k
-    → IsAskAt (items ++ x ∷ []) client seq k
-ask_stays items x client seq k (claim, is) = (claim, ask_front items (x ∷ []) k client seq claim is)
-
 tells_other : (items : List Item) (x : Item) (client : ℕ) (bodies : List PlannedBody) (asks : ℕ)
     → planned client (items ++ x ∷ []) ≡ planned client items → asked client (items ++ x ∷ []) ≡ asked client items
     → TellsBodies items client bodies asks → TellsBodies (items ++ x ∷ []) client bodies asks
@@ -54,7 +49,6 @@ tells_other items x client bodies asks plan ask is = record {
   asked_are = is.asked_are ∙ sym ask;
   no_more = is.no_more;
   plans_are = λ seq body there. plan_stays items x client seq body.plan (is.plans_are seq body there);
-  asks_are = λ seq body there less. ask_stays items x client seq body.ask (is.asks_are seq body there less);
 }
 
 row_other : (items : List Item) (x : Item) (client : ℕ) (row : Option Row)
@@ -109,10 +103,6 @@ tells_plan items client body bodies asks count is =
               first = plan_found client body items count;
             }))
       ];
-      asks_are = λ number b there less. elim (get_split bodies (planned_at (length items)) number b there) [
-        | inl old ↦ ask_stays items x client number b.ask (is.asks_are number b old less)
-        | inr new ↦ (let past = new.0 in absurd (omega (arith, past, less, most)))
-      ];
     }
 
 tells_grown : (items : List Item) (client : ℕ) (body : List ℕ) (row : Option Row) → Count plan_in items
@@ -147,63 +137,30 @@ ask_for : (client seq other g : ℕ) (items : List Item)
 ask_for client seq other g items = one_number ask_in other items (ask_of client seq g)
     ∙ ap (λ (b : Bool). asked other items + cond b 1 0) (and-true (client == other))
 
--- its number is that of the Asks before it
-new_ask : (items : List Item) (client seq g : ℕ)
-    → IsAskAt (items ++ ask_of client seq g ∷ []) client seq (length (claims items))
-new_ask items client seq g =
-    let claim : Claim = record {
-      client = client;
-      seq = seq;
-      give_ups = g;
-      body = unwrap_or (found plan_in client seq items) [];
-    } in (
-      claim,
-      record {
-        there = ap (λ (cs : List Claim). slice_get cs (length (claims items)))
-            (claims_push items (ask_of client seq g)) ∙ get_seam (claims items) [] claim;
-        same_client = refl;
-        same_seq = refl;
-      },
-    )
-
 tells_ask : (items : List Item) (client g : ℕ) (bodies : List PlannedBody) (asks : ℕ) → asks < length bodies
     → TellsBodies items client bodies asks
     → TellsBodies (items ++ ask_of client (asked client items) g ∷ []) client
-    (replaced asks (as_asked (length (claims items))) bodies) (asks + 1)
+    (replaced asks as_asked bodies) (asks + 1)
 tells_ask items client g bodies asks left is =
     let seq = asked client items in
     let x = ask_of client seq g in
-    let number = length (claims items) in
-    let change = as_asked number in
     let one = ask_for client seq client g items in
     let own = eq-eqb client client refl in
     let plus : ◌≡◌ {A = ℕ} (cond (client == client) 1 0) 1 = rw own refl in
     let before = is.asked_are in
-    let same = length-replaced asks change bodies in
+    let same = length-replaced asks as_asked bodies in
     record {
       planned_are = same ∙ (is.planned_are ∙ sym (same_number plan_in client items x refl));
       asked_are = omega (arith, one, plus, before);
       no_more = omega (arith, left, same);
       plans_are = λ n b there. (
-          let w = was_body asks change bodies n b there in
+          let w = was_body asks as_asked bodies n b there in
           let plan : w.old.plan ≡ b.plan = elim w.is [
             | inl here ↦ sym (ap (λ (y : PlannedBody). y.plan) here.1)
             | inr apart ↦ sym (ap (λ (y : PlannedBody). y.plan) apart.1)
           ] in
           subst (IsPlanAt (items ++ x ∷ []) client n) plan
           (plan_stays items x client n w.old.plan (is.plans_are n w.old w.there)));
-      asks_are = λ n b there less. (
-          let w = was_body asks change bodies n b there in
-          elim w.is [
-            | inl here ↦ subst (IsAskAt (items ++ x ∷ []) client n)
-                (sym (ap (λ (y : PlannedBody). y.ask) here.1))
-                (subst (λ (m : ℕ). IsAskAt (items ++ x ∷ []) client m number) (sym (here.0 ∙ before))
-                (new_ask items client seq g))
-            | inr apart ↦
-                let lower : n < asks = below_apart n asks apart.0 less in
-                subst (IsAskAt (items ++ x ∷ []) client n) (sym (ap (λ (y : PlannedBody). y.ask) apart.1))
-                (ask_stays items x client n w.old.ask (is.asks_are n w.old w.there lower))
-          ]);
     }
 
 -- a client with a Plan that was not asked has a row with one
@@ -223,7 +180,7 @@ has_next items rows client count are more =
 tells_asked : (items : List Item) (client g : ℕ) (row : Option Row) (r : Row) → row ≡ Some r
     → r.asked < length r.bodies → IsRow items client row
     → IsRow (items ++ ask_of client (asked client items) g ∷ []) client
-    (becomes (after_ask (length (claims items))) row)
+    (becomes after_ask row)
 tells_asked items client g None r e left is = absurd cc
 tells_asked items client g (Some q) r e left is = (let same : q ≡ r = cc in tells_ask items client g q.bodies q.asked
     (subst (λ (x : Row). x.asked < length x.bodies) (sym same) left) is)
@@ -231,14 +188,13 @@ tells_asked items client g (Some q) r e left is = (let same : q ≡ r = cc in te
 rows_ask : (items : List Item) (rows : List Row) (client g : ℕ) → HasNext client rows
     → ((c : ℕ) → IsRow items c (row_of c rows))
     → (other : ℕ) → IsRow (items ++ ask_of client (asked client items) g ∷ []) other
-    (row_of other (with_ask client (length (claims items)) rows))
+    (row_of other (with_ask client rows))
 rows_ask items rows client g next are other =
-    let number = length (claims items) in
     elim (eqb_tells client other) [
       | inl same ↦ subst (λ (c : ℕ). IsRow (items ++ ask_of client (asked client items) g ∷ []) c
-          (row_of c (with_ask client number rows))) same.1
+          (row_of c (with_ask client rows))) same.1
           (subst (IsRow (items ++ ask_of client (asked client items) g ∷ []) client)
-          (sym (row_changed client (after_ask number) rows (λ r. refl)))
+          (sym (row_changed client after_ask rows (λ r. refl)))
           (tells_asked items client g (row_of client rows) next.row next.there next.left (are client)))
       | inr apart ↦
           let x = ask_of client (asked client items) g in
@@ -246,7 +202,7 @@ rows_ask items rows client g next are other =
           let off : ◌≡◌ {A = ℕ} (cond (client == other) 1 0) 0 = rw apart.0 refl in
           let ask : asked other (items ++ x ∷ []) ≡ asked other items = omega (arith, one, off) in
           subst (IsRow (items ++ x ∷ []) other)
-          (sym (row_changed_other client (after_ask number) other rows (λ r. refl) apart.0))
+          (sym (row_changed_other client after_ask other rows (λ r. refl) apart.0))
           (row_other items x other (row_of other rows) (same_number plan_in other items x refl) ask (are other))
     ]
 
@@ -295,13 +251,6 @@ tells_marked items client seq bodies asks is =
             | inr apart ↦ sym (ap (λ (y : PlannedBody). y.plan) apart.1)
           ] in
           subst (IsPlanAt items client n) plan (is.plans_are n w.old w.there));
-      asks_are = λ n b there less. (
-          let w = was_body seq as_taken bodies n b there in
-          let ask : w.old.ask ≡ b.ask = elim w.is [
-            | inl here ↦ sym (ap (λ (y : PlannedBody). y.ask) here.1)
-            | inr apart ↦ sym (ap (λ (y : PlannedBody). y.ask) apart.1)
-          ] in
-          subst (IsAskAt items client n) ask (is.asks_are n w.old w.there less));
     }
 
 row_marked : (items : List Item) (client seq : ℕ) (row : Option Row) → IsRow items client row
@@ -346,35 +295,6 @@ words_push (y ∷ ys) x = elim (plan_in y.what) as (λ o. words_with o (planned_
       | Some b ↦ (let h = words_push ys x in omega (arith, h))
     ]
 
-asks_push : (items : List Item) (x : Item)
-    → length (claims (items ++ x ∷ [])) ≡ length (claims items) + length (claim_in items x (ask_in x.what))
-asks_push items x = ap (λ (cs : List Claim). length cs) (claims_push items x)
-    ∙ length-append (claims items) (claim_in items x (ask_in x.what))
-
-claim_few : (front : List Item) (x : Item) (o : Option ℕ) → length (claim_in front x o) ≤ 1
-claim_few front x None = omega arith
-claim_few front x (Some g) = omega arith
-
-claims_few : (front xs : List Item) → length (claims_behind front xs) ≤ length xs
-claims_few front [] = omega arith
-claims_few front (x ∷ xs) =
-    let one = claim_few front x (ask_in x.what) in
-    let rest = claims_few (front ++ x ∷ []) xs in
-    let all = length-append (claim_in front x (ask_in x.what)) (claims_behind (front ++ x ∷ []) xs) in
-    omega (arith, one, rest, all)
-
--- there are no more Asks than entries
-pub asks_few : (items : List Item) → length (claims items) ≤ length items
-asks_few items = claims_few [] items
-
-no_ask : (items : List Item) (x : Item) → ask_in x.what ≡ None
-    → length (claims (items ++ x ∷ [])) ≡ length (claims items)
-no_ask items x none =
-    let e = asks_push items x in
-    let off : ◌≡◌ {A = ℕ} (length (claim_in items x (ask_in x.what))) 0 =
-    ap (λ (o : Option ℕ). length (claim_in items x o)) none in
-    omega (arith, e, off)
-
 entries_push : (items : List Item) (x : Item) (entries old : List Entry) → old ≡ map entry_of items
     → entries ≡ old ++ entry_of x ∷ [] → entries ≡ map entry_of (items ++ x ∷ [])
 entries_push items x entries old are new =
@@ -384,22 +304,21 @@ or_false : (b : Bool) → (b || false) ≡ b
 or_false true = refl
 or_false false = refl
 
-module _ (items : List Item) (entries : List Entry) (rows : List Row) (asks bodies words : ℕ)
-    (closed : Bool) (room : ℕ) (is : IsBook items entries rows asks bodies words closed room) where
+module _ (items : List Item) (entries : List Entry) (rows : List Row) (bodies words : ℕ)
+    (closed : Bool) (room : ℕ) (is : IsBook items entries rows bodies words closed room) where
   -- an entry that is no Plan and no Ask
   book_other : (x : Item) (new : List Entry) (changed : List Row) (after : ℕ) → plan_in x.what ≡ None
       → ask_in x.what ≡ None → new ≡ entries ++ entry_of x ∷ [] → (sealed : Bool)
       → sealed ≡ is_sealed (items ++ x ∷ []) → (is_sealed (items ++ x ∷ []) ≡ false → 1 ≤ after)
       → ((c : ℕ) → IsRow (items ++ x ∷ []) c (row_of c changed))
       → ((c : ℕ) → IsTakenRow (items ++ x ∷ []) c (row_of c changed))
-      → IsBook (items ++ x ∷ []) new changed asks bodies words sealed after
+      → IsBook (items ++ x ∷ []) new changed bodies words sealed after
   book_other x new changed after plan ask entry sealed sealed_is fits told taken = record {
     entries_are = entries_push items x new entries is.entries_are entry;
     plans_count = count_push plan_in items x is.plans_count
         (λ some. (let off : is_some (plan_in x.what) ≡ false = ap is_some plan in absurd cc));
     rows_are = told;
     taken_are = taken;
-    asks_are = is.asks_are ∙ sym (no_ask items x ask);
     bodies_are = (let h = bodies_push items x in let none : one_with (plan_in x.what) 0 ≡ 0 =
         ap (λ (o : Option (List ℕ)). one_with o 0) plan in let b = is.bodies_are in omega (arith, h, none, b));
     words_are = (let h = words_push items x in let none : words_with (plan_in x.what) 0 ≡ 0 =
@@ -412,7 +331,7 @@ module _ (items : List Item) (entries : List Entry) (rows : List Row) (asks bodi
 
   pub book_took : (client seq : ℕ) (outcome : Outcome) (g : ℕ) (new : List Entry) (after : ℕ)
       → seq < asked client items → new ≡ entries ++ entry_of (took_of client seq outcome g) ∷ [] → 1 ≤ after
-      → IsBook (items ++ took_of client seq outcome g ∷ []) new (with_took client seq rows) asks bodies words closed
+      → IsBook (items ++ took_of client seq outcome g ∷ []) new (with_took client seq rows) bodies words closed
       after
   book_took client seq outcome g new after below entry one =
       let x = took_of client seq outcome g in
@@ -423,7 +342,7 @@ module _ (items : List Item) (entries : List Entry) (rows : List Row) (asks bodi
       (asked_there items rows client seq is.rows_are below) is.taken_are)
 
   pub book_seal : (new : List Entry) (after : ℕ) → new ≡ entries ++ entry_of the_seal ∷ []
-      → IsBook (items ++ the_seal ∷ []) new rows asks bodies words true after
+      → IsBook (items ++ the_seal ∷ []) new rows bodies words true after
   book_seal new after entry =
       let sealed : is_sealed (items ++ the_seal ∷ []) ≡ true = sealed_append items (the_seal ∷ []) ∙ or-true
       (is_sealed items) in
@@ -434,18 +353,15 @@ module _ (items : List Item) (entries : List Entry) (rows : List Row) (asks bodi
 
   pub book_ask : (client g : ℕ) (new : List Entry) (after : ℕ) → HasMorePlans client items
       → new ≡ entries ++ entry_of (ask_of client (asked client items) g) ∷ [] → 1 ≤ after
-      → IsBook (items ++ ask_of client (asked client items) g ∷ []) new (with_ask client asks rows)
-      (asks + 1) bodies words closed after
+      → IsBook (items ++ ask_of client (asked client items) g ∷ []) new (with_ask client rows) bodies
+      words closed after
   book_ask client g new after more entry one =
       let x = ask_of client (asked client items) g in
       record {
         entries_are = entries_push items x new entries is.entries_are entry;
         plans_count = count_push plan_in items x is.plans_count (λ some. absurd cc);
-        rows_are = subst (λ (n : ℕ). (c : ℕ) → IsRow (items ++ x ∷ []) c (row_of c (with_ask client n rows)))
-            (sym is.asks_are)
-            (rows_ask items rows client g (has_next items rows client is.plans_count is.rows_are more) is.rows_are);
-        taken_are = taken_ask items rows client asks (asked client items) g is.taken_are;
-        asks_are = (let e = asks_push items x in let a = is.asks_are in omega (arith, e, a));
+        rows_are = rows_ask items rows client g (has_next items rows client is.plans_count is.rows_are more) is.rows_are;
+        taken_are = taken_ask items rows client (asked client items) g is.taken_are;
         bodies_are = (let h = bodies_push items x in let b = is.bodies_are in omega (arith, h, b));
         words_are = (let h = words_push items x in let b = is.words_are in omega (arith, h, b));
         closed_is = is.closed_is ∙ sym (sealed_append items (x ∷ []) ∙ or_false (is_sealed items));
@@ -459,7 +375,7 @@ module _ (items : List Item) (entries : List Entry) (rows : List Row) (asks bodi
       → new ≡ entries ++ entry_of (plan_of client (planned client items) body) ∷ [] → 1 ≤ after
       → more ≡ bodies + 1 → more_words ≡ words + (length body + reply_room body)
       → IsBook (items ++ plan_of client (planned client items) body ∷ []) new (with_plan client (length items) rows)
-      asks more more_words closed after
+      more more_words closed after
   book_plan client body new more more_words after few entry one more_is words_is =
       let x = plan_of client (planned client items) body in
       let b = is.bodies_are in
@@ -469,7 +385,6 @@ module _ (items : List Item) (entries : List Entry) (rows : List Row) (asks bodi
         plans_count = count_push plan_in items x is.plans_count (λ _. refl);
         rows_are = rows_plan items rows client body is.plans_count is.rows_are;
         taken_are = taken_plan items rows client (planned client items) (length items) body is.taken_are;
-        asks_are = is.asks_are ∙ sym (no_ask items x refl);
         bodies_are = (let h = bodies_push items x in omega (arith, h, b, more_is));
         words_are = (let h = words_push items x in omega (arith, h, w, words_is));
         closed_is = is.closed_is ∙ sym (sealed_append items (x ∷ []) ∙ or_false (is_sealed items));
@@ -515,15 +430,14 @@ next_none items client (Some r) is there =
     omega (arith, past, a, p, most)
 
 -- more room
-pub book_room : (items : List Item) (entries : List Entry) (rows : List Row) (asks bodies words : ℕ)
-    (closed : Bool) (room after : ℕ) → room ≤ after → IsBook items entries rows asks bodies words closed room
-    → IsBook items entries rows asks bodies words closed after
-book_room items entries rows asks bodies words closed room after more is = record {
+pub book_room : (items : List Item) (entries : List Entry) (rows : List Row) (bodies words : ℕ)
+    (closed : Bool) (room after : ℕ) → room ≤ after → IsBook items entries rows bodies words closed room
+    → IsBook items entries rows bodies words closed after
+book_room items entries rows bodies words closed room after more is = record {
   entries_are = is.entries_are;
   plans_count = is.plans_count;
   rows_are = is.rows_are;
   taken_are = is.taken_are;
-  asks_are = is.asks_are;
   bodies_are = is.bodies_are;
   words_are = is.words_are;
   closed_is = is.closed_is;
@@ -537,14 +451,14 @@ pub plan_same : (item : Item) (client seq : ℕ) (body : List ℕ) → Some item
 plan_same item client seq body same = (let is : item ≡ plan_of client seq body = cc in ap (λ (x : Item). plan_in
     x.what) is)
 
-pub book_reserved : (items more : List Item) (entries longer : List Entry) (rows : List Row) (asks bodies words : ℕ)
+pub book_reserved : (items more : List Item) (entries longer : List Entry) (rows : List Row) (bodies words : ℕ)
     (closed : Bool) (room after : ℕ) → more ≡ items → longer ≡ entries
-    → room ≤ after → IsBook items entries rows asks bodies words closed room
-    → IsBook more longer rows asks bodies words closed after
-book_reserved items more entries longer rows asks bodies words closed room after i e fits is =
-    subst (λ (xs : List Item). IsBook xs longer rows asks bodies words closed after) (sym i)
-    (subst (λ (es : List Entry). IsBook items es rows asks bodies words closed after) (sym e)
-    (book_room items entries rows asks bodies words closed room after fits is))
+    → room ≤ after → IsBook items entries rows bodies words closed room
+    → IsBook more longer rows bodies words closed after
+book_reserved items more entries longer rows bodies words closed room after i e fits is =
+    subst (λ (xs : List Item). IsBook xs longer rows bodies words closed after) (sym i)
+    (subst (λ (es : List Entry). IsBook items es rows bodies words closed after) (sym e)
+    (book_room items entries rows bodies words closed room after fits is))
 
 pub not_a_plan : (item : Item) (client seq : ℕ) (body : List ℕ) → Some item ≡ Some (plan_of client seq body)
     → ((b : List ℕ) → item.what ≡ Plan b → ⊥) → ⊥
@@ -552,39 +466,39 @@ not_a_plan item client seq body same other =
     (let is : item ≡ plan_of client seq body = cc in other body (ap (λ (x : Item). x.what) is))
 
 pub book_asked : (items more : List Item) (entries longer : List Entry) (rows changed : List Row)
-    (asks bodies words : ℕ) (closed : Bool) (room after client seq g : ℕ)
-    → IsBook items entries rows asks bodies words closed room → seq ≡ asked client items
+    (bodies words : ℕ) (closed : Bool) (room after client seq g : ℕ)
+    → IsBook items entries rows bodies words closed room → seq ≡ asked client items
     → HasMorePlans client items → more ≡ items ++ ask_of client seq g ∷ []
-    → longer ≡ entries ++ entry_of (ask_of client seq g) ∷ [] → changed ≡ with_ask client asks rows
+    → longer ≡ entries ++ entry_of (ask_of client seq g) ∷ [] → changed ≡ with_ask client rows
     → 1 ≤ after
-    → IsBook more longer changed (asks + 1) bodies words closed after
-book_asked items more entries longer rows changed asks bodies words closed room after client seq g is number plans
+    → IsBook more longer changed bodies words closed after
+book_asked items more entries longer rows changed bodies words closed room after client seq g is number plans
     i e r fits =
     let seq_item = λ (n : ℕ). items ++ ask_of client n g ∷ [] in
     let entry = e ∙ ap (λ (n : ℕ). entries ++ entry_of (ask_of client n g) ∷ []) number in
-    subst (λ (xs : List Item). IsBook xs longer changed (asks + 1) bodies words closed after)
+    subst (λ (xs : List Item). IsBook xs longer changed bodies words closed after)
     (sym (i ∙ ap seq_item number))
-    (subst (λ (rs : List Row). IsBook (seq_item (asked client items)) longer rs (asks + 1) bodies words closed after)
+    (subst (λ (rs : List Row). IsBook (seq_item (asked client items)) longer rs bodies words closed after)
     (sym r)
-    (book_ask items entries rows asks bodies words closed room is client g longer after plans entry fits))
+    (book_ask items entries rows bodies words closed room is client g longer after plans entry fits))
 
 pub book_planned : (items more : List Item) (entries longer : List Entry) (rows changed : List Row)
-    (asks bodies words count total : ℕ) (closed : Bool) (room after client seq place : ℕ)
+    (bodies words count total : ℕ) (closed : Bool) (room after client seq place : ℕ)
     (body : List ℕ)
-    → IsBook items entries rows asks bodies words closed room → seq ≡ planned client items
+    → IsBook items entries rows bodies words closed room → seq ≡ planned client items
     → ¬ IsFull items (length body) (reply_room body) → more ≡ items ++ plan_of client seq body ∷ []
     → longer ≡ entries ++ entry_of (plan_of client seq body) ∷ [] → place ≡ length items
     → changed ≡ with_plan client place rows → count ≡ bodies + 1
     → total ≡ words + (length body + reply_room body) → 1 ≤ after
-    → IsBook more longer changed asks count total closed after
-book_planned items more entries longer rows changed asks bodies words count total closed room after client seq place
+    → IsBook more longer changed count total closed after
+book_planned items more entries longer rows changed bodies words count total closed room after client seq place
     body
     is number few i e at r c t fits =
     let seq_item = λ (n : ℕ). items ++ plan_of client n body ∷ [] in
     let entry = e ∙ ap (λ (n : ℕ). entries ++ entry_of (plan_of client n body) ∷ []) number in
-    subst (λ (xs : List Item). IsBook xs longer changed asks count total closed after)
+    subst (λ (xs : List Item). IsBook xs longer changed count total closed after)
     (sym (i ∙ ap seq_item number))
-    (subst (λ (rs : List Row). IsBook (seq_item (planned client items)) longer rs asks count total closed after)
+    (subst (λ (rs : List Row). IsBook (seq_item (planned client items)) longer rs count total closed after)
     (sym (r ∙ ap (λ (n : ℕ). with_plan client n rows) at))
-    (book_plan items entries rows asks bodies words closed room is client body longer count total after few entry fits
+    (book_plan items entries rows bodies words closed room is client body longer count total after few entry fits
     c t))

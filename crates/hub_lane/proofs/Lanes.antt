@@ -129,7 +129,7 @@ lane_begun law settings status hub items outcomes telling faults quiets agrees k
 
 -- ---- an entry that is no Ask
 
-same_claims : (items : List Item) (x : Item) → ask_in x.what ≡ None → claims (items ++ x ∷ []) ≡ claims items
+pub same_claims : (items : List Item) (x : Item) → ask_in x.what ≡ None → claims (items ++ x ∷ []) ≡ claims items
 same_claims items x none = claims_push items x
     ∙ (ap (λ (o : Option ℕ). claims items ++ claim_in items x o) none ∙ append-nil (claims items))
 

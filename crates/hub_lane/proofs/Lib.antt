@@ -21,3 +21,7 @@ mod Pumps
 pub mod TakenRows
 mod Steps
 mod Records
+mod OutcomeRows
+mod OutcomeSpots
+mod Askers
+mod LostWithLink

@@ -76,11 +76,11 @@ marked_other (suc k) change (b ∷ bs) zero apart = refl
 marked_other (suc k) change (b ∷ bs) (suc n) apart = marked_other k change bs n (λ e. apart (ap suc e))
 
 -- an Ask takes nothing
-pub marked_asked : (k number : ℕ) (bodies : List PlannedBody)
-    → is_marked (replaced k (as_asked number) bodies) k ≡ false
-marked_asked k number [] = refl
-marked_asked zero number (b ∷ bs) = refl
-marked_asked (suc k) number (b ∷ bs) = marked_asked k number bs
+pub marked_asked : (k : ℕ) (bodies : List PlannedBody)
+    → is_marked (replaced k as_asked bodies) k ≡ false
+marked_asked k [] = refl
+marked_asked zero (b ∷ bs) = refl
+marked_asked (suc k) (b ∷ bs) = marked_asked k bs
 
 pub marked_taken : (k : ℕ) (bodies : List PlannedBody) → k < length bodies
     → is_marked (replaced k as_taken bodies) k ≡ true
@@ -116,21 +116,21 @@ first_planned bodies asked taken place is = record {
   stops = λ less. marked_push bodies place taken ∙ is.stops less;
 }
 
-pub first_asked : (bodies : List PlannedBody) (asked taken number : ℕ) → asked < length bodies
+pub first_asked : (bodies : List PlannedBody) (asked taken : ℕ) → asked < length bodies
     → IsFirstUntaken bodies asked taken
-    → IsFirstUntaken (replaced asked (as_asked number) bodies) (asked + 1) taken
-first_asked bodies asked taken number left is =
+    → IsFirstUntaken (replaced asked as_asked bodies) (asked + 1) taken
+first_asked bodies asked taken left is =
     let w = is.within in
     record {
-      few = (let same = length-replaced asked (as_asked number) bodies in omega (arith, left, same));
+      few = (let same = length-replaced asked as_asked bodies in omega (arith, left, same));
       within = omega (arith, w);
-      below = λ n less. marked_other asked (as_asked number) bodies n (λ e. omega (arith, e, less, w))
+      below = λ n less. marked_other asked as_asked bodies n (λ e. omega (arith, e, less, w))
           ∙ is.below n less;
       stops = λ less. elim (cases_lt taken asked) [
-        | inl lower ↦ marked_other asked (as_asked number) bodies taken (λ e. omega (arith, e, lower)) ∙ is.stops lower
+        | inl lower ↦ marked_other asked as_asked bodies taken (λ e. omega (arith, e, lower)) ∙ is.stops lower
         | inr most ↦ (
             let same : taken ≡ asked = omega (arith, most, w) in
-            ap (is_marked (replaced asked (as_asked number) bodies)) same ∙ marked_asked asked number bodies)
+            ap (is_marked (replaced asked as_asked bodies)) same ∙ marked_asked asked bodies)
       ];
     }
 

@@ -1,16 +1,37 @@
 -- Lists of outcomes as the code keeps them.
-use Rattle.std.proofs.Common.{◌≡◌, ℕ, zero, suc, ◌≤◌, List, [], ◌∷◌, length, set, Option, Some, refl, ap, arith}
+use Rattle.std.proofs.Common.{◌≡◌, ℕ, zero, suc, ◌+◌, ◌≤◌, Bool, true, false, List, [], ◌∷◌, get_or, length, take}
+use Rattle.std.proofs.Common.{Option, Some, refl, sym, ap, ◌∙◌, arith}
+use Rattle.std.specs.Prelude.{count_by}
+use Rattle.std.specs.List.{slice_get}
+use Rattle.std.proofs.lemmas.List.Sums.{count_by_more_no, count_by_more_yes}
+use Rattle.std.proofs.lemmas.List.Recursion.{is_count_by}
+use Rattle.std.proofs.lemmas.Option.{get_or_from_slice_get, slice_get_within}
+use mir.Val.{bool_byte}
 use Rattle.lane_record.specs.declared.outcome.Outcome.{Outcome}
+use Rattle.lane_record.specs.Bounds.{has_timed_out, timeouts}
 use Rattle.lane_record.specs.Offers.{put}
-
-pub set_is_put : (k : ℕ) (o : Outcome) (xs : List (Option Outcome)) → set xs k (Some o) ≡ put k o xs
-set_is_put zero o [] = refl
-set_is_put (suc k) o [] = refl
-set_is_put zero o (x ∷ xs) = refl
-set_is_put (suc k) o (x ∷ xs) = ap (λ (l : List (Option Outcome)). x ∷ l) (set_is_put k o xs)
 
 pub put_past : (k : ℕ) (o : Outcome) (xs : List (Option Outcome)) → length xs ≤ k → put k o xs ≡ xs
 put_past zero o [] past = refl
 put_past (suc k) o [] past = refl
 put_past zero o (x ∷ xs) past = absurd (omega arith)
 put_past (suc k) o (x ∷ xs) past = ap (λ (l : List (Option Outcome)). x ∷ l) (put_past k o xs (omega arith))
+
+-- ---- counted one after the other
+
+pub counted : (kind : Option Outcome → Bool) (outcomes : List (Option Outcome)) (ask : ℕ) (o : Option Outcome)
+    (byte : ℕ) (told : Bool) → slice_get outcomes ask ≡ Some o → told ≡ kind o → byte ≡ bool_byte told
+    → (count_by kind (take ask outcomes) + byte ≡ count_by kind (take (ask + 1) outcomes)) × (byte ≤ 1)
+counted kind outcomes ask o byte true there same is =
+    let here : kind (get_or outcomes ask o) ≡ true =
+    ap kind (get_or_from_slice_get outcomes ask o o there) ∙ sym same in
+    let more = count_by_more_yes kind outcomes ask o (slice_get_within outcomes ask o there) here in
+    (omega (arith, is, more), omega (arith, is))
+counted kind outcomes ask o byte false there same is =
+    let here : kind (get_or outcomes ask o) ≡ false =
+    ap kind (get_or_from_slice_get outcomes ask o o there) ∙ sym same in
+    let more = count_by_more_no kind outcomes ask o (slice_get_within outcomes ask o there) here in
+    (omega (arith, is, more), omega (arith, is))
+
+pub timeouts_counted : (outcomes : List (Option Outcome)) → timeouts outcomes ≡ count_by has_timed_out outcomes
+timeouts_counted outcomes = is_count_by timeouts has_timed_out refl (λ o os. refl) outcomes

@@ -69,36 +69,36 @@ taken_plan items rows client seq place body are other =
       | inr apart ↦ subst (IsTakenRow items other) (sym (row_planned_other client place other rows apart.0)) (are other)
     ])
 
-tells_asked : (items : List Item) (client number : ℕ) (bodies : List PlannedBody) (asks : ℕ)
+tells_asked : (items : List Item) (client : ℕ) (bodies : List PlannedBody) (asks : ℕ)
     → TellsTaken items client bodies asks
-    → TellsTaken items client (replaced asks (as_asked number) bodies) (asks + 1)
-tells_asked items client number bodies asks is = record {
+    → TellsTaken items client (replaced asks as_asked bodies) (asks + 1)
+tells_asked items client bodies asks is = record {
   marks = λ n less. dite (ℕ_discrete n asks)
       (λ (e : n ≡ asks). ap is_some (is.later n (omega (arith, e)))
-      ∙ sym (ap (is_marked (replaced asks (as_asked number) bodies)) e ∙ marked_asked asks number bodies))
+      ∙ sym (ap (is_marked (replaced asks as_asked bodies)) e ∙ marked_asked asks bodies))
       (λ (ne : n ≢ asks). is.marks n (below_apart n asks ne less)
-      ∙ sym (marked_other asks (as_asked number) bodies n ne));
+      ∙ sym (marked_other asks as_asked bodies n ne));
   later = λ n most. is.later n (omega (arith, most));
 }
 
-row_asked : (items : List Item) (client number : ℕ) (row : Option Row) → IsTakenRow items client row
-    → IsTakenRow items client (becomes (after_ask number) row)
-row_asked items client number None is = is
-row_asked items client number (Some r) is = tells_asked items client number r.bodies r.asked is
+row_asked : (items : List Item) (client : ℕ) (row : Option Row) → IsTakenRow items client row
+    → IsTakenRow items client (becomes after_ask row)
+row_asked items client None is = is
+row_asked items client (Some r) is = tells_asked items client r.bodies r.asked is
 
-pub taken_ask : (items : List Item) (rows : List Row) (client number seq g : ℕ)
+pub taken_ask : (items : List Item) (rows : List Row) (client seq g : ℕ)
     → ((c : ℕ) → IsTakenRow items c (row_of c rows))
-    → (other : ℕ) → IsTakenRow (items ++ ask_of client seq g ∷ []) other (row_of other (with_ask client number rows))
-taken_ask items rows client number seq g are other =
+    → (other : ℕ) → IsTakenRow (items ++ ask_of client seq g ∷ []) other (row_of other (with_ask client rows))
+taken_ask items rows client seq g are other =
     let x = ask_of client seq g in
-    row_same items (items ++ x ∷ []) other (row_of other (with_ask client number rows))
+    row_same items (items ++ x ∷ []) other (row_of other (with_ask client rows))
     (λ n. found_other took_in other n items x refl)
     (elim (eqb_tells client other) [
-      | inl same ↦ subst (λ (c : ℕ). IsTakenRow items c (row_of c (with_ask client number rows))) same.1
-          (subst (IsTakenRow items client) (sym (row_changed client (after_ask number) rows (λ r. refl)))
-          (row_asked items client number (row_of client rows) (are client)))
+      | inl same ↦ subst (λ (c : ℕ). IsTakenRow items c (row_of c (with_ask client rows))) same.1
+          (subst (IsTakenRow items client) (sym (row_changed client after_ask rows (λ r. refl)))
+          (row_asked items client (row_of client rows) (are client)))
       | inr apart ↦ subst (IsTakenRow items other)
-          (sym (row_changed_other client (after_ask number) other rows (λ r. refl) apart.0)) (are other)
+          (sym (row_changed_other client after_ask other rows (λ r. refl) apart.0)) (are other)
     ])
 
 -- ---- the oldest body that was not taken

@@ -9,7 +9,6 @@ use Rattle.turn_pass.specs.declared.chronicle.Entry.{Entry}
 use Rattle.lane_record.specs.declared.item.Item.{Item}
 use Rattle.lane_record.specs.Items.{asked, found, is_sealed, numbers, plan_in, planned, took_in}
 use Rattle.lane_record.specs.Lists.{CountsFrom}
-use Rattle.lane_record.specs.Claims.{Claim, IsAskOf, claims}
 use Rattle.lane_record.specs.Coding.{entry_of}
 use Rattle.lane_record.specs.NextEntry.{plan_of}
 use Rattle.hub_lane.specs.declared.rows.PlannedBody.{PlannedBody}
@@ -22,16 +21,15 @@ pub record BookState : Type 0 where
 
 -- ---- the bodies of a client
 
--- a body whose Plan stands there among the entries; the same once its Ask has this number among all, and once it was
--- taken
+-- a body whose Plan stands there among the entries; the same once it was asked, and once it was taken
 abbrev pub planned_at : ℕ → PlannedBody
-planned_at place = record { plan = place; ask = 0; is_taken = false }
+planned_at place = record { plan = place; is_taken = false }
 
-abbrev pub as_asked : ℕ → PlannedBody → PlannedBody
-as_asked number body = record { plan = body.plan; ask = number; is_taken = false }
+abbrev pub as_asked : PlannedBody → PlannedBody
+as_asked body = record { plan = body.plan; is_taken = false }
 
 abbrev pub as_taken : PlannedBody → PlannedBody
-as_taken body = record { plan = body.plan; ask = body.ask; is_taken = true }
+as_taken body = record { plan = body.plan; is_taken = true }
 
 -- the body of this number becomes another
 abbrev pub replaced : ℕ → (PlannedBody → PlannedBody) → List PlannedBody → List PlannedBody
@@ -65,10 +63,10 @@ first_row client place = record { client = client; bodies = planned_at place ∷
 abbrev pub after_plan : ℕ → Row → Row
 after_plan place r = record { client = r.client; bodies = r.bodies ++ planned_at place ∷ []; asked = r.asked }
 
-abbrev pub after_ask : ℕ → Row → Row
-after_ask number r = record {
+abbrev pub after_ask : Row → Row
+after_ask r = record {
   client = r.client;
-  bodies = replaced r.asked (as_asked number) r.bodies;
+  bodies = replaced r.asked as_asked r.bodies;
   asked = r.asked + 1;
 }
 
@@ -118,9 +116,9 @@ with_plan client place [] = first_row client place ∷ []
 with_plan client place (r ∷ rs) =
     if r.client == client then after_plan place r ∷ rs else r ∷ with_plan client place rs
 
--- one more Ask of a client, under this number among all
-abbrev pub with_ask : ℕ → ℕ → List Row → List Row
-with_ask client number rows = changed client (after_ask number) rows
+-- one more Ask of a client
+abbrev pub with_ask : ℕ → List Row → List Row
+with_ask client rows = changed client after_ask rows
 
 -- one more Took of a client
 abbrev pub with_took : ℕ → ℕ → List Row → List Row
@@ -146,10 +144,6 @@ pub record IsPlanAt (items : List Item) (client seq place : ℕ) : Type 0 where
   pub there : slice_get items place ≡ Some (plan_of client seq body)
   pub first : found plan_in client seq items ≡ Some body
 
--- the Ask of a client's body has this number
-abbrev pub IsAskAt : List Item → ℕ → ℕ → ℕ → Type 0
-IsAskAt items client seq k = (claim : Claim) × IsAskOf items k client seq claim
-
 -- a row tells the bodies of its client, and where there is no row there are none
 pub record TellsBodies (items : List Item) (client : ℕ) (bodies : List PlannedBody) (asks : ℕ) : Type 0 where
   pub planned_are : length bodies ≡ planned client items
@@ -157,8 +151,6 @@ pub record TellsBodies (items : List Item) (client : ℕ) (bodies : List Planned
   pub no_more : asks ≤ length bodies
   pub plans_are : (seq : ℕ) (body : PlannedBody) → slice_get bodies seq ≡ Some body
       → IsPlanAt items client seq body.plan
-  pub asks_are : (seq : ℕ) (body : PlannedBody) → slice_get bodies seq ≡ Some body → seq < asks
-      → IsAskAt items client seq body.ask
 
 abbrev pub IsRow : List Item → ℕ → Option Row → Type 0
 IsRow items client None = TellsBodies items client [] 0
@@ -183,13 +175,12 @@ abbrev pub room_of : ℕ → ℕ → ℕ → ℕ → ℕ
 room_of items items_len entries entries_len = min (items - items_len) (entries - entries_len)
 
 -- the tables are those of the entries; there is always room for the Seal
-pub record IsBook (items : List Item) (entries : List Entry) (rows : List Row) (asks bodies words : ℕ) (closed : Bool)
+pub record IsBook (items : List Item) (entries : List Entry) (rows : List Row) (bodies words : ℕ) (closed : Bool)
     (room : ℕ) : Type 0 where
   pub entries_are : entries ≡ map entry_of items
   pub plans_count : (client : ℕ) → CountsFrom 0 (numbers plan_in client items)
   pub rows_are : (client : ℕ) → IsRow items client (row_of client rows)
   pub taken_are : (client : ℕ) → IsTakenRow items client (row_of client rows)
-  pub asks_are : asks ≡ length (claims items)
   pub bodies_are : bodies ≡ planned_bodies items
   pub words_are : words ≡ planned_words items
   pub closed_is : closed ≡ is_sealed items

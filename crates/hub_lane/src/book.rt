@@ -7,7 +7,6 @@ ghost use Rattle.std.specs.List.{slice_get};
 ghost use Rattle.std.specs.Vec.{vec_len, vec_capacity};
 ghost use Rattle.transaction_codec.specs.Answer.{reply_room};
 ghost use Rattle.lane_record.specs.Items.{asked, found, is_sealed, plan_in, planned};
-ghost use Rattle.lane_record.specs.Claims.{claims, IsAskOf};
 ghost use Rattle.lane_record.specs.NextEntry.{ask_of, plan_of, the_seal, took_of};
 ghost use Rattle.lane_record.specs.Coding.{entry_of};
 ghost use Rattle.hub_lane.specs.Plans.{IsFull, most_bodies, most_words, planned_bodies, planned_words};
@@ -32,7 +31,6 @@ pub(crate) struct Book {
     entries: Vec<Entry>,
     items: Vec<Item>,
     rows: Vec<ClientRow>,
-    asks: usize,
     bodies: u64,
     words: u64,
     sealed: bool,
@@ -50,12 +48,12 @@ impl Model for Book {
       room = room_of b.items.cap b.items.len b.entries.cap b.entries.len;
     } };
 
-    ghost invariant = { λ b. IsBook b.items.items b.entries.items b.rows.items b.asks b.bodies b.words b.sealed
+    ghost invariant = { λ b. IsBook b.items.items b.entries.items b.rows.items b.bodies b.words b.sealed
         (room_of b.items.cap b.items.len b.entries.cap b.entries.len) };
 }
 
 impl Book {
-    ghost use Rattle.hub_lane.specs.Books.{IsAskAt, HasMorePlans};
+    ghost use Rattle.hub_lane.specs.Books.{HasMorePlans};
     ghost use Rattle.hub_lane.specs.Step.{HasTakenAll, IsOldest};
 
     /// A record without entries, with room for the Seal.
@@ -71,7 +69,6 @@ impl Book {
             entries,
             items,
             rows: Vec::new(alloc),
-            asks: 0,
             bodies: 0,
             words: 0,
             sealed: false,
@@ -145,17 +142,6 @@ impl Book {
         }
     }
 
-    /// The number, among the Asks of all clients, of the body of this number, which the client asked.
-    pub(crate) fn ask_of(&self, client: u32, seq: u64) -> usize
-        requires { seq < asked client self.now.items }
-        ensures { IsAskAt self.now.items client seq result }
-    {
-        match row_at(&self.rows, client) {
-            Some(at) => self.rows[at].ask_of(seq),
-            None => unreachable!(),
-        }
-    }
-
     /// Takes room for one entry and the Seal.
     pub(crate) fn reserve(&mut self) -> Result<(), NoMemory>
         ensures room { OnOk result (2 ≤ self.new.room) }
@@ -219,7 +205,7 @@ impl Book {
             ≡ self.old.items ++ ask_of client (asked client self.old.items) give_ups ∷ [] }
     {
         let seq = self.asked(client);
-        add_ask(&mut self.rows, client, self.asks);
+        add_ask(&mut self.rows, client);
         put(
             &mut self.entries,
             &mut self.items,
@@ -229,8 +215,6 @@ impl Book {
                 what: What::Ask { give_ups },
             },
         );
-        let _items = self.items.len();
-        self.asks += 1;
         seq
     }
 

@@ -23,9 +23,9 @@ ghost use Rattle.hub_lane.specs.Standing.{GoesOn, IsRunning, Stops};
 
 use crate::answers::Pumped;
 use crate::below::laws_of_rounds;
+use crate::outcome_table::OutcomeTable;
 use crate::outcomes::settle;
 use ipb_base::{NoMemory, Words};
-use lane_record::Outcome;
 use packet_ids::{Id, place_of};
 use reliable_engine::laws::draining_ends;
 use reliable_engine::{Engine, Sending};
@@ -46,7 +46,7 @@ pub(crate) fn exchange<L: Link>(
     hub: &mut Engine,
     link: &mut L,
     buffer: &mut Vec<u8>,
-    outcomes: &mut Vec<Option<Outcome>>,
+    outcomes: &mut OutcomeTable,
     give_ups: &mut u64,
 ) -> Result<Pumped, LinkFault>
     requires ready { IsReady (length outcomes.old.items) hub.old }
@@ -59,6 +59,7 @@ pub(crate) fn exchange<L: Link>(
         hub.new ≡ handed_out (hub_after pumped buffer.new.items (all_sent hub.old))) }
     ensures outcomes { IfOk result (λ pumped. outcomes.new.items
         ≡ put_all (hub_after pumped buffer.new.items (all_sent hub.old)).fates outcomes.old.items) }
+    ensures askers { outcomes.new.askers ≡ outcomes.old.askers }
     ensures give_ups { IfOk result (λ pumped. give_ups.new
         ≡ give_ups_of pumped (hub_after pumped buffer.new.items (all_sent hub.old)) give_ups.old) }
     ensures received { IfOk result (λ pumped.

@@ -26,6 +26,7 @@ use crate::answers::{Asked, PlanRefusal, Pumped, Taken};
 use crate::below::laws_of_rounds;
 use crate::book::Book;
 use crate::exchange::exchange;
+use crate::outcome_table::OutcomeTable;
 use crate::outcomes::{copy_outcome, copy_words, count_of, lose_all, reply_under};
 use ipb_base::{NoMemory, Words};
 use lane_record::Outcome;
@@ -61,7 +62,7 @@ pub struct Lane<L: Link> {
     engine: Engine,
     buffer: Vec<u8>,
     pub(crate) book: Book,
-    outcomes: Vec<Option<Outcome>>,
+    outcomes: OutcomeTable,
     give_ups: u64,
     down: bool,
     spent: bool,
@@ -71,6 +72,7 @@ impl<L: Link> Model for Lane<L> {
     ghost use Rattle.std.specs.Prelude.{IfSome, ◌||◌};
     ghost use Rattle.hub_lane.specs.Heard.{HasHeard};
     ghost use Rattle.hub_lane.specs.Lanes.{IsLane, LaneState};
+    ghost use Rattle.hub_lane.specs.OutcomeTable.{AreAskersOf};
     ghost use Rattle.hub_lane.specs.Rounds.{HasPaid};
 
     ghost Value = { LaneState L };
@@ -93,7 +95,8 @@ impl<L: Link> Model for Lane<L> {
         (L.quiets l.link)
         × IfSome (L.telling l.link)
         (HasPaid (l.down || l.spent) l.mtu l.settings.rounds l.give_ups l.engine (L.held l.link))
-        × HasHeard l.outcomes.items (L.gots l.link) };
+        × HasHeard l.outcomes.items (L.gots l.link)
+        × AreAskersOf l.book.items l.outcomes.askers };
 }
 
 impl<L: Link> Lane<L> {
@@ -161,7 +164,7 @@ impl<L: Link> Lane<L> {
             engine,
             buffer: Vec::new(alloc),
             book,
-            outcomes: Vec::new(alloc),
+            outcomes: OutcomeTable::new(alloc),
             give_ups: 0,
             down: false,
             spent: false,
@@ -278,8 +281,9 @@ impl<L: Link> Lane<L> {
         };
         let body = copy_words(self.alloc, body.as_slice())?;
         self.book.reserve()?;
-        self.outcomes.reserve(1)?;
-        offer(&mut self.engine, &mut self.outcomes, self.down, body)?;
+        let seq = self.book.asked(client);
+        self.outcomes
+            .offer(&mut self.engine, self.down, client, seq, body)?;
         Ok(Asked::Asked(self.book.ask(client, self.give_ups)))
     }
 
@@ -323,6 +327,7 @@ impl<L: Link> Lane<L> {
         if !self.engine.waiting() {
             return Ok(Pumped::Idle);
         }
+        self.outcomes.are_few();
         match exchange(
             self.alloc,
             self.first,
@@ -355,7 +360,7 @@ impl<L: Link> Lane<L> {
     {
         an_ask_is_of_its_plan();
         entries_go_into_the_book();
-        let Some(outcome) = &self.outcomes[self.book.ask_of(client, seq)] else {
+        let Some(outcome) = self.outcomes.of_client(client, seq) else {
             return Ok(Taken::NotYet);
         };
         let answer = copy_outcome(self.alloc, outcome)?;
@@ -386,33 +391,4 @@ impl<L: Link> Lane<L> {
         }
         Ok(())
     }
-}
-
-/// Offers a body to the engine under the number of its Ask, or it is lost where the link failed. There is room for its
-/// outcome.
-pub(crate) fn offer(
-    engine: &mut Engine,
-    outcomes: &mut Vec<Option<Outcome>>,
-    down: bool,
-    body: Words,
-) -> Result<(), NoMemory>
-    requires room { vec_len outcomes.old < vec_capacity outcomes.old }
-    requires few { body_count engine.old < 2 ^ 62 }
-    ensures engine { OnOk result (engine.new ≡ (if down then engine.old
-        else offer engine.old (record { tag = length outcomes.old.items; body = body }))) }
-    ensures outcomes { OnOk result (outcomes.new.items ≡ outcomes.old.items
-        ++ (if down then Some (LinkLost None) else None) ∷ []) }
-    ensures same_engine { OnErr result (engine.new ≡ engine.old) }
-    ensures same_outcomes { OnErr result (outcomes.new.items ≡ outcomes.old.items) }
-{
-    if down {
-        outcomes.push_reserved(Some(Outcome::LinkLost { place: None }));
-        return Ok(());
-    }
-    let tag = outcomes.len() as u64;
-    if engine.offer(tag, body).is_err() {
-        return Err(NoMemory);
-    }
-    outcomes.push_reserved(None);
-    Ok(())
 }

@@ -9,6 +9,7 @@ mod exchange;
 mod greeting;
 mod lane;
 pub mod laws;
+mod outcome_table;
 mod outcomes;
 mod rows;
 mod step;

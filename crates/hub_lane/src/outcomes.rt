@@ -1,11 +1,13 @@
-//! What became of the asked bodies, in the order of the Asks.
+//! What becomes of the asked bodies.
 
 ghost use Rattle.std.specs.Prelude.{◌≡◌, ◌+◌, ◌<◌, ◌≤◌, ◌^◌, ℕ, IfOk, IfSome, IfNone, length, count_by, if◌then◌else◌};
-ghost use Rattle.std.specs.Prelude.{List, Some};
+ghost use Rattle.std.specs.Prelude.{List, None, OnErr, OnOk, Some};
 ghost use Rattle.std.specs.List.{slice_get};
-ghost use Rattle.lane_record.specs.declared.outcome.Outcome.TheVariants.{Replied};
-ghost use Rattle.lane_record.specs.Bounds.{timeouts};
-ghost use Rattle.lane_record.specs.Offers.{all_lost, lost_after, outcome_of, put, put_all};
+ghost use Rattle.lane_record.specs.declared.outcome.Outcome.TheVariants.{LinkLost, Replied};
+ghost use Rattle.reliable_engine.specs.Answers.{body_count};
+ghost use Rattle.world_model.specs.Hub.{offer};
+ghost use Rattle.lane_record.specs.Bounds.{has_timed_out, timeouts};
+ghost use Rattle.lane_record.specs.Offers.{all_lost, lost_after, outcome_of, put_all};
 ghost use Rattle.hub_lane.specs.Hearing.{give_ups_of};
 ghost use Rattle.hub_lane.specs.Calls.{IsReplyAt, IsReplyOf, is_lost_at_place, is_replied};
 ghost use Rattle.hub_lane.specs.Sends.{handed_out};
@@ -13,6 +15,7 @@ ghost use Rattle.packet_codec.specs.declared.packet.TheConstants.{MAX_BODY_WORDS
 ghost use Rattle.world_model.specs.Facts.{IsSendable};
 
 use crate::answers::Pumped;
+use crate::outcome_table::OutcomeTable;
 use ipb_base::{NoMemory, Words};
 use lane_record::Outcome;
 use reliable_engine::{Engine, Fate};
@@ -55,41 +58,56 @@ fn outcome_of(fate: Fate) -> Outcome
     }
 }
 
-/// An outcome comes, under the number of its Ask.
-fn put(outcomes: &mut Vec<Option<Outcome>>, at: u64, outcome: Outcome)
-    ensures { outcomes.new.items ≡ put at outcome outcomes.old.items }
+/// Offers a body to the engine under the number of its Ask, or it is lost where the link failed. Answers what became of
+/// it so far.
+pub(crate) fn offer(
+    engine: &mut Engine,
+    down: bool,
+    ask: u64,
+    body: Words,
+) -> Result<Option<Outcome>, NoMemory>
+    requires few { body_count engine.old < 2 ^ 62 }
+    ensures engine { OnOk result (engine.new ≡ (if down then engine.old
+        else offer engine.old (record { tag = ask; body = body }))) }
+    ensures outcome { IfOk result (λ outcome. outcome ≡ (if down then Some (LinkLost None) else None)) }
+    ensures unchanged { OnErr result (engine.new ≡ engine.old) }
 {
-    let at = at as usize;
-    if at < outcomes.len() {
-        outcomes[at] = Some(outcome);
+    if down {
+        return Ok(Some(Outcome::LinkLost { place: None }));
     }
+    if engine.offer(ask, body).is_err() {
+        return Err(NoMemory);
+    }
+    Ok(None)
 }
 
 /// The hub hands out all its fates.
-fn settle_all(hub: &mut Engine, outcomes: &mut Vec<Option<Outcome>>)
+fn settle_all(hub: &mut Engine, outcomes: &mut OutcomeTable)
     ensures hub { hub.new ≡ handed_out hub.old }
     ensures outcomes { outcomes.new.items ≡ put_all hub.old.fates outcomes.old.items }
+    ensures askers { outcomes.new.askers ≡ outcomes.old.askers }
 {
     while let Some(fate) = hub.settled() {
-        put(outcomes, fate.0, outcome_of(fate.1));
+        outcomes.put(fate.0, outcome_of(fate.1));
     }
 }
 
 /// The link failed: what has no outcome is lost, with its place where it was sent.
-pub(crate) fn lose_all(outcomes: &mut Vec<Option<Outcome>>, sent: u64)
-    ensures { outcomes.new.items ≡ all_lost sent outcomes.old.items }
+pub(crate) fn lose_all(outcomes: &mut OutcomeTable, sent: u64)
+    ensures outcomes { outcomes.new.items ≡ all_lost sent outcomes.old.items }
+    ensures askers { outcomes.new.askers ≡ outcomes.old.askers }
 {
     let mut place = 0;
-    for at in 0..outcomes.len() {
-        if let Some(outcome) = &outcomes[at] {
+    for ask in 0..outcomes.len() {
+        if let Some(outcome) = outcomes.of_ask(ask) {
             if outcome.is_sent() {
                 place += 1;
             }
         } else if place < sent {
             place += 1;
-            outcomes[at] = Some(Outcome::LinkLost { place: Some(place) });
+            outcomes.put(ask as u64, Outcome::LinkLost { place: Some(place) });
         } else {
-            outcomes[at] = Some(Outcome::LinkLost { place: None });
+            outcomes.put(ask as u64, Outcome::LinkLost { place: None });
         }
     }
 }
@@ -98,13 +116,14 @@ pub(crate) fn lose_all(outcomes: &mut Vec<Option<Outcome>>, sent: u64)
 /// give-up.
 pub(crate) fn settle(
     hub: &mut Engine,
-    outcomes: &mut Vec<Option<Outcome>>,
+    outcomes: &mut OutcomeTable,
     give_ups: &mut u64,
     pumped: Pumped,
 )
     requires { give_ups.old < 2 ^ 63 }
     ensures hub { hub.new ≡ handed_out hub.old }
     ensures outcomes { outcomes.new.items ≡ put_all hub.old.fates outcomes.old.items }
+    ensures askers { outcomes.new.askers ≡ outcomes.old.askers }
     ensures give_ups { give_ups.new ≡ give_ups_of pumped hub.old give_ups.old }
 {
     if pumped == Pumped::Quiet && !hub.waiting() {
@@ -114,15 +133,15 @@ pub(crate) fn settle(
 }
 
 /// The reply under the number of an Ask, where it came at this place.
-pub(crate) fn reply_under(outcomes: &[Option<Outcome>], number: u64, place: u64) -> Option<&[u32]>
-    ensures some { IfSome result (λ words. IsReplyAt outcomes.now place words.now) }
+pub(crate) fn reply_under(outcomes: &OutcomeTable, ask: u64, place: u64) -> Option<&[u32]>
+    ensures some { IfSome result (λ words. IsReplyAt outcomes.now.items place words.now) }
     ensures none { IfNone result ((words : List ℕ)
-        → ¬ (slice_get outcomes.now number ≡ Some (Some (Replied place words)))) }
+        → ¬ (slice_get outcomes.now.items ask ≡ Some (Some (Replied place words)))) }
 {
-    match outcomes.get(number as usize) {
-        Some(outcome) => reply_of(outcome, place),
-        None => None,
+    if ask >= outcomes.len() as u64 {
+        return None;
     }
+    reply_of(outcomes.of_ask(ask as usize), place)
 }
 
 /// The reply that an outcome is, where it is that of this place.
@@ -137,26 +156,40 @@ fn reply_of(outcome: &Option<Outcome>, place: u64) -> Option<&[u32]>
 }
 
 /// How many were replied, timed out, and lost with a place.
-pub(crate) fn count_of(outcomes: &[Option<Outcome>]) -> (u64, u64, u64)
-    ensures replied { result.0 ≡ count_by is_replied outcomes.now }
-    ensures timed_out { result.1 ≡ timeouts outcomes.now }
-    ensures lost { result.2 ≡ count_by is_lost_at_place outcomes.now }
+pub(crate) fn count_of(outcomes: &OutcomeTable) -> (u64, u64, u64)
+    ensures replied { result.0 ≡ count_by is_replied outcomes.now.items }
+    ensures timed_out { result.1 ≡ timeouts outcomes.now.items }
+    ensures lost { result.2 ≡ count_by is_lost_at_place outcomes.now.items }
 {
     let mut replied = 0;
     let mut timed_out = 0;
     let mut lost = 0;
-    for outcome in outcomes {
-        match outcome {
-            Some(Outcome::Replied { place: _, words: _ }) => replied += 1,
-            Some(
-                Outcome::TimedOut {
-                    place: _,
-                    rounds: _,
-                },
-            ) => timed_out += 1,
-            Some(Outcome::LinkLost { place: Some(_) }) => lost += 1,
-            _ => {}
-        }
+    for ask in 0..outcomes.len() {
+        let outcome = outcomes.of_ask(ask);
+        replied += u64::from(is_replied(outcome));
+        timed_out += u64::from(has_timed_out(outcome));
+        lost += u64::from(is_lost_at_place(outcome));
     }
     (replied, timed_out, lost)
+}
+
+/// Whether a body was replied to.
+fn is_replied(outcome: &Option<Outcome>) -> bool
+    ensures { result ≡ is_replied outcome.now }
+{
+    matches!(outcome, Some(Outcome::Replied { .. }))
+}
+
+/// Whether a body was timed out.
+fn has_timed_out(outcome: &Option<Outcome>) -> bool
+    ensures { result ≡ has_timed_out outcome.now }
+{
+    matches!(outcome, Some(Outcome::TimedOut { .. }))
+}
+
+/// Whether a body was lost with the link after it was sent.
+fn is_lost_at_place(outcome: &Option<Outcome>) -> bool
+    ensures { result ≡ is_lost_at_place outcome.now }
+{
+    matches!(outcome, Some(Outcome::LinkLost { place: Some(_) }))
 }

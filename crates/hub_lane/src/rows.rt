@@ -9,12 +9,10 @@ use ipb_base::NoMemory;
 use std::alloc::Global;
 use std::marker::Model;
 
-/// A body of a client: where its Plan stands among the entries; once it was asked, the number of its Ask among those of
-/// all clients, under which its outcome stands; and whether that was taken.
+/// A body of a client: where its Plan stands among the entries, and whether what became of it was taken.
 #[derive(Clone, Copy, Debug, PartialEq, Eq)]
 pub(crate) struct PlannedBody {
     pub(crate) plan: usize,
-    pub(crate) ask: usize,
     pub(crate) is_taken: bool,
 }
 
@@ -54,7 +52,6 @@ impl ClientRow {
         let mut bodies = Vec::new(alloc);
         bodies.push(PlannedBody {
             plan: place,
-            ask: 0,
             is_taken: false,
         })?;
         Ok(ClientRow {
@@ -72,19 +69,18 @@ impl ClientRow {
     {
         self.bodies.push(PlannedBody {
             plan: place,
-            ask: 0,
             is_taken: false,
         })?;
         Ok(())
     }
 
-    /// Adds an Ask, which has this number among those of all clients.
-    fn add_ask(&mut self, number: usize)
+    /// Adds an Ask.
+    fn add_ask(&mut self)
         requires { self.old.asked < length self.old.bodies }
-        ensures { self.new ≡ after_ask number self.old }
+        ensures { self.new ≡ after_ask self.old }
     {
         let asked = self.asked;
-        set_asked(&mut self.bodies, asked, number);
+        set_asked(&mut self.bodies, asked);
         self.asked = asked + 1;
     }
 
@@ -132,15 +128,6 @@ impl ClientRow {
         }
     }
 
-    /// The number among all Asks of the body of this number, which was asked.
-    pub(crate) fn ask_of(&self, seq: u64) -> usize
-        requires { seq < self.now.asked }
-        ensures { (body : PlannedBody) → slice_get self.now.bodies seq ≡ Some body → result ≡ body.ask }
-    {
-        let body = &self.bodies[seq as usize];
-        body.ask
-    }
-
     /// Where the next Plan that was not asked stands.
     pub(crate) fn next(&self) -> Option<usize>
         ensures { result ≡ next_in self.now }
@@ -152,13 +139,12 @@ impl ClientRow {
     }
 }
 
-/// A body was asked, under this number.
-fn set_asked(bodies: &mut Vec<PlannedBody>, at: usize, number: usize)
+/// A body was asked, and not taken.
+fn set_asked(bodies: &mut Vec<PlannedBody>, at: usize)
     requires { at < length bodies.old.items }
-    ensures { bodies.new.items ≡ replaced at (as_asked number) bodies.old.items }
+    ensures { bodies.new.items ≡ replaced at as_asked bodies.old.items }
 {
     let body = &mut bodies[at];
-    body.ask = number;
     body.is_taken = false;
 }
 
@@ -235,14 +221,14 @@ pub(crate) fn add_plan(
     }
 }
 
-/// Adds an Ask of a client, which has a Plan that was not asked. It has this number among all Asks.
-pub(crate) fn add_ask(rows: &mut Vec<ClientRow>, client: u32, number: usize)
+/// Adds an Ask of a client, which has a Plan that was not asked.
+pub(crate) fn add_ask(rows: &mut Vec<ClientRow>, client: u32)
     requires { HasNext client rows.old.items }
-    ensures { rows.new.items ≡ with_ask client number rows.old.items }
+    ensures { rows.new.items ≡ with_ask client rows.old.items }
 {
     if let Some(at) = row_at(rows, client) {
         let row = &mut rows[at];
-        row.add_ask(number);
+        row.add_ask();
     }
 }
 

@@ -31,10 +31,9 @@ returns-in-Some c =
     let at = c.in-Some.at in
     let is = sym (c.row_at.ensures ∙ ap (row_at c.args.client) c.deref.ensures.value) ∙ c.in-Some.is in
     let found = found_at c.args.client rows at is in
-    let change = after_ask c.args.number in
     let row = c.index_mut-row.result.now in
     ap (set rows at) c.add_ask.ensures
-    ∙ set_changed c.args.client change rows at is row
+    ∙ set_changed c.args.client after_ask rows at is row
     (slice_get-get_or rows at row found.within ∙ ap (λ (r : Row). Some r) (sym c.index_mut-row.ensures.value))
 
 pub returns-in_default : goal.returns-in_default

@@ -1,23 +1,13 @@
-use Rattle.std.proofs.Common.{◌≡◌, ◌≤◌, ◌∷◌, [], List, length, length-append, sym, subst, arith, ap, ◌∙◌}
-use Rattle.lane_record.specs.declared.item.Item.{Item}
-use Rattle.lane_record.specs.NextEntry.{ask_of}
+use Rattle.std.proofs.Common.{◌≡◌, ◌≤◌, sym, subst, arith, ap, ◌∙◌}
 use Rattle.lane_record.specs.Items.{asked}
 use Rattle.hub_lane.specs.Books.{BookState, HasMorePlans, room_of}
-use Rattle.hub_lane.proofs.Books.{asks_few, book_asked, has_next}
+use Rattle.hub_lane.proofs.Books.{book_asked, has_next}
 use Rattle.hub_lane.proofs.book.Book.ask.Goals as goal
 
 pub add_ask-requires : goal.add_ask-requires
 add_ask-requires c = has_next c.self.inside.items.items c.self.inside.rows.items c.args.client
     c.self.invariant.plans_count c.self.invariant.rows_are
     (subst (λ (v : BookState). HasMorePlans c.args.client v.items) (sym c.self.view_is) c.requires.next)
-
-pub overflow_add-self : goal.overflow_add-self
-overflow_add-self c =
-    let items = c.self.inside.items.items in
-    let few = asks_few items in
-    let longer = ap (λ (xs : List Item). length xs) c.put.ensures.items
-    ∙ length-append items (ask_of c.args.client c.asked-seq.result c.args.give_ups ∷ []) in
-    omega (arith, few, longer, c.self.invariant.asks_are, c.len-items.ensures)
 
 pub invariant_of-self : goal.invariant_of-self
 invariant_of-self c =
@@ -38,6 +28,6 @@ invariant_of-self c =
       c.put.ensures.entries_capacity,
     ) in
     book_asked b.items.items c.put.new.items.items b.entries.items c.put.new.entries.items b.rows.items
-    c.add_ask.new.rows.items b.asks b.bodies b.words b.sealed _ after
+    c.add_ask.new.rows.items b.bodies b.words b.sealed _ after
     c.args.client c.asked-seq.result c.args.give_ups c.self.invariant seq more c.put.ensures.items c.put.ensures.entries
     c.add_ask.ensures enough

@@ -1,7 +1,6 @@
-use Rattle.std.proofs.Common.{◌≡◌, ◌∙◌, ℕ, List, sym, ap, subst, refl, length, ◌++◌, ◌∷◌, [], Option, Some, None, ◌≤◌}
+use Rattle.std.proofs.Common.{◌≡◌, ◌∙◌, ℕ, List, sym, ap, subst, refl, length, ◌++◌, ◌∷◌, [], Some, None, ◌≤◌}
 use Rattle.std.proofs.Common.{if◌then◌else◌}
 use Rattle.world_model.specs.Hub.{offer}
-use Rattle.lane_record.specs.declared.outcome.Outcome.{Outcome}
 use Rattle.lane_record.specs.declared.outcome.Outcome.TheVariants.{LinkLost}
 use Rattle.world_model.specs.Facts.{IsSendable}
 use Rattle.lane_record.specs.declared.item.Item.{Item}
@@ -12,6 +11,8 @@ use Rattle.ipb_base.specs.Numbers.{payload_of}
 use Rattle.hub_lane.proofs.Lanes.{body_sendable, found_fits, lane_asks}
 use Rattle.hub_lane.proofs.Rounds.{pays_asked}
 use Rattle.hub_lane.proofs.Datagrams.{asked_unheard, heard_asked}
+use Rattle.hub_lane.specs.OutcomeTable.{AreAskersOf, WasAskedBy, asker}
+use Rattle.hub_lane.proofs.Askers.{askers_asked, not_asked_yet}
 use Rattle.hub_lane.proofs.lane.Lane.ask.Goals as goal
 
 pub invariant_of-self-2 : goal.invariant_of-self-2
@@ -33,8 +34,7 @@ invariant_of-self-2 g c =
     let fits = found_fits (payload_of l.mtu) items client seq c.in_ok-body.body c.self.invariant.0.fits there in
     let hub_is : c.offer.new.engine ≡ (if l.down then l.engine
     else offer l.engine (record { tag = length l.outcomes.items; body = c.in_ok-body.body })) =
-    c.in_ok-offer.ensures.engine ∙ ap (λ (os : List (Option Outcome)). if l.down then l.engine
-    else offer l.engine (record { tag = length os; body = c.in_ok-body.body })) c.in_ok-reserve-2.ensures.items in
+    c.in_ok-offer.ensures.engine in
     let may : MayAsk items client seq l.give_ups = record {
       some_client = c.requires.client;
       next = refl;
@@ -46,7 +46,7 @@ invariant_of-self-2 g c =
     ∙ ap (λ (xs : List Item). xs ++ ask_of client (asked client xs) l.give_ups ∷ []) c.in_ok-reserve.ensures.items in (
       lane_asks c.each_event_leads_to_a_state_of_a_run.ensures.offered c.only_an_offer_makes_more_bodies.ensures.offered
           c.an_ask_is_an_offer.ensures.offered c.a_failed_link_loses_what_waits.ensures.later l.settings status l.engine
-          c.offer.new.engine items c.ask.new.self.items l.outcomes.items c.offer.new.outcomes.items l.give_ups l.down
+          c.offer.new.engine items c.ask.new.self.items l.outcomes.items c.offer.new.self.items l.give_ups l.down
           l.spent
           (g.L.Link.telling l.link) (g.L.Link.faults l.link) (g.L.Link.quiets l.link) client seq c.in_ok-body.body
           (λ kept. c.entries_go_into_the_book.ensures.ask items l.outcomes.items l.engine.window l.give_ups client seq
@@ -56,15 +56,27 @@ invariant_of-self-2 g c =
           client seq
           kept may) there can c.if-self.false
           hub_is entry
-          (c.in_ok-offer.ensures.outcomes ∙ ap (λ (os : List (Option Outcome)). os
-          ++ (if l.down then Some (LinkLost None) else None) ∷ []) c.in_ok-reserve-2.ensures.items) c.self.invariant.0,
+          c.in_ok-offer.ensures.items c.self.invariant.0,
       pays_asked c.laws_of_rounds.ensures l.down l.spent l.mtu l.settings.rounds l.give_ups l.engine c.offer.new.engine
           (length l.outcomes.items) c.in_ok-body.body (g.L.Link.held l.link) (g.L.Link.telling l.link) c.if-self.false
           fits
           hub_is c.self.invariant.1,
-      heard_asked (if l.down then Some (LinkLost None) else None) l.outcomes.items c.offer.new.outcomes.items
+      heard_asked (if l.down then Some (LinkLost None) else None) l.outcomes.items c.offer.new.self.items
           (g.L.Link.gots l.link) (asked_unheard l.down)
-          (c.in_ok-offer.ensures.outcomes ∙ ap (λ (os : List (Option Outcome)). os
-          ++ (if l.down then Some (LinkLost None) else None) ∷ []) c.in_ok-reserve-2.ensures.items)
-          c.self.invariant.2,
+          c.in_ok-offer.ensures.items c.self.invariant.2,
+      subst (λ (xs : List Item). AreAskersOf xs c.offer.new.self.askers) (sym entry)
+          (askers_asked items client seq l.give_ups l.outcomes.askers c.offer.new.self.askers c.self.invariant.3
+          (c.in_ok-offer.ensures.askers ∙ ap (λ (n : ℕ). l.outcomes.askers ++ asker client n ∷ [])
+          (c.asked-seq.ensures ∙ ap (asked client) c.in_ok-reserve.ensures.items))),
     )
+
+pub offer-requires-clause-few : goal.offer-requires-clause-few
+offer-requires-clause-few g c = c.self.invariant.0.ready.bodies.few
+
+pub offer-requires-clause-new : goal.offer-requires-clause-new
+offer-requires-clause-new g c =
+    let l = c.self.inside in
+    let seq = c.asked-seq.ensures ∙ ap (asked c.args.client) c.in_ok-reserve.ensures.items in
+    subst (λ (n : ℕ). WasAskedBy l.outcomes.askers c.args.client n → ⊥) (sym seq)
+    (not_asked_yet l.book.items l.outcomes.items l.outcomes.askers c.args.client c.self.invariant.0.kept.legal
+    c.self.invariant.3)

@@ -1,8 +1,6 @@
-use Rattle.std.proofs.Common.{◌≡◌, ◌∙◌, ℕ, List, subst, sym, Option, Some}
+use Rattle.std.proofs.Common.{◌∙◌, ℕ, List, subst, sym}
 use Rattle.std.specs.Prelude.{IfNone, IfSome}
-use Rattle.std.specs.List.{slice_get}
 use Rattle.std.proofs.lemmas.Option.{IfSome_then}
-use Rattle.lane_record.specs.declared.outcome.Outcome.{Outcome}
 use Rattle.lane_record.specs.declared.outcome.Outcome.TheVariants.{Replied}
 use Rattle.lane_record.proofs.Lengths.{short_at}
 use Rattle.hub_lane.specs.Lanes.{LaneState}
@@ -26,22 +24,14 @@ returns-clause-none g c =
     → ⊥)) c.self.view_is
     (none_then c.reply_under.result
     (no_reply_under l.engine.sent _ _ _ l.outcomes.items c.args.place tag c.self.invariant.0.agrees
-    (sym c.tag_at.ensures ∙ c.in_ok-tag.was))
-    (subst (λ (os : List (Option Outcome)). IfNone c.reply_under.result ((words : List ℕ)
-    → slice_get os tag ≡ Some (Some (Replied c.args.place words)) → ⊥)) c.deref.ensures.value
-    c.reply_under.ensures.none))
+    (sym c.tag_at.ensures ∙ c.in_ok-tag.was)) c.reply_under.ensures.none)
 
 pub returns-clause-some : goal.returns-clause-some
 returns-clause-some g c =
     subst (λ (v : LaneState _). IfSome c.reply_under.result (λ words. IsReplyAt v.outcomes c.args.place words.now))
-    c.self.view_is
-    (subst (λ (os : List (Option Outcome)). IfSome c.reply_under.result (λ words. IsReplyAt os c.args.place words.now))
-    c.deref.ensures.value c.reply_under.ensures.some)
+    c.self.view_is c.reply_under.ensures.some
 
 pub returns-clause-short : goal.returns-clause-short
 returns-clause-short g c =
-    let outcomes = c.self.inside.outcomes.items in
-    let some = subst (λ (os : List (Option Outcome)). IfSome c.reply_under.result (λ words. IsReplyAt os c.args.place
-    words.now)) c.deref.ensures.value c.reply_under.ensures.some in
-    IfSome_then c.reply_under.result some (λ words is.
-    short_at outcomes is.number (Replied c.args.place words.now) c.self.invariant.0.short is.there)
+    IfSome_then c.reply_under.result c.reply_under.ensures.some (λ words is.
+    short_at c.self.inside.outcomes.items is.number (Replied c.args.place words.now) c.self.invariant.0.short is.there)

@@ -1,16 +1,15 @@
-use Rattle.std.proofs.Common.{◌≡◌, ◌∙◌, ◌<◌, List, sym, ap, subst, refl, arith, length, ◌++◌, ◌∷◌, [], Option, Some}
+use Rattle.std.proofs.Common.{◌≡◌, ◌∙◌, ◌<◌, List, sym, ap, subst, refl, ◌++◌, ◌∷◌, [], Option, Some}
 use Rattle.std.proofs.Common.{None}
 use Rattle.std.specs.List.{slice_get}
-use Rattle.std.proofs.lemmas.Option.{slice_get-get_or}
-use Rattle.world_model.proofs.Lists.{get_within}
 use Rattle.lane_record.specs.declared.outcome.Outcome.{Outcome}
 use Rattle.lane_record.specs.declared.item.Item.{Item}
-use Rattle.lane_record.specs.Claims.{claims}
 use Rattle.lane_record.specs.Items.{asked}
 use Rattle.lane_record.specs.NextEntry.{took_of}
 use Rattle.lane_record.proofs.Lengths.{short_at}
 use Rattle.hub_lane.specs.Calls.{IsUntaken, Takes, WasAsked}
 use Rattle.hub_lane.specs.Lanes.{BoardStatus, IsLane, LaneState}
+use Rattle.hub_lane.specs.OutcomeTable.{AreAskersOf}
+use Rattle.hub_lane.proofs.Askers.{asker_there, askers_entry}
 use Rattle.hub_lane.proofs.Lanes.{lane_entry}
 use Rattle.hub_lane.proofs.Steps.{asked_below}
 use Rattle.hub_lane.proofs.lane.Lane.take.Goals as goal
@@ -19,36 +18,31 @@ no_outcome : (r : Option Outcome) → ((x : Outcome) → r ≡ Some x → ⊥) �
 no_outcome None not_some = refl
 no_outcome (Some x) not_some = absurd (not_some x refl)
 
-pub ask_of-requires : goal.ask_of-requires
-ask_of-requires g c =
+pub of_client-requires : goal.of_client-requires
+of_client-requires g c =
+    let l = c.self.inside in
     let was = subst (λ (v : LaneState _). WasAsked v.items c.args.client c.args.seq) (sym c.self.view_is)
     c.requires.asked in
-    asked_below c.self.inside.book.items _ c.args.client c.args.seq c.self.invariant.0.kept.legal was
-
-pub index-requires : goal.index-requires
-index-requires g c =
-    let place = c.ask_of.ensures in
-    let within = get_within (claims c.self.inside.book.items) c.ask_of.result place.0 place.1.there in
-    let each = c.self.invariant.0.agrees.counts.each in
-    omega (arith, within, each)
+    record {
+      ask = was.number;
+      there = asker_there l.book.items l.outcomes.askers c.args.client c.args.seq was.number was.untaken.claim
+          c.self.invariant.3 was.untaken.ask;
+    }
 
 pub returns-in_default-clause-taken : goal.returns-in_default-clause-taken
 returns-in_default-clause-taken g c =
     let l = c.self.inside in
     let items = l.book.items in
     let outcomes = l.outcomes.items in
-    let at = c.ask_of.result in
     let was = subst (λ (v : LaneState _). WasAsked v.items c.args.client c.args.seq) (sym c.self.view_is)
     c.requires.asked in
-    let place = c.ask_of.ensures in
-    let within : at < length outcomes = (let h = get_within (claims items) at place.0 place.1.there in
-    let e = c.self.invariant.0.agrees.counts.each in omega (arith, h, e)) in
-    let none : c.index.result.now ≡ None = no_outcome c.index.result.now c.in_default.not-Some in
+    let at = was.number in
+    let none : c.of_client.result.now ≡ None = no_outcome c.of_client.result.now c.in_default.not-Some in
+    let there = asker_there items l.outcomes.askers c.args.client c.args.seq at was.untaken.claim c.self.invariant.3
+    was.untaken.ask in
     let yet : slice_get outcomes at ≡ Some None =
-    slice_get-get_or outcomes at c.index.result.now within
-    ∙ (ap (λ (o : Option Outcome). Some o) (sym c.index.ensures) ∙ ap (λ (o : Option Outcome). Some o) none) in
-    let asked_there : IsUntaken items c.args.client c.args.seq at =
-    record { claim = place.0; ask = place.1; once = was.untaken.once } in
+    c.of_client.ensures at there ∙ ap (λ (o : Option Outcome). Some o) none in
+    let asked_there : IsUntaken items c.args.client c.args.seq at = was.untaken in
     record {
       number = at;
       untaken = subst (λ (v : LaneState _). IsUntaken v.items c.args.client c.args.seq at) c.self.view_is asked_there;
@@ -69,17 +63,14 @@ invariant_of-self-2 g c =
     let status : BoardStatus = record { mtu = l.mtu; buffers = l.buffers; next = l.first } in
     let items = l.book.items in
     let outcomes = l.outcomes.items in
-    let at = c.ask_of.result in
     let kept_is = c.in_ok-kept.kept in
     let x = took_of c.args.client c.args.seq kept_is l.give_ups in
     let was = subst (λ (v : LaneState _). WasAsked v.items c.args.client c.args.seq) (sym c.self.view_is)
     c.requires.asked in
-    let place = c.ask_of.ensures in
-    let within : at < length outcomes = (let h = get_within (claims items) at place.0 place.1.there in
-    let e = c.self.invariant.0.agrees.counts.each in omega (arith, h, e)) in
-    let there : slice_get outcomes at ≡ Some c.index.result.now =
-    slice_get-get_or outcomes at c.index.result.now within ∙ ap (λ (o : Option Outcome). Some o) (sym c.index.ensures)
-    in
+    let at = was.number in
+    let there : slice_get outcomes at ≡ Some c.of_client.result.now =
+    c.of_client.ensures at (asker_there items l.outcomes.askers c.args.client c.args.seq at was.untaken.claim
+    c.self.invariant.3 was.untaken.ask) in
     let became : slice_get outcomes at ≡ Some (Some kept_is) = there ∙ ap (λ (o : Option Outcome). Some o)
     (c.in-Some.is ∙ ap (λ (o : Outcome). Some o) (sym c.in_ok-kept.ensures)) in
     let entry : c.take.new.self.items ≡ items ++ x ∷ [] =
@@ -92,13 +83,15 @@ invariant_of-self-2 g c =
           c.args.seq
           kept_is kept (record {
             k = at;
-            claim = place.0;
-            ask = place.1;
+            claim = was.untaken.claim;
+            ask = was.untaken.ask;
             once = was.untaken.once;
             became = became;
           })) c.self.invariant.0),
       c.self.invariant.1,
       c.self.invariant.2,
+      subst (λ (xs : List Item). AreAskersOf xs l.outcomes.askers) (sym entry)
+          (askers_entry items x l.outcomes.askers refl c.self.invariant.3),
     )
 
 pub returns-clause-taken : goal.returns-clause-taken
@@ -107,17 +100,14 @@ returns-clause-taken g c =
     let status : BoardStatus = record { mtu = l.mtu; buffers = l.buffers; next = l.first } in
     let items = l.book.items in
     let outcomes = l.outcomes.items in
-    let at = c.ask_of.result in
     let answer = c.in_ok-answer.answer in
     let x = took_of c.args.client c.args.seq answer l.give_ups in
     let was = subst (λ (v : LaneState _). WasAsked v.items c.args.client c.args.seq) (sym c.self.view_is)
     c.requires.asked in
-    let place = c.ask_of.ensures in
-    let within : at < length outcomes = (let h = get_within (claims items) at place.0 place.1.there in
-    let e = c.self.invariant.0.agrees.counts.each in omega (arith, h, e)) in
-    let there : slice_get outcomes at ≡ Some c.index.result.now =
-    slice_get-get_or outcomes at c.index.result.now within ∙ ap (λ (o : Option Outcome). Some o) (sym c.index.ensures)
-    in
+    let at = was.number in
+    let there : slice_get outcomes at ≡ Some c.of_client.result.now =
+    c.of_client.ensures at (asker_there items l.outcomes.askers c.args.client c.args.seq at was.untaken.claim
+    c.self.invariant.3 was.untaken.ask) in
     let became : slice_get outcomes at ≡ Some (Some answer) = there ∙ ap (λ (o : Option Outcome). Some o)
     (c.in-Some.is ∙ ap (λ (o : Outcome). Some o) (sym c.in_ok-answer.ensures)) in
     let same : c.in_ok-kept.kept ≡ answer = c.in_ok-kept.ensures ∙ sym c.in_ok-answer.ensures in
@@ -137,7 +127,7 @@ returns-clause-taken g c =
       spent = l.spent;
     }) answer) c.self.view_is (record {
       number = at;
-      untaken = record { claim = place.0; ask = place.1; once = was.untaken.once };
+      untaken = record { claim = was.untaken.claim; ask = was.untaken.ask; once = was.untaken.once };
       became = became;
       short = short_at outcomes at answer c.self.invariant.0.short became;
       entry = ap (λ (xs : List Item). record {

@@ -9,4 +9,4 @@ invariant_of-self c =
     let r = c.self.inside in
     let left = subst (λ (v : Row). v.asked < length v.bodies) (sym c.self.view_is) c.requires in
     subst (λ (bodies : List PlannedBody). IsFirstUntaken bodies (r.asked + 1) r.taken) (sym c.set_asked.ensures)
-    (first_asked r.bodies.items r.asked r.taken c.args.number left c.self.invariant)
+    (first_asked r.bodies.items r.asked r.taken left c.self.invariant)
