@@ -137,9 +137,6 @@ push_keeps rows new none = record {
   lengths = λ at. (let same = ap length (push_outcomes rows new at none) in omega (arith, same));
 }
 
-keeps_all : (rows : List OutcomeRow) → KeepsRows rows rows
-keeps_all rows = record { count = omega arith; clients = λ at below. refl; lengths = λ at. omega arith }
-
 keeps_then : (old middle new : List OutcomeRow) → KeepsRows old middle → KeepsRows middle new → KeepsRows old new
 keeps_then old middle new first then = record {
   count = (let a = first.count in let b = then.count in omega (arith, a, b));
@@ -206,9 +203,6 @@ extended_set rows at old new is same = record {
   keeps = set_keeps rows at old new is;
   one_each = one_each_kept rows (set rows at new) (length-set rows at new) (set_keeps rows at old new is);
 }
-
-pub extended_not : (rows : List OutcomeRow) → IsExtended rows rows
-extended_not rows = record { same = λ row number. refl; keeps = keeps_all rows; one_each = λ one. one }
 
 pub extended_then : (old middle new : List OutcomeRow) → IsExtended old middle → IsExtended middle new
     → IsExtended old new
