@@ -24,7 +24,7 @@ use Rattle.lane_record.specs.Coding.{entry_of}
 use Rattle.hub_lane.specs.Plans.{IsFull, one_with, planned_bodies, planned_words, words_with}
 use Rattle.hub_lane.specs.declared.rows.PlannedBody.{PlannedBody}
 use Rattle.hub_lane.specs.Books.{HasAsked, HasMorePlans, HasNext, IsBook, IsPlanAt, IsRow, IsTakenRow, Row}
-use Rattle.hub_lane.specs.Books.{TellsBodies, after_ask, after_took, as_asked, as_taken, changed, next_of, plan_of_body}
+use Rattle.hub_lane.specs.Books.{TellsBodies, after_ask, after_took, as_taken, changed, next_of, plan_of_body}
 use Rattle.hub_lane.specs.Books.{planned_at, replaced, row_of, with_ask, with_plan, with_took}
 use Rattle.hub_lane.proofs.ClientRows.{becomes, grown, row_changed, row_changed_other, row_planned, row_planned_other}
 use Rattle.hub_lane.proofs.OneMore.{one_number, same_number}
@@ -139,28 +139,18 @@ ask_for client seq other g items = one_number ask_in other items (ask_of client 
 
 tells_ask : (items : List Item) (client g : ℕ) (bodies : List PlannedBody) (asks : ℕ) → asks < length bodies
     → TellsBodies items client bodies asks
-    → TellsBodies (items ++ ask_of client (asked client items) g ∷ []) client
-    (replaced asks as_asked bodies) (asks + 1)
+    → TellsBodies (items ++ ask_of client (asked client items) g ∷ []) client bodies (asks + 1)
 tells_ask items client g bodies asks left is =
-    let seq = asked client items in
-    let x = ask_of client seq g in
-    let one = ask_for client seq client g items in
+    let x = ask_of client (asked client items) g in
+    let one = ask_for client (asked client items) client g items in
     let own = eq-eqb client client refl in
     let plus : ◌≡◌ {A = ℕ} (cond (client == client) 1 0) 1 = rw own refl in
     let before = is.asked_are in
-    let same = length-replaced asks as_asked bodies in
     record {
-      planned_are = same ∙ (is.planned_are ∙ sym (same_number plan_in client items x refl));
+      planned_are = is.planned_are ∙ sym (same_number plan_in client items x refl);
       asked_are = omega (arith, one, plus, before);
-      no_more = omega (arith, left, same);
-      plans_are = λ n b there. (
-          let w = was_body asks as_asked bodies n b there in
-          let plan : w.old.plan ≡ b.plan = elim w.is [
-            | inl here ↦ sym (ap (λ (y : PlannedBody). y.plan) here.1)
-            | inr apart ↦ sym (ap (λ (y : PlannedBody). y.plan) apart.1)
-          ] in
-          subst (IsPlanAt (items ++ x ∷ []) client n) plan
-          (plan_stays items x client n w.old.plan (is.plans_are n w.old w.there)));
+      no_more = omega (arith, left);
+      plans_are = λ n b there. plan_stays items x client n b.plan (is.plans_are n b there);
     }
 
 -- a client with a Plan that was not asked has a row with one
@@ -360,7 +350,8 @@ module _ (items : List Item) (entries : List Entry) (rows : List Row) (bodies wo
       record {
         entries_are = entries_push items x new entries is.entries_are entry;
         plans_count = count_push plan_in items x is.plans_count (λ some. absurd cc);
-        rows_are = rows_ask items rows client g (has_next items rows client is.plans_count is.rows_are more) is.rows_are;
+        rows_are = rows_ask items rows client g (has_next items rows client is.plans_count is.rows_are more)
+            is.rows_are;
         taken_are = taken_ask items rows client (asked client items) g is.taken_are;
         bodies_are = (let h = bodies_push items x in let b = is.bodies_are in omega (arith, h, b));
         words_are = (let h = words_push items x in let b = is.words_are in omega (arith, h, b));

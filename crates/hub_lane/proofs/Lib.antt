@@ -23,5 +23,6 @@ mod Steps
 mod Records
 mod OutcomeRows
 mod OutcomeSpots
-mod Askers
+mod AskedBodies
 mod LostWithLink
+pub mod Results

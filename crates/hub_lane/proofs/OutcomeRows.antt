@@ -10,6 +10,10 @@ use Rattle.hub_lane.specs.declared.outcome_table.Spot.{Spot}
 use Rattle.hub_lane.specs.OutcomeTable.{AreOneEach, IsApart, IsClientAt, IsExtended, IsSpotOf, KeepsRows}
 use Rattle.hub_lane.specs.OutcomeTable.{client_at, outcome_in, outcomes_at}
 
+-- the outcome of this number in a list, or none
+abbrev kept_at : ℕ → List (Option Outcome) → Option Outcome
+kept_at seq os = get_or os seq None
+
 -- a row that stands there
 pub client_there : (rows : List OutcomeRow) (at : ℕ) (row : OutcomeRow) → at < length rows → row ≡ get_or rows at row
     → client_at rows at ≡ row.client
@@ -74,35 +78,35 @@ set_keeps rows at old new is = record {
 -- each outcome is as it was, where those of the row are
 set_same : (rows : List OutcomeRow) (at : ℕ) (old new : OutcomeRow) → Becomes rows at old new
     → ((n : ℕ) → get_or new.outcomes.items n None ≡ get_or old.outcomes.items n None)
-    → (row number : ℕ) → outcome_in (set rows at new) row number ≡ outcome_in rows row number
-set_same rows at old new is same row number = elim (eqb_tells row at) [
+    → (row seq : ℕ) → outcome_in (set rows at new) row seq ≡ outcome_in rows row seq
+set_same rows at old new is same row seq = elim (eqb_tells row at) [
   | inl here ↦
-      ap (λ (os : List (Option Outcome)). get_or os number None)
+      ap (kept_at seq)
       (ap (outcomes_at (set rows at new)) here.1 ∙ set_there rows at new is.within)
-      ∙ (same number ∙ ap (λ (os : List (Option Outcome)). get_or os number None)
+      ∙ (same seq ∙ ap (kept_at seq)
       (sym (ap (outcomes_at rows) here.1 ∙ outcomes_there rows at old is.within is.there)))
-  | inr apart ↦ ap (λ (os : List (Option Outcome)). get_or os number None) (set_elsewhere rows at row new apart.1)
+  | inr apart ↦ ap (kept_at seq) (set_elsewhere rows at row new apart.1)
 ]
 
-pub set_here : (rows : List OutcomeRow) (at number : ℕ) (new : OutcomeRow) (outcomes : List (Option Outcome))
-    (o : Option Outcome) → at < length rows → number < length outcomes → new.outcomes.items ≡ set outcomes number o
-    → outcome_in (set rows at new) at number ≡ o
-set_here rows at number new outcomes o within below is =
-    ap (λ (os : List (Option Outcome)). get_or os number None) (set_there rows at new within ∙ is)
-    ∙ get_or-set_same outcomes number o None below
+pub set_here : (rows : List OutcomeRow) (at seq : ℕ) (new : OutcomeRow) (outcomes : List (Option Outcome))
+    (o : Option Outcome) → at < length rows → seq < length outcomes → new.outcomes.items ≡ set outcomes seq o
+    → outcome_in (set rows at new) at seq ≡ o
+set_here rows at seq new outcomes o within below is =
+    ap (kept_at seq) (set_there rows at new within ∙ is)
+    ∙ get_or-set_same outcomes seq o None below
 
 pub set_apart : (rows : List OutcomeRow) (spot : Spot) (old new : OutcomeRow) (o : Option Outcome)
-    → Becomes rows spot.row old new → new.outcomes.items ≡ set old.outcomes.items spot.number o
-    → (row number : ℕ) → IsApart row number spot
-    → outcome_in (set rows spot.row new) row number ≡ outcome_in rows row number
-set_apart rows spot old new o is became row number apart = elim (eqb_tells row spot.row) [
+    → Becomes rows spot.row old new → new.outcomes.items ≡ set old.outcomes.items spot.seq o
+    → (row seq : ℕ) → IsApart row seq spot
+    → outcome_in (set rows spot.row new) row seq ≡ outcome_in rows row seq
+set_apart rows spot old new o is became row seq apart = elim (eqb_tells row spot.row) [
   | inl here ↦
-      ap (λ (os : List (Option Outcome)). get_or os number None)
+      ap (kept_at seq)
       (ap (outcomes_at (set rows spot.row new)) here.1 ∙ (set_there rows spot.row new is.within ∙ became))
-      ∙ (get_or-set_other old.outcomes.items spot.number number o None (apart here.1)
-      ∙ ap (λ (os : List (Option Outcome)). get_or os number None)
+      ∙ (get_or-set_other old.outcomes.items spot.seq seq o None (apart here.1)
+      ∙ ap (kept_at seq)
       (sym (ap (outcomes_at rows) here.1 ∙ outcomes_there rows spot.row old is.within is.there)))
-  | inr other ↦ ap (λ (os : List (Option Outcome)). get_or os number None) (set_elsewhere rows spot.row row new other.1)
+  | inr other ↦ ap (kept_at seq) (set_elsewhere rows spot.row row new other.1)
 ]
 
 -- ---- a row is added
@@ -124,10 +128,10 @@ push_outcomes [] new (suc at) none = refl
 push_outcomes (r ∷ rs) new zero none = refl
 push_outcomes (r ∷ rs) new (suc at) none = push_outcomes rs new at none
 
-push_same : (rows : List OutcomeRow) (new : OutcomeRow) → new.outcomes.items ≡ [] → (row number : ℕ)
-    → outcome_in (rows ++ new ∷ []) row number ≡ outcome_in rows row number
-push_same rows new none row number =
-    ap (λ (os : List (Option Outcome)). get_or os number None) (push_outcomes rows new row none)
+push_same : (rows : List OutcomeRow) (new : OutcomeRow) → new.outcomes.items ≡ [] → (row seq : ℕ)
+    → outcome_in (rows ++ new ∷ []) row seq ≡ outcome_in rows row seq
+push_same rows new none row seq =
+    ap (kept_at seq) (push_outcomes rows new row none)
 
 push_keeps : (rows : List OutcomeRow) (new : OutcomeRow) → new.outcomes.items ≡ []
     → KeepsRows rows (rows ++ new ∷ [])
@@ -207,29 +211,21 @@ extended_set rows at old new is same = record {
 pub extended_then : (old middle new : List OutcomeRow) → IsExtended old middle → IsExtended middle new
     → IsExtended old new
 extended_then old middle new first then = record {
-  same = λ row number. then.same row number ∙ first.same row number;
+  same = λ row seq. then.same row seq ∙ first.same row seq;
   keeps = keeps_then old middle new first.keeps then.keeps;
   one_each = λ one. then.one_each (first.one_each one);
 }
 
--- ---- room
-
-pub push_none : (os : List (Option Outcome)) (n : ℕ) → get_or (os ++ None ∷ []) n None ≡ get_or os n None
-push_none [] zero = refl
-push_none [] (suc n) = refl
-push_none (o ∷ os) zero = refl
-push_none (o ∷ os) (suc n) = push_none os n
-
 -- the row of a client reaches a number
-pub spot_set : (rows : List OutcomeRow) (client at number : ℕ) (old new : OutcomeRow) → IsClientAt rows client at
-    → Becomes rows at old new → number < length new.outcomes.items
-    → IsSpotOf (set rows at new) client number (record { row = at; number = number })
-spot_set rows client at number old new here is room = record {
+pub spot_set : (rows : List OutcomeRow) (client at seq : ℕ) (old new : OutcomeRow) → IsClientAt rows client at
+    → Becomes rows at old new → seq < length new.outcomes.items
+    → IsSpotOf (set rows at new) client seq (record { row = at; seq = seq })
+spot_set rows client at seq old new here is room = record {
   there = record {
     row = (let same = length-set rows at new in let within = is.within in omega (arith, same, within));
-    number = (let same = ap length (set_there rows at new is.within) in omega (arith, same, room));
+    seq = (let same = ap length (set_there rows at new is.within) in omega (arith, same, room));
   };
   client_is = set_client rows at at new is.within (is.client ∙ sym (client_there rows at old is.within is.there))
       ∙ here.client_is;
-  number_is = refl;
+  seq_is = refl;
 }

@@ -2,7 +2,6 @@
 use Rattle.std.proofs.Common.{◌≡◌, ◌≢◌, ℕ, zero, suc, List, [], ◌∷◌, ◌++◌, map}
 use Rattle.std.proofs.Common.{Option, Some, refl, sym, ap, ◌∙◌, arith, inl, inr, subst}
 use Rattle.std.specs.List.{slice_get}
-use Rattle.std.specs.Prelude.{Err, Ok, OnErr, Result}
 use Rattle.std.specs.Option.{option_map}
 use Rattle.std.proofs.lemmas.List.{map-append}
 use Rattle.std.proofs.lemmas.Option.{slice_get-map}
@@ -11,9 +10,9 @@ use Rattle.lane_record.specs.Offers.{put}
 use Rattle.lane_record.proofs.Asks.{get_split}
 use Rattle.hub_lane.specs.declared.outcome_table.OutcomeRow.{OutcomeRow}
 use Rattle.hub_lane.specs.declared.outcome_table.Spot.{Spot}
-use Rattle.hub_lane.specs.OutcomeTable.{AreOneEach, AreSpots, Asker, HasCome, IsClientAt, IsExtended, IsSpot, IsSpotOf}
-use Rattle.hub_lane.specs.OutcomeTable.{KeepsRows, TableState, WasAskedBy, asker, asker_of_spot, askers_of, client_at}
-use Rattle.hub_lane.specs.OutcomeTable.{items_of, outcome_of_spot}
+use Rattle.hub_lane.specs.OutcomeTable.{AreOneEach, AreSpots, AskedBody, IsAsked, IsClientAt, IsExtended, IsSetAt}
+use Rattle.hub_lane.specs.OutcomeTable.{IsSpot, IsSpotOf, KeepsRows, TableState, asked_body, bodies_of, body_of_spot}
+use Rattle.hub_lane.specs.OutcomeTable.{client_at, items_of, outcome_of_spot}
 use Rattle.hub_lane.proofs.OutcomeRows.{one_each_kept}
 
 -- ---- what is made of each spot
@@ -41,13 +40,13 @@ put_map f g (s ∷ ss) (suc at) o others here =
     (λ spot there. here spot there))
 
 -- the spot of an Ask
-pub record HasSpot (rows : List OutcomeRow) (spots : List Spot) (ask : ℕ) (a : Asker) : Type 0 where
+record HasSpot (rows : List OutcomeRow) (spots : List Spot) (ask : ℕ) (a : AskedBody) : Type 0 where
   pub spot : Spot
   pub there : slice_get spots ask ≡ Some spot
-  pub asked : asker_of_spot rows spot ≡ a
+  pub asked : body_of_spot rows spot ≡ a
 
-pub has_spot : (rows : List OutcomeRow) (spots : List Spot) (ask : ℕ) (a : Asker)
-    → slice_get (askers_of rows spots) ask ≡ Some a → HasSpot rows spots ask a
+has_spot : (rows : List OutcomeRow) (spots : List Spot) (ask : ℕ) (a : AskedBody)
+    → slice_get (bodies_of rows spots) ask ≡ Some a → HasSpot rows spots ask a
 has_spot rows [] ask a e = absurd cc
 has_spot rows (s ∷ ss) zero a e = record { spot = s; there = refl; asked = cc }
 has_spot rows (s ∷ ss) (suc ask) a e =
@@ -59,24 +58,24 @@ pub item_at : (rows : List OutcomeRow) (spots : List Spot) (ask : ℕ) (spot : S
 item_at rows spots ask spot there =
     slice_get-map (outcome_of_spot rows) spots ask ∙ ap (option_map (outcome_of_spot rows)) there
 
-pub asker_at : (rows : List OutcomeRow) (spots : List Spot) (ask : ℕ) (spot : Spot) → slice_get spots ask ≡ Some spot
-    → slice_get (askers_of rows spots) ask ≡ Some (asker_of_spot rows spot)
-asker_at rows spots ask spot there =
-    slice_get-map (asker_of_spot rows) spots ask ∙ ap (option_map (asker_of_spot rows)) there
+body_at : (rows : List OutcomeRow) (spots : List Spot) (ask : ℕ) (spot : Spot) → slice_get spots ask ≡ Some spot
+    → slice_get (bodies_of rows spots) ask ≡ Some (body_of_spot rows spot)
+body_at rows spots ask spot there =
+    slice_get-map (body_of_spot rows) spots ask ∙ ap (option_map (body_of_spot rows)) there
 
 -- ---- rows change
 
 spot_kept : (old new : List OutcomeRow) (spot : Spot) → KeepsRows old new → IsSpot old spot → IsSpot new spot
 spot_kept old new spot keeps is = record {
   row = (let more = keeps.count in let row = is.row in omega (arith, more, row));
-  number = (let longer = keeps.lengths spot.row in let number = is.number in omega (arith, longer, number));
+  seq = (let longer = keeps.lengths spot.row in let seq = is.seq in omega (arith, longer, seq));
 }
 
-same_askers : (old new : List OutcomeRow) (spots : List Spot) → AreSpots old spots → KeepsRows old new
-    → askers_of new spots ≡ askers_of old spots
-same_askers old new spots are keeps =
-    same_map (asker_of_spot old) (asker_of_spot new) spots (λ ask spot there.
-    ap (λ (client : ℕ). asker client spot.number) (keeps.clients spot.row (are.there ask spot there).row))
+same_bodies : (old new : List OutcomeRow) (spots : List Spot) → AreSpots old spots → KeepsRows old new
+    → bodies_of new spots ≡ bodies_of old spots
+same_bodies old new spots are keeps =
+    same_map (body_of_spot old) (body_of_spot new) spots (λ ask spot there.
+    ap (λ (client : ℕ). asked_body client spot.seq) (keeps.clients spot.row (are.there ask spot there).row))
 
 spots_kept : (old new : List OutcomeRow) (spots : List Spot) → AreSpots old spots → KeepsRows old new
     → AreOneEach new → AreSpots new spots
@@ -93,103 +92,116 @@ pub spots_extended : (old new : List OutcomeRow) (spots : List Spot) → AreSpot
 spots_extended old new spots are is = spots_kept old new spots are is.keeps (is.one_each are.one_each)
 
 pub view_extended : (old new : List OutcomeRow) (spots : List Spot) → AreSpots old spots → IsExtended old new
-    → ◌≡◌ {A = TableState} (record { items = items_of new spots; askers = askers_of new spots })
-    (record { items = items_of old spots; askers = askers_of old spots })
+    → ◌≡◌ {A = TableState} (record { items = items_of new spots; bodies = bodies_of new spots })
+    (record { items = items_of old spots; bodies = bodies_of old spots })
 view_extended old new spots are is =
-    ap (λ (os : List (Option Outcome)). record { items = os; askers = askers_of new spots })
-    (same_map (outcome_of_spot old) (outcome_of_spot new) spots (λ ask spot there. is.same spot.row spot.number))
-    ∙ ap (λ (told : List Asker). record { items = items_of old spots; askers = told })
-    (same_askers old new spots are is.keeps)
+    ap (λ (os : List (Option Outcome)). record { items = os; bodies = bodies_of new spots })
+    (same_map (outcome_of_spot old) (outcome_of_spot new) spots (λ ask spot there. is.same spot.row spot.seq))
+    ∙ ap (λ (told : List AskedBody). record { items = items_of old spots; bodies = told })
+    (same_bodies old new spots are is.keeps)
+
+-- there is more room for spots as well
+pub spots_reserved : (old new : List OutcomeRow) (spots more : List Spot) → more ≡ spots → AreSpots old spots
+    → IsExtended old new → AreSpots new more
+spots_reserved old new spots more same are is = subst (AreSpots new) (sym same) (spots_extended old new spots are is)
+
+pub view_reserved : (old new : List OutcomeRow) (spots more : List Spot) → more ≡ spots → AreSpots old spots
+    → IsExtended old new
+    → ◌≡◌ {A = TableState} (record { items = items_of new more; bodies = bodies_of new more })
+    (record { items = items_of old spots; bodies = bodies_of old spots })
+view_reserved old new spots more same are is =
+    ap (λ (ss : List Spot). record { items = items_of new ss; bodies = bodies_of new ss }) same
+    ∙ view_extended old new spots are is
 
 -- ---- an outcome comes
 
-same_spot : (spot other : Spot) → spot.row ≡ other.row → spot.number ≡ other.number → spot ≡ other
-same_spot spot other row number =
-    ap (λ (n : ℕ). record { row = n; number = spot.number }) row
-    ∙ ap (λ (n : ℕ). record { row = other.row; number = n }) number
+same_spot : (spot other : Spot) → spot.row ≡ other.row → spot.seq ≡ other.seq → spot ≡ other
+same_spot spot other row seq =
+    ap (λ (n : ℕ). record { row = n; seq = spot.seq }) row
+    ∙ ap (λ (n : ℕ). record { row = other.row; seq = n }) seq
 
 pub spots_put : (old new : List OutcomeRow) (spots : List Spot) (spot : Spot) (outcome : Option Outcome)
-    → AreSpots old spots → HasCome old new spot outcome → AreSpots new spots
+    → AreSpots old spots → IsSetAt old new spot outcome → AreSpots new spots
 spots_put old new spots spot outcome are came =
     spots_kept old new spots are came.keeps (one_each_kept old new came.count came.keeps are.one_each)
 
-pub askers_put : (old new : List OutcomeRow) (spots : List Spot) (spot : Spot) (outcome : Option Outcome)
-    → AreSpots old spots → HasCome old new spot outcome → askers_of new spots ≡ askers_of old spots
-askers_put old new spots spot outcome are came = same_askers old new spots are came.keeps
+pub bodies_put : (old new : List OutcomeRow) (spots : List Spot) (spot : Spot) (outcome : Option Outcome)
+    → AreSpots old spots → IsSetAt old new spot outcome → bodies_of new spots ≡ bodies_of old spots
+bodies_put old new spots spot outcome are came = same_bodies old new spots are came.keeps
 
 pub items_put : (old new : List OutcomeRow) (spots : List Spot) (at : ℕ) (spot : Spot) (outcome : Outcome)
-    → AreSpots old spots → slice_get spots at ≡ Some spot → HasCome old new spot (Some outcome)
+    → AreSpots old spots → slice_get spots at ≡ Some spot → IsSetAt old new spot (Some outcome)
     → items_of new spots ≡ put at outcome (items_of old spots)
 items_put old new spots at spot outcome are here came =
     put_map (outcome_of_spot old) (outcome_of_spot new) spots at outcome
-    (λ ask other there apart. came.others other.row other.number (λ row number.
-    apart (are.once ask at spot (there ∙ ap (λ (s : Spot). Some s) (same_spot other spot row number)) here)))
+    (λ ask other there apart. came.others other.row other.seq (λ row seq.
+    apart (are.once ask at spot (there ∙ ap (λ (s : Spot). Some s) (same_spot other spot row seq)) here)))
     (λ other there. let same : other ≡ spot = cc in ap (outcome_of_spot new) same ∙ came.here)
 
 -- ---- the body of a client
 
 -- whoever asked has a row
-pub client_of_asker : (rows : List OutcomeRow) (spots : List Spot) (client number ask : ℕ) → AreSpots rows spots
-    → slice_get (askers_of rows spots) ask ≡ Some (asker client number) → (row : ℕ) × IsClientAt rows client row
-client_of_asker rows spots client number ask are asked =
-    let has = has_spot rows spots ask (asker client number) asked in
+pub client_of_body : (rows : List OutcomeRow) (spots : List Spot) (client seq ask : ℕ) → AreSpots rows spots
+    → slice_get (bodies_of rows spots) ask ≡ Some (asked_body client seq) → (row : ℕ) × IsClientAt rows client row
+client_of_body rows spots client seq ask are asked =
+    let has = has_spot rows spots ask (asked_body client seq) asked in
     let within = are.there ask has.spot has.there in
-    (has.spot.row, record { within = within.row; client_is = ap (λ (a : Asker). a.client) has.asked })
+    (has.spot.row, record { within = within.row; client_is = ap (λ (a : AskedBody). a.client) has.asked })
 
 -- its body stands in that row alone
-pub spot_of_client : (rows : List OutcomeRow) (spots : List Spot) (client number row ask : ℕ) → AreSpots rows spots
-    → IsClientAt rows client row → slice_get (askers_of rows spots) ask ≡ Some (asker client number)
-    → slice_get spots ask ≡ Some (record { row = row; number = number })
-spot_of_client rows spots client number row ask are here asked =
-    let has = has_spot rows spots ask (asker client number) asked in
+pub spot_of_client : (rows : List OutcomeRow) (spots : List Spot) (client seq row ask : ℕ) → AreSpots rows spots
+    → IsClientAt rows client row → slice_get (bodies_of rows spots) ask ≡ Some (asked_body client seq)
+    → slice_get spots ask ≡ Some (record { row = row; seq = seq })
+spot_of_client rows spots client seq row ask are here asked =
+    let has = has_spot rows spots ask (asked_body client seq) asked in
     let within = are.there ask has.spot has.there in
-    let mine : client_at rows has.spot.row ≡ client = ap (λ (a : Asker). a.client) has.asked in
+    let mine : client_at rows has.spot.row ≡ client = ap (λ (a : AskedBody). a.client) has.asked in
     let same_row = are.one_each has.spot.row row client (record { within = within.row; client_is = mine }) here in
     has.there ∙ ap (λ (s : Spot). Some s)
-    (same_spot has.spot (record { row = row; number = number }) same_row (ap (λ (a : Asker). a.number) has.asked))
+    (same_spot has.spot (record { row = row; seq = seq }) same_row (ap (λ (a : AskedBody). a.seq) has.asked))
 
 -- ---- a body is asked
 
 -- a spot of a body that was not asked is the spot of no Ask
-new_spot : (rows : List OutcomeRow) (spots : List Spot) (client number : ℕ) (spot : Spot)
-    → (WasAskedBy (askers_of rows spots) client number → ⊥) → asker_of_spot rows spot ≡ asker client number
+new_spot : (rows : List OutcomeRow) (spots : List Spot) (client seq : ℕ) (spot : Spot)
+    → (IsAsked (bodies_of rows spots) client seq → ⊥) → body_of_spot rows spot ≡ asked_body client seq
     → (ask : ℕ) (other : Spot) → slice_get spots ask ≡ Some other → spot ≢ other
-new_spot rows spots client number spot new mine ask other there same = new (record {
+new_spot rows spots client seq spot new mine ask other there same = new (record {
   ask = ask;
-  there = asker_at rows spots ask other there
-      ∙ ap (λ (a : Asker). Some a) (ap (asker_of_spot rows) (sym same) ∙ mine);
+  there = body_at rows spots ask other there
+      ∙ ap (λ (a : AskedBody). Some a) (ap (body_of_spot rows) (sym same) ∙ mine);
 })
 
 -- the rows with one more spot, of a body of a client that was not asked
-pub record IsAdded (rows now : List OutcomeRow) (spots : List Spot) (client number : ℕ) (spot : Spot)
+record IsAdded (rows now : List OutcomeRow) (spots : List Spot) (client seq : ℕ) (spot : Spot)
     (outcome : Option Outcome) : Type 0 where
-  pub new : WasAskedBy (askers_of rows spots) client number → ⊥
-  pub there : IsSpotOf rows client number spot
-  pub came : HasCome rows now spot outcome
+  pub new : IsAsked (bodies_of rows spots) client seq → ⊥
+  pub there : IsSpotOf rows client seq spot
+  pub came : IsSetAt rows now spot outcome
 
-pub added : (old rows now : List OutcomeRow) (spots : List Spot) (client number : ℕ) (spot : Spot)
+added : (old rows now : List OutcomeRow) (spots : List Spot) (client seq : ℕ) (spot : Spot)
     (outcome : Option Outcome) → AreSpots old spots → IsExtended old rows
-    → (WasAskedBy (askers_of old spots) client number → ⊥) → IsSpotOf rows client number spot
-    → HasCome rows now spot outcome → IsAdded rows now spots client number spot outcome
-added old rows now spots client number spot outcome are is new there came = record {
-  new = subst (λ (told : List Asker). WasAskedBy told client number → ⊥)
-      (sym (same_askers old rows spots are is.keeps)) new;
+    → (IsAsked (bodies_of old spots) client seq → ⊥) → IsSpotOf rows client seq spot
+    → IsSetAt rows now spot outcome → IsAdded rows now spots client seq spot outcome
+added old rows now spots client seq spot outcome are is new there came = record {
+  new = subst (λ (told : List AskedBody). IsAsked told client seq → ⊥)
+      (sym (same_bodies old rows spots are is.keeps)) new;
   there = there;
   came = came;
 }
 
-added_is_new : (rows now : List OutcomeRow) (spots : List Spot) (client number : ℕ) (spot : Spot)
-    (outcome : Option Outcome) → IsAdded rows now spots client number spot outcome
+added_is_new : (rows now : List OutcomeRow) (spots : List Spot) (client seq : ℕ) (spot : Spot)
+    (outcome : Option Outcome) → IsAdded rows now spots client seq spot outcome
     → (ask : ℕ) (other : Spot) → slice_get spots ask ≡ Some other → spot ≢ other
-added_is_new rows now spots client number spot outcome is =
-    new_spot rows spots client number spot is.new
-    (ap (λ (c : ℕ). asker c spot.number) is.there.client_is ∙ ap (asker client) is.there.number_is)
+added_is_new rows now spots client seq spot outcome is =
+    new_spot rows spots client seq spot is.new
+    (ap (λ (c : ℕ). asked_body c spot.seq) is.there.client_is ∙ ap (asked_body client) is.there.seq_is)
 
-pub spots_added : (rows now : List OutcomeRow) (spots : List Spot) (client number : ℕ) (spot : Spot)
-    (outcome : Option Outcome) → AreSpots rows spots → IsAdded rows now spots client number spot outcome
+spots_added : (rows now : List OutcomeRow) (spots : List Spot) (client seq : ℕ) (spot : Spot)
+    (outcome : Option Outcome) → AreSpots rows spots → IsAdded rows now spots client seq spot outcome
     → AreSpots now (spots ++ spot ∷ [])
-spots_added rows now spots client number spot outcome are is =
-    let new = added_is_new rows now spots client number spot outcome is in
+spots_added rows now spots client seq spot outcome are is =
+    let new = added_is_new rows now spots client seq spot outcome is in
     record {
       there = λ ask other there. elim (get_split spots spot ask other there) [
         | inl before ↦ spot_kept rows now other is.came.keeps (are.there ask other before)
@@ -208,27 +220,46 @@ spots_added rows now spots client number spot outcome are is =
       one_each = one_each_kept rows now is.came.count is.came.keeps are.one_each;
     }
 
-pub items_added : (rows now : List OutcomeRow) (spots : List Spot) (client number : ℕ) (spot : Spot)
-    (outcome : Option Outcome) → IsAdded rows now spots client number spot outcome
+items_added : (rows now : List OutcomeRow) (spots : List Spot) (client seq : ℕ) (spot : Spot)
+    (outcome : Option Outcome) → IsAdded rows now spots client seq spot outcome
     → items_of now (spots ++ spot ∷ []) ≡ items_of rows spots ++ outcome ∷ []
-items_added rows now spots client number spot outcome is =
-    let new = added_is_new rows now spots client number spot outcome is in
+items_added rows now spots client seq spot outcome is =
+    let new = added_is_new rows now spots client seq spot outcome is in
     map-append (outcome_of_spot now) spots (spot ∷ [])
     ∙ (ap (λ (os : List (Option Outcome)). os ++ outcome_of_spot now spot ∷ [])
     (same_map (outcome_of_spot rows) (outcome_of_spot now) spots (λ ask other there.
-    is.came.others other.row other.number (λ row at. new ask other there (sym (same_spot other spot row at)))))
+    is.came.others other.row other.seq (λ row at. new ask other there (sym (same_spot other spot row at)))))
     ∙ ap (λ (o : Option Outcome). items_of rows spots ++ o ∷ []) is.came.here)
 
-pub askers_added : (rows now : List OutcomeRow) (spots : List Spot) (client number : ℕ) (spot : Spot)
-    (outcome : Option Outcome) → AreSpots rows spots → IsAdded rows now spots client number spot outcome
-    → askers_of now (spots ++ spot ∷ []) ≡ askers_of rows spots ++ asker client number ∷ []
-askers_added rows now spots client number spot outcome are is =
-    map-append (asker_of_spot now) spots (spot ∷ [])
-    ∙ (ap (λ (told : List Asker). told ++ asker_of_spot now spot ∷ []) (same_askers rows now spots are is.came.keeps)
-    ∙ ap (λ (a : Asker). askers_of rows spots ++ a ∷ [])
-    (ap (λ (c : ℕ). asker c spot.number) (is.came.keeps.clients spot.row is.there.there.row ∙ is.there.client_is)
-    ∙ ap (asker client) is.there.number_is))
+bodies_added : (rows now : List OutcomeRow) (spots : List Spot) (client seq : ℕ) (spot : Spot)
+    (outcome : Option Outcome) → AreSpots rows spots → IsAdded rows now spots client seq spot outcome
+    → bodies_of now (spots ++ spot ∷ []) ≡ bodies_of rows spots ++ asked_body client seq ∷ []
+bodies_added rows now spots client seq spot outcome are is =
+    map-append (body_of_spot now) spots (spot ∷ [])
+    ∙ (ap (λ (told : List AskedBody). told ++ body_of_spot now spot ∷ []) (same_bodies rows now spots are is.came.keeps)
+    ∙ ap (λ (a : AskedBody). bodies_of rows spots ++ a ∷ [])
+    (ap (λ (c : ℕ). asked_body c spot.seq) (is.came.keeps.clients spot.row is.there.there.row ∙ is.there.client_is)
+    ∙ ap (asked_body client) is.there.seq_is))
 
-pub on_err_holds : {T E P : Type 0} (r : Result T E) → P → OnErr r P
-on_err_holds (Ok x) p = tt
-on_err_holds (Err e) p = p
+-- the table with one more Ask
+pub record IsLonger (old now : List OutcomeRow) (spots : List Spot) (client seq : ℕ) (spot : Spot)
+    (outcome : Option Outcome) : Type 0 where
+  pub are : AreSpots now (spots ++ spot ∷ [])
+  pub items : items_of now (spots ++ spot ∷ []) ≡ items_of old spots ++ outcome ∷ []
+  pub bodies : bodies_of now (spots ++ spot ∷ []) ≡ bodies_of old spots ++ asked_body client seq ∷ []
+
+pub longer : (old rows now : List OutcomeRow) (spots : List Spot) (client seq : ℕ) (spot : Spot)
+    (outcome : Option Outcome) → AreSpots old spots → IsExtended old rows
+    → (IsAsked (bodies_of old spots) client seq → ⊥) → IsSpotOf rows client seq spot
+    → IsSetAt rows now spot outcome → IsLonger old now spots client seq spot outcome
+longer old rows now spots client seq spot outcome are more new there set =
+    let is = added old rows now spots client seq spot outcome are more new there set in
+    let extended = spots_extended old rows spots are more in
+    let view = view_extended old rows spots are more in
+    record {
+      are = spots_added rows now spots client seq spot outcome extended is;
+      items = items_added rows now spots client seq spot outcome is
+          ∙ ap (λ (v : TableState). v.items ++ outcome ∷ []) view;
+      bodies = bodies_added rows now spots client seq spot outcome extended is
+          ∙ ap (λ (v : TableState). v.bodies ++ asked_body client seq ∷ []) view;
+    }

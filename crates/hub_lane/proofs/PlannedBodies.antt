@@ -5,7 +5,7 @@ use Rattle.std.proofs.Common.{length-append}
 use Rattle.std.specs.List.{slice_get}
 use Rattle.std.proofs.lemmas.Bool.{cases_lt}
 use Rattle.hub_lane.specs.declared.rows.PlannedBody.{PlannedBody}
-use Rattle.hub_lane.specs.Books.{IsFirstUntaken, as_asked, as_taken, is_marked, planned_at, replaced}
+use Rattle.hub_lane.specs.Books.{IsFirstUntaken, as_taken, is_marked, planned_at, replaced}
 
 pub length-replaced : (k : ℕ) (change : PlannedBody → PlannedBody) (bodies : List PlannedBody)
     → length (replaced k change bodies) ≡ length bodies
@@ -44,13 +44,6 @@ was_body (suc k) change (b ∷ bs) (suc n) body e =
       ];
     }
 
--- a number below another, or the same
-pub below_apart : (n k : ℕ) → (n ≡ k → ⊥) → n < k + 1 → n < k
-below_apart n k apart less = elim (cases_lt n k) [
-  | inl lower ↦ lower
-  | inr most ↦ absurd (apart (omega (arith, less, most)))
-]
-
 -- ---- marks
 
 pub marked_at : (bodies : List PlannedBody) (n : ℕ)
@@ -75,13 +68,6 @@ marked_other zero change (b ∷ bs) (suc n) apart = refl
 marked_other (suc k) change (b ∷ bs) zero apart = refl
 marked_other (suc k) change (b ∷ bs) (suc n) apart = marked_other k change bs n (λ e. apart (ap suc e))
 
--- an Ask takes nothing
-pub marked_asked : (k : ℕ) (bodies : List PlannedBody)
-    → is_marked (replaced k as_asked bodies) k ≡ false
-marked_asked k [] = refl
-marked_asked zero (b ∷ bs) = refl
-marked_asked (suc k) (b ∷ bs) = marked_asked k bs
-
 pub marked_taken : (k : ℕ) (bodies : List PlannedBody) → k < length bodies
     → is_marked (replaced k as_taken bodies) k ≡ true
 marked_taken k [] within = absurd (omega arith)
@@ -97,14 +83,6 @@ still_marked zero (b ∷ bs) (suc n) is = is
 still_marked (suc k) (b ∷ bs) zero is = is
 still_marked (suc k) (b ∷ bs) (suc n) is = still_marked k bs n is
 
--- ---- a body that is there
-
-pub body_there : (bodies : List PlannedBody) (n : ℕ) → n < length bodies
-    → (body : PlannedBody) × (slice_get bodies n ≡ Some body)
-body_there [] n within = absurd (omega arith)
-body_there (b ∷ bs) zero within = (b, refl)
-body_there (b ∷ bs) (suc n) within = body_there bs n (omega arith)
-
 -- ---- the first one that was not taken
 
 pub first_planned : (bodies : List PlannedBody) (asked taken place : ℕ) → IsFirstUntaken bodies asked taken
@@ -114,32 +92,28 @@ first_planned bodies asked taken place is = record {
   within = is.within;
   below = λ n less. marked_push bodies place n ∙ is.below n less;
   stops = λ less. marked_push bodies place taken ∙ is.stops less;
+  later = λ n most. marked_push bodies place n ∙ is.later n most;
 }
 
 pub first_asked : (bodies : List PlannedBody) (asked taken : ℕ) → asked < length bodies
-    → IsFirstUntaken bodies asked taken
-    → IsFirstUntaken (replaced asked as_asked bodies) (asked + 1) taken
-first_asked bodies asked taken left is =
-    let w = is.within in
-    record {
-      few = (let same = length-replaced asked as_asked bodies in omega (arith, left, same));
-      within = omega (arith, w);
-      below = λ n less. marked_other asked as_asked bodies n (λ e. omega (arith, e, less, w))
-          ∙ is.below n less;
-      stops = λ less. elim (cases_lt taken asked) [
-        | inl lower ↦ marked_other asked as_asked bodies taken (λ e. omega (arith, e, lower)) ∙ is.stops lower
-        | inr most ↦ (
-            let same : taken ≡ asked = omega (arith, most, w) in
-            ap (is_marked (replaced asked as_asked bodies)) same ∙ marked_asked asked bodies)
-      ];
-    }
+    → IsFirstUntaken bodies asked taken → IsFirstUntaken bodies (asked + 1) taken
+first_asked bodies asked taken left is = record {
+  few = omega (arith, left);
+  within = (let w = is.within in omega (arith, w));
+  below = is.below;
+  stops = λ less. elim (cases_lt taken asked) [
+    | inl lower ↦ is.stops lower
+    | inr most ↦ is.later taken most
+  ];
+  later = λ n most. is.later n (omega (arith, most));
+}
 
-pub first_taken : (bodies : List PlannedBody) (asked taken seq after : ℕ) → IsFirstUntaken bodies asked taken
-    → taken ≤ after → after ≤ asked
+pub first_taken : (bodies : List PlannedBody) (asked taken seq after : ℕ) → seq < asked
+    → IsFirstUntaken bodies asked taken → taken ≤ after → after ≤ asked
     → ((n : ℕ) → taken ≤ n → n < after → is_marked (replaced seq as_taken bodies) n ≡ true)
     → (after < asked → is_marked (replaced seq as_taken bodies) after ≡ false)
     → IsFirstUntaken (replaced seq as_taken bodies) asked after
-first_taken bodies asked taken seq after is from within marked stops = record {
+first_taken bodies asked taken seq after was is from within marked stops = record {
   few = (let h = is.few in let same = length-replaced seq as_taken bodies in omega (arith, h, same));
   within = within;
   below = λ n less. elim (cases_lt n taken) [
@@ -147,4 +121,5 @@ first_taken bodies asked taken seq after is from within marked stops = record {
     | inr most ↦ marked n most less
   ];
   stops = stops;
+  later = λ n most. marked_other seq as_taken bodies n (λ e. omega (arith, e, most, was)) ∙ is.later n most;
 }

@@ -15,11 +15,11 @@ use Rattle.lane_record.specs.Items.{asked, found, is_of, took_in}
 use Rattle.lane_record.specs.NextEntry.{ask_of, plan_of, the_seal, took_of}
 use Rattle.lane_record.proofs.Lookups.{found_append, found_other}
 use Rattle.hub_lane.specs.declared.rows.PlannedBody.{PlannedBody}
-use Rattle.hub_lane.specs.Books.{HasAsked, IsTakenRow, Row, TellsTaken, after_ask, after_took, as_asked, as_taken}
+use Rattle.hub_lane.specs.Books.{HasAsked, IsTakenRow, Row, TellsTaken, after_ask, after_took, as_taken}
 use Rattle.hub_lane.specs.Books.{is_marked, planned_at, replaced, row_of, with_ask, with_plan, with_took}
 use Rattle.hub_lane.specs.Step.{HasTakenAll, IsOldest, IsTakenIn}
 use Rattle.hub_lane.proofs.ClientRows.{becomes, grown, row_changed, row_changed_other, row_planned, row_planned_other}
-use Rattle.hub_lane.proofs.PlannedBodies.{below_apart, marked_asked, marked_other, marked_push, marked_taken}
+use Rattle.hub_lane.proofs.PlannedBodies.{marked_other, marked_push, marked_taken}
 
 -- ---- an entry that takes nothing from the client
 
@@ -27,7 +27,7 @@ tells_same : (items more : List Item) (client : ℕ) (bodies : List PlannedBody)
     → ((n : ℕ) → found took_in client n more ≡ found took_in client n items)
     → TellsTaken items client bodies asks → TellsTaken more client bodies asks
 tells_same items more client bodies asks same is = record {
-  marks = λ n less. ap is_some (same n) ∙ is.marks n less;
+  marks = λ n. ap is_some (same n) ∙ is.marks n;
   later = λ n most. same n ∙ is.later n most;
 }
 
@@ -45,7 +45,7 @@ taken_seal items rows are other = row_same items (items ++ the_seal ∷ []) othe
 tells_grown : (items : List Item) (client place : ℕ) (bodies : List PlannedBody) (asks : ℕ)
     → TellsTaken items client bodies asks → TellsTaken items client (bodies ++ planned_at place ∷ []) asks
 tells_grown items client place bodies asks is = record {
-  marks = λ n less. is.marks n less ∙ sym (marked_push bodies place n);
+  marks = λ n. is.marks n ∙ sym (marked_push bodies place n);
   later = is.later;
 }
 
@@ -70,14 +70,9 @@ taken_plan items rows client seq place body are other =
     ])
 
 tells_asked : (items : List Item) (client : ℕ) (bodies : List PlannedBody) (asks : ℕ)
-    → TellsTaken items client bodies asks
-    → TellsTaken items client (replaced asks as_asked bodies) (asks + 1)
+    → TellsTaken items client bodies asks → TellsTaken items client bodies (asks + 1)
 tells_asked items client bodies asks is = record {
-  marks = λ n less. dite (ℕ_discrete n asks)
-      (λ (e : n ≡ asks). ap is_some (is.later n (omega (arith, e)))
-      ∙ sym (ap (is_marked (replaced asks as_asked bodies)) e ∙ marked_asked asks bodies))
-      (λ (ne : n ≢ asks). is.marks n (below_apart n asks ne less)
-      ∙ sym (marked_other asks as_asked bodies n ne));
+  marks = is.marks;
   later = λ n most. is.later n (omega (arith, most));
 }
 
@@ -115,8 +110,8 @@ pub is_oldest : (items : List Item) (client most : ℕ) (bodies : List PlannedBo
 is_oldest items client most bodies None asks tells below untaken before = tt
 is_oldest items client most bodies (Some seq) asks tells below untaken before = record {
   is_asked = subst (λ (n : ℕ). seq < n) asks below;
-  untaken = none_is (found took_in client seq items) (tells.marks seq below ∙ untaken);
-  before = λ n less. tells.marks n (omega (arith, less, below)) ∙ before n less;
+  untaken = none_is (found took_in client seq items) (tells.marks seq ∙ untaken);
+  before = λ n less. tells.marks n ∙ before n less;
 }
 
 pub all_taken : (items : List Item) (client most : ℕ) (bodies : List PlannedBody) (oldest : Option ℕ)
@@ -124,7 +119,7 @@ pub all_taken : (items : List Item) (client most : ℕ) (bodies : List PlannedBo
     → IfNone oldest ((n : ℕ) → n < most → is_marked bodies n ≡ true)
     → IfNone oldest (HasTakenAll items client)
 all_taken items client most bodies None asks tells all =
-    subst (λ (m : ℕ). (n : ℕ) → n < m → IsTakenIn items client n) asks (λ n less. tells.marks n less ∙ all n less)
+    subst (λ (m : ℕ). (n : ℕ) → n < m → IsTakenIn items client n) asks (λ n less. tells.marks n ∙ all n less)
 all_taken items client most bodies (Some seq) asks tells all = tt
 
 -- ---- one more Took
@@ -170,12 +165,12 @@ tells_took : (items : List Item) (client seq g : ℕ) (outcome : Outcome) (bodie
 tells_took items client seq g outcome bodies asks below within is =
     let x = took_of client seq outcome g in
     record {
-      marks = λ n less. dite (ℕ_discrete n seq)
+      marks = λ n. dite (ℕ_discrete n seq)
           (λ (e : n ≡ seq). subst (λ (m : ℕ). IsTakenIn (items ++ x ∷ []) client m) (sym e)
           (now_taken client seq g outcome items)
           ∙ sym (ap (is_marked (replaced seq as_taken bodies)) e ∙ marked_taken seq bodies within))
           (λ (ne : n ≢ seq). ap is_some (found_apart client n items x (number_apart client seq n outcome g ne))
-          ∙ (is.marks n less ∙ sym (marked_other seq as_taken bodies n ne)));
+          ∙ (is.marks n ∙ sym (marked_other seq as_taken bodies n ne)));
       later = λ n most. found_apart client n items x
           (number_apart client seq n outcome g (λ (e : n ≡ seq). omega (arith, e, most, below))) ∙ is.later n most;
     }

@@ -21,12 +21,9 @@ pub record BookState : Type 0 where
 
 -- ---- the bodies of a client
 
--- a body whose Plan stands there among the entries; the same once it was asked, and once it was taken
+-- a body whose Plan stands there among the entries; the same once what became of it was taken
 abbrev pub planned_at : ℕ → PlannedBody
 planned_at place = record { plan = place; is_taken = false }
-
-abbrev pub as_asked : PlannedBody → PlannedBody
-as_asked body = record { plan = body.plan; is_taken = false }
 
 abbrev pub as_taken : PlannedBody → PlannedBody
 as_taken body = record { plan = body.plan; is_taken = true }
@@ -43,12 +40,13 @@ is_marked [] n = false
 is_marked (b ∷ bs) zero = b.is_taken
 is_marked (b ∷ bs) (suc n) = is_marked bs n
 
--- so many were asked; of these all below this number were taken, and the next one was not
+-- so many were asked; of these all below this number were taken, and the next one was not; no other was
 pub record IsFirstUntaken (bodies : List PlannedBody) (asked taken : ℕ) : Type 0 where
   pub few : asked ≤ length bodies
   pub within : taken ≤ asked
   pub below : (n : ℕ) → n < taken → is_marked bodies n ≡ true
   pub stops : taken < asked → is_marked bodies taken ≡ false
+  pub later : (n : ℕ) → asked ≤ n → is_marked bodies n ≡ false
 
 -- the bodies of a client, by number, and how many were asked
 pub record Row : Type 0 where
@@ -64,11 +62,7 @@ abbrev pub after_plan : ℕ → Row → Row
 after_plan place r = record { client = r.client; bodies = r.bodies ++ planned_at place ∷ []; asked = r.asked }
 
 abbrev pub after_ask : Row → Row
-after_ask r = record {
-  client = r.client;
-  bodies = replaced r.asked as_asked r.bodies;
-  asked = r.asked + 1;
-}
+after_ask r = record { client = r.client; bodies = r.bodies; asked = r.asked + 1 }
 
 abbrev pub after_took : ℕ → Row → Row
 after_took seq r = record { client = r.client; bodies = replaced seq as_taken r.bodies; asked = r.asked }
@@ -158,7 +152,7 @@ IsRow items client (Some r) = TellsBodies items client r.bodies r.asked
 
 -- what a row tells of the bodies that its client took, and where there is no row none was taken
 pub record TellsTaken (items : List Item) (client : ℕ) (bodies : List PlannedBody) (asks : ℕ) : Type 0 where
-  pub marks : (n : ℕ) → n < asks → is_some (found took_in client n items) ≡ is_marked bodies n
+  pub marks : (n : ℕ) → is_some (found took_in client n items) ≡ is_marked bodies n
   pub later : (n : ℕ) → asks ≤ n → found took_in client n items ≡ None
 
 abbrev pub IsTakenRow : List Item → ℕ → Option Row → Type 0

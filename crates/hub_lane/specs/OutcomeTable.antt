@@ -8,29 +8,29 @@ use Rattle.hub_lane.specs.declared.outcome_table.OutcomeRow.{OutcomeRow}
 use Rattle.hub_lane.specs.declared.outcome_table.Spot.{Spot}
 
 -- whose body an Ask asked, and which one of the client's
-pub record Asker : Type 0 where
+pub record AskedBody : Type 0 where
   pub client : ℕ
-  pub number : ℕ
+  pub seq : ℕ
 
-abbrev pub asker : ℕ → ℕ → Asker
-asker client number = record { client = client; number = number }
+abbrev pub asked_body : ℕ → ℕ → AskedBody
+asked_body client seq = record { client = client; seq = seq }
 
 -- what became of each Ask, and whose body it asked, both in the order of the Asks
 pub record TableState : Type 0 where
   pub items : List (Option Outcome)
-  pub askers : List Asker
+  pub bodies : List AskedBody
 
 -- this body of a client was asked
-pub record WasAskedBy (askers : List Asker) (client number : ℕ) : Type 0 where
+pub record IsAsked (bodies : List AskedBody) (client seq : ℕ) : Type 0 where
   pub ask : ℕ
-  pub there : slice_get askers ask ≡ Some (asker client number)
+  pub there : slice_get bodies ask ≡ Some (asked_body client seq)
 
 -- the Asks of a record asked these bodies
-abbrev pub asker_in : Claim → Asker
-asker_in claim = asker claim.client claim.seq
+abbrev pub body_in : Claim → AskedBody
+body_in claim = asked_body claim.client claim.seq
 
-abbrev pub AreAskersOf : List Item → List Asker → Type 0
-AreAskersOf items askers = askers ≡ map asker_in (claims items)
+abbrev pub AreAskedIn : List Item → List AskedBody → Type 0
+AreAskedIn items bodies = bodies ≡ map body_in (claims items)
 
 -- ---- rows
 
@@ -46,7 +46,7 @@ outcomes_at (r ∷ rs) zero = r.outcomes.items
 outcomes_at (r ∷ rs) (suc at) = outcomes_at rs at
 
 abbrev pub outcome_in : List OutcomeRow → ℕ → ℕ → Option Outcome
-outcome_in rows row number = get_or (outcomes_at rows row) number None
+outcome_in rows row seq = get_or (outcomes_at rows row) seq None
 
 -- the row of a client stands there
 pub record IsClientAt (rows : List OutcomeRow) (client at : ℕ) : Type 0 where
@@ -65,7 +65,7 @@ pub record KeepsRows (old new : List OutcomeRow) : Type 0 where
 
 -- there are more rows or longer ones, and what became of each body is the same
 pub record IsExtended (old new : List OutcomeRow) : Type 0 where
-  pub same : (row number : ℕ) → outcome_in new row number ≡ outcome_in old row number
+  pub same : (row seq : ℕ) → outcome_in new row seq ≡ outcome_in old row seq
   pub keeps : KeepsRows old new
   pub one_each : AreOneEach old → AreOneEach new
 
@@ -74,35 +74,35 @@ pub record IsExtended (old new : List OutcomeRow) : Type 0 where
 -- there is an outcome, or room for one
 pub record IsSpot (rows : List OutcomeRow) (spot : Spot) : Type 0 where
   pub row : spot.row < length rows
-  pub number : spot.number < length (outcomes_at rows spot.row)
+  pub seq : spot.seq < length (outcomes_at rows spot.row)
 
-pub record IsSpotOf (rows : List OutcomeRow) (client number : ℕ) (spot : Spot) : Type 0 where
+pub record IsSpotOf (rows : List OutcomeRow) (client seq : ℕ) (spot : Spot) : Type 0 where
   pub there : IsSpot rows spot
   pub client_is : client_at rows spot.row ≡ client
-  pub number_is : spot.number ≡ number
+  pub seq_is : spot.seq ≡ seq
 
 -- it is not that spot
 abbrev pub IsApart : ℕ → ℕ → Spot → Type 0
-IsApart row number spot = row ≡ spot.row → number ≡ spot.number → ⊥
+IsApart row seq spot = row ≡ spot.row → seq ≡ spot.seq → ⊥
 
 -- an outcome stands at a spot now, or none; all others are the same, and so are the rows
-pub record HasCome (old new : List OutcomeRow) (spot : Spot) (outcome : Option Outcome) : Type 0 where
-  pub here : outcome_in new spot.row spot.number ≡ outcome
-  pub others : (row number : ℕ) → IsApart row number spot → outcome_in new row number ≡ outcome_in old row number
+pub record IsSetAt (old new : List OutcomeRow) (spot : Spot) (outcome : Option Outcome) : Type 0 where
+  pub here : outcome_in new spot.row spot.seq ≡ outcome
+  pub others : (row seq : ℕ) → IsApart row seq spot → outcome_in new row seq ≡ outcome_in old row seq
   pub keeps : KeepsRows old new
   pub count : length new ≡ length old
 
 abbrev pub outcome_of_spot : List OutcomeRow → Spot → Option Outcome
-outcome_of_spot rows spot = outcome_in rows spot.row spot.number
+outcome_of_spot rows spot = outcome_in rows spot.row spot.seq
 
-abbrev pub asker_of_spot : List OutcomeRow → Spot → Asker
-asker_of_spot rows spot = asker (client_at rows spot.row) spot.number
+abbrev pub body_of_spot : List OutcomeRow → Spot → AskedBody
+body_of_spot rows spot = asked_body (client_at rows spot.row) spot.seq
 
 abbrev pub items_of : List OutcomeRow → List Spot → List (Option Outcome)
 items_of rows spots = map (outcome_of_spot rows) spots
 
-abbrev pub askers_of : List OutcomeRow → List Spot → List Asker
-askers_of rows spots = map (asker_of_spot rows) spots
+abbrev pub bodies_of : List OutcomeRow → List Spot → List AskedBody
+bodies_of rows spots = map (body_of_spot rows) spots
 
 -- each Ask has a spot of its own
 pub record AreSpots (rows : List OutcomeRow) (spots : List Spot) : Type 0 where

@@ -2,14 +2,13 @@
 
 ghost use Rattle.std.specs.Prelude.{◌≡◌, ◌≤◌, ◌<◌, ◌+◌, ◌∷◌, ◌++◌, [], OnOk, OnErr, IfOk, IfSome, IfNone, map, false};
 ghost use Rattle.std.specs.Prelude.{◌↔◌};
-ghost use Rattle.std.specs.Prelude.{length, IsTrue, Some, ℕ, ◌^◌};
-ghost use Rattle.std.specs.List.{slice_get};
+ghost use Rattle.std.specs.Prelude.{length, IsTrue, Some, ◌^◌};
 ghost use Rattle.std.specs.Vec.{vec_len, vec_capacity};
 ghost use Rattle.transaction_codec.specs.Answer.{reply_room};
 ghost use Rattle.lane_record.specs.Items.{asked, found, is_sealed, plan_in, planned};
 ghost use Rattle.lane_record.specs.NextEntry.{ask_of, plan_of, the_seal, took_of};
 ghost use Rattle.lane_record.specs.Coding.{entry_of};
-ghost use Rattle.hub_lane.specs.Plans.{IsFull, most_bodies, most_words, planned_bodies, planned_words};
+ghost use Rattle.hub_lane.specs.Plans.{IsFull};
 
 use crate::rows::{ClientRow, add_ask, add_plan, add_took, next_place, row_at};
 use ipb_base::{NoMemory, Words};
@@ -37,7 +36,7 @@ pub(crate) struct Book {
 }
 
 impl Model for Book {
-    ghost use Rattle.std.specs.Prelude.{◌≡◌, ◌-◌, min};
+    ghost use Rattle.std.specs.Prelude.{◌≡◌, ◌-◌};
     ghost use Rattle.lane_record.specs.Items.{is_sealed};
     ghost use Rattle.hub_lane.specs.Books.{BookState, IsBook, room_of};
 
@@ -196,15 +195,13 @@ impl Book {
         );
     }
 
-    /// Adds an Ask of the client's next body. Answers its number.
-    pub(crate) fn ask(&mut self, client: u32, give_ups: u64) -> u64
+    /// Adds an Ask of the client's next body, which has this number.
+    pub(crate) fn ask(&mut self, client: u32, seq: u64, give_ups: u64)
         requires room { 2 ≤ self.old.room }
         requires next { HasMorePlans client self.old.items }
-        ensures number { result ≡ asked client self.old.items }
-        ensures entry { self.new.items
-            ≡ self.old.items ++ ask_of client (asked client self.old.items) give_ups ∷ [] }
+        requires number { seq ≡ asked client self.old.items }
+        ensures { self.new.items ≡ self.old.items ++ ask_of client seq give_ups ∷ [] }
     {
-        let seq = self.asked(client);
         add_ask(&mut self.rows, client);
         put(
             &mut self.entries,
@@ -215,7 +212,6 @@ impl Book {
                 what: What::Ask { give_ups },
             },
         );
-        seq
     }
 
     /// Adds a Took of a body that was asked.

@@ -1,6 +1,6 @@
 //! A lane as a value with a record, and what it is worth.
 
-ghost use Rattle.std.specs.Prelude.{◌≡◌, length, IfSome};
+ghost use Rattle.std.specs.Prelude.{IfSome};
 ghost use Rattle.world_model.specs.Facts.{bodies_of};
 ghost use Rattle.lane_record.specs.Claims.{IsFinished};
 ghost use Rattle.hub_lane.specs.Truth.{IsTrueTo, IsWhole};

@@ -59,7 +59,7 @@ pub(crate) fn exchange<L: Link>(
         hub.new ≡ handed_out (hub_after pumped buffer.new.items (all_sent hub.old))) }
     ensures outcomes { IfOk result (λ pumped. outcomes.new.items
         ≡ put_all (hub_after pumped buffer.new.items (all_sent hub.old)).fates outcomes.old.items) }
-    ensures askers { outcomes.new.askers ≡ outcomes.old.askers }
+    ensures bodies { outcomes.new.bodies ≡ outcomes.old.bodies }
     ensures give_ups { IfOk result (λ pumped. give_ups.new
         ≡ give_ups_of pumped (hub_after pumped buffer.new.items (all_sent hub.old)) give_ups.old) }
     ensures received { IfOk result (λ pumped.

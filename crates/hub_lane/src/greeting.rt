@@ -1,6 +1,6 @@
 //! The greeting of a board: its link is asked for its status, round by round, until the board tells it.
 
-ghost use Rattle.std.specs.Prelude.{◌≡◌, ◌≤◌, ◌+◌, ◌*◌, ℕ, IfSome, IfOk, OnErr, OnOk, Err};
+ghost use Rattle.std.specs.Prelude.{◌≡◌, ◌≤◌, ◌+◌, ◌*◌, ℕ, IfSome, IfOk, OnErr, Err};
 ghost use Rattle.ipb_base.specs.Faults.{Rose};
 ghost use Rattle.world_core.specs.Telling.{IfTelling};
 ghost use Rattle.packet_ids.specs.Identifier.{IsIdentifier};

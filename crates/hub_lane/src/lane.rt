@@ -1,18 +1,15 @@
 //! A lane: the engine and the link of one board, and the record of what clients asked of it.
 
-ghost use Rattle.std.specs.Prelude.{◌≡◌, ◌≤◌, ◌<◌, ◌⊎◌, ◌*◌, ◌^◌, ℕ, true, false, length, map, count_by, OnOk, OnErr};
+ghost use Rattle.std.specs.Prelude.{◌≡◌, ◌≤◌, ◌<◌, ◌⊎◌, ◌*◌, ℕ, true, false, length, map, count_by, OnOk, OnErr};
 ghost use Rattle.std.specs.Prelude.{IfOk, IfErr};
-ghost use Rattle.std.specs.Prelude.{IfSome, IfNone, Err, List, if◌then◌else◌, ◌++◌, ◌∷◌, [], Some, None};
+ghost use Rattle.std.specs.Prelude.{IfSome, IfNone, Err, List, if◌then◌else◌, Some, None};
 ghost use Rattle.ipb_base.specs.Faults.{Rose};
 ghost use Rattle.ipb_base.specs.Numbers.{payload_of};
 ghost use Rattle.transaction_codec.specs.Answer.{reply_room};
 ghost use Rattle.packet_codec.specs.declared.packet.TheConstants.{MAX_BODY_WORDS};
 ghost use Rattle.lane_record.specs.Bounds.{HasReached, timeouts};
 ghost use Rattle.lane_record.specs.Coding.{entry_of};
-ghost use Rattle.std.specs.Vec.{vec_len, vec_capacity};
 ghost use Rattle.world_model.specs.Hub.{offer};
-ghost use Rattle.reliable_engine.specs.Answers.{body_count};
-ghost use Rattle.lane_record.specs.declared.outcome.Outcome.TheVariants.{LinkLost};
 ghost use Rattle.hub_lane.specs.Plans.{CanPlan, IsRefused, Plans};
 ghost use Rattle.world_core.specs.Telling.{IfTelling};
 ghost use Rattle.hub_lane.specs.Carrying.{Pumping};
@@ -72,7 +69,7 @@ impl<L: Link> Model for Lane<L> {
     ghost use Rattle.std.specs.Prelude.{IfSome, ◌||◌};
     ghost use Rattle.hub_lane.specs.Heard.{HasHeard};
     ghost use Rattle.hub_lane.specs.Lanes.{IsLane, LaneState};
-    ghost use Rattle.hub_lane.specs.OutcomeTable.{AreAskersOf};
+    ghost use Rattle.hub_lane.specs.OutcomeTable.{AreAskedIn};
     ghost use Rattle.hub_lane.specs.Rounds.{HasPaid};
 
     ghost Value = { LaneState L };
@@ -96,7 +93,7 @@ impl<L: Link> Model for Lane<L> {
         × IfSome (L.telling l.link)
         (HasPaid (l.down || l.spent) l.mtu l.settings.rounds l.give_ups l.engine (L.held l.link))
         × HasHeard l.outcomes.items (L.gots l.link)
-        × AreAskersOf l.book.items l.outcomes.askers };
+        × AreAskedIn l.book.items l.outcomes.bodies };
 }
 
 impl<L: Link> Lane<L> {
@@ -284,7 +281,8 @@ impl<L: Link> Lane<L> {
         let seq = self.book.asked(client);
         self.outcomes
             .offer(&mut self.engine, self.down, client, seq, body)?;
-        Ok(Asked::Asked(self.book.ask(client, self.give_ups)))
+        self.book.ask(client, seq, self.give_ups);
+        Ok(Asked::Asked(seq))
     }
 
     /// Sends what the engine wants to be sent, in its order, and then receives once. Where memory runs out the lane is
@@ -327,7 +325,7 @@ impl<L: Link> Lane<L> {
         if !self.engine.waiting() {
             return Ok(Pumped::Idle);
         }
-        self.outcomes.are_few();
+        let _asks = self.outcomes.len();
         match exchange(
             self.alloc,
             self.first,

@@ -1,13 +1,11 @@
-//! What becomes of the asked bodies.
+//! How outcomes come, from fates and from a link that failed; and how many of each kind there are.
 
-ghost use Rattle.std.specs.Prelude.{◌≡◌, ◌+◌, ◌<◌, ◌≤◌, ◌^◌, ℕ, IfOk, IfSome, IfNone, length, count_by, if◌then◌else◌};
-ghost use Rattle.std.specs.Prelude.{List, None, OnErr, OnOk, Some};
+ghost use Rattle.std.specs.Prelude.{◌≡◌, ◌+◌, ◌<◌, ◌≤◌, ◌^◌, ℕ, IfOk, IfSome, IfNone, length, count_by};
+ghost use Rattle.std.specs.Prelude.{List, None, Some};
 ghost use Rattle.std.specs.List.{slice_get};
 ghost use Rattle.lane_record.specs.declared.outcome.Outcome.TheVariants.{LinkLost, Replied};
-ghost use Rattle.reliable_engine.specs.Answers.{body_count};
-ghost use Rattle.world_model.specs.Hub.{offer};
 ghost use Rattle.lane_record.specs.Bounds.{has_timed_out, timeouts};
-ghost use Rattle.lane_record.specs.Offers.{all_lost, lost_after, outcome_of, put_all};
+ghost use Rattle.lane_record.specs.Offers.{all_lost, outcome_of, put_all};
 ghost use Rattle.hub_lane.specs.Hearing.{give_ups_of};
 ghost use Rattle.hub_lane.specs.Calls.{IsReplyAt, IsReplyOf, is_lost_at_place, is_replied};
 ghost use Rattle.hub_lane.specs.Sends.{handed_out};
@@ -58,34 +56,11 @@ fn outcome_of(fate: Fate) -> Outcome
     }
 }
 
-/// Offers a body to the engine under the number of its Ask, or it is lost where the link failed. Answers what became of
-/// it so far.
-pub(crate) fn offer(
-    engine: &mut Engine,
-    down: bool,
-    ask: u64,
-    body: Words,
-) -> Result<Option<Outcome>, NoMemory>
-    requires few { body_count engine.old < 2 ^ 62 }
-    ensures engine { OnOk result (engine.new ≡ (if down then engine.old
-        else offer engine.old (record { tag = ask; body = body }))) }
-    ensures outcome { IfOk result (λ outcome. outcome ≡ (if down then Some (LinkLost None) else None)) }
-    ensures unchanged { OnErr result (engine.new ≡ engine.old) }
-{
-    if down {
-        return Ok(Some(Outcome::LinkLost { place: None }));
-    }
-    if engine.offer(ask, body).is_err() {
-        return Err(NoMemory);
-    }
-    Ok(None)
-}
-
 /// The hub hands out all its fates.
 fn settle_all(hub: &mut Engine, outcomes: &mut OutcomeTable)
     ensures hub { hub.new ≡ handed_out hub.old }
     ensures outcomes { outcomes.new.items ≡ put_all hub.old.fates outcomes.old.items }
-    ensures askers { outcomes.new.askers ≡ outcomes.old.askers }
+    ensures bodies { outcomes.new.bodies ≡ outcomes.old.bodies }
 {
     while let Some(fate) = hub.settled() {
         outcomes.put(fate.0, outcome_of(fate.1));
@@ -95,7 +70,7 @@ fn settle_all(hub: &mut Engine, outcomes: &mut OutcomeTable)
 /// The link failed: what has no outcome is lost, with its place where it was sent.
 pub(crate) fn lose_all(outcomes: &mut OutcomeTable, sent: u64)
     ensures outcomes { outcomes.new.items ≡ all_lost sent outcomes.old.items }
-    ensures askers { outcomes.new.askers ≡ outcomes.old.askers }
+    ensures bodies { outcomes.new.bodies ≡ outcomes.old.bodies }
 {
     let mut place = 0;
     for ask in 0..outcomes.len() {
@@ -123,7 +98,7 @@ pub(crate) fn settle(
     requires { give_ups.old < 2 ^ 63 }
     ensures hub { hub.new ≡ handed_out hub.old }
     ensures outcomes { outcomes.new.items ≡ put_all hub.old.fates outcomes.old.items }
-    ensures askers { outcomes.new.askers ≡ outcomes.old.askers }
+    ensures bodies { outcomes.new.bodies ≡ outcomes.old.bodies }
     ensures give_ups { give_ups.new ≡ give_ups_of pumped hub.old give_ups.old }
 {
     if pumped == Pumped::Quiet && !hub.waiting() {

@@ -2,7 +2,7 @@
 //! looked through.
 
 ghost use Rattle.std.specs.Prelude.{◌≡◌, ◌≤◌, ◌<◌, ℕ, length, true, false, OnOk, OnErr};
-ghost use Rattle.hub_lane.specs.Books.{HasAsked, HasNext, as_asked, as_taken, is_marked, next_of, replaced, row_at};
+ghost use Rattle.hub_lane.specs.Books.{HasAsked, HasNext, as_taken, is_marked, next_of, replaced, row_at};
 ghost use Rattle.hub_lane.specs.Books.{row_of, with_ask, with_plan, with_took};
 
 use ipb_base::NoMemory;
@@ -40,8 +40,7 @@ impl Model for ClientRow {
 }
 
 impl ClientRow {
-    ghost use Rattle.std.specs.Prelude.{◌++◌, ◌∷◌, [], ◌+◌, ◌^◌, IfOk, IfSome, IfNone, Some};
-    ghost use Rattle.std.specs.List.{slice_get};
+    ghost use Rattle.std.specs.Prelude.{◌++◌, ◌∷◌, [], ◌+◌, IfOk, IfSome, IfNone, Some};
     ghost use Rattle.hub_lane.specs.Books.{after_ask, after_took, first_row, next_in, planned_at};
     ghost use Rattle.hub_lane.specs.declared.rows.PlannedBody.{PlannedBody};
 
@@ -79,9 +78,7 @@ impl ClientRow {
         requires { self.old.asked < length self.old.bodies }
         ensures { self.new ≡ after_ask self.old }
     {
-        let asked = self.asked;
-        set_asked(&mut self.bodies, asked);
-        self.asked = asked + 1;
+        self.asked += 1;
     }
 
     /// Adds a Took of a body that was asked.
@@ -137,15 +134,6 @@ impl ClientRow {
             None => None,
         }
     }
-}
-
-/// A body was asked, and not taken.
-fn set_asked(bodies: &mut Vec<PlannedBody>, at: usize)
-    requires { at < length bodies.old.items }
-    ensures { bodies.new.items ≡ replaced at as_asked bodies.old.items }
-{
-    let body = &mut bodies[at];
-    body.is_taken = false;
 }
 
 /// What became of a body was taken.

@@ -93,10 +93,6 @@ in_time client old mid final before after P m number told waited took gave =
       more_vain = subst (λ n. old.knows.vain ≤ n) (sym a.0) waited;
     }
 
-pub on_err_holds : {T E P : Type 0} (r : Result T E) → P → OnErr r P
-on_err_holds (Ok x) p = tt
-on_err_holds (Err e) p = p
-
 -- a call on a lane that was taken, however it went, lets the lane be given back
 grew_either : {A E : Type 0} (client : ℕ) (before after : Record) (P : A → Knowledge → FoundLane → List Item → Type 0)
     (Q : Knowledge → FoundLane → List Item → Type 0) (r : Result A E)

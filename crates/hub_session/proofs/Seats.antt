@@ -1,7 +1,7 @@
 -- What a seat knows of its lanes, through calls one after another.
 use Rattle.std.proofs.Common.{◌≡◌, ℕ, zero, suc, ◌==◌, true, false, List, [], ◌∷◌, length, set, set-set, Some, IfSome}
 use Rattle.std.proofs.Math.ListN.{length-set}
-use Rattle.std.proofs.Common.{inl, inr, ◌⊎◌, Result, Ok, Err, OnErr, refl, sym, ap, ◌∙◌, subst}
+use Rattle.std.proofs.Common.{inl, inr, ◌⊎◌, refl, sym, ap, ◌∙◌, subst}
 use Rattle.std.proofs.lemmas.Bool.{eqb-true, eqb-false}
 use Rattle.std.proofs.lemmas.Option.{same_Some, none-some}
 use Rattle.std.specs.List.{AllByRecursion, slice_get}
@@ -140,7 +140,3 @@ if_some_after Q lane old new P c f =
     ap (λ (ks : List Knowledge). slice_get ks lane) (knows_now lane old new P c)
     ∙ get_set_same old.knows lane c.after c.before c.there in
     subst (λ o. IfSome o Q) (sym there) (f c.before c.after c.there c.relation)
-
-pub on_err : {T E : Type 0} {P : Type 0} (result : Result T E) → P → OnErr result P
-on_err (Ok x) p = tt
-on_err (Err e) p = p

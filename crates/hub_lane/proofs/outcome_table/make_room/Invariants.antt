@@ -6,4 +6,4 @@ invariant-loop-outcomes l = (length l.fn.outcomes.items ≤ length l.outcomes.it
     × ((other : ℕ) → get_or l.outcomes.items other None ≡ get_or l.fn.outcomes.items other None)
 
 abbrev pub decreases-loop-outcomes : goal.decreases-loop-outcomes
-decreases-loop-outcomes l = l.number + 1 - length l.outcomes.items
+decreases-loop-outcomes l = l.seq + 1 - length l.outcomes.items

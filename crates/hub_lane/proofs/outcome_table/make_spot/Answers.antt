@@ -27,7 +27,7 @@ returns-clause-extended c =
 pub returns-clause-spot : goal.returns-clause-spot
 returns-clause-spot c =
     let found = c.in_ok-at.ensures.found in
-    spot_set c.row_for.new.rows.items c.args.client c.in_ok-at.at c.args.number c.index_mut-row.result.now _
+    spot_set c.row_for.new.rows.items c.args.client c.in_ok-at.at c.args.seq c.index_mut-row.result.now _
     found (record {
       within = found.within;
       there = c.index_mut-row.ensures.value;

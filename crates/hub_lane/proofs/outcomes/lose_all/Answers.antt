@@ -39,7 +39,7 @@ loop-ask-preserved c =
           )
       | in_default+then-place-sent w ↦
           let there = c.of_ask.ensures ∙ ap (λ (o : Option Outcome). Some o) w.in_default.is in
-          rw (w.outcomes-is, w.put.ensures.items, w.put.ensures.askers, w.place-is, next) (
+          rw (w.outcomes-is, w.put.ensures.items, w.put.ensures.bodies, w.place-is, next) (
             lost_at_place before.items ask place sent there (lt-ltb place sent w.if-place-sent.true) ∙ invariant.0,
             omega (arith, invariant.1),
             length-put ask _ before.items ∙ invariant.2,
@@ -48,7 +48,7 @@ loop-ask-preserved c =
       | in_default+else-place-sent w ↦
           let there = c.of_ask.ensures ∙ ap (λ (o : Option Outcome). Some o) w.in_default.is in
           let put = w.put-else-place-sent.ensures in
-          rw (w.outcomes-is, put.items, put.askers, w.place-is, next) (
+          rw (w.outcomes-is, put.items, put.bodies, w.place-is, next) (
             lost_unsent before.items ask place sent there (le-ltb place sent w.if-place-sent.false) ∙ invariant.0,
             omega (arith, invariant.1),
             length-put ask _ before.items ∙ invariant.2,

@@ -5,7 +5,7 @@ use Rattle.hub_lane.proofs.outcomes.settle_all.Given as goal
 
 abbrev pub invariant-loop-fate : goal.invariant-loop-fate
 invariant-loop-fate l = (put_all l.hub.fates l.outcomes.items ≡ put_all l.fn.hub.fates l.fn.outcomes.items)
-    × (handed_out l.hub ≡ handed_out l.fn.hub) × (l.outcomes.askers ≡ l.fn.outcomes.askers)
+    × (handed_out l.hub ≡ handed_out l.fn.hub) × (l.outcomes.bodies ≡ l.fn.outcomes.bodies)
 
 abbrev pub decreases-loop-fate : goal.decreases-loop-fate
 decreases-loop-fate l = length l.hub.fates

@@ -2,7 +2,7 @@ use Rattle.std.proofs.Common.{ap, subst, ◌∙◌}
 use Rattle.turn_pass.specs.Pass.{PassState}
 use Rattle.hub_multiplexer.specs.Calls.{IsNone, MadeInTime, PerformMeans, StepMeans}
 use Rattle.hub_multiplexer.specs.declared.answers.Performed.TheVariants as performs
-use Rattle.hub_multiplexer.proofs.Adds.{on_err_holds}
+use Rattle.hub_lane.proofs.Results.{on_err_holds}
 use Rattle.hub_multiplexer.proofs.Looks.{after_looking, looked_more, none_before, nothing_yet, performed_before}
 use Rattle.hub_multiplexer.proofs.calls.perform.Goals as goal
 

@@ -7,7 +7,8 @@ use Rattle.hub_multiplexer.specs.declared.answers.Performed.TheVariants as perfo
 use Rattle.hub_session.specs.Exchanges.{HasCome, WasRefused}
 use Rattle.hub_session.specs.Serving.{AskedToo, HasAskedToo}
 use Rattle.hub_session.specs.Inside.{IsSettled}
-use Rattle.hub_session.proofs.Seats.{all_after, all_at, both, if_some_after, on_err, said, same_seat}
+use Rattle.hub_session.proofs.Seats.{all_after, all_at, both, if_some_after, said, same_seat}
+use Rattle.hub_lane.proofs.Results.{on_err_holds}
 use Rattle.hub_session.proofs.Passes.{asked_too, came, no_memory_at, not_taken, settled_looked, settled_next}
 use Rattle.hub_session.proofs.Passes.{submitted, was_refused}
 use Rattle.hub_session.proofs.asking.submit.Goals as goal
@@ -26,7 +27,7 @@ pub returns-in_err-take-in-Ok-clause-reached : goal.returns-in_err-take-in-Ok-cl
 returns-in_err-take-in-Ok-clause-reached g c =
     let lane = c.args.lane in
     let body = c.args.body in
-    on_err c.from_residual.result (
+    on_err_holds c.from_residual.result (
       AskedToo,
       both lane c.args.seat.now c.submit.new.seat c.take.new.seat
           (λ k. MadeInTime k (HasSubmitted k body c.in-Ok._seq)) (λ k. MadeInTime k IsNone) (HasAskedToo body)

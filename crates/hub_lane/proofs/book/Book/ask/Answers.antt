@@ -13,8 +13,8 @@ pub invariant_of-self : goal.invariant_of-self
 invariant_of-self c =
     let b = c.self.inside in
     let more = subst (λ (v : BookState). HasMorePlans c.args.client v.items) (sym c.self.view_is) c.requires.next in
-    let seq : c.asked-seq.result ≡ asked c.args.client b.items.items =
-    c.asked-seq.ensures ∙ ap (λ (v : BookState). asked c.args.client v.items) (sym c.self.view_is) in
+    let seq : c.args.seq ≡ asked c.args.client b.items.items =
+    c.requires.number ∙ ap (λ (v : BookState). asked c.args.client v.items) (sym c.self.view_is) in
     let after = room_of c.put.new.items.cap c.put.new.items.len c.put.new.entries.cap c.put.new.entries.len
     in
     let room = ap (λ (v : BookState). v.room) c.self.view_is in
@@ -29,5 +29,5 @@ invariant_of-self c =
     ) in
     book_asked b.items.items c.put.new.items.items b.entries.items c.put.new.entries.items b.rows.items
     c.add_ask.new.rows.items b.bodies b.words b.sealed _ after
-    c.args.client c.asked-seq.result c.args.give_ups c.self.invariant seq more c.put.ensures.items c.put.ensures.entries
+    c.args.client c.args.seq c.args.give_ups c.self.invariant seq more c.put.ensures.items c.put.ensures.entries
     c.add_ask.ensures enough

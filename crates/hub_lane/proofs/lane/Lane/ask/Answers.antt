@@ -11,8 +11,8 @@ use Rattle.ipb_base.specs.Numbers.{payload_of}
 use Rattle.hub_lane.proofs.Lanes.{body_sendable, found_fits, lane_asks}
 use Rattle.hub_lane.proofs.Rounds.{pays_asked}
 use Rattle.hub_lane.proofs.Datagrams.{asked_unheard, heard_asked}
-use Rattle.hub_lane.specs.OutcomeTable.{AreAskersOf, WasAskedBy, asker}
-use Rattle.hub_lane.proofs.Askers.{askers_asked, not_asked_yet}
+use Rattle.hub_lane.specs.OutcomeTable.{AreAskedIn, IsAsked, asked_body}
+use Rattle.hub_lane.proofs.AskedBodies.{asked_more, not_asked_yet}
 use Rattle.hub_lane.proofs.lane.Lane.ask.Goals as goal
 
 pub invariant_of-self-2 : goal.invariant_of-self-2
@@ -42,8 +42,10 @@ invariant_of-self-2 g c =
           c.self.invariant.0.kept.legal there;
       within = c.self.invariant.0.kept.within;
     } in
-    let entry : c.ask.new.self.items ≡ items ++ ask_of client seq l.give_ups ∷ [] = c.ask.ensures.entry
-    ∙ ap (λ (xs : List Item). xs ++ ask_of client (asked client xs) l.give_ups ∷ []) c.in_ok-reserve.ensures.items in (
+    let number : c.asked-seq.result ≡ seq = c.asked-seq.ensures ∙ ap (asked client) c.in_ok-reserve.ensures.items in
+    let entry : c.ask.new.self.items ≡ items ++ ask_of client seq l.give_ups ∷ [] = c.ask.ensures
+    ∙ (ap (λ (xs : List Item). xs ++ ask_of client c.asked-seq.result l.give_ups ∷ []) c.in_ok-reserve.ensures.items
+    ∙ ap (λ (n : ℕ). items ++ ask_of client n l.give_ups ∷ []) number) in (
       lane_asks c.each_event_leads_to_a_state_of_a_run.ensures.offered c.only_an_offer_makes_more_bodies.ensures.offered
           c.an_ask_is_an_offer.ensures.offered c.a_failed_link_loses_what_waits.ensures.later l.settings status l.engine
           c.offer.new.engine items c.ask.new.self.items l.outcomes.items c.offer.new.self.items l.give_ups l.down
@@ -64,19 +66,18 @@ invariant_of-self-2 g c =
       heard_asked (if l.down then Some (LinkLost None) else None) l.outcomes.items c.offer.new.self.items
           (g.L.Link.gots l.link) (asked_unheard l.down)
           c.in_ok-offer.ensures.items c.self.invariant.2,
-      subst (λ (xs : List Item). AreAskersOf xs c.offer.new.self.askers) (sym entry)
-          (askers_asked items client seq l.give_ups l.outcomes.askers c.offer.new.self.askers c.self.invariant.3
-          (c.in_ok-offer.ensures.askers ∙ ap (λ (n : ℕ). l.outcomes.askers ++ asker client n ∷ [])
-          (c.asked-seq.ensures ∙ ap (asked client) c.in_ok-reserve.ensures.items))),
+      subst (λ (xs : List Item). AreAskedIn xs c.offer.new.self.bodies) (sym entry)
+          (asked_more items client seq l.give_ups l.outcomes.bodies c.offer.new.self.bodies c.self.invariant.3
+          (c.in_ok-offer.ensures.bodies ∙ ap (λ (n : ℕ). l.outcomes.bodies ++ asked_body client n ∷ []) number)),
     )
 
-pub offer-requires-clause-few : goal.offer-requires-clause-few
-offer-requires-clause-few g c = c.self.invariant.0.ready.bodies.few
+pub offer-requires-clause-bodies : goal.offer-requires-clause-bodies
+offer-requires-clause-bodies g c = c.self.invariant.0.ready.bodies.few
 
 pub offer-requires-clause-new : goal.offer-requires-clause-new
 offer-requires-clause-new g c =
     let l = c.self.inside in
     let seq = c.asked-seq.ensures ∙ ap (asked c.args.client) c.in_ok-reserve.ensures.items in
-    subst (λ (n : ℕ). WasAskedBy l.outcomes.askers c.args.client n → ⊥) (sym seq)
-    (not_asked_yet l.book.items l.outcomes.items l.outcomes.askers c.args.client c.self.invariant.0.kept.legal
+    subst (λ (n : ℕ). IsAsked l.outcomes.bodies c.args.client n → ⊥) (sym seq)
+    (not_asked_yet l.book.items l.outcomes.items l.outcomes.bodies c.args.client c.self.invariant.0.kept.legal
     c.self.invariant.3)

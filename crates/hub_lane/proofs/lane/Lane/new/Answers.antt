@@ -1,7 +1,7 @@
 use Rattle.std.proofs.Common.{◌∙◌, List, map, sym, ap}
 use Rattle.lane_record.specs.declared.item.Item.{Item}
 use Rattle.lane_record.specs.Claims.{claims}
-use Rattle.hub_lane.specs.OutcomeTable.{asker_in}
+use Rattle.hub_lane.specs.OutcomeTable.{body_in}
 use Rattle.hub_lane.specs.Lanes.{status_of}
 use Rattle.hub_lane.proofs.Datagrams.{heard_first}
 use Rattle.hub_lane.proofs.Lanes.{lane_begun}
@@ -22,5 +22,5 @@ invariant_of-result g c = (
       c.args.status.buffers_in_range
       c.in-Ok-new.ensures c.requires.greeted,
   heard_first c.new-4.result.items (g.L.Link.gots c.args.link) c.new-4.ensures.items c.requires.heard,
-  c.new-4.ensures.askers ∙ sym (ap (λ (xs : List Item). map asker_in (claims xs)) c.in-Ok.ensures),
+  c.new-4.ensures.bodies ∙ sym (ap (λ (xs : List Item). map body_in (claims xs)) c.in-Ok.ensures),
 )

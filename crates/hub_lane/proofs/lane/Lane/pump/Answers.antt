@@ -52,7 +52,7 @@ invariant_of-self g c =
           c.exchange.new.buffer.items c.in-Ok.pumped c.exchange.new.outcomes.items (g.L.Link.gots l.link)
           (g.L.Link.gots c.exchange.new.link) c.in-Ok.ensures.event c.in-Ok.ensures.outcomes c.in-Ok.ensures.gots
           c.self.invariant.2,
-      c.exchange.ensures.askers ∙ c.self.invariant.3,
+      c.exchange.ensures.bodies ∙ c.self.invariant.3,
     )
 
 pub invariant_of-self-in-Err-Failed : goal.invariant_of-self-in-Err-Failed
@@ -84,7 +84,8 @@ invariant_of-self-in-Err-Failed g c =
           (telling c.exchange.new.link) (faults c.exchange.new.link) (quiets c.exchange.new.link)
           c.in-Err-Failed.ensures.sent c.in-Err-Failed.ensures.stopped (c.exchange.ensures.failed (cc))
           (c.exchange.ensures.failed_quiets (cc))
-          c.in-Err-Failed.ensures.same_give_ups c.in-Err-Failed.ensures.same_outcomes c.sent.ensures c.lose_all.ensures.outcomes
+          c.in-Err-Failed.ensures.same_give_ups c.in-Err-Failed.ensures.same_outcomes c.sent.ensures
+          c.lose_all.ensures.outcomes
           c.exchange.ensures.board,
       pays_stopped c.laws_of_rounds.ensures (l.down || l.spent) l.mtu l.settings.rounds l.give_ups
           c.exchange.new.give_ups
@@ -95,7 +96,7 @@ invariant_of-self-in-Err-Failed g c =
       heard_down c.sent.result l.outcomes.items c.exchange.new.outcomes.items c.lose_all.new.outcomes.items
           (g.L.Link.gots l.link) (g.L.Link.gots c.exchange.new.link) (c.exchange.ensures.failed_gots (cc))
           c.in-Err-Failed.ensures.same_outcomes c.lose_all.ensures.outcomes c.self.invariant.2,
-      c.lose_all.ensures.askers ∙ (c.exchange.ensures.askers ∙ c.self.invariant.3),
+      c.lose_all.ensures.bodies ∙ (c.exchange.ensures.bodies ∙ c.self.invariant.3),
     )
 
 pub invariant_of-self-in-Err-NoMemory : goal.invariant_of-self-in-Err-NoMemory
@@ -136,7 +137,7 @@ invariant_of-self-in-Err-NoMemory g c =
       heard_still l.outcomes.items c.exchange.new.outcomes.items (g.L.Link.gots l.link)
           (g.L.Link.gots c.exchange.new.link) c.exchange.ensures.gots_rise c.in-Err-NoMemory.ensures.same_outcomes
           c.self.invariant.2,
-      c.exchange.ensures.askers ∙ c.self.invariant.3,
+      c.exchange.ensures.bodies ∙ c.self.invariant.3,
     )
 
 pub returns-in-Ok-clause-same : goal.returns-in-Ok-clause-same

@@ -2,8 +2,8 @@ use Rattle.std.proofs.Common.{◌∙◌, List, sym, subst, refl}
 use Rattle.lane_record.specs.declared.item.Item.{Item}
 use Rattle.lane_record.specs.NextEntry.{the_seal}
 use Rattle.hub_lane.specs.Lanes.{BoardStatus, IsLane}
-use Rattle.hub_lane.specs.OutcomeTable.{AreAskersOf}
-use Rattle.hub_lane.proofs.Askers.{askers_entry}
+use Rattle.hub_lane.specs.OutcomeTable.{AreAskedIn}
+use Rattle.hub_lane.proofs.AskedBodies.{asked_entry}
 use Rattle.hub_lane.proofs.Lanes.{lane_entry}
 use Rattle.hub_lane.proofs.lane.Lane.seal.Goals as goal
 
@@ -19,6 +19,6 @@ invariant_of-self g c =
           (sym c.is_sealed.ensures ∙ c.if-not-is_sealed.true)) c.self.invariant.0),
       c.self.invariant.1,
       c.self.invariant.2,
-      subst (λ (xs : List Item). AreAskersOf xs l.outcomes.askers) (sym c.seal.ensures)
-          (askers_entry l.book.items the_seal l.outcomes.askers refl c.self.invariant.3),
+      subst (λ (xs : List Item). AreAskedIn xs l.outcomes.bodies) (sym c.seal.ensures)
+          (asked_entry l.book.items the_seal l.outcomes.bodies refl c.self.invariant.3),
     )

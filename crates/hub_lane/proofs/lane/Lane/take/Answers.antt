@@ -8,8 +8,8 @@ use Rattle.lane_record.specs.NextEntry.{took_of}
 use Rattle.lane_record.proofs.Lengths.{short_at}
 use Rattle.hub_lane.specs.Calls.{IsUntaken, Takes, WasAsked}
 use Rattle.hub_lane.specs.Lanes.{BoardStatus, IsLane, LaneState}
-use Rattle.hub_lane.specs.OutcomeTable.{AreAskersOf}
-use Rattle.hub_lane.proofs.Askers.{asker_there, askers_entry}
+use Rattle.hub_lane.specs.OutcomeTable.{AreAskedIn}
+use Rattle.hub_lane.proofs.AskedBodies.{asked_there, asked_entry}
 use Rattle.hub_lane.proofs.Lanes.{lane_entry}
 use Rattle.hub_lane.proofs.Steps.{asked_below}
 use Rattle.hub_lane.proofs.lane.Lane.take.Goals as goal
@@ -25,7 +25,7 @@ of_client-requires g c =
     c.requires.asked in
     record {
       ask = was.number;
-      there = asker_there l.book.items l.outcomes.askers c.args.client c.args.seq was.number was.untaken.claim
+      there = asked_there l.book.items l.outcomes.bodies c.args.client c.args.seq was.number was.untaken.claim
           c.self.invariant.3 was.untaken.ask;
     }
 
@@ -38,7 +38,7 @@ returns-in_default-clause-taken g c =
     c.requires.asked in
     let at = was.number in
     let none : c.of_client.result.now ≡ None = no_outcome c.of_client.result.now c.in_default.not-Some in
-    let there = asker_there items l.outcomes.askers c.args.client c.args.seq at was.untaken.claim c.self.invariant.3
+    let there = asked_there items l.outcomes.bodies c.args.client c.args.seq at was.untaken.claim c.self.invariant.3
     was.untaken.ask in
     let yet : slice_get outcomes at ≡ Some None =
     c.of_client.ensures at there ∙ ap (λ (o : Option Outcome). Some o) none in
@@ -69,7 +69,7 @@ invariant_of-self-2 g c =
     c.requires.asked in
     let at = was.number in
     let there : slice_get outcomes at ≡ Some c.of_client.result.now =
-    c.of_client.ensures at (asker_there items l.outcomes.askers c.args.client c.args.seq at was.untaken.claim
+    c.of_client.ensures at (asked_there items l.outcomes.bodies c.args.client c.args.seq at was.untaken.claim
     c.self.invariant.3 was.untaken.ask) in
     let became : slice_get outcomes at ≡ Some (Some kept_is) = there ∙ ap (λ (o : Option Outcome). Some o)
     (c.in-Some.is ∙ ap (λ (o : Outcome). Some o) (sym c.in_ok-kept.ensures)) in
@@ -90,8 +90,8 @@ invariant_of-self-2 g c =
           })) c.self.invariant.0),
       c.self.invariant.1,
       c.self.invariant.2,
-      subst (λ (xs : List Item). AreAskersOf xs l.outcomes.askers) (sym entry)
-          (askers_entry items x l.outcomes.askers refl c.self.invariant.3),
+      subst (λ (xs : List Item). AreAskedIn xs l.outcomes.bodies) (sym entry)
+          (asked_entry items x l.outcomes.bodies refl c.self.invariant.3),
     )
 
 pub returns-clause-taken : goal.returns-clause-taken
@@ -106,7 +106,7 @@ returns-clause-taken g c =
     c.requires.asked in
     let at = was.number in
     let there : slice_get outcomes at ≡ Some c.of_client.result.now =
-    c.of_client.ensures at (asker_there items l.outcomes.askers c.args.client c.args.seq at was.untaken.claim
+    c.of_client.ensures at (asked_there items l.outcomes.bodies c.args.client c.args.seq at was.untaken.claim
     c.self.invariant.3 was.untaken.ask) in
     let became : slice_get outcomes at ≡ Some (Some answer) = there ∙ ap (λ (o : Option Outcome). Some o)
     (c.in-Some.is ∙ ap (λ (o : Outcome). Some o) (sym c.in_ok-answer.ensures)) in

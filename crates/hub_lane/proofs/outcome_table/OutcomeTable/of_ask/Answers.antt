@@ -31,5 +31,5 @@ returns c =
     ap (λ (v : TableState). slice_get v.items c.args.ask) (sym c.self.view_is)
     ∙ (item_at t.rows.items t.spots.items c.args.ask spot there
     ∙ ap (λ (o : Option Outcome). Some o)
-    (ap (λ (rows : List OutcomeRow). outcome_in rows spot.row spot.number) (sym c.deref.ensures.value)
+    (ap (λ (rows : List OutcomeRow). outcome_in rows spot.row spot.seq) (sym c.deref.ensures.value)
     ∙ sym c.outcome_at.ensures))

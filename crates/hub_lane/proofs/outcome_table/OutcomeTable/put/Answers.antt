@@ -3,7 +3,7 @@ use Rattle.std.proofs.lemmas.List.{length-map}
 use Rattle.std.proofs.lemmas.Option.{slice_get_read}
 use Rattle.lane_record.specs.Offers.{put}
 use Rattle.hub_lane.specs.OutcomeTable.{TableState, outcome_of_spot}
-use Rattle.hub_lane.proofs.OutcomeSpots.{askers_put, items_put, spots_put}
+use Rattle.hub_lane.proofs.OutcomeSpots.{bodies_put, items_put, spots_put}
 use Rattle.hub_lane.proofs.Tables.{put_past}
 use Rattle.hub_lane.proofs.outcome_table.OutcomeTable.put.Goals as goal
 
@@ -17,17 +17,19 @@ pub invariant_of-self : goal.invariant_of-self
 invariant_of-self c = spots_put c.self.inside.rows.items c.set_outcome.new.rows.items c.self.inside.spots.items
     c.index.result.now _ c.self.invariant c.set_outcome.ensures
 
-pub returns-then-ask-len-clause-askers : goal.returns-then-ask-len-clause-askers
-returns-then-ask-len-clause-askers c =
-    askers_put c.self.inside.rows.items c.set_outcome.new.rows.items c.self.inside.spots.items
-    c.index.result.now _ c.self.invariant c.set_outcome.ensures ∙ ap (λ (v : TableState). v.askers) c.self.view_is
+pub returns-then-ask-len-clause-bodies : goal.returns-then-ask-len-clause-bodies
+returns-then-ask-len-clause-bodies c =
+    bodies_put c.self.inside.rows.items c.set_outcome.new.rows.items c.self.inside.spots.items
+    c.index.result.now _ c.self.invariant c.set_outcome.ensures ∙ ap (λ (v : TableState). v.bodies) c.self.view_is
 
 pub returns-then-ask-len-clause-items : goal.returns-then-ask-len-clause-items
 returns-then-ask-len-clause-items c =
     let spots = c.self.inside.spots.items in
     items_put c.self.inside.rows.items c.set_outcome.new.rows.items spots
     c.args.ask c.index.result.now c.args.outcome c.self.invariant
-    (slice_get_read spots _ c.args.ask c.index.result.now refl (omega arith) c.index.ensures) c.set_outcome.ensures ∙ ap (λ (v : TableState). put c.args.ask c.args.outcome v.items) c.self.view_is
+    (slice_get_read spots _ c.args.ask c.index.result.now refl (omega arith) c.index.ensures)
+    c.set_outcome.ensures
+    ∙ ap (λ (v : TableState). put c.args.ask c.args.outcome v.items) c.self.view_is
 
 pub returns-else-ask-len-clause-items : goal.returns-else-ask-len-clause-items
 returns-else-ask-len-clause-items c =

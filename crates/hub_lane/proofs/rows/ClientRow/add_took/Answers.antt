@@ -1,6 +1,6 @@
 use Rattle.std.proofs.Common.{◌≡◌, ◌≤◌, ◌<◌, ◌∙◌, ℕ, List, true, false, length, sym, subst, ap, arith}
 use Rattle.hub_lane.specs.declared.rows.PlannedBody.{PlannedBody}
-use Rattle.hub_lane.specs.Books.{IsFirstUntaken, as_taken, is_marked}
+use Rattle.hub_lane.specs.Books.{IsFirstUntaken, Row, as_taken, is_marked}
 use Rattle.hub_lane.proofs.PlannedBodies.{first_taken, length-replaced}
 use Rattle.hub_lane.proofs.rows.ClientRow.add_took.Goals as goal
 
@@ -18,7 +18,8 @@ invariant_of-self c =
     let found = c.untaken_from-self-inside.ensures in
     let bodies_are = c.deref.ensures.value ∙ c.set_taken.ensures in
     subst (λ (bodies : List PlannedBody). IsFirstUntaken bodies r.asked after) (sym c.set_taken.ensures)
-    (first_taken r.bodies.items r.asked r.taken c.args.seq after c.self.invariant found.from found.within
+    (first_taken r.bodies.items r.asked r.taken c.args.seq after
+    (subst (λ (v : Row). c.args.seq < v.asked) (sym c.self.view_is) c.requires) c.self.invariant found.from found.within
     (subst (λ (bodies : List PlannedBody). (n : ℕ) → r.taken ≤ n → n < after → is_marked bodies n ≡ true) bodies_are
     found.taken)
     (subst (λ (bodies : List PlannedBody). after < r.asked → is_marked bodies after ≡ false) bodies_are found.stops))

@@ -3,7 +3,7 @@ use Rattle.std.proofs.lemmas.Bool.{cases_lt}
 use Rattle.hub_lane.specs.declared.outcome_table.OutcomeRow.{OutcomeRow}
 use Rattle.hub_lane.specs.OutcomeTable.{client_at}
 use Rattle.hub_lane.proofs.OutcomeRows.{client_there}
-use Rattle.hub_lane.proofs.outcome_table.row_at.Goals as goal
+use Rattle.hub_lane.proofs.outcome_table.outcome_row_at.Goals as goal
 
 pub returns-then-rows-at-clause-some : goal.returns-then-rows-at-clause-some
 returns-then-rows-at-clause-some c = record {
