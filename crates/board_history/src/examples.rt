@@ -1,7 +1,7 @@
 //! Histories worked by hand, and runs that are none. These functions do nothing when they run: their clauses are what
 //! is proved, by computing the definitions.
 
-ghost use Rattle.std.specs.Prelude.{◌≡◌, ℕ, List, ◌∷◌, []};
+ghost use Rattle.std.specs.Prelude.{◌≡◌, ◌∷◌, []};
 ghost use Rattle.board_bus.specs.declared.kind.RangeKind.TheVariants.{Rw};
 ghost use Rattle.board_bus.specs.Ranges.{opening_bus};
 ghost use Rattle.lane_record.specs.declared.outcome.Outcome.TheVariants.{Replied, TimedOut};

@@ -1,6 +1,6 @@
 //! Clients on boards of this process, and what is printed of them.
 
-ghost use Rattle.std.specs.Prelude.{IfOk, [], ◌∷◌};
+ghost use Rattle.std.specs.Prelude.{IfOk};
 ghost use Rattle.std.specs.List.{AllByRecursion};
 ghost use Rattle.script_lang.specs.Packing.{CanBePacked, HaveFewPieces};
 ghost use Rattle.direct_run.specs.Runs.{CanRun};

@@ -1,9 +1,5 @@
 //! What a client asks of a board, and the texts of lines.
 
-ghost use Rattle.std.specs.Prelude.{◌≤◌, ◌∷◌, [], sum_by};
-ghost use Rattle.transaction_codec.specs.Request.{op_count};
-ghost use Rattle.script_lang.specs.Packing.{operations};
-
 use crate::fixtures::add;
 use ipb_base::Text;
 use script_lang::Verb;

@@ -1,6 +1,6 @@
 //! One client at its seat, dispatch after dispatch: first all Asks, then all Tooks.
 
-ghost use Rattle.std.specs.Prelude.{◌≡◌, ◌<◌, ℕ, ◌∷◌, [], sum, length, OnOk};
+ghost use Rattle.std.specs.Prelude.{◌≡◌, ◌<◌, ◌∷◌, [], sum, length, OnOk};
 ghost use Rattle.hub_multiplexer.specs.Seats.{IsSeatOf};
 ghost use Rattle.client_threads.specs.Clients.{AreRisingFrom, IsPlanFor, bodies_on, counts_on};
 ghost use Rattle.client_threads.specs.Running.{AddNoPlans, AskedOnEach, AtEach, CanAsk, CanTake, DispatchedOnEach};

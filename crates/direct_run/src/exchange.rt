@@ -1,13 +1,13 @@
 //! One body sent to a board, and its reply.
 
-ghost use Rattle.std.specs.Prelude.{◌≡◌, ◌∷◌, [], true, IfOk, OnOk};
+ghost use Rattle.std.specs.Prelude.{◌≡◌, ◌∷◌, [], IfOk, OnOk};
 ghost use Rattle.ipb_base.specs.Numbers.{payload_of};
 ghost use Rattle.mtu_packer.specs.Packed.{FitsPackets};
 ghost use Rattle.board_bus.specs.Bodies.{run_body};
 ghost use Rattle.packet_codec.specs.Packet.{IsPacket, packet_bytes};
 ghost use Rattle.packet_codec.specs.declared.packet.Order.TheVariants.{Big};
 ghost use Rattle.world_model.specs.Messages.{control_packet};
-ghost use Rattle.world_model.specs.Board.{expected, execute, hear, present_bus};
+ghost use Rattle.world_model.specs.Board.{expected, hear, present_bus};
 ghost use Rattle.board_node.specs.Hearings.{grown};
 ghost use Rattle.direct_run.specs.Steps.{entry_of};
 

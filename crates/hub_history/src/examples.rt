@@ -1,6 +1,6 @@
 //! Records of two clients, worked by hand. These functions do nothing when they run: their clauses are what is proved.
 
-ghost use Rattle.std.specs.Prelude.{◌≡◌, ◌≢◌, ◌++◌, ℕ, List};
+ghost use Rattle.std.specs.Prelude.{◌≢◌, ◌++◌, ℕ, List};
 ghost use Rattle.lane_record.specs.declared.outcome.Outcome.{Outcome};
 ghost use Rattle.hub_history.specs.Lanes.{AskAll, LeftByClients, sealed_plans};
 ghost use Rattle.hub_history.specs.Examples.{client_1_alone, one_after_another, side_by_side, two_bodies, two_plans};

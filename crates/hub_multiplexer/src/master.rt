@@ -23,8 +23,7 @@ pub struct Master {
 
 impl Model for Master {
     ghost use Rattle.std.specs.Prelude.{◌+◌};
-    ghost use Rattle.std.specs.List.{AllByRecursion};
-    ghost use Rattle.hub_multiplexer.specs.Seats.{IsFirst, MasterState, knows_of, turns_of};
+    ghost use Rattle.hub_multiplexer.specs.Seats.{MasterState, knows_of, turns_of};
 
     ghost Value = { MasterState };
 

@@ -1,6 +1,6 @@
 //! Room for the values of many turns, taken before they are needed.
 
-ghost use Rattle.std.specs.Prelude.{◌≡◌, ◌≤◌, false, [], ◌∷◌, IfOk, ℕ};
+ghost use Rattle.std.specs.Prelude.{◌≡◌, [], ◌∷◌, IfOk, ℕ};
 ghost use Rattle.hub_multiplexer.specs.Ends.{IsRoomPass};
 ghost use Rattle.std.specs.Vec.{vec_capacity};
 

@@ -1,7 +1,7 @@
 //! The reply frame to one request frame.
 
-ghost use Rattle.std.specs.Prelude.{◌≡◌, ◌≤◌, length, IfOk, IfSome, OnOk, OnErr, Some};
-ghost use Rattle.std.specs.List.{AllByRecursion, slice_get};
+ghost use Rattle.std.specs.Prelude.{◌≡◌, length, IfOk, IfSome, OnOk, OnErr, Some};
+ghost use Rattle.std.specs.List.{AllByRecursion};
 ghost use Rattle.packet_codec.specs.Packet.{IsPacket};
 ghost use Rattle.lane_record.specs.Outcomes.{IsShort};
 ghost use Rattle.hub_multiplexer.specs.Seats.{IsSeatOf};

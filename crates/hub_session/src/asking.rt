@@ -1,13 +1,13 @@
 //! What the hub comes to for a body.
 
-ghost use Rattle.std.specs.Prelude.{◌≡◌, ◌≤◌, ◌<◌, length, IfOk, IfSome, OnOk, OnErr};
+ghost use Rattle.std.specs.Prelude.{◌≤◌, ◌<◌, length, IfOk, IfSome, OnOk, OnErr};
 ghost use Rattle.std.specs.List.{AllByRecursion, slice_get};
 ghost use Rattle.transaction_codec.specs.declared.room.TheConstants.{LONGEST_BODY};
 ghost use Rattle.hub_multiplexer.specs.Calls.{IsNone, MadeInTime, PerformMeans};
 ghost use Rattle.hub_multiplexer.specs.declared.answers.Performed.TheVariants as performs;
 ghost use Rattle.hub_multiplexer.specs.OwnItems.{HasTakenAllOf};
 ghost use Rattle.hub_multiplexer.specs.Seats.{ChangesAt, IsSeatOf};
-ghost use Rattle.hub_session.specs.Exchanges.{ExchangesFor, IsGotFor, request_to};
+ghost use Rattle.hub_session.specs.Exchanges.{ExchangesFor, request_to};
 ghost use Rattle.hub_session.specs.Serving.{IsLaneBelow, Reached, ReachesFor};
 ghost use Rattle.hub_session.specs.Inside.{IsSameSeat, IsSettled};
 

@@ -1,7 +1,6 @@
 //! Answers worked by hand. These functions do nothing when they run: their clauses are what is proved.
 
-ghost use Rattle.std.specs.Prelude.{◌≡◌, ℕ, [], ◌∷◌};
-ghost use Rattle.lane_record.specs.declared.outcome.Outcome.{Outcome};
+ghost use Rattle.std.specs.Prelude.{◌≡◌, [], ◌∷◌};
 ghost use Rattle.lane_record.specs.declared.outcome.Outcome.TheVariants as outcomes;
 ghost use Rattle.hub_lane.specs.declared.answers.PlanRefusal.TheVariants as refusals;
 ghost use Rattle.hub_framing.specs.Frames.{frame_bytes};

@@ -1,6 +1,6 @@
 //! A list of entries that passes hand to one another.
 
-ghost use Rattle.std.specs.Prelude.{◌≡◌, ◌^◌, ◌<◌, false, true};
+ghost use Rattle.std.specs.Prelude.{◌≡◌, ◌<◌, false, true};
 ghost use Rattle.turn_pass.specs.Record.{GrowsBy};
 
 use std::alloc::{AllocError, Global};

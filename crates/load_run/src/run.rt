@@ -1,6 +1,6 @@
 //! The run of a generated session.
 
-ghost use Rattle.std.specs.Prelude.{◌≡◌, ◌≢◌, ◌≤◌, Err, IfOk, map};
+ghost use Rattle.std.specs.Prelude.{◌≡◌, ◌≢◌, ◌≤◌, Err, IfOk};
 ghost use Rattle.ipb_base.specs.Faults.{Rose};
 ghost use Rattle.board_greeting.specs.Links.{Keeps};
 ghost use Rattle.load_run.specs.Loading.{IsGenerated, IsLoadOf, LoadLeaves, PrintsLoad};

@@ -1,6 +1,6 @@
 //! The generated session.
 
-ghost use Rattle.std.specs.Prelude.{◌≡◌, ◌++◌, ◌≤◌, [], IfOk, OnOk};
+ghost use Rattle.std.specs.Prelude.{◌≡◌, ◌≤◌, IfOk};
 ghost use Rattle.load_session.specs.Generated as spec;
 
 use board_bus::{Range, RangeKind};

@@ -1,6 +1,6 @@
 //! The summary of a run.
 
-ghost use Rattle.std.specs.Prelude.{◌≡◌, ◌+◌, ◌++◌, length, sum, sum_by, map, IfOk, OnOk, string_bytes};
+ghost use Rattle.std.specs.Prelude.{◌≡◌, ◌+◌, length, sum, sum_by, map, IfOk, string_bytes};
 ghost use Rattle.transcript.specs.Lines.{transcript_of};
 ghost use Rattle.transcript.specs.Shown as shown;
 ghost use Rattle.ipb_base.specs.Numbers.{in_64_bits};

@@ -1,6 +1,6 @@
 //! The settings, the boards and the scripts of a document.
 
-ghost use Rattle.std.specs.Prelude.{◌≡◌, ◌≤◌, IfOk, map, codes};
+ghost use Rattle.std.specs.Prelude.{◌≡◌, IfOk, map, codes};
 ghost use Rattle.toml.specs.View.{view, table_view};
 ghost use Rattle.script_lang.specs.Fields.{number_at as number_there, numbers_in, texts_in, tables_in};
 ghost use Rattle.script_lang.specs.Keys.{sim_keys};

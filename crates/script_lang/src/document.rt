@@ -1,7 +1,6 @@
 //! The whole of a document.
 
-ghost use Rattle.std.specs.Prelude.{◌≡◌, ◌≢◌, ℕ, List, [], ◌∷◌, Err, IfOk, IfErr, OnOk, MatchResult, map, length};
-ghost use Rattle.std.specs.Prelude.{codes};
+ghost use Rattle.std.specs.Prelude.{◌≡◌, ◌≢◌, List, [], ◌∷◌, Err, IfOk, IfErr, OnOk, MatchResult, map};
 ghost use Rattle.std.specs.List.{list_any};
 ghost use Rattle.std.specs.Str.{bytes_eq};
 ghost use Rattle.toml.specs.View.{table_view};
@@ -14,7 +13,6 @@ ghost use Rattle.script_lang.specs.declared.refusal.DocWhy.TheVariants as whys;
 ghost use Rattle.script_lang.specs.declared.refusal.SessionRefusal.TheVariants.{NoMemory as no_memory};
 ghost use Rattle.script_lang.specs.declared.refusal.SessionRefusal.TheVariants as refusals;
 ghost use Rattle.script_lang.specs.declared.session.Session.{Session as Sess};
-ghost use Rattle.script_lang.specs.declared.steps.PathStep.TheVariants.{Key, Item};
 
 use crate::boards::{boards, scripts, settings};
 use crate::fields::items_at;

@@ -1,6 +1,6 @@
 //! What stands under the keys of a table.
 
-ghost use Rattle.std.specs.Prelude.{◌≡◌, ◌≤◌, codes, option_copied, option_map, option_and_then, map};
+ghost use Rattle.std.specs.Prelude.{◌≡◌, option_copied, option_map, option_and_then, map};
 ghost use Rattle.address_table.specs.Rules as rule;
 ghost use Rattle.address_table.specs.Numbers.{is_between, number as number_of};
 ghost use Rattle.toml.specs.Data.{get_member, as_str, as_table, as_array};

@@ -1,8 +1,7 @@
 //! Laws of the definitions, and worked examples of them. These functions do nothing when they run: their clauses are
 //! what is proved.
 
-ghost use Rattle.std.specs.Prelude.{◌≡◌, ◌≢◌, ◌≤◌, ℕ, List, [], ◌∷◌, Some, None, length, codes, true, false};
-ghost use Rattle.toml.specs.Data.{Members, string, integer};
+ghost use Rattle.std.specs.Prelude.{◌≡◌, ℕ, List, [], ◌∷◌, Some, None, codes};
 ghost use Rattle.script_lang.specs.Document as spec;
 ghost use Rattle.std.specs.List.{AllByRecursion, AllZip};
 ghost use Rattle.board_node.specs.declared.spec.BoardSpec.{BoardSpec};
@@ -14,7 +13,7 @@ ghost use Rattle.script_lang.specs.Scripts.{steps_of};
 ghost use Rattle.script_lang.specs.Limits.{IsWithin};
 ghost use Rattle.script_lang.specs.OwnNames.{HaveOwnNames};
 ghost use Rattle.script_lang.specs.Paths.{path};
-ghost use Rattle.script_lang.specs.Texts.{endpoint, decimal_between, cut_at};
+ghost use Rattle.script_lang.specs.Texts.{endpoint};
 ghost use Rattle.script_lang.specs.declared.refusal.SessionRefusal.{SessionRefusal as Refusal};
 ghost use Rattle.script_lang.specs.declared.refusal.SessionRefusal.TheVariants.{NoMemory as no_memory};
 ghost use Rattle.reliable_engine.specs.declared.settings.TheConstants.{MAX_WINDOW};

@@ -1,6 +1,6 @@
 //! The way to a place in a document.
 
-ghost use Rattle.std.specs.Prelude.{◌≡◌, ◌∷◌, ◌++◌, [], List, IfOk, IfErr, OnOk, string_bytes};
+ghost use Rattle.std.specs.Prelude.{◌≡◌, ◌++◌, [], List, IfOk, IfErr, OnOk, string_bytes};
 ghost use Rattle.script_lang.specs.declared.steps.PathStep.TheVariants.{Key, Item};
 ghost use Rattle.script_lang.specs.Paths.{path, tail, step_text};
 ghost use Rattle.script_lang.specs.Walk.{Way as SpecWay, below, here, unless};

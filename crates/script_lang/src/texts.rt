@@ -1,6 +1,6 @@
 //! The rules of the texts of a document.
 
-ghost use Rattle.std.specs.Prelude.{◌≡◌, ◌≤◌, ◌==◌, not, ◌&&◌, length, option_map};
+ghost use Rattle.std.specs.Prelude.{◌≡◌, ◌==◌, ◌&&◌, option_map};
 ghost use Rattle.std.specs.List.{list_all};
 ghost use Rattle.address_table.specs.Rules.{holds_of};
 ghost use Rattle.toml.specs.Data.{as_str};

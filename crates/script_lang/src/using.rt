@@ -1,6 +1,6 @@
 //! What is asked of a register: the rules that it keeps, and the operation on the bus.
 
-ghost use Rattle.std.specs.Prelude.{◌≡◌, ◌<◌, ◌≤◌, slice_index, true, IfOk};
+ghost use Rattle.std.specs.Prelude.{◌≡◌, ◌<◌, slice_index, true, IfOk};
 ghost use Rattle.address_table.specs.Rules.{first_broken};
 ghost use Rattle.mtu_packer.specs.Cutting.{CanBeCut};
 ghost use Rattle.node_tree.specs.Maps.{IsRegister};

@@ -1,8 +1,8 @@
 //! What follows from what is shown of boards that were served. These functions do nothing when they run: their clauses
 //! are what is proved.
 
-ghost use Rattle.std.specs.Prelude.{◌≡◌, ℕ, ◌≤◌, List, length, map, Some, IfSome};
-ghost use Rattle.std.specs.List.{AllByRecursion, count_by, flat_map, slice_get};
+ghost use Rattle.std.specs.Prelude.{◌≡◌, ℕ, ◌≤◌, List, length, Some, IfSome};
+ghost use Rattle.std.specs.List.{count_by, flat_map, slice_get};
 ghost use Rattle.board_node.specs.declared.spec.BoardSpec.{BoardSpec};
 ghost use Rattle.world_model.specs.Board.{executed};
 ghost use Rattle.reliable_engine.specs.Settings.{Limits};

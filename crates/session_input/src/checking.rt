@@ -1,8 +1,7 @@
 //! The rules on boards: each compiles its table and has a bus.
 
-ghost use Rattle.std.specs.Prelude.{◌≡◌, None, IfOk, IfErr, OnOk};
+ghost use Rattle.std.specs.Prelude.{◌≡◌, IfOk, IfErr, OnOk};
 ghost use Rattle.std.specs.List.{AllByRecursion, AllZip};
-ghost use Rattle.board_bus.specs.Ranges.{refusal_of};
 ghost use Rattle.node_tree.specs.Refusals.{KeepsRules};
 ghost use Rattle.node_tree.specs.Names.{IsIndexOf};
 ghost use Rattle.session_input.specs.Deserved as spec;

@@ -4,7 +4,6 @@ ghost use Rattle.std.specs.Prelude.{◌≡◌, ◌≤◌, ◌<◌, ◌^◌, ◌+
 ghost use Rattle.std.specs.List.{AllByRecursion};
 ghost use Rattle.ipb_base.specs.Numbers.{payload_of};
 ghost use Rattle.mtu_packer.specs.Packed.{FitsPackets};
-ghost use Rattle.mtu_packer.specs.declared.packing.TheConstants.{MAX_PAYLOAD};
 ghost use Rattle.lane_record.specs.Items.{is_sealed, planned};
 ghost use Rattle.lane_record.specs.NextEntry.{the_seal};
 ghost use Rattle.script_lang.specs.Executable.{AreExecutable};

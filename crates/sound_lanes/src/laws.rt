@@ -1,7 +1,7 @@
 //! The law from what a lane keeps to what the history of its board rests on. This function does nothing when it runs:
 //! its clause is what is proved.
 
-ghost use Rattle.std.specs.Prelude.{◌≡◌, ◌*◌, ℕ, Bool, List, Option, IfSome};
+ghost use Rattle.std.specs.Prelude.{◌*◌, ℕ, Bool, List, Option, IfSome};
 ghost use Rattle.board_bus.specs.Cells.{CellMap};
 ghost use Rattle.world_model.specs.Hub.{Hub};
 ghost use Rattle.reliable_engine.specs.Settings.{Limits};

@@ -1,7 +1,7 @@
 //! The lines of a run's operations.
 
-ghost use Rattle.std.specs.Prelude.{◌≡◌, ℕ, ◌+◌, ◌-◌, ◌++◌, ◌^◌, ◌<◌, ◌≤◌, [], IfOk, OnOk, length, map, option_to_list};
-ghost use Rattle.std.specs.Prelude.{option_map, slice_get, slice_set, slice_index};
+ghost use Rattle.std.specs.Prelude.{◌≡◌, ◌+◌, ◌-◌, ◌++◌, ◌^◌, ◌<◌, [], IfOk, OnOk, length, map, option_to_list};
+ghost use Rattle.std.specs.Prelude.{option_map, slice_get, slice_index};
 ghost use Rattle.transcript.specs.declared.board_run.ClientPart.{ClientPart as PartValue};
 ghost use Rattle.transcript.specs.Ends as of_ends;
 ghost use Rattle.transcript.specs.Lines as spec;

@@ -3,7 +3,6 @@
 ghost use Rattle.std.specs.Prelude.{◌≡◌, ◌++◌, ◌<◌, IfOk, OnOk, All, string_bytes};
 ghost use Rattle.std.specs.List.{flat_map};
 ghost use Rattle.std.specs.FinMap as map;
-ghost use Rattle.node_tree.specs.Overlaps.{overlapping};
 ghost use Rattle.transcript.specs.Listing as spec;
 
 use crate::text::push_word;

@@ -1,10 +1,10 @@
 //! What an operation came to, by how the bodies of its pieces ended.
 
-ghost use Rattle.std.specs.Prelude.{◌≡◌, ◌++◌, ℕ, IfOk, OnOk, map, slice_get};
+ghost use Rattle.std.specs.Prelude.{◌≡◌, ◌++◌, IfOk, OnOk, map, slice_get};
 ghost use Rattle.std.specs.List.{AllByRecursion};
 ghost use Rattle.masked_fields.specs.Field.{field};
 ghost use Rattle.transcript.specs.Plan.{IsWithinBody};
-ghost use Rattle.transcript.specs.Ends.{answered, result_in, piece_result, place_at, piece_place};
+ghost use Rattle.transcript.specs.Ends.{answered, piece_result, piece_place};
 ghost use Rattle.transcript.specs.Results as spec;
 ghost use Rattle.transcript.specs.Steps.{fault_in};
 

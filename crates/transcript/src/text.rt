@@ -1,7 +1,6 @@
 //! The text of a transcript.
 
-ghost use Rattle.std.specs.Prelude.{◌≡◌, ◌+◌, ◌++◌, ◌<◌, ◌^◌, length, map, IfOk, OnOk, string_bytes, codes};
-ghost use Rattle.std.specs.List.{flat_map};
+ghost use Rattle.std.specs.Prelude.{◌≡◌, ◌+◌, ◌++◌, ◌<◌, map, IfOk, OnOk, string_bytes, codes};
 ghost use Rattle.transcript.specs.Text as spec;
 
 use crate::line::{BoardLine, OpLine, OpResult};
