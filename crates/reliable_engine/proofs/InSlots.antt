@@ -250,27 +250,15 @@ pub low_there : (slots : List (Option Flags)) (low next : ℕ) (o : OpenPlace) �
     → o.place ≡ least (places (open_from slots low SLOTS)) next
 low_there slots low next o e = sym (ap (λ (os : List OpenPlace). least (places os) next) (first_there slots low o e))
 
-not_above : (low past : ℕ) (os : List OpenPlace) → AreRising (low + 1) past (places os) → least (places os) low ≡ low
-    → os ≡ []
-not_above low past [] r lowest = refl
-not_above low past (o ∷ os) r lowest = absurd (omega (arith, r.0, lowest))
+pub least_any : (low end next : ℕ) (ps : List ℕ) → least ps end ≡ low → low < end → least ps next ≡ low
+least_any low end next [] lowest below = absurd (omega (arith, lowest))
+least_any low end next (p ∷ ps) lowest below = lowest
 
-pub low_closed : (slots : List (Option Flags)) (low : ℕ) → least (places (open_from slots low SLOTS)) low ≡ low
-    → open_at slots low ≡ None → open_from slots low SLOTS ≡ []
-low_closed slots low lowest none =
-    let rest = open_from slots (low + 1) 15 in
-    let e : open_from slots low SLOTS ≡ rest = first_closed slots low none in
-    e ∙ not_above low (low + 1 + 15) rest (rising_open slots (low + 1) 15)
-    (ap (λ (os : List OpenPlace). least (places os) low) (sym e) ∙ lowest)
-
-pub from_least : (slots : List (Option Flags)) (low next : ℕ) (os : List OpenPlace) → open_from slots low SLOTS ≡ os
-    → least (places os) low ≡ low → open_from slots (least (places os) next) SLOTS ≡ os
-from_least slots low next [] e lowest = closed_after slots low next e
-from_least slots low next (o ∷ os) e lowest = ap (λ (n : ℕ). open_from slots n SLOTS) lowest ∙ e
-
-least_again : (ps : List ℕ) (next : ℕ) → least ps (least ps next) ≡ least ps next
-least_again [] next = refl
-least_again (p ∷ ps) next = refl
+pub from_least : (slots : List (Option Flags)) (low end next : ℕ) (os : List OpenPlace)
+    → open_from slots low SLOTS ≡ os → least (places os) end ≡ low
+    → open_from slots (least (places os) next) SLOTS ≡ os
+from_least slots low end next [] e lowest = closed_after slots low next e
+from_least slots low end next (o ∷ os) e lowest = ap (λ (n : ℕ). open_from slots n SLOTS) lowest ∙ e
 
 -- ---- a place is opened above the others
 
@@ -301,16 +289,16 @@ slotted_open low place os one last is r near =
     record {
       from_one = one;
       up_to_end = omega arith;
-      lowest = ap (λ (ps : List ℕ). least ps low) all ∙ (least_push place low (places os) ∙ sym is);
+      lowest = ap (λ (ps : List ℕ). least ps (place + 1)) all ∙ (least_push place (place + 1) (places os) ∙ sym is);
       ends = record {
         rising = subst (AreRising low (place + 1)) (sym all) (rising_push low place (places os) r);
         near = omega arith;
       };
     }
 
-low_from_one : (low place : ℕ) (ps : List ℕ) → least ps low ≡ low → 1 ≤ low → 1 ≤ place → 1 ≤ least ps place
-low_from_one low place [] lowest from one = one
-low_from_one low place (p ∷ ps) lowest from one = omega (arith, lowest)
+low_from_one : (low end place : ℕ) (ps : List ℕ) → least ps end ≡ low → 1 ≤ low → 1 ≤ place → 1 ≤ least ps place
+low_from_one low end place [] lowest from one = one
+low_from_one low end place (p ∷ ps) lowest from one = omega (arith, lowest)
 
 pub opened_after : (old new : List (Option Flags)) (before end low place : ℕ) (os : List OpenPlace)
     → open_from old before SLOTS ≡ os → IsSlotted before end (open_from old before SLOTS)
@@ -319,13 +307,13 @@ pub opened_after : (old new : List (Option Flags)) (before end low place : ℕ) 
     → IsPut place (Some (opened place)) old new
     → (open_from new low SLOTS ≡ os ++ opened place ∷ []) × IsSlotted low (place + 1) (os ++ opened place ∷ [])
 opened_after old new before end low place os seen is low_is from last r near put =
-    let lowest : least (places os) before ≡ before =
-    subst (λ (qs : List OpenPlace). least (places qs) before ≡ before) seen is.lowest in
-    let one = low_from_one before place (places os) lowest is.from_one from in
+    let lowest : least (places os) end ≡ before =
+    subst (λ (qs : List OpenPlace). least (places qs) end ≡ before) seen is.lowest in
+    let one = low_from_one before end place (places os) lowest is.from_one from in
     let rising : AreRising low place (places os) = subst (λ (n : ℕ). AreRising n place (places os)) (sym low_is) r in
     let up_to_place = rising_end low place (places os) rising in
     let same : open_from old low SLOTS ≡ os =
-    ap (λ (n : ℕ). open_from old n SLOTS) low_is ∙ from_least old before place os seen lowest in (
+    ap (λ (n : ℕ). open_from old n SLOTS) low_is ∙ from_least old before end place os seen lowest in (
       open_next old new low place up_to_place (omega (arith, low_is, near))
           (subst (λ (qs : List OpenPlace). AreRising low place (places qs)) (sym same) rising) put
           ∙ ap (λ (qs : List OpenPlace). qs ++ opened place ∷ []) same,
@@ -429,7 +417,7 @@ slotted_less low end place os is =
     record {
       from_one = omega (arith, is.from_one);
       up_to_end = is.up_to_end;
-      lowest = least_again left end;
+      lowest = refl;
       ends = record { rising = rising_least low end left ends.rising; near = omega (arith, is.ends.near) };
     }
 
@@ -438,7 +426,7 @@ pub slotted_same : (low end : ℕ) (os qs : List OpenPlace) → IsSlotted low en
 slotted_same low end os qs is same = record {
   from_one = is.from_one;
   up_to_end = is.up_to_end;
-  lowest = ap (λ (ps : List ℕ). least ps low) same ∙ is.lowest;
+  lowest = ap (λ (ps : List ℕ). least ps end) same ∙ is.lowest;
   ends = record { rising = subst (AreRising low end) (sym same) is.ends.rising; near = is.ends.near };
 }
 

@@ -228,10 +228,6 @@ new_rests first window rounds = λ gave. absurd (cc)
 
 -- ---- after a give-up
 
-pub wants_control : (os : List OpenPlace) → AllByRecursion (λ o. o.control ≡ true) (map want_control os)
-wants_control [] = tt
-wants_control (o ∷ os) = (refl, wants_control os)
-
 pub offer_wants : (h : Hub) (x : Offered) → h.gave_up ≡ true → (offer h x).open_places ≡ map want_control h.open_places
 offer_wants h x gave = rw gave refl
 

@@ -45,9 +45,9 @@ pub record EndsAt (low end : ℕ) (os : List OpenPlace) : Type 0 where
   pub rising : AreRising low end (places os)
   pub near : end ≤ low + SLOTS
 
--- the place from which on the open ones are read is the lowest of them, if there is one; and each has an identifier
+-- `low` is the lowest open place, or `end` where none is open; and each open place has an identifier
 pub record IsSlotted (low end : ℕ) (os : List OpenPlace) : Type 0 where
   pub from_one : 1 ≤ low
   pub up_to_end : end ≤ 2 ^ 62 + 1
-  pub lowest : least (places os) low ≡ low
+  pub lowest : least (places os) end ≡ low
   pub ends : EndsAt low end os

@@ -3,7 +3,6 @@
 ghost use Rattle.std.specs.Prelude.{◌≡◌, ◌↔◌, ◌≤◌, ◌<◌, ◌+◌, ◌^◌, true, length, min};
 ghost use Rattle.std.specs.List.{slice_get};
 ghost use Rattle.std.specs.Prelude.{IfOk, OnOk, IfErr, OnErr, IfSome, IsTrue, IsNone};
-ghost use Rattle.packet_ids.specs.Identifier.{IsIdentifier};
 ghost use Rattle.world_model.specs.Places.{at_place};
 ghost use Rattle.world_model.specs.Hub.{new_hub, offer, hear_reply, hear_status, hear_quiet, give_up, is_waiting};
 ghost use Rattle.world_model.specs.Hub.{low, told_place, words_of};

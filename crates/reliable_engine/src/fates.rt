@@ -1,6 +1,6 @@
 //! The fates that are not handed out yet: by place, and then those of bodies that were never sent.
 
-ghost use Rattle.std.specs.Prelude.{◌≡◌, ◌≤◌, ◌<◌, ◌+◌, ◌^◌, ℕ, length, map, ◌++◌, ◌∷◌, []};
+ghost use Rattle.std.specs.Prelude.{◌≡◌, ◌≤◌, ◌<◌, ◌+◌, ℕ, length, map, ◌++◌, ◌∷◌, []};
 ghost use Rattle.std.specs.List.{insert};
 ghost use Rattle.std.specs.VecDeque.{deque_len, deque_capacity};
 ghost use Rattle.world_model.specs.declared.offered.Fate.{Fate as FateValue};
@@ -58,7 +58,7 @@ pub(crate) fn put_time_outs(
     rounds: u8,
 )
     requires slots { length slots.now ≡ SLOTS }
-    requires end { EndsAt low end (open_from slots.now low SLOTS) }
+    requires ends { EndsAt low end (open_from slots.now low SLOTS) }
     requires room { deque_len fates.old + waits (open_from slots.now low SLOTS) ≤ deque_capacity fates.old }
     requires places { AreUpTo (length sent.now) (open_from slots.now low SLOTS) }
     ensures items { fates.new.items ≡ time_out rounds sent.now (open_from slots.now low SLOTS) fates.old.items }

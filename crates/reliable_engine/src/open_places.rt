@@ -23,9 +23,9 @@ use world_model::{Fate, Offered, OpenPlace, Sending};
 #[derive(Drop)]
 pub(crate) struct OpenPlaces {
     slots: [Option<Flags>; SLOTS as usize],
-    /// The lowest open place: the others are less than `SLOTS` above it. Where none is open, any place up to `end`.
+    /// The lowest open place, or `end` where none is open. The others are less than `SLOTS` above it.
     low: u64,
-    /// All open places are below it.
+    /// One past the place that was opened last, or 1 where none was opened: all open places are below it.
     end: u64,
 }
 
@@ -58,10 +58,7 @@ impl OpenPlaces {
     pub(crate) fn low(&self, next: u64) -> u64
         ensures { result ≡ least (places self.now) next }
     {
-        match read_slot(&self.slots, self.low) {
-            Some(open) => open.place,
-            None => next,
-        }
+        if self.low < self.end { self.low } else { next }
     }
 
     /// Opens a place above the others, less than `SLOTS` above the lowest.

@@ -1,4 +1,4 @@
-ghost use Rattle.std.specs.Prelude.{◌≡◌, ◌≤◌, IfSome, IsSome, ◌↔◌};
+ghost use Rattle.std.specs.Prelude.{◌≡◌, IfSome, IsSome, ◌↔◌};
 ghost use Rattle.reliable_engine.specs.Settings.{AreLimits};
 
 use std::marker::Model;
@@ -15,7 +15,6 @@ pub struct Settings {
 }
 
 impl Model for Settings {
-    ghost use Rattle.std.specs.Prelude.{◌≤◌};
     ghost use Rattle.reliable_engine.specs.Settings.{Limits, AreLimits};
 
     ghost Value = { Limits };

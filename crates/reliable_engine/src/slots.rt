@@ -70,7 +70,7 @@ pub(crate) fn clear_slot(slots: &mut [Option<Flags>], place: u64)
 /// The lowest open place of those from `low` on and below `end`, or `end` where none is open.
 pub(crate) fn lowest_open(slots: &[Option<Flags>], low: u64, end: u64) -> u64
     requires slots { length slots.now ≡ SLOTS }
-    requires end { EndsAt low end (open_from slots.now low SLOTS) }
+    requires ends { EndsAt low end (open_from slots.now low SLOTS) }
     ensures lowest { result ≡ least (places (open_from slots.now low SLOTS)) end }
     ensures same { open_from slots.now result SLOTS ≡ open_from slots.now low SLOTS }
 {
@@ -85,7 +85,7 @@ pub(crate) fn lowest_open(slots: &[Option<Flags>], low: u64, end: u64) -> u64
 /// Nobody waits for the places any more, and nothing is to be sent for them.
 pub(crate) fn abandon_slots(slots: &mut [Option<Flags>], low: u64, end: u64)
     requires slots { length slots.old ≡ SLOTS }
-    requires end { EndsAt low end (open_from slots.old low SLOTS) }
+    requires ends { EndsAt low end (open_from slots.old low SLOTS) }
     ensures { open_from slots.new low SLOTS ≡ map abandoned (open_from slots.old low SLOTS) }
 {
     for place in low..end {
@@ -114,7 +114,7 @@ fn abandon_slot(slots: &mut [Option<Flags>], place: u64)
 /// Has each place recovered, where the board expects the packet of the place `told`.
 pub(crate) fn recover_slots(slots: &mut [Option<Flags>], low: u64, end: u64, told: u64)
     requires slots { length slots.old ≡ SLOTS }
-    requires end { EndsAt low end (open_from slots.old low SLOTS) }
+    requires ends { EndsAt low end (open_from slots.old low SLOTS) }
     ensures { open_from slots.new low SLOTS ≡ map (recover told) (open_from slots.old low SLOTS) }
 {
     for place in low..end {
@@ -152,7 +152,7 @@ fn recovered(entry: OpenPlace, told: u64) -> OpenPlace
 /// Whether the fate of one of the places is owed to somebody.
 pub(crate) fn is_any_slot_waited(slots: &[Option<Flags>], low: u64, end: u64) -> bool
     requires slots { length slots.now ≡ SLOTS }
-    requires end { EndsAt low end (open_from slots.now low SLOTS) }
+    requires ends { EndsAt low end (open_from slots.now low SLOTS) }
     ensures { result ≡ some_waited (open_from slots.now low SLOTS) }
 {
     for place in low..end {
@@ -175,8 +175,8 @@ pub(crate) fn take_wanted_slot(
 ) -> Option<Sending>
     requires slots { length slots.old ≡ SLOTS }
     requires from_one { 1 ≤ low }
-    requires up_to_end { end ≤ 2 ^ 62 + 1 }
-    requires end { EndsAt low end (open_from slots.old low SLOTS) }
+    requires few { end ≤ 2 ^ 62 + 1 }
+    requires ends { EndsAt low end (open_from slots.old low SLOTS) }
     ensures send { result ≡ sending_of (wanted first (open_from slots.old low SLOTS)) }
     ensures after { open_from slots.new low SLOTS
         ≡ places_wanted (open_from slots.old low SLOTS) (wanted first (open_from slots.old low SLOTS)) }

@@ -12,7 +12,7 @@ pub loop-place-preserved-in_default : goal.loop-place-preserved-in_default
 loop-place-preserved-in_default c =
     let is = c.loop-place.invariant in
     let same = rest_is c.args.slots.now c.loop-place.place (c.args.low + SLOTS) None
-    (omega (arith, c.requires.end.near)) (sym c.read_slot.ensures ∙ c.in_default.is) in
+    (omega (arith, c.requires.ends.near)) (sym c.read_slot.ensures ∙ c.in_default.is) in
     record {
       items = ap (λ (os : List OpenPlace). time_out c.args.rounds c.args.sent.now os c.loop-place.fates.items)
           (sym same) ∙ is.items;
@@ -27,7 +27,7 @@ put_time_out-requires c =
     let o = c.in-Some.open in
     let past = c.args.low + SLOTS in
     let rest = open_from c.args.slots.now (c.loop-place.place + 1) (past - (c.loop-place.place + 1)) in
-    let same = rest_is c.args.slots.now c.loop-place.place past (Some o) (omega (arith, c.requires.end.near))
+    let same = rest_is c.args.slots.now c.loop-place.place past (Some o) (omega (arith, c.requires.ends.near))
     (sym c.read_slot.ensures ∙ c.in-Some.is) in
     let at : AreUpTo (length c.args.sent.now) (o ∷ rest) = subst (AreUpTo (length c.args.sent.now)) same is.places in
     let end = rising_end (o.place + 1) (length c.args.sent.now + 1) (places rest) at.1 in
@@ -44,7 +44,7 @@ loop-place-preserved c =
     let sent = c.args.sent.now in
     let past = c.args.low + SLOTS in
     let rest = open_from c.args.slots.now (c.loop-place.place + 1) (past - (c.loop-place.place + 1)) in
-    let same = rest_is c.args.slots.now c.loop-place.place past (Some o) (omega (arith, c.requires.end.near))
+    let same = rest_is c.args.slots.now c.loop-place.place past (Some o) (omega (arith, c.requires.ends.near))
     (sym c.read_slot.ensures ∙ c.in-Some.is) in
     let at : AreUpTo (length sent) (o ∷ rest) = subst (AreUpTo (length sent)) same is.places in
     record {
@@ -59,7 +59,7 @@ loop-place-preserved c =
 pub returns : goal.returns
 returns c =
     let is = c.loop-place.invariant in
-    let none = none_behind c.args.slots.now c.args.low c.args.end c.loop-place.place c.requires.end (omega arith) in
+    let none = none_behind c.args.slots.now c.args.low c.args.end c.loop-place.place c.requires.ends (omega arith) in
     record {
       items = ap (λ (os : List OpenPlace). time_out c.args.rounds c.args.sent.now os c.loop-place.fates.items)
           (sym none) ∙ is.items;

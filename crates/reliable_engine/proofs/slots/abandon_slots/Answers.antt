@@ -10,11 +10,11 @@ loop-place-init c = change_none abandoned c.args.low c.args.slots.now
 pub loop-place-preserved : goal.loop-place-preserved
 loop-place-preserved c =
     change_next abandoned c.args.low c.loop-place.place c.args.slots.now c.loop-place.slots
-    c.abandon_slot.new.slots (omega arith) (omega (arith, c.requires.end.near)) c.loop-place.invariant
+    c.abandon_slot.new.slots (omega arith) (omega (arith, c.requires.ends.near)) c.loop-place.invariant
     c.abandon_slot.ensures
 
 pub returns : goal.returns
 returns c =
-    let from = rising_end c.args.low c.args.end _ c.requires.end.rising in
+    let from = rising_end c.args.low c.args.end _ c.requires.ends.rising in
     change_all abandoned c.args.low c.args.end c.loop-place.place c.args.slots.now c.loop-place.slots
-    c.requires.end (omega arith) c.loop-place.invariant
+    c.requires.ends (omega arith) c.loop-place.invariant

@@ -9,7 +9,7 @@ pub loop-place-preserved-in_default : goal.loop-place-preserved-in_default
 loop-place-preserved-in_default c =
     let none = sym c.read_slot.ensures ∙ c.in_default.is in
     ap some_waited (sym (rest_is c.args.slots.now c.loop-place.place (c.args.low + SLOTS) None
-    (omega (arith, c.requires.end.near)) none))
+    (omega (arith, c.requires.ends.near)) none))
     ∙ c.loop-place.invariant
 
 pub returns-then-open : goal.returns-then-open
@@ -19,7 +19,7 @@ returns-then-open c =
     let place = c.loop-place.place in
     let rest = open_from c.args.slots.now (place + 1) (past - (place + 1)) in
     let one = rest_is c.args.slots.now place past (Some c.in-Some.open)
-    (omega (arith, c.requires.end.near)) there in
+    (omega (arith, c.requires.ends.near)) there in
     sym (ap (λ (b : Bool). b || some_waited rest) c.if-open.true)
     ∙ (ap some_waited (sym one) ∙ c.loop-place.invariant)
 
@@ -30,12 +30,12 @@ loop-place-preserved c =
     let place = c.loop-place.place in
     let rest = open_from c.args.slots.now (place + 1) (past - (place + 1)) in
     let one = rest_is c.args.slots.now place past (Some c.in-Some.open)
-    (omega (arith, c.requires.end.near)) there in
+    (omega (arith, c.requires.ends.near)) there in
     sym (ap (λ (b : Bool). b || some_waited rest) c.if-open.false)
     ∙ (ap some_waited (sym one) ∙ c.loop-place.invariant)
 
 pub returns : goal.returns
 returns c =
     ap some_waited
-    (sym (none_behind c.args.slots.now c.args.low c.args.end c.loop-place.place c.requires.end (omega arith)))
+    (sym (none_behind c.args.slots.now c.args.low c.args.end c.loop-place.place c.requires.ends (omega arith)))
     ∙ c.loop-place.invariant

@@ -25,19 +25,19 @@ loop-place-preserved c =
     let place = c.loop-place.place in
     let none = sym c.read_slot.ensures ∙ c.in_default.is in (
       past_closed slots place none ∙ c.loop-place.invariant.0,
-      sym (rest_is slots place (c.args.low + SLOTS) None (omega (arith, c.requires.end.near)) none)
+      sym (rest_is slots place (c.args.low + SLOTS) None (omega (arith, c.requires.ends.near)) none)
           ∙ c.loop-place.invariant.1,
     )
 
 pub returns-clause-lowest : goal.returns-clause-lowest
 returns-clause-lowest c =
     ap (λ (os : List OpenPlace). least (places os) c.args.end)
-    (sym (none_behind c.args.slots.now c.args.low c.args.end c.loop-place.place c.requires.end (omega arith))
+    (sym (none_behind c.args.slots.now c.args.low c.args.end c.loop-place.place c.requires.ends (omega arith))
     ∙ c.loop-place.invariant.1)
 
 pub returns-clause-same : goal.returns-clause-same
 returns-clause-same c =
     let slots = c.args.slots.now in
     let none = sym c.loop-place.invariant.1
-    ∙ none_behind slots c.args.low c.args.end c.loop-place.place c.requires.end (omega arith) in
+    ∙ none_behind slots c.args.low c.args.end c.loop-place.place c.requires.ends (omega arith) in
     closed_after slots c.args.low c.args.end none ∙ sym none

@@ -15,7 +15,7 @@ pub loop-place-preserved-in_default : goal.loop-place-preserved-in_default
 loop-place-preserved-in_default c = record {
   same = c.loop-place.invariant.same;
   quiet = quiet_closed c.args.first c.args.low c.loop-place.place c.loop-place.slots (omega arith)
-      (omega (arith, c.requires.end.near)) (sym c.read_slot.ensures ∙ c.in_default.is)
+      (omega (arith, c.requires.ends.near)) (sym c.read_slot.ensures ∙ c.in_default.is)
       c.loop-place.invariant.quiet;
 }
 
@@ -24,7 +24,7 @@ returns-then-open-clause-send c =
     let first = c.args.first in
     let low = c.args.low in
     let taken = take_resend first low c.loop-place.place c.loop-place.slots c.put_slot.new.slots c.in-Some.open
-    (omega arith) (omega (arith, c.requires.end.near)) (sym c.read_slot.ensures ∙ c.in-Some.is) c.if-open.true
+    (omega arith) (omega (arith, c.requires.ends.near)) (sym c.read_slot.ensures ∙ c.in-Some.is) c.if-open.true
     c.loop-place.invariant.quiet c.put_slot.ensures in
     ap (λ (n : ℕ). Some (sends.Resend n)) c.id_at.ensures.identifier
     ∙ (sym (ap sending_of taken.is)
@@ -37,7 +37,7 @@ returns-then-open-clause-after c =
     let low = c.args.low in
     let old = c.loop-place.slots in
     let taken = take_resend first low c.loop-place.place old c.put_slot.new.slots c.in-Some.open
-    (omega arith) (omega (arith, c.requires.end.near)) (sym c.read_slot.ensures ∙ c.in-Some.is) c.if-open.true
+    (omega arith) (omega (arith, c.requires.ends.near)) (sym c.read_slot.ensures ∙ c.in-Some.is) c.if-open.true
     c.loop-place.invariant.quiet c.put_slot.ensures in
     taken.after
     ∙ (sym (ap (places_wanted (open_from old low SLOTS)) taken.is)
@@ -50,7 +50,7 @@ returns-then-open-2-clause-send c =
     let first = c.args.first in
     let low = c.args.low in
     let taken = take_control first low c.loop-place.place c.loop-place.slots c.put_slot-then-open-2.new.slots
-    c.in-Some.open (omega arith) (omega (arith, c.requires.end.near)) (sym c.read_slot.ensures ∙ c.in-Some.is)
+    c.in-Some.open (omega arith) (omega (arith, c.requires.ends.near)) (sym c.read_slot.ensures ∙ c.in-Some.is)
     c.if-open.false c.if-open-2.true c.loop-place.invariant.quiet c.put_slot-then-open-2.ensures in
     ap (λ (n : ℕ). Some (sends.Control c.loop-place.place n)) c.id_at-then-open-2.ensures.identifier
     ∙ (sym (ap sending_of taken.is)
@@ -63,7 +63,7 @@ returns-then-open-2-clause-after c =
     let low = c.args.low in
     let old = c.loop-place.slots in
     let taken = take_control first low c.loop-place.place old c.put_slot-then-open-2.new.slots
-    c.in-Some.open (omega arith) (omega (arith, c.requires.end.near)) (sym c.read_slot.ensures ∙ c.in-Some.is)
+    c.in-Some.open (omega arith) (omega (arith, c.requires.ends.near)) (sym c.read_slot.ensures ∙ c.in-Some.is)
     c.if-open.false c.if-open-2.true c.loop-place.invariant.quiet c.put_slot-then-open-2.ensures in
     taken.after
     ∙ (sym (ap (places_wanted (open_from old low SLOTS)) taken.is)
@@ -75,7 +75,7 @@ pub loop-place-preserved : goal.loop-place-preserved
 loop-place-preserved c = record {
   same = c.loop-place.invariant.same;
   quiet = quiet_open c.args.first c.args.low c.loop-place.place c.loop-place.slots c.in-Some.open (omega arith)
-      (omega (arith, c.requires.end.near)) (sym c.read_slot.ensures ∙ c.in-Some.is) c.if-open.false
+      (omega (arith, c.requires.ends.near)) (sym c.read_slot.ensures ∙ c.in-Some.is) c.if-open.false
       c.if-open-2.false c.loop-place.invariant.quiet;
 }
 
@@ -84,7 +84,7 @@ returns-clause-send c =
     let first = c.args.first in
     let low = c.args.low in
     let ends = subst (λ (slots : List (Option Flags)). EndsAt low c.args.end (open_from slots low SLOTS))
-    (sym c.loop-place.invariant.same) c.requires.end in
+    (sym c.loop-place.invariant.same) c.requires.ends in
     let none = take_none first low c.args.end c.loop-place.place c.loop-place.slots ends (omega arith)
     c.loop-place.invariant.quiet in
     sym (ap sending_of none)
@@ -97,7 +97,7 @@ returns-clause-after c =
     let low = c.args.low in
     let old = c.loop-place.slots in
     let ends = subst (λ (slots : List (Option Flags)). EndsAt low c.args.end (open_from slots low SLOTS))
-    (sym c.loop-place.invariant.same) c.requires.end in
+    (sym c.loop-place.invariant.same) c.requires.ends in
     let none = take_none first low c.args.end c.loop-place.place old ends (omega arith)
     c.loop-place.invariant.quiet in
     sym (ap (places_wanted (open_from old low SLOTS)) none)

@@ -1,17 +1,23 @@
-use Rattle.std.proofs.Common.{List, ap, sym, ◌∙◌}
+use Rattle.std.proofs.Common.{List, ap, sym, ◌∙◌, arith}
 use Rattle.world_model.specs.declared.offered.OpenPlace.{OpenPlace}
 use Rattle.world_model.specs.Hub.{least, places}
-use Rattle.reliable_engine.proofs.InSlots.{low_closed, low_there}
+use Rattle.world_model.proofs.Places.{rising_end}
+use Rattle.reliable_engine.specs.declared.slots.TheConstants.{SLOTS}
+use Rattle.reliable_engine.specs.Slots.{open_from}
+use Rattle.reliable_engine.proofs.InSlots.{least_any, none_between}
 use Rattle.reliable_engine.proofs.open_places.OpenPlaces.low.Goals as goal
 
-pub returns-in-Some : goal.returns-in-Some
-returns-in-Some c =
+pub returns-then-self : goal.returns-then-self
+returns-then-self c =
     let i = c.self.inside in
-    low_there i.slots i.low c.args.next c.in-Some.open (sym c.read_slot.ensures ∙ c.in-Some.is)
-    ∙ ap (λ (os : List OpenPlace). least (places os) c.args.next) c.self.view_is
+    let os = open_from i.slots i.low SLOTS in
+    sym (least_any i.low i.end c.args.next (places os) c.self.invariant.lowest c.if-self.true)
+    ∙ ap (λ (qs : List OpenPlace). least (places qs) c.args.next) c.self.view_is
 
-pub returns-in-None : goal.returns-in-None
-returns-in-None c =
+pub returns-else-self : goal.returns-else-self
+returns-else-self c =
     let i = c.self.inside in
-    let none = low_closed i.slots i.low c.self.invariant.lowest (sym c.read_slot.ensures ∙ c.in-None.is) in
-    ap (λ (os : List OpenPlace). least (places os) c.args.next) (sym none ∙ c.self.view_is)
+    let os = open_from i.slots i.low SLOTS in
+    let from = rising_end i.low i.end (places os) c.self.invariant.ends.rising in
+    let none = none_between i.low i.end os c.self.invariant.ends.rising (omega arith) in
+    ap (λ (qs : List OpenPlace). least (places qs) c.args.next) (sym none ∙ c.self.view_is)

@@ -4,7 +4,8 @@ use Rattle.world_model.specs.Hub.{least, open_with, places, without}
 use Rattle.world_model.proofs.Places.{rising_end}
 use Rattle.reliable_engine.specs.declared.slots.TheConstants.{SLOTS}
 use Rattle.reliable_engine.specs.Slots.{EndsAt, IsSlotted, open_at, open_from}
-use Rattle.reliable_engine.proofs.InSlots.{ends_less, none_between, none_named, one_named, place_at, slotted_less, taken_out}
+use Rattle.reliable_engine.proofs.InSlots.{ends_less, none_between, none_named, one_named, place_at, slotted_less}
+use Rattle.reliable_engine.proofs.InSlots.{taken_out}
 use Rattle.reliable_engine.proofs.open_places.OpenPlaces.take_open.Goals as goal
 
 pub returns-then-self-clause-found : goal.returns-then-self-clause-found
@@ -20,8 +21,8 @@ place_of-requires-clause-up_to_end c =
     let from = rising_end i.low i.end (places (open_from i.slots i.low SLOTS)) c.self.invariant.ends.rising in
     omega (arith, c.self.invariant.up_to_end)
 
-pub lowest_open-self-inside-requires-clause-end : goal.lowest_open-self-inside-requires-clause-end
-lowest_open-self-inside-requires-clause-end c =
+pub lowest_open-self-inside-requires-clause-ends : goal.lowest_open-self-inside-requires-clause-ends
+lowest_open-self-inside-requires-clause-ends c =
     let i = c.self.inside in
     let place = c.in_ok-place.place in
     let at = c.in_ok-place.ensures.found in
