@@ -1,396 +1,230 @@
-/* A hub as one would write it by hand, with no proof: `plain_hub COUNT` does the work of `ipbus load COUNT` and prints
-   the same summary. Four threads share one lane behind a lock. Packets are written and read as bytes on a simulated
-   network with the same noise, to one board with 16 words and 16 response buffers, by a window of 16 packets; replies
-   are matched by their identifiers, and what is lost is asked for again by status packets and re-send requests. */
+/* A hub as one would write it by hand, with no proof, for the times of `ipbus` beside it. It prints the same text.
+
+     plain_hub load COUNT                        the work of `ipbus load COUNT`
+     plain_hub run CLIENTS BOARDS READS EACH IN_TURN SEED
+         the work of `ipbus run` on a session of so many one-word reads, which the clients share, with a dispatch after
+         EACH of them (0: none but the last): client n on board n modulo BOARDS, or on the boards IN_TURN (1); over links
+         with the noise SEED, SEED + 1 and so on, or that lose nothing (-1)
+     plain_hub serve PORT CONNECTIONS UDP_PORT   the work of `ipbus serve`, at a simulated board, or one on a port (not 0)
+
+   A thread for each client or connection; they share a lane for each board behind a lock. Packets are written and read
+   as bytes; a simulated link loses, repeats and delays them by the same noise. Replies are matched by their identifiers
+   in a window of 16 packets, and what is lost is asked for again by status packets and re-send requests. */
 #include <arpa/inet.h>
-#include <pthread.h>
-#include <stddef.h>
+#include <netinet/tcp.h>
 #include <stdint.h>
 #include <stdio.h>
 #include <stdlib.h>
 #include <string.h>
+#include <sys/socket.h>
+#include <unistd.h>
 
-enum {
-    MTU = 1500, PACKET = MTU - 28, BUFFERS = 16, CELLS = 16, WINDOW = 16, ROUNDS = 255, CLIENTS = 4,
-    IDENTIFIERS = 65535, LIFETIME = 32768, QUEUE = 256, LATE = 16, STATUS = 64
-};
-enum { READ, WRITE, READ_PORT, WRITE_PORT, RMW_BITS, RMW_SUM };
-enum { CONTROL, STATUS_PACKET, RESEND };
+#include "plain_lane.h"
 
-static void need(int holds, const char *what) {
-    if (!holds) {
-        fprintf(stderr, "plain_hub: %s\n", what);
-        exit(1);
-    }
-}
+enum { MOST_CLIENTS = 64, LOAD_CLIENTS = 4, READS_OF_A_PACKET = (PACKET / 4 - 1) / 2, READ_ADDRESS = 4 };
 
-static uint32_t word(const unsigned char *at) {
-    uint32_t raw;
-    memcpy(&raw, at, 4);
-    return ntohl(raw);
-}
-
-static void put(unsigned char *at, uint32_t value) {
-    uint32_t raw = htonl(value);
-    memcpy(at, &raw, 4);
-}
-
-static uint32_t header(int id, int type) {
-    return 0x200000f0u | (uint32_t)id << 8 | (uint32_t)type;
-}
-
-/* the identifier and the type of a packet, or -1 where it is none in big-endian order */
-static int type_of(const unsigned char *packet, int length, int *id) {
-    uint32_t first = length >= 4 && length % 4 == 0 ? word(packet) : 0;
-    *id = first >> 8 & 0xffff;
-    return (first & 0xff0000f0) == 0x200000f0 ? (int)(first & 15) : -1;
-}
-
-static int id_at(int first, uint64_t place) {
-    return (int)((first + place - 2) % IDENTIFIERS) + 1;
-}
-
-/* ---- the network: datagrams that wait to be heard, and those that are late */
-
-struct datagram {
-    uint64_t birth, due;
-    int is_for_board, length;
-    unsigned char bytes[PACKET];
-};
-
-static struct datagram queue[QUEUE], late[LATE];
-static uint64_t queue_front, queue_back, numbers, first_sends;
-static int late_count;
-static uint64_t noise_state, noise_increment = 54 << 1 | 1;
-
-static uint32_t noise(void) {
-    uint64_t state = noise_state;
-    noise_state = state * 6364136223846793005u + noise_increment;
-    uint32_t shifted = (uint32_t)((state >> 18 ^ state) >> 27), turn = state >> 59;
-    return shifted >> turn | shifted << (-turn & 31);
-}
-
-static void begin_noise(uint64_t seed) {
-    noise_state = seed + noise_increment;
-    noise();
-}
-
-static void copy(struct datagram *to, const struct datagram *from) {
-    memcpy(to, from, offsetof(struct datagram, bytes) + from->length);
-}
-
-static void arrive(const struct datagram *it) {
-    need(queue_back - queue_front < QUEUE, "the queue is full");
-    copy(queue + queue_back++ % QUEUE, it);
-}
-
-static void send_datagram(int is_for_board, const unsigned char *bytes, int length) {
-    static const char fates[] = "ddddddddddllrr25";
-    struct datagram it;
-    it.birth = first_sends;
-    it.is_for_board = is_for_board;
-    it.length = length;
-    memcpy(it.bytes, bytes, length);
-    char fate = fates[noise() % 16];
-    numbers++;
-    if (fate == 'd' || fate == 'r') arrive(&it);
-    if (fate == 'r') arrive(&it);
-    if (fate == '2' || fate == '5') {
-        need(late_count < LATE, "too many are late");
-        it.due = numbers + (fate - '0');
-        copy(late + late_count++, &it);
-    }
-    int kept = 0;
-    for (int i = 0; i < late_count; i++) {
-        if (late[i].due == numbers) arrive(late + i);
-        else if (kept++ != i) copy(late + kept - 1, late + i);
-    }
-    late_count = kept;
-}
-
-/* ---- the board */
-
-static uint32_t cells[CELLS];
-static int expected = 1, executed;
-static struct { int id, length; unsigned char bytes[PACKET]; } replies[BUFFERS];
-
-/* executes a transaction: the words that were done, and the info code */
-static int transact(int type, uint32_t address, int count, const unsigned char *in, unsigned char *out, int *code) {
-    int is_port = type == READ_PORT || type == WRITE_PORT, is_read = type == READ || type == READ_PORT;
-    for (int done = 0; done < count; done++) {
-        uint32_t at = is_port ? address : address + done;
-        if (at >= CELLS) {
-            *code = type == WRITE || type == WRITE_PORT ? 5 : 4;
-            return done;
-        }
-        if (type == WRITE || type == WRITE_PORT) {
-            cells[at] = word(in + 4 * done);
-            continue;
-        }
-        put(out + 4 * done, cells[at]);
-        if (is_read) continue;
-        cells[at] = type == RMW_SUM ? cells[at] + word(in) : (cells[at] & word(in)) | word(in + 4);
-    }
-    *code = 0;
-    return count;
-}
-
-/* executes a body: the bytes of its reply */
-static int execute(const unsigned char *in, int length, unsigned char *out) {
-    int used = 0, made = 0, code = 0;
-    while (used < length && code == 0) {
-        uint32_t first = word(in + used);
-        int type = first >> 4 & 15, count = first >> 8 & 0xff;
-        int is_write = type == WRITE || type == WRITE_PORT, is_rmw = type == RMW_BITS || type == RMW_SUM;
-        int words = is_write ? count : type == RMW_BITS ? 2 : type == RMW_SUM;
-        if (first >> 28 != 2 || (first & 15) != 15 || type > RMW_SUM || (is_rmw && count != 1)
-            || length - used < 8 + 4 * words) {
-            put(out + made, (first & 0x0fff0000) | 0x20000001);
-            return made + 4;
-        }
-        int done = transact(type, word(in + used + 4), count, in + used + 8, out + made + 4, &code);
-        put(out + made, (first & 0xffff00f0) | (uint32_t)done << 8 | (uint32_t)code);
-        made += is_write ? 4 : 4 + 4 * done;
-        used += 8 + 4 * words;
-    }
-    return made;
-}
-
-static void board_hear(const unsigned char *packet, int length) {
-    unsigned char out[PACKET];
-    int id, type = type_of(packet, length, &id);
-    if (type == STATUS_PACKET && id == 0 && length == STATUS) {
-        memset(out, 0, STATUS);
-        put(out, header(0, STATUS_PACKET));
-        put(out + 4, MTU);
-        put(out + 8, BUFFERS);
-        put(out + 12, header(expected, CONTROL));
-        send_datagram(0, out, STATUS);
-    } else if (type == RESEND) {
-        for (int i = 0; i < BUFFERS; i++)
-            if (replies[i].length && replies[i].id == id) send_datagram(0, replies[i].bytes, replies[i].length);
-    } else if (type == CONTROL && id == expected) {
-        int made = 4 + execute(packet + 4, length - 4, out + 4), slot = executed++ % BUFFERS;
-        put(out, header(id, CONTROL));
-        memcpy(replies[slot].bytes, out, made);
-        replies[slot].id = id;
-        replies[slot].length = made;
-        expected = expected % IDENTIFIERS + 1;
-        send_datagram(0, out, made);
-    }
-}
-
-/* the next datagram for the hub, or nothing where all is quiet */
-static const struct datagram *receive(void) {
-    while (queue_front < queue_back) {
-        const struct datagram *it = queue + queue_front++ % QUEUE;
-        if (first_sends - it->birth > LIFETIME) continue;
-        if (!it->is_for_board) return it;
-        board_hear(it->bytes, it->length);
-    }
-    return 0;
-}
-
-/* ---- the hub */
-
-enum outcome { WAITING, REPLIED, TIMED_OUT, UNSENT };
+/* ---- load */
 
 struct client {
     pthread_t thread;
+    int number, fd;
     uint32_t share, done;
     uint64_t total;
-    enum outcome outcome;
-    int length, reply_length;
-    unsigned char body[PACKET], reply[PACKET];
+    struct result { uint32_t word; int board, index; uint64_t place; } *results;
+    struct body *bodies;
 };
 
-/* a place, in its slot of the window */
-struct place {
-    int is_open, wants_resend, wants_control, length;
-    struct client *client;
-    unsigned char packet[PACKET];
-};
+static struct client clients[MOST_CLIENTS];
 
-static struct client clients[CLIENTS], *asked[CLIENTS];
-static struct place places[WINDOW];
-static uint64_t asked_front, asked_back, sent, low = 1;
-static int first, wants_status, round_number, gave_up;
-static pthread_mutex_t lock = PTHREAD_MUTEX_INITIALIZER;
-
-static void ask_status(void) {
-    unsigned char packet[STATUS] = {0};
-    put(packet, header(0, STATUS_PACKET));
-    send_datagram(1, packet, STATUS);
+/* puts one transaction behind the others of a body */
+static unsigned char *put_request(struct body *body, int index, int type, uint32_t address) {
+    unsigned char *at = body->request + body->length;
+    put(at, 0x2000000f | (uint32_t)index << 16 | 1 << 8 | type << 4);
+    put(at + 4, address);
+    body->length += 8;
+    return at + 8;
 }
 
-static void send_body(struct client *client) {
-    struct place *place = places + ++sent % WINDOW;
-    put(place->packet, header(id_at(first, sent), CONTROL));
-    memcpy(place->packet + 4, client->body, client->length);
-    place->length = 4 + client->length;
-    place->client = client;
-    place->is_open = 1;
-    place->wants_resend = place->wants_control = 0;
-}
-
-static int send_next(void) {
-    if (wants_status) {
-        wants_status = 0;
-        ask_status();
-        return 1;
-    }
-    for (uint64_t at = low; at <= sent; at++) {
-        struct place *place = places + at % WINDOW;
-        unsigned char packet[4];
-        if (place->wants_resend) {
-            place->wants_resend = 0;
-            put(packet, header(id_at(first, at), RESEND));
-            send_datagram(1, packet, 4);
-            return 1;
-        }
-        if (place->wants_control) {
-            place->wants_control = 0;
-            send_datagram(1, place->packet, place->length);
-            return 1;
-        }
-    }
-    if (asked_front == asked_back || sent + 2 - low > WINDOW) return 0;
-    send_body(asked[asked_front++ % CLIENTS]);
-    first_sends++;
-    send_datagram(1, places[sent % WINDOW].packet, places[sent % WINDOW].length);
-    return 1;
-}
-
-static void hear_reply(int id, const unsigned char *body, int length) {
-    for (uint64_t at = low; at <= sent; at++) {
-        struct place *place = places + at % WINDOW;
-        if (!place->is_open || id_at(first, at) != id) continue;
-        place->is_open = place->wants_resend = place->wants_control = 0;
-        round_number = 0;
-        if (place->client) {
-            memcpy(place->client->reply, body, length);
-            place->client->reply_length = length;
-            place->client->outcome = REPLIED;
-        }
-        break;
-    }
-    while (low <= sent && !places[low % WINDOW].is_open) low++;
-}
-
-static void hear_status(int next) {
-    if (round_number == 0) return;
-    for (uint64_t at = low; at <= sent + 1; at++) {
-        if (id_at(first, at) != next) continue;
-        for (uint64_t each = low; each <= sent; each++) {
-            struct place *place = places + each % WINDOW;
-            if (!place->is_open) continue;
-            if (each < at) place->wants_resend = 1;
-            else place->wants_control = 1;
-        }
-    }
-}
-
-static void hear_quiet(void) {
-    if (round_number < ROUNDS) {
-        round_number++;
-        wants_status = 1;
-        return;
-    }
-    for (uint64_t at = low; at <= sent; at++) {
-        struct place *place = places + at % WINDOW;
-        if (place->client && place->is_open) place->client->outcome = TIMED_OUT;
-        place->client = 0;
-        place->wants_resend = place->wants_control = 0;
-    }
-    while (asked_front < asked_back) asked[asked_front++ % CLIENTS]->outcome = UNSENT;
-    wants_status = round_number = 0;
-    gave_up = 1;
-}
-
-/* all that is to be sent, and then one datagram */
-static void pump(void) {
-    while (send_next());
-    const struct datagram *heard = receive();
-    if (!heard) {
-        hear_quiet();
-        return;
-    }
-    int id, type = type_of(heard->bytes, heard->length, &id);
-    if (type == CONTROL) hear_reply(id, heard->bytes + 4, heard->length - 4);
-    if (type == STATUS_PACKET && heard->length == STATUS) hear_status(word(heard->bytes + 12) >> 8 & 0xffff);
-}
-
-static void ask(struct client *client) {
-    client->outcome = WAITING;
-    asked[asked_back++ % CLIENTS] = client;
-    for (uint64_t at = low; gave_up && at <= sent; at++) {
-        places[at % WINDOW].wants_control = places[at % WINDOW].is_open;
-    }
-    gave_up = 0;
-}
-
-static int greet(void) {
-    for (int i = 0; i < ROUNDS; i++) {
-        ask_status();
-        for (const struct datagram *heard; (heard = receive());) {
-            int id, type = type_of(heard->bytes, heard->length, &id);
-            if (type != STATUS_PACKET || heard->length != STATUS) continue;
-            first = word(heard->bytes + 12) >> 8 & 0xffff;
-            return word(heard->bytes + 4) == MTU && word(heard->bytes + 8) == BUFFERS;
-        }
-    }
-    return 0;
-}
-
-/* ---- the clients */
-
-/* adds one to the first word of the board, and answers whether it was done and what was there before */
-static int add_one(struct client *client, uint32_t *before) {
-    put(client->body, 0x2000000f | 1 << 8 | RMW_SUM << 4);
-    put(client->body + 4, 0);
-    put(client->body + 8, 1);
-    client->length = 12;
-    pthread_mutex_lock(&lock);
-    ask(client);
-    pthread_mutex_unlock(&lock);
-    for (int is_settled = 0; !is_settled;) {
-        pthread_mutex_lock(&lock);
-        if (client->outcome == WAITING) pump();
-        is_settled = client->outcome != WAITING;
-        pthread_mutex_unlock(&lock);
-    }
-    int is_done = client->outcome == REPLIED && client->reply_length == 8
-        && word(client->reply) == (0x20000000 | 1 << 8 | RMW_SUM << 4);
-    *before = is_done ? word(client->reply + 4) : 0;
-    return is_done;
-}
-
-static void *run_client(void *given) {
+static void *add_all(void *given) {
     struct client *client = given;
+    struct body body;
     for (uint32_t i = 0; i < client->share; i++) {
-        uint32_t before;
-        client->done += add_one(client, &before);
-        client->total += before;
+        body.length = 0;
+        put(put_request(&body, 0, RMW_SUM, 0), 1);
+        body.length += 4;
+        perform(lanes, &body, 1);
+        int is_done = body.outcome == REPLIED && body.reply_length == 8
+            && word(body.reply) == (0x20000000 | 1 << 8 | RMW_SUM << 4);
+        client->done += is_done;
+        client->total += is_done ? word(body.reply + 4) : 0;
     }
     return 0;
 }
 
-int main(int words, char **args) {
-    need(words == 2, "usage: plain_hub COUNT");
-    uint32_t count = strtoul(args[1], 0, 10), done = 0;
-    uint64_t total = 0;
-    begin_noise(count);
-    need(greet(), "the board is silent");
-    for (uint32_t i = 0; i < CLIENTS; i++) {
-        clients[i].share = (count + CLIENTS - 1 - i) / CLIENTS;
-        need(pthread_create(&clients[i].thread, 0, run_client, clients + i) == 0, "no thread");
-    }
-    for (int i = 0; i < CLIENTS; i++) {
-        pthread_join(clients[i].thread, 0);
+static void start(int count, void *(*work)(void *)) {
+    for (int i = 0; i < count; i++)
+        need(pthread_create(&clients[i].thread, 0, work, clients + i) == 0, "no thread");
+    for (int i = 0; i < count; i++) pthread_join(clients[i].thread, 0);
+}
+
+static int load(uint32_t count) {
+    uint64_t done = 0, total = 0;
+    open_lanes(1, count, -1);
+    for (uint32_t i = 0; i < LOAD_CLIENTS; i++) clients[i].share = (count + LOAD_CLIENTS - 1 - i) / LOAD_CLIENTS;
+    start(LOAD_CLIENTS, add_all);
+    for (int i = 0; i < LOAD_CLIENTS; i++) {
         done += clients[i].done;
         total += clients[i].total;
     }
-    printf("load %u\ndone %u\nwas total %llu\nplaces %llu\n", count, done, (unsigned long long)total,
-           (unsigned long long)sent);
+    printf("load %u\ndone %llu\nwas total %llu\nplaces %llu\n", count, (unsigned long long)done,
+           (unsigned long long)total, (unsigned long long)lanes->sent);
     return done != count;
+}
+
+/* ---- run */
+
+static uint32_t reads_of_a_dispatch;
+static int goes_in_turn;
+
+/* takes the words of the reads of a body, and says whether all are there */
+static int take_words(struct body *body, int board, struct result *results, int count) {
+    if (body->outcome != REPLIED || body->reply_length != 8 * count) return 0;
+    for (int i = 0; i < count; i++) {
+        if (word(body->reply + 8 * i) != (0x20000000 | (uint32_t)i << 16 | 1 << 8)) return 0;
+        results[i] = (struct result){word(body->reply + 8 * i + 4), board, i + 1, body->place};
+    }
+    return 1;
+}
+
+static void *read_all(void *given) {
+    struct client *client = given;
+    uint32_t each = reads_of_a_dispatch ? reads_of_a_dispatch : client->share;
+    for (uint32_t done = 0, turn = 0; done < client->share; turn++) {
+        uint32_t reads = client->share - done < each ? client->share - done : each;
+        int board = (client->number + (goes_in_turn ? turn : 0)) % boards;
+        int count = (reads + READS_OF_A_PACKET - 1) / READS_OF_A_PACKET;
+        for (uint32_t i = 0; i < reads; i++) {
+            struct body *body = client->bodies + i / READS_OF_A_PACKET;
+            int index = i % READS_OF_A_PACKET;
+            if (index == 0) body->length = 0;
+            put_request(body, index, READ, READ_ADDRESS);
+        }
+        perform(lanes + board, client->bodies, count);
+        for (int i = 0; i < count; i++) {
+            uint32_t first = i * READS_OF_A_PACKET, rest = reads - first;
+            int here = rest < READS_OF_A_PACKET ? rest : READS_OF_A_PACKET;
+            client->done += here * take_words(client->bodies + i, board, client->results + done + first, here);
+        }
+        done += reads;
+    }
+    return 0;
+}
+
+static int run(int count, int board_count, uint32_t reads, uint32_t each, int in_turn, long seed) {
+    uint64_t done = 0;
+    need(count >= 1 && count <= MOST_CLIENTS, "clients");
+    open_lanes(board_count, seed, -1);
+    reads_of_a_dispatch = each;
+    goes_in_turn = in_turn;
+    for (int i = 0; i < count; i++) {
+        struct client *client = clients + i;
+        client->number = i;
+        client->share = reads / count;
+        uint32_t longest = each ? each : client->share;
+        client->results = calloc(client->share, sizeof *client->results);
+        client->bodies = calloc(longest / READS_OF_A_PACKET + 1, sizeof *client->bodies);
+        need(client->results && client->bodies, "no memory");
+    }
+    start(count, read_all);
+    for (int i = 0; i < count; i++) {
+        printf("client %d\n", i + 1);
+        for (uint32_t j = 0; j < clients[i].share; j++) {
+            struct result *it = clients[i].results + j;
+            printf("%u read b%d:id = 0x%08x @%llu.%d\n", j + 1, it->board, it->word, (unsigned long long)it->place,
+                   it->index);
+        }
+        done += clients[i].done;
+    }
+    for (int i = 0; i < boards; i++)
+        printf("board b%d places %llu replied %llu timeout %llu lost 0\n", i, (unsigned long long)lanes[i].sent,
+               (unsigned long long)lanes[i].replied, (unsigned long long)(lanes[i].sent - lanes[i].replied));
+    return done != (uint64_t)count * (reads / count);
+}
+
+/* ---- serve */
+
+static int take(int fd, unsigned char *into, int count) {
+    for (int got = 0; got < count;) {
+        int more = read(fd, into + got, count - got);
+        if (more <= 0) return 0;
+        got += more;
+    }
+    return 1;
+}
+
+static void *serve_one(void *given) {
+    struct client *client = given;
+    static __thread struct body body;
+    unsigned char frame[8 + PACKET], reply[16 + PACKET] = {0};
+    while (take(client->fd, frame, 8)) {
+        int length = (int)word(frame) - 4, id;
+        if (length < 4 || length > PACKET || !take(client->fd, frame + 8, length)) break;
+        int board = word(frame + 4), type = type_of(frame + 8, length, &id), made = 0;
+        int code = type != CONTROL ? 4 : board >= boards ? 5 : 0;
+        if (code == 0) {
+            body.length = length - 4;
+            memcpy(body.request, frame + 12, body.length);
+            perform(lanes + board, &body, 1);
+            code = body.outcome == REPLIED ? 0 : body.outcome == TIMED_OUT ? 1 : 2;
+        }
+        if (code == 0) {
+            put(reply + 12, header(id, CONTROL));
+            memcpy(reply + 16, body.reply, body.reply_length);
+            made = 4 + body.reply_length;
+        }
+        put(reply, 8 + made);
+        put(reply + 4, board);
+        put(reply + 8, (uint32_t)code << 16);
+        if (write(client->fd, reply, 12 + made) != 12 + made) break;
+        client->done++;
+    }
+    close(client->fd);
+    return 0;
+}
+
+static int serve(int port, int count, int udp_port) {
+    struct sockaddr_in at = {.sin_family = AF_INET, .sin_port = htons(udp_port)};
+    int one = 1, fd = -1, door = socket(AF_INET, SOCK_STREAM, 0);
+    at.sin_addr.s_addr = htonl(INADDR_LOOPBACK);
+    if (udp_port) {
+        fd = socket(AF_INET, SOCK_DGRAM, 0);
+        need(connect(fd, (struct sockaddr *)&at, sizeof at) == 0, "the board's port");
+    }
+    open_lanes(1, -1, fd);
+    at.sin_port = htons(port);
+    setsockopt(door, SOL_SOCKET, SO_REUSEADDR, &one, sizeof one);
+    need(bind(door, (struct sockaddr *)&at, sizeof at) == 0 && listen(door, MOST_CLIENTS) == 0, "the port");
+    need(count >= 1 && count <= MOST_CLIENTS, "connections");
+    for (int i = 0; i < count; i++) {
+        clients[i].fd = accept(door, 0, 0);
+        need(clients[i].fd >= 0, "accept");
+        setsockopt(clients[i].fd, IPPROTO_TCP, TCP_NODELAY, &one, sizeof one);
+        need(pthread_create(&clients[i].thread, 0, serve_one, clients + i) == 0, "no thread");
+    }
+    for (int i = 0; i < count; i++) pthread_join(clients[i].thread, 0);
+    for (int i = 0; i < count; i++) printf("connection %d frames %u closed\n", i + 1, clients[i].done);
+    printf("board b0 places %llu replied %llu timeout 0 lost 0\n", (unsigned long long)lanes->sent,
+           (unsigned long long)lanes->replied);
+    return 0;
+}
+
+int main(int count, char **words) {
+    const char *what = count > 1 ? words[1] : "";
+    long numbers[6] = {0};
+    for (int i = 2; i < count && i < 8; i++) numbers[i - 2] = strtol(words[i], 0, 10);
+    if (count == 3 && !strcmp(what, "load")) return load(numbers[0]);
+    if (count == 8 && !strcmp(what, "run"))
+        return run(numbers[0], numbers[1], numbers[2], numbers[3], numbers[4], numbers[5]);
+    if (count == 5 && !strcmp(what, "serve")) return serve(numbers[0], numbers[1], numbers[2]);
+    need(0, "usage: plain_hub load COUNT | run CLIENTS BOARDS READS EACH IN_TURN SEED | serve PORT COUNT UDP_PORT");
 }

@@ -13,12 +13,14 @@ tables.group = [
 tables.main = [
   { id = "low", module = "group", mode = "hierarchical" },
   { id = "high", module = "group", address = 0x1000, mode = "hierarchical" },
+  { id = "unit", module = "group", address = 0x2000, mode = "hierarchical", count = 3, stride = 0x400 },
   { id = "slow", address = 0x8000 },
   { id = "absent", address = 0x9000 },
 ]
 """
 
-# lines for the register groups `low` and `high`; a line of a name behind them may fail on the bus
+# lines for the register groups; a line of a name behind them may fail on the bus
+GROUPS = ["low", "high", "unit[0]", "unit[2]"]
 LINES = [
   "read {group}.ctrl",
   "read {group}.ctrl.gain",
@@ -80,7 +82,7 @@ class Draw:
             many=many,
             many_words=self.words(many) if "{many_words}" in numbers else "",
         )
-        register = register.format(group=self.random.choice(["low", "high"]))
+        register = register.format(group=self.random.choice(GROUPS))
         return f"{verb} {self.random.choice(boards)}:{register} {numbers}".rstrip() if rest else verb
 
     def network(self, kind):
@@ -104,14 +106,14 @@ class Draw:
             f"  {{ base = 0, size = {size}, init = [{self.word()}, 5, {self.word()}] }},\n"
             f'  {{ base = 0x1000, size = 2 }}, {{ base = 0x1002, size = 1, kind = "ro", init = [7] }},\n'
             f'  {{ base = 0x1003, size = 1, kind = "wo" }}, {{ base = 0x1004, size = 712 }},\n'
-            f'  {{ base = 0x8000, size = 1, kind = "slow" }},\n]\n'
+            f'  {{ base = 0x2000, size = 2764 }}, {{ base = 0x8000, size = 1, kind = "slow" }},\n]\n'
         )
 
     def session(self, clients):
         """A session with one of these numbers of clients."""
         boards = [f"b{place}" for place in range(self.random.choice([1, 1, 2, 3]))]
         rounds = self.random.choice([1, 2, 3, 8, 255])
-        text = f"rounds = {rounds}\nwindow = {self.random.randint(1, 16)}\n{REGISTERS}"
+        text = f"format = 2\nrounds = {rounds}\nwindow = {self.random.randint(1, 16)}\n{REGISTERS}"
         text += "".join(self.board(board, ["noise"] if board == boards[0] else NETWORKS) for board in boards)
         for _ in range(self.random.choice(clients)):
             script = [self.line(boards) for _ in range(self.random.choice([2, 10, 30, 60]))]

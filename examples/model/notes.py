@@ -1,13 +1,56 @@
-"""What the program says on standard error, by its status."""
+"""What the program says on standard error at its end."""
+import pathlib
+import re
 
+TOP = pathlib.Path(__file__).resolve().parent.parent.parent
+
+# by its status, where that decides it
 NOTES = {
     0: b"",
     1: b"",
-    2: b"ipbus: the session document is read from standard input; try: bin/ipbus run < examples/first.toml\n",
-    3: b"",
-    4: b"ipbus: the input could not be read; nothing was written\n",
-    5: b"ipbus: the output could not be written; at most a part of the text was\n",
-    6: b"ipbus: memory ran out; nothing was written\n",
-    7: b"ipbus: a link to a board could not be made; nothing was written\n",
-    8: b"ipbus: the port could not be listened to, or a connection not be accepted; nothing was written\n",
+    4: b"ipbus: the input could not be read; nothing was executed or written\n",
+    6: b"ipbus: memory ran out; nothing was written, and what boards were asked before may have been executed\n",
+    7: b"ipbus: a link to a board could not be made; nothing was executed or written\n",
+    8: b"ipbus: the port could not be listened to, or a connection not be accepted: the boards were asked before, and "
+    b"only the text is missing\n",
 }
+
+# where the output could not be written, by what it was to have
+CUT = "ipbus: the output could not be written: {}\n"
+UNWRITTEN = {
+    "run": CUT.format("the scripts were executed, and only the text is cut or missing"),
+    "serve": CUT.format("the connections were served, and only the text is cut or missing"),
+    "load": CUT.format("the session was run, and only the text is cut or missing"),
+    "check": CUT.format("only the listing is cut or missing"),
+    "usage": CUT.format("only the usage line is cut or missing"),
+    "refusal": CUT.format(
+        "the document was refused, nothing was executed, and the line that says so is cut or missing"
+    ),
+}
+
+TRY = "the session document is read from standard input; try: bin/ipbus run < examples/first.toml, or --help"
+VERSION = "version 1, for IPbus 2.0 and session documents of formats 1 and 2"
+
+
+def usage_notes(line):
+    """What is said of words that are no command: which word is wrong, and how to go on."""
+    return f"ipbus: {line}\nipbus: {TRY}\n".encode()
+
+
+def sentences():
+    """The refusals of `docs/FORMATS.md` and what each means, by the second word and the last one of its line."""
+    page = (TOP / "docs" / "FORMATS.md").read_text()
+    rows = re.findall(r"^\| `(document|table|compile|board|script)` \| `(\w+)` \| (.+) \|$", page, re.MULTILINE)
+    return {(kind, name): sentence for kind, name, sentence in rows}
+
+
+SENTENCES = sentences()
+CONTROL = re.compile(r"[\x00-\x1f\x7f-\x9f]")
+
+
+def is_note_of(refusal, note):
+    """Whether a note has the sentence of a refusal, which stands in its first line."""
+    _, kind, *_, name = refusal.decode().split()
+    lines = note.decode().removesuffix("\n").split("\n")
+    is_told = lines[0].endswith(SENTENCES.get((kind, name), "no such refusal"))
+    return is_told and all(line.startswith("ipbus: ") and not CONTROL.search(line) for line in lines)

@@ -30,15 +30,23 @@ class Register:
         return (self.mask & -self.mask).bit_length() - 1
 
 
+def places_of(node):
+    """The id of a node at each of its indexes, and how many words that stands from the node's address."""
+    if "count" not in node:
+        return [(node["id"], 0)]
+    stride = number(node.get("stride", 1))
+    return [(f"{node['id']}[{i}]", i * stride) for i in range(number(node["count"]))]
+
+
 def registers_of(tables, nodes, prefix="", base=0):
     """All registers below these nodes by their dotted names."""
     found = {}
     for node in nodes:
-        name = prefix + node["id"]
-        address = base + number(node.get("address", 0))
-        found[name] = Register(node, address)
         below = tables[node["module"]] if "module" in node else node.get("nodes", [])
-        found.update(registers_of(tables, below, name + ".", address))
+        for id_at, offset in places_of(node):
+            address = base + number(node.get("address", 0)) + offset
+            found[prefix + id_at] = Register(node, address)
+            found.update(registers_of(tables, below, prefix + id_at + ".", address))
     return found
 
 

@@ -7,7 +7,7 @@ from concurrent.futures import ThreadPoolExecutor
 
 from net.frames import ask
 from net.packets import READ, RMW_SUM, WRITE, request, transaction_header
-from net.peers import require
+from net.peers import require, rest_of
 from net.sessions import OWN, SHARED
 
 
@@ -92,7 +92,7 @@ def require_served(hub, lines, boards):
     done = hub.finish()
     wanted = [*lines, *boards]
     given = done.text.splitlines()
-    require(done.note == "", f"it says {done.note!r}")
+    require(rest_of(done.note) == hub.listens, f"it says {done.note!r}")
     fits = len(given) == len(wanted) and all(re.fullmatch(*both) for both in zip(wanted, given))
     require(fits and done.text.endswith("\n"), f"text {done.text!r}, wanted {wanted}")
     all_closed = all(line.endswith(" closed") for line in given[: len(lines)])

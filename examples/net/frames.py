@@ -42,10 +42,10 @@ def code_owed(board, packet, mtus):
 
 
 class Connection:
-    """A client's connection to a hub on this machine. No call takes longer than its time."""
+    """A client's connection to a hub. No call takes longer than its time."""
 
-    def __init__(self, port, seconds=60.0):
-        self.socket = socket.create_connection(("127.0.0.1", port), seconds)
+    def __init__(self, port, seconds=60.0, host="127.0.0.1"):
+        self.socket = socket.create_connection((host, port), seconds)
         self.socket.setsockopt(socket.IPPROTO_TCP, socket.TCP_NODELAY, 1)
 
     def send(self, data):

@@ -3,6 +3,8 @@ import contextlib
 import os
 import pathlib
 import random
+import re
+import shutil
 import signal
 import socket
 import subprocess
@@ -21,9 +23,16 @@ SECONDS = 150
 
 Ended = namedtuple("Ended", "status text note")
 
+# what the hub says of a board that is silent for a while
+SILENT = re.compile(r"ipbus: \S+ (?:does not answer|answers again)\n")
+
 
 class Wrong(Exception):
     """Something is not as it is owed."""
+
+
+class Skipped(Exception):
+    """This machine does not allow the case."""
 
 
 def require(holds, told):
@@ -43,8 +52,11 @@ class Board:
         self.first = first
         self.wait = wait
         self.more = more
+        self.address = "127.0.0.1"
         self.port = None
+        self.file = name
         self.log = None
+        self.process = None
 
     def head(self):
         return f'[[board]]\nname = "{self.name}"\ntable = "main"\n'
@@ -59,7 +71,7 @@ class Board:
     def on_network(self, wait):
         """Its table in a document, as a board behind its port. A receive waits for so many milliseconds, if it does not
         say otherwise."""
-        return f'{self.head()}link = "udp"\naddress = "127.0.0.1:{self.port}"\nwait = {self.wait or wait}\n'
+        return f'{self.head()}link = "udp"\naddress = "{self.address}:{self.port}"\nwait = {self.wait or wait}\n'
 
     def words(self, log):
         """The words that start it."""
@@ -93,6 +105,11 @@ class Board:
         return sum(line.split()[0] == kind for line in self.log.read_text().splitlines())
 
 
+def rest_of(note):
+    """What is said on standard error but that boards are silent and answer again, as they do on a bad network."""
+    return SILENT.sub("", note)
+
+
 def ended(process):
     """The end of a hub: its status and what it wrote."""
     text, note = process.communicate(timeout=SECONDS)
@@ -115,14 +132,20 @@ def stop_while_it_waits(process, board, kind, count):
 class Hub:
     """A hub that serves: its port, and what it came to."""
 
-    def __init__(self, process, port, document):
+    def __init__(self, process, port, count, document):
         self.process = process
         self.port = port
+        self.count = count
         self.document = document
 
     def finish(self):
         """Its end: its status and what it wrote."""
         return ended(self.process)
+
+    @property
+    def listens(self):
+        """What it says once its port is open."""
+        return f"ipbus: listens on port {self.port} for {self.count} connection{'s' * (self.count > 1)}\n"
 
 
 def free_port(kind=socket.SOCK_STREAM):
@@ -135,6 +158,35 @@ def free_port(kind=socket.SOCK_STREAM):
             return port
 
 
+class Network:
+    """A network of its own with one more address, to which the route can be taken away. `words` start a program in it."""
+
+    address = "10.73.0.1"
+
+    def __init__(self, holder):
+        self.words = ["nsenter", "-t", str(holder.pid), "-n", "-U", "--preserve-credentials"]
+        if os.geteuid() == 0:
+            self.words = ["nsenter", "-t", str(holder.pid), "-n"]
+        self.ip("link", "set", "lo", "up")
+        self.give_route(None)
+
+    def ip(self, *words):
+        done = subprocess.run([*self.words, "ip", *words], capture_output=True)
+        if done.returncode:
+            raise Skipped(f"no network of its own: {done.stderr.decode().strip()}")
+
+    def take_route(self, kind):
+        """The address is reached no more: it has no route, or one of a kind that refuses."""
+        if kind:
+            self.ip("route", "add", kind, self.address)
+        self.ip("route", "del", "local", self.address, "dev", "lo", "table", "local")
+
+    def give_route(self, kind):
+        self.ip("route", "add", "local", self.address, "dev", "lo", "table", "local")
+        if kind:
+            self.ip("route", "del", kind, self.address)
+
+
 class Peers:
     """What a case starts. `command` is the hub: the words before `run` and `serve`."""
 
@@ -143,6 +195,16 @@ class Peers:
         self.folder = tempfile.TemporaryDirectory()
         self.processes = []
         self.open = []
+
+    def network(self):
+        """A network of its own, where the machine allows one."""
+        words = ["unshare", "-n"] if os.geteuid() == 0 else ["unshare", "-r", "-n"]
+        if not all(shutil.which(name) for name in ("unshare", "nsenter", "ip")):
+            raise Skipped("no network of its own: there is no unshare, nsenter or ip")
+        holder = self.start([*words, "sh", "-c", "echo ready; exec sleep 150"])
+        if holder.stdout.readline() != b"ready\n":
+            raise Skipped(f"no network of its own: {holder.stderr.read().decode().strip()}")
+        return Network(holder)
 
     def start(self, words, document=None):
         file = tempfile.TemporaryFile()
@@ -153,12 +215,20 @@ class Peers:
         self.processes.append(process)
         return process
 
-    def start_board(self, board):
-        board.log = pathlib.Path(self.folder.name) / f"{board.name}.log"
-        process = self.start([sys.executable, HERE / "board", *board.words(board.log)])
+    def start_board(self, board, network=None, port=0):
+        """Starts a board, in a network of its own if there is one, and on this port if it is not 0."""
+        board.log = pathlib.Path(self.folder.name) / f"{board.file}.log"
+        words = [sys.executable, HERE / "board", "--port", str(port), *board.words(board.log)]
+        process = self.start([*(network.words if network else []), *words])
         line = process.stdout.readline().split()
         require(line[:1] == [b"port"], f"{board.name} did not start: {process.stderr.read() if not line else line}")
         board.port = int(line[1])
+        board.process = process
+
+    def start_client(self, hub, network, lines):
+        """A client of board 0 in a network of its own, which waits for the hub to listen."""
+        words = [sys.executable, HERE / "client", "--wait", str(hub.port), "0", *lines]
+        return self.start([*network.words, *words])
 
     def start_boards(self, boards):
         for board in boards:
@@ -177,9 +247,14 @@ class Peers:
     def run(self, document):
         return ended(self.start_run(document))
 
-    def serve(self, document, count):
+    def serve(self, document, count, network=None, limits=()):
+        """A hub that serves so many connections, in a network of its own if there is one, under limits of the shell."""
         port = free_port()
-        return Hub(self.start([*self.command, "serve", str(port), str(count)], document), port, document)
+        words = [*self.command, "serve", str(port), str(count)]
+        for limit in limits:
+            words = ["bash", "-c", f'ulimit {limit} && exec "$@"', "bash", *words]
+        process = self.start([*(network.words if network else []), *words], document)
+        return Hub(process, port, count, document)
 
     def connect(self, hub):
         """A connection to the hub, which may have to begin to listen first."""
@@ -221,6 +296,9 @@ def within(seconds, command, case):
     signal.setitimer(signal.ITIMER_REAL, seconds)
     try:
         case(peers)
+        return []
+    except Skipped as why:
+        print(f"skipped: {why}", file=sys.stderr, flush=True)
         return []
     except Exception as error:
         return [f"{type(error).__name__}: {error}"]

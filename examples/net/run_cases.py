@@ -7,7 +7,7 @@ from model.network import run_session
 from model.replay import check_transcript
 from model.session import Session
 from model.transcript import transcript
-from net.peers import ended, free_port, require, stop_while_it_waits
+from net.peers import ended, free_port, require, rest_of, stop_while_it_waits
 from net.sessions import (
     CALM_WAIT,
     DEAF_WAIT,
@@ -53,7 +53,7 @@ def script_of(board, draw):
 
 
 def require_same(done, text, status):
-    require(done.note == "", f"it says {done.note!r}")
+    require(rest_of(done.note) == "", f"it says {done.note!r}")
     require(done.text == text, f"text {done.text!r}, wanted {text!r}")
     require(done.status == status, f"status {done.status}, wanted {status}")
 
@@ -74,7 +74,9 @@ def require_owed(done, boards, scripts, **settings):
 def run_owes(peers, boards, scripts, wait, **settings):
     """`run` owes that text whatever befalls datagrams."""
     peers.start_boards(boards)
-    require_owed(peers.run(on_network(boards, scripts, wait, **settings)), boards, scripts, **settings)
+    done = peers.run(on_network(boards, scripts, wait, **settings))
+    require(wait != CALM_WAIT or done.note == "", f"it says {done.note!r} where all is well")
+    require_owed(done, boards, scripts, **settings)
 
 
 def run_on_two_boards(peers):
@@ -118,7 +120,7 @@ def run_of_clients_at_once(seed):
             scripts.append(lines)
         peers.start_boards(boards)
         done = peers.run(on_network(boards, scripts, LATE_WAIT))
-        require(done.note == "", f"it says {done.note!r}")
+        require(rest_of(done.note) == "", f"it says {done.note!r}")
         check_transcript(Session(simulated(boards, scripts)), done.text, done.status)
         require(done.status == 0, f"status {done.status}")
         for board, places in zip(boards, places_told(done.text)):

@@ -422,6 +422,32 @@ def serve_a_board_that_falls_silent(peers):
     falling.require_executed(2)
 
 
+# how often two clients ask at once, and how many seconds an answer may take; a receive waits longer
+BOTH, SOON = 20, 5
+LONG_WAIT = 10_000
+
+
+def serve_two_at_once(peers):
+    """A board that answers only once it holds the packets of two connections: both are answered. A hub that has one packet
+    under way would wait for as long as a receive does, again and again."""
+    (board,) = boards_of(1, together=2)
+    peers.start_board(board)
+    hub = peers.serve(on_network([board], wait=LONG_WAIT), 2)
+    connections = [peers.connect(hub) for _ in range(2)]
+    for number in range(BOTH):
+        began = time.monotonic()
+        for connection in connections:
+            connection.send(FIRST)
+        for connection in connections:
+            require(connection.take(len(FIRST_REPLY)) == FIRST_REPLY, f"answer {number} is wrong")
+        took = time.monotonic() - began
+        require(took < SOON, f"both were answered after {took:.1f} s")
+    for connection in connections:
+        end(connection)
+    require_served(hub, [line_of(n, BOTH, ["closed"]) for n in (1, 2)], [board_line("b0", 2 * BOTH)])
+    board.require_executed(2 * BOTH)
+
+
 def serve_while_it_is_stopped(peers):
     """The hub is stopped and goes on while it waits for each reply of a board. That interrupts the wait, and no frame
     is lost by it."""
@@ -460,7 +486,9 @@ def serve_refuses_a_script(peers):
     peers.start_boards(boards)
     words = [*peers.command, "serve", str(free_port()), "1"]
     done = ended(peers.start(words, on_network(boards, [["read b0:none"]])))
-    require(done == (3, "refused: script 1 1 UnknownName\n", ""), f"{done}")
+    note = "ipbus: client 1, line 1: the table of the board has no such register\n"
+    note += 'ipbus: the word "b0:none" of the line "read b0:none"\n'
+    require(done == (3, "refused: script 1 1 UnknownName\n", note), f"{done}")
     require(not boards[0].log.read_text(), "it asked the board")
 
 
@@ -470,9 +498,10 @@ def serve_on_a_port_in_use(peers):
     peers.start_board(board)
     taken = socket.create_server(("0.0.0.0", 0))
     peers.open.append(taken)
-    process = peers.start([*peers.command, "serve", str(taken.getsockname()[1]), "1"], on_network([board]))
-    done = ended(process)
-    require(done == (8, "", NOTES[8].decode()), f"{done}")
+    port = taken.getsockname()[1]
+    done = ended(peers.start([*peers.command, "serve", str(port), "1"], on_network([board])))
+    note = f"ipbus: port {port}: Address already in use (os error 98)\n{NOTES[8].decode()}"
+    require(done == (8, "", note), f"{done}")
     board.require_executed(0)
 
 
@@ -497,6 +526,7 @@ def serve_cases():
     cases["serve 64 clients at once, boards on ports"] = serve_64_at_once(KINDS[1])
     cases["serve a silent board"] = serve_a_silent_board
     cases["serve a board that falls silent"] = serve_a_board_that_falls_silent
+    cases["serve a board that answers two packets at once"] = serve_two_at_once
     cases["serve while it is stopped and goes on"] = serve_while_it_is_stopped
     cases["serve runs no script"] = serve_runs_no_script
     cases["serve refuses a script"] = serve_refuses_a_script

@@ -21,21 +21,23 @@ class Calm:
 
 class Trouble:
     """A datagram is lost, heard twice or late, by up to 30 milliseconds, so that later ones overtake it; and strange
-    ones come beside it, which a hub is to leave alone."""
+    ones come beside it, which a hub is to leave alone. `lost` is how many of a hundred are lost."""
 
-    def __init__(self, seed):
+    def __init__(self, seed, lost=LOST, latest=LATEST):
         self.draw = random.Random(seed)
+        self.lost = lost
+        self.latest = latest
 
     def delays(self):
         """The delay of each copy of a datagram, in seconds: none where it is lost."""
         drawn = self.draw.randrange(100)
-        if drawn < LOST:
+        if drawn < self.lost:
             return []
-        copies = 2 if drawn < LOST + TWICE else 1
+        copies = 2 if drawn < self.lost + TWICE else 1
         return [self.delay() for _ in range(copies)]
 
     def delay(self):
-        return self.draw.uniform(0.001, LATEST) if self.draw.randrange(100) < LATE else 0.0
+        return self.draw.uniform(self.latest / 30, self.latest) if self.draw.randrange(100) < LATE else 0.0
 
     def strange(self, expected):
         """Datagrams that answer nothing: parts of words, words that are no packet, a re-send request, and a reply with

@@ -27,37 +27,37 @@ first-append : {X : Type 0} (xs ys : List X) → slice_get (xs ++ ys) 0 ≡ opti
 first-append [] ys = refl
 first-append (x ∷ xs) ys = refl
 
-pub first_fault-append : (xs ys : List (List ℕ × Data))
-    → first_fault (xs ++ ys) ≡ option_or (first_fault xs) (first_fault ys)
-first_fault-append xs ys =
-    ap (λ fs. slice_get fs 0) (filter_map-append fault_at xs ys)
-    ∙ first-append (filter_map fault_at xs) (filter_map fault_at ys)
+pub first_fault-append : (format : ℕ) (xs ys : List (List ℕ × Data))
+    → first_fault format (xs ++ ys) ≡ option_or (first_fault format xs) (first_fault format ys)
+first_fault-append format xs ys =
+    ap (λ fs. slice_get fs 0) (filter_map-append (fault_at format) xs ys)
+    ∙ first-append (filter_map (fault_at format) xs) (filter_map (fault_at format) ys)
 
-fault-below : (i : ℕ) (path : List ℕ) (d : Data) (others : List (List ℕ × Data)) (o : Option TableWhy)
-    → node_fault d ≡ o
-    → first_fault (map (place_in i) others) ≡ option_map (below_fault i) (first_fault others)
-    → first_fault (map (place_in i) ((path, d) ∷ others))
-    ≡ option_map (below_fault i) (first_fault ((path, d) ∷ others))
-fault-below i path d others None is ih = rw is ih
-fault-below i path d others (Some why) is ih = rw is refl
+fault-below : (format : ℕ) (i : ℕ) (path : List ℕ) (d : Data) (others : List (List ℕ × Data)) (o : Option TableWhy)
+    → node_fault format d ≡ o
+    → first_fault format (map (place_in i) others) ≡ option_map (below_fault i) (first_fault format others)
+    → first_fault format (map (place_in i) ((path, d) ∷ others))
+    ≡ option_map (below_fault i) (first_fault format ((path, d) ∷ others))
+fault-below format i path d others None is ih = rw is ih
+fault-below format i path d others (Some why) is ih = rw is refl
 
-pub first_fault-below : (i : ℕ) (xs : List (List ℕ × Data))
-    → first_fault (map (place_in i) xs) ≡ option_map (below_fault i) (first_fault xs)
-first_fault-below i [] = refl
-first_fault-below i (x ∷ xs) = fault-below i x.0 x.1 xs (node_fault x.1) refl (first_fault-below i xs)
+pub first_fault-below : (format : ℕ) (i : ℕ) (xs : List (List ℕ × Data))
+    → first_fault format (map (place_in i) xs) ≡ option_map (below_fault i) (first_fault format xs)
+first_fault-below format i [] = refl
+first_fault-below format i (x ∷ xs) = fault-below format i x.0 x.1 xs (node_fault format x.1) refl (first_fault-below format i xs)
 
 -- the first fault of a node with those below it
-pub first_fault-table : (ms : Members) (ps : List (List ℕ × Data)) → broken_rule ms ≡ None
-    → first_fault (([], table ms) ∷ ps) ≡ first_fault ps
-first_fault-table ms ps kept = rw kept
+pub first_fault-table : (format : ℕ) (ms : Members) (ps : List (List ℕ × Data)) → broken_rule format ms ≡ None
+    → first_fault format (([], table ms) ∷ ps) ≡ first_fault format ps
+first_fault-table format ms ps kept = rw kept
 
 -- the first fault of some items: that of the first item, or else that of the others
-pub first_fault-item : (i : ℕ) (d : Data) (ds : Items)
-    → first_fault (preorder_items i (item d ds))
-    ≡ option_or (option_map (below_fault i) (first_fault (preorder d))) (first_fault (preorder_items (i + 1) ds))
-first_fault-item i d ds =
-    first_fault-append (map (place_in i) (preorder d)) (preorder_items (i + 1) ds)
-    ∙ ap (λ f. option_or f (first_fault (preorder_items (i + 1) ds))) (first_fault-below i (preorder d))
+pub first_fault-item : (format : ℕ) (i : ℕ) (d : Data) (ds : Items)
+    → first_fault format (preorder_items i (item d ds))
+    ≡ option_or (option_map (below_fault i) (first_fault format (preorder d))) (first_fault format (preorder_items (i + 1) ds))
+first_fault-item format i d ds =
+    first_fault-append format (map (place_in i) (preorder d)) (preorder_items (i + 1) ds)
+    ∙ ap (λ f. option_or f (first_fault format (preorder_items (i + 1) ds))) (first_fault-below format i (preorder d))
 
 preorder_array-items : (d : Data) → preorder_array d ≡ preorder_items 0 (unwrap_or (as_array d) no_items)
 preorder_array-items (string s) = refl
@@ -83,29 +83,29 @@ preorder_children-items no_members = refl
 preorder_children-items (member key d ms) =
     at_nodes (slice_cmp nat_cmp (codes "nodes") key) d ms (preorder_children-items ms)
 
-pub first_fault-node : (ms : Members) → broken_rule ms ≡ None
-    → first_fault (preorder (table ms)) ≡ first_fault (preorder_items 0 (children ms))
-first_fault-node ms kept =
-    first_fault-table ms (preorder_children ms) kept ∙ ap first_fault (preorder_children-items ms)
+pub first_fault-node : (format : ℕ) (ms : Members) → broken_rule format ms ≡ None
+    → first_fault format (preorder (table ms)) ≡ first_fault format (preorder_items 0 (children ms))
+first_fault-node format ms kept =
+    first_fault-table format ms (preorder_children ms) kept ∙ ap (first_fault format) (preorder_children-items ms)
 
 mutual
-  pub node-faultless : (d : Data) (n : Node) → IsNode d n → first_fault (preorder d) ≡ None
-  node-faultless d n (node ms m kept says are) = first_fault-node ms kept ∙ nodes-faultless 0 (children ms) _ are
+  pub node-faultless : (format : ℕ) (d : Data) (n : Node) → IsNode format d n → first_fault format (preorder d) ≡ None
+  node-faultless format d n (node ms m kept says are) = first_fault-node format ms kept ∙ nodes-faultless format 0 (children ms) _ are
 
   -- nodes have no fault
-  pub nodes-faultless : (i : ℕ) (ds : Items) (ns : List Node) → AreNodes ds ns
-      → first_fault (preorder_items i ds) ≡ None
-  nodes-faultless i ds ns none = refl
-  nodes-faultless i ds ns (more d n es ms one others) =
-      first_fault-item i d es ∙ rw (node-faultless d n one) (nodes-faultless (i + 1) es ms others)
+  pub nodes-faultless : (format : ℕ) (i : ℕ) (ds : Items) (ns : List Node) → AreNodes format ds ns
+      → first_fault format (preorder_items i ds) ≡ None
+  nodes-faultless format i ds ns none = refl
+  nodes-faultless format i ds ns (more d n es ms one others) =
+      first_fault-item format i d es ∙ rw (node-faultless format d n one) (nodes-faultless format (i + 1) es ms others)
 
-pub table-faultless : (d : Data) (t : Table) → IsTable d t → table_fault d ≡ None
-table-faultless (array ds) t are = nodes-faultless 0 ds t.nodes.items are
-table-faultless (string s) t h = absurd h
-table-faultless (integer z) t h = absurd h
-table-faultless (float x) t h = absurd h
-table-faultless (boolean b) t h = absurd h
-table-faultless (datetime dt) t h = absurd h
-table-faultless (table ms) t h = absurd h
+pub table-faultless : (format : ℕ) (d : Data) (t : Table) → IsTable format d t → table_fault format d ≡ None
+table-faultless format (array ds) t are = nodes-faultless format 0 ds t.nodes.items are
+table-faultless format (string s) t h = absurd h
+table-faultless format (integer z) t h = absurd h
+table-faultless format (float x) t h = absurd h
+table-faultless format (boolean b) t h = absurd h
+table-faultless format (datetime dt) t h = absurd h
+table-faultless format (table ms) t h = absurd h
 
 pub ruleset no_fault = (table-faultless)

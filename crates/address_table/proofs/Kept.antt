@@ -19,13 +19,13 @@ kept_rest zero rs kept = kept
 kept_rest (suc i) [] kept = kept
 kept_rest (suc i) (rule ∷ rs) kept = kept_rest i rs (first_kept rule.0 rule.1 rs kept).1
 
-pub kept-shape : (ms : Members) → broken_rule ms ≡ None → has_shape ms ≡ true
+pub kept-shape : (format : ℕ) (ms : Members) → broken_rule format ms ≡ None → has_shape ms ≡ true
 unfolding broken_rule
-kept-shape ms kept = (first_kept Shape (has_shape ms) (drop 1 (rules ms)) kept).0
+kept-shape format ms kept = (first_kept Shape (has_shape ms) (drop 1 (rules format ms)) kept).0
 
-pub kept-texts : (ms : Members) → broken_rule ms ≡ None → has_texts ms ≡ true
+pub kept-texts : (format : ℕ) (ms : Members) → broken_rule format ms ≡ None → has_texts ms ≡ true
 unfolding has_shape
-kept-texts ms kept = (and_parts (has_texts ms) _ (and_parts _ _ (kept-shape ms kept)).0).0
+kept-texts format ms kept = (and_parts (has_texts ms) _ (and_parts _ _ (kept-shape format ms kept)).0).0
 
 -- the texts of a node
 pub record AreTexts (ms : Members) : Type 0 where
@@ -36,10 +36,10 @@ pub record AreTexts (ms : Members) : Type 0 where
   pub tags : IsSome (text_at (codes "tags") ms)
   pub description : IsSome (text_at (codes "description") ms)
 
-pub texts : (ms : Members) → broken_rule ms ≡ None → AreTexts ms
+pub texts : (format : ℕ) (ms : Members) → broken_rule format ms ≡ None → AreTexts ms
 unfolding has_texts
-texts ms kept =
-    let (id, a) = and_parts _ _ (kept-texts ms kept) in
+texts format ms kept =
+    let (id, a) = and_parts _ _ (kept-texts format ms kept) in
     let (permission, b) = and_parts _ _ a in
     let (mode, c) = and_parts _ _ b in
     let (name, d) = and_parts _ _ c in

@@ -19,42 +19,43 @@ use Rattle.address_table.specs.declared.nodes.Node.{Node}
 use Rattle.address_table.proofs.Faults.{below_fault, first_fault-item, node-faultless}
 
 -- one more node at the end
-pub AreNodes-push : (ds : Items) (ns : List Node) (d : Data) (n : Node) → AreNodes ds ns → IsNode d n
-    → AreNodes (push_item ds d) (ns ++ n ∷ [])
-AreNodes-push ds ns d n none one = more d n no_items [] one none
-AreNodes-push ds ns d n (more e m es ms first others) one =
-    more e m (push_item es d) (ms ++ n ∷ []) first (AreNodes-push es ms d n others one)
+pub AreNodes-push : (format : ℕ) (ds : Items) (ns : List Node) (d : Data) (n : Node) → AreNodes format ds ns → IsNode format d n
+    → AreNodes format (push_item ds d) (ns ++ n ∷ [])
+AreNodes-push format ds ns d n none one = more d n no_items [] one none
+AreNodes-push format ds ns d n (more e m es ms first others) one =
+    more e m (push_item es d) (ms ++ n ∷ []) first (AreNodes-push format es ms d n others one)
 
 -- the nodes of the items so far, and of one more
-pub next_node : (vs : List Value) (i : ℕ) (v : Value) (ns : List Node) (n : Node) → i < length vs → v ≡ get_or vs i v
-    → AreNodes (items_view (take i vs)) ns → IsNode (view v) n
-    → AreNodes (items_view (take (i + 1) vs)) (ns ++ n ∷ [])
-next_node vs i v ns n more_left here are one =
+pub next_node : (format : ℕ) (vs : List Value) (i : ℕ) (v : Value) (ns : List Node) (n : Node) → i < length vs → v ≡ get_or vs i v
+    → AreNodes format (items_view (take i vs)) ns → IsNode format (view v) n
+    → AreNodes format (items_view (take (i + 1) vs)) (ns ++ n ∷ [])
+next_node format vs i v ns n more_left here are one =
     rw (take_more vs i v more_left, ← here, items_view-push (take i vs) v)
-    (AreNodes-push (items_view (take i vs)) ns (view v) n are one)
+    (AreNodes-push format (items_view (take i vs)) ns (view v) n are one)
 
 -- the first fault from an item on is that of the item, or else that of the items after it
-from_item : (vs : List Value) (i : ℕ) (v : Value) → i < length vs → v ≡ get_or vs i v
-    → first_fault (preorder_items i (items_view (drop i vs)))
-    ≡ option_or (option_map (below_fault i) (first_fault (preorder (view v))))
-    (first_fault (preorder_items (i + 1) (items_view (drop (i + 1) vs))))
-from_item vs i v more_left here =
-    ap (λ ds. first_fault (preorder_items i ds)) (items_view-drop vs i v more_left)
-    ∙ ap (λ w. first_fault (preorder_items i (item (view w) (items_view (drop (i + 1) vs))))) (sym here)
-    ∙ first_fault-item i (view v) (items_view (drop (i + 1) vs))
+from_item : (format : ℕ) (vs : List Value) (i : ℕ) (v : Value) → i < length vs → v ≡ get_or vs i v
+    → first_fault format (preorder_items i (items_view (drop i vs)))
+    ≡ option_or (option_map (below_fault i) (first_fault format (preorder (view v))))
+    (first_fault format (preorder_items (i + 1) (items_view (drop (i + 1) vs))))
+from_item format vs i v more_left here =
+    ap (λ ds. first_fault format (preorder_items i ds)) (items_view-drop vs i v more_left)
+    ∙ ap (λ w. first_fault format (preorder_items i (item (view w) (items_view (drop (i + 1) vs))))) (sym here)
+    ∙ first_fault-item format i (view v) (items_view (drop (i + 1) vs))
 
 -- what refuses the next item refuses those from it on
-pub next_refused : (vs : List Value) (i : ℕ) (v : Value) (refusal : TableRefusal) → i < length vs → v ≡ get_or vs i v
-    → IsFault (option_map (below_fault i) (first_fault (preorder (view v)))) refusal
-    → IsFault (first_fault (preorder_items i (items_view (drop i vs)))) refusal
-next_refused vs i v NoMemory more_left here fault = tt
-next_refused vs i v (At path why) more_left here fault = from_item vs i v more_left here ∙ rw fault refl
+pub next_refused : (format : ℕ) (vs : List Value) (i : ℕ) (v : Value) (refusal : TableRefusal) → i < length vs → v ≡ get_or vs i v
+    → IsFault (option_map (below_fault i) (first_fault format (preorder (view v)))) refusal
+    → IsFault (first_fault format (preorder_items i (items_view (drop i vs)))) refusal
+next_refused format vs i v NoMemory more_left here fault = tt
+next_refused format vs i v (At path why) more_left here fault = from_item format vs i v more_left here ∙ rw fault refl
 
 -- past a node there is the first fault of the items after it
-pub past_node : (vs : List Value) (i : ℕ) (v : Value) (n : Node) → i < length vs → v ≡ get_or vs i v → IsNode (view v) n
-    → first_fault (preorder_items i (items_view (drop i vs)))
-    ≡ first_fault (preorder_items (i + 1) (items_view (drop (i + 1) vs)))
-past_node vs i v n more_left here one = from_item vs i v more_left here ∙ rw (node-faultless (view v) n one) refl
+pub past_node : (format : ℕ) (vs : List Value) (i : ℕ) (v : Value) (n : Node) → i < length vs → v ≡ get_or vs i v → IsNode format (view v) n
+    → first_fault format (preorder_items i (items_view (drop i vs)))
+    ≡ first_fault format (preorder_items (i + 1) (items_view (drop (i + 1) vs)))
+past_node format vs i v n more_left here one =
+    from_item format vs i v more_left here ∙ rw (node-faultless format (view v) n one) refl
 
 -- an item is no deeper than all of them
 depth-at : (vs : List Value) (i : ℕ) (d : Value) → i < length vs

@@ -1,5 +1,5 @@
--- A value is at most one table.
-use Rattle.std.proofs.Common.{◌≡◌, List, [], ◌∷◌, Option, Some}
+-- A value is at most one table, whatever the formats.
+use Rattle.std.proofs.Common.{◌≡◌, ℕ, List, [], ◌∷◌, Option, Some}
 use Rattle.toml.specs.Data.{Data, string, integer, float, boolean, datetime, array, table, Items, no_items, item}
 use Rattle.toml.specs.Data.{Members}
 use Rattle.address_table.specs.Tables.{SaysKeys, children, IsNode, node, AreNodes, none, more, IsTable, SameKeys}
@@ -18,62 +18,68 @@ same-keys ms n m a b = record {
   permission = one_value _ _ _ a.permission b.permission;
   mode = one_value _ _ _ a.mode b.mode;
   size = one_value _ _ _ a.size b.size;
+  count = one_value _ _ _ a.count b.count;
+  stride = one_value _ _ _ a.stride b.stride;
   «module» = one_value _ _ _ a.«module» b.«module»;
   tags = one_value _ _ _ a.tags b.tags;
   description = one_value _ _ _ a.description b.description;
 }
 
 -- a node, by the value that it is written as
-abbrev AsNode : Data → Node → Type 0
-AsNode (table ms) n = SaysKeys ms n × AreNodes (children ms) (out-Node n).nodes.items
-AsNode _ n = ⊥
+abbrev AsNode : ℕ → Data → Node → Type 0
+AsNode format (table ms) n = SaysKeys ms n × AreNodes format (children ms) (out-Node n).nodes.items
+AsNode format _ n = ⊥
 
-as_node : (d : Data) (n : Node) → IsNode d n → AsNode d n
-as_node d n (node ms m kept says are) = (says, are)
+as_node : (format : ℕ) (d : Data) (n : Node) → IsNode format d n → AsNode format d n
+as_node format d n (node ms m kept says are) = (says, are)
 
-abbrev AsNodes : Items → List Node → Type 0
-AsNodes no_items [] = Unit {0}
-AsNodes no_items (n ∷ ns) = ⊥
-AsNodes (item d ds) [] = ⊥
-AsNodes (item d ds) (n ∷ ns) = IsNode d n × AreNodes ds ns
+abbrev AsNodes : ℕ → Items → List Node → Type 0
+AsNodes format no_items [] = Unit {0}
+AsNodes format no_items (n ∷ ns) = ⊥
+AsNodes format (item d ds) [] = ⊥
+AsNodes format (item d ds) (n ∷ ns) = IsNode format d n × AreNodes format ds ns
 
-as_nodes : (ds : Items) (ns : List Node) → AreNodes ds ns → AsNodes ds ns
-as_nodes ds ns none = tt
-as_nodes ds ns (more d n es ms one others) = (one, others)
+as_nodes : (format : ℕ) (ds : Items) (ns : List Node) → AreNodes format ds ns → AsNodes format ds ns
+as_nodes format ds ns none = tt
+as_nodes format ds ns (more d n es ms one others) = (one, others)
 
-no_more : (ms : List Node) → AsNodes no_items ms → SameNodes [] ms
-no_more [] h = neither
-no_more (m ∷ ms) h = absurd h
+no_more : (format : ℕ) (ms : List Node) → AsNodes format no_items ms → SameNodes [] ms
+no_more format [] h = neither
+no_more format (m ∷ ms) h = absurd h
 
 abbrev SameNode : Node → Node → Type 0
 SameNode n m = SameKeys n m × SameNodes (out-Node n).nodes.items (out-Node m).nodes.items
 
-more_both : (d : Data) (n : Node) (ds : Items) (ns ms : List Node) → ((m : Node) → IsNode d m → SameNode n m)
-    → ((ks : List Node) → AreNodes ds ks → SameNodes ns ks)
-    → AsNodes (item d ds) ms → SameNodes (n ∷ ns) ms
-more_both d n ds ns [] first others h = absurd h
-more_both d n ds ns (m ∷ ms) first others h =
+more_both : (format : ℕ) (d : Data) (n : Node) (ds : Items) (ns ms : List Node)
+    → ((m : Node) → IsNode format d m → SameNode n m)
+    → ((ks : List Node) → AreNodes format ds ks → SameNodes ns ks)
+    → AsNodes format (item d ds) ms → SameNodes (n ∷ ns) ms
+more_both format d n ds ns [] first others h = absurd h
+more_both format d n ds ns (m ∷ ms) first others h =
     let (keys, below) = first m h.0 in both n m ns ms keys below (others ms h.1)
 
-mutual
-  one_node : (d : Data) (n m : Node) → IsNode d n → IsNode d m → SameNode n m
-  one_node d n m (node ms k kept says are) other =
-      let (says_too, are_too) = as_node (table ms) m other in (
-        same-keys ms k m says says_too,
-        one_list (children ms) (out-Node k).nodes.items (out-Node m).nodes.items are are_too,
-      )
+-- what keys say does not depend on the format
+module _ (format second : ℕ) where
+  mutual
+    one_node : (d : Data) (n m : Node) → IsNode format d n → IsNode second d m → SameNode n m
+    one_node d n m (node ms k kept says are) other =
+        let (says_too, are_too) = as_node second (table ms) m other in (
+          same-keys ms k m says says_too,
+          one_list (children ms) (out-Node k).nodes.items (out-Node m).nodes.items are are_too,
+        )
 
-  one_list : (ds : Items) (ns ms : List Node) → AreNodes ds ns → AreNodes ds ms → SameNodes ns ms
-  one_list ds ns ms none other = no_more ms (as_nodes no_items ms other)
-  one_list ds ns ms (more d n es ks one others) other =
-      more_both d n es ks ms (λ m is. one_node d n m one is) (λ js are. one_list es ks js others are)
-      (as_nodes (item d es) ms other)
+    one_list : (ds : Items) (ns ms : List Node) → AreNodes format ds ns → AreNodes second ds ms → SameNodes ns ms
+    one_list ds ns ms none other = no_more second ms (as_nodes second no_items ms other)
+    one_list ds ns ms (more d n es ks one others) other =
+        more_both second d n es ks ms (λ m is. one_node d n m one is) (λ js are. one_list es ks js others are)
+        (as_nodes second (item d es) ms other)
 
-pub one_table : (value : Data) (t u : Table) → IsTable value t → IsTable value u → SameTable t u
-one_table (array ds) t u a b = one_list ds t.nodes.items u.nodes.items a b
-one_table (string s) t u a b = absurd a
-one_table (integer z) t u a b = absurd a
-one_table (float x) t u a b = absurd a
-one_table (boolean b) t u a c = absurd a
-one_table (datetime dt) t u a b = absurd a
-one_table (table ms) t u a b = absurd a
+pub one_table : (format second : ℕ) (value : Data) (t u : Table) → IsTable format value t → IsTable second value u
+    → SameTable t u
+one_table format second (array ds) t u a b = one_list format second ds t.nodes.items u.nodes.items a b
+one_table format second (string s) t u a b = absurd a
+one_table format second (integer z) t u a b = absurd a
+one_table format second (float x) t u a b = absurd a
+one_table format second (boolean b) t u a c = absurd a
+one_table format second (datetime dt) t u a b = absurd a
+one_table format second (table ms) t u a b = absurd a

@@ -1,18 +1,18 @@
 -- The rules that a node keeps, in the order in which they are judged. Profile; the modes and what they take are uHAL's.
 use Rattle.std.specs.Prelude.{ℕ, Bool, true, false, not, ◌&&◌, ◌||◌, ◌==◌, if◌then◌else◌, List, [], ◌∷◌, length}
-use Rattle.std.specs.Prelude.{codes, Option, Some, None, is_some}
+use Rattle.std.specs.Prelude.{codes, Option, Some, None, is_some, nat_le}
 use Rattle.std.specs.List.{list_all}
 use Rattle.std.specs.Option.{option_map_or}
 use Rattle.toml.specs.Data.{Data, table, Members, get_member}
-use Rattle.address_table.specs.Numbers.{is_between}
+use Rattle.ipb_base.specs.Digits.{is_between}
 use Rattle.address_table.specs.Keys.{has_node_keys, text_at, address_at, mask_at, size_at, permission_at, mode_at}
-use Rattle.address_table.specs.Keys.{nodes_at}
-use Rattle.address_table.specs.Limits.{longest_id, most_words}
+use Rattle.address_table.specs.Keys.{nodes_at, count_at, stride_at}
+use Rattle.address_table.specs.Limits.{longest_id, most_words, most_indexes}
 use Rattle.address_table.specs.declared.kinds.Mode.{Mode}
 use Rattle.address_table.specs.declared.kinds.Mode.TheVariants.{Single, Block, Port, Hierarchical}
 use Rattle.address_table.specs.declared.refusal.TableWhy.{TableWhy}
 use Rattle.address_table.specs.declared.refusal.TableWhy.TheVariants.{Shape, UnknownKey, MissingId, BadId, BadNumber}
-use Rattle.address_table.specs.declared.refusal.TableWhy.TheVariants.{BadMask, BadPermission, BadMode, BadSize}
+use Rattle.address_table.specs.declared.refusal.TableWhy.TheVariants.{BadMask, BadPermission, BadMode, BadSize, BadCount}
 
 -- a letter, a digit, `_` or `-`
 abbrev pub is_id_byte : ℕ → Bool
@@ -42,7 +42,9 @@ has_shape ms =
     (has_texts ms && is_some (nodes_at ms)) && not (has_key (codes "module") ms && has_key (codes "nodes") ms)
 
 abbrev pub has_numbers : Members → Bool
-has_numbers ms = (is_some (address_at ms) && is_some (mask_at ms)) && is_some (size_at ms)
+has_numbers ms =
+    ((is_some (address_at ms) && is_some (mask_at ms)) && is_some (size_at ms))
+    && (is_some (count_at ms) && is_some (stride_at ms))
 
 -- only whole words go in blocks and through ports
 abbrev pub takes_mask : Mode → ℕ → Bool
@@ -58,6 +60,16 @@ takes_size Port size = is_between 1 most_words size
 takes_size Single size = size == 1
 takes_size Hierarchical size = size == 1
 
+-- a number of registers is from 1 to `most_indexes`, where one is said
+abbrev pub takes_count : Option ℕ → Bool
+takes_count count = option_map_or (is_between 1 most_indexes) count true
+
+-- a stride is at least 1, and stands beside a count alone
+unfoldable pub has_count : Members → Bool
+has_count ms =
+    holds_of takes_count (count_at ms)
+    && (holds_of (nat_le 1) (stride_at ms) && (has_key (codes "count") ms || not (has_key (codes "stride") ms)))
+
 -- a test of the mode with a number
 abbrev pub mode_takes : (Mode → ℕ → Bool) → Option ℕ → Members → Bool
 mode_takes takes number ms = holds_of (λ mode. holds_of (takes mode) number) (mode_at ms)
@@ -70,13 +82,14 @@ register_rules ms =
     ∷ (BadPermission, is_some (permission_at ms))
     ∷ (BadMode, mode_takes takes_mask (mask_at ms) ms)
     ∷ (BadSize, mode_takes takes_size (size_at ms) ms)
+    ∷ (BadCount, has_count ms)
     ∷ []
 
--- all rules, in order
-abbrev pub rules : Members → List (TableWhy × Bool)
-rules ms =
+-- all rules of a format, in order
+abbrev pub rules : ℕ → Members → List (TableWhy × Bool)
+rules format ms =
     (Shape, has_shape ms)
-    ∷ (UnknownKey, has_node_keys ms)
+    ∷ (UnknownKey, has_node_keys format ms)
     ∷ (MissingId, has_key (codes "id") ms)
     ∷ (BadId, holds_of is_id (text_at (codes "id") ms))
     ∷ register_rules ms
@@ -86,11 +99,11 @@ abbrev pub first_broken : {Why : Type 0} → List (Why × Bool) → Option Why
 first_broken [] = None
 first_broken (rule ∷ rest) = if rule.1 then first_broken rest else Some rule.0
 
--- the first rule that a node breaks, its children left aside
-unfoldable pub broken_rule : Members → Option TableWhy
-broken_rule ms = first_broken (rules ms)
+-- the first rule of a format that a node breaks, its children left aside
+unfoldable pub broken_rule : ℕ → Members → Option TableWhy
+broken_rule format ms = first_broken (rules format ms)
 
 -- the same for any value in the place of a node
-abbrev pub node_fault : Data → Option TableWhy
-node_fault (table ms) = broken_rule ms
-node_fault _ = Some Shape
+abbrev pub node_fault : ℕ → Data → Option TableWhy
+node_fault format (table ms) = broken_rule format ms
+node_fault format _ = Some Shape

@@ -10,11 +10,11 @@ ghost use Rattle.address_table.specs.Rules as rule;
 ghost use Rattle.address_table.specs.Fields.{SaysFields};
 
 use crate::kinds::{mode_named, permission_named};
-use crate::{MAX_ID_BYTES, MAX_WORDS, Mode, Permission, TableWhy, number};
+use crate::{MAX_ID_BYTES, MAX_INDEXES, MAX_WORDS, Mode, Permission, TableWhy, number};
 use toml::value::Array;
 use toml::{Table, Value};
 
-/// What a node says of its register.
+/// What a node says of its registers.
 #[derive(Clone, Copy)]
 pub(crate) struct Fields {
     pub address: u32,
@@ -22,6 +22,8 @@ pub(crate) struct Fields {
     pub permission: Permission,
     pub mode: Mode,
     pub size: u32,
+    pub count: Option<u32>,
+    pub stride: u32,
 }
 
 /// Whether a text is an id (profile): 1 to `MAX_ID_BYTES` letters, digits, `_` and `-`. Nodes, tables and boards are
@@ -44,17 +46,17 @@ fn is_id_byte(byte: u8) -> bool
     matches!(byte, b'A'..=b'Z' | b'a'..=b'z' | b'0'..=b'9' | b'_' | b'-')
 }
 
-/// What a node says of its register, or the first rule that the node breaks, its children left aside.
+/// What a node says of its registers, or the first rule of the format that the node breaks, its children left aside.
 #[tactic(auto, unfolding(crate::specs::Rules::broken_rule))]
-pub(crate) fn read_fields(members: &Table) -> Result<Fields, TableWhy>
-    ensures kept { OnOk result (rule.broken_rule (table_view members.now) ≡ None) }
+pub(crate) fn read_fields(members: &Table, format: u32) -> Result<Fields, TableWhy>
+    ensures kept { OnOk result (rule.broken_rule format (table_view members.now) ≡ None) }
     ensures read { IfOk result (λ fields. SaysFields (table_view members.now) fields) }
-    ensures refused { IfErr result (λ why. rule.broken_rule (table_view members.now) ≡ Some why) }
+    ensures refused { IfErr result (λ why. rule.broken_rule format (table_view members.now) ≡ Some why) }
 {
     if !has_shape(members) {
         return Err(TableWhy::Shape);
     }
-    if !has_node_keys(members) {
+    if !has_node_keys(members, format) {
         return Err(TableWhy::UnknownKey);
     }
     if !has_key(members, "id") {
@@ -82,6 +84,12 @@ fn read_register(members: &Table) -> Result<Fields, TableWhy>
     let Some(size) = number_at(members, "size", 1) else {
         return Err(TableWhy::BadNumber);
     };
+    let Some(count) = count_at(members) else {
+        return Err(TableWhy::BadNumber);
+    };
+    let Some(stride) = number_at(members, "stride", 1) else {
+        return Err(TableWhy::BadNumber);
+    };
     if mask == 0 {
         return Err(TableWhy::BadMask);
     }
@@ -97,12 +105,17 @@ fn read_register(members: &Table) -> Result<Fields, TableWhy>
     if !takes_size(mode, size) {
         return Err(TableWhy::BadSize);
     }
+    if !has_count(members, count, stride) {
+        return Err(TableWhy::BadCount);
+    }
     Ok(Fields {
         address,
         mask,
         permission,
         mode,
         size,
+        count,
+        stride,
     })
 }
 
@@ -128,20 +141,34 @@ fn has_texts(members: &Table) -> bool
         && text_at(members, "description").is_some()
 }
 
-/// Whether each key is one that a node may have.
-fn has_node_keys(members: &Table) -> bool
-    ensures { result ≡ spec.has_node_keys (table_view members.now) }
+/// Whether each key is one that a node of the format may have.
+fn has_node_keys(members: &Table, format: u32) -> bool
+    ensures { result ≡ spec.has_node_keys format (table_view members.now) }
 {
     for (key, _value) in members.iter() {
-        if !is_node_key(key.as_str()) {
+        if !is_node_key(key.as_str(), format) {
             return false;
         }
     }
     true
 }
 
-fn is_node_key(key: &str) -> bool
-    ensures { result ≡ spec.is_node_key key.now }
+fn is_node_key(key: &str, format: u32) -> bool
+    ensures { result ≡ spec.is_node_key format key.now }
+{
+    is_common_key(key) || (format == 2 && is_array_key(key))
+}
+
+/// The keys of an array of nodes.
+fn is_array_key(key: &str) -> bool
+    ensures { result ≡ spec.is_array_key key.now }
+{
+    key == "count" || key == "stride"
+}
+
+/// The keys of a node of any format.
+fn is_common_key(key: &str) -> bool
+    ensures { result ≡ spec.is_common_key key.now }
 {
     key == "id"
         || key == "address"
@@ -188,6 +215,25 @@ fn takes_size(mode: Mode, size: u32) -> bool
     }
 }
 
+/// Whether the count, if there is one, and the stride are in their ranges, and a stride stands beside a count alone.
+#[tactic(auto, unfolding(crate::specs::Rules::has_count))]
+fn has_count(members: &Table, count: Option<u32>, stride: u32) -> bool
+    requires counted { spec.count_at (table_view members.now) ≡ Some count }
+    requires strided { spec.stride_at (table_view members.now) ≡ Some stride }
+    ensures { result ≡ rule.has_count (table_view members.now) }
+{
+    takes_count(count) && 1 <= stride && (has_key(members, "count") || !has_key(members, "stride"))
+}
+
+fn takes_count(count: Option<u32>) -> bool
+    ensures { result ≡ rule.takes_count count }
+{
+    match count {
+        Some(count) => 1 <= count && count <= MAX_INDEXES,
+        None => true,
+    }
+}
+
 /// The value at a key.
 fn value_at<'a>(members: &'a Table, key: &str) -> Option<&'a Value>
     ensures { option_map (λ value. view value.now) result ≡ get_member key.now (table_view members.now) }
@@ -229,6 +275,19 @@ fn number_at(members: &Table, key: &str, default: u32) -> Option<u32>
     match value_at(members, key) {
         Some(value) => number(value),
         None => Some(default),
+    }
+}
+
+/// How many registers the node names by indexes, if it says so.
+fn count_at(members: &Table) -> Option<Option<u32>>
+    ensures { result ≡ spec.count_at (table_view members.now) }
+{
+    match value_at(members, "count") {
+        Some(value) => match number(value) {
+            Some(count) => Some(Some(count)),
+            None => None,
+        },
+        None => Some(None),
     }
 }
 

@@ -12,11 +12,11 @@ mod numbers;
 mod read;
 mod refusal;
 
-pub use ipb_base::{NoMemory, Text};
+pub use ipb_base::{NoMemory, Text, number_in_text};
 pub use keys::is_id;
 pub use kinds::{Mode, Permission};
-pub use limits::{MAX_ID_BYTES, MAX_WORDS};
+pub use limits::{MAX_ID_BYTES, MAX_INDEXES, MAX_WORDS};
 pub use nodes::{Node, Table};
-pub use numbers::{number, number_in_text};
+pub use numbers::number;
 pub use read::read_table;
 pub use refusal::{Path, TableRefusal, TableWhy};

@@ -50,13 +50,13 @@ pub enum TableWhy {
     /// The table is no array, the node is no TOML table, a key has a value of another kind than it should, or `module`
     /// stands beside `nodes`.
     Shape,
-    /// A key that no node has.
+    /// A key that no node of the table's format has. `count` and `stride` are keys of format 2.
     UnknownKey,
     /// There is no `id`.
     MissingId,
     /// An id that is not 1 to `MAX_ID_BYTES` letters, digits, `_` or `-`.
     BadId,
-    /// `address`, `mask` or `size` is no number of 32 bits.
+    /// `address`, `mask`, `size`, `count` or `stride` is no number of 32 bits.
     BadNumber,
     /// A mask of 0.
     BadMask,
@@ -66,6 +66,8 @@ pub enum TableWhy {
     BadMode,
     /// A size of 0 or past `MAX_WORDS`, or one other than 1 on a single or hierarchical node.
     BadSize,
+    /// A count of 0 or past `MAX_INDEXES`, a stride of 0, or a stride without a count.
+    BadCount,
 }
 
 /// Why a table was not read.
@@ -119,6 +121,7 @@ impl fmt::Display for TableWhy {
             TableWhy::BadPermission => write!(f, "an unknown permission"),
             TableWhy::BadMode => write!(f, "an unknown mode, or a mask that it does not take"),
             TableWhy::BadSize => write!(f, "a size that the mode does not take"),
+            TableWhy::BadCount => write!(f, "a count or a stride out of range, or a stride alone"),
         }
     }
 }

@@ -4,7 +4,7 @@ ghost use Rattle.board_bus.specs.Cells.{read_fault, write_fault};
 use crate::BusFault;
 
 /// What may be done at the addresses of a range. Profile.
-#[derive(Clone, Copy, Debug, PartialEq, Eq)]
+#[derive(Clone, Copy, PartialEq, Eq)]
 pub enum RangeKind {
     /// Read and written.
     Rw,

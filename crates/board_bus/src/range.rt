@@ -21,7 +21,7 @@ pub const MAX_WORDS: u64 = 4_194_304;
 const ADDRESSES: u64 = 1 << 32;
 
 /// Consecutive addresses of one kind. Profile.
-#[derive(Debug, Drop, PartialEq, Eq)]
+#[derive(Drop, PartialEq, Eq)]
 pub struct Range {
     /// The first address.
     pub base: u32,

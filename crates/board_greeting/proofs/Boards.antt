@@ -12,9 +12,9 @@ use Rattle.board_node.specs.declared.spec.BoardSpec.{BoardSpec}
 use Rattle.board_node.specs.declared.spec.LinkSpec.{LinkSpec}
 use Rattle.board_node.specs.declared.spec.LinkSpec.TheVariants.{Sim, Udp}
 use Rattle.world_model.specs.Board.{Board, executed}
-use Rattle.reliable_engine.specs.Settings.{AreLimits, Limits}
+use Rattle.world_model.specs.Settings.{AreLimits, Limits}
 use Rattle.world_core.specs.Telling.{IfTelling, Telling}
-use Rattle.script_lang.specs.Executable.{LinkNamesWords}
+use Rattle.board_node.specs.OpeningWords.{LinkNamesWords}
 use Rattle.lossy_network.specs.Racks.{telling_for}
 use Rattle.hub_lane.specs.declared.greeting.Greeted.{Greeted}
 use Rattle.hub_lane.specs.declared.greeting.Greeted.TheVariants.{Ready, Silent, Down, NoMemory}

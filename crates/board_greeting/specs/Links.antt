@@ -3,7 +3,7 @@ use Rattle.std.specs.Prelude.{◌≡◌, ℕ, List, ◌++◌, map, Option}
 use Rattle.world_core.specs.Telling.{Telling}
 use Rattle.sound_lanes.specs.Reports.{report_of}
 use Rattle.board_node.specs.declared.spec.BoardSpec.{BoardSpec}
-use Rattle.script_lang.specs.Executable.{OpensOnWords}
+use Rattle.board_node.specs.OpeningWords.{OpensOnWords}
 use Rattle.lane_history.specs.Links.{CanBeMade, LinkReport}
 
 -- These links were given back behind those that were kept before, in this order, and so much holds of what they show.

@@ -1,7 +1,7 @@
 //! A lane at its end.
 
 ghost use Rattle.std.specs.Prelude.{◌≡◌};
-ghost use Rattle.reliable_engine.specs.Settings.{Limits};
+ghost use Rattle.world_model.specs.Settings.{Limits};
 ghost use Rattle.board_node.specs.declared.spec.BoardSpec.{BoardSpec};
 ghost use Rattle.board_greeting.specs.Boards.{IsEndedLane, IsLaneTo, shown_by};
 

@@ -3,7 +3,7 @@
 
 ghost use Rattle.std.specs.Prelude.{List};
 ghost use Rattle.std.specs.List.{AllByRecursion};
-ghost use Rattle.script_lang.specs.declared.operation.Step.{Step};
+ghost use Rattle.script_steps.specs.declared.operation.Step.{Step};
 ghost use Rattle.transcript.specs.declared.board_run.BoardRun.{BoardRun};
 ghost use Rattle.transcript.specs.Lines.{transcript_of};
 ghost use Rattle.transcript.specs.Shown.{ArePlanned, HaveOwnNames, ShowsAllPlaces};

@@ -4,7 +4,7 @@ use board_bus::Range;
 use std::marker::Model;
 
 /// The ranges of a board's bus, in the order of the document. Contracts see that list.
-#[derive(Debug, Drop)]
+#[derive(Drop)]
 pub struct Ranges {
     items: Vec<Range>,
 }

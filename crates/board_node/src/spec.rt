@@ -1,7 +1,7 @@
 use crate::{Id, Ranges, Text};
 
 /// What becomes of the datagrams on a simulated link (profile).
-#[derive(Debug, Drop)]
+#[derive(Drop)]
 pub enum Fates {
     /// One character for each datagram, in order: `d` is delivered, `l` is lost, `r` is repeated, and `1` to `9` is
     /// delayed by so many datagrams. Past the end of the text each datagram is delivered.
@@ -11,7 +11,7 @@ pub enum Fates {
 }
 
 /// The link to a board (profile).
-#[derive(Debug, Drop)]
+#[derive(Drop)]
 pub enum LinkSpec {
     /// A board in the same process.
     Sim {
@@ -37,7 +37,7 @@ pub enum LinkSpec {
 }
 
 /// A board of a session (profile).
-#[derive(Debug, Drop)]
+#[derive(Drop)]
 pub struct BoardSpec {
     /// Its name, an id.
     pub name: Text,

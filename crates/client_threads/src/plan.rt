@@ -6,7 +6,7 @@ use std::marker::Model;
 
 /// How many bodies to ask of which lane: pairs of a lane's number, from 0, and a number of bodies, by rising lane.
 /// Contracts see that list.
-#[derive(Debug, Drop)]
+#[derive(Drop)]
 pub struct Asks {
     items: Vec<(u32, u32)>,
 }
@@ -36,13 +36,13 @@ impl Asks {
 }
 
 /// The bodies that a client asks for at once.
-#[derive(Debug, Drop)]
+#[derive(Drop)]
 pub struct Dispatch {
     pub asks: Asks,
 }
 
 /// The dispatches of a client, in order. Contracts see that list.
-#[derive(Debug, Drop)]
+#[derive(Drop)]
 pub struct Dispatches {
     items: Vec<Dispatch>,
 }
@@ -73,7 +73,7 @@ impl Dispatches {
 }
 
 /// A client, from 1, and what it asks, dispatch by dispatch.
-#[derive(Debug, Drop)]
+#[derive(Drop)]
 pub struct ClientPlan {
     pub client: u32,
     pub dispatches: Dispatches,

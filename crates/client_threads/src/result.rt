@@ -8,7 +8,7 @@ use lane_record::Outcomes;
 use std::marker::Model;
 
 /// For each lane of a hub, in order, what became of a client's bodies there. Contracts see a list of lists.
-#[derive(Debug, Drop)]
+#[derive(Drop)]
 pub struct LaneOutcomes {
     items: Vec<Outcomes>,
 }
@@ -47,7 +47,7 @@ impl LaneOutcomes {
 }
 
 /// What became of all bodies of a client's plan.
-#[derive(Debug, Drop)]
+#[derive(Drop)]
 pub struct ClientResult {
     pub client: u32,
     pub lanes: LaneOutcomes,

@@ -4,7 +4,7 @@ use Rattle.std.proofs.Common.{Some, None, arith, nat_le, refl}
 use Rattle.std.proofs.lemmas.Bool.Decides.{nat_tests}
 use Rattle.std.specs.Prelude.{option_and_then}
 use Rattle.std.specs.Str.{bytes_eq}
-use Rattle.address_table.specs.Numbers.{digits_number}
+use Rattle.ipb_base.specs.Digits.{digits_number}
 use Rattle.command_words.specs.declared.command.Command.TheVariants.{Run, Check, Load}
 use Rattle.command_words.specs.Commands.{command_of, is_option, load_of, loaded, number_between, serve_of, within}
 

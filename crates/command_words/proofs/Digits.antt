@@ -4,7 +4,7 @@ use Rattle.std.proofs.Common.{nat_eq, Option, None, refl, sym, ap, subst, take-a
 use Rattle.std.specs.Cmp.Lexicographic.{same_text}
 use Rattle.std.specs.List.{starts_with}
 use Rattle.std.specs.Prelude.{option_and_then}
-use Rattle.address_table.specs.Numbers.{are_digits, digit_value, digits_number, is_between, value_of_digits, word}
+use Rattle.ipb_base.specs.Digits.{are_digits, digit_value, digits_number, is_between, value_of_digits, word}
 use Rattle.command_words.specs.Commands.{number_between, within}
 
 none_either : (b : Bool) (number : Option ℕ) → number ≡ None → (if b then number else None) ≡ None

@@ -5,15 +5,14 @@ ghost use Rattle.command_words.specs.Commands as spec;
 ghost use Rattle.command_words.specs.Read.{form_of, named};
 
 use crate::line::{Line, LineError, read_line};
-use address_table::number_in_text;
-use ipb_base::{NoMemory, Text};
+use ipb_base::{NoMemory, Text, number_in_text};
 use std::alloc::Global;
 
 /// The line for words that are no command.
 pub const USAGE_LINE: &str = "usage: ipbus run | check TABLE | serve PORT COUNT | load COUNT\n";
 
 /// What the words of a command line ask for (profile).
-#[derive(Debug, Drop)]
+#[derive(Drop)]
 pub enum Command {
     /// `run`: the scripts of a session document are run on its boards.
     Run,

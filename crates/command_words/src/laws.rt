@@ -23,7 +23,7 @@ pub fn a_load_has_a_bound()
 {}
 
 /// Words worked by hand.
-#[tactic(auto, unfolding(address_table::specs::Numbers::digit_value))]
+#[tactic(auto, unfolding(ipb_base::specs::Digits::digit_value))]
 pub fn words_by_hand()
     ensures run { command_of (codes "run" ∷ []) ≡ Some Run }
     ensures check { command_of (codes "check" ∷ codes "main" ∷ []) ≡ Some (Check (codes "main")) }

@@ -11,7 +11,7 @@ use clap::{Arg, ArgMatches, Command, Error};
 use std::alloc::{AllocError, Global};
 
 /// A command, and the words behind its name as they are written.
-#[derive(Clone, Copy, Debug, PartialEq, Eq)]
+#[derive(Clone, Copy, PartialEq, Eq)]
 pub(crate) enum Line<'a> {
     Run,
     Check(&'a str),
@@ -20,7 +20,7 @@ pub(crate) enum Line<'a> {
 }
 
 /// Why words are no command, or were not read.
-#[derive(Clone, Copy, Debug, PartialEq, Eq)]
+#[derive(Clone, Copy, PartialEq, Eq)]
 pub(crate) enum LineError {
     Usage,
     NoMemory,

@@ -17,14 +17,14 @@ use Rattle.mtu_packer.specs.declared.packed.Piece.{Piece}
 use Rattle.mtu_packer.specs.Cutting.{cut, piece}
 use Rattle.mtu_packer.specs.Packing.{requests_from, body_requests, body_words, AreReadable}
 use Rattle.mtu_packer.specs.Packed.{piece_at, pieces_at, Contents, IsPacked, packed}
-use Rattle.script_lang.specs.declared.operation.RegOp.{RegOp}
-use Rattle.script_lang.specs.declared.operation.Step.{Step}
-use Rattle.script_lang.specs.declared.operation.Step.TheVariants.{Do, Dispatch}
+use Rattle.script_steps.specs.declared.operation.RegOp.{RegOp}
+use Rattle.script_steps.specs.declared.operation.Step.{Step}
+use Rattle.script_steps.specs.declared.operation.Step.TheVariants.{Do, Dispatch}
 use Rattle.transcript.specs.declared.planned.PieceAt.{PieceAt}
 use Rattle.transcript.specs.Plan.{ClientBodies, no_bodies, moved, begun, dispatches, operations, ops_on, plan}
 use Rattle.transcript.specs.Plan.{with_dispatch, all_dispatches}
 use Rattle.transcript.specs.Lines.{count_on}
-use Rattle.script_lang.specs.Executable.{IsRmw}
+use Rattle.script_steps.specs.Executable.{IsRmw}
 use Rattle.direct_run.proofs.Readiness.{ArePacked}
 
 -- ---- two lists, item by item

@@ -11,8 +11,8 @@ use Rattle.board_node.specs.declared.spec.LinkSpec.{LinkSpec}
 use Rattle.board_node.specs.declared.spec.LinkSpec.TheVariants.{Sim, Udp}
 use Rattle.ipb_base.specs.Numbers.{payload_of}
 use Rattle.transaction_codec.specs.declared.request.Op.{Op}
-use Rattle.script_lang.specs.declared.operation.RegOp.{RegOp}
-use Rattle.script_lang.specs.declared.operation.Step.{Step}
+use Rattle.script_steps.specs.declared.operation.RegOp.{RegOp}
+use Rattle.script_steps.specs.declared.operation.Step.{Step}
 use Rattle.transcript.specs.declared.planned.PieceAt.{PieceAt}
 use Rattle.transcript.specs.declared.greeting.Greeting.{Greeting}
 use Rattle.transcript.specs.declared.greeting.Greeting.TheVariants.{Live, Silent, Down}

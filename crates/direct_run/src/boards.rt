@@ -5,14 +5,14 @@ ghost use Rattle.std.specs.List.{AllByRecursion};
 ghost use Rattle.ipb_base.specs.Numbers.{payload_of};
 ghost use Rattle.status_packet.specs.Range.{IsMtu};
 ghost use Rattle.board_bus.specs.Ranges.{opening_bus, refusal_of};
-ghost use Rattle.script_lang.specs.Packing.{CanBePacked, HaveFewPieces};
+ghost use Rattle.script_steps.specs.Packing.{CanBePacked, HaveFewPieces};
 ghost use Rattle.direct_run.specs.Runs.{CanRun, board_run, runs_from};
 
 use crate::clients::run_clients;
 use board_bus::{Bus, BusRefusal, Range};
 use board_node::{Board, BoardSpec, LinkSpec};
 use ipb_base::{NoMemory, Text};
-use script_lang::Steps;
+use script_steps::Steps;
 use std::alloc::Global;
 use transcript::{BoardRun, Greeting};
 

@@ -7,7 +7,7 @@ ghost use Rattle.mtu_packer.specs.Packed.{FitsPackets};
 ghost use Rattle.board_history.specs.InTurn.{outcomes_from};
 ghost use Rattle.world_model.specs.Board.{executed, present_bus};
 ghost use Rattle.board_node.specs.Hearings.{grown};
-ghost use Rattle.script_lang.specs.Packing.{CanBePacked, HaveFewPieces};
+ghost use Rattle.script_steps.specs.Packing.{CanBePacked, HaveFewPieces};
 ghost use Rattle.transcript.specs.declared.greeting.Greeting.TheVariants.{Live};
 ghost use Rattle.transcript.specs.Plan.{ClientBodies, planned_on};
 ghost use Rattle.direct_run.specs.Runs.{next_place, parts_in_turn, plans_on};
@@ -16,7 +16,7 @@ ghost use Rattle.direct_run.specs.Steps.{entry_of};
 use crate::exchange::exchange;
 use board_node::Board;
 use ipb_base::{NoMemory, Words};
-use script_lang::{Step, Steps};
+use script_steps::{Step, Steps};
 use std::alloc::Global;
 use transcript::{ClientPart, ClientParts, Greeting, Outcome, Outcomes, plan_on};
 

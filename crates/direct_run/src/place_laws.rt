@@ -3,7 +3,7 @@
 
 ghost use Rattle.std.specs.Prelude.{List};
 ghost use Rattle.board_node.specs.declared.spec.BoardSpec.{BoardSpec};
-ghost use Rattle.script_lang.specs.declared.operation.Step.{Step};
+ghost use Rattle.script_steps.specs.declared.operation.Step.{Step};
 ghost use Rattle.script_lang.specs.OwnNames.{HaveOwnNames};
 ghost use Rattle.transcript.specs.declared.board_run.BoardRun.{BoardRun};
 ghost use Rattle.transcript.specs.Lines.{transcript_of};

@@ -12,7 +12,7 @@ pub const MAX_PACKET_BYTES: usize = 8972;
 
 /// A request frame: a client asks for the reply of a board to a packet. Contracts see both fields, the packet as the
 /// list of its bytes.
-#[derive(Debug, Drop)]
+#[derive(Drop)]
 pub struct Frame {
     /// The position of the board in the session, from 0.
     pub board: u32,

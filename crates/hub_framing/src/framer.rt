@@ -36,7 +36,7 @@ impl Error for FrameRefusal {}
 
 /// Cuts a stream of bytes into request frames. Contracts see the bytes that were fed and are in no frame that was
 /// handed out, in order.
-#[derive(Debug, Drop)]
+#[derive(Drop)]
 pub struct Framer {
     waiting: VecDeque<Frame>,
     begun: Vec<u8>,

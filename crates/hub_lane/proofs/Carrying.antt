@@ -17,7 +17,7 @@ use Rattle.hub_lane.proofs.Sends.{one_after}
 
 -- ---- sends
 
-put_none_by : (hub : Hub) (t : Telling) → HasPut hub hub t t
+pub put_none_by : (hub : Hub) (t : Telling) → HasPut hub hub t t
 put_none_by hub t = record { count = 0; sends = refl; air = refl; handed = refl }
 
 put_last : (told : Told) (first : List (List ℕ)) (bytes : List ℕ)

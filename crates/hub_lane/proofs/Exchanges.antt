@@ -13,7 +13,7 @@ use Rattle.world_model.specs.Sends.{Next, next_send}
 use Rattle.world_model.specs.Facts.{HasBodies, IsWindow}
 use Rattle.world_model.proofs.Lists.{either}
 use Rattle.world_model.proofs.Flushing.{message_cases, quiet_cases}
-use Rattle.reliable_engine.specs.Settings.{Limits}
+use Rattle.world_model.specs.Settings.{Limits}
 use Rattle.world_core.specs.Telling.{Telling}
 use Rattle.lane_record.specs.declared.outcome.Outcome.{Outcome}
 use Rattle.lane_record.specs.declared.outcome.Outcome.TheVariants as became

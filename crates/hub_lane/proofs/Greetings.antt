@@ -21,7 +21,7 @@ use Rattle.world_model.specs.World.{answered}
 use Rattle.world_model.specs.Facts.{IsGreeting, IsGreetingOf, IsStart}
 use Rattle.world_model.specs.Links.{Told, IsHeard, birth_of, first_sends, heard_on, hears_all, sent_on}
 use Rattle.world_model.proofs.Lists.{all_get, get_seam, get_within}
-use Rattle.reliable_engine.specs.Settings.{Limits}
+use Rattle.world_model.specs.Settings.{Limits}
 use Rattle.world_core.specs.declared.link.LinkFault.{LinkFault}
 use Rattle.world_core.specs.declared.link.LinkFault.TheVariants as fault
 use Rattle.world_core.specs.declared.link.Received.{Received}

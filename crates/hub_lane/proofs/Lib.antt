@@ -10,6 +10,8 @@ mod Truth
 mod Tables
 mod Replies
 mod Rounds
+mod InRounds
+mod Asking
 mod Ready
 mod PlannedBodies
 mod ClientRows

@@ -21,7 +21,7 @@ use Rattle.hub_lane.specs.declared.answers.Pumped.{Pumped}
 use Rattle.hub_lane.specs.declared.answers.Pumped.TheVariants.{Reply, Status, Stray, Quiet, Idle, LinkDown}
 use Rattle.hub_lane.specs.Carrying.{HasPut}
 use Rattle.hub_lane.specs.Hearing.{IsHeardAs, WasReceived}
-use Rattle.hub_lane.specs.Rounds.{PaysOn}
+use Rattle.hub_lane.specs.Rounds.{PaysOn, RoundFor, Sends}
 use Rattle.hub_lane.specs.Sends.{HasSent, all_sent}
 use Rattle.hub_lane.specs.Standing.{GoesOn, IsRunning, IsStopped, Stops}
 use Rattle.hub_lane.proofs.Standing.{HandedLaw, HeardLaw, QuietLaw, SameBoard, SameFates, SendLaw}
@@ -41,6 +41,7 @@ pub record IsSending (before : Option Telling) (old : Hub) (telling : Option Tel
   pub got : gots_now ≡ gots
   pub hold : held ≤ held_now
   pub pays : PaysOn before old held telling now held_now
+  pub round : RoundFor Sends before old held telling now held_now
   pub board : board_of telling ≡ board_of before
   pub put : IfTelling before telling (HasPut old now)
 

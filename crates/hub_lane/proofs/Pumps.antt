@@ -10,7 +10,7 @@ use Rattle.world_model.specs.Hub.{Hub, hear_quiet, is_waiting}
 use Rattle.world_model.specs.Hub.{take_message}
 use Rattle.world_model.specs.Sends.{pending}
 use Rattle.world_model.specs.Facts.{HasBodies}
-use Rattle.reliable_engine.specs.Settings.{Limits}
+use Rattle.world_model.specs.Settings.{Limits}
 use Rattle.world_core.specs.Telling.{Telling}
 use Rattle.lane_record.specs.declared.outcome.Outcome.{Outcome}
 use Rattle.lane_record.specs.declared.item.Item.{Item}
@@ -26,7 +26,7 @@ use Rattle.hub_lane.specs.Heard.{HasHeard}
 use Rattle.hub_lane.specs.Hearing.{IsEventAs, give_ups_of, gots_of, hub_after, quiets_of}
 use Rattle.hub_lane.specs.Lanes.{BoardStatus, IsLane, board_of}
 use Rattle.hub_lane.specs.Sends.{HasSent, all_sent, handed_out}
-use Rattle.hub_lane.specs.Standing.{IsRunning, IsStopped, Stops}
+use Rattle.hub_lane.specs.Standing.{GoesOn, IsRunning, IsStopped, Stops}
 use Rattle.hub_lane.proofs.Datagrams.{heard_after}
 use Rattle.hub_lane.proofs.Exchanges.{GaveUpLaw, IsAfter, IsMid, MessageSettles, QuietSettles, RepliedLaw, SendAgrees}
 use Rattle.hub_lane.proofs.Exchanges.{event_after, mid_after, mid_sent, more_give_ups, same_length}
@@ -148,6 +148,33 @@ lane_down lost agrees keeps adds settings status hub mid items outcomes before_l
       told = told_still status telling telling_now same_board is.told;
     })))
 
+-- all sends went out, and nothing else happened
+lane_sent : (settings : Limits) (status : BoardStatus) (hub mid : Hub) (items : List Item)
+    (outcomes : List (Option Outcome)) (give_ups : ℕ)
+    (telling telling_now : Option Telling) (faults faults_now quiets quiets_now : ℕ)
+    → IsMid (length outcomes) (claims items) outcomes hub mid
+    → GoesOn telling hub telling_now mid → quiets_now ≡ quiets → board_of telling_now ≡ board_of telling
+    → IsLane settings status hub items outcomes give_ups false false telling faults quiets
+    → IsLane settings status mid items outcomes give_ups false false telling_now faults_now quiets_now
+lane_sent settings status hub mid items outcomes give_ups telling telling_now faults faults_now quiets quiets_now at
+    goes same_quiets same_board is =
+    let before = mid_after settings status hub mid items outcomes give_ups telling faults quiets at is in
+    record {
+      knows = before.knows;
+      ready = before.ready;
+      agrees = before.agrees;
+      kept = before.kept;
+      waited = (let w = before.waited in omega (arith, w, same_quiets));
+      fewer = before.fewer;
+      fits = is.fits;
+      fault = λ e. absurd cc;
+      lost = before.lost;
+      tells = before.tells;
+      short = before.short;
+      standing = goes settings outcomes is.standing;
+      told = told_still status telling telling_now same_board is.told;
+    }
+
 pub lane_spent : (settings : Limits) (status : BoardStatus) (hub mid : Hub) (items : List Item)
     (outcomes outcomes_now : List (Option Outcome)) (give_ups give_ups_now : ℕ)
     (telling telling_now : Option Telling) (faults faults_now quiets quiets_now : ℕ)
@@ -253,6 +280,18 @@ module _ (laws : PumpLaws) (settings : Limits) (status : BoardStatus) (hub : Hub
         keeps = done.1;
         more = done.2;
       }
+
+  pub pump_sent : (mid : Hub) (telling_now : Option Telling) (faults_now quiets_now : ℕ)
+      → HasSent hub mid → GoesOn telling hub telling_now mid → quiets_now ≡ quiets
+      → board_of telling_now ≡ board_of telling
+      → IsLane settings status mid items outcomes give_ups down spent telling_now faults_now quiets_now
+  pump_sent mid telling_now faults_now quiets_now went goes same_quiets same_board =
+      subst (λ (x : Bool). IsLane settings status mid items outcomes give_ups x spent telling_now faults_now quiets_now)
+      (sym d)
+      (subst (λ (x : Bool). IsLane settings status mid items outcomes give_ups false x telling_now faults_now
+      quiets_now) (sym s)
+      (lane_sent settings status hub mid items outcomes give_ups telling telling_now faults faults_now quiets quiets_now
+      (at_mid mid went) goes same_quiets same_board is_up))
 
   pub pump_down : (mid : Hub) (before_lost outcomes_now : List (Option Outcome)) (give_ups_now sent : ℕ)
       (telling_now : Option Telling) (faults_now quiets_now : ℕ)

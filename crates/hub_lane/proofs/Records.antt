@@ -1,7 +1,7 @@
 -- The record of a lane tells the lane.
 use Rattle.std.proofs.Common.{◌≡◌, List, [], ◌∷◌, map, Option, refl, ap, ◌∙◌}
 use Rattle.turn_pass.specs.Record.{Record}
-use Rattle.reliable_engine.specs.Settings.{Limits}
+use Rattle.world_model.specs.Settings.{Limits}
 use Rattle.world_core.specs.Telling.{Telling}
 use Rattle.lane_record.specs.declared.item.Item.{Item}
 use Rattle.lane_record.specs.Coding.{Head, head_numbers, recorded}

@@ -17,7 +17,7 @@ use Rattle.world_model.specs.Links.{IsJoined, Told}
 use Rattle.world_model.specs.Sends.{Next, bytes_to_send, next_send}
 use Rattle.world_model.proofs.Flushing.{message_cases, quiet_cases, send_cases}
 use Rattle.status_packet.specs.Range.{IsBufferCount}
-use Rattle.reliable_engine.specs.Settings.{AreLimits, Limits}
+use Rattle.world_model.specs.Settings.{AreLimits, Limits}
 use Rattle.world_core.specs.Telling.{IfTelling, IsGot, IsQuiet, IsSent, Telling}
 use Rattle.lane_record.specs.declared.outcome.Outcome.{Outcome}
 use Rattle.lane_record.specs.Bounds.{HasReached}
@@ -34,7 +34,7 @@ use Rattle.hub_lane.specs.Sends.{handed_out}
 use Rattle.hub_lane.specs.Standing.{GoesOn, IsRunning, IsStanding}
 use Rattle.hub_lane.proofs.Standing.{SameBoard, after_call, if_told}
 
-can_recover : (mtu rounds g : ℕ) (hub : Hub) (held : ℕ) (t : Telling) → IsJoined hub t.told
+pub can_recover : (mtu rounds g : ℕ) (hub : Hub) (held : ℕ) (t : Telling) → IsJoined hub t.told
     → PaysRounds mtu rounds g hub held t → CanRecover hub t
 can_recover mtu rounds g hub held t joined is = record { joined = joined; held = is.holds; fits = is.sent }
 
@@ -79,7 +79,7 @@ sent_pays laws mtu rounds g hub next before now t u e le joined sent is =
     moves.sent moves.queued
     (laws.sent rounds g hub next before now t u (can_recover mtu rounds g hub before t joined is) le e sent is.paid) is
 
-both_told : (P Q : Telling → Type 0) (telling : Option Telling) → IfSome telling P → IfSome telling Q
+pub both_told : (P Q : Telling → Type 0) (telling : Option Telling) → IfSome telling P → IfSome telling Q
     → IfSome telling (λ t. P t × Q t)
 both_told P Q None p q = tt
 both_told P Q (Some t) p q = (p, q)
@@ -275,7 +275,7 @@ pays_asked laws false spent mtu rounds g hub new tag body held telling up fits n
     (subst (λ (b : Bool). IfSome telling (HasPaid b mtu rounds g hub held)) up is)
     (λ t paid. offered_pays laws mtu rounds g hub tag body held t fits paid)))
 
-neither : (down spent : Bool) → down ≡ false → spent ≡ false → (down || spent) ≡ false
+pub neither : (down spent : Bool) → down ≡ false → spent ≡ false → (down || spent) ≡ false
 neither down spent d s = ap (λ (b : Bool). b || spent) d ∙ s
 
 -- give-ups stay paid, whatever became of the hub

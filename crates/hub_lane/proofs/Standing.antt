@@ -26,7 +26,7 @@ use Rattle.world_model.proofs.Lists.{either, get_front, get_seam}
 use Rattle.world_model.proofs.Hubs.{all_inserted, all_unsent}
 use Rattle.world_model.proofs.Flushing.{quiet_cases, reply_cases, status_cases}
 use Rattle.reliable_engine.specs.Answers.{hub_next}
-use Rattle.reliable_engine.specs.Settings.{Limits}
+use Rattle.world_model.specs.Settings.{Limits}
 use Rattle.world_core.specs.States.{IsReached}
 use Rattle.world_core.specs.Telling.{IfTelling, IsGot, IsQuiet, IsReceived, IsSent, Telling}
 use Rattle.lane_record.specs.declared.outcome.Outcome.{Outcome}
@@ -140,7 +140,7 @@ received_grows air_law board_law by_hub before now t u is =
 
 -- ---- the fates that a message or a quiet receive brings
 
-open_named : (first id : ℕ) (os : List OpenPlace) (o : OpenPlace) → open_with first id os ≡ Some o
+pub open_named : (first id : ℕ) (os : List OpenPlace) (o : OpenPlace) → open_with first id os ≡ Some o
     → identifier_at first o.place ≡ id
 open_named first id [] o is = absurd cc
 open_named first id (p ∷ os) o is = elim (identifier_at first p.place == id)

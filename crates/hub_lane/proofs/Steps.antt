@@ -136,7 +136,7 @@ pumped_in_vain {L} old new telling Idle k q q' g g' p a none quiets gots =
 pumped_in_vain {L} old new telling LinkDown k q q' g g' p a none quiets gots = absurd
     (not_down new.down new.hub (claims new.items) new.outcomes k a none (⊎_elim
     (λ (h : (old.down ≡ true) × (new ≡ old)). ap (λ (l : LaneState L). l.down) h.1 ∙ h.0)
-    (λ (h : (old.down ≡ false) × GoesDown old new). h.1.down) p))
+    (λ (h : (old.down ≡ false) × (is_waiting old.hub ≡ true) × GoesDown old new). h.2.down) p))
 
 -- ---- the same record
 

@@ -22,7 +22,7 @@ use Rattle.world_model.specs.Links.{Told}
 use Rattle.world_model.proofs.Lists.{all_get, front_more, get_front}
 use Rattle.world_model.proofs.Flushing.{send_cases}
 use Rattle.reliable_engine.specs.Answers.{hub_next}
-use Rattle.reliable_engine.specs.Settings.{Limits}
+use Rattle.world_model.specs.Settings.{Limits}
 use Rattle.world_core.specs.States.{IsReached, world_of_both}
 use Rattle.world_core.specs.Telling.{Telling}
 use Rattle.lane_record.specs.declared.outcome.Outcome.{Outcome}

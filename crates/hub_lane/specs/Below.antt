@@ -1,5 +1,6 @@
 -- What the laws of rounds say, for the proofs here: no public clause speaks of it.
-use Rattle.std.specs.Prelude.{◌≡◌, ℕ, ◌+◌, ◌*◌, ◌≤◌, true, List, Some, None}
+use Rattle.std.specs.Prelude.{◌≡◌, ◌⊎◌, ℕ, ◌+◌, ◌*◌, ◌≤◌, true, List, Some, None, length}
+use Rattle.ipb_base.specs.Faults.{Rose}
 use Rattle.world_model.specs.declared.offered.Offered.{Offered}
 use Rattle.world_model.specs.Messages.{to_hub}
 use Rattle.world_model.specs.Hub.{Hub, give_up, is_waiting, offer, take_message, want_status}
@@ -7,7 +8,7 @@ use Rattle.world_model.specs.Sends.{Next, bytes_to_send, next_send}
 use Rattle.world_core.specs.Telling.{IsGot, IsQuiet, IsSent, Telling}
 use Rattle.lane_record.specs.Bounds.{HasReached}
 use Rattle.lane_recovery.specs.Rounds.{IsPaid}
-use Rattle.lane_recovery.specs.UnderWay.{CanRecover}
+use Rattle.lane_recovery.specs.UnderWay.{CanRecover, IsUnderWay}
 
 pub record RoundLaws : Type 0 where
   pub begins : (rounds : ℕ) (hub : Hub) (held : ℕ) (t : Telling) → hub.status_requests ≡ 0
@@ -30,3 +31,15 @@ pub record RoundLaws : Type 0 where
       → IsPaid rounds given_up hub before old → IsPaid rounds (given_up + 1) (give_up hub) now new
   pub give_ups : (rounds given_up : ℕ) (hub : Hub) (held : ℕ) (t : Telling) → IsPaid rounds given_up hub held t
       → HasReached (rounds * given_up) held
+
+-- and of what is under way in one
+pub record WayLaws : Type 0 where
+  pub sent : (hub : Hub) (next : Next) (before now : ℕ) (old new : Telling) → CanRecover hub old
+      → next_send hub ≡ Some next → IsSent (bytes_to_send next.hub next.send) before now old new
+      → IsUnderWay hub old → IsUnderWay next.hub new ⊎ Rose before now
+  pub got : (hub : Hub) (bytes : List ℕ) (before now : ℕ) (old new : Telling) → CanRecover hub old
+      → 1 ≤ hub.status_requests → 1 ≤ length hub.open_places → IsGot bytes before now old new
+      → IsUnderWay hub old → let after = take_message hub (to_hub bytes) in
+      Rose before now ⊎ (after.status_requests ≡ 0) ⊎ IsUnderWay after new
+  pub quiet : (hub : Hub) (before now : ℕ) (old new : Telling) → CanRecover hub old → next_send hub ≡ None
+      → IsQuiet before now old new → IsUnderWay hub old → Rose before now

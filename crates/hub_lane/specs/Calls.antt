@@ -1,5 +1,5 @@
 -- What each call does to a lane. Profile.
-use Rattle.std.specs.Prelude.{◌≡◌, ◌⊎◌, ℕ, ◌≤◌, Bool, true, false, if◌then◌else◌, List, [], ◌∷◌, ◌++◌, length}
+use Rattle.std.specs.Prelude.{◌≡◌, ◌⊎◌, ℕ, ◌≤◌, Bool, true, false, ◌||◌, if◌then◌else◌, List, [], ◌∷◌, ◌++◌, length}
 use Rattle.std.specs.Prelude.{Option, Some, None, IfSome}
 use Rattle.std.specs.List.{slice_get}
 use Rattle.world_model.specs.Hub.{Hub, is_waiting, offer}
@@ -18,6 +18,7 @@ use Rattle.hub_lane.specs.declared.answers.Pumped.{Pumped}
 use Rattle.hub_lane.specs.declared.answers.Pumped.TheVariants.{Reply, Status, Stray, Quiet, Idle, LinkDown}
 use Rattle.hub_lane.specs.declared.answers.Taken.{Taken}
 use Rattle.hub_lane.specs.declared.answers.Taken.TheVariants.{Ready, NotYet}
+use Rattle.hub_lane.specs.Carrying.{HasPut}
 use Rattle.hub_lane.specs.Sends.{HasSent, all_sent, handed_out}
 use Rattle.hub_lane.specs.Hearing.{IsEventAs, WasReceived, give_ups_of, hub_after}
 use Rattle.hub_lane.specs.Lanes.{LaneState, with_item}
@@ -46,16 +47,17 @@ asked_in_vain lane client seq = record (with_item lane (ask_of client seq lane.g
   outcomes = lane.outcomes ++ Some (LinkLost None) ∷ [];
 }
 
-pub record Asks {L : Type 0} (old : LaneState L) (client seq : ℕ) (new : LaneState L) : Type 0 where
+-- the client's next body stands asked, and nothing was sent
+pub record Offers {L : Type 0} (old : LaneState L) (client seq : ℕ) (new : LaneState L) : Type 0 where
   pub body : List ℕ
   pub next : IsNextAsk old.items client seq body
   pub became : new ≡ (if old.down then asked_in_vain old client seq else offered old client seq body)
 
-abbrev pub AsksAs : {L : Type 0} → LaneState L → ℕ → LaneState L → Asked → Type 0
-AsksAs old client new (asks.Asked seq) = Asks old client seq new
-AsksAs old client new asks.Nothing = (new ≡ old) × (asked client old.items ≡ planned client old.items)
+abbrev pub OffersAs : {L : Type 0} → LaneState L → ℕ → LaneState L → Asked → Type 0
+OffersAs old client new (asks.Asked seq) = Offers old client seq new
+OffersAs old client new asks.Nothing = (new ≡ old) × (asked client old.items ≡ planned client old.items)
 
--- ---- pump
+-- ---- sends
 
 -- no entry is added, and what became of an Ask stays
 pub record IsSameRecord {L : Type 0} (old new : LaneState L) : Type 0 where
@@ -64,6 +66,59 @@ pub record IsSameRecord {L : Type 0} (old new : LaneState L) : Type 0 where
   pub items : new.items ≡ old.items
   pub outcomes : KeepsOutcomes old.outcomes new.outcomes
   pub give_ups : old.give_ups ≤ new.give_ups
+
+-- a lane that sends no more: its link failed, or it ran out of memory in a send or a receive
+abbrev pub has_stopped : {L : Type 0} → LaneState L → Bool
+has_stopped lane = lane.down || lane.spent
+
+-- all that the hub wanted was sent
+pub record SendsAll {L : Type 0} (old new : LaneState L) : Type 0 where
+  pub hub : new.hub ≡ all_sent old.hub
+  pub outcomes : new.outcomes ≡ old.outcomes
+  pub give_ups : new.give_ups ≡ old.give_ups
+  pub down : new.down ≡ false
+  pub spent : new.spent ≡ false
+
+-- The link failed after some sends: what was without an outcome is lost, with its place where it was sent.
+pub record GoesDown {L : Type 0} (old new : LaneState L) : Type 0 where
+  pub hub : HasSent old.hub new.hub
+  pub outcomes : new.outcomes ≡ all_lost (length new.hub.sent) old.outcomes
+  pub give_ups : new.give_ups ≡ old.give_ups
+  pub down : new.down ≡ true
+  pub spent : new.spent ≡ false
+
+-- memory ran out: some sends were taken from the hub
+pub record IsSpent {L : Type 0} (old new : LaneState L) : Type 0 where
+  pub spent : new.spent ≡ true
+  pub hub : HasSent old.hub new.hub
+  pub outcomes : new.outcomes ≡ old.outcomes
+  pub give_ups : new.give_ups ≡ old.give_ups
+  pub down : new.down ≡ old.down
+
+-- a lane that has stopped stays as it was; any other one sends all, or goes down, or is spent
+abbrev pub SendsAs : {L : Type 0} → LaneState L → LaneState L → Type 0
+SendsAs old new = ((has_stopped old ≡ true) × (new ≡ old))
+    ⊎ ((has_stopped old ≡ false) × (SendsAll old new ⊎ GoesDown old new ⊎ IsSpent old new))
+
+-- the client's next body was asked, and then the lane sent
+pub record Asks {L : Type 0} (old : LaneState L) (client seq : ℕ) (new : LaneState L) : Type 0 where
+  pub asked : LaneState L
+  pub offers : Offers old client seq asked
+  pub sends : SendsAs asked new
+  pub same : IsSameRecord asked new
+
+abbrev pub AsksAs : {L : Type 0} → LaneState L → ℕ → LaneState L → Asked → Type 0
+AsksAs old client new (asks.Asked seq) = Asks old client seq new
+AsksAs old client new asks.Nothing = (new ≡ old) × (asked client old.items ≡ planned client old.items)
+
+-- What an ask does to a link that tells: once the client's next body was offered, all that the hub wanted went into the
+-- air. Of a link that fails nothing more is said here.
+abbrev pub Asking : {L : Type 0} → LaneState L → ℕ → LaneState L → Asked → Telling → Telling → Type 0
+Asking old client new (asks.Asked seq) before after = has_stopped new ≡ false → (body : List ℕ)
+    → found plan_in client seq old.items ≡ Some body → HasPut (offered old client seq body).hub new.hub before after
+Asking old client new asks.Nothing before after = after ≡ before
+
+-- ---- pump
 
 -- the hub after an event, its fates among the outcomes; a quiet receive after which nobody waits was a give-up
 pub record Became {L : Type 0} (old : LaneState L) (event : Hub) (pumped : Pumped) (new : LaneState L) : Type 0 where
@@ -82,30 +137,14 @@ pub record HasReceived {L : Type 0} (old : LaneState L) (telling : Option Tellin
   pub received : IfSome telling (WasReceived pumped bytes)
   pub became : Became old (hub_after pumped bytes (all_sent old.hub)) pumped new
 
--- The link failed after some sends: what was without an outcome is lost, with its place where it was sent.
-pub record GoesDown {L : Type 0} (old new : LaneState L) : Type 0 where
-  pub waited : is_waiting old.hub ≡ true
-  pub hub : HasSent old.hub new.hub
-  pub outcomes : new.outcomes ≡ all_lost (length new.hub.sent) old.outcomes
-  pub give_ups : new.give_ups ≡ old.give_ups
-  pub down : new.down ≡ true
-  pub spent : new.spent ≡ false
-
 abbrev pub PumpsAs : {L : Type 0} → LaneState L → Option Telling → LaneState L → Pumped → Type 0
 PumpsAs old telling new (Reply place) = HasReceived old telling (Reply place) new
 PumpsAs old telling new Status = HasReceived old telling Status new
 PumpsAs old telling new Stray = HasReceived old telling Stray new
 PumpsAs old telling new Quiet = HasReceived old telling Quiet new
 PumpsAs old telling new Idle = (new ≡ old) × (is_waiting old.hub ≡ false) × (old.down ≡ false)
-PumpsAs old telling new LinkDown = ((old.down ≡ true) × (new ≡ old)) ⊎ ((old.down ≡ false) × GoesDown old new)
-
--- memory ran out: some sends were taken from the hub
-pub record IsSpent {L : Type 0} (old new : LaneState L) : Type 0 where
-  pub spent : new.spent ≡ true
-  pub hub : HasSent old.hub new.hub
-  pub outcomes : new.outcomes ≡ old.outcomes
-  pub give_ups : new.give_ups ≡ old.give_ups
-  pub down : new.down ≡ old.down
+PumpsAs old telling new LinkDown = ((old.down ≡ true) × (new ≡ old))
+    ⊎ ((old.down ≡ false) × (is_waiting old.hub ≡ true) × GoesDown old new)
 
 -- ---- take
 

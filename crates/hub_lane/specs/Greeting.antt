@@ -5,7 +5,7 @@ use Rattle.std.specs.List.{Contains}
 use Rattle.ipb_base.specs.Faults.{Rose, one_more}
 use Rattle.status_packet.specs.declared.status.Status.{Status}
 use Rattle.world_model.specs.Facts.{IsStart}
-use Rattle.reliable_engine.specs.Settings.{Limits}
+use Rattle.world_model.specs.Settings.{Limits}
 use Rattle.world_core.specs.Telling.{Telling}
 use Rattle.hub_lane.specs.declared.greeting.Answer.{Answer}
 use Rattle.hub_lane.specs.declared.greeting.Answer.TheVariants as answer

@@ -12,7 +12,7 @@ use Rattle.board_bus.specs.Cells.{CellMap}
 use Rattle.world_model.specs.Board.{Board}
 use Rattle.world_model.specs.Hub.{Hub, is_waiting, new_hub, places}
 use Rattle.world_model.specs.Facts.{HasBodies, IsStart, IsWindow}
-use Rattle.reliable_engine.specs.Settings.{AreLimits, Limits}
+use Rattle.world_model.specs.Settings.{AreLimits, Limits}
 use Rattle.world_core.specs.Telling.{Telling}
 use Rattle.lane_record.specs.declared.outcome.Outcome.{Outcome}
 use Rattle.lane_record.specs.declared.item.Item.{Item}
@@ -54,6 +54,10 @@ pub record LaneState (L : Type 0) : Type 0 where
 -- one more entry
 abbrev pub with_item : {L : Type 0} → LaneState L → Item → LaneState L
 with_item lane item = record lane { items = lane.items ++ item ∷ [] }
+
+-- the same lane but for its link
+abbrev pub with_link : {L : Type 0} → LaneState L → L → LaneState L
+with_link lane link = record lane { link = link }
 
 -- the board of a link that tells, as it was before it executed anything
 abbrev pub board_of : Option Telling → Option Board

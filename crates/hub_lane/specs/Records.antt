@@ -1,7 +1,7 @@
 -- The record of a lane as whoever hands lanes on sees it: a head and its entries, as lists of numbers. Profile.
 use Rattle.std.specs.Prelude.{List, Option}
 use Rattle.turn_pass.specs.Record.{Record}
-use Rattle.reliable_engine.specs.Settings.{Limits}
+use Rattle.world_model.specs.Settings.{Limits}
 use Rattle.world_core.specs.Telling.{Telling}
 use Rattle.lane_record.specs.declared.item.Item.{Item}
 use Rattle.lane_record.specs.Coding.{Head, record_of}

@@ -14,7 +14,7 @@ use Rattle.world_model.specs.Sends.{next_send}
 use Rattle.world_model.specs.World.{start}
 use Rattle.world_model.specs.Facts.{IsStart}
 use Rattle.reliable_engine.specs.Answers.{hub_next}
-use Rattle.reliable_engine.specs.Settings.{Limits}
+use Rattle.world_model.specs.Settings.{Limits}
 use Rattle.world_core.specs.States.{IsReached}
 use Rattle.world_core.specs.Telling.{Telling}
 use Rattle.lane_record.specs.declared.outcome.Outcome.{Outcome}

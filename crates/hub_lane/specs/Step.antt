@@ -1,4 +1,4 @@
--- What a step of a client does to a lane. Profile.
+-- What a step of a client does to a lane, and what a look does. Profile.
 use Rattle.std.specs.Prelude.{◌≡◌, ◌⊎◌, ℕ, ◌<◌, true, None, Some, is_some, List}
 use Rattle.std.specs.List.{slice_get}
 use Rattle.ipb_base.specs.Faults.{Rose}
@@ -7,7 +7,9 @@ use Rattle.lane_record.specs.declared.item.Item.{Item}
 use Rattle.lane_record.specs.Claims.{Claim, IsAskOf}
 use Rattle.lane_record.specs.Items.{asked, found, took_in}
 use Rattle.hub_lane.specs.Lanes.{LaneState}
-use Rattle.hub_lane.specs.Calls.{IsSameRecord, Takes}
+use Rattle.hub_lane.specs.Calls.{IsSameRecord, Takes, TakesNothing}
+use Rattle.hub_lane.specs.declared.step.Looked.{Looked}
+use Rattle.hub_lane.specs.declared.step.Looked.TheVariants as looks
 use Rattle.hub_lane.specs.declared.step.Stepped.{Stepped}
 use Rattle.hub_lane.specs.declared.step.Stepped.TheVariants as steps
 
@@ -55,3 +57,23 @@ abbrev pub RoseInVain : Stepped → ℕ → ℕ → ℕ → ℕ → Type 0
 RoseInVain (steps.Ready outcome) quiets quiets' gots gots' = Unit {0}
 RoseInVain (steps.NotYet turned) quiets quiets' gots gots' = Rose quiets quiets' ⊎ Rose gots gots'
 RoseInVain steps.Nothing quiets quiets' gots gots' = Unit {0}
+
+-- ---- look
+
+-- what became of the client's oldest asked and untaken body was taken
+pub record LooksAtOutcome {L : Type 0} (old : LaneState L) (client : ℕ) (outcome : Outcome) (new : LaneState L)
+    : Type 0 where
+  pub seq : ℕ
+  pub oldest : IsOldest old.items client seq
+  pub takes : Takes old client seq new outcome
+
+-- nothing became of it yet
+pub record LooksInVain {L : Type 0} (old : LaneState L) (client : ℕ) (new : LaneState L) : Type 0 where
+  pub seq : ℕ
+  pub oldest : IsOldest old.items client seq
+  pub none_yet : TakesNothing old client seq new
+
+abbrev pub LooksAs : {L : Type 0} → LaneState L → ℕ → LaneState L → Looked → Type 0
+LooksAs old client new (looks.Ready outcome) = LooksAtOutcome old client outcome new
+LooksAs old client new looks.NotYet = LooksInVain old client new
+LooksAs old client new looks.Nothing = (new ≡ old) × HasTakenAll old.items client

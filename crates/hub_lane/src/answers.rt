@@ -7,7 +7,7 @@ use ipb_base::NoMemory;
 use lane_record::Outcome;
 
 /// Why a body was not planned (profile): the first rule, in this order, that it breaks.
-#[derive(Clone, Copy, Debug, PartialEq, Eq)]
+#[derive(Clone, Copy, PartialEq, Eq)]
 pub enum PlanRefusal {
     /// Planning was closed.
     Sealed,
@@ -30,7 +30,7 @@ impl From<NoMemory> for PlanRefusal {
 }
 
 /// Whether a body was offered to the engine.
-#[derive(Clone, Copy, Debug, PartialEq, Eq)]
+#[derive(Clone, Copy, PartialEq, Eq)]
 pub enum Asked {
     /// The client's body of this number was.
     Asked(u64),
@@ -39,7 +39,7 @@ pub enum Asked {
 }
 
 /// What a pump came to.
-#[derive(Clone, Copy, Debug, PartialEq, Eq)]
+#[derive(Clone, Copy, PartialEq, Eq)]
 pub enum Pumped {
     /// The reply of an open place came, and settled it.
     Reply { place: u64 },
@@ -56,7 +56,7 @@ pub enum Pumped {
 }
 
 /// What a client took.
-#[derive(Debug, Drop)]
+#[derive(Drop)]
 pub enum Taken {
     /// What became of the body.
     Ready(Outcome),
@@ -65,7 +65,7 @@ pub enum Taken {
 }
 
 /// How a board stands to a session.
-#[derive(Clone, Copy, Debug, PartialEq, Eq)]
+#[derive(Clone, Copy, PartialEq, Eq)]
 pub enum BoardState {
     /// It answered the greeting; its lane has this number.
     Lane(u32),

@@ -9,7 +9,7 @@ ghost use Rattle.world_model.specs.Messages.{Reply as ReplyTo, StatusReply, to_h
 ghost use Rattle.world_model.specs.Hub.{hear_reply, hear_status, is_waiting, places, take_message};
 ghost use Rattle.world_model.specs.Sends.{bytes_to_send, next_send};
 ghost use Rattle.world_model.specs.Facts.{AreSendable, IsWindow};
-ghost use Rattle.reliable_engine.specs.Settings.{Limits};
+ghost use Rattle.world_model.specs.Settings.{Limits};
 ghost use Rattle.lane_record.specs.Offers.{put_all};
 ghost use Rattle.hub_lane.specs.Lanes.{IsReady, board_of};
 ghost use Rattle.world_core.specs.declared.link.TheConstants.{MAX_DATAGRAM};
@@ -18,11 +18,11 @@ ghost use Rattle.world_core.specs.Telling.{IfTelling};
 ghost use Rattle.hub_lane.specs.Carrying.{Brings, Carries, HasPut};
 ghost use Rattle.hub_lane.specs.Hearing.{IsEventAs, IsHeardAs, WasReceived, give_ups_of, gots_of, hub_after, quiets_of};
 ghost use Rattle.hub_lane.specs.Sends.{HasSent, all_sent, handed_out};
-ghost use Rattle.hub_lane.specs.Rounds.{PaysFor, PaysOn, PaysRounds};
+ghost use Rattle.hub_lane.specs.Rounds.{PaysFor, PaysOn, PaysRounds, Pumps, RoundFor, Sends};
 ghost use Rattle.hub_lane.specs.Standing.{GoesOn, IsRunning, Stops};
 
 use crate::answers::Pumped;
-use crate::below::laws_of_rounds;
+use crate::below::{laws_of_rounds, laws_of_ways};
 use crate::outcome_table::OutcomeTable;
 use crate::outcomes::settle;
 use ipb_base::{NoMemory, Words};
@@ -71,6 +71,8 @@ pub(crate) fn exchange<L: Link>(
         → IfSome (L.telling link.old) (IsRunning limits hub.old outcomes.old.items)
         → IfSome (L.telling link.old) (PaysRounds mtu hub.old.rounds give_ups.old hub.old (L.held link.old))
         → IfSome (L.telling link.new) (PaysRounds mtu hub.old.rounds give_ups.new hub.new (L.held link.new))) }
+    ensures round { IfOk result (λ pumped. RoundFor (Pumps pumped) (L.telling link.old) hub.old (L.held link.old)
+        (L.telling link.new) hub.new (L.held link.new)) }
     ensures sent { OnErr result (HasSent hub.old hub.new) }
     ensures same_outcomes { OnErr result (outcomes.new.items ≡ outcomes.old.items) }
     ensures same_give_ups { OnErr result (give_ups.new ≡ give_ups.old) }
@@ -99,7 +101,11 @@ pub(crate) fn exchange<L: Link>(
 
 /// Sends all that the hub wants, each written into `buffer`. Where the link refuses a send, it was taken from the hub
 /// all the same.
-fn send_all<L: Link>(hub: &mut Engine, link: &mut L, buffer: &mut Vec<u8>) -> Result<(), LinkFault>
+pub(crate) fn send_all<L: Link>(
+    hub: &mut Engine,
+    link: &mut L,
+    buffer: &mut Vec<u8>,
+) -> Result<(), LinkFault>
     requires sent { AreSendable hub.old.sent }
     requires queue { AreSendable hub.old.queue }
     ensures all { OnOk result (hub.new ≡ all_sent hub.old) }
@@ -108,6 +114,8 @@ fn send_all<L: Link>(hub: &mut Engine, link: &mut L, buffer: &mut Vec<u8>) -> Re
     ensures running { OnOk result (GoesOn (L.telling link.old) hub.old (L.telling link.new) hub.new) }
     ensures pays { OnOk result
         (PaysOn (L.telling link.old) hub.old (L.held link.old) (L.telling link.new) hub.new (L.held link.new)) }
+    ensures round { OnOk result
+        (RoundFor Sends (L.telling link.old) hub.old (L.held link.old) (L.telling link.new) hub.new (L.held link.new)) }
     ensures stopped { OnErr result (Stops (L.telling link.old) hub.old (L.telling link.new) hub.new) }
     ensures failed { result ≡ Err LinkFault.Failed → Rose (L.faults link.old) (L.faults link.new) }
     ensures faults { L.faults link.old ≤ L.faults link.new }
@@ -120,6 +128,7 @@ fn send_all<L: Link>(hub: &mut Engine, link: &mut L, buffer: &mut Vec<u8>) -> Re
     a_send_leaves_the_fates();
     draining_ends();
     laws_of_rounds();
+    laws_of_ways();
     each_event_leads_to_a_state_of_a_run();
     only_an_offer_makes_more_bodies();
     what_is_wanted_can_be_written();
@@ -164,6 +173,8 @@ fn receive<L: Link>(
     ensures running { GoesOn (L.telling link.old) hub.old (L.telling link.new) hub.new }
     ensures pays { IfOk result (λ pumped.
         PaysFor pumped (L.telling link.old) hub.old (L.held link.old) (L.telling link.new) hub.new (L.held link.new)) }
+    ensures round { IfOk result (λ pumped. RoundFor (Pumps pumped) (L.telling link.old) hub.old (L.held link.old)
+        (L.telling link.new) hub.new (L.held link.new)) }
     ensures failed { result ≡ Err LinkFault.Failed → Rose (L.faults link.old) (L.faults link.new) }
     ensures faults { L.faults link.old ≤ L.faults link.new }
     ensures quiets { IfOk result (λ pumped. L.quiets link.new ≡ quiets_of pumped (L.quiets link.old)) }
@@ -179,6 +190,7 @@ fn receive<L: Link>(
 {
     each_event_leads_to_a_state_of_a_run();
     laws_of_rounds();
+    laws_of_ways();
     a_link_forgets_nothing();
     match link.receive(buffer)? {
         Received::Got => Ok(hear(alloc, first, hub, buffer)?),

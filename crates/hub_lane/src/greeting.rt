@@ -37,7 +37,7 @@ pub enum Greeted<L: Link> {
 }
 
 /// What one receive of a greeting came to.
-#[derive(Clone, Copy, Debug, PartialEq, Eq)]
+#[derive(Clone, Copy, PartialEq, Eq)]
 pub(crate) enum Answer {
     /// The board told this status.
     Told(Status),

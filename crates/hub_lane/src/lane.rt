@@ -12,17 +12,19 @@ ghost use Rattle.lane_record.specs.Coding.{entry_of};
 ghost use Rattle.world_model.specs.Hub.{offer};
 ghost use Rattle.hub_lane.specs.Plans.{CanPlan, IsRefused, Plans};
 ghost use Rattle.world_core.specs.Telling.{IfTelling};
-ghost use Rattle.hub_lane.specs.Carrying.{Pumping};
+ghost use Rattle.hub_lane.specs.Carrying.{HasPut, Pumping};
 ghost use Rattle.hub_lane.specs.Heard.{HasHeard};
 ghost use Rattle.hub_lane.specs.Hearing.{gots_of, quiets_of};
-ghost use Rattle.hub_lane.specs.Calls.{AsksAs, IsReplyAt, IsSameRecord, IsSpent, PumpsAs, TakesAs, WasAsked};
+ghost use Rattle.hub_lane.specs.Calls.{Asking, AsksAs, IsReplyAt, IsSameRecord, IsSpent, OffersAs, PumpsAs, SendsAs};
+ghost use Rattle.hub_lane.specs.Calls.{TakesAs, WasAsked, has_stopped};
 ghost use Rattle.hub_lane.specs.Calls.{is_lost_at_place, is_replied, sealed};
-ghost use Rattle.hub_lane.specs.Lanes.{IsGreeted, IsLane, board_of, opened, opening_of, status_of};
+ghost use Rattle.hub_lane.specs.Lanes.{IsGreeted, IsLane, board_of, opened, opening_of, status_of, with_link};
+ghost use Rattle.hub_lane.specs.Rounds.{LaneRound, Pumps, Sends};
 
 use crate::answers::{Asked, PlanRefusal, Pumped, Taken};
 use crate::below::laws_of_rounds;
 use crate::book::Book;
-use crate::exchange::exchange;
+use crate::exchange::{exchange, send_all};
 use crate::outcome_table::OutcomeTable;
 use crate::outcomes::{copy_outcome, copy_words, count_of, lose_all, reply_under};
 use ipb_base::{NoMemory, Words};
@@ -40,7 +42,7 @@ use std::alloc::Global;
 use std::marker::Model;
 use turn_pass::Entry;
 use world_core::laws::{a_send_leaves_the_fates, each_event_leads_to_a_state_of_a_run};
-use world_core::{Link, LinkFault};
+use world_core::{Link, LinkFault, Waiter};
 use world_model::laws::sends::only_an_offer_makes_more_bodies;
 
 /// The bytes of the headers of IPv4 and UDP (RFC 791, RFC 768).
@@ -256,12 +258,45 @@ impl<L: Link> Lane<L> {
         }
     }
 
-    /// Asks the client's next planned body: the engine is offered it, or it is lost where the link failed before. After
-    /// want of memory in a pump it answers want of memory. An `Err` changes nothing.
+    /// Asks the client's next planned body: the engine is offered it, and what the engine then wants to be sent is sent;
+    /// or it is lost where the link failed before. Where the link fails in a send, every body that has no outcome is
+    /// lost, this one too. Where memory runs out in a send, the body stands asked and the lane is spent: it never pumps
+    /// again. A spent lane answers want of memory. An `Err` changes nothing.
     pub fn ask(&mut self, client: u32) -> Result<Asked, NoMemory>
         requires client { 1 ≤ client }
         ensures asked { IfOk result (AsksAs self.old client self.new) }
         ensures unchanged { OnErr result (self.new ≡ self.old) }
+        ensures not_spent { OnOk result (self.old.spent ≡ false) }
+        ensures down { self.new.down ≡ true → (self.old.down ≡ true)
+            ⊎ Rose (L.faults self.old.link) (L.faults self.new.link) }
+        ensures faults { L.faults self.old.link ≤ L.faults self.new.link }
+        ensures quiets { L.quiets self.new.link ≡ L.quiets self.old.link }
+        ensures gots { L.gots self.new.link ≡ L.gots self.old.link }
+        ensures held { L.held self.old.link ≤ L.held self.new.link }
+        ensures board { board_of (L.telling self.new.link) ≡ board_of (L.telling self.old.link) }
+        ensures link { IfOk result (λ asked. IfTelling (L.telling self.old.link) (L.telling self.new.link)
+            (Asking self.old client self.new asked)) }
+        ensures round { LaneRound L.telling L.held Sends self.old self.new }
+        // So the head of its record stays.
+        ensures opening { opening_of (L.telling self.new.link) ≡ opening_of (L.telling self.old.link) }
+    {
+        match self.offer_next(client)? {
+            Asked::Asked(seq) => {
+                self.send_wanted();
+                Ok(Asked::Asked(seq))
+            }
+            Asked::Nothing => Ok(Asked::Nothing),
+        }
+    }
+
+    /// Offers the client's next planned body to the engine, and sends nothing.
+    fn offer_next(&mut self, client: u32) -> Result<Asked, NoMemory>
+        requires client { 1 ≤ client }
+        ensures asked { IfOk result (OffersAs self.old client self.new) }
+        ensures unchanged { OnErr result (self.new ≡ self.old) }
+        ensures not_spent { OnOk result (self.old.spent ≡ false) }
+        ensures link { self.new.link ≡ self.old.link }
+        ensures round { LaneRound L.telling L.held Sends self.old self.new }
     {
         an_ask_is_an_offer();
         an_ask_is_of_its_plan();
@@ -285,6 +320,69 @@ impl<L: Link> Lane<L> {
         Ok(Asked::Asked(seq))
     }
 
+    /// Sends what the engine wants to be sent, in its order, and receives nothing. A lane whose link failed, or that is
+    /// spent, sends nothing. Where the link fails in a send, every body that has no outcome is lost. Where memory runs
+    /// out in one, the lane is spent: it never pumps again.
+    pub fn send_wanted(&mut self)
+        ensures sends { SendsAs self.old self.new }
+        ensures same { IsSameRecord self.old self.new }
+        ensures down { self.new.down ≡ true → (self.old.down ≡ true)
+            ⊎ Rose (L.faults self.old.link) (L.faults self.new.link) }
+        ensures faults { L.faults self.old.link ≤ L.faults self.new.link }
+        ensures quiets { L.quiets self.new.link ≡ L.quiets self.old.link }
+        ensures gots { L.gots self.new.link ≡ L.gots self.old.link }
+        ensures held { L.held self.old.link ≤ L.held self.new.link }
+        ensures board { board_of (L.telling self.new.link) ≡ board_of (L.telling self.old.link) }
+        ensures link { has_stopped self.new ≡ false → IfTelling (L.telling self.old.link) (L.telling self.new.link)
+            (HasPut self.old.hub self.new.hub) }
+        ensures round { LaneRound L.telling L.held Sends self.old self.new }
+        // So the head of its record stays.
+        ensures opening { opening_of (L.telling self.new.link) ≡ opening_of (L.telling self.old.link) }
+    {
+        a_send_leaves_the_fates();
+        only_an_offer_makes_more_bodies();
+        a_send_settles_nothing();
+        what_a_hub_hears_settles_asks();
+        a_failed_link_loses_what_waits();
+        outcomes_go_into_the_book();
+        laws_of_rounds();
+        if self.spent {
+            return;
+        }
+        if self.down {
+            return;
+        }
+        match send_all(&mut self.engine, &mut self.link, &mut self.buffer) {
+            Ok(()) => {}
+            Err(LinkFault::Failed) => {
+                lose_all(&mut self.outcomes, self.engine.sent());
+                self.down = true // so nothing more is sent
+            }
+            Err(LinkFault::NoMemory) => self.spent = true,
+        }
+    }
+
+    /// What waits beside the lane for the next datagram of its link. `None` where there is nothing to wait for, or no room
+    /// for it. Nothing that contracts see of the link changes, and nothing of the lane.
+    pub fn waiter(&mut self) -> Option<Waiter>
+        ensures lane { self.new ≡ with_link self.old self.new.link }
+        ensures telling { L.telling self.new.link ≡ L.telling self.old.link }
+        ensures faults { L.faults self.new.link ≡ L.faults self.old.link }
+        ensures quiets { L.quiets self.new.link ≡ L.quiets self.old.link }
+        ensures gots { L.gots self.new.link ≡ L.gots self.old.link }
+        ensures held { L.held self.new.link ≡ L.held self.old.link }
+    {
+        self.link.waiter(self.alloc)
+    }
+
+    /// Whether the lane sends and receives no more: its link failed, or memory ran out in a send or a receive. A pump
+    /// answers so at once.
+    pub fn is_stopped(&self) -> bool
+        ensures { result ≡ has_stopped self.now }
+    {
+        self.down || self.spent
+    }
+
     /// Sends what the engine wants to be sent, in its order, and then receives once. Where memory runs out the lane is
     /// spent: it never pumps again, and answers so. Where the link fails, now or before, every body that has no outcome
     /// is lost.
@@ -306,6 +404,7 @@ impl<L: Link> Lane<L> {
         ensures board { board_of (L.telling self.new.link) ≡ board_of (L.telling self.old.link) }
         ensures link { IfOk result (λ pumped. IfTelling (L.telling self.old.link) (L.telling self.new.link)
             (Pumping pumped self.old.hub self.new.hub)) }
+        ensures round { IfOk result (λ pumped. LaneRound L.telling L.held (Pumps pumped) self.old self.new) }
         // So the head of its record stays.
         ensures opening { opening_of (L.telling self.new.link) ≡ opening_of (L.telling self.old.link) }
     {

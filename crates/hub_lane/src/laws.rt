@@ -1,16 +1,19 @@
 //! Laws of lanes. These functions do nothing when they run: their clauses are what is proved.
 
-ghost use Rattle.std.specs.Prelude.{◌≡◌, ℕ, Bool, List, Option};
+ghost use Rattle.std.specs.Prelude.{◌≡◌, ◌⊎◌, ◌≤◌, ℕ, Bool, true, List, Option};
+ghost use Rattle.ipb_base.specs.Faults.{Rose};
 ghost use Rattle.hub_lane.specs.Records.{record_shown};
 ghost use Rattle.world_model.specs.Hub.{Hub};
 ghost use Rattle.world_model.specs.Facts.{bodies_of};
-ghost use Rattle.reliable_engine.specs.Settings.{Limits};
+ghost use Rattle.world_model.specs.Settings.{Limits};
 ghost use Rattle.world_core.specs.Telling.{Telling};
 ghost use Rattle.lane_record.specs.declared.outcome.Outcome.{Outcome};
 ghost use Rattle.hub_lane.specs.declared.book.TheConstants.{MAX_BODIES, MAX_WORDS};
 ghost use Rattle.hub_lane.specs.declared.greeting.TheConstants.{MOST_OTHERS};
 ghost use Rattle.hub_lane.specs.Greeting.{most_others};
 ghost use Rattle.hub_lane.specs.Plans.{most_bodies, most_words};
+ghost use Rattle.hub_lane.specs.declared.answers.Pumped.TheVariants as came_to;
+ghost use Rattle.hub_lane.specs.Rounds.{AreCalls, IsCall, LaneCall, Pumps, RoundState, SettlesOne};
 ghost use Rattle.hub_lane.specs.Standing.{IsStanding};
 ghost use Rattle.hub_lane.specs.Truth.{IsTrueTo, IsWhole};
 ghost use Rattle.hub_lane.specs.Lanes.{BoardStatus, IsLane, opening_of};
@@ -69,3 +72,11 @@ pub fn a_record_tells_its_lane()
     a_head_is_spelled_by_numbers();
     an_entry_is_spelled_by_numbers();
 }
+
+/// In a lane over a link that tells, whatever is asked, sent and pumped while it stays up: between a status request of the
+/// recovery and the next quiet receive a place is settled, or datagrams are held.
+pub fn a_round_settles_a_place_unless_datagrams_are_held()
+    ensures { (begun last after : RoundState) (calls : List (LaneCall × RoundState)) → 1 ≤ begun.hub.status_requests
+        → begun.hub.status_wanted ≡ true → AreCalls begun calls last → IsCall (Pumps came_to.Quiet) last after
+        → SettlesOne calls ⊎ Rose begun.held after.held }
+{}

@@ -20,6 +20,6 @@ pub use greeting::{Greeted, MOST_OTHERS};
 pub use ipb_base::{NoMemory, Words};
 pub use lane::Lane;
 pub use lane_record::Outcome;
-pub use step::{Stepped, Turned};
+pub use step::{Looked, Stepped, Turned};
 pub use turn_pass::Entry;
-pub use world_core::{Link, LinkFault, Received, Settings};
+pub use world_core::{Link, LinkFault, Received, Settings, Waiter};

@@ -10,7 +10,7 @@ use std::alloc::Global;
 use std::marker::Model;
 
 /// A body of a client: where its Plan stands among the entries, and whether what became of it was taken.
-#[derive(Clone, Copy, Debug, PartialEq, Eq)]
+#[derive(Clone, Copy, PartialEq, Eq)]
 pub(crate) struct PlannedBody {
     pub(crate) plan: usize,
     pub(crate) is_taken: bool,

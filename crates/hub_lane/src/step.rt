@@ -1,9 +1,9 @@
-//! One step of a client.
+//! One step of a client, and one look.
 
 ghost use Rattle.std.specs.Prelude.{◌≡◌, ◌≤◌, IfOk, IfSome, IfNone, OnErr};
 ghost use Rattle.hub_lane.specs.Calls.{IsSameRecord, WasAsked};
 ghost use Rattle.hub_lane.specs.Lanes.{opening_of};
-ghost use Rattle.hub_lane.specs.Step.{HasTakenAll, IsOldest, RoseInVain, StepsAs};
+ghost use Rattle.hub_lane.specs.Step.{HasTakenAll, IsOldest, LooksAs, RoseInVain, StepsAs};
 
 use crate::answers::Taken;
 use crate::lane::Lane;
@@ -13,13 +13,13 @@ use world_core::Link;
 
 /// The token of a step that found no outcome. A step alone makes one, so whoever has it knows that a lane received
 /// once.
-#[derive(Debug, Drop)]
+#[derive(Drop)]
 pub struct Turned {
     received: (),
 }
 
 /// What a step came to.
-#[derive(Debug, Drop)]
+#[derive(Drop)]
 pub enum Stepped {
     /// What became of the client's oldest asked and untaken body.
     Ready(Outcome),
@@ -29,7 +29,35 @@ pub enum Stepped {
     Nothing,
 }
 
+/// What a look came to.
+#[derive(Drop)]
+pub enum Looked {
+    /// What became of the client's oldest asked and untaken body.
+    Ready(Outcome),
+    /// Nothing became of it yet.
+    NotYet,
+    /// The client has no asked body to take.
+    Nothing,
+}
+
 impl<L: Link> Lane<L> {
+    /// Takes what became of the client's oldest asked and untaken body, if anything did. It neither sends nor receives.
+    /// Want of memory changes nothing.
+    pub fn look(&mut self, client: u32) -> Result<Looked, NoMemory>
+        requires client { 1 ≤ client }
+        ensures looked { IfOk result (LooksAs self.old client self.new) }
+        ensures unchanged { OnErr result (self.new ≡ self.old) }
+        ensures link { self.new.link ≡ self.old.link }
+    {
+        let Some(seq) = self.oldest(client) else {
+            return Ok(Looked::Nothing);
+        };
+        match self.take(client, seq)? {
+            Taken::Ready(outcome) => Ok(Looked::Ready(outcome)),
+            Taken::NotYet => Ok(Looked::NotYet),
+        }
+    }
+
     /// Takes what became of the client's oldest asked and untaken body; where nothing did yet, pumps and looks once
     /// more. Want of memory adds no entry, but may come behind a receive, and may leave the lane spent.
     pub fn step(&mut self, client: u32) -> Result<Stepped, NoMemory>

@@ -1,5 +1,5 @@
 -- What a call on a lane means to whoever finds it.
-use Rattle.std.proofs.Common.{◌≡◌, ℕ, ◌<◌, List, [], ◌∷◌, ◌++◌, Option, refl, sym, ap, subst, ◌∙◌, append-nil}
+use Rattle.std.proofs.Common.{◌≡◌, ℕ, ◌<◌, List, [], ◌∷◌, ◌++◌, Option, Some, None, refl, sym, ap, subst, ◌∙◌, append-nil}
 use Rattle.std.specs.List.{AllByRecursion}
 use Rattle.turn_pass.specs.Record.{Record}
 use Rattle.turn_pass.specs.Pass.{Knowledge, Told}
@@ -11,16 +11,21 @@ use Rattle.lane_record.specs.Legal.{IsLegal}
 use Rattle.lane_record.specs.NextEntry.{ask_of, took_of}
 use Rattle.hub_multiplexer.specs.Calls.{AskMeans, IsNone, StepMeans}
 use Rattle.hub_multiplexer.specs.Lanes.{AsksOn, Grew, Means, StepsOn, shown}
+use Rattle.hub_multiplexer.specs.Waiting.{FindMeans, FindsOn}
+use Rattle.hub_multiplexer.specs.declared.answers.Performed.{Performed}
+use Rattle.hub_multiplexer.specs.declared.answers.Performed.TheVariants as performs
 use Rattle.hub_lane.specs.Step.{HasTakenAll, IsOldest}
 use Rattle.hub_multiplexer.specs.OwnItems.{HasTakenAllOf, IsOldestOf, asked_by, of_client, own_items, planned_by}
 use Rattle.hub_lane.specs.declared.answers.Asked.{Asked}
 use Rattle.hub_lane.specs.declared.answers.Asked.TheVariants as asks
+use Rattle.hub_lane.specs.declared.step.Looked.{Looked}
+use Rattle.hub_lane.specs.declared.step.Looked.TheVariants as looks
 use Rattle.hub_lane.specs.declared.step.Stepped.{Stepped}
 use Rattle.hub_lane.specs.declared.step.Stepped.TheVariants as steps
 use Rattle.world_core.specs.Telling.{Telling}
 use Rattle.hub_lane.specs.Calls.{AsksAs, IsSameRecord}
 use Rattle.hub_lane.specs.Lanes.{LaneState, opening_of}
-use Rattle.hub_lane.specs.Step.{StepsAs}
+use Rattle.hub_lane.specs.Step.{LooksAs, StepsAs}
 use Rattle.hub_multiplexer.proofs.LaneCalls.{IsPlanLaw, ask_head, asks_on, head, same_head, steps_on, steps_same}
 use Rattle.hub_multiplexer.proofs.OwnItems.{asked_own, oldest_own, planned_own, taken_own}
 
@@ -112,6 +117,19 @@ module _ (client : ℕ) (before after : Record) (s : Shown before after) where
         (taken_all_is k told number all, refl);
   }
 
+  -- the same by what is found
+  pub finds_of : (answer : Option Performed) → FindsOn s.items client answer s.items'
+      → Means client before (λ k. FindMeans k answer) after
+  finds_of (Some (performs.Ready outcome)) took = steps_of (steps.Ready outcome) took
+  finds_of (Some performs.Nothing) all = steps_of steps.Nothing all
+  finds_of None is = looked is
+
+-- what a look found
+abbrev pub found_by : Looked → Option Performed
+found_by (looks.Ready outcome) = Some (performs.Ready outcome)
+found_by looks.NotYet = None
+found_by looks.Nothing = Some performs.Nothing
+
 module _ {L : Type 0} (telling : L → Option Telling) where
   abbrev pub shown_of : (old new : LaneState L)
       → ((k : Knowledge) → Told k (shown telling old) → own_items k ≡ of_client k.number old.items)
@@ -130,10 +148,11 @@ module _ {L : Type 0} (telling : L → Option Telling) where
 
   pub ask_means : IsPlanLaw → (old new : LaneState L) (client : ℕ) (answer : Asked)
       → ((k : Knowledge) → Told k (shown telling old) → own_items k ≡ of_client k.number old.items)
-      → IsLegal old.items old.outcomes → IsLegal new.items new.outcomes → AsksAs old client new answer
+      → IsLegal old.items old.outcomes → IsLegal new.items new.outcomes
+      → opening_of (telling new.link) ≡ opening_of (telling old.link) → AsksAs old client new answer
       → Means client (shown telling old) (λ k. AskMeans k answer) (shown telling new)
-  ask_means law old new client answer own was legal a = asks_of client (shown telling old) (shown telling new)
-      (shown_of old new own legal (ask_head telling old new client answer a)) answer
+  ask_means law old new client answer own was legal opening a = asks_of client (shown telling old) (shown telling new)
+      (shown_of old new own legal (ask_head telling old new client answer opening a)) answer
       (asks_on telling law old new client answer was a)
 
   pub step_means : (old new : LaneState L) (client : ℕ) (answer : Stepped)
@@ -163,3 +182,30 @@ module _ {L : Type 0} (telling : L → Option Telling) where
   same_means old new client own legal e =
       looked client (shown telling old) (shown telling new) (shown_of old new own legal (ap (head telling) e))
       (ap (λ (l : LaneState L). l.items) e)
+
+  pub find_means : (old new : LaneState L) (client : ℕ) (answer : Option Performed)
+      → ((k : Knowledge) → Told k (shown telling old) → own_items k ≡ of_client k.number old.items)
+      → IsLegal new.items new.outcomes → head telling new ≡ head telling old
+      → FindsOn old.items client answer new.items
+      → Means client (shown telling old) (λ k. FindMeans k answer) (shown telling new)
+  find_means old new client answer own legal same f =
+      finds_of client (shown telling old) (shown telling new) (shown_of old new own legal same) answer f
+
+  pub looks_mean : (old new : LaneState L) (client : ℕ) (answer : Looked)
+      → ((k : Knowledge) → Told k (shown telling old) → own_items k ≡ of_client k.number old.items)
+      → IsLegal new.items new.outcomes → LooksAs old client new answer
+      → Means client (shown telling old) (λ k. FindMeans k (found_by answer)) (shown telling new)
+  looks_mean old new client (looks.Ready outcome) own legal l =
+      find_means old new client (Some (performs.Ready outcome)) own legal (ap (head telling) l.takes.entry)
+      (l.seq, l.oldest, l.takes.short, old.give_ups, ap (λ (lane : LaneState L). lane.items) l.takes.entry)
+  looks_mean old new client looks.NotYet own legal l =
+      find_means old new client None own legal (ap (head telling) l.none_yet.same)
+      (ap (λ (lane : LaneState L). lane.items) l.none_yet.same)
+  looks_mean old new client looks.Nothing own legal (e, all) =
+      find_means old new client (Some performs.Nothing) own legal (ap (head telling) e)
+      (all, ap (λ (lane : LaneState L). lane.items) e)
+
+  -- what a lane shows stays where its head and its entries do
+  pub shown_same : (old new : LaneState L) → opening_of (telling new.link) ≡ opening_of (telling old.link)
+      → IsSameRecord old new → shown telling new ≡ shown telling old
+  shown_same old new opening s = (λ i. record_of (same_head telling old new s.settings s.status opening i) (s.items i))

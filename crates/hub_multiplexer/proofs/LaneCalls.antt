@@ -11,7 +11,7 @@ use Rattle.hub_lane.specs.declared.answers.Asked.{Asked}
 use Rattle.hub_lane.specs.declared.answers.Asked.TheVariants as asks
 use Rattle.hub_lane.specs.declared.step.Stepped.{Stepped}
 use Rattle.hub_lane.specs.declared.step.Stepped.TheVariants as steps
-use Rattle.hub_lane.specs.Calls.{AsksAs, asked_in_vain, offered}
+use Rattle.hub_lane.specs.Calls.{Asks, AsksAs, asked_in_vain, offered}
 use Rattle.hub_lane.specs.Lanes.{LaneState, opening_of}
 use Rattle.hub_lane.specs.Records.{head_of}
 use Rattle.hub_lane.specs.Step.{StepsAs}
@@ -37,24 +37,46 @@ module _ {L : Type 0} (telling : L → Option Telling) where
     opening = opening i;
   }
 
-  asked_either : (old new : LaneState L) (client seq : ℕ) (body : List ℕ) (b : Bool)
-      → new ≡ (if b then asked_in_vain old client seq else offered old client seq body)
-      → (head new ≡ head old) × (new.items ≡ old.items ++ ask_of client seq old.give_ups ∷ [])
-  asked_either old new client seq body true e = (ap head e, ap (λ (l : LaneState L). l.items) e)
-  asked_either old new client seq body false e = (ap head e, ap (λ (l : LaneState L). l.items) e)
+  -- what an Ask leaves of a lane, before the lane sends
+  record Offered (old asked : LaneState L) (client seq : ℕ) : Type 0 where
+    settings : asked.settings ≡ old.settings
+    status : asked.status ≡ old.status
+    items : asked.items ≡ old.items ++ ask_of client seq old.give_ups ∷ []
 
-  pub ask_head : (old new : LaneState L) (client : ℕ) (answer : Asked) → AsksAs old client new answer
+  offered_either : (old asked : LaneState L) (client seq : ℕ) (body : List ℕ) (b : Bool)
+      → asked ≡ (if b then asked_in_vain old client seq else offered old client seq body)
+      → Offered old asked client seq
+  offered_either old asked client seq body true e = record {
+    settings = ap (λ (l : LaneState L). l.settings) e;
+    status = ap (λ (l : LaneState L). l.status) e;
+    items = ap (λ (l : LaneState L). l.items) e;
+  }
+  offered_either old asked client seq body false e = record {
+    settings = ap (λ (l : LaneState L). l.settings) e;
+    status = ap (λ (l : LaneState L). l.status) e;
+    items = ap (λ (l : LaneState L). l.items) e;
+  }
+
+  offered_by : (old new : LaneState L) (client seq : ℕ) (a : Asks old client seq new)
+      → Offered old a.asked client seq
+  offered_by old new client seq a =
+      offered_either old a.asked client seq a.offers.body old.down a.offers.became
+
+  pub ask_head : (old new : LaneState L) (client : ℕ) (answer : Asked)
+      → opening_of (telling new.link) ≡ opening_of (telling old.link) → AsksAs old client new answer
       → head new ≡ head old
-  ask_head old new client (asks.Asked seq) a = (asked_either old new client seq a.body old.down a.became).0
-  ask_head old new client asks.Nothing a = ap head a.0
+  ask_head old new client (asks.Asked seq) opening a =
+      let offers = offered_by old new client seq a in
+      same_head old new (a.same.settings ∙ offers.settings) (a.same.status ∙ offers.status) opening
+  ask_head old new client asks.Nothing opening a = ap head a.0
 
   pub asks_on : IsPlanLaw → (old new : LaneState L) (client : ℕ) (answer : Asked) → IsLegal old.items old.outcomes
       → AsksAs old client new answer → AsksOn old.items client answer new.items
   asks_on law old new client (asks.Asked seq) legal a = (
-    a.next.number,
-    law old.items old.outcomes client seq a.body legal a.next.planned_there,
+    a.offers.next.number,
+    law old.items old.outcomes client seq a.offers.body legal a.offers.next.planned_there,
     old.give_ups,
-    (asked_either old new client seq a.body old.down a.became).1,
+    a.same.items ∙ (offered_by old new client seq a).items,
   )
   asks_on law old new client asks.Nothing legal a = (a.1, ap (λ (l : LaneState L). l.items) a.0)
 

@@ -1,15 +1,15 @@
 -- Calls of a pass that only looked before.
-use Rattle.std.proofs.Common.{◌≡◌, ◌⊎◌, ⊎_elim, inr, ℕ, List, ◌++◌, map, ap, subst, ◌∙◌, arith, append-nil}
+use Rattle.std.proofs.Common.{◌≡◌, ◌⊎◌, ⊎_elim, inr, ℕ, List, ◌++◌, map, Option, Some, None, ap, subst, ◌∙◌, arith}
+use Rattle.std.proofs.Common.{append-nil}
 use Rattle.turn_pass.specs.Record.{Begins, Record}
 use Rattle.turn_pass.specs.Pass.{Knowledge, Told}
 use Rattle.turn_pass.proofs.Records.{begins_on}
 use Rattle.lane_record.specs.declared.item.Item.{Item}
 use Rattle.lane_record.specs.Coding.{record_of, recorded}
-use Rattle.hub_multiplexer.specs.Calls.{Adds, FoundLane, IsNone, MadeInTime, PerformMeans, StepMeans}
+use Rattle.hub_multiplexer.specs.Calls.{Adds, FoundLane, IsNone, MadeInTime, PerformMeans}
+use Rattle.hub_multiplexer.specs.Waiting.{FindMeans}
 use Rattle.hub_multiplexer.specs.declared.answers.Performed.{Performed}
 use Rattle.hub_multiplexer.specs.declared.answers.Performed.TheVariants as performs
-use Rattle.hub_lane.specs.declared.step.Turned.{Turned}
-use Rattle.hub_lane.specs.declared.step.Stepped.TheVariants as steps
 
 -- the pass did nothing, or it only looked
 abbrev pub HasLooked : Knowledge → Knowledge → Type 0
@@ -79,16 +79,10 @@ pub none_before : (k : Knowledge) (s : Record) (v : ℕ) (lane : FoundLane) (add
     → IsNone lane added
 none_before k s v lane added none = none
 
--- a step that got nothing looked, and one that got something performed
-pub nothing_yet : (k : Knowledge) (turned : Turned) (after : Knowledge)
-    → MadeInTime k (StepMeans k (steps.NotYet turned)) after → MadeInTime k IsNone after
-nothing_yet k turned after m = record {
-  lane = m.lane;
-  added = m.added;
-  meaning = m.meaning.none;
-  adds = m.adds;
-  more_vain = m.more_vain;
-}
+pub found_before : (k : Knowledge) (answer : Option Performed) (s : Record) (v : ℕ) (lane : FoundLane)
+    (added : List Item) → FindMeans (record k { seen = s; vain = v }) answer lane added → FindMeans k answer lane added
+found_before k (Some performed) s v lane added t = performed_before k performed s v lane added t
+found_before k None s v lane added t = t
 
 pub looked_more : (k now after : Knowledge) → HasLooked k now → MadeInTime now IsNone after → HasLooked k after
 looked_more k now after looked made = inr (after_looking (λ _. IsNone) k now after looked (none_before k) made)

@@ -9,7 +9,7 @@ use Rattle.lane_record.specs.Items.{ask_in, asked, numbers, plan_in, planned}
 use Rattle.lane_record.specs.Legal.{IsLegal}
 use Rattle.lane_record.specs.NextEntry.{ask_of, plan_of}
 use Rattle.lane_record.proofs.Lookups.{numbers_append}
-use Rattle.hub_lane.specs.Lanes.{LaneState}
+use Rattle.hub_lane.specs.Lanes.{LaneState, opening_of}
 use Rattle.hub_lane.specs.Plans.{IsRefused, Plans}
 use Rattle.hub_lane.specs.declared.answers.Asked.TheVariants as asks
 use Rattle.hub_lane.specs.declared.answers.PlanRefusal.{PlanRefusal}
@@ -56,9 +56,10 @@ module _ {L : Type 0} (telling : L → Option Telling) (old mid new : LaneState 
     (own : (k : Knowledge) → Told k (shown telling old) → own_items k ≡ of_client k.number old.items) where
   -- planned and asked
   pub submit_means : IsPlanLaw → (seq : ℕ) → IsLegal mid.items mid.outcomes → IsLegal new.items new.outcomes
-      → asked client old.items ≡ planned client old.items → Plans old client body mid seq → IsAskedNext mid client new
+      → asked client old.items ≡ planned client old.items → Plans old client body mid seq
+      → opening_of (telling new.link) ≡ opening_of (telling mid.link) → IsAskedNext mid client new
       → Means client (shown telling old) (λ k. HasSubmitted k body seq) (shown telling new)
-  submit_means law seq legal_mid legal all p a =
+  submit_means law seq legal_mid legal all p opening a =
       let n = a.seq in
       let on = asks_on telling law mid new client (asks.Asked n) legal_mid a.as_next in
       let planned_items : mid.items ≡ old.items ++ plan_of client seq body ∷ [] = ap
@@ -69,7 +70,8 @@ module _ {L : Type 0} (telling : L → Option Telling) (old mid new : LaneState 
       let items : new.items ≡ old.items ++ plan_of client seq body ∷ ask_of client seq g ∷ [] = on.3
       ∙ ((λ i. planned_items i ++ ask_of client (n_is i) g ∷ [])
       ∙ append_assoc old.items (plan_of client seq body ∷ []) (ask_of client seq g ∷ [])) in
-      let same_head : head telling new ≡ head telling old = ask_head telling mid new client (asks.Asked n) a.as_next
+      let same_head : head telling new ≡ head telling old = ask_head telling mid new client (asks.Asked n) opening
+      a.as_next
       ∙ ap (head telling) p.entry in
       let s = shown_of telling old new own legal same_head in record {
         added = plan_of client seq body ∷ ask_of client seq g ∷ [];

@@ -4,3 +4,4 @@ pub mod OwnItems
 pub mod Lanes
 pub mod Calls
 pub mod Openings
+pub mod Waiting

@@ -6,7 +6,7 @@ ghost use Rattle.hub_multiplexer.specs.Calls.{AskMeans, AskTried, Made, StepMean
 use hub_lane::{Asked, Outcome, Stepped, Turned};
 
 /// How a try to ask went.
-#[derive(Clone, Copy, Debug, PartialEq, Eq)]
+#[derive(Clone, Copy, PartialEq, Eq)]
 pub enum AskTry {
     /// Another client held the lane.
     Busy,
@@ -29,7 +29,7 @@ impl AskTry {
 }
 
 /// How a try to step went.
-#[derive(Debug, Drop)]
+#[derive(Drop)]
 pub enum StepTry {
     /// Another client held the lane.
     Busy,
@@ -55,7 +55,7 @@ impl StepTry {
 }
 
 /// What a client performed.
-#[derive(Debug, Drop)]
+#[derive(Drop)]
 pub enum Performed {
     /// What became of its oldest asked and untaken body.
     Ready(Outcome),

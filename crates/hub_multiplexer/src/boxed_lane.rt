@@ -7,9 +7,12 @@ ghost use Rattle.turn_pass.specs.Pass.{Knowledge, Told};
 ghost use Rattle.hub_multiplexer.specs.Calls.{AskMeans, HasSubmitted, IsNone, StepMeans, SubmitRefused};
 ghost use Rattle.hub_multiplexer.specs.Lanes.{Means, shown};
 ghost use Rattle.hub_multiplexer.specs.OwnItems.{of_client, own_items};
+ghost use Rattle.hub_multiplexer.specs.Waiting.{FindMeans};
 
+use crate::answers::Performed;
 use crate::boxed::Boxed;
 use crate::own;
+use crate::visit::{Visit, visit_lane};
 use hub_lane::{Asked, Lane, Link, NoMemory, PlanRefusal, Stepped, Words};
 
 /// Whoever takes the lane finds there the entries of its own client that it knows, and no others. It does nothing when
@@ -19,6 +22,11 @@ pub(crate) fn tells_its_own<L: Link>(lane: &Boxed<Lane<L>>)
         → own_items k ≡ of_client k.number lane.now.value.value.items }
 {
     own::tells_its_own(&lane.value);
+}
+
+/// Whether the lane sends and receives no more, so that whoever waits for it is to look.
+pub(crate) fn has_stopped<L: Link>(lane: &Boxed<Lane<L>>) -> bool {
+    lane.value.is_stopped()
 }
 
 /// Asks the client's next planned body.
@@ -41,6 +49,21 @@ pub(crate) fn step_on<L: Link>(lane: &mut Boxed<Lane<L>>, client: u32) -> Result
         (λ _. IsNone) (shown L.telling lane.new.value.value)) }
 {
     own::step_on(&mut lane.value, client)
+}
+
+/// Visits the lane, and takes what became of the client's oldest asked and untaken body, if anything did.
+pub(crate) fn visit_on<L: Link>(
+    lane: &mut Boxed<Lane<L>>,
+    client: u32,
+    how: Visit<'_>,
+) -> Result<Option<Performed>, NoMemory>
+    requires client { 1 ≤ client }
+    ensures found { IfOk result (λ found. Means client (shown L.telling lane.old.value.value)
+        (λ k. FindMeans k found) (shown L.telling lane.new.value.value)) }
+    ensures looked { OnErr result (Means client (shown L.telling lane.old.value.value)
+        (λ _. IsNone) (shown L.telling lane.new.value.value)) }
+{
+    visit_lane(&mut lane.value, client, how)
 }
 
 /// Plans a body of the client, and asks it. The client has asked all bodies that it planned before.

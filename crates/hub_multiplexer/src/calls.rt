@@ -2,13 +2,14 @@
 
 ghost use Rattle.std.specs.Prelude.{◌≡◌, ◌≤◌, false, IfOk, IfErr, OnErr};
 ghost use Rattle.transaction_codec.specs.Answer.{reply_room};
-ghost use Rattle.hub_multiplexer.specs.Calls.{AskMeans, AskTried, HasSubmitted, IsNone, Made, MadeInTime, PerformMeans};
+ghost use Rattle.hub_multiplexer.specs.Calls.{AskMeans, AskTried, HasSubmitted, IsNone, Made, MadeInTime};
 ghost use Rattle.hub_multiplexer.specs.Calls.{StepMeans, StepTried, SubmitRefused};
 ghost use Rattle.hub_multiplexer.specs.OwnItems.{asked_by, planned_by};
 
-use crate::answers::{AskTry, Performed, StepTry};
+use crate::answers::{AskTry, StepTry};
+use crate::bell::Bell;
 use crate::boxed::Boxed;
-use crate::boxed_lane::{ask_on, step_on, submit_on, tells_its_own};
+use crate::boxed_lane::{ask_on, has_stopped, step_on, submit_on, tells_its_own};
 use hub_lane::{Asked, Lane, Link, NoMemory, PlanRefusal, Stepped, Words};
 use std::sync::Wait;
 use turn_pass::{Pass, Turn};
@@ -16,6 +17,7 @@ use turn_pass::{Pass, Turn};
 /// Asks the client's next planned body, by one exchange.
 pub(crate) fn try_ask<L: Link + Send>(
     turn: &Turn<Boxed<Lane<L>>>,
+    bell: &Bell,
     pass: &mut Pass,
     client: u32,
 ) -> Result<AskTry, NoMemory>
@@ -31,13 +33,16 @@ pub(crate) fn try_ask<L: Link + Send>(
         return Ok(AskTry::Busy);
     };
     let asked = ask_on(&mut lane, client);
+    let stopped = has_stopped(&lane);
     turn.give(pass, lane);
+    bell.ring_if(stopped);
     Ok(AskTry::of(asked?))
 }
 
 /// Pumps the lane once at most, and takes what became of the client's oldest asked and untaken body, by one exchange.
 pub(crate) fn try_step<L: Link + Send>(
     turn: &Turn<Boxed<Lane<L>>>,
+    bell: &Bell,
     pass: &mut Pass,
     client: u32,
 ) -> Result<StepTry, NoMemory>
@@ -54,6 +59,7 @@ pub(crate) fn try_step<L: Link + Send>(
     };
     let stepped = step_on(&mut lane, client);
     turn.give(pass, lane);
+    bell.ring();
     Ok(StepTry::of(stepped?))
 }
 
@@ -61,6 +67,7 @@ pub(crate) fn try_step<L: Link + Send>(
 pub(crate) fn ask<L: Link + Send, R: Wait>(
     rt: &R,
     turn: &Turn<Boxed<Lane<L>>>,
+    bell: &Bell,
     pass: &mut Pass,
     client: u32,
 ) -> Result<Asked, NoMemory>
@@ -74,64 +81,17 @@ pub(crate) fn ask<L: Link + Send, R: Wait>(
 {
     let mut lane = turn.take(rt, pass);
     let asked = ask_on(&mut lane, client);
+    let stopped = has_stopped(&lane);
     turn.give(pass, lane);
+    bell.ring_if(stopped);
     asked
-}
-
-/// Pumps the lane once at most, and takes what became of the client's oldest asked and untaken body. It waits for the
-/// lane.
-fn step<L: Link + Send, R: Wait>(
-    rt: &R,
-    turn: &Turn<Boxed<Lane<L>>>,
-    pass: &mut Pass,
-    client: u32,
-) -> Result<Stepped, NoMemory>
-    requires turn { pass.old.turn ≡ turn.now }
-    requires idle { (pass.old.holds ≡ false) × (pass.old.knows.number ≡ client) }
-    requires client { 1 ≤ client }
-    ensures same { pass.new ≡ record pass.old { knows = pass.new.knows } }
-    ensures number { pass.new.knows.number ≡ client }
-    ensures stepped { IfOk result (λ stepped.
-        MadeInTime pass.old.knows (StepMeans pass.old.knows stepped) pass.new.knows) }
-    ensures looked { OnErr result (MadeInTime pass.old.knows IsNone pass.new.knows) }
-{
-    let mut lane = turn.take(rt, pass);
-    let stepped = step_on(&mut lane, client);
-    turn.give(pass, lane);
-    stepped
-}
-
-/// Steps until something became of the client's oldest asked and untaken body, and takes it. It waits for the lane, and
-/// for the board.
-pub(crate) fn perform<L: Link + Send, R: Wait>(
-    rt: &R,
-    turn: &Turn<Boxed<Lane<L>>>,
-    pass: &mut Pass,
-    client: u32,
-) -> Result<Performed, NoMemory>
-    requires turn { pass.old.turn ≡ turn.now }
-    requires idle { (pass.old.holds ≡ false) × (pass.old.knows.number ≡ client) }
-    requires client { 1 ≤ client }
-    ensures same { pass.new ≡ record pass.old { knows = pass.new.knows } }
-    ensures number { pass.new.knows.number ≡ client }
-    ensures performed { IfOk result (λ performed.
-        MadeInTime pass.old.knows (PerformMeans pass.old.knows performed) pass.new.knows) }
-    ensures looked { OnErr result (MadeInTime pass.old.knows IsNone pass.new.knows) }
-{
-    for _ in rt.forever() {
-        match step(rt, turn, pass, client)? {
-            Stepped::Ready(outcome) => return Ok(Performed::Ready(outcome)),
-            Stepped::NotYet(_turned) => {}
-            Stepped::Nothing => return Ok(Performed::Nothing),
-        }
-    }
-    unreachable!()
 }
 
 /// Plans a body of the client, and asks it. It waits for the lane.
 pub(crate) fn submit<L: Link + Send, R: Wait>(
     rt: &R,
     turn: &Turn<Boxed<Lane<L>>>,
+    bell: &Bell,
     pass: &mut Pass,
     client: u32,
     body: Words,
@@ -152,6 +112,8 @@ pub(crate) fn submit<L: Link + Send, R: Wait>(
     let mut lane = turn.take(rt, pass);
     tells_its_own(&lane);
     let submitted = submit_on(&mut lane, client, body, reply_words);
+    let stopped = has_stopped(&lane);
     turn.give(pass, lane);
+    bell.ring_if(stopped);
     submitted
 }

@@ -11,12 +11,13 @@ ghost use Rattle.hub_multiplexer.specs.Lanes.{shown};
 ghost use Rattle.hub_multiplexer.specs.Seats.{ChangesAt, IsMasterOf, IsSeatOf};
 
 use crate::answers::{AskTry, Performed, StepTry};
+use crate::bell::{Bell, bells_of};
 use crate::boxed::Boxed;
-use crate::calls;
 use crate::master::Master;
 use crate::room::{Room, room_for};
 use crate::seat::Seat;
 use crate::turns::{close_all, open_all};
+use crate::{calls, waiting};
 use hub_lane::{Asked, Lane, Link, NoMemory, PlanRefusal, Words};
 use std::alloc::Global;
 use std::marker::Model;
@@ -29,14 +30,18 @@ use turn_pass::Turn;
 pub struct Hub<L: Link> {
     pub(crate) turns: Vec<Turn<Boxed<Lane<L>>>>,
     pub(crate) room: Turn<Room<Lane<L>>>,
+    bells: Vec<Bell>,
 }
 
 impl<L: Link> Model for Hub<L> {
+    ghost use Rattle.std.specs.Prelude.{◌≡◌, length};
     ghost use Rattle.hub_multiplexer.specs.Seats.{HubState};
 
     ghost Value = { HubState };
 
     ghost view = { λ hub. record { turns = hub.turns.items; room = hub.room } };
+
+    ghost invariant = { λ hub. length hub.bells.items ≡ length hub.turns.items };
 }
 
 /// There was no memory for a hub. The lanes come back, in order.
@@ -59,10 +64,13 @@ impl<L: Link + Send + Drop> Hub<L> {
         let Ok((room, room_pass)) = room_for(alloc, lanes.len()) else {
             return Err(Returned { lanes });
         };
+        let Ok(bells) = bells_of(alloc, &mut lanes) else {
+            return Err(Returned { lanes });
+        };
         let Ok((turns, passes)) = open_all(alloc, &mut lanes) else {
             return Err(Returned { lanes });
         };
-        let hub = Hub { turns, room };
+        let hub = Hub { turns, room, bells };
         Ok((hub, Master::of(passes, room_pass)))
     }
 
@@ -74,7 +82,11 @@ impl<L: Link + Send + Drop> Hub<L> {
         requires joined { HasTakenIn (master.seats + 1) master }
         ensures { AreEnded master.knows (map (shown L.telling) result.items) }
     {
-        let Hub { turns, room } = self;
+        let Hub {
+            turns,
+            room,
+            bells: _bells,
+        } = self;
         let Master {
             passes,
             room: room_pass,
@@ -104,7 +116,12 @@ impl<L: Link + Send> Hub<L> {
         ensures looked { OnErr result (ChangesAt board seat.old seat.new (λ k. Made k IsNone)) }
     {
         let client = seat.client;
-        calls::try_ask(&self.turns[board], &mut seat.passes[board], client)
+        calls::try_ask(
+            &self.turns[board],
+            &self.bells[board],
+            &mut seat.passes[board],
+            client,
+        )
     }
 
     /// Takes a board's lane, pumps it once where nothing became of the seat's oldest asked and untaken body yet, takes
@@ -118,7 +135,12 @@ impl<L: Link + Send> Hub<L> {
         ensures looked { OnErr result (ChangesAt board seat.old seat.new (λ k. Made k IsNone)) }
     {
         let client = seat.client;
-        calls::try_step(&self.turns[board], &mut seat.passes[board], client)
+        calls::try_step(
+            &self.turns[board],
+            &self.bells[board],
+            &mut seat.passes[board],
+            client,
+        )
     }
 
     /// Asks the seat's next planned body on a board. It waits for the lane. Want of memory adds nothing.
@@ -131,12 +153,19 @@ impl<L: Link + Send> Hub<L> {
         ensures looked { OnErr result (ChangesAt board seat.old seat.new (λ k. MadeInTime k IsNone)) }
     {
         let client = seat.client;
-        calls::ask(rt, &self.turns[board], &mut seat.passes[board], client)
+        calls::ask(
+            rt,
+            &self.turns[board],
+            &self.bells[board],
+            &mut seat.passes[board],
+            client,
+        )
     }
 
-    /// Steps on a board until something became of the seat's oldest asked and untaken body, and takes it. It waits for
-    /// the lane, and goes on as long as the board does not answer and the hub does not give up. Want of memory adds
-    /// nothing; the lane may have been pumped, or be spent.
+    /// Waits until something became of the seat's oldest asked and untaken body on a board, and takes it: beside the lane
+    /// where its link has what waits there, and else by steps. It waits for the lane, and goes on as long as the board
+    /// does not answer and the hub does not give up. Want of memory adds nothing; the lane may have been pumped, or be
+    /// spent.
     #[tactic(auto, using(crate::proofs::Boards::idle_at))]
     pub fn perform<R: Wait>(
         &self,
@@ -151,7 +180,13 @@ impl<L: Link + Send> Hub<L> {
         ensures looked { OnErr result (ChangesAt board seat.old seat.new (λ k. MadeInTime k IsNone)) }
     {
         let client = seat.client;
-        calls::perform(rt, &self.turns[board], &mut seat.passes[board], client)
+        waiting::perform(
+            rt,
+            &self.turns[board],
+            &self.bells[board],
+            &mut seat.passes[board],
+            client,
+        )
     }
 
     /// Plans a body on a board for the seat's client, and asks it, and answers its number among the client's bodies,
@@ -180,6 +215,7 @@ impl<L: Link + Send> Hub<L> {
         calls::submit(
             rt,
             &self.turns[board],
+            &self.bells[board],
             &mut seat.passes[board],
             client,
             body,

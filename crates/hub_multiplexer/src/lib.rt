@@ -2,6 +2,7 @@
 #![tactic(auto)]
 
 mod answers;
+mod bell;
 mod boxed;
 mod boxed_lane;
 mod calls;
@@ -13,6 +14,8 @@ mod passes;
 mod room;
 mod seat;
 mod turns;
+mod visit;
+mod waiting;
 
 pub use answers::{AskTry, Performed, StepTry};
 pub use hub::{Hub, Returned};

@@ -1,16 +1,19 @@
 //! What a call on a lane means to a pass of the client.
 
-ghost use Rattle.std.specs.Prelude.{◌≡◌, ◌≤◌, ◌<◌, IfOk, IfErr, OnErr};
+ghost use Rattle.std.specs.Prelude.{◌≡◌, ◌≤◌, ◌<◌, IfOk, IfErr, OnErr, Some, None};
 ghost use Rattle.transaction_codec.specs.Answer.{reply_room};
 ghost use Rattle.lane_record.specs.Items.{asked, planned};
 ghost use Rattle.turn_pass.specs.Pass.{Knowledge, Told};
 ghost use Rattle.lane_record.specs.Legal.{IsLegal};
-ghost use Rattle.hub_multiplexer.specs.Calls.{AskMeans, HasSubmitted, IsNone, StepMeans, SubmitRefused};
+ghost use Rattle.hub_multiplexer.specs.Calls.{AskMeans, FoundLane, HasSubmitted, IsNone, StepMeans, SubmitRefused};
 ghost use Rattle.hub_multiplexer.specs.Lanes.{IsAskedNext, Means, shown};
+ghost use Rattle.hub_lane.specs.Lanes.{opening_of};
 ghost use Rattle.hub_lane.specs.declared.answers.PlanRefusal.TheVariants as refusals;
 ghost use Rattle.hub_multiplexer.specs.OwnItems.{of_client, own_items};
+ghost use Rattle.hub_multiplexer.specs.Waiting.{FindMeans};
 
-use hub_lane::{Asked, Lane, Link, NoMemory, PlanRefusal, Stepped, Words};
+use crate::answers::Performed;
+use hub_lane::{Asked, Lane, Link, Looked, NoMemory, PlanRefusal, Stepped, Words};
 use lane_record::laws::coding::an_entry_is_spelled_by_numbers;
 use lane_record::laws::entries::an_ask_is_of_its_plan;
 
@@ -52,6 +55,73 @@ pub(crate) fn step_on<L: Link>(lane: &mut Lane<L>, client: u32) -> Result<Steppe
     stepped
 }
 
+/// Sends what waits to be sent, and takes what became of the client's oldest asked and untaken body, if anything did. A
+/// lane that has stopped is stepped: it tells at once what came, also that memory ran out.
+pub(crate) fn look_on<L: Link>(
+    lane: &mut Lane<L>,
+    client: u32,
+) -> Result<Option<Performed>, NoMemory>
+    requires client { 1 ≤ client }
+    ensures found { IfOk result (λ found.
+        Means client (shown L.telling lane.old) (λ k. FindMeans k found) (shown L.telling lane.new)) }
+    ensures looked { OnErr result (Means client (shown L.telling lane.old) (λ _. IsNone) (shown L.telling lane.new)) }
+{
+    send_on(lane);
+    if lane.is_stopped() {
+        return step_found(lane, client);
+    }
+    found_on(lane, client)
+}
+
+/// Sends what waits to be sent.
+fn send_on<L: Link>(lane: &mut Lane<L>)
+    ensures { shown L.telling lane.new ≡ shown L.telling lane.old }
+{
+    lane.send_wanted();
+}
+
+/// Takes what became of the client's oldest asked and untaken body, if anything did.
+fn found_on<L: Link>(lane: &mut Lane<L>, client: u32) -> Result<Option<Performed>, NoMemory>
+    requires client { 1 ≤ client }
+    ensures found { IfOk result (λ found.
+        Means client (shown L.telling lane.old) (λ k. FindMeans k found) (shown L.telling lane.new)) }
+    ensures looked { OnErr result (Means client (shown L.telling lane.old) (λ _. IsNone) (shown L.telling lane.new)) }
+{
+    tells_its_own(lane);
+    let looked = lane.look(client);
+    tells_its_own(lane);
+    match looked? {
+        Looked::Ready(outcome) => Ok(Some(Performed::Ready(outcome))),
+        Looked::NotYet => Ok(None),
+        Looked::Nothing => Ok(Some(Performed::Nothing)),
+    }
+}
+
+/// Pumps once at most, and takes what became of the body.
+pub(crate) fn step_found<L: Link>(
+    lane: &mut Lane<L>,
+    client: u32,
+) -> Result<Option<Performed>, NoMemory>
+    requires client { 1 ≤ client }
+    ensures found { IfOk result (λ found.
+        Means client (shown L.telling lane.old) (λ k. FindMeans k found) (shown L.telling lane.new)) }
+    ensures looked { OnErr result (Means client (shown L.telling lane.old) (λ _. IsNone) (shown L.telling lane.new)) }
+{
+    Ok(found_by(step_on(lane, client)?))
+}
+
+/// What a step found.
+fn found_by(stepped: Stepped) -> Option<Performed>
+    ensures { (k : Knowledge) (lane : FoundLane) (added : _) → StepMeans k stepped lane added
+        → FindMeans k result lane added }
+{
+    match stepped {
+        Stepped::Ready(outcome) => Some(Performed::Ready(outcome)),
+        Stepped::NotYet(_turned) => None,
+        Stepped::Nothing => Some(Performed::Nothing),
+    }
+}
+
 /// Plans a body of the client, and asks it. The client has asked all bodies that it planned before.
 pub(crate) fn submit_on<L: Link>(
     lane: &mut Lane<L>,
@@ -87,6 +157,7 @@ fn ask_planned<L: Link>(lane: &mut Lane<L>, client: u32, seq: u64) -> Result<u64
     requires next { asked client lane.old.items < planned client lane.old.items }
     ensures asked { IfOk result (λ number. (number ≡ seq) × IsAskedNext lane.old client lane.new) }
     ensures refused { IfErr result (λ why. (why ≡ refusals.NoMemory) × (lane.new ≡ lane.old)) }
+    ensures opening { opening_of (L.telling lane.new.link) ≡ opening_of (L.telling lane.old.link) }
 {
     match lane.ask(client) {
         Ok(Asked::Asked(_seq)) => Ok(seq),

@@ -4,7 +4,7 @@ use hub_lane::PlanRefusal;
 use lane_record::Outcome;
 
 /// What the hub came to for a request frame.
-#[derive(Debug, Drop)]
+#[derive(Drop)]
 pub enum Got {
     /// The hub was not asked: the frame has no control packet, there is no such board, or it has no lane.
     NotAsked,

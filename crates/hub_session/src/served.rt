@@ -1,7 +1,7 @@
 //! What serving a connection came to.
 
 /// Why a connection was served no further.
-#[derive(Clone, Copy, Debug, PartialEq, Eq)]
+#[derive(Clone, Copy, PartialEq, Eq)]
 pub enum SessionEnd {
     /// The input ended behind a whole frame, or before the first.
     Closed,
@@ -18,7 +18,7 @@ pub enum SessionEnd {
 }
 
 /// A connection that was served.
-#[derive(Clone, Copy, Debug, PartialEq, Eq)]
+#[derive(Clone, Copy, PartialEq, Eq)]
 pub struct Served {
     /// How many reply frames were written whole. It stands still at its end.
     pub frames: u64,

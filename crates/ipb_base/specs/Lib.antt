@@ -2,3 +2,4 @@ pub mod Word
 pub mod Lists
 pub mod Faults
 pub mod Numbers
+pub mod Digits

@@ -5,12 +5,14 @@
 //! back without taking memory.
 #![tactic(auto)]
 
+mod digits;
 pub mod laws;
 mod no_memory;
 mod text;
 mod version;
 mod words;
 
+pub use digits::number_in_text;
 pub use no_memory::NoMemory;
 pub use text::Text;
 pub use version::VERSION;

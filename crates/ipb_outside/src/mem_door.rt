@@ -11,7 +11,7 @@ use std::alloc::Global;
 use std::marker::Model;
 
 /// A door through which pairs of a source and a sink in memory come, and which fails at chosen calls.
-#[derive(Debug, Drop)]
+#[derive(Drop)]
 pub struct MemDoor {
     // the last is the next to come
     waiting: Vec<(MemSource, MemSink)>,

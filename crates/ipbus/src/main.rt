@@ -5,12 +5,17 @@
 #![tactic(auto)]
 
 use ipbus_program::{
-    DOOR_FAULT, NO_MEMORY, NoGate, RACK_FAULT, READ_FAULT, USAGE, WRITE_FAULT, control,
+    DOOR_FAULT, MAX_DOCUMENT, NO_MEMORY, NoGate, RACK_FAULT, READ_FAULT, REFUSED, USAGE,
+    WRITE_FAULT, control,
 };
-use net_edges::{RealRack, StdinSource, StdoutSink, TcpDoor};
+use net_edges::{KeptSource, RealRack, StdinSource, StdoutSink, TcpDoor};
+use operator_notes::{
+    Command, NoMemory, command_of, door_note, memory_note, rack_note, read_note, refusal_notes,
+    usage_notes, write_note,
+};
 use std::alloc::{AllocError, Global};
 use std::env;
-use std::io::ErrorKind;
+use std::io::{ErrorKind, Stderr};
 use std::process::ExitCode;
 use std::rt::Env;
 
@@ -33,47 +38,84 @@ fn words<R: Env + AllocGlobal>(rt: &R) -> Result<Vec<String>, AllocError> {
     Ok(words)
 }
 
-/// What is said on standard error beside a status, where anything is.
-fn note(status: u8) -> Option<&'static str> {
-    match status {
-        USAGE => Some(
-            "the session document is read from standard input; try: bin/ipbus run < examples/first.toml",
-        ),
-        READ_FAULT => Some("the input could not be read; nothing was written"),
-        WRITE_FAULT => Some("the output could not be written; at most a part of the text was"),
-        NO_MEMORY => Some("memory ran out; nothing was written"),
-        RACK_FAULT => Some("a link to a board could not be made; nothing was written"),
-        DOOR_FAULT => Some(
-            "the port could not be listened to, or a connection not be accepted; nothing was written",
-        ),
+/// Says a line on standard error. Where that cannot be written either, the status says it alone.
+fn say(to: Stderr, line: &str) {
+    let _ = eprintln!(to; "ipbus: {line}");
+}
+
+fn say_all(to: Stderr, lines: &[String]) {
+    for line in lines {
+        say(to, line.as_str());
+    }
+}
+
+/// How many connections a command serves, if it serves any.
+fn connections_of(command: Option<&Command>) -> Option<u32> {
+    match command {
+        Some(Command::Serve { port: _, count }) => Some(*count),
         _ => None,
     }
 }
 
+/// What to look for where a command refuses the bytes that it was given.
+fn refusal_lines(
+    alloc: Global,
+    command: Option<&Command>,
+    given: Option<&[u8]>,
+) -> Result<Vec<String>, NoMemory> {
+    match (command, given) {
+        (Some(command), Some(bytes)) => refusal_notes(alloc, command, bytes),
+        _ => Ok(Vec::new(alloc)),
+    }
+}
+
+/// What is said on standard error at the end, beside a status.
+fn say_end(
+    to: Stderr,
+    alloc: Global,
+    status: u8,
+    words: &[String],
+    command: Option<&Command>,
+    given: Option<&[u8]>,
+) -> Result<(), NoMemory> {
+    match status {
+        USAGE => say_all(to, usage_notes(alloc, words)?.as_slice()),
+        REFUSED => say_all(to, refusal_lines(alloc, command, given)?.as_slice()),
+        READ_FAULT => say(to, read_note()),
+        WRITE_FAULT => {
+            let refusal = refusal_lines(alloc, command, given)?;
+            say(to, write_note(command, !refusal.is_empty()));
+            say_all(to, refusal.as_slice());
+        }
+        NO_MEMORY => say(to, memory_note()),
+        RACK_FAULT => say(to, rack_note()),
+        DOOR_FAULT => say(to, door_note()),
+        _ => {}
+    }
+    Ok(())
+}
+
 /// Does what the words ask, over the real outside, and ends with the status.
 fn main(rt: HostRuntime) -> ExitCode {
-    let status = match words(&rt) {
-        Ok(words) => {
-            let mut input = StdinSource::new(&rt);
-            let mut out = StdoutSink::new(&rt);
-            let mut rack = RealRack::new(&rt);
-            let mut door = TcpDoor::new(&rt);
-            control(
-                &rt,
-                rt.alloc(),
-                &words,
-                &mut input,
-                &mut out,
-                &mut rack,
-                &mut door,
-                &NoGate,
-            )
-        }
-        Err(_) => NO_MEMORY,
+    let alloc: Global = rt.alloc();
+    let to = rt.stderr();
+    let Ok(words) = words(&rt) else {
+        say(to, memory_note());
+        return ExitCode::from(NO_MEMORY);
     };
-    if let Some(note) = note(status) {
-        // where standard error cannot be written either, the status says it alone
-        let _ = eprintln!(rt; "ipbus: {note}");
-    }
+    let command = command_of(alloc, &words).unwrap_or(None);
+    // one byte more than the longest document tells that it is too long
+    let mut input = KeptSource::new(alloc, StdinSource::new(&rt), MAX_DOCUMENT + 1);
+    let mut out = StdoutSink::new(&rt);
+    let mut rack = RealRack::telling(&rt, to);
+    let mut door = match connections_of(command.as_ref()) {
+        Some(connections) => TcpDoor::telling(&rt, to, connections),
+        None => TcpDoor::new(&rt),
+    };
+    let status = control(
+        &rt, alloc, &words, &mut input, &mut out, &mut rack, &mut door, &NoGate,
+    );
+    // without memory for its words the status says it alone
+    let _ = say_end(to, alloc, status, &words, command.as_ref(), input.given());
     ExitCode::from(status)
 }

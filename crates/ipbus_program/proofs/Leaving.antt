@@ -10,7 +10,7 @@ use Rattle.hub_session.specs.declared.served.Served.{Served}
 use Rattle.session_serve.specs.Boards.{states_of}
 use Rattle.session_serve.specs.Connections.{Conversation, HaveExchanged}
 use Rattle.lane_history.specs.Runs.{AreRunsOver}
-use Rattle.script_lang.specs.declared.operation.Step.{Step}
+use Rattle.script_steps.specs.declared.operation.Step.{Step}
 use Rattle.script_lang.specs.declared.session.Session.{Session}
 use Rattle.session_input.specs.declared.refusal.Refusal.{Refusal}
 use Rattle.session_input.specs.Deserved.{Deserves, IsRunnable}

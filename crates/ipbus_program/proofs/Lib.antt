@@ -8,3 +8,4 @@ pub mod Ready
 pub mod Refusing
 pub mod Services
 pub mod Summing
+pub mod ServeStatus

@@ -1,8 +1,8 @@
 -- Runs over links have the names of their boards.
 use Rattle.std.proofs.Common.{◌≡◌, ℕ, zero, suc, ◌+◌, ◌<◌, List, [], ◌∷◌, length, get_or, sym, ◌∙◌, arith}
 use Rattle.board_node.specs.declared.spec.BoardSpec.{BoardSpec}
-use Rattle.reliable_engine.specs.Settings.{Limits}
-use Rattle.script_lang.specs.declared.operation.Step.{Step}
+use Rattle.world_model.specs.Settings.{Limits}
+use Rattle.script_steps.specs.declared.operation.Step.{Step}
 use Rattle.script_lang.specs.OwnNames as boards
 use Rattle.transcript.specs.declared.board_run.BoardRun.{BoardRun}
 use Rattle.transcript.specs.Shown.{HaveOwnNames}

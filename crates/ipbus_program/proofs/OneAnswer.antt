@@ -4,7 +4,7 @@ use Rattle.std.specs.List.{AllByRecursion}
 use Rattle.direct_run.specs.Runs.{runs_from}
 use Rattle.lane_history.specs.Links.{LinkReport, IsFaithful}
 use Rattle.lane_history.specs.Runs.{HaveOwnBoards}
-use Rattle.script_lang.specs.declared.operation.Step.{Step}
+use Rattle.script_steps.specs.declared.operation.Step.{Step}
 use Rattle.script_lang.specs.declared.session.Session.{Session}
 use Rattle.session_input.specs.Deserved.{IsRunnable}
 use Rattle.transcript.specs.Lines.{transcript_of, run_status}

@@ -6,12 +6,12 @@ use Rattle.board_bus.specs.Ranges.{refusal_of}
 use Rattle.board_node.specs.declared.spec.BoardSpec.{BoardSpec}
 use Rattle.board_node.specs.declared.spec.LinkSpec.{LinkSpec}
 use Rattle.board_node.specs.declared.spec.LinkSpec.TheVariants.{Sim, Udp}
-use Rattle.script_lang.specs.declared.operation.Step.{Step}
+use Rattle.script_steps.specs.declared.operation.Step.{Step}
 use Rattle.script_lang.specs.declared.script_refusal.TheConstants.{MAX_LINES}
 use Rattle.script_lang.specs.declared.session.Session.{Session}
-use Rattle.script_lang.specs.Executable.{OpensOnWords}
+use Rattle.board_node.specs.OpeningWords.{OpensOnWords}
 use Rattle.script_lang.specs.Limits.{IsWithin, KeepsRules, LinkKeepsRules}
-use Rattle.script_lang.specs.Packing.{AreWithinLimits, CanBePacked, HaveFewPieces}
+use Rattle.script_steps.specs.Packing.{AreWithinLimits, CanBePacked, HaveFewPieces}
 use Rattle.session_input.specs.Deserved.{HasBus, IsRunnable, ranges_of}
 use Rattle.lane_history.specs.Links.{CanBeMade}
 use Rattle.session_run.specs.Links.{CanBeReached}

@@ -6,7 +6,7 @@ use Rattle.std.specs.Prelude.{option_map}
 use Rattle.std.specs.List.{AllByRecursion}
 use Rattle.std.specs.Result.{IsErr, IsErrAnd}
 use Rattle.board_node.specs.declared.spec.BoardSpec.{BoardSpec}
-use Rattle.reliable_engine.specs.Settings.{Limits}
+use Rattle.world_model.specs.Settings.{Limits}
 use Rattle.lane_history.specs.Links.{IsUntouched, LinkReport}
 use Rattle.script_lang.specs.declared.session.Session.{Session}
 use Rattle.session_serve.specs.declared.report.ServeFault.{ServeFault}
@@ -15,9 +15,10 @@ use Rattle.session_serve.specs.Boards.{AreLinksTo}
 use Rattle.served_history.specs.Boards.{AreServedOver, IsServedOver, ServedBoard}
 use Rattle.session_serve.specs.Pairs.{GivesBack, PairReport, pair_shown}
 use Rattle.session_serve.specs.Serving.{AreBack}
+use Rattle.serve_text.specs.Text.{all_closed}
 use Rattle.ipbus_program.specs.declared.answer.Answer.{Answer}
 use Rattle.command_words.specs.declared.command.Command.TheVariants.{Serve}
-use Rattle.script_lang.specs.declared.operation.Step.{Step}
+use Rattle.script_steps.specs.declared.operation.Step.{Step}
 use Rattle.session_input.specs.Deserved.{IsRunnable}
 use Rattle.ipbus_program.specs.declared.answer.NoAnswer.{NoAnswer}
 use Rattle.ipbus_program.specs.Below.{ServeLaws}
@@ -26,6 +27,7 @@ use Rattle.ipbus_program.specs.Owed.{IsReadToEnd, OwesService}
 use Rattle.ipbus_program.specs.Steps.{ServeLeaves, ServesSession}
 use Rattle.load_run.proofs.Loads.{Told, at_links}
 use Rattle.ipbus_program.proofs.Leaving.{service_of}
+use Rattle.ipbus_program.proofs.ServeStatus.{no_refusal}
 use Rattle.ipbus_program.specs.Serving.{AreServedRightly, IsServedRightly, IsServiceOf}
 
 module _ (settings : Limits)
@@ -128,6 +130,14 @@ module _ {L I O : Type 0} (shown : L → LinkReport) (left : I → Option (List 
       some_pairs links grown
       (λ ls came back. ServesSession session count ls came back answer.status answer.text.items) told
   some_served session count links grown (Err why) told = tt
+
+  pub not_refused : (session : Session) (count : ℕ) (Q : Type 0) (result : Result Answer ServeFault)
+      → IfOk result (λ answer. Together
+      (λ ls came back. ServesSession session count ls came back answer.status answer.text.items))
+      → IfOk result (λ answer. answer.status ≡ refused_status → Q)
+  not_refused session count Q (Ok answer) told = λ refused.
+      absurd (no_refusal (all_closed told.2.4.connections) answer.status told.2.4.told refused)
+  not_refused session count Q (Err why) told = tt
 
   pub services : ServeLaws → (count : ℕ) (bytes : List ℕ) (session : Session) (steps : List (List Step))
       → IsRunnable bytes session steps → (result : Result Answer ServeFault)

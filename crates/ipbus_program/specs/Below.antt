@@ -7,15 +7,16 @@ use Rattle.lane_history.specs.Links.{IsFaithful, LinkReport}
 use Rattle.lane_history.specs.Runs.{AreRunsOver, AreWholeRuns, HaveOwnBoards, IsLineOfRounds, IsUngarbledWhereTold}
 use Rattle.lane_history.specs.Runs.{RepliesCame, ShowAloneRuns, TimeOutsWaited}
 use Rattle.node_tree.specs.Maps.{RegisterMap}
-use Rattle.script_lang.specs.declared.operation.Step.{Step}
+use Rattle.script_steps.specs.declared.operation.Step.{Step}
 use Rattle.script_lang.specs.declared.session.Session.{Session}
 use Rattle.script_lang.specs.Document.{SameSession, StandsFor}
-use Rattle.script_lang.specs.Executable.{AreExecutable, OpensOnWords}
+use Rattle.board_node.specs.OpeningWords.{OpensOnWords}
+use Rattle.script_steps.specs.Executable.{AreExecutable}
 use Rattle.session_input.specs.declared.refusal.Refusal.{Refusal}
 use Rattle.transcript.specs.declared.board_run.BoardRun.{BoardRun}
 use Rattle.transcript.specs.declared.line.BoardLine.{BoardLine}
 use Rattle.board_node.specs.declared.spec.BoardSpec.{BoardSpec}
-use Rattle.reliable_engine.specs.Settings.{Limits}
+use Rattle.world_model.specs.Settings.{Limits}
 use Rattle.served_history.specs.Boards.{AreServedOver, ServedBoard}
 use Rattle.hub_session.specs.declared.served.Served.{Served}
 use Rattle.session_serve.specs.Boards.{states_of}

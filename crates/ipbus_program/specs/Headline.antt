@@ -35,7 +35,7 @@ use Rattle.lane_history.specs.Links.{LinkReport, IsFaithful}
 use Rattle.direct_run.specs.Lines.{IsBusLine}
 use Rattle.lane_history.specs.Runs.{AreRunsOver, AreWholeRuns, IsLineOfRounds, IsUngarbledWhereTold}
 use Rattle.lane_history.specs.Runs.{RepliesCame, ShowAloneRuns, TimeOutsWaited}
-use Rattle.script_lang.specs.declared.operation.Step.{Step}
+use Rattle.script_steps.specs.declared.operation.Step.{Step}
 use Rattle.script_lang.specs.declared.session.Session.{Session}
 use Rattle.session_input.specs.Deserved.{IsRunnable}
 use Rattle.session_run.specs.Links.{AreLeft}

@@ -61,8 +61,8 @@ use Rattle.std.specs.Prelude.{◌≡◌, ℕ, ◌≤◌, List, [], ◌∷◌, le
 use Rattle.std.specs.List.{AllByRecursion}
 use Rattle.board_node.specs.declared.spec.BoardSpec.{BoardSpec}
 use Rattle.world_model.specs.Board.{executed}
-use Rattle.reliable_engine.specs.Settings.{Limits}
-use Rattle.script_lang.specs.declared.operation.Step.{Step}
+use Rattle.world_model.specs.Settings.{Limits}
+use Rattle.script_steps.specs.declared.operation.Step.{Step}
 use Rattle.script_lang.specs.declared.session.Session.{Session}
 use Rattle.transcript.specs.declared.line.BoardLine.{BoardLine}
 use Rattle.transcript.specs.Lines.{board_line}

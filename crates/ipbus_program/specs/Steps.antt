@@ -4,11 +4,11 @@ use Rattle.std.specs.Prelude.{◌≡◌, ◌⊎◌, ℕ, ◌+◌, ◌<◌, ◌�
 use Rattle.std.specs.List.{AllByRecursion}
 use Rattle.lane_history.specs.Links.{LinkReport, IsUntouched}
 use Rattle.lane_history.specs.Runs.{AreRunsOver}
-use Rattle.script_lang.specs.declared.operation.Step.{Step}
+use Rattle.script_steps.specs.declared.operation.Step.{Step}
 use Rattle.script_lang.specs.declared.script_refusal.TheConstants.{MAX_LINES}
 use Rattle.script_lang.specs.declared.session.Session.{Session}
-use Rattle.script_lang.specs.Executable.{AreExecutable}
-use Rattle.script_lang.specs.Packing.{AreWithinLimits, CanBePacked, HaveFewPieces}
+use Rattle.script_steps.specs.Executable.{AreExecutable}
+use Rattle.script_steps.specs.Packing.{AreWithinLimits, CanBePacked, HaveFewPieces}
 use Rattle.session_run.specs.declared.session.RunFault.{RunFault}
 use Rattle.session_run.specs.declared.session.RunFault.TheVariants as fault
 use Rattle.session_run.specs.declared.session.RunFault.TheVariants.{Rack}

@@ -10,7 +10,7 @@ ghost use Rattle.command_words.specs.declared.command.Command.{Command as Comman
 ghost use Rattle.std.specs.List.{AllByRecursion};
 ghost use Rattle.lane_history.specs.Links.{IsFaithful, LinkReport};
 ghost use Rattle.lane_history.specs.Runs.{HaveOwnBoards};
-ghost use Rattle.script_lang.specs.declared.operation.Step.{Step};
+ghost use Rattle.script_steps.specs.declared.operation.Step.{Step};
 ghost use Rattle.script_lang.specs.declared.session.Session.{Session};
 ghost use Rattle.session_input.specs.Deserved.{IsRunnable};
 ghost use Rattle.ipbus_program.specs.Owed.{IsNoServer};

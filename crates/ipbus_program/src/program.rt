@@ -8,7 +8,7 @@ ghost use Rattle.board_greeting.specs.Links.{Keeps};
 ghost use Rattle.lane_history.specs.Links.{IsUntouched};
 ghost use Rattle.load_session.specs.Generated.{most_operations};
 ghost use Rattle.node_tree.specs.Maps.{RegisterMap};
-ghost use Rattle.script_lang.specs.declared.operation.Step.{Step};
+ghost use Rattle.script_steps.specs.declared.operation.Step.{Step};
 ghost use Rattle.script_lang.specs.declared.session.Session.{Session};
 ghost use Rattle.session_input.specs.Deserved.{Deserves, IsListed, IsRunnable};
 ghost use Rattle.session_input.specs.Numbers.{document_bytes};

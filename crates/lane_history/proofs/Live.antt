@@ -8,8 +8,8 @@ use Rattle.board_bus.specs.Cells.{CellMap}
 use Rattle.board_node.specs.declared.spec.BoardSpec.{BoardSpec}
 use Rattle.world_model.specs.Board.{Board, executed}
 use Rattle.world_model.proofs.Lists.{all_get}
-use Rattle.reliable_engine.specs.Settings.{Limits}
-use Rattle.script_lang.specs.declared.operation.Step.{Step}
+use Rattle.world_model.specs.Settings.{Limits}
+use Rattle.script_steps.specs.declared.operation.Step.{Step}
 use Rattle.lane_record.specs.declared.outcome.Outcome.{Outcome}
 use Rattle.lane_record.specs.declared.item.Item.{Item}
 use Rattle.lane_record.specs.Outcomes.{TellsRounds, is_replied}

@@ -11,8 +11,8 @@ use Rattle.board_node.specs.declared.spec.BoardSpec.{BoardSpec}
 use Rattle.board_node.specs.declared.spec.LinkSpec.{LinkSpec}
 use Rattle.board_node.specs.declared.spec.LinkSpec.TheVariants.{Sim, Udp}
 use Rattle.world_model.specs.Board.{Board, executed}
-use Rattle.reliable_engine.specs.Settings.{Limits}
-use Rattle.script_lang.specs.declared.operation.Step.{Step}
+use Rattle.world_model.specs.Settings.{Limits}
+use Rattle.script_steps.specs.declared.operation.Step.{Step}
 use Rattle.lane_record.specs.declared.outcome.Outcome.{Outcome}
 use Rattle.lane_record.specs.Lists.{CountsFrom}
 use Rattle.transcript.specs.declared.greeting.Greeting.{Greeting}

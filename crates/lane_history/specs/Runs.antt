@@ -8,9 +8,9 @@ use Rattle.board_node.specs.declared.spec.BoardSpec.{BoardSpec}
 use Rattle.board_node.specs.declared.spec.LinkSpec.{LinkSpec}
 use Rattle.board_node.specs.declared.spec.LinkSpec.TheVariants.{Sim, Udp}
 use Rattle.world_model.specs.Board.{Board, executed}
-use Rattle.reliable_engine.specs.Settings.{Limits}
+use Rattle.world_model.specs.Settings.{Limits}
 use Rattle.lane_record.specs.Outcomes.{TellsRounds, is_replied}
-use Rattle.script_lang.specs.declared.operation.Step.{Step}
+use Rattle.script_steps.specs.declared.operation.Step.{Step}
 use Rattle.transcript.specs.declared.greeting.Greeting.{Greeting}
 use Rattle.transcript.specs.declared.greeting.Greeting.TheVariants.{Live, Silent, Down}
 use Rattle.transcript.specs.declared.body_end.Told.TheVariants.{Garbled}

@@ -21,7 +21,7 @@ pub const ASK: u8 = 3;
 pub const TOOK: u8 = 4;
 
 /// What a call did to a lane (profile).
-#[derive(Debug, Drop)]
+#[derive(Drop)]
 pub enum What {
     /// The client planned this body: the words of a control packet after its header, at most 2242.
     Plan { body: Words },
@@ -34,7 +34,7 @@ pub enum What {
 }
 
 /// One entry of a lane's record, with its content (profile).
-#[derive(Debug, Drop)]
+#[derive(Drop)]
 pub struct Item {
     /// Who made it, from 1. A Seal is made by nobody, which is 0.
     pub client: u32,

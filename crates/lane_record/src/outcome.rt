@@ -7,7 +7,7 @@ use std::marker::Model;
 
 /// What became of one body. A body has a place where it was sent: its number, from 1, among the first sends to its
 /// board (profile).
-#[derive(Debug, Drop)]
+#[derive(Drop)]
 pub enum Outcome {
     /// The board replied with these words, the packet header left out.
     Replied { place: u64, words: Words },
@@ -39,7 +39,7 @@ impl Outcome {
 }
 
 /// What became of some bodies, in order. Contracts see that list.
-#[derive(Debug, Drop)]
+#[derive(Drop)]
 pub struct Outcomes {
     items: Vec<Outcome>,
 }

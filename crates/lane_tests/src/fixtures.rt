@@ -1,27 +1,42 @@
-//! A lane over a simulated link to a small board, and what is asked of it.
+//! A small board, a lane over a simulated link to it, and what is asked of them.
 
-ghost use Rattle.std.specs.Prelude.{[], ◌≡◌, ◌≤◌, IfOk};
+ghost use Rattle.std.specs.Prelude.{◌≡◌, ◌≤◌, [], ◌∷◌, IfOk, sum_by};
 ghost use Rattle.transaction_codec.specs.Answer.{reply_room};
+ghost use Rattle.transaction_codec.specs.Request.{op_count};
+ghost use Rattle.script_steps.specs.Packing.{CanBePacked, operations};
+ghost use Rattle.world_model.specs.Board.{executed};
 
 use board_node::{Board, Bus, Fates, Range, RangeKind};
 use hub_lane::{Entry, Greeted, Lane, Outcome, Settings};
 use ipb_base::{NoMemory, Text, Words};
 use lossy_network::SimLink;
 use packet_ids::Id;
+use script_steps::{RegOp, Step, Verb};
 use std::alloc::Global;
 use std::test::Fail;
-use transaction_codec::reply_room;
+use transaction_codec::{Op, reply_room};
 
 /// A read of the word at address 4.
-const READ_FOUR: [u32; 2] = [0x2000_010f, 4];
+pub(crate) const READ_FOUR: [u32; 2] = [0x2000_010f, 4];
 
 /// The reply to it.
 pub(crate) const FOUR_READ: [u32; 2] = [0x2000_0100, 0xabcd];
 
-/// A lane over a simulated link with these fates, to a board of 16 words with 0xabcd at address 4. The hub sends at
-/// most 4 packets ahead of the replies, and gives up after 3 rounds.
-pub(crate) fn lane(alloc: Global, fates: &str) -> Result<Lane<SimLink>, Fail>
-    ensures { IfOk result (λ lane. lane.items ≡ []) }
+/// The control packet 1 with that body.
+pub(crate) const REQUEST: [u8; 12] = [0x20, 0, 1, 0xf0, 0x20, 0, 1, 0x0f, 0, 0, 0, 4];
+
+/// The reply to that packet.
+pub(crate) const REPLY: [u8; 12] = [0x20, 0, 1, 0xf0, 0x20, 0, 1, 0, 0, 0, 0xab, 0xcd];
+
+/// The request to send the reply to the control packet 1 again.
+pub(crate) const RESEND: [u8; 4] = [0x20, 0, 1, 0xf2];
+
+/// A board of 16 words, with 0xabcd at address 4, that keeps so many replies (1 to 64) and expects this identifier
+/// first.
+pub(crate) fn board(alloc: Global, buffers: u32, first: u16) -> Result<Board, Fail>
+    requires { (1 ≤ buffers) × (buffers ≤ 64) }
+    ensures fresh { IfOk result (λ board. executed board ≡ []) }
+    ensures log { IfOk result (λ board. board.log ≡ []) }
 {
     let range = Range {
         base: 0,
@@ -30,8 +45,32 @@ pub(crate) fn lane(alloc: Global, fates: &str) -> Result<Lane<SimLink>, Fail>
         init: Words::from_vec([0, 0, 0, 0, 0xabcd].to_vec(alloc)?),
     };
     let bus = Bus::new(alloc, &[range])?;
-    let first = Id::new(1).ok_or("0 is no identifier")?;
-    let board = Board::new(alloc, bus, 1500, 16, first)?;
+    let first = Id::new(first).ok_or("0 is no identifier")?;
+    Ok(Board::new(alloc, bus, 1500, buffers, first)?)
+}
+
+/// `rmwsum BOARD:a ADDEND`
+pub(crate) fn add(alloc: Global, board: u32, addend: u32) -> Result<Step, NoMemory>
+    ensures packed { IfOk result CanBePacked }
+    ensures few { IfOk result (λ step. sum_by op_count (operations (step ∷ [])) ≤ 1) }
+{
+    Ok(Step::Do(RegOp {
+        line: 1,
+        verb: Verb::RmwSum,
+        board,
+        name: Text::copy_of(alloc, "a")?,
+        mask: u32::MAX,
+        op: Op::RmwSum { base: 0, addend },
+    }))
+}
+
+/// A lane over a simulated link with these fates, to such a board with 16 buffers that expects the identifier 1. The hub
+/// sends at most 4 packets ahead of the replies, and gives up after 3 rounds.
+pub(crate) fn lane(alloc: Global, fates: &str) -> Result<Lane<SimLink>, Fail>
+    ensures { IfOk result (λ lane. lane.items ≡ []) }
+{
+    let board = board(alloc, 16, 1)?;
+    board.keeps_its_ranges();
     let fates = Fates::Text(Text::copy_of(alloc, fates)?);
     let link = SimLink::new(alloc, board, fates, Vec::new(alloc))?;
     let settings = Settings::new(3, 4).ok_or("settings out of range")?;

@@ -6,6 +6,7 @@ ghost use Rattle.hub_multiplexer.specs.Ends.{HasTakenIn};
 ghost use Rattle.hub_multiplexer.specs.Seats.{IsMasterOf, IsSeatOf};
 
 use crate::fixtures::{digit, kinds, lane, place_of, planned_lane, read_four};
+use crate::same::same;
 use hub_lane::Entry;
 use hub_multiplexer::laws::a_seat_that_asked_all_may_submit;
 use hub_multiplexer::{AskTry, Hub, Lane, Master, NoMemory, Outcome, Performed, Seat, StepTry};
@@ -85,8 +86,8 @@ fn one_client_goes_step_by_step(rt: HostRuntime) -> Result<(), Fail> {
     let (hub, master, mut seat) = hub_of(rt.alloc(), planned_lane(rt.alloc(), "ddl", 2)?)?;
     let asked = asks_once(&hub, &mut seat);
     let lanes = finish(&rt, hub, master, seat);
-    assert_eq!(rt; asked, Ok(true));
-    assert_eq!(rt; first_kinds(rt.alloc(), &lanes)?.as_str(), "1234");
+    same(&rt, &asked, &Ok(true));
+    same(&rt, &first_kinds(rt.alloc(), &lanes)?.as_str(), &"1234");
     Ok(())
 }
 
@@ -138,7 +139,7 @@ fn a_client_plans_as_it_goes(rt: HostRuntime) -> Result<(), Fail> {
     let read = reads_twice(&rt, rt.alloc(), &hub, &mut seat);
     let lanes = finish(&rt, hub, master, seat);
     assert!(rt; read?);
-    assert_eq!(rt; first_kinds(rt.alloc(), &lanes)?.as_str(), "134134");
+    same(&rt, &first_kinds(rt.alloc(), &lanes)?.as_str(), &"134134");
     Ok(())
 }
 
@@ -311,10 +312,11 @@ fn four_clients_read_at_once(rt: HostRuntime) -> Result<(), Fail> {
     let places = [one.1, two.1, three.1, four.1];
     let lanes = finish_four(&rt, hub, master, (one.0, two.0), (three.0, four.0));
     assert!(rt; are_the_first_four(places));
-    assert_eq!(rt; first_counts(&lanes), Some((13, (4, 0, 0))));
-    assert_eq!(rt;
-        kinds_by_client(rt.alloc(), &lanes)?.as_str(),
-        "134134134134"
+    same(&rt, &first_counts(&lanes), &Some((13, (4, 0, 0))));
+    same(
+        &rt,
+        &kinds_by_client(rt.alloc(), &lanes)?.as_str(),
+        &"134134134134",
     );
     Ok(())
 }

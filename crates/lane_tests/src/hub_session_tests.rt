@@ -8,7 +8,7 @@ ghost use Rattle.hub_session.specs.Serving.{IsUnused};
 use crate::fixtures::lane;
 use hub_multiplexer::{Hub, Seat};
 use hub_session::laws::a_new_seat_is_unused;
-use hub_session::{BoardState, Served, SessionEnd, serve_one};
+use hub_session::{BoardState, SessionEnd, serve_one};
 use ipb_outside::{MemSink, MemSource};
 use lossy_network::SimLink;
 use std::alloc::Global;
@@ -20,10 +20,20 @@ const READ: [u8; 20] = *b"\0\0\0\x10\0\0\0\0\x20\0\0\xf0\x20\0\x01\x0f\0\0\0\x04
 
 const ANSWER: [u8; 24] = *b"\0\0\0\x14\0\0\0\0\0\0\0\0\x20\0\0\xf0\x20\0\x01\0\0\0\xab\xcd";
 
-/// The same frame to board 7, which is not there, and the answer to it.
-const READ_OF_BOARD_7: [u8; 20] = *b"\0\0\0\x10\0\0\0\x07\x20\0\0\xf0\x20\0\x01\x0f\0\0\0\x04";
+/// The same frame to board 7, which is not there, and this frame behind it; and their answers.
+const READ_OF_7_AND_0: [u8; 40] = *b"\0\0\0\x10\0\0\0\x07\x20\0\0\xf0\x20\0\x01\x0f\0\0\0\x04\
+    \0\0\0\x10\0\0\0\0\x20\0\0\xf0\x20\0\x01\x0f\0\0\0\x04";
 
-const NO_BOARD_7: [u8; 12] = *b"\0\0\0\x08\0\0\0\x07\0\x05\0\0";
+const ANSWERS_OF_7_AND_0: [u8; 36] = *b"\0\0\0\x08\0\0\0\x07\0\x05\0\0\
+    \0\0\0\x14\0\0\0\0\0\0\0\0\x20\0\0\xf0\x20\0\x01\0\0\0\xab\xcd";
+
+/// The frame to board 0, and a length of 3 behind it.
+const READ_AND_A_BAD_LENGTH: [u8; 27] =
+    *b"\0\0\0\x10\0\0\0\0\x20\0\0\xf0\x20\0\x01\x0f\0\0\0\x04\0\0\0\x03abc";
+
+/// The frame to board 0 twice.
+const READ_TWICE: [u8; 40] = *b"\0\0\0\x10\0\0\0\0\x20\0\0\xf0\x20\0\x01\x0f\0\0\0\x04\
+    \0\0\0\x10\0\0\0\0\x20\0\0\xf0\x20\0\x01\x0f\0\0\0\x04";
 
 /// A hub of one board over a link that loses nothing, and its first seat.
 fn hub_and_seat(alloc: Global) -> Result<(Hub<SimLink>, Seat), Fail>
@@ -41,93 +51,117 @@ fn hub_and_seat(alloc: Global) -> Result<(Hub<SimLink>, Seat), Fail>
     Ok((hub, seat))
 }
 
-/// Serves a connection whose input comes in pieces of so many bytes. What was served, and what was written.
+/// What a client sends: a frame to board 0, one to a board that is not there and then this one, a part of it, one with a
+/// bad length behind it, or the same one twice.
+#[derive(Clone, Copy)]
+enum Input {
+    Read,
+    ReadOf7And0,
+    Part,
+    ReadAndABadLength,
+    ReadTwice,
+}
+
+fn bytes_of(input: Input) -> &'static [u8] {
+    match input {
+        Input::Read => &READ,
+        Input::ReadOf7And0 => &READ_OF_7_AND_0,
+        Input::Part => &READ[..10],
+        Input::ReadAndABadLength => &READ_AND_A_BAD_LENGTH,
+        Input::ReadTwice => &READ_TWICE,
+    }
+}
+
+/// What was written to a client.
+#[derive(Clone, Copy, Debug, PartialEq, Eq)]
+enum Written {
+    Nothing,
+    Answer,
+    FiveBytesOfIt,
+    AnswersOf7And0,
+    Other,
+}
+
+fn what_was_written(bytes: &[u8]) -> Written {
+    if bytes.is_empty() {
+        Written::Nothing
+    } else if bytes == ANSWER.as_slice() {
+        Written::Answer
+    } else if bytes == &ANSWER[..5] {
+        Written::FiveBytesOfIt
+    } else if bytes == ANSWERS_OF_7_AND_0.as_slice() {
+        Written::AnswersOf7And0
+    } else {
+        Written::Other
+    }
+}
+
+/// How many frames of a connection were answered, why there are no more, and what was written.
+fn served<R: Wait>(
+    rt: &R,
+    alloc: Global,
+    mut source: MemSource,
+    mut sink: MemSink,
+) -> Result<(u64, SessionEnd, Written), Fail> {
+    let (hub, mut seat) = hub_and_seat(alloc)?;
+    let boards = [BoardState::Lane(0)];
+    let served = serve_one(rt, alloc, &hub, &boards, &mut seat, &mut source, &mut sink);
+    Ok((served.frames, served.end, what_was_written(sink.bytes())))
+}
+
+/// Serves a connection whose input comes in pieces of so many bytes, and whose read and write with these numbers fail:
+/// none, where a number is 0.
 fn serve<R: Wait>(
     rt: &R,
     alloc: Global,
-    input: &[u8],
+    input: Input,
     piece: usize,
-) -> Result<(Served, MemSink), Fail>
+    read: u64,
+    write: u64,
+) -> Result<(u64, SessionEnd, Written), Fail>
     requires { 1 ≤ piece }
 {
-    let (hub, mut seat) = hub_and_seat(alloc)?;
-    let mut src = MemSource::new(input.to_vec(alloc)?, piece, Vec::new(alloc));
-    let mut sink = MemSink::new(alloc, 7, Vec::new(alloc))?;
-    let boards = [BoardState::Lane(0)];
-    let served = serve_one(rt, alloc, &hub, &boards, &mut seat, &mut src, &mut sink);
-    Ok((served, sink))
+    let bytes = bytes_of(input).to_vec(alloc)?;
+    let source = MemSource::new(bytes, piece, [read].to_vec(alloc)?);
+    let sink = MemSink::new(alloc, 5, [write].to_vec(alloc)?)?;
+    served(rt, alloc, source, sink)
 }
 
-/// Serves a connection whose reads and writes with these numbers fail.
-fn serve_with_faults<R: Wait>(
-    rt: &R,
-    alloc: Global,
-    input: &[u8],
-    reads: &[u64],
-    writes: &[u64],
-) -> Result<(Served, MemSink), Fail> {
-    let (hub, mut seat) = hub_and_seat(alloc)?;
-    let mut src = MemSource::new(input.to_vec(alloc)?, 20, reads.to_vec(alloc)?);
-    let mut sink = MemSink::new(alloc, 5, writes.to_vec(alloc)?)?;
-    let boards = [BoardState::Lane(0)];
-    let served = serve_one(rt, alloc, &hub, &boards, &mut seat, &mut src, &mut sink);
-    Ok((served, sink))
-}
-
-/// A frame behind another.
-fn both(alloc: Global, first: &[u8], second: &[u8]) -> Result<Vec<u8>, Fail> {
-    let mut bytes = first.to_vec(alloc)?;
-    bytes.extend_from_slice(second)?;
-    Ok(bytes)
-}
-
+/// In whatever pieces the frames come.
 #[test]
-fn a_read_is_answered_in_whatever_pieces_it_comes(rt: HostRuntime) -> Result<(), Fail> {
-    for piece in 1..21 {
-        let (served, sink) = serve(&rt, rt.alloc(), READ.as_slice(), piece)?;
-        assert!(rt; served.frames == 1 && served.end == SessionEnd::Closed);
-        assert_eq!(rt; sink.bytes(), ANSWER.as_slice());
+fn frames_are_answered(rt: HostRuntime) -> Result<(), Fail> {
+    for (input, frames, end, written) in [
+        (Input::Read, 1, SessionEnd::Closed, Written::Answer),
+        (
+            Input::ReadOf7And0,
+            2,
+            SessionEnd::Closed,
+            Written::AnswersOf7And0,
+        ),
+        (Input::Part, 0, SessionEnd::CutFrame, Written::Nothing),
+        (
+            Input::ReadAndABadLength,
+            1,
+            SessionEnd::BadFrame,
+            Written::Answer,
+        ),
+    ] {
+        for piece in 1..41 {
+            let served = serve(&rt, rt.alloc(), input, piece, 0, 0)?;
+            assert!(rt; served == (frames, end, written));
+        }
     }
-    Ok(())
-}
-
-#[test]
-fn two_frames_are_answered_in_order(rt: HostRuntime) -> Result<(), Fail> {
-    let input = both(rt.alloc(), READ_OF_BOARD_7.as_slice(), READ.as_slice())?;
-    let answers = both(rt.alloc(), NO_BOARD_7.as_slice(), ANSWER.as_slice())?;
-    for piece in 1..41 {
-        let (served, sink) = serve(&rt, rt.alloc(), input.as_slice(), piece)?;
-        assert!(rt; served.frames == 2 && served.end == SessionEnd::Closed);
-        assert_eq!(rt; sink.bytes(), answers.as_slice());
-    }
-    Ok(())
-}
-
-#[test]
-fn a_cut_frame_is_not_answered(rt: HostRuntime) -> Result<(), Fail> {
-    let (served, sink) = serve(&rt, rt.alloc(), &READ[..10], 4096)?;
-    assert!(rt; served.frames == 0 && served.end == SessionEnd::CutFrame);
-    assert!(rt; sink.bytes().is_empty());
-    Ok(())
-}
-
-#[test]
-fn a_bad_length_ends_behind_the_frames_before(rt: HostRuntime) -> Result<(), Fail> {
-    let input = both(rt.alloc(), READ.as_slice(), b"\0\0\0\x03abc".as_slice())?;
-    let (served, sink) = serve(&rt, rt.alloc(), input.as_slice(), 4096)?;
-    assert!(rt; served.frames == 1 && served.end == SessionEnd::BadFrame);
-    assert_eq!(rt; sink.bytes(), ANSWER.as_slice());
     Ok(())
 }
 
 #[test]
 fn faults_end_a_connection(rt: HostRuntime) -> Result<(), Fail> {
-    let input = both(rt.alloc(), READ.as_slice(), READ.as_slice())?;
-    let (served, sink) = serve_with_faults(&rt, rt.alloc(), input.as_slice(), &[2], &[])?;
-    assert!(rt; served.frames == 1 && served.end == SessionEnd::ReadFault);
-    assert_eq!(rt; sink.bytes(), ANSWER.as_slice());
-    let (served, sink) = serve_with_faults(&rt, rt.alloc(), input.as_slice(), &[], &[2])?;
-    assert!(rt; served.frames == 0 && served.end == SessionEnd::WriteFault);
-    assert_eq!(rt; sink.bytes(), &ANSWER[..5]);
+    for (read, write, wanted) in [
+        (2, 0, (1, SessionEnd::ReadFault, Written::Answer)),
+        (0, 2, (0, SessionEnd::WriteFault, Written::FiveBytesOfIt)),
+    ] {
+        let served = serve(&rt, rt.alloc(), Input::ReadTwice, 20, read, write)?;
+        assert!(rt; served == wanted);
+    }
     Ok(())
 }

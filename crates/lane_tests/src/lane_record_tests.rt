@@ -1,5 +1,6 @@
 //! Entries of records, as numbers and by kind.
 
+use crate::same::same;
 use ipb_base::{NoMemory, Words};
 use lane_record::{ASK, Item, Outcome, PLAN, SEAL, TOOK, What};
 use std::test::*;
@@ -24,9 +25,10 @@ fn entries_of_items(rt: HostRuntime) -> Result<(), NoMemory> {
         outcome: Outcome::Unsent,
         give_ups: 2,
     };
-    assert_eq!(rt;
-        (What::Seal.kind(), ask.kind(), took.kind()),
-        (SEAL, ASK, TOOK)
+    same(
+        &rt,
+        &(What::Seal.kind(), ask.kind(), took.kind()),
+        &(SEAL, ASK, TOOK),
     );
     Ok(())
 }

@@ -1,8 +1,15 @@
-//! Tests of records, of turns, of lanes and of a hub over lanes. What their clauses cannot say is run here: that each
-//! call succeeds where memory is there. Lanes are also run by the tests of the program's call and by the documents
-//! under `examples/lossy`.
+//! Tests of boards, the engine, links and racks, records, turns, lanes, hubs, plans and lines. What their clauses
+//! cannot say is run here: that each call succeeds where memory is there, and that the clauses mean the numbers of
+//! worked examples. Lanes and hubs are also run by the tests of the program's call and by the documents under
+//! `examples`.
 #![tactic(auto)]
 
+#[cfg(test)]
+mod board_node_tests;
+#[cfg(test)]
+mod datagram_tests;
+#[cfg(test)]
+mod direct_run_tests;
 #[cfg(test)]
 mod fixtures;
 #[cfg(test)]
@@ -14,4 +21,16 @@ mod hub_session_tests;
 #[cfg(test)]
 mod lane_record_tests;
 #[cfg(test)]
+mod lossy_network_tests;
+#[cfg(test)]
+mod reliable_engine_tests;
+#[cfg(test)]
+mod same;
+#[cfg(test)]
+mod script_link_tests;
+#[cfg(test)]
+mod transcript_tests;
+#[cfg(test)]
 mod turn_pass_tests;
+#[cfg(test)]
+mod world_core_tests;

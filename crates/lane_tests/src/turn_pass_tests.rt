@@ -3,12 +3,13 @@
 ghost use Rattle.std.specs.Prelude.{◌≡◌, ◌<◌, false, true};
 ghost use Rattle.turn_pass.specs.Record.{GrowsBy};
 
+use crate::same::same;
 use std::alloc::{AllocError, Global};
 use std::test::*;
 use turn_pass::{Chronicle, Entry, Pass, Turn};
 
 /// Entries without content.
-#[derive(Debug, Drop)]
+#[derive(Drop)]
 struct Log {
     entries: Vec<Entry>,
 }
@@ -83,7 +84,7 @@ fn a_value_is_taken_by_one_pass(rt: HostRuntime) -> Result<(), Fail> {
         return Err(Fail::from("no memory"));
     };
     let mut second = turn.split(&mut first);
-    assert_eq!(rt; (first.number(), second.number()), (0, 1));
+    same(&rt, &(first.number(), second.number()), &(0, 1));
     let Some(log) = turn.try_take(&mut second) else {
         return Err(Fail::from("the value is there"));
     };
@@ -92,7 +93,7 @@ fn a_value_is_taken_by_one_pass(rt: HostRuntime) -> Result<(), Fail> {
     let Some(log) = turn.try_take(&mut first) else {
         return Err(Fail::from("the value was given back"));
     };
-    assert_eq!(rt; log.count(), 3);
+    same(&rt, &log.count(), &3);
     turn.give(&mut first, log);
     turn.join(&mut first, second);
     let log = turn.close(&rt, first);
@@ -101,6 +102,6 @@ fn a_value_is_taken_by_one_pass(rt: HostRuntime) -> Result<(), Fail> {
         kind: 3,
         seq: 2,
     };
-    assert_eq!(rt; log.entries.last(), Some(&last));
+    same(&rt, &log.entries.last(), &Some(&last));
     Ok(())
 }

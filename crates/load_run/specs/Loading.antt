@@ -8,11 +8,11 @@
 use Rattle.std.specs.Prelude.{◌≡◌, ◌<◌, ◌≤◌, ◌^◌, ℕ, ◌+◌, Bool, true, List, length, Result, Err, IfOk}
 use Rattle.std.specs.List.{AllByRecursion, AllZip}
 use Rattle.board_node.specs.declared.spec.BoardSpec.{BoardSpec}
-use Rattle.reliable_engine.specs.Settings.{Limits}
-use Rattle.script_lang.specs.declared.operation.Step.{Step}
+use Rattle.world_model.specs.Settings.{Limits}
+use Rattle.script_steps.specs.declared.operation.Step.{Step}
 use Rattle.script_lang.specs.declared.script_refusal.TheConstants.{MAX_LINES}
-use Rattle.script_lang.specs.Executable.{AreExecutable}
-use Rattle.script_lang.specs.Packing.{AreWithinLimits, CanBePacked, HaveFewPieces}
+use Rattle.script_steps.specs.Executable.{AreExecutable}
+use Rattle.script_steps.specs.Packing.{AreWithinLimits, CanBePacked, HaveFewPieces}
 use Rattle.direct_run.specs.Lines.{IsBusLine}
 use Rattle.transcript.specs.declared.board_run.BoardRun.{BoardRun}
 use Rattle.transcript.specs.Lines.{transcript_of}

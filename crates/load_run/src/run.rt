@@ -16,7 +16,7 @@ use load_session::laws::a_generated_session_can_be_run;
 use load_session::{all_done, generated, summary_of_runs, summary_text};
 use lossy_network::Rack;
 use reliable_engine::Settings;
-use script_lang::Steps;
+use script_steps::Steps;
 use session_run::{RunFault, run_session};
 use std::alloc::Global;
 use std::marker::Sync;

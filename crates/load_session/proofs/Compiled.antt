@@ -6,16 +6,16 @@ use Rattle.std.specs.FinMap.{get}
 use Rattle.std.specs.List.{cons_option}
 use Rattle.address_table.specs.declared.nodes.Node.{Node, out-Node}
 use Rattle.address_table.specs.declared.kinds.Mode.TheVariants.{Single}
-use Rattle.address_table.specs.Numbers.{digit_value}
+use Rattle.ipb_base.specs.Digits.{digit_value}
 use Rattle.node_tree.specs.declared.register.Register.{Register}
 use Rattle.node_tree.specs.Examples.{full_register}
 use Rattle.node_tree.specs.Maps.{RegisterMap, TableMap}
-use Rattle.node_tree.specs.Names.{IsIndexOf, Names, itself, register_of}
+use Rattle.node_tree.specs.Names.{IsIndexOf, Names, itself, name_at, register_at}
 use Rattle.transaction_codec.specs.declared.request.Op.TheVariants.{RmwSum as adds}
-use Rattle.script_lang.specs.declared.operation.RegOp.{RegOp}
-use Rattle.script_lang.specs.declared.operation.Step.{Step}
-use Rattle.script_lang.specs.declared.operation.Step.TheVariants.{Do, Dispatch}
-use Rattle.script_lang.specs.declared.operation.Verb.TheVariants.{RmwSum}
+use Rattle.script_steps.specs.declared.operation.RegOp.{RegOp}
+use Rattle.script_steps.specs.declared.operation.Step.{Step}
+use Rattle.script_steps.specs.declared.operation.Step.TheVariants.{Do, Dispatch}
+use Rattle.script_steps.specs.declared.operation.Verb.TheVariants.{RmwSum}
 use Rattle.script_lang.specs.Operations.{as_step, meaning, use_at}
 use Rattle.script_lang.specs.Scripts.{Meaning, step_in, steps_from, steps_of}
 use Rattle.load_session.specs.Generated.{boards, operation, shares, steps, steps_behind}
@@ -28,10 +28,11 @@ count_register = full_register 0 Single 1
 named : (tables : TableMap) (index : RegisterMap) → HasCountAlone tables → IsIndexOf tables table_name index
     → get index (codes "count") ≡ Some count_register
 named tables index has is =
-    let first : Names tables (has.node ∷ []) [] 0 (out-Node has.node).id (register_of 0 has.node) =
-    itself has.node [] [] 0 in
-    let called : Names tables (has.node ∷ []) [] 0 (codes "count") (register_of 0 has.node) =
-    subst (λ (name : List ℕ). Names tables (has.node ∷ []) [] 0 name (register_of 0 has.node)) has.id' first in
+    let first : Names tables (has.node ∷ []) [] 0 (name_at [] has.node 0) (register_at 0 has.node 0) =
+    itself has.node [] [] 0 0 (omega arith) in
+    let name : name_at [] has.node 0 ≡ codes "count" = rw (has.id', has.no_indexes) refl in
+    let called : Names tables (has.node ∷ []) [] 0 (codes "count") (register_at 0 has.node 0) =
+    subst (λ (x : List ℕ). Names tables (has.node ∷ []) [] 0 x (register_at 0 has.node 0)) name first in
     let registered : Names tables (has.node ∷ []) [] 0 (codes "count") count_register =
     subst (λ (r : Register). Names tables (has.node ∷ []) [] 0 (codes "count") r) has.register' called in
     (is (codes "count") count_register).1

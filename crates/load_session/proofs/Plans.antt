@@ -3,7 +3,7 @@ use Rattle.std.proofs.Common.{◌≡◌, ℕ, zero, suc, ◌+◌, List, [], ◌�
 use Rattle.std.proofs.Common.{length-append}
 use Rattle.std.specs.List.{fold}
 use Rattle.mtu_packer.specs.Packed.{Contents}
-use Rattle.script_lang.specs.declared.operation.RegOp.{RegOp}
+use Rattle.script_steps.specs.declared.operation.RegOp.{RegOp}
 use Rattle.transcript.specs.declared.planned.PieceAt.{PieceAt}
 use Rattle.transcript.specs.Plan.{ClientBodies, with_dispatch, plan, operations}
 use Rattle.load_session.specs.Generated.{operation, steps_behind}

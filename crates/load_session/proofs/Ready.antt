@@ -5,11 +5,11 @@ use Rattle.std.specs.List.{AllByRecursion, sum, sum_by}
 use Rattle.std.proofs.lemmas.List.Sums.{sum_by-cons, sum_by-append}
 use Rattle.transaction_codec.specs.declared.request.Op.TheVariants.{RmwSum}
 use Rattle.transaction_codec.specs.Request.{op_count}
-use Rattle.script_lang.specs.declared.operation.Step.{Step}
+use Rattle.script_steps.specs.declared.operation.Step.{Step}
 use Rattle.script_lang.specs.declared.script_refusal.TheConstants.{MAX_LINES}
-use Rattle.script_lang.specs.Executable.{AreExecutable}
-use Rattle.script_lang.specs.Packing.{AreWithinLimits, CanBePacked, HaveFewPieces, all_operations}
-use Rattle.script_lang.specs.Packing as script
+use Rattle.script_steps.specs.Executable.{AreExecutable}
+use Rattle.script_steps.specs.Packing.{AreWithinLimits, CanBePacked, HaveFewPieces, all_operations}
+use Rattle.script_steps.specs.Packing as script
 use Rattle.load_session.specs.Generated.{shares, steps, steps_behind, most_operations}
 use Rattle.load_session.proofs.Shares.{all-shares}
 

@@ -1,9 +1,9 @@
 -- Generated sessions written out, and the summary of a run in which the clients go one after another.
 use Rattle.std.specs.Prelude.{ℕ, codes}
 use Rattle.transaction_codec.specs.declared.request.Op.TheVariants.{RmwSum as adds}
-use Rattle.script_lang.specs.declared.operation.Step.{Step}
-use Rattle.script_lang.specs.declared.operation.Step.TheVariants.{Do}
-use Rattle.script_lang.specs.declared.operation.Verb.TheVariants.{RmwSum}
+use Rattle.script_steps.specs.declared.operation.Step.{Step}
+use Rattle.script_steps.specs.declared.operation.Step.TheVariants.{Do}
+use Rattle.script_steps.specs.declared.operation.Verb.TheVariants.{RmwSum}
 use Rattle.transcript.specs.Lines.{transcript_of}
 use Rattle.direct_run.specs.Runs.{runs_from}
 use Rattle.load_session.specs.declared.summary.Summary.{Summary}

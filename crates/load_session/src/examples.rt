@@ -2,7 +2,7 @@
 //! what is proved, by computing the definitions.
 
 ghost use Rattle.std.specs.Prelude.{◌≡◌, ◌∷◌, [], codes};
-ghost use Rattle.script_lang.specs.declared.operation.Step.TheVariants.{Dispatch};
+ghost use Rattle.script_steps.specs.declared.operation.Step.TheVariants.{Dispatch};
 ghost use Rattle.load_session.specs.Examples.{adds_one, summary_in_turn};
 ghost use Rattle.load_session.specs.Generated.{steps};
 ghost use Rattle.load_session.specs.Summary.{summary_text};

@@ -2,11 +2,12 @@
 
 ghost use Rattle.std.specs.Prelude.{◌≡◌, ◌≤◌, ℕ, List, [], ◌∷◌, length, sum, true};
 ghost use Rattle.std.specs.List.{AllByRecursion};
-ghost use Rattle.reliable_engine.specs.Settings.{AreLimits};
-ghost use Rattle.script_lang.specs.Executable.{AreExecutable, OpensOnWords};
+ghost use Rattle.world_model.specs.Settings.{AreLimits};
+ghost use Rattle.board_node.specs.OpeningWords.{OpensOnWords};
+ghost use Rattle.script_steps.specs.Executable.{AreExecutable};
 ghost use Rattle.node_tree.specs.Maps.{RegisterMap, TableMap};
 ghost use Rattle.node_tree.specs.Names.{IsIndexOf};
-ghost use Rattle.script_lang.specs.Packing.{AreWithinLimits, CanBePacked, HaveFewPieces};
+ghost use Rattle.script_steps.specs.Packing.{AreWithinLimits, CanBePacked, HaveFewPieces};
 ghost use Rattle.script_lang.specs.Scripts.{steps_of};
 ghost use Rattle.script_lang.specs.declared.script_refusal.TheConstants.{MAX_LINES};
 ghost use Rattle.transcript.specs.declared.board_run.BoardRun.{BoardRun};

@@ -8,7 +8,7 @@ use board_node::{BoardSpec, Fates, LinkSpec, Ranges};
 use ipb_base::{NoMemory, Text, Words};
 use packet_ids::Id;
 use reliable_engine::Settings;
-use script_lang::{RegOp, Step, Steps, Verb};
+use script_steps::{RegOp, Step, Steps, Verb};
 use std::alloc::Global;
 use transaction_codec::Op;
 

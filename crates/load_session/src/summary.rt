@@ -7,12 +7,12 @@ ghost use Rattle.ipb_base.specs.Numbers.{in_64_bits};
 ghost use Rattle.load_session.specs.Summary as spec;
 
 use ipb_base::NoMemory;
-use script_lang::Steps;
+use script_steps::Steps;
 use std::alloc::Global;
 use transcript::{BoardLine, BoardRun, OpLine, OpResult, board_lines, lines_of_clients};
 
 /// What is told of the run of a generated session (profile).
-#[derive(Clone, Copy, Debug, PartialEq, Eq)]
+#[derive(Clone, Copy, PartialEq, Eq)]
 pub struct Summary {
     /// How many operations were asked for.
     pub count: u32,

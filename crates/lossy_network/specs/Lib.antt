@@ -7,3 +7,5 @@ pub mod HubSteps
 pub mod Racks
 pub mod Examples
 pub mod Inside
+pub mod Scripts
+pub mod ScriptsInside

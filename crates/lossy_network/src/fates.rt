@@ -13,7 +13,7 @@ use rand_pcg::Lcg64Xsh32;
 const NOISE_STREAM: u64 = 54;
 
 /// What becomes of one datagram (profile).
-#[derive(Clone, Copy, Debug, PartialEq, Eq)]
+#[derive(Clone, Copy, PartialEq, Eq)]
 pub enum DatagramFate {
     /// It goes to the back of the queue.
     Delivered,

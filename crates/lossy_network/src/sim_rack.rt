@@ -1,8 +1,7 @@
 //! A rack of simulated links.
 
-ghost use Rattle.std.specs.Prelude.{◌≡◌, ◌↔◌, ◌≤◌, ◌<◌, ◌^◌, [], length, true, Some, Err, IfOk, OnOk, IfSome, IfNone};
+ghost use Rattle.std.specs.Prelude.{◌≡◌, ◌↔◌, ◌≤◌, ◌<◌, ◌^◌, [], length, true, Some, Err, IfOk, IfSome, IfNone};
 ghost use Rattle.std.specs.List.{slice_get};
-ghost use Rattle.std.specs.Vec.{vec_capacity};
 ghost use Rattle.ipb_base.specs.Faults.{one_more};
 ghost use Rattle.world_model.specs.Board.{executed};
 ghost use Rattle.lossy_network.specs.declared.rack.RackFault.TheVariants.{Failed};
@@ -12,6 +11,7 @@ ghost use Rattle.lossy_network.specs.Racks.{IsSimulable, link_for, new_rack};
 
 use crate::link::{SimLink, fits};
 use crate::rack::{Rack, RackFault};
+use crate::room::make_room;
 use board_bus::{Bus, BusRefusal};
 use board_node::{Board, BoardSpec, Fates, Id, LinkSpec, Ranges};
 use ipb_base::{NoMemory, Text};
@@ -65,6 +65,13 @@ impl SimRack {
         ensures none { IfNone result (length self.now.kept ≤ i) }
     {
         self.kept.get(i)
+    }
+
+    /// How many links were made.
+    pub fn made(&self) -> usize
+        ensures { result ≡ self.now.made }
+    {
+        self.made
     }
 
     /// No more links are kept than were made, and the count of faults is one of 64 bits. It does nothing when it runs.
@@ -187,16 +194,4 @@ fn copy_fates(alloc: Global, fates: &Fates) -> Result<Fates, NoMemory>
         Fates::Text(text) => Ok(Fates::Text(Text::copy_of(alloc, text.as_str())?)),
         Fates::Noise(noise) => Ok(Fates::Noise(*noise)),
     }
-}
-
-/// Takes the room to keep one link more than were made.
-fn make_room(kept: &mut Vec<SimLink>, made: usize) -> Result<(), NoMemory>
-    requires within { length kept.old.items ≤ made }
-    requires places { made ≤ vec_capacity kept.old }
-    ensures same { kept.new.items ≡ kept.old.items }
-    ensures room { OnOk result (made < vec_capacity kept.new) }
-    ensures places { made ≤ vec_capacity kept.new }
-{
-    kept.reserve(made - kept.len() + 1)?;
-    Ok(())
 }

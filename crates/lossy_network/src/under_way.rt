@@ -16,7 +16,7 @@ use std::collections::VecDeque;
 const MOST_DELAYED: usize = 9;
 
 /// A delayed datagram: its place in the air, and by how many further datagrams it is delayed.
-#[derive(Clone, Copy, Debug, PartialEq, Eq)]
+#[derive(Clone, Copy, PartialEq, Eq)]
 pub(crate) struct Late {
     pub(crate) place: usize,
     pub(crate) by: u8,

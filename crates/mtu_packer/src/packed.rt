@@ -14,7 +14,7 @@ pub struct Piece {
 }
 
 /// Which places belong to one operation.
-#[derive(Clone, Copy, Debug)]
+#[derive(Clone, Copy)]
 pub(crate) struct Span {
     pub(crate) start: u32,
     pub(crate) end: u32,
@@ -22,7 +22,7 @@ pub(crate) struct Span {
 
 /// Where the pieces of each operation stand. Contracts see it as a list of lists: the places of each operation.
 /// Profile.
-#[derive(Debug, Drop)]
+#[derive(Drop)]
 pub struct Places {
     places: Vec<Piece>,
     spans: Vec<Span>,
@@ -59,7 +59,7 @@ impl Places {
 }
 
 /// Operations that are packed into bodies. Profile.
-#[derive(Debug, Drop)]
+#[derive(Drop)]
 pub struct Packed {
     bodies: Vec<Words>,
     places: Places,

@@ -1,7 +1,9 @@
 //! Links of either kind.
 
 use crate::udp_link::UdpLink;
+use link_waiter::Waiter;
 use lossy_network::SimLink;
+use std::alloc::Global;
 use world_core::{Link, LinkFault, Received};
 
 /// A link to a board of this process or to one on the network.
@@ -39,6 +41,14 @@ impl Link for AnyLink {
         match self {
             AnyLink::Sim(link) => Link::receive(link, into),
             AnyLink::Udp(link) => Link::receive(link, into),
+        }
+    }
+
+    /// What waits beside a link over UDP. A simulated one has nothing to wait for.
+    fn waiter(&mut self, alloc: Global) -> Option<Waiter> {
+        match self {
+            AnyLink::Sim(_link) => None,
+            AnyLink::Udp(link) => Link::waiter(link, alloc),
         }
     }
 }

@@ -2,22 +2,30 @@
 //! racks whose links are simulated or go over UDP.
 //!
 //! Each is a thin layer over the calls of std, proved against its trait. What the outside carried is told by none of
-//! them: contracts see counts, which stand still at the end of 64 bits.
+//! them: contracts see counts, which stand still at the end of 64 bits. Links and doors may say on standard error what
+//! befalls them; no contract speaks of that.
 #![tactic(auto)]
 
 mod any_link;
 mod counting;
+mod errors;
+mod kept_source;
+mod notes;
 mod real_rack;
+mod silence;
 mod std_streams;
 mod tcp;
 mod tcp_door;
 mod udp_link;
 
 pub use any_link::AnyLink;
+pub use errors::{Sending, is_passing};
 pub use ipb_base::NoMemory;
 pub use ipb_outside::{Door, Failed, Sink, Source};
+pub use kept_source::KeptSource;
 pub use lossy_network::{Link, LinkFault, Rack, RackFault, Received};
 pub use real_rack::RealRack;
+pub use silence::{SILENT_AFTER, Silence};
 pub use std_streams::{StdinSource, StdoutSink};
 pub use tcp::{TcpSink, TcpSource};
 pub use tcp_door::TcpDoor;

@@ -11,6 +11,7 @@ use board_node::{BoardSpec, LinkSpec};
 use ipb_outside::Failed;
 use lossy_network::{Rack, RackFault, SimRack};
 use std::alloc::Global;
+use std::io::Stderr;
 use std::marker::Model;
 use std::net::Net;
 
@@ -19,6 +20,7 @@ use std::net::Net;
 #[derive(Drop)]
 pub struct RealRack<R: Net + AllocGlobal + Drop> {
     rt: R,
+    to: Option<Stderr>,
     kept: Vec<AnyLink>,
     made: usize,
     faults: u64,
@@ -41,9 +43,23 @@ impl<R: Net + AllocGlobal + Drop> RealRack<R> {
     pub fn new(rt: R) -> RealRack<R>
         ensures { result ≡ record { kept = []; made = 0; faults = 0 } }
     {
+        RealRack::with_notes(rt, None)
+    }
+
+    /// A rack that has made no link, and whose links over UDP say on standard error what befalls them.
+    pub fn telling(rt: R, to: Stderr) -> RealRack<R>
+        ensures { result ≡ record { kept = []; made = 0; faults = 0 } }
+    {
+        RealRack::with_notes(rt, Some(to))
+    }
+
+    fn with_notes(rt: R, to: Option<Stderr>) -> RealRack<R>
+        ensures { result ≡ record { kept = []; made = 0; faults = 0 } }
+    {
         let kept = Vec::new(rt.alloc());
         RealRack {
             rt,
+            to,
             kept,
             made: 0,
             faults: 0,
@@ -66,7 +82,7 @@ impl<R: Net + AllocGlobal + Drop> Rack for RealRack<R> {
         if self.kept.reserve(places).is_err() {
             return Err(RackFault::NoMemory);
         }
-        let made = make_link(&self.rt, spec);
+        let made = make_link(&self.rt, spec, self.to);
         match &made {
             Ok(_) => self.made += 1,
             Err(RackFault::Failed) => self.faults = incremented(self.faults),
@@ -81,7 +97,11 @@ impl<R: Net + AllocGlobal + Drop> Rack for RealRack<R> {
 }
 
 // A link for a board: a simulated one in memory of its own, or one over UDP.
-fn make_link<R: Net + AllocGlobal>(rt: &R, spec: &BoardSpec) -> Result<AnyLink, RackFault>
+fn make_link<R: Net + AllocGlobal>(
+    rt: &R,
+    spec: &BoardSpec,
+    to: Option<Stderr>,
+) -> Result<AnyLink, RackFault>
     requires { IsMakeable spec.now.link }
     ensures made { IfOk result (λ link. link ≡ new_link spec.now.link) }
     ensures failed { result ≡ Err RackFault.Failed → IsOnNetwork spec.now.link }
@@ -96,7 +116,7 @@ fn make_link<R: Net + AllocGlobal>(rt: &R, spec: &BoardSpec) -> Result<AnyLink, 
             address,
             port,
             wait,
-        } => match UdpLink::new(rt, *address, *port, *wait) {
+        } => match UdpLink::telling(rt, *address, *port, *wait, to) {
             Ok(link) => Ok(AnyLink::Udp(link)),
             Err(Failed) => Err(RackFault::Failed),
         },

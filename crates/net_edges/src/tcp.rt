@@ -9,7 +9,7 @@ use std::net::{Shutdown, TcpStream};
 
 /// The side of a TCP connection from which bytes come. It does not tell them. A read waits for the peer, for as long as
 /// that takes. Contracts see how many errors it met, in 64 bits.
-#[derive(Debug, Drop)]
+#[derive(Drop)]
 pub struct TcpSource {
     stream: TcpStream,
     faults: u64,
@@ -45,7 +45,7 @@ impl Source for TcpSource {
 
 /// The side of a TCP connection to which bytes go. It does not tell them. A write may wait for the peer, for as long as
 /// that takes. Contracts see a `SinkState`.
-#[derive(Debug, Drop)]
+#[derive(Drop)]
 pub struct TcpSink {
     stream: TcpStream,
     faults: u64,

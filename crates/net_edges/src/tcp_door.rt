@@ -4,9 +4,10 @@ ghost use Rattle.std.specs.Prelude.{◌≡◌, ◌≤◌, None};
 ghost use Rattle.ipb_base.specs.Faults.{one_more};
 
 use crate::counting::incremented;
+use crate::notes::DoorNotes;
 use crate::tcp::{TcpSink, TcpSource};
 use ipb_outside::{Door, Failed};
-use std::io::{self, ErrorKind};
+use std::io::{self, ErrorKind, Stderr};
 use std::marker::Model;
 use std::net::{Ipv4Addr, Net, TcpListener, TcpStream};
 
@@ -16,6 +17,7 @@ use std::net::{Ipv4Addr, Net, TcpListener, TcpStream};
 pub struct TcpDoor<R: Net<Listener = TcpListener, Stream = TcpStream> + Drop> {
     rt: R,
     listener: Option<TcpListener>,
+    notes: Option<DoorNotes>,
     out: u64,
     faults: u64,
 }
@@ -33,9 +35,24 @@ impl<R: Net<Listener = TcpListener, Stream = TcpStream> + Drop> TcpDoor<R> {
     pub fn new(rt: R) -> TcpDoor<R>
         ensures { result ≡ record { out = 0; faults = 0 } }
     {
+        TcpDoor::with_notes(rt, None)
+    }
+
+    /// A door that does not listen yet, is to let so many connections in, and says on standard error that it listens
+    /// and why it cannot.
+    pub fn telling(rt: R, to: Stderr, connections: u32) -> TcpDoor<R>
+        ensures { result ≡ record { out = 0; faults = 0 } }
+    {
+        TcpDoor::with_notes(rt, Some(DoorNotes::new(to, connections)))
+    }
+
+    fn with_notes(rt: R, notes: Option<DoorNotes>) -> TcpDoor<R>
+        ensures { result ≡ record { out = 0; faults = 0 } }
+    {
         TcpDoor {
             rt,
             listener: None,
+            notes,
             out: 0,
             faults: 0,
         }
@@ -66,11 +83,21 @@ impl<R: Net<Listener = TcpListener, Stream = TcpStream> + Drop> Door for TcpDoor
 
     /// Listens on the port of the IPv4 address 0.0.0.0. `Failed` where the machine refuses that, as for a port in use.
     fn listen(&mut self, port: u16) -> Result<(), Failed> {
-        let Ok(listener) = TcpListener::bind(&self.rt, (Ipv4Addr::UNSPECIFIED, port)) else {
-            return Err(self.count_fault());
-        };
-        self.listener = Some(listener);
-        Ok(())
+        match TcpListener::bind(&self.rt, (Ipv4Addr::UNSPECIFIED, port)) {
+            Ok(listener) => {
+                self.listener = Some(listener);
+                if let Some(notes) = self.notes {
+                    notes.listens(port);
+                }
+                Ok(())
+            }
+            Err(error) => {
+                if let Some(notes) = self.notes {
+                    notes.not_opened(port, error);
+                }
+                Err(self.count_fault())
+            }
+        }
     }
 
     /// Waits for the next connection, for as long as that takes. `Failed` at an error, and where the door does not
@@ -79,11 +106,18 @@ impl<R: Net<Listener = TcpListener, Stream = TcpStream> + Drop> Door for TcpDoor
         let Some(out) = self.out.checked_add(1) else {
             return Err(self.count_fault());
         };
-        let Ok((incoming, outgoing)) = next_connection(self.listener.as_ref()) else {
-            return Err(self.count_fault());
-        };
-        self.out = out;
-        Ok((TcpSource::new(incoming), TcpSink::new(outgoing)))
+        match next_connection(self.listener.as_ref()) {
+            Ok((incoming, outgoing)) => {
+                self.out = out;
+                Ok((TcpSource::new(incoming), TcpSink::new(outgoing)))
+            }
+            Err(error) => {
+                if let Some(notes) = self.notes {
+                    notes.not_accepted(error);
+                }
+                Err(self.count_fault())
+            }
+        }
     }
 
     /// Drops the two sides, which closes the connection.

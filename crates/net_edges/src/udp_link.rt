@@ -1,32 +1,39 @@
 //! A link to a board over UDP.
 
-ghost use Rattle.std.specs.Prelude.{◌≡◌, ◌≢◌, ◌≤◌, ℕ, length, IfOk, OnOk, OnErr, None, []};
+ghost use Rattle.std.specs.Prelude.{◌≡◌, ◌≢◌, ◌≤◌, ℕ, length, IfOk, IfSome, OnOk, OnErr, None, []};
 ghost use Rattle.ipb_base.specs.Faults.{one_more};
 ghost use Rattle.world_core.specs.declared.link.TheConstants.{MAX_DATAGRAM};
 
 use crate::counting::incremented;
+use crate::errors::{Sending, is_passing_error, sent_as};
+use crate::notes::LinkNotes;
 use ipb_base::NoMemory;
 use ipb_outside::Failed;
-use std::io::ErrorKind;
+use link_waiter::{MOST_FROM_ELSEWHERE, Sighting, Waiter};
+use std::alloc::Global;
+use std::io::{self, ErrorKind, Stderr};
 use std::marker::Model;
 use std::net::{Ipv4Addr, Net, SocketAddr, UdpSocket};
+use std::sync::Arc;
 use std::time::Duration;
 use world_core::{Link, LinkFault, MAX_DATAGRAM, Received};
-
-/// How many datagrams from elsewhere end one receive (profile).
-const MOST_FROM_ELSEWHERE: u32 = 64;
 
 /// A link to a board at an IPv4 address and a UDP port. It does not tell what it carries, and knows of no datagram that
 /// was lost. Contracts see a `UdpState`.
 ///
 /// The socket is bound to no peer, so that a board that is not there is quiet and makes no error.
-#[derive(Debug, Drop)]
+#[derive(Drop)]
 pub struct UdpLink {
     socket: UdpSocket,
     board: SocketAddr,
+    // room for one datagram, from the first receive on; so it is filled once
+    buffer: Vec<u8>,
+    // what the waiter found, where one was made
+    sighting: Option<Arc<Sighting, Global>>,
     faults: u64,
     quiets: u64,
     gots: u64,
+    notes: LinkNotes,
 }
 
 impl Model for UdpLink {
@@ -40,24 +47,65 @@ impl Model for UdpLink {
 impl UdpLink {
     /// A link to the board at this address, the most significant number first, and this port. One receive waits for
     /// `wait` milliseconds, and for 1 where that is 0. `Failed` where the machine refuses the socket.
-    pub fn new<R: Net>(rt: &R, address: [u8; 4], port: u16, wait: u32) -> Result<UdpLink, Failed>
+    pub fn new<R: Net + AllocGlobal>(
+        rt: &R,
+        address: [u8; 4],
+        port: u16,
+        wait: u32,
+    ) -> Result<UdpLink, Failed>
         ensures { IfOk result (λ link. link ≡ record { faults = 0; quiets = 0; gots = 0 }) }
     {
-        let Ok(socket) = UdpSocket::bind(rt, (Ipv4Addr::UNSPECIFIED, 0)) else {
-            return Err(Failed);
-        };
-        // a time of 0 would be refused
-        let wait = Duration::from_millis(u64::from(wait.max(1)));
-        if socket.set_read_timeout(Some(wait)).is_err() {
-            return Err(Failed);
+        UdpLink::telling(rt, address, port, wait, None)
+    }
+
+    /// The same link, which says on standard error, where it is given, its first error, that the board does not answer,
+    /// and that it answers again.
+    pub fn telling<R: Net + AllocGlobal>(
+        rt: &R,
+        address: [u8; 4],
+        port: u16,
+        wait: u32,
+        to: Option<Stderr>,
+    ) -> Result<UdpLink, Failed>
+        ensures { IfOk result (λ link. link ≡ record { faults = 0; quiets = 0; gots = 0 }) }
+    {
+        let board = SocketAddr::from((Ipv4Addr::from_octets(address), port));
+        let mut notes = LinkNotes::new(to, board);
+        match bound(rt, wait) {
+            Ok(socket) => Ok(UdpLink {
+                socket,
+                board,
+                buffer: Vec::new(rt.alloc()),
+                sighting: None,
+                faults: 0,
+                quiets: 0,
+                gots: 0,
+                notes,
+            }),
+            Err(error) => {
+                notes.failed(error);
+                Err(Failed)
+            }
         }
-        Ok(UdpLink {
-            socket,
-            board: SocketAddr::from((Ipv4Addr::from_octets(address), port)),
-            faults: 0,
-            quiets: 0,
-            gots: 0,
-        })
+    }
+
+    // Whether the waiter waited as long as a receive does, and found nothing, and nothing was sent since.
+    fn is_silent(&self) -> bool {
+        match &self.sighting {
+            Some(sighting) => sighting.take_silence(),
+            None => false,
+        }
+    }
+
+    // Counts a receive that was quiet.
+    fn count_quiet(&mut self) -> Received
+        ensures quiet { result ≡ Received.Quiet }
+        ensures counted { self.new ≡ record self.old { quiets = one_more self.old.quiets } }
+        ensures later { self.old.quiets ≤ self.new.quiets }
+    {
+        self.quiets = incremented(self.quiets);
+        self.notes.quiet();
+        Received::Quiet
     }
 
     // Counts an error.
@@ -68,6 +116,16 @@ impl UdpLink {
     {
         self.faults = incremented(self.faults);
         LinkFault::Failed
+    }
+
+    // Counts an error of the machine, and says it where it is the first.
+    fn count_error(&mut self, error: io::Error) -> LinkFault
+        ensures fault { result ≡ LinkFault.Failed }
+        ensures counted { self.new ≡ record self.old { faults = one_more self.old.faults } }
+        ensures later { self.old.faults ≤ self.new.faults }
+    {
+        self.notes.failed(error);
+        self.count_fault()
     }
 }
 
@@ -83,33 +141,66 @@ impl Link for UdpLink {
     ghost held = { λ _. 0 };
 
     /// One datagram to the board. An error, of any kind, is counted, and so is a datagram of which a part alone went.
+    /// After an error that passes (`is_passing`) the datagram counts as sent: it is lost, as on the network.
     fn send(&mut self, bytes: &[u8]) -> Result<(), LinkFault> {
-        match self.socket.send_to(bytes, self.board) {
-            Ok(count) if count == bytes.len() => Ok(()),
-            _ => Err(self.count_fault()),
+        let sent = self.socket.send_to(bytes, self.board);
+        // behind the send, so that a wait that begins between them does not take it for an earlier one
+        if let Some(sighting) = &self.sighting {
+            sighting.count_send();
+        }
+        let came_to = sent_as(&sent, bytes.len());
+        if came_to == Sending::Sent {
+            return Ok(());
+        }
+        let fault = match sent {
+            Ok(_) => self.count_fault(),
+            Err(error) => self.count_error(error),
+        };
+        match came_to {
+            Sending::Sent | Sending::Lost => Ok(()),
+            Sending::Failed => Err(fault),
         }
     }
 
     /// The next datagram from the board's address and port, and its first 9000 bytes where it is longer. Quiet where
-    /// none came in the time that the link waits, which begins again at each datagram from elsewhere and where a signal
-    /// interrupts it, and after 64 of those. Another error, of any kind, is counted.
+    /// none came in the time that the link waits, which begins again at each datagram from elsewhere, where a signal
+    /// interrupts it and at an error that passes, and after 64 of those. Quiet at once where the waiter found that none
+    /// came in that time. An error, of any kind, is counted, those that pass once for the receive.
     fn receive(&mut self, into: &mut Vec<u8>) -> Result<Received, LinkFault> {
-        make_room(into)?;
-        match hear_board(&self.socket, self.board, into.as_mut_slice()) {
+        into.clear();
+        if self.is_silent() {
+            return Ok(self.count_quiet());
+        }
+        // all memory is taken before a datagram is
+        make_room(&mut self.buffer)?;
+        reserve(into)?;
+        let mut passed = None;
+        let buffer = self.buffer.as_mut_slice();
+        let heard = hear_board(&self.socket, self.board, buffer, &mut passed);
+        count_passed(passed, &mut self.faults, &mut self.notes);
+        match heard {
             Heard::Board(count) => {
-                into.truncate(count);
+                copy_front(&self.buffer, count, into)?;
                 self.gots = incremented(self.gots);
+                self.notes.answered();
                 Ok(Received::Got)
             }
-            Heard::Elsewhere | Heard::Nothing => {
-                into.clear();
-                self.quiets = incremented(self.quiets);
-                Ok(Received::Quiet)
+            Heard::Elsewhere | Heard::Nothing => Ok(self.count_quiet()),
+            Heard::Fault(error) => Err(self.count_error(error)),
+        }
+    }
+
+    /// It waits at another handle of the same socket. `None` too where the machine has no handle or memory for it.
+    fn waiter(&mut self, alloc: Global) -> Option<Waiter> {
+        let Ok(socket) = self.socket.try_clone() else {
+            return None;
+        };
+        match Waiter::new(alloc, socket, self.board) {
+            Ok((waiter, sighting)) => {
+                self.sighting = Some(sighting);
+                Some(waiter)
             }
-            Heard::Fault => {
-                into.clear();
-                Err(self.count_fault())
-            }
+            Err(_error) => None,
         }
     }
 }
@@ -123,27 +214,74 @@ enum Heard {
     // none in the time that the socket waits
     Nothing,
     // an error
-    Fault,
+    Fault(io::Error),
 }
 
-// Room for one datagram, the longest that there may be. Where memory ran out the buffer is empty.
-fn make_room(into: &mut Vec<u8>) -> Result<(), NoMemory>
-    ensures room { OnOk result (length into.new.items ≡ MAX_DATAGRAM) }
-    ensures empty { OnErr result (into.new.items ≡ []) }
+// Counts an error that passed, where there was one, and says it where it is the first.
+fn count_passed(passed: Option<io::Error>, faults: &mut u64, notes: &mut LinkNotes)
+    ensures counted { IfSome passed (λ _. faults.new ≡ one_more faults.old) }
+    ensures later { faults.old ≤ faults.new }
 {
-    into.clear();
-    into.resize(MAX_DATAGRAM, 0)?;
+    if let Some(error) = passed {
+        notes.failed(error);
+        *faults = incremented(*faults);
+    }
+}
+
+// A socket of any port, of which one receive waits for so many milliseconds, and for 1 where that is 0.
+fn bound<R: Net>(rt: &R, wait: u32) -> io::Result<UdpSocket> {
+    let socket = UdpSocket::bind(rt, (Ipv4Addr::UNSPECIFIED, 0))?;
+    // a time of 0 would be refused
+    let wait = Duration::from_millis(u64::from(wait.max(1)));
+    socket.set_read_timeout(Some(wait))?;
+    Ok(socket)
+}
+
+// Room for one datagram, the longest that there may be. It is made once.
+fn make_room(buffer: &mut Vec<u8>) -> Result<(), NoMemory>
+    ensures room { OnOk result (length buffer.new.items ≡ MAX_DATAGRAM) }
+{
+    if buffer.len() != MAX_DATAGRAM {
+        buffer.clear();
+        buffer.resize(MAX_DATAGRAM, 0)?;
+    }
     Ok(())
 }
 
-// The next datagram from the board, past those from elsewhere, of which there may be 64.
-fn hear_board(socket: &UdpSocket, board: SocketAddr, buf: &mut [u8]) -> Heard
+// Room to copy one datagram to.
+fn reserve(into: &mut Vec<u8>) -> Result<(), NoMemory>
+    ensures { into.new.items ≡ into.old.items }
+{
+    into.reserve(MAX_DATAGRAM)?;
+    Ok(())
+}
+
+// The first bytes of a buffer, put into an empty vector.
+fn copy_front(buffer: &[u8], count: usize, into: &mut Vec<u8>) -> Result<(), NoMemory>
+    requires within { count ≤ length buffer.now }
+    requires empty { into.old.items ≡ [] }
+    ensures copied { OnOk result (length into.new.items ≡ count) }
+    ensures kept { OnErr result (into.new.items ≡ []) }
+{
+    into.extend_from_slice(&buffer[..count])?;
+    Ok(())
+}
+
+// The next datagram from the board, past those from elsewhere and errors that pass, of which there may be 64. `passed`
+// is the last such error.
+fn hear_board(
+    socket: &UdpSocket,
+    board: SocketAddr,
+    buf: &mut [u8],
+    passed: &mut Option<io::Error>,
+) -> Heard
     ensures room { length buf.new ≡ length buf.old }
     ensures within { (count : ℕ) → result ≡ Heard.Board count → count ≤ length buf.new }
 {
     for _ in 0..MOST_FROM_ELSEWHERE {
         match hear(socket, board, buf) {
             Heard::Elsewhere => {}
+            Heard::Fault(error) if is_passing_error(&error) => *passed = Some(error),
             heard => return heard,
         }
     }
@@ -161,7 +299,7 @@ fn hear(socket: &UdpSocket, board: SocketAddr, buf: &mut [u8]) -> Heard
             // a process that is stopped and goes on has lost nothing
             ErrorKind::Interrupted => Heard::Elsewhere,
             ErrorKind::WouldBlock | ErrorKind::TimedOut => Heard::Nothing,
-            _ => Heard::Fault,
+            _ => Heard::Fault(error),
         },
     }
 }

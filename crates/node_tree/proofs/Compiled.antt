@@ -1,6 +1,6 @@
 -- A walk to its end: the registers that were found are those that the table names.
 use Rattle.std.proofs.Common.{◌≡◌, ◌⊎◌, inl, inr, ◌↔◌, ℕ, ◌+◌, ◌-◌, ◌^◌, ◌<◌, ◌≤◌, List, [], ◌∷◌, Bool, true, false}
-use Rattle.std.proofs.Common.{not, nat_lt, nat_le, Option, Some, None, is_some, cond, Ok, Err, refl, ap, sym, ◌∙◌}
+use Rattle.std.proofs.Common.{not, ◌||◌, nat_lt, nat_le, Option, Some, None, is_some, cond, Ok, Err, refl, ap, sym, ◌∙◌}
 use Rattle.std.proofs.Common.{subst, arith}
 use Rattle.std.proofs.lemmas.Bool.{false≢true, ltb-true, leb-true}
 use Rattle.std.proofs.lemmas.Cmp.{nat_list_cmp_total}
@@ -46,6 +46,10 @@ not_true : (b : Bool) → not b ≡ true → b ≡ false
 not_true true h = absurd (false≢true h)
 not_true false h = refl
 
+first_false : (a b : Bool) → (a || b) ≡ false → a ≡ false
+first_false true b h = h
+first_false false b h = refl
+
 -- what is known of a node that the walk went past
 record IsPassed (found next : Found) (v : Visit) : Type 0 where
   pub few : found.count < most_nodes
@@ -55,7 +59,7 @@ record IsPassed (found next : Found) (v : Visit) : Type 0 where
   pub after : next ≡ found_more found v.name v.register
 
 abbrev Passes : Found → Visit → Found → Type 0
-Passes found v next = visit_next found v.name v.level v.register ≡ Ok next
+Passes found v next = visit_next found v.name v.twin v.level v.register ≡ Ok next
 
 passed : (found next : Found) (v : Visit) → Passes found v next → IsPassed found next v
 unfolding visit_next
@@ -64,13 +68,13 @@ passed found next v h =
     record {
       few = ltb-true found.count most_nodes few;
       shallow = leb-true v.level most_ids shallow;
-      new = not_true (contains_key found.names v.name) new;
+      new = first_false (contains_key found.names v.name) (contains_key found.names v.twin) (not_true _ new);
       within = ltb-true (last_address v.register) (2 ^ 32) within;
       after = after;
     }
 
 cons_case : (vs : List Visit) (found more : Found) (v : Visit) (r : Outcome)
-    → visit_next found v.name v.level v.register ≡ r → run_on (run vs) r ≡ Ok more
+    → visit_next found v.name v.twin v.level v.register ≡ r → run_on (run vs) r ≡ Ok more
     → (next : Found) × (Passes found v next) × (run vs next ≡ Ok more)
 cons_case vs found more v (Ok next) is h = (next, is, h)
 cons_case vs found more v (Err fault) is h = let bad : ⊥ = cc in absurd bad
@@ -78,7 +82,7 @@ cons_case vs found more v (Err fault) is h = let bad : ⊥ = cc in absurd bad
 run-cons : (vs : List Visit) (found more : Found) (v : Visit) → run (v ∷ vs) found ≡ Ok more
     → (next : Found) × (Passes found v next) × (run vs next ≡ Ok more)
 unfolding run
-run-cons vs found more v h = cons_case vs found more v (visit_next found v.name v.level v.register) refl h
+run-cons vs found more v h = cons_case vs found more v (visit_next found v.name v.twin v.level v.register) refl h
 
 no-level : (vs : List Visit) (found more : Found) → run vs found ≡ Ok more → HasLevel vs (most_ids + 1) → ⊥
 no-level [] found more h deep = deep

@@ -1,6 +1,7 @@
 -- Where the walk has no fault, no two siblings have one id.
-use Rattle.std.proofs.Common.{◌≡◌, ℕ, ◌+◌, ◌-◌, ◌^◌, ◌≤◌, List, [], ◌∷◌, ◌++◌, length, Bool, true, false, not, nat_lt}
-use Rattle.std.proofs.Common.{nat_le, Option, Some, None, refl, ap, sym, ◌∙◌, append_assoc}
+use Rattle.std.proofs.Common.{◌≡◌, ℕ, zero, suc, ◌+◌, ◌-◌, ◌^◌, ◌<◌, ◌≤◌, ◌==◌, ◌&&◌, List, [], ◌∷◌, ◌++◌, length, Bool}
+use Rattle.std.proofs.Common.{true, false, not, nat_lt, nat_le, Option, Some, None, refl, ap, sym, subst, ◌∙◌}
+use Rattle.std.proofs.Common.{append_assoc, arith}
 use Rattle.std.proofs.lemmas.Bool.{false≢true, leb-true}
 use Rattle.std.proofs.lemmas.List.{append-nil}
 use Rattle.std.specs.Option.{option_or}
@@ -10,13 +11,13 @@ use Rattle.node_tree.specs.Limits.{most_nodes, most_ids}
 use Rattle.node_tree.specs.declared.refusal.CompileWhy.{CompileWhy}
 use Rattle.node_tree.specs.declared.refusal.CompileWhy.TheVariants.{TooMany, TooDeep, Duplicate, AddressPastEnd}
 use Rattle.node_tree.specs.Maps.{Name, TableMap, nodes_of}
-use Rattle.node_tree.specs.Names.{children_of, node_name, node_address}
-use Rattle.node_tree.specs.Walk.{Visit, visit_of, has_id, siblings, walk, root_walk, visit_rules, first_fault, fault_or}
-use Rattle.node_tree.specs.Walk.{last_address}
+use Rattle.node_tree.specs.Names.{children_of, last_index, name_at, address_at}
+use Rattle.node_tree.specs.Walk.{Visit, Below, visit_of, has_id, indexes, siblings, walk, root_walk, visit_rules}
+use Rattle.node_tree.specs.Walk.{first_fault, fault_or, last_address}
 use Rattle.node_tree.specs.Refusals.{KeepsRules}
 use Rattle.node_tree.specs.Repeats.{AreSiblings, top, below, HasId}
 use Rattle.node_tree.proofs.RepeatLemmas.{first_fault-append, id-true}
-use Rattle.node_tree.proofs.Runs.{Below, walk-level}
+use Rattle.node_tree.proofs.Runs.{walk-level}
 
 none_of : (a b : Option (Name × CompileWhy)) → option_or a b ≡ None → (a ≡ None) × (b ≡ None)
 none_of None b h = (refl, h)
@@ -43,54 +44,70 @@ module _ (deeper : Below) (tables : TableMap) (level : ℕ) (above : Name) (base
   abbrev after_some : List Node → List Node → List Visit
   after_some earlier ns = siblings deeper tables level above base earlier ns
 
+  abbrev each_index : List Node → Node → List Visit
+  each_index earlier n = indexes deeper tables level above base earlier n 0 (last_index n + 1)
+
   siblings-append : (earlier xs ys : List Node)
       → after_some earlier (xs ++ ys) ≡ after_some earlier xs ++ after_some (earlier ++ xs) ys
   unfolding siblings
   siblings-append earlier [] ys = ap (λ e. after_some e ys) (sym (append-nil earlier))
   siblings-append earlier (x ∷ xs) ys =
-      let inner = deeper (node_name above x) (node_address base x) (children_of tables x) in
-      ap (λ vs. visit_of level above base earlier x ∷ (inner ++ vs))
+      ap (λ vs. each_index earlier x ++ vs)
       (siblings-append (earlier ++ x ∷ []) xs ys
       ∙ ap (λ e. after_some (earlier ++ x ∷ []) xs ++ after_some e ys) (append_assoc earlier (x ∷ []) xs))
-      ∙ ap (λ vs. visit_of level above base earlier x ∷ vs)
-      (sym (append_assoc inner (after_some (earlier ++ x ∷ []) xs) (after_some (earlier ++ x ∷ xs) ys)))
+      ∙ sym (append_assoc (each_index earlier x) (after_some (earlier ++ x ∷ []) xs) (after_some (earlier ++ x ∷ xs) ys))
 
-  -- a node among siblings without a fault: its level, its id, and what is below it
-  record IsKept (earlier : List Node) (n : Node) : Type 0 where
+  -- an index of a node among siblings without a fault: its level, the node's id, and what is below it
+  record IsKept (earlier : List Node) (n : Node) (i : ℕ) : Type 0 where
     pub shallow : level ≤ most_ids
-    pub new : not (has_id (out-Node n).id earlier) ≡ true
+    pub new : not ((i == 0) && has_id (out-Node n).id earlier) ≡ true
     pub count : ℕ
-    pub inner : first_fault count (deeper (node_name above n) (node_address base n) (children_of tables n)) ≡ None
+    pub inner : first_fault count (deeper (name_at above n i) (address_at base n i) (children_of tables n)) ≡ None
 
-  kept_first : (count : ℕ) (earlier : List Node) (n : Node) (ns : List Node)
-      → first_fault count (after_some earlier (n ∷ ns)) ≡ None → IsKept earlier n
-  unfolding siblings
-  kept_first count earlier n ns h =
-      let v = visit_of level above base earlier n in
-      let inner = deeper (node_name above n) (node_address base n) (children_of tables n) in
-      let rest = after_some (earlier ++ n ∷ []) ns in
+  kept_head : (earlier : List Node) (n : Node) (i left count : ℕ)
+      → first_fault count (indexes deeper tables level above base earlier n i (suc left)) ≡ None
+      → IsKept earlier n i
+      × ((next : ℕ) × (first_fault next (indexes deeper tables level above base earlier n (i + 1) left) ≡ None))
+  unfolding indexes
+  kept_head earlier n i left count h =
+      let v = visit_of level above base earlier n i in
+      let inner = deeper (name_at above n i) (address_at base n i) (children_of tables n) in
+      let rest = indexes deeper tables level above base earlier n (i + 1) left in
       let (kept, later) = kept_of v (first_broken (visit_rules count v)) (first_fault (count + 1) (inner ++ rest)) h in
       let (shallow, new) =
       kept_rules (nat_lt count most_nodes) (nat_le level most_ids) (not v.repeated)
       (nat_lt (last_address v.register) (2 ^ 32)) kept in
-      record {
-        shallow = leb-true level most_ids shallow;
-        new = new;
-        count = count + 1;
-        inner =
-            (none_of (first_fault (count + 1) inner) (first_fault (count + 1 + length inner) rest)
-            (sym (first_fault-append inner rest (count + 1)) ∙ later)).0;
-      }
+      let (none_in, none_after) =
+      none_of (first_fault (count + 1) inner) (first_fault (count + 1 + length inner) rest)
+      (sym (first_fault-append inner rest (count + 1)) ∙ later) in (
+        record { shallow = leb-true level most_ids shallow; new = new; count = count + 1; inner = none_in },
+        (count + 1 + length inner, none_after),
+      )
 
-  kept_at : (count : ℕ) (before : List Node) (n : Node) (after : List Node)
-      → first_fault count (after_some [] (before ++ n ∷ after)) ≡ None → IsKept before n
-  kept_at count before n after h =
+  kept_index : (earlier : List Node) (n : Node) (i left j k count : ℕ) → i + j ≡ k → j < left
+      → first_fault count (indexes deeper tables level above base earlier n i left) ≡ None → IsKept earlier n k
+  kept_index earlier n i zero j k count sum within h = absurd (omega arith)
+  kept_index earlier n i (suc left) zero k count sum within h =
+      let same : i ≡ k = omega arith in subst (IsKept earlier n) same (kept_head earlier n i left count h).0
+  kept_index earlier n i (suc left) (suc j) k count sum within h =
+      let rest = (kept_head earlier n i left count h).1 in
+      kept_index earlier n (i + 1) left j k rest.0 (omega arith) (omega arith) rest.1
+
+  kept_at : (count : ℕ) (before : List Node) (n : Node) (after : List Node) (i : ℕ) → i ≤ last_index n
+      → first_fault count (after_some [] (before ++ n ∷ after)) ≡ None → IsKept before n i
+  unfolding siblings
+  kept_at count before n after i within h =
       let parts =
       sym (first_fault-append (after_some [] before) (after_some before (n ∷ after)) count)
       ∙ ap (first_fault count) (sym (siblings-append [] before (n ∷ after))) ∙ h in
-      kept_first (count + length (after_some [] before)) before n after
-      (none_of (first_fault count (after_some [] before))
-      (first_fault (count + length (after_some [] before)) (after_some before (n ∷ after))) parts).1
+      let start = count + length (after_some [] before) in
+      let here =
+      (none_of (first_fault count (after_some [] before)) (first_fault start (after_some before (n ∷ after))) parts).1 in
+      let first =
+      (none_of (first_fault start (each_index before n))
+      (first_fault (start + length (each_index before n)) (after_some (before ++ n ∷ []) after))
+      (sym (first_fault-append (each_index before n) (after_some (before ++ n ∷ []) after) start) ∙ here)).0 in
+      kept_index before n 0 (last_index n + 1) i i start (omega arith) (omega arith) first
 
 -- siblings without a fault, at some level, address and place of the walk
 record AreFaultless (tables : TableMap) (above : Name) (ns : List Node) : Type 0 where
@@ -109,18 +126,18 @@ faultless : (tables : TableMap) (root above : Name) (ns : List Node) → first_f
     → AreSiblings tables root above ns → AreFaultless tables above ns
 faultless tables root above ns none top =
     record { level = 1; base = 0; count = 0; none = ap (first_fault 0) (sym (first_level tables root)) ∙ none }
-faultless tables root above ns none (below over before n after sibs) =
+faultless tables root above ns none (below over before n after i within sibs) =
     let around = faultless tables root over (before ++ n ∷ after) none sibs in
     let kept =
     kept_at (walk tables (most_ids + 1 - around.level) (around.level + 1)) tables around.level over around.base
-    around.count before n after around.none in
+    around.count before n after i within around.none in
     record {
       level = around.level + 1;
-      base = node_address around.base n;
+      base = address_at around.base n i;
       count = kept.count;
       none =
           ap (first_fault kept.count)
-          (sym (walk-level tables around.level (node_name over n) (node_address around.base n)
+          (sym (walk-level tables around.level (name_at over n i) (address_at around.base n i)
           (children_of tables n) kept.shallow)) ∙ kept.inner;
     }
 
@@ -130,5 +147,5 @@ siblings_differ tables root above before n after rules sibs earlier =
     let around = faultless tables root above (before ++ n ∷ after) rules.nodes sibs in
     let kept =
     kept_at (walk tables (most_ids + 1 - around.level) (around.level + 1)) tables around.level above around.base
-    around.count before n after around.none in
+    around.count before n after 0 (omega arith) around.none in
     not_both (has_id (out-Node n).id before) (id-true (out-Node n).id before earlier) kept.new

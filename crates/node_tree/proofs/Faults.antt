@@ -21,12 +21,12 @@ use Rattle.node_tree.specs.Run.{Outcome, run, run_on, visit_next, next_rules, st
 abbrev pub is_named_by : Name → List Visit → Bool
 is_named_by name visits = list_any (λ v. bytes_eq name v.name) visits
 
--- the rules for a node after those that the walk came to before, the latest first
+-- the rules for an index of a node after those that the walk came to before, the latest first
 abbrev pub named_rules : List Visit → Visit → List (CompileWhy × Bool)
 named_rules before v =
     (TooMany, nat_lt (length before) most_nodes)
     ∷ (TooDeep, nat_le v.level most_ids)
-    ∷ (Duplicate, not (is_named_by v.name before))
+    ∷ (Duplicate, not (is_named_by v.name before || is_named_by v.twin before))
     ∷ (AddressPastEnd, nat_lt (last_address v.register) (2 ^ 32))
     ∷ []
 
@@ -60,8 +60,8 @@ Agree-more before found v agree = record {
 }
 
 same_rules : (before : List Visit) (found : Found) (v : Visit) → Agree before found
-    → next_rules found v.name v.level v.register ≡ named_rules before v
-same_rules before found v agree = rw (agree.count, agree.names v.name) refl
+    → next_rules found v.name v.twin v.level v.register ≡ named_rules before v
+same_rules before found v agree = rw (agree.count, agree.names v.name, agree.names v.twin) refl
 
 abbrev pub fault_of : Outcome → Option (Name × CompileWhy)
 fault_of (Ok found) = None

@@ -20,6 +20,7 @@ pub mod EventLemmas
 pub mod SettlingLemmas
 pub mod NameOrder
 pub mod TimelineLemmas
+pub mod IndexTexts
 pub mod RepeatLemmas
 pub mod SiblingLemmas
 pub mod Places

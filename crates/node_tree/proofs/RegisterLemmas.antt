@@ -10,7 +10,7 @@ use Rattle.address_table.specs.declared.nodes.Table.{Table}
 use Rattle.node_tree.specs.declared.register.Register.{Register}
 use Rattle.node_tree.specs.Maps.{Name, TableMap, RegisterMap, nodes_of, AreValidTables, IsRegister, AreRegisters}
 use Rattle.node_tree.specs.Addresses.{words_of, last_address}
-use Rattle.node_tree.specs.Names.{Names, itself, child, later, children_of, node_name, node_address}
+use Rattle.node_tree.specs.Names.{Names, itself, child, later, children_of, name_at, address_at}
 use Rattle.node_tree.proofs.NodeLemmas.{parts, named_nodes, children_if}
 use Rattle.node_tree.proofs.NamedLemmas.{by_bytes}
 use Rattle.node_tree.proofs.EntryLemmas.{get-cases}
@@ -21,10 +21,10 @@ Fits r = FitsMode r.mode r.mask r.size
 names-fit : (tables : TableMap) → AreValidTables tables
     → (ns : List Node) (above : Name) (base : ℕ) (name : Name) (r : Register)
     → AreValid ns → Names tables ns above base name r → Fits r
-names-fit tables valid ms above base name r are (itself n ns above' base') = (parts (n ∷ ns) are).0.register
-names-fit tables valid ms above base name r are (child n ns above' base' name' r' named) =
+names-fit tables valid ms above base name r are (itself n ns above' base' i within) = (parts (n ∷ ns) are).0.register
+names-fit tables valid ms above base name r are (child n ns above' base' i name' r' within named) =
     let (here, below, others) = parts (n ∷ ns) are in
-    names-fit tables valid (children_of tables n) (node_name above' n) (node_address base' n) name' r'
+    names-fit tables valid (children_of tables n) (name_at above' n i) (address_at base' n i) name' r'
     (children_if tables valid (out-Node n).«module» (out-Node n).nodes.items below) named
 names-fit tables valid ms above base name r are (later n ns above' base' name' r' named) =
     let (here, below, others) = parts (n ∷ ns) are in

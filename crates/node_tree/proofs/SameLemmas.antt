@@ -1,5 +1,5 @@
 -- Tables that have the same nodes compile alike, and tables and a root have one index.
-use Rattle.std.proofs.Common.{◌≡◌, ◌↔◌, inl, inr, ℕ, zero, suc, ◌+◌, List, [], ◌∷◌, ◌++◌, map, Bool, true, false}
+use Rattle.std.proofs.Common.{◌≡◌, ◌↔◌, ◌≤◌, inl, inr, ℕ, zero, suc, ◌+◌, List, [], ◌∷◌, ◌++◌, map, Bool, true, false}
 use Rattle.std.proofs.Common.{◌&&◌, ◌||◌, T, cond, Option, Some, None, IsSome, is_some, bytes_eq, refl, ap, sym, ◌∙◌}
 use Rattle.std.proofs.Common.{subst}
 use Rattle.std.specs.List.{AllByRecursion}
@@ -19,17 +19,16 @@ use Rattle.node_tree.specs.declared.refusal.CompileRefusal.{CompileRefusal}
 use Rattle.node_tree.specs.declared.refusal.CompileRefusal.TheVariants.{At, NoMemory}
 use Rattle.node_tree.specs.Limits.{most_ids}
 use Rattle.node_tree.specs.Maps.{Name, TableMap, RegisterMap, nodes_of}
-use Rattle.node_tree.specs.Names.{Names, itself, child, later, children_of, node_name, node_address, register_of}
-use Rattle.node_tree.specs.Names.{name_below, IsIndexOf}
+use Rattle.node_tree.specs.Names.{Names, itself, child, later, children_of, last_index, name_at, address_at}
+use Rattle.node_tree.specs.Names.{register_at, IsIndexOf}
 use Rattle.node_tree.specs.Modules as modules
 use Rattle.node_tree.specs.Modules.{Mentions, Reaches, direct, through, HasUnknown, ReachesItself, NoTable}
 use Rattle.node_tree.specs.Modules.{IsFirstTable}
 use Rattle.node_tree.specs.Refusals.{AreKnown, KeepsRules, TellsUnknown, TellsCycle, TellsNode, IsRefusal}
 use Rattle.node_tree.specs.Same.{SameFound, SameTables}
-use Rattle.node_tree.specs.Walk.{visit_of, has_id, siblings, walk, root_walk, first_fault}
+use Rattle.node_tree.specs.Walk.{Below, visit_of, has_id, indexes, siblings, walk, root_walk, first_fault}
 use Rattle.node_tree.proofs.NamedLemmas.{by_bytes}
 use Rattle.node_tree.proofs.EntryLemmas.{first, second}
-use Rattle.node_tree.proofs.Runs.{Below}
 
 -- two maps that have the same at each name are one
 same_option : (o p : Option Register) → ((r : Register) → o ≡ Some r → p ≡ Some r)
@@ -56,6 +55,8 @@ keys-sym n m k = record {
   permission = sym k.permission;
   mode = sym k.mode;
   size = sym k.size;
+  count = sym k.count;
+  stride = sym k.stride;
   «module» = sym k.«module»;
   tags = sym k.tags;
   description = sym k.description;
@@ -118,14 +119,18 @@ found-some None (Some u) h = absurd h
 found-some (Some t) None h = absurd h
 found-some (Some t) (Some u) h = refl
 
-name-same : (above : Name) (n m : Node) → SameKeys n m → node_name above n ≡ node_name above m
-name-same above n m keys = ap (name_below above) keys.id
+last-same : (n m : Node) → SameKeys n m → last_index n ≡ last_index m
+last-same n m keys = rw keys.count refl
 
-address-same : (base : ℕ) (n m : Node) → SameKeys n m → node_address base n ≡ node_address base m
-address-same base n m keys = ap (λ a. base + a) keys.address
+name-same : (above : Name) (n m : Node) (i : ℕ) → SameKeys n m → name_at above n i ≡ name_at above m i
+name-same above n m i keys = rw (keys.id, keys.count) refl
 
-register-same : (base : ℕ) (n m : Node) → SameKeys n m → register_of base n ≡ register_of base m
-register-same base n m keys = rw (keys.address, keys.mask, keys.permission, keys.mode, keys.size) refl
+address-same : (base : ℕ) (n m : Node) (i : ℕ) → SameKeys n m → address_at base n i ≡ address_at base m i
+address-same base n m i keys = rw (keys.address, keys.stride) refl
+
+register-same : (base : ℕ) (n m : Node) (i : ℕ) → SameKeys n m → register_at base n i ≡ register_at base m i
+register-same base n m i keys =
+    rw (keys.address, keys.stride, keys.mask, keys.permission, keys.mode, keys.size) refl
 
 module _ (tables others : TableMap) (same : SameTables tables others) where
   nodes-same : (name : Name) → SameNodes (nodes_of tables name) (nodes_of others name)
@@ -146,26 +151,28 @@ module _ (tables others : TableMap) (same : SameTables tables others) where
   -- what nodes name
   names-same : (ks ms : List Node) (above : Name) (base : ℕ) (name : Name) (r : Register) → SameNodes ks ms
       → Names tables ks above base name r → Names others ms above base name r
-  names-same ks ms above base name r alike (itself n ns above' base') =
+  names-same ks ms above base name r alike (itself n ns above' base' i within) =
       let like = as_same (n ∷ ns) ms alike in
       let m = like.like in
-      subst (λ ls. Names others ls above' base' (node_name above' n) (register_of base' n)) (sym like.is)
-      (subst (λ x. Names others (m ∷ like.rest) above' base' x (register_of base' n))
-      (sym (name-same above' n m like.keys))
-      (subst (λ x. Names others (m ∷ like.rest) above' base' (node_name above' m) x)
-      (sym (register-same base' n m like.keys)) (itself m like.rest above' base')))
-  names-same ks ms above base name r alike (child n ns above' base' name' r' named) =
+      let last : i ≤ last_index m = subst (λ k. i ≤ k) (last-same n m like.keys) within in
+      subst (λ ls. Names others ls above' base' (name_at above' n i) (register_at base' n i)) (sym like.is)
+      (subst (λ x. Names others (m ∷ like.rest) above' base' x (register_at base' n i))
+      (sym (name-same above' n m i like.keys))
+      (subst (λ x. Names others (m ∷ like.rest) above' base' (name_at above' m i) x)
+      (sym (register-same base' n m i like.keys)) (itself m like.rest above' base' i last)))
+  names-same ks ms above base name r alike (child n ns above' base' i name' r' within named) =
       let like = as_same (n ∷ ns) ms alike in
       let m = like.like in
+      let last : i ≤ last_index m = subst (λ k. i ≤ k) (last-same n m like.keys) within in
       let below =
-      names-same (children_of tables n) (children_of others m) (node_name above' n) (node_address base' n) name' r'
+      names-same (children_of tables n) (children_of others m) (name_at above' n i) (address_at base' n i) name' r'
       (children-same n m like.keys like.below) named in
       subst (λ ls. Names others ls above' base' name' r') (sym like.is)
-      (child m like.rest above' base' name' r'
-      (subst (λ x. Names others (children_of others m) x (node_address base' m) name' r')
-      (name-same above' n m like.keys)
-      (subst (λ x. Names others (children_of others m) (node_name above' n) x name' r')
-      (address-same base' n m like.keys) below)))
+      (child m like.rest above' base' i name' r' last
+      (subst (λ x. Names others (children_of others m) x (address_at base' m i) name' r')
+      (name-same above' n m i like.keys)
+      (subst (λ x. Names others (children_of others m) (name_at above' n i) x name' r')
+      (address-same base' n m i like.keys) below)))
   names-same ks ms above base name r alike (later n ns above' base' name' r' named) =
       let like = as_same (n ∷ ns) ms alike in
       subst (λ ls. Names others ls above' base' name' r') (sym like.is)
@@ -202,14 +209,15 @@ module _ (tables others : TableMap) (same : SameTables tables others) where
       ap (λ x. bytes_eq x a || has_id a ns') keys.id ∙ ap (λ x. bytes_eq (out-Node m).id x || has_id a ns') is
       ∙ ap (λ x. bytes_eq (out-Node m).id b || x) (has_id-same a b ns' ms' is rest)
 
-  visit-same : (level : ℕ) (above : Name) (base : ℕ) (earlier before : List Node) (n m : Node)
+  visit-same : (level : ℕ) (above : Name) (base : ℕ) (earlier before : List Node) (n m : Node) (i : ℕ)
       → SameNodes earlier before → SameKeys n m
-      → visit_of level above base earlier n ≡ visit_of level above base before m
-  visit-same level above base earlier before n m alike keys =
+      → visit_of level above base earlier n i ≡ visit_of level above base before m i
+  visit-same level above base earlier before n m i alike keys =
       rw (
-        name-same above n m keys,
         has_id-same (out-Node n).id (out-Node m).id earlier before keys.id alike,
-        register-same base n m keys,
+        register-same base n m i keys,
+        keys.id,
+        keys.count,
       ) refl
 
   abbrev SameBelow : Below → Below → Type 0
@@ -217,29 +225,43 @@ module _ (tables others : TableMap) (same : SameTables tables others) where
       (called : Name) (address : ℕ) (ns ms : List Node) → SameNodes ns ms
       → deeper called address ns ≡ deeper' called address ms
 
-  siblings-same : (deeper deeper' : Below) → SameBelow deeper deeper'
-      → (level : ℕ) (above : Name) (base : ℕ) (earlier before ns ms : List Node)
-      → SameNodes earlier before → SameNodes ns ms
-      → siblings deeper tables level above base earlier ns ≡ siblings deeper' others level above base before ms
-  unfolding siblings
-  siblings-same deeper deeper' each level above base earlier before ns ms alike neither = refl
-  siblings-same deeper deeper' each level above base earlier before ns ms alike (both n m ns' ms' keys below rest) =
-      let inner : deeper (node_name above n) (node_address base n) (children_of tables n)
-      ≡ deeper' (node_name above m) (node_address base m) (children_of others m) =
-      each (node_name above n) (node_address base n) (children_of tables n) (children_of others m)
-      (children-same n m keys below)
-      ∙ ap (λ x. deeper' x (node_address base n) (children_of others m)) (name-same above n m keys)
-      ∙ ap (λ x. deeper' (node_name above m) x (children_of others m)) (address-same base n m keys) in
-      let after =
-      siblings-same deeper deeper' each level above base (earlier ++ n ∷ []) (before ++ m ∷ []) ns' ms'
-      (nodes-append earlier before n m alike keys below) rest in
-      ap (λ v. v ∷ (deeper (node_name above n) (node_address base n) (children_of tables n)
-      ++ siblings deeper tables level above base (earlier ++ n ∷ []) ns'))
-      (visit-same level above base earlier before n m alike keys)
-      ∙ ap (λ vs. visit_of level above base before m
-      ∷ (vs ++ siblings deeper tables level above base (earlier ++ n ∷ []) ns')) inner
-      ∙ ap (λ vs. visit_of level above base before m
-      ∷ (deeper' (node_name above m) (node_address base m) (children_of others m) ++ vs)) after
+  module _ (deeper deeper' : Below) (each : SameBelow deeper deeper') (level : ℕ) (above : Name) (base : ℕ) where
+    indexes-same : (earlier before : List Node) (n m : Node) (i left : ℕ)
+        → SameNodes earlier before → SameKeys n m
+        → SameNodes (out-Node n).nodes.items (out-Node m).nodes.items
+        → indexes deeper tables level above base earlier n i left
+        ≡ indexes deeper' others level above base before m i left
+    unfolding indexes
+    indexes-same earlier before n m i zero alike keys below = refl
+    indexes-same earlier before n m i (suc left) alike keys below =
+        let inner : deeper (name_at above n i) (address_at base n i) (children_of tables n)
+        ≡ deeper' (name_at above m i) (address_at base m i) (children_of others m) =
+        each (name_at above n i) (address_at base n i) (children_of tables n) (children_of others m)
+        (children-same n m keys below)
+        ∙ ap (λ x. deeper' x (address_at base n i) (children_of others m)) (name-same above n m i keys)
+        ∙ ap (λ x. deeper' (name_at above m i) x (children_of others m)) (address-same base n m i keys) in
+        let after = indexes-same earlier before n m (i + 1) left alike keys below in
+        ap (λ v. v ∷ (deeper (name_at above n i) (address_at base n i) (children_of tables n)
+        ++ indexes deeper tables level above base earlier n (i + 1) left))
+        (visit-same level above base earlier before n m i alike keys)
+        ∙ ap (λ vs. visit_of level above base before m i
+        ∷ (vs ++ indexes deeper tables level above base earlier n (i + 1) left)) inner
+        ∙ ap (λ vs. visit_of level above base before m i
+        ∷ (deeper' (name_at above m i) (address_at base m i) (children_of others m) ++ vs)) after
+
+    siblings-same : (earlier before ns ms : List Node) → SameNodes earlier before → SameNodes ns ms
+        → siblings deeper tables level above base earlier ns ≡ siblings deeper' others level above base before ms
+    unfolding siblings
+    siblings-same earlier before ns ms alike neither = refl
+    siblings-same earlier before ns ms alike (both n m ns' ms' keys below rest) =
+        let here =
+        indexes-same earlier before n m 0 (last_index n + 1) alike keys below
+        ∙ ap (λ k. indexes deeper' others level above base before m 0 (k + 1)) (last-same n m keys) in
+        let after =
+        siblings-same (earlier ++ n ∷ []) (before ++ m ∷ []) ns' ms'
+        (nodes-append earlier before n m alike keys below) rest in
+        ap (λ vs. vs ++ siblings deeper tables level above base (earlier ++ n ∷ []) ns') here
+        ∙ ap (λ vs. indexes deeper' others level above base before m 0 (last_index m + 1) ++ vs) after
 
   walk-same : (levels level : ℕ) (above : Name) (base : ℕ) (ns ms : List Node) → SameNodes ns ms
       → walk tables levels level above base ns ≡ walk others levels level above base ms

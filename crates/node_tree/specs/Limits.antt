@@ -1,7 +1,7 @@
 -- The limits of an index. Profile.
 use Rattle.std.specs.Prelude.{ℕ}
 
--- the most nodes that a walk comes to, and so the most registers of an index
+-- the most names that a walk comes to, and so the most registers of an index
 abbrev pub most_nodes : ℕ
 most_nodes = 65536
 

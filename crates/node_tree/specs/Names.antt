@@ -1,5 +1,7 @@
--- The names of registers: dotted paths of node ids, with addresses that add up along the path (uHAL).
-use Rattle.std.specs.Prelude.{◌≡◌, ◌↔◌, ℕ, ◌+◌, List, [], ◌∷◌, ◌++◌, Some}
+-- The names of registers: dotted paths of node ids, each with its index where the node has a count, and addresses that
+-- add up along the path (uHAL; arrays of nodes are the profile's).
+use Rattle.std.specs.Prelude.{◌≡◌, ◌↔◌, ◌≤◌, ℕ, ◌+◌, ◌-◌, ◌*◌, List, [], ◌∷◌, ◌++◌, codes, Option, Some, None}
+use Rattle.std.specs.Prelude.{decimal}
 use Rattle.std.specs.Option.{option_map_or}
 use Rattle.std.specs.FinMap.{get}
 use Rattle.address_table.specs.declared.nodes.Node.{Node, out-Node}
@@ -19,29 +21,44 @@ abbrev pub name_below : Name → Name → Name
 name_below [] id = id
 name_below (byte ∷ bytes) id = (byte ∷ bytes) ++ dot ∷ id
 
--- the name and the address of a node that stands below a name and an address
-abbrev pub node_name : Name → Node → Name
-node_name above n = name_below above (out-Node n).id
+-- the last index of a node, which counts from 0; a node without a count stands for one register, at index 0
+abbrev pub last_index : Node → ℕ
+last_index n = option_map_or (λ count. count - 1) (out-Node n).count 0
 
-abbrev pub node_address : ℕ → Node → ℕ
-node_address base n = base + (out-Node n).address
+-- an index in brackets, without leading zeros, where the node has a count
+abbrev pub index_text : Option ℕ → ℕ → Name
+index_text None i = []
+index_text (Some count) i = codes "[" ++ (decimal i ++ codes "]")
 
-abbrev pub register_of : ℕ → Node → Register
-register_of base n = record {
-  address = node_address base n;
+-- the name that a node has below a name, its index left aside
+abbrev pub plain_name : Name → Node → Name
+plain_name above n = name_below above (out-Node n).id
+
+-- the name and the address of an index of a node that stands below a name and an address
+abbrev pub name_at : Name → Node → ℕ → Name
+name_at above n i = plain_name above n ++ index_text (out-Node n).count i
+
+abbrev pub address_at : ℕ → Node → ℕ → ℕ
+address_at base n i = base + (out-Node n).address + i * (out-Node n).stride
+
+abbrev pub register_at : ℕ → Node → ℕ → Register
+register_at base n i = record {
+  address = address_at base n i;
   mask = (out-Node n).mask;
   permission = (out-Node n).permission;
   mode = (out-Node n).mode;
   size = (out-Node n).size;
 }
 
--- What a list of nodes names below a name and an address: each node names its register, and its children name theirs
--- below the node's name and address.
+-- What a list of nodes names below a name and an address: each node names a register at each of its indexes, and its
+-- children name theirs below the name and the address of each.
 pub data Names (tables : TableMap) : List Node → Name → ℕ → Name → Register → Type 0 where
-  itself : (n : Node) (ns : List Node) (above : Name) (base : ℕ)
-      → Names tables (n ∷ ns) above base (node_name above n) (register_of base n)
-  child : (n : Node) (ns : List Node) (above : Name) (base : ℕ) (name : Name) (r : Register)
-      → Names tables (children_of tables n) (node_name above n) (node_address base n) name r
+  itself : (n : Node) (ns : List Node) (above : Name) (base i : ℕ)
+      → i ≤ last_index n
+      → Names tables (n ∷ ns) above base (name_at above n i) (register_at base n i)
+  child : (n : Node) (ns : List Node) (above : Name) (base i : ℕ) (name : Name) (r : Register)
+      → i ≤ last_index n
+      → Names tables (children_of tables n) (name_at above n i) (address_at base n i) name r
       → Names tables (n ∷ ns) above base name r
   later : (n : Node) (ns : List Node) (above : Name) (base : ℕ) (name : Name) (r : Register)
       → Names tables ns above base name r

@@ -1,6 +1,7 @@
--- The nodes of a table in the order of a walk, each before its children, and the first that breaks a rule. Profile.
-use Rattle.std.specs.Prelude.{◌≡◌, ◌⊎◌, ℕ, zero, suc, ◌+◌, ◌^◌, Bool, not, nat_lt, nat_le, List, [], ◌∷◌, ◌++◌}
-use Rattle.std.specs.Prelude.{Option, Some, None}
+-- The nodes of a table in the order of a walk, each index of a node before its children there, and the first that
+-- breaks a rule. Profile.
+use Rattle.std.specs.Prelude.{◌≡◌, ◌⊎◌, ℕ, zero, suc, ◌+◌, ◌^◌, Bool, not, ◌&&◌, ◌==◌, nat_lt, nat_le, List, [], ◌∷◌}
+use Rattle.std.specs.Prelude.{◌++◌, codes, Option, Some, None}
 use Rattle.std.specs.List.{list_any}
 use Rattle.std.specs.Str.{bytes_eq}
 use Rattle.address_table.specs.Rules.{first_broken}
@@ -11,12 +12,14 @@ use Rattle.node_tree.specs.declared.refusal.CompileWhy.{CompileWhy}
 use Rattle.node_tree.specs.declared.refusal.CompileWhy.TheVariants.{TooMany, TooDeep, Duplicate, AddressPastEnd}
 pub use Rattle.node_tree.specs.Addresses.{words_of, last_address}
 use Rattle.node_tree.specs.Maps.{Name, TableMap, nodes_of}
-use Rattle.node_tree.specs.Names.{children_of, node_name, node_address, register_of}
+use Rattle.node_tree.specs.Names.{children_of, last_index, plain_name, name_at, address_at, register_at}
 
--- A node where the walk comes to it: its name, the number of ids in the name, whether an earlier sibling has its id,
--- and its register.
+-- An index of a node where the walk comes to it: its name, the number of ids in the name, whether this is the first
+-- index and an earlier sibling has the node's id, and its register. `twin` is the first name that another node of the
+-- same id would have here, if it had a count where this one has none, or none where this one has a count.
 pub record Visit : Type 0 where
   pub name : Name
+  pub twin : Name
   pub level : ℕ
   pub repeated : Bool
   pub register : Register
@@ -25,26 +28,42 @@ pub record Visit : Type 0 where
 abbrev pub has_id : Name → List Node → Bool
 has_id id ns = list_any (λ n. bytes_eq (out-Node n).id id) ns
 
--- a node of a level, below a name and an address, after its earlier siblings
-abbrev pub visit_of : ℕ → Name → ℕ → List Node → Node → Visit
-visit_of level above base earlier n = record {
-  name = node_name above n;
+-- the first index in brackets where the other has no count, and no index where the other has one
+abbrev pub twin_text : Option ℕ → Name
+twin_text None = codes "[0]"
+twin_text (Some count) = []
+
+-- an index of a node of a level, below a name and an address, after its earlier siblings
+abbrev pub visit_of : ℕ → Name → ℕ → List Node → Node → ℕ → Visit
+visit_of level above base earlier n i = record {
+  name = name_at above n i;
+  twin = plain_name above n ++ twin_text (out-Node n).count;
   level = level;
-  repeated = has_id (out-Node n).id earlier;
-  register = register_of base n;
+  repeated = (i == 0) && has_id (out-Node n).id earlier;
+  register = register_at base n i;
 }
 
--- a node and what is below it, and then its later siblings, where `walk_below` goes through children
-unfoldable pub siblings : (Name → ℕ → List Node → List Visit) → TableMap → ℕ → Name → ℕ → List Node → List Node
-    → List Visit
+-- how the walk goes through children below a name and an address
+abbrev pub Below : Type 0
+Below = Name → ℕ → List Node → List Visit
+
+-- so many indexes of a node from one on, each with what is below it
+unfoldable pub indexes : Below → TableMap → ℕ → Name → ℕ → List Node → Node → ℕ → ℕ → List Visit
+indexes walk_below tables level above base earlier n i zero = []
+indexes walk_below tables level above base earlier n i (suc left) =
+    visit_of level above base earlier n i
+    ∷ (walk_below (name_at above n i) (address_at base n i) (children_of tables n)
+    ++ indexes walk_below tables level above base earlier n (i + 1) left)
+
+-- all indexes of a node, and then its later siblings
+unfoldable pub siblings : Below → TableMap → ℕ → Name → ℕ → List Node → List Node → List Visit
 siblings walk_below tables level above base earlier [] = []
 siblings walk_below tables level above base earlier (n ∷ ns) =
-    visit_of level above base earlier n
-    ∷ (walk_below (node_name above n) (node_address base n) (children_of tables n)
-    ++ siblings walk_below tables level above base (earlier ++ n ∷ []) ns)
+    indexes walk_below tables level above base earlier n 0 (last_index n + 1)
+    ++ siblings walk_below tables level above base (earlier ++ n ∷ []) ns
 
--- Some levels of nodes, of which the first has `level` ids in its names, below a name and an address. Each node comes
--- before its children, and these before its later siblings.
+-- Some levels of nodes, of which the first has `level` ids in its names, below a name and an address. Each index of a
+-- node comes before its children there, these before the next index, and all of them before later siblings.
 unfoldable pub walk : TableMap → ℕ → ℕ → Name → ℕ → List Node → List Visit
 walk tables zero level above base ns = []
 walk tables (suc levels) level above base ns = siblings (walk tables levels (level + 1)) tables level above base [] ns

@@ -16,7 +16,7 @@ use address_table::Text;
 use std::alloc::Global;
 use std::collections::BTreeMap;
 
-/// The index of the registers that a table names (uHAL). The tables are compiled exactly where they break no rule of
+/// The index of the registers that a table names (uHAL; at each index of a node with a count). The tables are compiled exactly where they break no rule of
 /// `CompileWhy`, and then the index has the registers that the root names and no others. Each mask and size fits
 /// its mode, and each register ends at an address of 32 bits. A refusal tells the first rule that is broken, and where;
 /// one for a duplicate means that an earlier sibling of the node has its id.

@@ -1,6 +1,6 @@
 //! Laws of the definitions, and worked examples of them. These functions do nothing when they run: their clauses are
 //! what is proved.
-ghost use Rattle.std.specs.Prelude.{◌≡◌, ◌↔◌, ◌⊎◌, ◌+◌, List, [], ◌∷◌, ◌++◌, Some, codes, true, false};
+ghost use Rattle.std.specs.Prelude.{◌≡◌, ◌↔◌, ◌⊎◌, ◌+◌, List, [], ◌∷◌, ◌++◌, Some, None, codes, true, false};
 ghost use Rattle.address_table.specs.declared.nodes.Node.{Node, out-Node};
 ghost use Rattle.address_table.specs.declared.kinds.Mode.TheVariants.{Single, Block, Port, Hierarchical};
 ghost use Rattle.node_tree.specs.declared.limits.TheConstants.{MAX_NODES, MAX_IDS};
@@ -13,7 +13,7 @@ ghost use Rattle.node_tree.specs.Addresses.{last_address};
 ghost use Rattle.node_tree.specs.Examples.{full_register};
 ghost use Rattle.node_tree.specs.Limits.{most_nodes, most_ids};
 ghost use Rattle.node_tree.specs.Maps.{Name, TableMap, RegisterMap};
-ghost use Rattle.node_tree.specs.Names.{RootNames, IsIndexOf, name_below};
+ghost use Rattle.node_tree.specs.Names.{RootNames, IsIndexOf, name_below, name_at, address_at, last_index};
 ghost use Rattle.node_tree.specs.Overlaps.{is_dotted_prefix};
 ghost use Rattle.node_tree.specs.Refusals.{KeepsRules, IsRefusal};
 ghost use Rattle.node_tree.specs.Repeats.{AreSiblings, HasId, IsRepeated};
@@ -102,6 +102,20 @@ pub fn last_addresses()
 pub fn ids_are_joined_by_dots()
     ensures top { name_below [] (codes "a") ≡ codes "a" }
     ensures below { name_below (codes "a.b") (codes "c") ≡ codes "a.b.c" }
+{}
+
+/// A node with a count has its index in brackets behind its id, without leading zeros, and as often its stride added to
+/// its address; one without a count has neither.
+pub fn indexes_stand_behind_ids()
+    ensures first { (n : Node) → (out-Node n).id ≡ codes "ch" → (out-Node n).count ≡ Some 12
+        → name_at [] n 0 ≡ codes "ch[0]" }
+    ensures two_digits { (n : Node) → (out-Node n).id ≡ codes "ch" → (out-Node n).count ≡ Some 12
+        → name_at (codes "a[3]") n 11 ≡ codes "a[3].ch[11]" }
+    ensures no_count { (n : Node) → (out-Node n).id ≡ codes "ch" → (out-Node n).count ≡ None
+        → name_at (codes "a[3]") n 0 ≡ codes "a[3].ch" }
+    ensures last { (n : Node) → (out-Node n).count ≡ Some 12 → last_index n ≡ 11 }
+    ensures address { (n : Node) → (out-Node n).address ≡ 0x100 → (out-Node n).stride ≡ 0x10
+        → address_at 0x1000 n 11 ≡ 0x11b0 }
 {}
 
 /// A name is above those that begin with it and a dot, and not above those that only begin with it.

@@ -1,4 +1,4 @@
-/// The most nodes that a walk through a table and its modules may come to, and so the most registers of an index
+/// The most names that a walk through a table and its modules may come to, and so the most registers of an index
 /// (profile).
 pub const MAX_NODES: usize = 65_536;
 

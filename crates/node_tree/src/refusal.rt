@@ -11,11 +11,11 @@ pub enum CompileWhy {
     UnknownModule,
     /// A table leads to itself through modules.
     ModuleCycle,
-    /// The node after the first `MAX_NODES` nodes of the walk from the root.
+    /// The name after the first `MAX_NODES` names of the walk from the root.
     TooMany,
     /// A name of `MAX_IDS` ids and one more.
     TooDeep,
-    /// An earlier sibling has the node's id.
+    /// An earlier sibling has the node's id, indexes left aside; told at the first index.
     Duplicate,
     /// The address, or the last address of a block, is past 0xffffffff.
     AddressPastEnd,
@@ -25,7 +25,7 @@ pub enum CompileWhy {
 #[derive(Debug, Drop)]
 pub enum CompileRefusal {
     /// The first rule that is broken. For the rules of modules this is told of the first such table in byte order, with
-    /// an empty path; for the others `table` is the root and `path` the name of the first faulty node.
+    /// an empty path; for the others `table` is the root and `path` the first faulty name, with its indexes.
     At {
         table: Text,
         path: Text,
@@ -50,7 +50,7 @@ impl fmt::Display for CompileWhy {
         match self {
             CompileWhy::UnknownModule => write!(f, "an unknown table"),
             CompileWhy::ModuleCycle => write!(f, "a table that leads to itself"),
-            CompileWhy::TooMany => write!(f, "too many nodes"),
+            CompileWhy::TooMany => write!(f, "too many names"),
             CompileWhy::TooDeep => write!(f, "a name of too many ids"),
             CompileWhy::Duplicate => write!(f, "an id that an earlier sibling has"),
             CompileWhy::AddressPastEnd => write!(f, "an address past 0xffffffff"),

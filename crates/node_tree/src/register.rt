@@ -3,7 +3,8 @@ use address_table::{Mode, Permission};
 /// What a name of an index stands for (uHAL).
 #[derive(Clone, Copy, Debug, PartialEq, Eq)]
 pub struct Register {
-    /// The sum of the addresses of the nodes that lead to it, in words.
+    /// The sum of the addresses of the nodes that lead to it, and of index times stride of each that has a count, in
+    /// words.
     pub address: u32,
     /// The bits of the word that the register has; not 0.
     pub mask: u32,

@@ -1,11 +1,14 @@
 //! The walk through the nodes of a table and of its modules.
-ghost use Rattle.std.specs.Prelude.{◌≡◌, ◌≤◌, ◌-◌, ◌+◌, [], Ok, Err, OnOk, IfOk, IfErr, SomeIff, ◌<◌, ◌^◌};
-ghost use Rattle.std.specs.Prelude.{string_bytes};
+ghost use Rattle.std.specs.Prelude.{◌≡◌, ◌≤◌, ◌-◌, ◌+◌, ◌++◌, ◌||◌, List, [], Ok, Err, OnOk, IfOk, IfErr, SomeIff, ◌<◌};
+ghost use Rattle.std.specs.Prelude.{◌^◌, string_bytes};
+ghost use Rattle.std.specs.FinMap.{contains_key};
+ghost use Rattle.address_table.specs.declared.nodes.Node.{Node as Nod, out-Node};
 ghost use Rattle.node_tree.specs.Limits.{most_ids};
 ghost use Rattle.node_tree.specs.Maps.{nodes_of as table_nodes};
-ghost use Rattle.node_tree.specs.Names.{children_of, name_below, register_of};
+ghost use Rattle.node_tree.specs.Names.{children_of, name_below, last_index, index_text, address_at, register_at};
 ghost use Rattle.node_tree.specs.Walk as spec;
-ghost use Rattle.node_tree.specs.Run.{visit_next, run, IsStop};
+ghost use Rattle.node_tree.specs.Walk.{twin_text};
+ghost use Rattle.node_tree.specs.Run.{each_index, visit_next, run, IsStop};
 
 use crate::name_map::NameMap;
 use crate::{CompileWhy, MAX_IDS, MAX_NODES, Register, Tables};
@@ -62,6 +65,7 @@ pub(crate) struct Walker {
 
 impl Walker {
     /// Goes through nodes with all that is below them. The last ids of their names stand after the name `above`.
+    #[cycle(walk)]
     pub(crate) fn walk(
         &mut self,
         tables: &Tables,
@@ -78,8 +82,31 @@ impl Walker {
             IfErr result (λ fault. IsStop (run visits self.old.found) fault) }
     {
         for node in nodes {
-            let name = dotted_name(self.alloc, above, node.id.as_str())?;
-            let address = self.visit(name.as_str(), level, node)?;
+            self.walk_node(tables, node, above, level)?;
+        }
+        Ok(())
+    }
+
+    /// Goes through the indexes of one node, each with all that is below it.
+    #[cycle(walk)]
+    fn walk_node(
+        &mut self,
+        tables: &Tables,
+        node: &Node,
+        above: &str,
+        level: Level,
+    ) -> Result<(), Fault>
+        requires { level.ids ≤ most_ids + 1 }
+        ensures walked { let visits = each_index tables.now level.ids above.now level.base node.now in
+            IfOk result (λ _. (earlier : List Nod) → run (visits earlier) self.old.found ≡ Ok self.new.found) }
+        ensures stopped { let visits = each_index tables.now level.ids above.now level.base node.now in
+            IfErr result (λ fault. (earlier : List Nod) → IsStop (run (visits earlier) self.old.found) fault) }
+    {
+        let plain = dotted_name(self.alloc, above, node.id.as_str())?;
+        let twin = twin_name(self.alloc, plain.as_str(), node)?;
+        for index in 0..index_count(node) {
+            let name = indexed_name(self.alloc, plain.as_str(), node, index)?;
+            let address = self.visit(name.as_str(), twin.as_str(), level, node, index)?;
             let below = children(tables, node);
             let deeper = Level {
                 base: address,
@@ -90,13 +117,23 @@ impl Walker {
         Ok(())
     }
 
-    /// Keeps the register of one node, or tells the first rule that the node breaks. Answers the node's address.
-    fn visit(&mut self, name: &str, level: Level, node: &Node) -> Result<u32, Fault>
+    /// Keeps the register of an index of a node under its name, or tells the first rule that it breaks. Answers its
+    /// address.
+    fn visit(
+        &mut self,
+        name: &str,
+        twin: &str,
+        level: Level,
+        node: &Node,
+        index: u32,
+    ) -> Result<u32, Fault>
         ensures shallow { OnOk result (level.ids ≤ most_ids) }
-        ensures address { IfOk result (λ address. address ≡ (register_of level.base node.now).address) }
-        ensures visited { let next = visit_next self.old.found name.now level.ids (register_of level.base node.now) in
+        ensures address { IfOk result (λ address. address ≡ address_at level.base node.now index) }
+        ensures visited { let register = register_at level.base node.now index in
+            let next = visit_next self.old.found name.now twin.now level.ids register in
             OnOk result (next ≡ Ok self.new.found) }
-        ensures stopped { let next = visit_next self.old.found name.now level.ids (register_of level.base node.now) in
+        ensures stopped { let register = register_at level.base node.now index in
+            let next = visit_next self.old.found name.now twin.now level.ids register in
             IfErr result (λ fault. IsStop next fault) }
     {
         if self.found.count >= MAX_NODES {
@@ -105,23 +142,35 @@ impl Walker {
         if level.ids > MAX_IDS {
             return Err(fault_at(self.alloc, name, CompileWhy::TooDeep));
         }
-        if self.found.names.contains(name) {
+        if self.has_either(name, twin) {
             return Err(fault_at(self.alloc, name, CompileWhy::Duplicate));
         }
-        let Some(register) = register(level.base, node) else {
+        let Some(register) = register(level.base, node, index) else {
             return Err(fault_at(self.alloc, name, CompileWhy::AddressPastEnd));
         };
         self.found.names.insert(self.alloc, name, register)?;
         self.found.count += 1;
         Ok(register.address)
     }
+
+    /// Whether one of two names is there already.
+    fn has_either(&self, name: &str, twin: &str) -> bool
+        ensures { let names = self.now.found.names in
+            result ≡ (contains_key names name.now || contains_key names twin.now) }
+    {
+        self.found.names.contains(name) || self.found.names.contains(twin)
+    }
 }
 
-/// The register of a node, unless it is past the last address.
-fn register(base: u32, node: &Node) -> Option<Register>
-    ensures { SomeIff result (spec.last_address (register_of base node.now) < 2 ^ 32) (register_of base node.now) }
+/// The register of an index of a node, unless it is past the last address.
+fn register(base: u32, node: &Node, index: u32) -> Option<Register>
+    ensures { let register = register_at base node.now index in
+        SomeIff result (spec.last_address register < 2 ^ 32) register }
 {
-    let address = base as u64 + node.address as u64;
+    let address = base as u64 + node.address as u64 + index as u64 * node.stride as u64;
+    if address > u32::MAX as u64 {
+        return None;
+    }
     let last = address + words_of(node.mode, node.size).saturating_sub(1) as u64;
     if last > u32::MAX as u64 {
         return None;
@@ -165,6 +214,38 @@ fn dotted_name(alloc: Global, above: &str, id: &str) -> Result<String, AllocErro
     }
     name.push_str(id)?;
     Ok(name)
+}
+
+/// How many indexes a node has, from 0 on; one where it has no count.
+fn index_count(node: &Node) -> u32
+    ensures { result ≡ last_index node.now + 1 }
+{
+    match node.count {
+        Some(count) => count.saturating_sub(1) + 1,
+        None => 1,
+    }
+}
+
+/// A name with the index of a node in brackets, if the node has a count.
+fn indexed_name(alloc: Global, plain: &str, node: &Node, index: u32) -> Result<String, AllocError>
+    ensures { let text = plain.now ++ index_text (out-Node node.now).count index in
+        IfOk result (λ name. string_bytes name ≡ text) }
+{
+    match node.count {
+        Some(_) => format!(in alloc; "{plain}[{index}]"),
+        None => String::from_str(alloc, plain),
+    }
+}
+
+/// The first name that another node of the id would have, with a count where this one has none, or without.
+fn twin_name(alloc: Global, plain: &str, node: &Node) -> Result<String, AllocError>
+    ensures { let text = plain.now ++ twin_text (out-Node node.now).count in
+        IfOk result (λ name. string_bytes name ≡ text) }
+{
+    match node.count {
+        Some(_) => String::from_str(alloc, plain),
+        None => format!(in alloc; "{plain}[0]"),
+    }
 }
 
 /// The nodes of a table; none where there is no such table.

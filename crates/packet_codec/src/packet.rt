@@ -98,7 +98,7 @@ pub struct Head {
 }
 
 /// A packet: its header and the words after it (IPbus 2.0, packet header).
-#[derive(Debug, Drop, PartialEq, Eq)]
+#[derive(Drop, PartialEq, Eq)]
 pub struct Packet {
     /// The byte order of every word. Only control packets may be little-endian (profile).
     pub order: Order,

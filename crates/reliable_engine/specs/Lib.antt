@@ -3,7 +3,6 @@ pub mod Events
 pub mod Examples
 pub mod OpenPlaces
 pub mod SendOrder
-pub mod Settings
 pub mod Slots
 pub mod Steps
 pub mod ToldFates

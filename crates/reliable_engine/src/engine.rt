@@ -13,14 +13,13 @@ ghost use Rattle.reliable_engine.specs.Steps.{resumed};
 
 use crate::fates::{put_fate, put_unsent};
 use crate::open_places::OpenPlaces;
-use crate::settings::Settings;
 use ipb_base::{NoMemory, Words};
 use packet_ids::{Id, id_at, place_of};
 use status_packet::Status;
 use std::alloc::Global;
 use std::collections::VecDeque;
 use std::marker::Model;
-use world_model::{Fate, Offered, Sending};
+use world_model::{Fate, Offered, Sending, Settings};
 
 /// The hub's side of one board (IPbus 2.0, reliability mechanism). Contracts see it as `world_model`'s hub: the bodies
 /// that were sent, by place, those that wait, the open places, the round that is under way, and the fates that are not

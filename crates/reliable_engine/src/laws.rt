@@ -15,7 +15,7 @@ ghost use Rattle.world_model.specs.Hub.{Hub, give_up, hear_quiet, hear_status, n
 ghost use Rattle.world_model.specs.Hub.{is_waiting, low, places, recover, want_status};
 ghost use Rattle.world_model.specs.Sends.{Next, next_send, pending};
 ghost use Rattle.world_model.specs.History.{tag_of_fate, times};
-ghost use Rattle.reliable_engine.specs.declared.settings.TheConstants.{MAX_WINDOW};
+ghost use Rattle.world_model.specs.declared.settings.TheConstants.{MAX_WINDOW};
 ghost use Rattle.reliable_engine.specs.Answers.{IsOpen, IsSendOf, TellsPlace, sent_next};
 ghost use Rattle.reliable_engine.specs.Events.{AreAllowed, HubEvent, IsAllowed, IsAmong, IsAtRest, IsInWindow};
 ghost use Rattle.reliable_engine.specs.Events.{IsOutOfRounds, Send, after_event, handouts};

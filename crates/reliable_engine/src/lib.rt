@@ -9,12 +9,10 @@ mod engine;
 mod fates;
 pub mod laws;
 mod open_places;
-mod settings;
 mod slots;
 
 pub use engine::Engine;
 pub use ipb_base::{NoMemory, Words};
 pub use packet_ids::Id;
-pub use settings::{MAX_WINDOW, Settings};
 pub use status_packet::Status;
-pub use world_model::{Fate, Offered, OpenPlace, Sending};
+pub use world_model::{Fate, MAX_WINDOW, Offered, OpenPlace, Sending, Settings};

@@ -6,9 +6,8 @@ ghost use Rattle.world_model.specs.Sends.{wanted};
 ghost use Rattle.reliable_engine.specs.Slots.{EndsAt, IsPut, changed, open_at, open_from};
 ghost use Rattle.reliable_engine.specs.Steps.{places_wanted, sending_of};
 
-use crate::settings::MAX_WINDOW;
 use packet_ids::{Id, id_at};
-use world_model::{OpenPlace, Sending};
+use world_model::{MAX_WINDOW, OpenPlace, Sending};
 
 /// How many slots there are: as many as places are in the greatest window.
 pub(crate) const SLOTS: u64 = MAX_WINDOW as u64;

@@ -9,7 +9,7 @@ use transaction_codec::info_code::SUCCESS;
 use transaction_codec::{FirstReply, OpRef};
 
 /// What a reply answers to one request. IPbus 2.0, transaction header; what a failed transaction did is the profile's.
-#[derive(Debug, Drop, PartialEq, Eq)]
+#[derive(Drop, PartialEq, Eq)]
 pub enum Answer {
     /// The request was done, and these words were read: those of a read, or the one word before an RMW.
     Values(Words),

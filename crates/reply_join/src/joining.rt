@@ -85,7 +85,7 @@ fn next_request(body: &[u32]) -> FirstRequest<'_>
 }
 
 /// Why no reply to a request stands at the front of words.
-#[derive(Clone, Copy, Debug)]
+#[derive(Clone, Copy)]
 pub(crate) enum NoReply {
     /// The first word is no header of a reply to it, or no request is left.
     Header,

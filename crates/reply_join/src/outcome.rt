@@ -9,7 +9,7 @@ use transaction_codec::info_code::{READ_ERROR, READ_TIMEOUT, SUCCESS, WRITE_ERRO
 use transaction_codec::{FirstRequest, OpRef, code_of, count_of, header};
 
 /// What the header of a reply says of its request: the words that were done, and the info code.
-#[derive(Clone, Copy, Debug)]
+#[derive(Clone, Copy)]
 pub(crate) struct Outcome {
     pub(crate) count: u8,
     pub(crate) code: u8,

@@ -14,19 +14,20 @@ use Rattle.script_lang.specs.Document.{Fault, faults, IsTableAt, IsSession, IsTo
 use Rattle.script_lang.specs.Document.{SameTableAt, SameSession}
 use Rattle.script_lang.specs.Reading.{TellsFault}
 
-same_at : (value : Option Data) (t u : Option Table) → IsTableAt value t → IsTableAt value u → SameTableAt t u
-same_at None None None a b = tt
-same_at None (Some t) u a b = absurd a
-same_at None None (Some u) a b = absurd b
-same_at (Some d) (Some t) (Some u) a b = one_table d t u a b
-same_at (Some d) None u a b = absurd a
-same_at (Some d) (Some t) None a b = absurd b
+same_at : (format : ℕ) (value : Option Data) (t u : Option Table) → IsTableAt format value t → IsTableAt format value u
+    → SameTableAt t u
+same_at format None None None a b = tt
+same_at format None (Some t) u a b = absurd a
+same_at format None None (Some u) a b = absurd b
+same_at format (Some d) (Some t) (Some u) a b = one_table format format d t u a b
+same_at format (Some d) None u a b = absurd a
+same_at format (Some d) (Some t) None a b = absurd b
 
 -- a document stands for one session
 pub one_session : (document : Members) (s t : Session) → IsSession document s → IsSession document t → SameSession s t
 one_session document s t a b = record {
   settings = a.settings ∙ sym b.settings;
-  tables = λ name. same_at _ _ _ (a.tables name) (b.tables name);
+  tables = λ name. same_at _ _ _ _ (a.tables name) (b.tables name);
   boards = a.boards ∙ sym b.boards;
   scripts = a.scripts ∙ sym b.scripts;
 }

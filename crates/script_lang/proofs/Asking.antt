@@ -6,7 +6,7 @@ use Rattle.ipb_base.specs.Word.{AreWords}
 use Rattle.script_lang.specs.declared.call.Call.{Call}
 use Rattle.script_lang.specs.declared.call.Command.{Command}
 use Rattle.script_lang.specs.declared.call.Command.TheVariants.{Nothing, Dispatch, Ask}
-use Rattle.script_lang.specs.declared.operation.Verb.{Verb}
+use Rattle.script_steps.specs.declared.operation.Verb.{Verb}
 use Rattle.script_lang.specs.Lines.{takes, call_of, command_of, dispatch_of, numbers_of, is_comment, verb_named}
 use Rattle.script_lang.specs.Texts.{◌>>=◌, cut_at}
 use Rattle.script_lang.proofs.SmallNumbers.{AreSmall, all_small}

@@ -20,13 +20,13 @@ use Rattle.node_tree.specs.declared.register.Register.{Register}
 use Rattle.script_lang.specs.declared.call.Call.{Call}
 use Rattle.script_lang.specs.declared.call.Command.{Command}
 use Rattle.script_lang.specs.declared.call.Command.TheVariants as says
-use Rattle.script_lang.specs.declared.operation.Step.{Step}
-use Rattle.script_lang.specs.declared.operation.Verb.{Verb}
-use Rattle.script_lang.specs.declared.operation.Verb.TheVariants.{Read, Write, ReadBlock, WriteBlock, RmwBits, RmwSum}
+use Rattle.script_steps.specs.declared.operation.Step.{Step}
+use Rattle.script_steps.specs.declared.operation.Verb.{Verb}
+use Rattle.script_steps.specs.declared.operation.Verb.TheVariants.{Read, Write, ReadBlock, WriteBlock, RmwBits, RmwSum}
 use Rattle.script_lang.specs.declared.script_refusal.ScriptWhy.{ScriptWhy}
 use Rattle.script_lang.specs.declared.session.Session.{Session}
 use Rattle.script_lang.specs.Document.{StandsFor}
-use Rattle.script_lang.specs.Executable.{FitsVerb, CanBeDone, AreExecutable}
+use Rattle.script_steps.specs.Executable.{FitsVerb, CanBeDone, AreExecutable}
 use Rattle.script_lang.specs.Lines.{command_of, takes, words}
 use Rattle.script_lang.specs.Operations.{use_rules, is_full, is_port, fits_mask, fits_field, write_op}
 use Rattle.script_lang.specs.Operations.{read_block_op, write_block_op, op_on, by_rules, use_at, use_on, as_step}

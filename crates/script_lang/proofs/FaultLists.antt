@@ -1,5 +1,5 @@
 -- The first of all faults of a document, in lists that are put together.
-use Rattle.std.proofs.Common.{◌≡◌, List, [], ◌∷◌, ◌++◌, Some, slice_get}
+use Rattle.std.proofs.Common.{◌≡◌, List, [], ◌∷◌, ◌++◌, Some, slice_get, refl}
 use Rattle.address_table.specs.declared.refusal.TableRefusal.TheVariants as table_refusal
 use Rattle.script_lang.specs.declared.refusal.DocWhy.TheVariants.{NotToml, Shape, NoBoards, ManyBoards, ManyClients}
 use Rattle.script_lang.specs.declared.refusal.DocWhy.TheVariants.{DuplicateBoard}
@@ -24,6 +24,13 @@ front_fault xs ys (refusal.Table name (table_refusal.At path why)) h = first-of-
 front_fault xs ys (refusal.Table name table_refusal.NoMemory) h = absurd h
 front_fault xs ys refusal.NoMemory h = tt
 
+pub first_fault : (xs ys zs ws : List Fault) (r : SessionRefusal) → TellsFault xs r → TellsFault (xs ++ ys ++ zs ++ ws) r
+first_fault xs ys zs ws r h = front_fault (xs ++ ys ++ zs) ws r (front_fault (xs ++ ys) zs r (front_fault xs ys r h))
+
+pub second_fault : (xs ys zs ws : List Fault) (r : SessionRefusal) → xs ≡ [] → TellsFault ys r
+    → TellsFault (xs ++ ys ++ zs ++ ws) r
+second_fault xs ys zs ws r a h = rw a (front_fault (ys ++ zs) ws r (front_fault ys zs r h))
+
 pub third_fault : (xs ys zs ws : List Fault) (r : SessionRefusal) → xs ≡ [] → ys ≡ [] → TellsFault zs r
     → TellsFault (xs ++ ys ++ zs ++ ws) r
 third_fault xs ys zs ws r a b h = rw (a, b) (front_fault zs ws r h)
@@ -31,3 +38,6 @@ third_fault xs ys zs ws r a b h = rw (a, b) (front_fault zs ws r h)
 pub last_fault : (xs ys zs ws : List Fault) (r : SessionRefusal) → xs ≡ [] → ys ≡ [] → zs ≡ [] → TellsFault ws r
     → TellsFault (xs ++ ys ++ zs ++ ws) r
 last_fault xs ys zs ws r a b c h = rw (a, b, c) h
+
+pub no_faults : (xs ys zs ws : List Fault) → xs ≡ [] → ys ≡ [] → zs ≡ [] → ws ≡ [] → xs ++ ys ++ zs ++ ws ≡ []
+no_faults xs ys zs ws a b c d = rw (a, b, c, d) refl

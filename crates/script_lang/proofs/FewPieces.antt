@@ -17,17 +17,18 @@ use Rattle.address_table.specs.Rules.{first_broken}
 use Rattle.script_lang.specs.declared.call.Call.{Call}
 use Rattle.script_lang.specs.declared.call.Command.{Command}
 use Rattle.script_lang.specs.declared.call.Command.TheVariants as says
-use Rattle.script_lang.specs.declared.operation.Step.{Step}
-use Rattle.script_lang.specs.declared.operation.Step.TheVariants.{Do, Dispatch}
-use Rattle.script_lang.specs.declared.operation.Verb.{Verb}
-use Rattle.script_lang.specs.declared.operation.Verb.TheVariants.{Read, Write, ReadBlock, WriteBlock, RmwBits, RmwSum}
+use Rattle.script_steps.specs.declared.operation.Step.{Step}
+use Rattle.script_steps.specs.declared.operation.Step.TheVariants.{Do, Dispatch}
+use Rattle.script_steps.specs.declared.operation.Verb.{Verb}
+use Rattle.script_steps.specs.declared.operation.Verb.TheVariants.{Read, Write, ReadBlock, WriteBlock, RmwBits, RmwSum}
 use Rattle.script_lang.specs.declared.script_refusal.ScriptWhy.{ScriptWhy}
-use Rattle.script_lang.specs.declared.script_refusal.TheConstants.{MAX_LINES, MAX_OPERATIONS, MAX_BLOCK_WORDS}
+use Rattle.script_steps.specs.declared.limits.TheConstants.{MAX_OPERATIONS, MAX_BLOCK_WORDS}
+use Rattle.script_lang.specs.declared.script_refusal.TheConstants.{MAX_LINES}
 use Rattle.script_lang.specs.declared.tally.Tally.{Tally}
 use Rattle.script_lang.specs.Lines.{takes, command_of, words}
 use Rattle.script_lang.specs.Operations.{is_full, op_on, write_op, use_rules, by_rules, board_from, register_at, use_at}
 use Rattle.script_lang.specs.Operations.{use_on, as_step, step_of, meaning}
-use Rattle.script_lang.specs.Packing.{operations, IsSelection, HaveFewPieces}
+use Rattle.script_steps.specs.Packing.{operations, IsSelection, HaveFewPieces}
 use Rattle.script_lang.specs.Scripts.{ScriptLine, lines_from, all_lines, LineFault, operations_in, block_words_in}
 use Rattle.script_lang.specs.Scripts.{is_block, Meaning, count_in, is_over, line_meaning, count_of, tally_of, broken_by}
 use Rattle.script_lang.specs.Scripts.{faults_after, script_faults, step_in, steps_from, steps_of}

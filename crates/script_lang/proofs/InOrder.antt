@@ -1,12 +1,39 @@
 -- The first fault of a document, where the parts before it have none.
-use Rattle.std.proofs.Common.{◌≡◌, [], Result, Ok, Err, IfErr}
+use Rattle.std.proofs.Common.{◌≡◌, [], Result, Ok, Err, IfErr, sym, subst}
+use Rattle.std.specs.Prelude.{IsErrAnd}
 use Rattle.toml.specs.Data.{Members}
 use Rattle.script_lang.specs.declared.refusal.SessionRefusal.{SessionRefusal}
 use Rattle.script_lang.specs.declared.session.Session.{Session}
 use Rattle.script_lang.specs.Document.{faults, misfits, size_faults, duplicates, tables_faults}
-use Rattle.script_lang.specs.Sessions.{boards_of, tables_of}
+use Rattle.script_lang.specs.Sessions.{boards_of, format_of, tables_of}
 use Rattle.script_lang.specs.Reading.{TellsFault}
-use Rattle.script_lang.proofs.FaultLists.{third_fault, last_fault}
+use Rattle.script_lang.proofs.FaultLists.{first_fault, last_fault, no_faults, second_fault, third_fault}
+
+-- an error that is handed on tells what it told
+pub handed_on : {X : Type 0} (P : SessionRefusal → Type 0) (r : Result X SessionRefusal) (refusal : SessionRefusal)
+    → IsErrAnd r (λ handed. handed ≡ refusal) → P refusal → IfErr r P
+handed_on P (Ok x) refusal is told = tt
+handed_on P (Err handed) refusal is told = subst P (sym is) told
+
+pub at_shape : (document : Members) (r : Result Session SessionRefusal) → IfErr r (TellsFault (misfits document))
+    → IfErr r (TellsFault (faults document))
+at_shape document (Ok session) told = tt
+at_shape document (Err r) told =
+    first_fault (misfits document) (size_faults document) (duplicates [] 0 (boards_of document))
+    (tables_faults (format_of document) (tables_of document)) r told
+
+pub at_counts : (document : Members) → misfits document ≡ [] → (r : Result Session SessionRefusal)
+    → IfErr r (TellsFault (size_faults document)) → IfErr r (TellsFault (faults document))
+at_counts document shaped (Ok session) told = tt
+at_counts document shaped (Err r) told =
+    second_fault (misfits document) (size_faults document) (duplicates [] 0 (boards_of document))
+    (tables_faults (format_of document) (tables_of document)) r shaped told
+
+pub all_faultless : (document : Members) → misfits document ≡ [] → size_faults document ≡ []
+    → duplicates [] 0 (boards_of document) ≡ [] → tables_faults (format_of document) (tables_of document) ≡ [] → faults document ≡ []
+all_faultless document =
+    no_faults (misfits document) (size_faults document) (duplicates [] 0 (boards_of document))
+    (tables_faults (format_of document) (tables_of document))
 
 module _ (document : Members) (shaped : misfits document ≡ []) (sized : size_faults document ≡ []) where
   pub at_names : (r : Result Session SessionRefusal) → IfErr r (TellsFault (duplicates [] 0 (boards_of document)))
@@ -14,11 +41,11 @@ module _ (document : Members) (shaped : misfits document ≡ []) (sized : size_f
   at_names (Ok session) told = tt
   at_names (Err r) told =
       third_fault (misfits document) (size_faults document) (duplicates [] 0 (boards_of document))
-      (tables_faults (tables_of document)) r shaped sized told
+      (tables_faults (format_of document) (tables_of document)) r shaped sized told
 
   pub at_tables : duplicates [] 0 (boards_of document) ≡ [] → (r : Result Session SessionRefusal)
-      → IfErr r (TellsFault (tables_faults (tables_of document))) → IfErr r (TellsFault (faults document))
+      → IfErr r (TellsFault (tables_faults (format_of document) (tables_of document))) → IfErr r (TellsFault (faults document))
   at_tables named (Ok session) told = tt
   at_tables named (Err r) told =
       last_fault (misfits document) (size_faults document) (duplicates [] 0 (boards_of document))
-      (tables_faults (tables_of document)) r shaped sized named told
+      (tables_faults (format_of document) (tables_of document)) r shaped sized named told

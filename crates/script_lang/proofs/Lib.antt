@@ -20,5 +20,6 @@ mod WithinLimits
 pub mod Faultless
 pub mod OwnNames
 pub mod SmallNumbers
+pub mod StepsSoFar
 pub mod Registers
 pub mod Executable

@@ -10,8 +10,8 @@ use Rattle.node_tree.specs.Addresses.{words_of}
 use Rattle.node_tree.specs.Maps.{IsRegister}
 use Rattle.node_tree.specs.declared.register.Register.{Register}
 use Rattle.script_lang.specs.declared.call.Call.{Call}
-use Rattle.script_lang.specs.declared.operation.Verb.{Verb}
-use Rattle.script_lang.specs.declared.operation.Verb.TheVariants.{Read, Write, ReadBlock, WriteBlock, RmwBits, RmwSum}
+use Rattle.script_steps.specs.declared.operation.Verb.{Verb}
+use Rattle.script_steps.specs.declared.operation.Verb.TheVariants.{Read, Write, ReadBlock, WriteBlock, RmwBits, RmwSum}
 use Rattle.script_lang.specs.declared.script_refusal.ScriptWhy.TheVariants.{NoPermission, WrongMode, PastSize}
 use Rattle.script_lang.specs.Lines.{takes}
 use Rattle.script_lang.specs.Operations.{use_rules, allows, is_hierarchical, is_port, fits_size, block_words, is_full}

@@ -17,7 +17,7 @@ use Rattle.board_node.specs.declared.spec.BoardSpec.{BoardSpec}
 use Rattle.node_tree.specs.Addresses.{last_address}
 use Rattle.node_tree.specs.Limits.{most_nodes, most_ids}
 use Rattle.node_tree.specs.Maps.{Name, TableMap, RegisterMap, nodes_of, AreValidTables, IsRegister}
-use Rattle.node_tree.specs.Names.{Names, itself, child, later, children_of, node_name, node_address}
+use Rattle.node_tree.specs.Names.{Names, itself, child, later, children_of, name_at, address_at}
 use Rattle.node_tree.specs.Names.{IsIndexOf, RootNames}
 use Rattle.node_tree.specs.Refusals.{KeepsRules}
 use Rattle.node_tree.specs.Walk.{Visit, Lists, HasLevel, root_walk, visit_rules, fault_or, first_fault}
@@ -28,39 +28,40 @@ use Rattle.node_tree.proofs.NamesLemmas.{named-listed}
 use Rattle.node_tree.proofs.RegisterLemmas.{root-register}
 use Rattle.script_lang.specs.declared.session.Session.{Session}
 use Rattle.script_lang.specs.Document.{IsTableAt, StandsFor}
-use Rattle.script_lang.specs.Sessions.{tables_of}
+use Rattle.script_lang.specs.Sessions.{format_of, tables_of}
 use Rattle.script_lang.proofs.SmallNumbers.{IsSmall, number_small}
 
 -- ---- tables that are written in a document
 
--- some items are written so that they are these nodes
+-- some items are written in some format so that they are these nodes
 abbrev AreWritten : List Node → Type 0
-AreWritten ns = (ds : Items) × AreNodes ds ns
+AreWritten ns = (format : ℕ) × (ds : Items) × AreNodes format ds ns
 
 abbrev AreWrittenTables : TableMap → Type 0
 AreWrittenTables tables = (name : Name) (t : Table) → get tables name ≡ Some t → AreWritten t.nodes.items
 
-table_written : (value : Data) (t : Table) → IsTable value t → AreWritten t.nodes.items
-table_written (array ds) t is = (ds, is)
-table_written value t is = absurd is
+table_written : (format : ℕ) (value : Data) (t : Table) → IsTable format value t → AreWritten t.nodes.items
+table_written format (array ds) t is = (format, ds, is)
+table_written format value t is = absurd is
 
-table_at : (value : Option Data) (found : Option Table) (t : Table) → IsTableAt value found → found ≡ Some t
-    → AreWritten t.nodes.items
-table_at None None t is there = absurd cc
-table_at None (Some u) t is there = absurd is
-table_at (Some value) None t is there = absurd is
-table_at (Some value) (Some u) t is there =
+table_at : (format : ℕ) (value : Option Data) (found : Option Table) (t : Table) → IsTableAt format value found
+    → found ≡ Some t → AreWritten t.nodes.items
+table_at format None None t is there = absurd cc
+table_at format None (Some u) t is there = absurd is
+table_at format (Some value) None t is there = absurd is
+table_at format (Some value) (Some u) t is there =
     let same : u ≡ t = cc in
-    subst (λ (x : Table). AreWritten x.nodes.items) same (table_written value u is)
+    subst (λ (x : Table). AreWritten x.nodes.items) same (table_written format value u is)
 
 session_tables : (bytes : List ℕ) (session : Session) → StandsFor bytes session → AreWrittenTables session.tables
 session_tables bytes session stands name t there =
-    table_at (get_member name (tables_of stands.0)) (get session.tables name) t (stands.2.tables name) there
+    table_at (format_of stands.0) (get_member name (tables_of stands.0)) (get session.tables name) t
+    (stands.2.tables name) there
 
 valid_tables : (tables : TableMap) → AreWrittenTables tables → AreValidTables tables
 valid_tables tables written name t there =
     let is = written name t there in
-    nodes-valid is.0 t.nodes.items is.1
+    nodes-valid is.0 is.1 t.nodes.items is.2
 
 -- ---- masks
 
@@ -70,25 +71,26 @@ key_small None n is =
     omega arith
 key_small (Some value) n is = subst IsSmall is (number_small value)
 
-node_parts : (d : Data) (n : Node) → IsNode d n → IsWord (out-Node n).mask × AreWritten (out-Node n).nodes.items
-node_parts d n (node ms m kept says are) =
-    (key_small (get_member (codes "mask") ms) (out-Node m).mask says.mask, (children ms, are))
+node_parts : (format : ℕ) (d : Data) (n : Node) → IsNode format d n
+    → IsWord (out-Node n).mask × AreWritten (out-Node n).nodes.items
+node_parts format d n (node ms m kept says are) =
+    (key_small (get_member (codes "mask") ms) (out-Node m).mask says.mask, (format, children ms, are))
 
 -- the first of some nodes, those in it, and the others
 abbrev Parts : List Node → Type 0
 Parts [] = Unit {0}
 Parts (n ∷ ns) = IsWord (out-Node n).mask × AreWritten (out-Node n).nodes.items × AreWritten ns
 
-parts : (ds : Items) (ns : List Node) → AreNodes ds ns → Parts ns
-parts ds ns none = tt
-parts ds ns (more d n es ms one others) =
-    let here = node_parts d n one in
-    (here.0, here.1, (es, others))
+parts : (format : ℕ) (ds : Items) (ns : List Node) → AreNodes format ds ns → Parts ns
+parts format ds ns none = tt
+parts format ds ns (more d n es ms one others) =
+    let here = node_parts format d n one in
+    (here.0, here.1, (format, es, others))
 
 named_written : (tables : TableMap) → AreWrittenTables tables → (found : Option Table)
     → ((t : Table) → found ≡ Some t → AreWritten t.nodes.items)
     → AreWritten (option_map_or (λ (t : Table). t.nodes.items) found [])
-named_written tables written None look = (no_items, none)
+named_written tables written None look = (1, no_items, none)
 named_written tables written (Some t) look = look t refl
 
 children_written : (tables : TableMap) → AreWrittenTables tables → (name : Option Name) (own : List Node)
@@ -100,13 +102,15 @@ children_written tables written (Some name) own are =
 mask_small : (tables : TableMap) → AreWrittenTables tables → (ns : List Node) (above : Name) (base : ℕ) (name : Name)
     (r : Register)
     → AreWritten ns → Names tables ns above base name r → IsWord r.mask
-mask_small tables written ms above base name r are (itself n ns above' base') = (parts are.0 (n ∷ ns) are.1).0
-mask_small tables written ms above base name r are (child n ns above' base' name' r' named) =
-    mask_small tables written (children_of tables n) (node_name above' n) (node_address base' n) name' r'
-    (children_written tables written (out-Node n).«module» (out-Node n).nodes.items (parts are.0 (n ∷ ns) are.1).1)
+mask_small tables written ms above base name r are (itself n ns above' base' i within) =
+    (parts are.0 are.1 (n ∷ ns) are.2).0
+mask_small tables written ms above base name r are (child n ns above' base' i name' r' within named) =
+    mask_small tables written (children_of tables n) (name_at above' n i) (address_at base' n i) name' r'
+    (children_written tables written (out-Node n).«module» (out-Node n).nodes.items
+    (parts are.0 are.1 (n ∷ ns) are.2).1)
     named
 mask_small tables written ms above base name r are (later n ns above' base' name' r' named) =
-    mask_small tables written ns above' base' name' r' (parts are.0 (n ∷ ns) are.1).2 named
+    mask_small tables written ns above' base' name' r' (parts are.0 are.1 (n ∷ ns) are.2).2 named
 
 -- ---- last addresses
 

@@ -6,11 +6,12 @@ use Rattle.std.specs.Option.{option_map}
 use Rattle.std.proofs.lemmas.Bool.{ltb-true}
 use Rattle.ipb_base.specs.Word.{IsWord, AreWords}
 use Rattle.toml.specs.Data.{Data, integer, string, Members, as_table}
-use Rattle.address_table.specs.Numbers.{number, number_in_text, number_of_integer, digits_number, digits_in_base, word}
-use Rattle.address_table.specs.Numbers.{are_digits, is_between, value_of_digits}
+use Rattle.ipb_base.specs.Digits.{number_in_text, digits_number, digits_in_base, word}
+use Rattle.address_table.specs.Numbers.{number, number_of_integer}
+use Rattle.ipb_base.specs.Digits.{are_digits, is_between, value_of_digits}
 use Rattle.script_lang.specs.declared.session.Session.{Session}
 use Rattle.script_lang.specs.Document.{StandsFor}
-use Rattle.script_lang.specs.Executable.{NamesWords, LinkNamesWords, OpensOnWords}
+use Rattle.board_node.specs.OpeningWords.{NamesWords, LinkNamesWords, OpensOnWords}
 use Rattle.script_lang.specs.Fields.{items_at, numbers_in, tables_in}
 use Rattle.script_lang.specs.Keys.{is_udp}
 use Rattle.script_lang.specs.Lines.{numbers_of}

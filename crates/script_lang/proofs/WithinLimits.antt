@@ -6,9 +6,9 @@ use Rattle.std.proofs.Math.ListN.{length-append}
 use Rattle.board_node.specs.declared.spec.BoardSpec.{BoardSpec}
 use Rattle.node_tree.specs.Maps.{RegisterMap}
 use Rattle.transaction_codec.specs.Request.{op_count}
-use Rattle.script_lang.specs.declared.operation.Step.{Step}
-use Rattle.script_lang.specs.declared.operation.Step.TheVariants.{Do, Dispatch}
-use Rattle.script_lang.specs.Packing.{AreWithinLimits, all_operations, operations}
+use Rattle.script_steps.specs.declared.operation.Step.{Step}
+use Rattle.script_steps.specs.declared.operation.Step.TheVariants.{Do, Dispatch}
+use Rattle.script_steps.specs.Packing.{AreWithinLimits, all_operations, operations}
 use Rattle.script_lang.specs.Scripts.{Meaning, ScriptLine, all_lines, block_words_in, count_in, count_of}
 use Rattle.script_lang.specs.Scripts.{line_meaning, lines_from, operations_in, script_faults, steps_from, steps_of}
 use Rattle.script_lang.proofs.FewPieces.{count_more, same_count, steps_in, total, within}

@@ -26,7 +26,7 @@ use Rattle.script_lang.specs.declared.steps.PathStep.TheVariants.{Key, Item}
 use Rattle.script_lang.specs.Walk.{shape_faults}
 use Rattle.script_lang.specs.Paths.{path}
 use Rattle.script_lang.specs.Fields.{items_at}
-use Rattle.script_lang.specs.Sessions.{settings_of, boards_of, scripts_of, tables_of}
+use Rattle.script_lang.specs.Sessions.{settings_of, format_of, boards_of, scripts_of, tables_of}
 
 -- A fault of a document: a rule and the path of what breaks it, or, in the table of a name, a rule of nodes and the
 -- positions that lead to the node.
@@ -65,10 +65,11 @@ duplicates earlier i (board ∷ boards) =
     ++ duplicates (earlier ++ board ∷ []) (i + 1) boards
 
 -- the first fault of each table that has one, in byte order of the names
-abbrev pub tables_faults : Members → List Fault
-tables_faults no_members = []
-tables_faults (member name value ms) =
-    option_map_or (λ fault. in_table name fault.0 fault.1 ∷ []) (table_fault value) [] ++ tables_faults ms
+abbrev pub tables_faults : ℕ → Members → List Fault
+tables_faults format no_members = []
+tables_faults format (member name value ms) =
+    option_map_or (λ fault. in_table name fault.0 fault.1 ∷ []) (table_fault format value) []
+    ++ tables_faults format ms
 
 -- What is wrong with a document, in the order in which it is told. The list counts up to its first fault: behind a
 -- value that is not what it should be, the rest is read as if that value were left out.
@@ -77,19 +78,21 @@ faults document =
     misfits document
     ++ size_faults document
     ++ duplicates [] 0 (boards_of document)
-    ++ tables_faults (tables_of document)
+    ++ tables_faults (format_of document) (tables_of document)
 
--- the value under a name is written so that it is the table of that name; a name without a value has no table
-abbrev pub IsTableAt : Option Data → Option Table → Type 0
-IsTableAt None None = Unit {0}
-IsTableAt (Some value) (Some t) = IsTable value t
-IsTableAt _ _ = ⊥
+-- the value under a name is written in a format so that it is the table of that name; a name without a value has no
+-- table
+abbrev pub IsTableAt : ℕ → Option Data → Option Table → Type 0
+IsTableAt format None None = Unit {0}
+IsTableAt format (Some value) (Some t) = IsTable format value t
+IsTableAt format _ _ = ⊥
 
 -- a document stands for a session
 pub record IsSession (document : Members) (session : Session) : Type 0 where
   pub faultless : faults document ≡ []
   pub settings : session.settings ≡ settings_of document
-  pub tables : (name : Name) → IsTableAt (get_member name (tables_of document)) (get session.tables name)
+  pub tables : (name : Name)
+      → IsTableAt (format_of document) (get_member name (tables_of document)) (get session.tables name)
   pub boards : session.boards ≡ boards_of document
   pub scripts : session.scripts ≡ scripts_of document
 

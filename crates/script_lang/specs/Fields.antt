@@ -3,7 +3,8 @@ use Rattle.std.specs.Prelude.{ℕ, List, [], ◌∷◌, Option, Some}
 use Rattle.std.specs.List.{filter_map}
 use Rattle.std.specs.Option.{unwrap_or, option_and_then, option_map}
 use Rattle.toml.specs.Data.{Data, Items, no_items, item, Members, get_member, as_str, as_array, as_table}
-use Rattle.address_table.specs.Numbers.{is_between, number}
+use Rattle.ipb_base.specs.Digits.{is_between}
+use Rattle.address_table.specs.Numbers.{number}
 use Rattle.script_lang.specs.declared.keys.Kind.{Kind}
 use Rattle.script_lang.specs.declared.keys.Kind.TheVariants.{Number}
 use Rattle.script_lang.specs.Keys.{KeyRule, kind_at}

@@ -5,7 +5,7 @@ use Rattle.std.specs.Str.{bytes_eq}
 use Rattle.std.specs.Option.{option_and_then}
 use Rattle.toml.specs.Data.{Members, get_member, as_str}
 use Rattle.address_table.specs.Rules.{has_key, holds_of}
-use Rattle.reliable_engine.specs.declared.settings.TheConstants.{MAX_WINDOW}
+use Rattle.world_model.specs.declared.settings.TheConstants.{MAX_WINDOW}
 use Rattle.script_lang.specs.declared.keys.TextRule.TheVariants.{Any, Id, Link, RangeWord, Fates, Endpoint}
 use Rattle.script_lang.specs.declared.keys.TableKind.{TableKind}
 use Rattle.script_lang.specs.declared.keys.TableKind.TheVariants.{Board, Range, Client}
@@ -34,7 +34,7 @@ abbrev pub document_keys : List KeyRule
 document_keys =
     optional (codes "board") (Array (items.Table Board))
     ∷ optional (codes "client") (Array (items.Table Client))
-    ∷ optional (codes "format") (Number 1 1 1)
+    ∷ optional (codes "format") (Number 1 2 1)
     ∷ optional (codes "rounds") (Number 1 255 8)
     ∷ optional (codes "tables") Names
     ∷ optional (codes "window") (Number 1 MAX_WINDOW 16)

@@ -8,7 +8,7 @@ use Rattle.board_node.specs.declared.spec.Fates.TheVariants.{Text, Noise}
 use Rattle.board_node.specs.declared.spec.LinkSpec.{LinkSpec}
 use Rattle.board_node.specs.declared.spec.LinkSpec.TheVariants.{Sim, Udp}
 use Rattle.packet_ids.specs.Identifier.{IsIdentifier}
-use Rattle.reliable_engine.specs.Settings.{AreLimits}
+use Rattle.world_model.specs.Settings.{AreLimits}
 use Rattle.status_packet.specs.Range.{IsMtu, IsBufferCount}
 use Rattle.script_lang.specs.declared.refusal.TheConstants.{MAX_BOARDS, MAX_CLIENTS}
 use Rattle.script_lang.specs.declared.session.Session.{Session}

@@ -3,11 +3,11 @@ use Rattle.std.specs.Prelude.{ℕ, Bool, true, false, ◌&&◌, ◌||◌, ◌==�
 use Rattle.std.specs.Prelude.{slice_index, codes, Option, Some, None}
 use Rattle.std.specs.List.{filter}
 use Rattle.std.specs.Str.{bytes_eq}
-use Rattle.address_table.specs.Numbers.{number_in_text}
+use Rattle.ipb_base.specs.Digits.{number_in_text}
 use Rattle.script_lang.specs.declared.call.Command.{Command}
 use Rattle.script_lang.specs.declared.call.Command.TheVariants as says
-use Rattle.script_lang.specs.declared.operation.Verb.{Verb}
-use Rattle.script_lang.specs.declared.operation.Verb.TheVariants.{Read, Write, ReadBlock, WriteBlock, RmwBits, RmwSum}
+use Rattle.script_steps.specs.declared.operation.Verb.{Verb}
+use Rattle.script_steps.specs.declared.operation.Verb.TheVariants.{Read, Write, ReadBlock, WriteBlock, RmwBits, RmwSum}
 use Rattle.script_lang.specs.Texts.{◌>>=◌, cut_at}
 
 -- a space or a tab

@@ -21,11 +21,11 @@ use Rattle.transaction_codec.specs.declared.request.Op.TheVariants as ops
 use Rattle.script_lang.specs.declared.call.Call.{Call}
 use Rattle.script_lang.specs.declared.call.Command.{Command}
 use Rattle.script_lang.specs.declared.call.Command.TheVariants as says
-use Rattle.script_lang.specs.declared.operation.RegOp.{RegOp}
-use Rattle.script_lang.specs.declared.operation.Step.{Step}
-use Rattle.script_lang.specs.declared.operation.Step.TheVariants.{Do, Dispatch}
-use Rattle.script_lang.specs.declared.operation.Verb.{Verb}
-use Rattle.script_lang.specs.declared.operation.Verb.TheVariants.{Read, Write, ReadBlock, WriteBlock, RmwBits, RmwSum}
+use Rattle.script_steps.specs.declared.operation.RegOp.{RegOp}
+use Rattle.script_steps.specs.declared.operation.Step.{Step}
+use Rattle.script_steps.specs.declared.operation.Step.TheVariants.{Do, Dispatch}
+use Rattle.script_steps.specs.declared.operation.Verb.{Verb}
+use Rattle.script_steps.specs.declared.operation.Verb.TheVariants.{Read, Write, ReadBlock, WriteBlock, RmwBits, RmwSum}
 use Rattle.script_lang.specs.declared.script_refusal.ScriptWhy.{ScriptWhy}
 use Rattle.script_lang.specs.declared.script_refusal.ScriptWhy.TheVariants.{BadLine, UnknownBoard, UnknownName}
 use Rattle.script_lang.specs.declared.script_refusal.ScriptWhy.TheVariants.{NoPermission, WrongMode, PastSize}

@@ -32,6 +32,6 @@ TellsFault faults refusal.NoMemory = Unit {0}
 abbrev pub table_fault_list : Name → Option (List ℕ × TableWhy) → List Fault
 table_fault_list name fault = option_map_or (λ f. in_table name f.0 f.1 ∷ []) fault []
 
--- each value of these is written so that it is the table of its name, and no other name has a table
-abbrev pub AreTables : Members → TableMap → Type 0
-AreTables ms tables = (name : Name) → IsTableAt (get_member name ms) (get tables name)
+-- each value of these is written in a format so that it is the table of its name, and no other name has a table
+abbrev pub AreTables : ℕ → Members → TableMap → Type 0
+AreTables format ms tables = (name : Name) → IsTableAt format (get_member name ms) (get tables name)

@@ -6,16 +6,17 @@ use Rattle.std.specs.Option.{option_map_or}
 use Rattle.board_node.specs.declared.spec.BoardSpec.{BoardSpec}
 use Rattle.node_tree.specs.Maps.{RegisterMap}
 use Rattle.transaction_codec.specs.Request.{op_count}
-use Rattle.script_lang.specs.declared.operation.Step.{Step}
-use Rattle.script_lang.specs.declared.operation.Step.TheVariants.{Do, Dispatch}
+use Rattle.script_steps.specs.declared.operation.Step.{Step}
+use Rattle.script_steps.specs.declared.operation.Step.TheVariants.{Do, Dispatch}
 use Rattle.script_lang.specs.declared.tally.Tally.{Tally}
-use Rattle.script_lang.specs.declared.operation.Verb.{Verb}
-use Rattle.script_lang.specs.declared.operation.Verb.TheVariants.{ReadBlock, WriteBlock}
+use Rattle.script_steps.specs.declared.operation.Verb.{Verb}
+use Rattle.script_steps.specs.declared.operation.Verb.TheVariants.{ReadBlock, WriteBlock}
 use Rattle.script_lang.specs.declared.script_refusal.ScriptWhy.{ScriptWhy}
 use Rattle.script_lang.specs.declared.script_refusal.ScriptWhy.TheVariants.{TooMany}
 use Rattle.script_lang.specs.declared.script_refusal.ScriptRefusal.{ScriptRefusal}
 use Rattle.script_lang.specs.declared.script_refusal.ScriptRefusal.TheVariants.{At, NoMemory}
-use Rattle.script_lang.specs.declared.script_refusal.TheConstants.{MAX_LINES, MAX_OPERATIONS, MAX_BLOCK_WORDS}
+use Rattle.script_steps.specs.declared.limits.TheConstants.{MAX_OPERATIONS, MAX_BLOCK_WORDS}
+use Rattle.script_lang.specs.declared.script_refusal.TheConstants.{MAX_LINES}
 use Rattle.script_lang.specs.Operations.{meaning}
 
 -- a line of a client, both counted from 1

@@ -10,7 +10,7 @@ use Rattle.board_node.specs.declared.spec.Fates.TheVariants as fates
 use Rattle.board_node.specs.declared.spec.LinkSpec.{LinkSpec}
 use Rattle.board_node.specs.declared.spec.LinkSpec.TheVariants.{Sim, Udp}
 use Rattle.board_node.specs.declared.spec.BoardSpec.{BoardSpec}
-use Rattle.reliable_engine.specs.Settings.{Limits}
+use Rattle.world_model.specs.Settings.{Limits}
 use Rattle.script_lang.specs.Keys.{document_keys, sim_keys, sim_keys_with_noise, udp_keys, range_keys, is_udp}
 use Rattle.script_lang.specs.Fields.{number_at, text_at, items_at, numbers_in, texts_in, tables_in}
 use Rattle.script_lang.specs.Texts.{endpoint, range_kind_named}
@@ -20,6 +20,10 @@ settings_of document = record {
   rounds = number_at document_keys (codes "rounds") document;
   window = number_at document_keys (codes "window") document;
 }
+
+-- the format of the register tables
+abbrev pub format_of : Members → ℕ
+format_of document = number_at document_keys (codes "format") document
 
 -- a range; its kind is `rw` where it is left out
 abbrev pub range_of : Members → Range

@@ -7,7 +7,7 @@ use Rattle.script_lang.specs.declared.script_refusal.ScriptWhy.TheVariants.{TooM
 use Rattle.script_lang.specs.declared.script_refusal.ScriptRefusal.{ScriptRefusal}
 use Rattle.script_lang.specs.declared.script_refusal.ScriptRefusal.TheVariants.{At, NoMemory}
 use Rattle.script_lang.specs.Operations.{meaning}
-use Rattle.script_lang.specs.declared.operation.Step.{Step}
+use Rattle.script_steps.specs.declared.operation.Step.{Step}
 use Rattle.script_lang.specs.declared.tally.Tally.{Tally}
 use Rattle.script_lang.specs.Scripts.{operations_in, block_words_in, is_over, Meaning, LineFault}
 

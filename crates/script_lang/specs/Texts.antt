@@ -3,7 +3,7 @@ use Rattle.std.specs.Prelude.{ℕ, Bool, true, false, ◌&&◌, ◌||◌, ◌==�
 use Rattle.std.specs.Prelude.{Option, Some, None, is_some, option_map}
 use Rattle.std.specs.List.{list_all}
 use Rattle.address_table.specs.Kinds.{is_one_of}
-use Rattle.address_table.specs.Numbers.{is_between, number_in_text}
+use Rattle.ipb_base.specs.Digits.{is_between, number_in_text}
 use Rattle.address_table.specs.Rules.{is_id}
 use Rattle.std.specs.Str.{bytes_eq}
 use Rattle.board_bus.specs.declared.kind.RangeKind.{RangeKind}

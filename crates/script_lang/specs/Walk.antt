@@ -4,7 +4,8 @@
 use Rattle.std.specs.Prelude.{ℕ, ◌+◌, Bool, not, ◌&&◌, if◌then◌else◌, List, [], ◌∷◌, ◌++◌, map, Option, Some, None}
 use Rattle.std.specs.Prelude.{is_some}
 use Rattle.toml.specs.Data.{Data, array, table, Items, no_items, item, Members, no_members, member, as_str}
-use Rattle.address_table.specs.Numbers.{is_between, number}
+use Rattle.ipb_base.specs.Digits.{is_between}
+use Rattle.address_table.specs.Numbers.{number}
 use Rattle.address_table.specs.Rules.{is_id, has_key, holds_of}
 use Rattle.script_lang.specs.declared.keys.ItemKind.{ItemKind}
 use Rattle.script_lang.specs.declared.keys.ItemKind.TheVariants as items

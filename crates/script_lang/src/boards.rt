@@ -15,9 +15,9 @@ use board_bus::{Range, RangeKind};
 use board_node::{BoardSpec, Fates, LinkSpec, Ranges};
 use ipb_base::{NoMemory, Text, Words};
 use packet_ids::Id;
-use reliable_engine::Settings;
 use std::alloc::Global;
 use toml::{Table, Value};
+use world_model::Settings;
 
 /// The settings of a document.
 pub(crate) fn settings(document: &Table) -> Settings

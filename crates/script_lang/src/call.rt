@@ -4,7 +4,7 @@ use crate::Verb;
 use ipb_base::{Text, Words};
 
 /// An operation as a line asks for it.
-#[derive(Debug, Drop)]
+#[derive(Drop)]
 pub(crate) struct Call {
     pub verb: Verb,
     /// The name of the board, before the first colon.
@@ -16,7 +16,7 @@ pub(crate) struct Call {
 }
 
 /// What a line says.
-#[derive(Debug, Drop)]
+#[derive(Drop)]
 pub(crate) enum Command {
     /// No words, or a comment.
     Nothing,

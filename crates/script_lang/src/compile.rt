@@ -4,7 +4,7 @@ ghost use Rattle.std.specs.Prelude.{◌≡◌, ◌≤◌, ◌+◌, [], false, tr
 ghost use Rattle.std.specs.List.{AllByRecursion};
 ghost use Rattle.node_tree.specs.Maps.{IsRegister};
 ghost use Rattle.script_lang.specs.Lines.{takes};
-ghost use Rattle.script_lang.specs.Packing.{AreWithinLimits, CanBePacked, HaveFewPieces};
+ghost use Rattle.script_steps.specs.Packing.{AreWithinLimits, CanBePacked, HaveFewPieces};
 ghost use Rattle.script_lang.specs.Operations as op;
 ghost use Rattle.script_lang.specs.Scripts as spec;
 ghost use Rattle.script_lang.specs.Tallies.{line_run, run_from, run_all, nothing, StopsAs};
@@ -13,7 +13,6 @@ ghost use Rattle.script_lang.specs.declared.script_refusal.TheConstants.{MAX_LIN
 
 use crate::call::{Call, Command};
 use crate::command::command;
-use crate::operation::{Step, Steps};
 use crate::script_refusal::{ScriptRefusal, ScriptWhy};
 use crate::session::{Script, Session};
 use crate::tally::{Tally, with_step};
@@ -21,6 +20,7 @@ use crate::using::use_of;
 use board_node::BoardSpec;
 use ipb_base::{NoMemory, Text};
 use node_tree::{Index, Register};
+use script_steps::{Step, Steps};
 use std::alloc::Global;
 
 /// Compiles the scripts of a session (uHAL; the limits are the profile's), by one index for each board, in the boards'

@@ -72,7 +72,6 @@ fn refused_whole(alloc: Global, why: DocWhy) -> SessionRefusal
 }
 
 /// The session that a parsed document stands for.
-#[tactic(auto, using(crate::proofs::FaultLists::front_fault))]
 fn session(alloc: Global, document: &Table) -> Result<Session, SessionRefusal>
     ensures found { IfOk result (spec.IsSession (table_view document.now)) }
     ensures first { IfErr result (TellsFault (spec.faults (table_view document.now))) }

@@ -2,7 +2,8 @@
 
 ghost use Rattle.std.specs.Prelude.{◌≡◌, option_copied, option_map, option_and_then, map};
 ghost use Rattle.address_table.specs.Rules as rule;
-ghost use Rattle.address_table.specs.Numbers.{is_between, number as number_of};
+ghost use Rattle.ipb_base.specs.Digits.{is_between};
+ghost use Rattle.address_table.specs.Numbers.{number as number_of};
 ghost use Rattle.toml.specs.Data.{get_member, as_str, as_table, as_array};
 ghost use Rattle.toml.specs.View.{view, table_view, array_view};
 ghost use Rattle.script_lang.specs.Forms.{form_keys};

@@ -9,11 +9,11 @@ ghost use Rattle.script_lang.specs.Walk.{missing};
 ghost use Rattle.script_lang.specs.declared.steps.PathStep.TheVariants.{Key};
 
 use crate::fields::{has_key, is_udp};
-use reliable_engine::MAX_WINDOW;
 use toml::Table;
+use world_model::MAX_WINDOW;
 
 /// The rule of a text.
-#[derive(Clone, Copy, Debug, PartialEq, Eq)]
+#[derive(Clone, Copy, PartialEq, Eq)]
 pub(crate) enum TextRule {
     Any,
     Id,
@@ -24,7 +24,7 @@ pub(crate) enum TextRule {
 }
 
 /// The tables that stand in arrays.
-#[derive(Clone, Copy, Debug, PartialEq, Eq)]
+#[derive(Clone, Copy, PartialEq, Eq)]
 pub(crate) enum TableKind {
     Board,
     Range,
@@ -32,7 +32,7 @@ pub(crate) enum TableKind {
 }
 
 /// What the items of an array are.
-#[derive(Clone, Copy, Debug, PartialEq, Eq)]
+#[derive(Clone, Copy, PartialEq, Eq)]
 pub(crate) enum ItemKind {
     Number,
     Text,
@@ -40,7 +40,7 @@ pub(crate) enum ItemKind {
 }
 
 /// What stands under a key.
-#[derive(Clone, Copy, Debug, PartialEq, Eq)]
+#[derive(Clone, Copy, PartialEq, Eq)]
 pub(crate) enum Kind {
     /// A number from `least` to `most`, and `default` where the key is left out.
     Number { least: u32, most: u32, default: u32 },
@@ -53,7 +53,7 @@ pub(crate) enum Kind {
 }
 
 /// The tables whose keys differ.
-#[derive(Clone, Copy, Debug, PartialEq, Eq)]
+#[derive(Clone, Copy, PartialEq, Eq)]
 pub(crate) enum Form {
     Document,
     /// A simulated board with `fates`, which has no `noise`.
@@ -127,7 +127,7 @@ fn document_kind(name: &str) -> Option<Kind>
     } else if name == "client" {
         Some(Kind::Array(ItemKind::Table(TableKind::Client)))
     } else if name == "format" {
-        number(1, 1, 1)
+        number(1, 2, 1)
     } else if name == "rounds" {
         number(1, 255, 8)
     } else if name == "tables" {

@@ -8,12 +8,6 @@ use std::alloc::{AllocError, AllocFailed};
 /// The most lines of all scripts of a session (profile).
 pub const MAX_LINES: u64 = 200_000;
 
-/// The most operations of all scripts of a session (profile).
-pub const MAX_OPERATIONS: u64 = 100_000;
-
-/// The most words in block operations of all scripts of a session (profile).
-pub const MAX_BLOCK_WORDS: u64 = 1_048_576;
-
 /// The rule that a line breaks (profile). Where a line breaks several, the first of this list is told.
 #[derive(Clone, Copy, Debug, PartialEq, Eq)]
 pub enum ScriptWhy {

@@ -5,11 +5,11 @@ ghost use Rattle.std.specs.Prelude.{◌≡◌};
 use board_node::BoardSpec;
 use ipb_base::Text;
 use node_tree::Tables;
-use reliable_engine::Settings;
 use std::marker::Model;
+use world_model::Settings;
 
 /// The boards of a session, in the order of the document. Contracts see that list.
-#[derive(Debug, Drop)]
+#[derive(Drop)]
 pub struct Boards {
     items: Vec<BoardSpec>,
 }
@@ -48,7 +48,7 @@ impl Boards {
 }
 
 /// The lines of one client, in order. Contracts see that list.
-#[derive(Debug, Drop)]
+#[derive(Drop)]
 pub struct Script {
     lines: Vec<Text>,
 }
@@ -86,7 +86,7 @@ impl Script {
 }
 
 /// The scripts of the clients, client 1 first. Contracts see that list.
-#[derive(Debug, Drop)]
+#[derive(Drop)]
 pub struct Scripts {
     items: Vec<Script>,
 }

@@ -11,14 +11,14 @@ use std::alloc::Global;
 use std::marker::Model;
 
 /// One step of the way to a place: into a table by a key, or into an array by a position from 0.
-#[derive(Debug, Drop)]
+#[derive(Drop)]
 pub(crate) enum PathStep {
     Key(Text),
     Item(u64),
 }
 
 /// The steps from a value to a place in it.
-#[derive(Debug, Drop)]
+#[derive(Drop)]
 pub(crate) struct Way {
     steps: Vec<PathStep>,
 }
@@ -33,7 +33,7 @@ impl Model for Way {
 }
 
 /// Why a value is not what it should be.
-#[derive(Debug, Drop)]
+#[derive(Drop)]
 pub(crate) enum Misfit {
     /// The first faulty place.
     At(Way),

@@ -5,12 +5,12 @@ ghost use Rattle.script_lang.specs.Scripts as spec;
 ghost use Rattle.script_lang.specs.Tallies.{with_step, within};
 ghost use Rattle.transaction_codec.specs.Request.{op_count};
 
-use crate::operation::{Step, Verb};
-use crate::script_refusal::{MAX_BLOCK_WORDS, MAX_LINES, MAX_OPERATIONS};
+use crate::script_refusal::MAX_LINES;
+use script_steps::{MAX_BLOCK_WORDS, MAX_OPERATIONS, Step, Verb};
 use transaction_codec::Op;
 
 /// What the lines of some scripts are together.
-#[derive(Clone, Copy, Debug, PartialEq, Eq)]
+#[derive(Clone, Copy, PartialEq, Eq)]
 pub(crate) struct Tally {
     pub lines: u64,
     pub operations: u64,

@@ -8,12 +8,12 @@ ghost use Rattle.script_lang.specs.Lines.{takes};
 ghost use Rattle.script_lang.specs.Operations as spec;
 
 use crate::call::Call;
-use crate::operation::RegOp;
 use crate::{ScriptWhy, Verb};
 use address_table::{Mode, Permission};
 use ipb_base::Words;
 use masked_fields::terms;
 use node_tree::Register;
+use script_steps::RegOp;
 use transaction_codec::Op;
 
 fn may_read(permission: Permission) -> bool

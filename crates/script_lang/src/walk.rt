@@ -1,7 +1,8 @@
 //! The check of a document: the first faulty place.
 
 ghost use Rattle.std.specs.Prelude.{◌≡◌, [], OnOk, IfErr};
-ghost use Rattle.address_table.specs.Numbers.{is_between, number as number_of};
+ghost use Rattle.ipb_base.specs.Digits.{is_between};
+ghost use Rattle.address_table.specs.Numbers.{number as number_of};
 ghost use Rattle.address_table.specs.Rules.{holds_of};
 ghost use Rattle.toml.specs.View.{view, array_view, table_view};
 ghost use Rattle.script_lang.specs.Forms.{form_keys};

@@ -17,7 +17,7 @@ use Rattle.hub_session.specs.Answers.{control_packet, refusal_code, reply_of_boa
 use Rattle.hub_session.specs.Codes.{bad_packet_code, link_lost_code, no_board_code, unsent_code}
 use Rattle.hub_session.specs.Exchanges.{Exchange}
 use Rattle.board_node.specs.declared.spec.BoardSpec.{BoardSpec}
-use Rattle.reliable_engine.specs.Settings.{Limits}
+use Rattle.world_model.specs.Settings.{Limits}
 use Rattle.transcript.specs.declared.greeting.Greeting.{Greeting}
 use Rattle.transcript.specs.declared.greeting.Greeting.TheVariants.{Live}
 use Rattle.transcript.specs.declared.greeting.Greeting.TheVariants as greeting

@@ -1,6 +1,6 @@
 -- Connections at three boards, worked by hand: one that is live, one that was silent, one whose link was down. Profile.
 use Rattle.std.specs.Prelude.{ℕ, List, [], ◌∷◌, Some, None}
-use Rattle.reliable_engine.specs.Settings.{Limits}
+use Rattle.world_model.specs.Settings.{Limits}
 use Rattle.lane_record.specs.declared.outcome.Outcome.TheVariants.{TimedOut}
 use Rattle.board_history.specs.Examples.{read_body, reads_at}
 use Rattle.lane_history.specs.Links.{LinkReport}

@@ -7,7 +7,7 @@ use Rattle.packet_codec.specs.declared.packet.Packet.{Packet}
 use Rattle.packet_codec.specs.Packet.{packet_bytes}
 use Rattle.board_bus.specs.Cells.{CellMap}
 use Rattle.board_node.specs.declared.spec.BoardSpec.{BoardSpec}
-use Rattle.reliable_engine.specs.Settings.{Limits}
+use Rattle.world_model.specs.Settings.{Limits}
 use Rattle.lane_record.specs.Outcomes.{place_of}
 use Rattle.transcript.specs.Claims.{Rises}
 use Rattle.board_history.specs.Order.{RisesFrom}

@@ -4,7 +4,7 @@ ghost use Rattle.std.specs.Prelude.{◌≡◌, ℕ, ◌≤◌, List, None, IfSom
 ghost use Rattle.std.specs.List.{AllByRecursion};
 ghost use Rattle.board_node.specs.declared.spec.BoardSpec.{BoardSpec};
 ghost use Rattle.world_model.specs.Board.{executed};
-ghost use Rattle.reliable_engine.specs.Settings.{Limits};
+ghost use Rattle.world_model.specs.Settings.{Limits};
 ghost use Rattle.direct_run.specs.Runs.{opening_of};
 ghost use Rattle.lane_history.specs.Links.{IsFaithful, LinkReport};
 ghost use Rattle.transcript.specs.declared.line.BoardLine.{BoardLine};

@@ -4,7 +4,7 @@ use Rattle.std.specs.List.{AllByRecursion, filter_map, flat_map}
 use Rattle.board_bus.specs.Cells.{CellMap}
 use Rattle.board_bus.specs.Bodies.{replay}
 use Rattle.world_model.specs.Places.{at_place}
-use Rattle.reliable_engine.specs.Settings.{Limits}
+use Rattle.world_model.specs.Settings.{Limits}
 use Rattle.lane_record.specs.declared.outcome.Outcome.{Outcome}
 use Rattle.lane_record.specs.declared.outcome.Outcome.TheVariants.{Replied, TimedOut, Unsent, LinkLost}
 use Rattle.lane_record.specs.Outcomes.{is_given_up, place_of}

@@ -5,7 +5,7 @@ ghost use Rattle.std.specs.Prelude.{◌≡◌, ℕ, ◌≤◌, List, length, Som
 ghost use Rattle.std.specs.List.{count_by, flat_map, slice_get};
 ghost use Rattle.board_node.specs.declared.spec.BoardSpec.{BoardSpec};
 ghost use Rattle.world_model.specs.Board.{executed};
-ghost use Rattle.reliable_engine.specs.Settings.{Limits};
+ghost use Rattle.world_model.specs.Settings.{Limits};
 ghost use Rattle.lane_record.specs.Outcomes.{is_replied, is_sent, is_timed_out};
 ghost use Rattle.transcript.specs.declared.greeting.Greeting.TheVariants.{Live};
 ghost use Rattle.transcript.specs.declared.line.BoardLine.TheVariants as board_lines;

@@ -7,7 +7,7 @@ ghost use Rattle.ipb_base.specs.Lists.{IsPrefix};
 ghost use Rattle.turn_pass.specs.Pass.{Knowledge};
 ghost use Rattle.turn_pass.specs.Record.{Record};
 ghost use Rattle.world_model.specs.Hub.{Hub};
-ghost use Rattle.reliable_engine.specs.Settings.{Limits};
+ghost use Rattle.world_model.specs.Settings.{Limits};
 ghost use Rattle.world_core.specs.Telling.{Telling};
 ghost use Rattle.board_node.specs.declared.spec.BoardSpec.{BoardSpec};
 ghost use Rattle.lane_record.specs.declared.outcome.Outcome.{Outcome};

@@ -9,7 +9,7 @@ use Rattle.node_tree.specs.declared.refusal.CompileRefusal.TheVariants.{At}
 use Rattle.node_tree.specs.Maps.{Name, RegisterMap}
 use Rattle.node_tree.specs.Names.{IsIndexOf}
 use Rattle.node_tree.specs.Same.{SameFound, SameTables}
-use Rattle.script_lang.specs.declared.operation.Step.{Step}
+use Rattle.script_steps.specs.declared.operation.Step.{Step}
 use Rattle.script_lang.specs.declared.session.Session.{Session}
 use Rattle.script_lang.specs.Document.{SameSession, SameTableAt}
 use Rattle.session_input.specs.declared.refusal.Refusal.{Refusal}

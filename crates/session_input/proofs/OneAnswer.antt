@@ -9,7 +9,7 @@ use Rattle.node_tree.specs.declared.refusal.CompileWhy.{CompileWhy}
 use Rattle.node_tree.specs.declared.refusal.CompileRefusal.TheVariants.{At}
 use Rattle.node_tree.specs.Maps.{Name, TableMap, RegisterMap}
 use Rattle.node_tree.specs.Refusals.{KeepsRules, IsRefusal}
-use Rattle.script_lang.specs.declared.operation.Step.{Step}
+use Rattle.script_steps.specs.declared.operation.Step.{Step}
 use Rattle.script_lang.specs.declared.script_refusal.ScriptWhy.{ScriptWhy}
 use Rattle.script_lang.specs.declared.session.Session.{Session}
 use Rattle.script_lang.specs.Scripts.{LineFault, script_faults, steps_of}

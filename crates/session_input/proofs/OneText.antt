@@ -2,7 +2,7 @@
 use Rattle.std.proofs.Common.{◌≡◌, ◌⊎◌, ℕ, ◌≤◌, ◌<◌, List, [], Some, length, slice_get, inl, inr, refl, sym, ap}
 use Rattle.std.proofs.Common.{subst, ◌∙◌, arith}
 use Rattle.node_tree.specs.Maps.{RegisterMap}
-use Rattle.script_lang.specs.declared.operation.Step.{Step}
+use Rattle.script_steps.specs.declared.operation.Step.{Step}
 use Rattle.script_lang.specs.declared.refusal.DocWhy.TheVariants.{NotToml, Shape, NoBoards, ManyBoards, ManyClients}
 use Rattle.script_lang.specs.declared.refusal.DocWhy.TheVariants.{DuplicateBoard}
 use Rattle.script_lang.specs.declared.session.Session.{Session}

@@ -10,7 +10,7 @@ use Rattle.node_tree.specs.declared.refusal.CompileRefusal.TheVariants.{At}
 use Rattle.node_tree.specs.Maps.{Name, TableMap, RegisterMap}
 use Rattle.node_tree.specs.Names.{IsIndexOf}
 use Rattle.node_tree.specs.Refusals.{KeepsRules, IsRefusal}
-use Rattle.script_lang.specs.declared.operation.Step.{Step}
+use Rattle.script_steps.specs.declared.operation.Step.{Step}
 use Rattle.script_lang.specs.declared.refusal.DocWhy.TheVariants.{NotToml}
 use Rattle.script_lang.specs.declared.session.Session.{Session}
 use Rattle.script_lang.specs.Document.{HasFirstFault, IsNotToml, StandsFor, in_document, in_table}

@@ -29,6 +29,7 @@ table_rule table.BadMask = codes "BadMask"
 table_rule table.BadPermission = codes "BadPermission"
 table_rule table.BadMode = codes "BadMode"
 table_rule table.BadSize = codes "BadSize"
+table_rule table.BadCount = codes "BadCount"
 
 abbrev pub compile_rule : CompileWhy → List ℕ
 compile_rule compile.UnknownModule = codes "UnknownModule"

@@ -34,6 +34,7 @@ pub(crate) fn table_rule(why: TableWhy) -> &'static str
         TableWhy::BadPermission => "BadPermission",
         TableWhy::BadMode => "BadMode",
         TableWhy::BadSize => "BadSize",
+        TableWhy::BadCount => "BadCount",
     }
 }
 

@@ -4,7 +4,7 @@ ghost use Rattle.std.specs.Prelude.{◌≡◌, ◌≤◌, ℕ, List, [], IfOk, I
 ghost use Rattle.std.specs.List.{AllByRecursion};
 ghost use Rattle.script_lang.specs.Document.{IsRefusal, StandsFor};
 ghost use Rattle.script_lang.specs.Limits.{IsWithin};
-ghost use Rattle.script_lang.specs.Packing.{AreWithinLimits, CanBePacked, HaveFewPieces};
+ghost use Rattle.script_steps.specs.Packing.{AreWithinLimits, CanBePacked, HaveFewPieces};
 ghost use Rattle.script_lang.specs.declared.script_refusal.TheConstants.{MAX_LINES};
 ghost use Rattle.script_lang.specs.Scripts.{script_faults, steps_of as meant_steps};
 ghost use Rattle.session_input.specs.Deserved as spec;
@@ -14,7 +14,8 @@ use crate::checking::{check_buses, index_of, indexes_of};
 use crate::refusal::{MAX_DOCUMENT, Refusal, Unread};
 use address_table::TableRefusal;
 use node_tree::Index;
-use script_lang::{ScriptRefusal, Session, SessionRefusal, Steps, compile_scripts, read_session};
+use script_lang::{ScriptRefusal, Session, SessionRefusal, compile_scripts, read_session};
+use script_steps::Steps;
 use std::alloc::Global;
 
 /// A session that can be run, and the steps of its clients in order.

@@ -13,7 +13,7 @@ use std::alloc::{AllocError, AllocFailed};
 pub const MAX_DOCUMENT: usize = 16_777_216;
 
 /// Why an input is refused: the first rule that it breaks. The rules are tried in the order of this list (profile).
-#[derive(Debug, Drop)]
+#[derive(Drop)]
 pub enum Refusal {
     /// It has more than `MAX_DOCUMENT` bytes.
     TooLong,
@@ -49,7 +49,7 @@ pub enum Refusal {
 }
 
 /// Why an input gives nothing.
-#[derive(Debug, Drop)]
+#[derive(Drop)]
 pub enum Unread {
     Refused(Refusal),
     /// There was not enough memory.

@@ -10,7 +10,7 @@ ghost use Rattle.transcript.specs.Plan.{dispatches};
 use crate::board_plans::BoardPlans;
 use client_threads::{Asks, ClientPlan, Dispatch, Dispatches};
 use ipb_base::NoMemory;
-use script_lang::{Step, Steps};
+use script_steps::{Step, Steps};
 use std::alloc::Global;
 use transcript::Planned;
 

@@ -6,7 +6,7 @@ use std::marker::Model;
 use transcript::Planned;
 
 /// What each client has planned on a live board, client 1 first. Contracts see that list.
-#[derive(Debug, Drop)]
+#[derive(Drop)]
 pub struct BoardPlans {
     items: Vec<Planned>,
 }

@@ -10,7 +10,7 @@ use Rattle.ipb_base.specs.Numbers.{payload_of}
 use Rattle.turn_pass.specs.Pass.{Joined, Knowledge, first_knowledge}
 use Rattle.turn_pass.specs.Record.{Record}
 use Rattle.world_core.specs.Telling.{Telling}
-use Rattle.reliable_engine.specs.Settings.{Limits}
+use Rattle.world_model.specs.Settings.{Limits}
 use Rattle.lane_record.specs.declared.outcome.Outcome.{Outcome}
 use Rattle.lane_record.specs.declared.item.Item.{Item}
 use Rattle.lane_record.specs.Coding.{Head, record_of}
@@ -23,7 +23,7 @@ use Rattle.client_threads.specs.Clients.{AreOfClientsFrom, AwaitClients, HaveGon
 use Rattle.client_threads.specs.Clients.{AreResultsFor, OnLanesFrom, TookIn, counts_on}
 use Rattle.client_threads.specs.declared.plan.ClientPlan.{ClientPlan}
 use Rattle.client_threads.specs.declared.result.ClientResult.{ClientResult}
-use Rattle.script_lang.specs.declared.operation.Step.{Step}
+use Rattle.script_steps.specs.declared.operation.Step.{Step}
 use Rattle.direct_run.specs.Runs.{parts_with}
 use Rattle.transcript.specs.declared.board_run.ClientPart.{ClientPart}
 use Rattle.transcript.specs.declared.greeting.Greeting.TheVariants.{Live}

@@ -10,7 +10,7 @@ use Rattle.lane_record.specs.Dispatches.{joined}
 use Rattle.board_history.specs.History.{dispatches_of}
 use Rattle.direct_run.specs.Runs.{parts_with}
 use Rattle.transcript.specs.declared.board_run.ClientPart.{ClientPart}
-use Rattle.script_lang.specs.declared.operation.Step.{Step}
+use Rattle.script_steps.specs.declared.operation.Step.{Step}
 use Rattle.transcript.specs.declared.greeting.Greeting.{Greeting}
 use Rattle.transcript.specs.declared.greeting.Greeting.TheVariants.{Live, Silent, Down}
 use Rattle.transcript.specs.Plan.{ClientBodies, no_bodies, plan, planned_on, plans_on, with_dispatch}

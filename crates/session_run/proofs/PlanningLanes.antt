@@ -10,7 +10,7 @@ use Rattle.world_core.specs.Telling.{Telling}
 use Rattle.world_model.specs.Board.{Board}
 use Rattle.board_bus.specs.Cells.{CellMap}
 use Rattle.hub_lane.specs.Lanes.{LaneState, board_of, opening_of}
-use Rattle.script_lang.specs.declared.operation.Step.{Step}
+use Rattle.script_steps.specs.declared.operation.Step.{Step}
 use Rattle.transcript.specs.declared.greeting.Greeting.TheVariants.{Live}
 use Rattle.transcript.specs.Plan.{ClientBodies, planned_on}
 use Rattle.session_plans.specs.Parts.{HasClients}

@@ -10,9 +10,9 @@ use Rattle.mtu_packer.specs.Packed.{words_with_answer}
 use Rattle.lane_record.specs.declared.item.Item.{Item}
 use Rattle.lane_record.specs.Items.{plan_in}
 use Rattle.hub_lane.specs.Plans.{IsFull, one_with, planned_bodies, planned_words, words_with}
-use Rattle.script_lang.specs.Executable.{AreExecutable}
-use Rattle.script_lang.specs.Packing.{AreWithinLimits, all_operations}
-use Rattle.script_lang.specs.declared.operation.Step.{Step}
+use Rattle.script_steps.specs.Executable.{AreExecutable}
+use Rattle.script_steps.specs.Packing.{AreWithinLimits, all_operations}
+use Rattle.script_steps.specs.declared.operation.Step.{Step}
 use Rattle.transcript.specs.declared.greeting.Greeting.{Greeting}
 use Rattle.transcript.specs.declared.greeting.Greeting.TheVariants.{Live}
 use Rattle.transcript.specs.Plan.{ClientBodies, all_bodies, planned_on, plans_on}

@@ -4,9 +4,9 @@ use Rattle.std.specs.Prelude.{◌≡◌, ℕ, List, [], ◌∷◌, map, Option}
 use Rattle.std.specs.List.{AllByRecursion}
 use Rattle.ipb_base.specs.Numbers.{payload_of}
 use Rattle.world_core.specs.Telling.{Telling}
-use Rattle.reliable_engine.specs.Settings.{Limits}
+use Rattle.world_model.specs.Settings.{Limits}
 use Rattle.board_node.specs.declared.spec.BoardSpec.{BoardSpec}
-use Rattle.script_lang.specs.declared.operation.Step.{Step}
+use Rattle.script_steps.specs.declared.operation.Step.{Step}
 use Rattle.hub_lane.specs.Lanes.{LaneState, opening_of}
 use Rattle.hub_history.specs.Lanes.{sealed_plans}
 use Rattle.transcript.specs.declared.greeting.Greeting.TheVariants.{Live}

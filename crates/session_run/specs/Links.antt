@@ -2,7 +2,7 @@
 use Rattle.std.specs.Prelude.{ℕ, ◌+◌, List, [], ◌∷◌, IfSome}
 use Rattle.world_model.specs.Board.{executed}
 use Rattle.board_node.specs.declared.spec.BoardSpec.{BoardSpec}
-use Rattle.script_lang.specs.declared.operation.Step.{Step}
+use Rattle.script_steps.specs.declared.operation.Step.{Step}
 use Rattle.lane_history.specs.Links.{LinkReport, IsBoardOf}
 use Rattle.lane_history.specs.Runs.{ExecutedSome}
 pub use Rattle.board_greeting.specs.Links.{Keeps, CanBeReached}

@@ -1,9 +1,9 @@
 -- What came of each board of a session. What private functions promise one another; no public clause speaks of these.
 use Rattle.std.specs.Prelude.{ℕ, ◌+◌, List, [], ◌∷◌, Option, IfSome}
 use Rattle.world_core.specs.Telling.{Telling}
-use Rattle.reliable_engine.specs.Settings.{Limits}
+use Rattle.world_model.specs.Settings.{Limits}
 use Rattle.board_node.specs.declared.spec.BoardSpec.{BoardSpec}
-use Rattle.script_lang.specs.declared.operation.Step.{Step}
+use Rattle.script_steps.specs.declared.operation.Step.{Step}
 use Rattle.transcript.specs.declared.board_run.ClientPart.{ClientPart}
 use Rattle.lane_history.specs.Links.{LinkReport}
 use Rattle.board_greeting.specs.Places.{IsIdleBoard}

@@ -2,7 +2,7 @@
 
 ghost use Rattle.std.specs.Prelude.{◌≡◌, ◌<◌, ◌^◌, ◌++◌, ◌∷◌, [], true, length, IfOk, IfSome};
 ghost use Rattle.std.specs.List.{AllByRecursion};
-ghost use Rattle.script_lang.specs.Packing.{CanBePacked, HaveFewPieces};
+ghost use Rattle.script_steps.specs.Packing.{CanBePacked, HaveFewPieces};
 ghost use Rattle.lane_history.specs.Runs.{AreRunsOver, IsRunOver, ShowsScripts};
 ghost use Rattle.board_greeting.specs.Boards.{HasRoom, IsIdle, shown_by};
 ghost use Rattle.session_run.specs.Boards.{IsNamed, OnRun};
@@ -19,7 +19,7 @@ use lane_history::records::{
 };
 use lossy_network::Rack;
 use reliable_engine::Settings;
-use script_lang::Steps;
+use script_steps::Steps;
 use std::alloc::Global;
 use transcript::{BoardRun, ClientPart, ClientParts, Greeting, Outcomes, plan_on};
 use world_core::Link;

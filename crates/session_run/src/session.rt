@@ -3,8 +3,8 @@
 ghost use Rattle.std.specs.Prelude.{◌≡◌, ◌≢◌, ◌^◌, ◌<◌, ◌≤◌, ◌+◌, [], length, Err, IfOk, OnErr};
 ghost use Rattle.std.specs.List.{AllByRecursion};
 ghost use Rattle.ipb_base.specs.Faults.{Rose};
-ghost use Rattle.script_lang.specs.Executable.{AreExecutable};
-ghost use Rattle.script_lang.specs.Packing.{AreWithinLimits, CanBePacked, HaveFewPieces};
+ghost use Rattle.script_steps.specs.Executable.{AreExecutable};
+ghost use Rattle.script_steps.specs.Packing.{AreWithinLimits, CanBePacked, HaveFewPieces};
 ghost use Rattle.lane_history.specs.Links.{IsUntouched};
 ghost use Rattle.lane_history.specs.Runs.{AreRunsOver};
 ghost use Rattle.board_greeting.specs.Boards.{AreReached, HasMemory, HasRoom, shown_by};
@@ -21,7 +21,7 @@ use ipb_base::NoMemory;
 use lane_history::records::a_lane_left_at_any_moment_executed_a_merge;
 use lossy_network::{Rack, RackFault};
 use reliable_engine::Settings;
-use script_lang::Steps;
+use script_steps::Steps;
 use std::alloc::Global;
 use std::marker::Sync;
 use std::sync::Wait;
@@ -29,7 +29,7 @@ use std::thread::Threads;
 use transcript::{BoardRun, ClientParts};
 
 /// Why a session has no runs.
-#[derive(Clone, Copy, Debug, PartialEq, Eq)]
+#[derive(Clone, Copy, PartialEq, Eq)]
 pub enum RunFault {
     /// A link could not be made. The rack counted it.
     Rack,

@@ -1,7 +1,7 @@
 -- The boards once their lanes came back. What private functions promise one another; no public clause speaks of these.
 use Rattle.std.specs.Prelude.{ℕ, List, [], ◌∷◌, length, count_by, Option}
 use Rattle.world_core.specs.Telling.{Telling}
-use Rattle.reliable_engine.specs.Settings.{Limits}
+use Rattle.world_model.specs.Settings.{Limits}
 use Rattle.board_node.specs.declared.spec.BoardSpec.{BoardSpec}
 use Rattle.lane_record.specs.Bounds.{timeouts}
 use Rattle.hub_lane.specs.Calls.{is_lost_at_place, is_replied}

@@ -5,7 +5,7 @@ use Rattle.std.specs.Vec.{vec_capacity}
 use Rattle.ipb_base.specs.Numbers.{payload_of}
 use Rattle.board_node.specs.declared.spec.BoardSpec.{BoardSpec}
 use Rattle.world_core.specs.Telling.{Telling}
-use Rattle.reliable_engine.specs.Settings.{Limits}
+use Rattle.world_model.specs.Settings.{Limits}
 use Rattle.lane_history.specs.Links.{LinkReport}
 use Rattle.board_greeting.specs.Places.{IsSplitOf}
 use Rattle.board_greeting.specs.declared.split.Split.{Split}

@@ -1,7 +1,7 @@
 -- What serving connections at the boards of a document does. Profile.
 use Rattle.std.specs.Prelude.{◌≡◌, ◌≢◌, ℕ, List, map}
 use Rattle.board_node.specs.declared.spec.BoardSpec.{BoardSpec}
-use Rattle.reliable_engine.specs.Settings.{Limits}
+use Rattle.world_model.specs.Settings.{Limits}
 use Rattle.transcript.specs.declared.greeting.Greeting.{Greeting}
 use Rattle.transcript.specs.declared.line.BoardLine.{BoardLine}
 use Rattle.lane_history.specs.Links.{LinkReport}

@@ -6,14 +6,14 @@ use lossy_network::RackFault;
 use transcript::BoardLine;
 
 /// What became of the connections, in the order of acceptance, and of the boards, in their order.
-#[derive(Debug, Drop)]
+#[derive(Drop)]
 pub struct ServeReport {
     pub connections: Vec<Served>,
     pub boards: Vec<BoardLine>,
 }
 
 /// Why there is no report.
-#[derive(Clone, Copy, Debug, PartialEq, Eq)]
+#[derive(Clone, Copy, PartialEq, Eq)]
 pub enum ServeFault {
     /// A link could not be made. The rack counted it.
     Rack,

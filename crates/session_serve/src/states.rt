@@ -6,7 +6,7 @@ use hub_session::BoardState;
 use std::marker::Model;
 
 /// How the board at each position stands. Contracts see that list.
-#[derive(Debug, Drop)]
+#[derive(Drop)]
 pub(crate) struct BoardStates {
     items: Vec<BoardState>,
 }

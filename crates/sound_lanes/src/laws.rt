@@ -4,7 +4,7 @@
 ghost use Rattle.std.specs.Prelude.{◌*◌, ℕ, Bool, List, Option, IfSome};
 ghost use Rattle.board_bus.specs.Cells.{CellMap};
 ghost use Rattle.world_model.specs.Hub.{Hub};
-ghost use Rattle.reliable_engine.specs.Settings.{Limits};
+ghost use Rattle.world_model.specs.Settings.{Limits};
 ghost use Rattle.world_core.specs.Telling.{Telling};
 ghost use Rattle.lane_record.specs.declared.outcome.Outcome.{Outcome};
 ghost use Rattle.lane_record.specs.declared.item.Item.{Item};

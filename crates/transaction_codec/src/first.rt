@@ -17,7 +17,7 @@ use ipb_base::{NoMemory, VERSION, Words};
 use std::alloc::Global;
 
 /// The request at the front of a body and the words after it.
-#[derive(Clone, Copy, Debug)]
+#[derive(Clone, Copy)]
 pub struct FirstRequest<'a> {
     /// The transaction identifier, at most 4095.
     pub tid: u16,
@@ -27,7 +27,7 @@ pub struct FirstRequest<'a> {
 }
 
 /// The reply at the front of a body and the words after it.
-#[derive(Clone, Copy, Debug)]
+#[derive(Clone, Copy)]
 pub struct FirstReply<'a> {
     /// The transaction identifier, at most 4095.
     pub tid: u16,

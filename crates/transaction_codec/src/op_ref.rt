@@ -11,7 +11,7 @@ use ipb_base::{NoMemory, Words};
 use std::alloc::Global;
 
 /// What a request asks, with its words where they stand in the body.
-#[derive(Clone, Copy, Debug)]
+#[derive(Clone, Copy)]
 pub enum OpRef<'a> {
     /// Reads `count` words at `base`, `base + 1`, ..
     Read {

@@ -1,7 +1,7 @@
 use ipb_base::Words;
 
 /// A reply: the fields of its header and the words after it.
-#[derive(Debug, Drop, PartialEq, Eq)]
+#[derive(Drop, PartialEq, Eq)]
 pub struct Reply {
     /// The transaction identifier, at most 4095.
     pub tid: u16,

@@ -5,7 +5,7 @@ use crate::op_ref::OpRef;
 use ipb_base::Words;
 
 /// What a request asks. Addresses and terms are 32-bit; a count or a word list is at most 255 words in a header.
-#[derive(Debug, Drop, PartialEq, Eq)]
+#[derive(Drop, PartialEq, Eq)]
 pub enum Op {
     /// Reads `count` words at `base`, `base + 1`, ..
     Read {
@@ -80,7 +80,7 @@ impl Op {
 }
 
 /// A request with its transaction identifier, at most 4095 in a header.
-#[derive(Debug, Drop, PartialEq, Eq)]
+#[derive(Drop, PartialEq, Eq)]
 pub struct Request {
     pub tid: u16,
     pub op: Op,

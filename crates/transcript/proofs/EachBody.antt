@@ -8,8 +8,8 @@ use Rattle.mtu_packer.specs.declared.packed.Piece.{Piece}
 use Rattle.mtu_packer.specs.Packed.{Contents, packed, IsIn}
 use Rattle.mtu_packer.specs.Packed as packing
 use Rattle.mtu_packer.proofs.AnyLemmas.{any_same, any_front, any_back, any_map}
-use Rattle.script_lang.specs.declared.operation.RegOp.{RegOp}
-use Rattle.script_lang.specs.declared.operation.Step.{Step}
+use Rattle.script_steps.specs.declared.operation.RegOp.{RegOp}
+use Rattle.script_steps.specs.declared.operation.Step.{Step}
 use Rattle.transcript.specs.declared.planned.PieceAt.{PieceAt}
 use Rattle.transcript.specs.Plan.{ClientBodies, no_bodies, moved, ops_on, dispatches, plan, with_dispatch}
 use Rattle.transcript.specs.Plan.{all_dispatches}

@@ -7,12 +7,12 @@ use Rattle.std.proofs.lemmas.List.Sums.{sum_by-append, sum_by-cons}
 use Rattle.transaction_codec.specs.declared.request.Op.{Op}
 use Rattle.transaction_codec.specs.Request.{op_count}
 use Rattle.mtu_packer.specs.Packed.{Contents, IsPacked, packed, words_with_answer}
-use Rattle.script_lang.specs.Executable.{AreExecutable}
-use Rattle.script_lang.specs.Packing.{all_operations}
-use Rattle.script_lang.specs.Packing as script
-use Rattle.script_lang.specs.declared.operation.RegOp.{RegOp}
-use Rattle.script_lang.specs.declared.operation.Step.{Step}
-use Rattle.script_lang.specs.declared.operation.Step.TheVariants.{Do, Dispatch}
+use Rattle.script_steps.specs.Executable.{AreExecutable}
+use Rattle.script_steps.specs.Packing.{all_operations}
+use Rattle.script_steps.specs.Packing as script
+use Rattle.script_steps.specs.declared.operation.RegOp.{RegOp}
+use Rattle.script_steps.specs.declared.operation.Step.{Step}
+use Rattle.script_steps.specs.declared.operation.Step.TheVariants.{Do, Dispatch}
 use Rattle.transcript.specs.declared.greeting.Greeting.TheVariants.{Live}
 use Rattle.transcript.specs.Plan.{all_bodies, begun, bodies_in, dispatches, ops_on, plan, planned_on, plans_on}
 use Rattle.transcript.proofs.DispatchLemmas.{bodies_are}

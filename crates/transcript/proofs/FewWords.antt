@@ -6,8 +6,8 @@ use Rattle.transaction_codec.specs.declared.request.Op.{Op}
 use Rattle.transaction_codec.specs.Request.{op_count}
 use Rattle.mtu_packer.specs.Cutting.{cut}
 use Rattle.mtu_packer.specs.declared.packing.TheConstants.{MIN_PAYLOAD}
-use Rattle.script_lang.specs.declared.operation.Step.{Step}
-use Rattle.script_lang.specs.Packing.{operations, IsSelection, HaveFewPieces}
+use Rattle.script_steps.specs.declared.operation.Step.{Step}
+use Rattle.script_steps.specs.Packing.{operations, IsSelection, HaveFewPieces}
 
 -- a selection has no more words than all
 selected_words : (ops all : List Op) → IsSelection ops all → sum_by op_count ops ≤ sum_by op_count all

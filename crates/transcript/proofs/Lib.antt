@@ -13,5 +13,7 @@ pub mod PackedDispatches
 mod FewBodies
 mod Covering
 mod Printed
+mod PiecesSoFar
+mod TextSoFar
 mod EachBody
 pub mod ShownLines

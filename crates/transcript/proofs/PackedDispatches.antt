@@ -5,10 +5,10 @@ use Rattle.std.proofs.lemmas.Bool.{cases_Bool}
 use Rattle.transaction_codec.specs.declared.request.Op.{Op}
 use Rattle.mtu_packer.specs.Cutting.{CanBeCut, HasWords}
 use Rattle.mtu_packer.specs.Packed.{IsPacked, packed}
-use Rattle.script_lang.specs.Executable.{CanBeAsked, AreExecutable}
-use Rattle.script_lang.specs.declared.operation.RegOp.{RegOp}
-use Rattle.script_lang.specs.declared.operation.Step.{Step}
-use Rattle.script_lang.specs.declared.operation.Step.TheVariants.{Do, Dispatch}
+use Rattle.script_steps.specs.Executable.{CanBeAsked, AreExecutable}
+use Rattle.script_steps.specs.declared.operation.RegOp.{RegOp}
+use Rattle.script_steps.specs.declared.operation.Step.{Step}
+use Rattle.script_steps.specs.declared.operation.Step.TheVariants.{Do, Dispatch}
 use Rattle.transcript.specs.Plan.{begun, dispatches, ops_on}
 
 abbrev pub CanAllBeAsked : List RegOp → Type 0

@@ -12,12 +12,12 @@ use Rattle.mtu_packer.specs.declared.packed.Piece.{Piece}
 use Rattle.mtu_packer.specs.Cutting.{CanBeCut, cut}
 use Rattle.mtu_packer.specs.Packing.{AreReadable, requests_from}
 use Rattle.mtu_packer.specs.Packed.{Contents, FitsPackets, IsPacked, packed, places_in, places_from}
-use Rattle.script_lang.specs.Packing.{CanBePacked, IsSelection, HaveFewPieces}
-use Rattle.script_lang.specs.Packing as script
+use Rattle.script_steps.specs.Packing.{CanBePacked, IsSelection, HaveFewPieces}
+use Rattle.script_steps.specs.Packing as script
 use Rattle.mtu_packer.specs.declared.packing.TheConstants.{MIN_PAYLOAD}
-use Rattle.script_lang.specs.declared.operation.RegOp.{RegOp}
-use Rattle.script_lang.specs.declared.operation.Step.{Step}
-use Rattle.script_lang.specs.declared.operation.Step.TheVariants.{Do, Dispatch}
+use Rattle.script_steps.specs.declared.operation.RegOp.{RegOp}
+use Rattle.script_steps.specs.declared.operation.Step.{Step}
+use Rattle.script_steps.specs.declared.operation.Step.TheVariants.{Do, Dispatch}
 use Rattle.transcript.specs.Plan.{ClientBodies, no_bodies, AreSound, IsWithinBody, moved, begun, dispatches, ops_on}
 use Rattle.transcript.specs.Plan.{with_dispatch}
 use Rattle.transcript.specs.Steps.{continued, HaveFewBehind, IsPlanning}

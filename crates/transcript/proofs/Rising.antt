@@ -8,8 +8,8 @@ use Rattle.mtu_packer.specs.declared.packed.Piece.{Piece}
 use Rattle.mtu_packer.specs.Packing.{parts_of}
 use Rattle.mtu_packer.specs.Cutting.{piece_count}
 use Rattle.mtu_packer.specs.Packed.{packed, places_in, places_from, deal}
-use Rattle.script_lang.specs.declared.operation.RegOp.{RegOp}
-use Rattle.script_lang.specs.declared.operation.Step.{Step}
+use Rattle.script_steps.specs.declared.operation.RegOp.{RegOp}
+use Rattle.script_steps.specs.declared.operation.Step.{Step}
 use Rattle.transcript.specs.declared.planned.PieceAt.{PieceAt}
 use Rattle.transcript.specs.declared.body_end.BodyEnd.{BodyEnd}
 use Rattle.transcript.specs.Plan.{ClientBodies, no_bodies, moved, ops_on, dispatches, plan, with_dispatch}

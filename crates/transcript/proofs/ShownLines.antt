@@ -9,8 +9,8 @@ use Rattle.std.proofs.lemmas.List.Sums.{sum_by-cons}
 use Rattle.std.proofs.lemmas.Option.{same_Some, slice_get_within, get_or_from_slice_get}
 use Rattle.mtu_packer.proofs.AnyLemmas.{any_nowhere, any_here, any_later, any_cases, any_front, any_back, any_append}
 use Rattle.mtu_packer.proofs.AnyLemmas.{any_at, at_any}
-use Rattle.script_lang.specs.declared.operation.RegOp.{RegOp}
-use Rattle.script_lang.specs.declared.operation.Step.{Step}
+use Rattle.script_steps.specs.declared.operation.RegOp.{RegOp}
+use Rattle.script_steps.specs.declared.operation.Step.{Step}
 use Rattle.transcript.specs.declared.greeting.Greeting.{Greeting}
 use Rattle.transcript.specs.declared.greeting.Greeting.TheVariants.{Live, Silent, Down}
 use Rattle.lane_record.specs.declared.outcome.Outcome.{Outcome}

@@ -2,9 +2,9 @@
 use Rattle.std.specs.Prelude.{ℕ, Bool, true, false, if◌then◌else◌, List, [], ◌∷◌, map, Option, Some, None, unwrap_or}
 use Rattle.std.specs.List.{flat_map}
 use Rattle.masked_fields.specs.Field.{field}
-use Rattle.script_lang.specs.declared.operation.Verb.{Verb}
-use Rattle.script_lang.specs.declared.operation.Verb.TheVariants.{Read, Write, ReadBlock, WriteBlock, RmwBits, RmwSum}
-use Rattle.script_lang.specs.declared.operation.RegOp.{RegOp}
+use Rattle.script_steps.specs.declared.operation.Verb.{Verb}
+use Rattle.script_steps.specs.declared.operation.Verb.TheVariants.{Read, Write, ReadBlock, WriteBlock, RmwBits, RmwSum}
+use Rattle.script_steps.specs.declared.operation.RegOp.{RegOp}
 use Rattle.transcript.specs.declared.planned.PieceAt.{PieceAt}
 use Rattle.transcript.specs.declared.body_end.BodyEnd.{BodyEnd}
 use Rattle.transcript.specs.declared.line.OpResult.{OpResult}

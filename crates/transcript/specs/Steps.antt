@@ -3,8 +3,8 @@
 use Rattle.std.specs.Prelude.{◌≡◌, ℕ, ◌+◌, ◌≤◌, ◌<◌, ◌^◌, Bool, if◌then◌else◌, List, [], ◌∷◌, ◌++◌, length, map, take}
 use Rattle.std.specs.Prelude.{drop, slice_get, slice_set, slice_index, Option, Some, None}
 use Rattle.std.specs.Option.{option_map_or}
-use Rattle.script_lang.specs.declared.operation.RegOp.{RegOp}
-use Rattle.script_lang.specs.declared.operation.Step.{Step}
+use Rattle.script_steps.specs.declared.operation.RegOp.{RegOp}
+use Rattle.script_steps.specs.declared.operation.Step.{Step}
 use Rattle.lane_record.specs.declared.outcome.Outcome.{Outcome}
 use Rattle.transcript.specs.declared.body_end.BodyEnd.{BodyEnd}
 use Rattle.transcript.specs.declared.board_run.BoardRun.{BoardRun}
@@ -17,8 +17,8 @@ use Rattle.std.specs.List.{AllByRecursion, flat_map}
 use Rattle.transaction_codec.specs.declared.request.Op.{Op}
 use Rattle.mtu_packer.specs.Cutting.{CanBeCut, cut}
 use Rattle.mtu_packer.specs.Packed.{Contents, FitsPackets, packed}
-use Rattle.script_lang.specs.Packing.{CanBePacked, IsSelection}
-use Rattle.script_lang.specs.Packing as script
+use Rattle.script_steps.specs.Packing.{CanBePacked, IsSelection}
+use Rattle.script_steps.specs.Packing as script
 use Rattle.transcript.specs.declared.planning.Planning.{Planning}
 use Rattle.transcript.specs.Plan.{ClientBodies, AreSound, operations, dispatches, ops_on, plan, with_dispatch}
 use Rattle.transcript.specs.Plan.{all_dispatches}

@@ -2,8 +2,8 @@
 use Rattle.std.specs.Prelude.{ℕ, ◌+◌, ◌-◌, List, [], ◌∷◌, ◌++◌, length, replicate, codes, false}
 use Rattle.std.specs.List.{flat_map}
 use Rattle.std.specs.Fmt.{decimal, digits}
-use Rattle.script_lang.specs.declared.operation.Verb.{Verb}
-use Rattle.script_lang.specs.declared.operation.Verb.TheVariants.{Read, Write, ReadBlock, WriteBlock, RmwBits, RmwSum}
+use Rattle.script_steps.specs.declared.operation.Verb.{Verb}
+use Rattle.script_steps.specs.declared.operation.Verb.TheVariants.{Read, Write, ReadBlock, WriteBlock, RmwBits, RmwSum}
 use Rattle.transcript.specs.declared.line.OpResult.{OpResult}
 use Rattle.transcript.specs.declared.line.OpResult.TheVariants.{Value, Done, Was, Error, Skipped, TimedOut, Unsent}
 use Rattle.transcript.specs.declared.line.OpResult.TheVariants.{LinkLost, Garbled}

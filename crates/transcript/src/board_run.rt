@@ -9,14 +9,14 @@ use lane_record::Outcomes;
 use std::marker::Model;
 
 /// What one client asked of a board, and what became of it: the outcomes stand in the order of the bodies.
-#[derive(Debug, Drop)]
+#[derive(Drop)]
 pub struct ClientPart {
     pub planned: Planned,
     pub outcomes: Outcomes,
 }
 
 /// The parts of the clients on a board, client 1 first. Contracts see that list.
-#[derive(Debug, Drop)]
+#[derive(Drop)]
 pub struct ClientParts {
     items: Vec<ClientPart>,
 }
@@ -56,7 +56,7 @@ impl ClientParts {
 
 /// A board after a run: its name, what greeting it told, and what each client asked of it. A board that is not live
 /// was asked nothing.
-#[derive(Debug, Drop)]
+#[derive(Drop)]
 pub struct BoardRun {
     pub name: Text,
     pub greeting: Greeting,

@@ -12,7 +12,7 @@ use lane_record::Outcome;
 use std::alloc::Global;
 
 /// What a board's line counts.
-#[derive(Clone, Copy, Debug)]
+#[derive(Clone, Copy)]
 enum Kind {
     Sent,
     Replied,

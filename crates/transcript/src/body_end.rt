@@ -15,7 +15,7 @@ use std::alloc::Global;
 use std::marker::Model;
 
 /// The answers to the transactions of a body, in order. Contracts see that list.
-#[derive(Debug, Drop)]
+#[derive(Drop)]
 pub struct Answers {
     items: Vec<Answer>,
 }
@@ -46,7 +46,7 @@ impl Answers {
 }
 
 /// What is told of the transactions of a body: the answer to each, or one thing of all.
-#[derive(Debug, Drop)]
+#[derive(Drop)]
 pub enum Told {
     Answered(Answers),
     /// The words of the reply are none to the body.
@@ -57,7 +57,7 @@ pub enum Told {
 }
 
 /// How a body ended: its place in the order of its board, where it has one, and what is told of its transactions.
-#[derive(Debug, Drop)]
+#[derive(Drop)]
 pub struct BodyEnd {
     pub place: Option<u64>,
     pub told: Told,

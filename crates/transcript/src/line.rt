@@ -3,11 +3,11 @@
 ghost use Rattle.std.specs.Prelude.{◌≡◌};
 
 use ipb_base::{Text, Words};
-use script_lang::Verb;
+use script_steps::Verb;
 use std::marker::Model;
 
 /// What an operation came to (profile).
-#[derive(Debug, Drop)]
+#[derive(Drop)]
 pub enum OpResult {
     /// A read gave these words, or the field of its word under the register's mask.
     Value(Words),
@@ -31,7 +31,7 @@ pub enum OpResult {
 
 /// The places of an operation's pieces in the order of its board, each with the number of the transaction in its body,
 /// from 1. Contracts see the list of these pairs.
-#[derive(Debug, Drop)]
+#[derive(Drop)]
 pub struct LinePlaces {
     items: Vec<(u64, u16)>,
 }
@@ -69,7 +69,7 @@ impl LinePlaces {
 }
 
 /// The line of an operation (profile).
-#[derive(Debug, Drop)]
+#[derive(Drop)]
 pub struct OpLine {
     /// Its number among the operations of its client, from 1.
     pub number: u32,
@@ -84,7 +84,7 @@ pub struct OpLine {
 }
 
 /// The line of a board (profile).
-#[derive(Debug, Drop)]
+#[derive(Drop)]
 pub enum BoardLine {
     /// A live board: how many bodies were sent first, and how many of them were replied to, timed out, or were lost
     /// with the link.

@@ -13,7 +13,7 @@ use crate::greeting::Greeting;
 use crate::line::{LinePlaces, OpLine, OpResult};
 use crate::results::{op_places, op_result};
 use ipb_base::{NoMemory, Text};
-use script_lang::{RegOp, Step, Steps};
+use script_steps::{RegOp, Step, Steps};
 use std::alloc::Global;
 
 /// How a client's bodies on a board ended.

@@ -1,7 +1,7 @@
 //! Laws of the places that lines show. These functions do nothing when they run: their clauses are what is proved.
 
 ghost use Rattle.std.specs.Prelude.{◌≡◌, ◌↔◌, ℕ, ◌<◌, List, length, Some, slice_get};
-ghost use Rattle.script_lang.specs.declared.operation.Step.{Step};
+ghost use Rattle.script_steps.specs.declared.operation.Step.{Step};
 ghost use Rattle.transcript.specs.declared.board_run.BoardRun.{BoardRun as BoardRunValue};
 ghost use Rattle.transcript.specs.Lines.{transcript_of};
 ghost use Rattle.transcript.specs.Plan.{all_dispatches, plan};

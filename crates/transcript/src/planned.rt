@@ -9,7 +9,7 @@ use ipb_base::Words;
 use std::marker::Model;
 
 /// Where one piece of an operation stands among the bodies of its client on a board. Profile.
-#[derive(Clone, Copy, Debug, PartialEq, Eq)]
+#[derive(Clone, Copy, PartialEq, Eq)]
 pub struct PieceAt {
     /// The number of the body, from 0 through all dispatches of the client.
     pub body: usize,
@@ -18,7 +18,7 @@ pub struct PieceAt {
 }
 
 /// Where the pieces of one operation stand, in order. Contracts see that list.
-#[derive(Debug, Drop)]
+#[derive(Drop)]
 pub(crate) struct OpPieces {
     items: Vec<PieceAt>,
 }
@@ -50,7 +50,7 @@ impl OpPieces {
 
 /// The bodies of a client on one board, through all its dispatches, where the pieces of each of its operations there
 /// stand, and how many bodies each dispatch has. Contracts see the three lists.
-#[derive(Debug, Drop)]
+#[derive(Drop)]
 pub struct Planned {
     bodies: Vec<Words>,
     pieces: Vec<OpPieces>,

@@ -5,7 +5,7 @@ ghost use Rattle.std.specs.List.{AllByRecursion, flat_map};
 ghost use Rattle.mtu_packer.specs.Cutting.{CanBeCut, cut};
 ghost use Rattle.mtu_packer.specs.Packed.{FitsPackets, packed};
 ghost use Rattle.mtu_packer.specs.declared.packing.TheConstants.{MIN_PAYLOAD, MAX_PAYLOAD};
-ghost use Rattle.script_lang.specs.Packing.{CanBePacked, HaveFewPieces};
+ghost use Rattle.script_steps.specs.Packing.{CanBePacked, HaveFewPieces};
 ghost use Rattle.transcript.specs.Plan as spec;
 ghost use Rattle.transcript.specs.Steps.{so_far};
 
@@ -14,7 +14,7 @@ use crate::planned::{OpPieces, PieceAt, Planned};
 use ipb_base::{NoMemory, Words};
 use mtu_packer::laws::{packed_bodies_spell_requests, packing_is_a_function};
 use mtu_packer::{Packed, Piece, pack};
-use script_lang::{RegOp, Step};
+use script_steps::{RegOp, Step};
 use std::alloc::Global;
 use transaction_codec::Op;
 

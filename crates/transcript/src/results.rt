@@ -14,7 +14,7 @@ use crate::planned::PieceAt;
 use ipb_base::{NoMemory, Words};
 use masked_fields::extract;
 use reply_join::Answer;
-use script_lang::{RegOp, Verb};
+use script_steps::{RegOp, Verb};
 use std::alloc::Global;
 
 /// Adds the values of a transaction's answer. Where it failed, what it came to.

@@ -5,7 +5,7 @@ ghost use Rattle.transcript.specs.Text as spec;
 
 use crate::line::{BoardLine, OpLine, OpResult};
 use ipb_base::NoMemory;
-use script_lang::Verb;
+use script_steps::Verb;
 use std::alloc::Global;
 
 /// Puts a word behind a text: `0x` and eight lower-case hexadecimal digits.

@@ -24,6 +24,7 @@ use std::alloc::{AllocFailed, Global};
 use std::marker::Model;
 use std::snapshot::Snapshot;
 use std::sync::Wait;
+use std::sync::atomic::{AtomicU64, Ordering};
 use std::{mem, thread};
 
 type TurnTable<V> = Table<Option<V>, PassView, Snapshot<V>, TurnRule, Global>;
@@ -35,6 +36,7 @@ type TurnShared<V> = Shared<Option<V>, PassView, Snapshot<V>, TurnRule>;
 #[derive(Drop)]
 pub struct Turn<V: Chronicle> {
     table: TurnTable<V>,
+    sleepers: AtomicU64,
 }
 
 impl<V: Chronicle> Model for Turn<V> {
@@ -69,7 +71,13 @@ impl<V: Chronicle + Send> Turn<V> {
         let count = value.count();
         let slots = only_slot(alloc, value)?;
         match Table::new(alloc, &[0, count], slots, &about) {
-            Ok((table, seat)) => Ok((Turn { table }, Pass::of(0, 1, seat.into_badge()))),
+            Ok((table, seat)) => Ok((
+                Turn {
+                    table,
+                    sleepers: AtomicU64::new(0),
+                },
+                Pass::of(0, 1, seat.into_badge()),
+            )),
             Err(Refused { slots }) => Err(NotMade {
                 value: only_value(slots),
             }),
@@ -138,9 +146,11 @@ impl<V: Chronicle + Send> Turn<V> {
         let mut seat = mem::replace(&mut pass.badge, Badge::blank()).into_seat();
         give_to(&self.table.shared, &mut seat, value);
         pass.badge = seat.into_badge();
+        self.wake_a_sleeper();
     }
 
-    /// Takes the value, and tries again until it has it. It waits for the pass that holds the value.
+    /// Takes the value, and tries again until it has it. It waits for the pass that holds the value, and sleeps where
+    /// that takes long. Threads that slept before this call have a moment to take the value first.
     pub fn take<R: Wait>(&self, rt: &R, pass: &mut Pass) -> V
         requires turn { pass.old.turn ≡ self.now }
         requires idle { pass.old.holds ≡ false }
@@ -151,11 +161,12 @@ impl<V: Chronicle + Send> Turn<V> {
         } }
         ensures told { Told pass.old.knows (V.entries result) }
     {
+        self.let_sleepers_in();
         for _ in rt.forever() {
             if let Some(value) = self.try_take(pass) {
                 return value;
             }
-            give_way();
+            self.sleep(rt);
         }
         unreachable!()
     }
@@ -167,23 +178,67 @@ impl<V: Chronicle + Send> Turn<V> {
         ensures { Told pass.knows (V.entries result) }
     {
         let value = self.take(rt, &mut pass);
-        let Turn { table } = self;
+        let Turn {
+            table,
+            sleepers: _sleepers,
+        } = self;
         let Pass { badge, .. } = pass;
         close_empty(table, badge.into_seat());
         value
     }
-}
 
-/// How often a thread that waits gives way between two exchanges (profile). So it asks less often for the word of the
-/// slot, which the thread that gives the value back needs too.
-const GIVES_WAY: u32 = 8;
+    /// Where threads sleep until the value is given, lets one of them take it, for a moment.
+    fn let_sleepers_in(&self) {
+        if self.sleepers.load(Ordering::SeqCst) == 0 {
+            return;
+        }
+        for _ in 0..LETS_IN {
+            if self.is_taken() {
+                return;
+            }
+            thread::yield_now();
+        }
+    }
 
-/// Lets other threads run.
-fn give_way() {
-    for _ in 0..GIVES_WAY {
-        thread::yield_now();
+    /// Waits while the value is taken: it looks a few times, and then sleeps until the value is given.
+    ///
+    /// No wakeup is lost. A thread counts itself among the sleepers before the system looks once more whether the value
+    /// is taken, and whoever gives the value empties word 0 before it looks for sleepers. So either the system finds
+    /// the word changed and does not let the thread sleep, or the giver finds the sleeper.
+    fn sleep<R: Wait>(&self, rt: &R) {
+        for _ in 0..LOOKS {
+            if !self.is_taken() {
+                return;
+            }
+            thread::yield_now();
+        }
+        self.sleepers.fetch_add(1, Ordering::SeqCst);
+        self.table.shared.park(rt, 0, TAKEN);
+        self.sleepers.fetch_sub(1, Ordering::SeqCst);
+    }
+
+    /// Wakes a thread that sleeps until the value is given. It asks nothing of the system where none sleeps.
+    fn wake_a_sleeper(&self) {
+        if self.sleepers.load(Ordering::SeqCst) > 0 {
+            self.table.shared.wake_one(0);
+        }
+    }
+
+    /// Whether a pass holds the value. It is no step of the rule, and tells no pass anything.
+    fn is_taken(&self) -> bool {
+        self.table.shared.peek(0) == u64::from(TAKEN)
     }
 }
+
+/// Word 0 while a pass holds the value.
+const TAKEN: u32 = 1;
+
+/// How often a thread looks whether the value was given before it sleeps (profile).
+const LOOKS: u32 = 8;
+
+/// How often a thread gives way at most to those that sleep (profile). One that is woken takes some 50 microseconds to
+/// run.
+const LETS_IN: u32 = 64;
 
 /// The exchange, the value out of the slot, and the load, by which the emptied slot is at home again.
 fn take_from<V: Chronicle>(

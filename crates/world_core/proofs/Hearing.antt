@@ -128,6 +128,12 @@ other_heard hub told (inl none) = ap (take_message hub) none
 other_heard hub told (inr zero) = ap (take_message hub) zero.1
     ∙ ap (settle hub zero.0) (zero_of_none hub.first hub.open_places)
 
+-- what a message makes of the hub
+pub message_told : (w : World) (datagram : Datagram) (told : ToHub) (hub : Hub) (r : Option Datagram) → r ≡ Some datagram
+    → to_hub datagram.bytes ≡ Some told → hub ≡ take_message w.hub (Some told) → with_hub w hub ≡ hub_told w r
+message_told w datagram told hub r is read taken =
+    ap (with_hub w) (taken ∙ ap (take_message w.hub) (sym read)) ∙ sym (ap (hub_told w) is)
+
 -- what is no message changes nothing
 pub other_told : (w : World) (datagram : Datagram) (r : Option Datagram) → r ≡ Some datagram
     → IsRead datagram.bytes Other → w ≡ hub_told w r

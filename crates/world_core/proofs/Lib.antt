@@ -2,6 +2,7 @@ mod Airs
 mod Sends
 mod Hearing
 mod Moves
+mod OneMove
 mod Refusals
 mod States
 mod Receives

@@ -17,6 +17,7 @@ pub use air::{Air, LIFETIME};
 pub use board_node::Board;
 pub use ipb_base::{NoMemory, Words};
 pub use link::{Link, LinkFault, MAX_DATAGRAM, Received};
+pub use link_waiter::Waiter;
 pub use message::{Message, read_for_hub};
 pub use reliable_engine::{Engine, Fate, Sending, Settings};
 pub use sending::{append_sending, write_sending};

@@ -5,12 +5,14 @@ ghost use Rattle.ipb_base.specs.Faults.{Rose};
 ghost use Rattle.world_core.specs.Telling.{gots_after, IfTelling, IsCarried, IsSent, quiets_after, Receives, Telling};
 
 use ipb_base::NoMemory;
+use link_waiter::Waiter;
+use std::alloc::Global;
 
 /// The most bytes of a datagram: as many as the greatest MTU (profile).
 pub const MAX_DATAGRAM: usize = 9000;
 
 /// Why a link did not do what it was asked.
-#[derive(Clone, Copy, Debug, PartialEq, Eq)]
+#[derive(Clone, Copy, PartialEq, Eq)]
 pub enum LinkFault {
     /// The network failed. The link counted it.
     Failed,
@@ -30,7 +32,7 @@ impl From<NoMemory> for LinkFault {
 }
 
 /// What a receive came to.
-#[derive(Clone, Copy, Debug, PartialEq, Eq)]
+#[derive(Clone, Copy, PartialEq, Eq)]
 pub enum Received {
     /// A datagram is in the buffer.
     Got,
@@ -87,4 +89,16 @@ pub trait Link {
         ensures gots { gots self.new ≡ gots_after result (gots self.old) }
         ensures gots_rise { gots self.old ≤ gots self.new }
         ensures held { held self.old ≤ held self.new };
+
+    /// What waits for the next datagram beside the link. `None` where there is nothing to wait for, or no room for it.
+    /// Nothing that contracts see of the link changes.
+    fn waiter(&mut self, _alloc: Global) -> Option<Waiter>
+        ensures telling { telling self.new ≡ telling self.old }
+        ensures faults { faults self.new ≡ faults self.old }
+        ensures quiets { quiets self.new ≡ quiets self.old }
+        ensures gots { gots self.new ≡ gots self.old }
+        ensures held { held self.new ≡ held self.old }
+    {
+        None
+    }
 }

@@ -11,7 +11,7 @@ use std::alloc::Global;
 use world_model::laws::reading::what_a_hub_reads;
 
 /// What a datagram says to a hub.
-#[derive(Debug, Drop)]
+#[derive(Drop)]
 pub enum Message {
     /// The reply to the control packet with this identifier (IPbus 2.0, reliability mechanism).
     Reply { id: Id, words: Words },

@@ -246,7 +246,7 @@ gave_up_kept most w b e =
     let Q : World → Type 0 = λ (v : World). v.hub.gave_up ≡ b in
     flush_keeps Q (λ v is. send_cases (λ (n : Next). Q (sent_into v n)) v.hub is (λ _ _. is) (λ _ _ _ _. is)) most w e
 
-offered_same : (w : World) (o : Offered) (b : Bool) → w.hub.gave_up ≡ b → (w.hub.gave_up ≡ true → pending w.hub ≡ 0)
+pub offered_same : (w : World) (o : Offered) (b : Bool) → w.hub.gave_up ≡ b → (w.hub.gave_up ≡ true → pending w.hub ≡ 0)
     → w.hub.fates ≡ []
     → go_on (caught_up w) (offer (caught_up w).hub o) ≡ caught_up (with_hub w (offer w.hub o))
 offered_same w o true e given_up told = ap (λ (v : World). go_on v (offer v.hub o)) (nothing_pends w (given_up e) told)

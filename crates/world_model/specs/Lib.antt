@@ -1,4 +1,5 @@
 pub mod Below
+pub mod Settings
 pub mod Places
 pub mod Messages
 pub mod Board

@@ -1,7 +1,7 @@
 use crate::Bytes;
 
 /// Where a datagram goes.
-#[derive(Clone, Copy, Debug, PartialEq, Eq)]
+#[derive(Clone, Copy, PartialEq, Eq)]
 pub enum Direction {
     /// From the hub to the board.
     ToBoard,
@@ -10,7 +10,7 @@ pub enum Direction {
 }
 
 /// A datagram that was sent. It stays in the air for good: to lose it is not to hear it.
-#[derive(Debug, Drop)]
+#[derive(Drop)]
 pub struct Datagram {
     /// Who hears it.
     pub direction: Direction,

@@ -29,7 +29,7 @@ pub enum DropCause {
 }
 
 /// A control packet that a board executed.
-#[derive(Debug, Drop)]
+#[derive(Drop)]
 pub struct LogEntry {
     /// Whether the packet had the expected identifier, and not 0.
     pub numbered: bool,

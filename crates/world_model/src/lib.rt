@@ -19,6 +19,7 @@ pub mod laws;
 mod moves;
 mod offered;
 mod sending;
+mod settings;
 
 pub use bytes::Bytes;
 pub use datagram::{Datagram, Direction};
@@ -29,3 +30,4 @@ pub use offered::{Fate, Offered, OpenPlace};
 pub use packet_codec::Order;
 pub use packet_ids::Id;
 pub use sending::Sending;
+pub use settings::{MAX_WINDOW, Settings};

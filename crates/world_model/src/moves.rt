@@ -4,7 +4,7 @@ ghost use Rattle.world_model.specs.declared.moves.WorldEnd.TheVariants.{NoMemory
 use ipb_base::{NoMemory, Words};
 
 /// A move of the world of one hub, one board and the air between them.
-#[derive(Debug, Drop)]
+#[derive(Drop)]
 pub enum WorldMove {
     /// A body is offered to the hub.
     Offer { tag: u64, body: Words },

@@ -1,7 +1,7 @@
 use ipb_base::Words;
 
 /// A body that was offered to a hub, under the tag of whoever offered it.
-#[derive(Debug, Drop)]
+#[derive(Drop)]
 pub struct Offered {
     /// The tag under which its fate is handed out.
     pub tag: u64,
@@ -10,7 +10,7 @@ pub struct Offered {
 }
 
 /// A place whose body was sent and whose reply was not taken.
-#[derive(Clone, Copy, Debug, PartialEq, Eq)]
+#[derive(Clone, Copy, PartialEq, Eq)]
 pub struct OpenPlace {
     /// The place, from 1, in the order of first sends.
     pub place: u64,
@@ -23,7 +23,7 @@ pub struct OpenPlace {
 }
 
 /// What became of a body that was offered. It never changes.
-#[derive(Debug, Drop)]
+#[derive(Drop)]
 pub enum Fate {
     /// A reply came while somebody wanted it.
     Replied { place: u64, words: Words },

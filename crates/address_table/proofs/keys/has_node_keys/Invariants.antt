@@ -4,4 +4,4 @@ use Rattle.address_table.specs.Keys.{has_node_keys}
 use Rattle.address_table.proofs.keys.has_node_keys.Given as goal
 
 abbrev pub invariant-loop-key : goal.invariant-loop-key
-invariant-loop-key l = has_node_keys (members_view l.key-iterator) ≡ has_node_keys (table_view l.members)
+invariant-loop-key l = has_node_keys l.format (members_view l.key-iterator) ≡ has_node_keys l.format (table_view l.members)

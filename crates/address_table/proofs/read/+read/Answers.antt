@@ -10,16 +10,16 @@ use Rattle.address_table.proofs.ReadNodes.{next_node, next_refused, past_node, d
 use Rattle.address_table.proofs.read.+read.Goals as goal
 
 pub read_rest-copy_at-requires : goal.read_rest-copy_at-requires
-read_rest-copy_at-requires t c = (texts _ c.requires.kept).id
+read_rest-copy_at-requires t c = (texts _ _ c.requires.kept).id
 
 pub read_rest-copy_module-requires : goal.read_rest-copy_module-requires
-read_rest-copy_module-requires t c = (texts _ c.requires.kept).«module»
+read_rest-copy_module-requires t c = (texts _ _ c.requires.kept).«module»
 
 pub read_rest-copy_at-requires-2 : goal.read_rest-copy_at-requires-2
-read_rest-copy_at-requires-2 t c = (texts _ c.requires.kept).tags
+read_rest-copy_at-requires-2 t c = (texts _ _ c.requires.kept).tags
 
 pub read_rest-copy_at-requires-3 : goal.read_rest-copy_at-requires-3
-read_rest-copy_at-requires-3 t c = (texts _ c.requires.kept).description
+read_rest-copy_at-requires-3 t c = (texts _ _ c.requires.kept).description
 
 pub read_children-read_nodes-requires : goal.read_children-read_nodes-requires
 read_children-read_nodes-requires t c =
@@ -43,7 +43,7 @@ pub read_node-returns-in-Ok-clause-refused : goal.read_node-returns-in-Ok-clause
 read_node-returns-in-Ok-clause-refused t c =
     rw (
       is_table (view c.args.value.now) (table_view c.in-Some.members.now) c.in-Some.ensures,
-      first_fault-node _ c.in-Ok.ensures.kept,
+      first_fault-node _ _ c.in-Ok.ensures.kept,
     ) c.read_rest.ensures.refused
 
 pub read_nodes-read_node-requires : goal.read_nodes-read_node-requires
@@ -66,7 +66,7 @@ read_nodes-returns-in-Err-clause-refused t c =
     let here : c.item-item.result ≡ get_or c.args.items.now.items c.loop-i.i c.item-item.result =
     c.item-item.is ∙ ap (λ vs. get_or vs c.loop-i.i c.item-item.result) c.deref-item-items.ensures.value in
     subst (λ fault. IsFault fault c.refused_below.result) c.loop-i.invariant.rest
-    (next_refused _ _ _ c.refused_below.result within here (c.refused_below.ensures _ c.in-Err.ensures.refused))
+    (next_refused _ _ _ _ c.refused_below.result within here (c.refused_below.ensures _ c.in-Err.ensures.refused))
 
 pub read_nodes-loop-i-preserved : goal.read_nodes-loop-i-preserved
 read_nodes-loop-i-preserved t c =
@@ -77,8 +77,8 @@ read_nodes-loop-i-preserved t c =
     record {
       nodes =
           rw c.in_ok-push-in-Ok.ensures.items
-          (next_node _ _ _ _ _ within here c.loop-i.invariant.nodes c.in-Ok.ensures.read);
-      rest = sym (past_node _ _ _ _ within here c.in-Ok.ensures.read) ∙ c.loop-i.invariant.rest;
+          (next_node _ _ _ _ _ _ within here c.loop-i.invariant.nodes c.in-Ok.ensures.read);
+      rest = sym (past_node _ _ _ _ _ within here c.in-Ok.ensures.read) ∙ c.loop-i.invariant.rest;
     }
 
 pub read_rest-returns-clause-read : goal.read_rest-returns-clause-read
@@ -92,6 +92,8 @@ read_rest-returns-clause-read t c =
       permission = rw out-roll-Node said.permission;
       mode = rw out-roll-Node said.mode;
       size = rw out-roll-Node said.size;
+      count = rw out-roll-Node said.count;
+      stride = rw out-roll-Node said.stride;
       «module» = rw out-roll-Node c.in_ok-copy_module.ensures;
       tags = rw out-roll-Node c.in_ok-copy_at-2.ensures;
       description = rw out-roll-Node c.in_ok-copy_at-3.ensures;

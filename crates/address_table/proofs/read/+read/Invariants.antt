@@ -19,7 +19,7 @@ decreases-read_nodes l = 4 * items_depth (array_view l.items.now) + 1
 
 abbrev pub invariant-read_nodes-loop-i : goal.invariant-read_nodes-loop-i
 invariant-read_nodes-loop-i l = record {
-  nodes : AreNodes (items_view (take l.i l.items.items)) l.nodes.items;
-  rest : first_fault (preorder_items l.i (items_view (drop l.i l.items.items)))
-      ≡ first_fault (preorder_items 0 (array_view l.items));
+  nodes : AreNodes l.format (items_view (take l.i l.items.items)) l.nodes.items;
+  rest : first_fault l.format (preorder_items l.i (items_view (drop l.i l.items.items)))
+      ≡ first_fault l.format (preorder_items 0 (array_view l.items));
 }

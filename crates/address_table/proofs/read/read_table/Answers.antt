@@ -15,7 +15,7 @@ is_array (table ms) ds h = cc
 
 pub returns-in_ok-read_nodes-in-Some-clause-accepted : goal.returns-in_ok-read_nodes-in-Some-clause-accepted
 returns-in_ok-read_nodes-in-Some-clause-accepted c =
-    rw (is_array _ _ c.in-Some.ensures) (nodes-faultless 0 _ _ c.in_ok-read_nodes-in-Some.ensures.read)
+    rw (is_array _ _ c.in-Some.ensures) (nodes-faultless _ 0 _ _ c.in_ok-read_nodes-in-Some.ensures.read)
 
 pub returns-in_ok-read_nodes-in-Some-clause-valid : goal.returns-in_ok-read_nodes-in-Some-clause-valid
-returns-in_ok-read_nodes-in-Some-clause-valid c = nodes-valid _ _ c.in_ok-read_nodes-in-Some.ensures.read
+returns-in_ok-read_nodes-in-Some-clause-valid c = nodes-valid _ _ _ c.in_ok-read_nodes-in-Some.ensures.read

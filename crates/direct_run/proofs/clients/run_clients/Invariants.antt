@@ -1,6 +1,6 @@
 use Rattle.std.proofs.Common.{drop}
 use Rattle.std.specs.List.{AllByRecursion}
-use Rattle.script_lang.specs.Packing.{CanBePacked, HaveFewPieces}
+use Rattle.script_steps.specs.Packing.{CanBePacked, HaveFewPieces}
 use Rattle.transcript.specs.declared.greeting.Greeting.TheVariants.{Live}
 use Rattle.direct_run.specs.Runs.{plans_on}
 use Rattle.direct_run.specs.Steps.{IsRunning}

@@ -2,6 +2,7 @@ use Rattle.std.proofs.Common.{◌∙◌, sym, arith}
 use Rattle.hub_lane.proofs.Carrying.{carried}
 use Rattle.hub_lane.proofs.Ready.{exchanged, ready_sent, same_sent}
 use Rattle.hub_lane.proofs.Rounds.{exchanged_pays}
+use Rattle.hub_lane.proofs.InRounds.{round_exchanged}
 use Rattle.hub_lane.proofs.exchange.exchange.Goals as goal
 
 pub receive-requires-clause-drained : goal.receive-requires-clause-drained
@@ -51,3 +52,11 @@ returns-clause-pays g c = λ limits mtu start paid.
     (same_sent c.args.hub.now c.send_all.new.hub c.send_all.ensures.some).rounds c.settle.ensures.hub
     c.settle.ensures.give_ups c.in_ok-send_all.ensures.running c.in_ok-send_all.ensures.pays
     c.in_ok-pumped.ensures.pays limits mtu start paid
+
+pub returns-clause-round : goal.returns-clause-round
+returns-clause-round g c =
+    round_exchanged c.in_ok-pumped.pumped c.args.hub.now c.send_all.new.hub c.receive.new.hub c.settle.new.hub
+    (g.L.Link.telling c.args.link.now) (g.L.Link.telling c.send_all.new.link) (g.L.Link.telling c.receive.new.link)
+    (g.L.Link.held c.args.link.now) (g.L.Link.held c.send_all.new.link) (g.L.Link.held c.receive.new.link)
+    c.settle.ensures.hub c.send_all.ensures.held c.receive.ensures.held c.in_ok-send_all.ensures.running
+    c.in_ok-send_all.ensures.pays c.in_ok-send_all.ensures.round c.in_ok-pumped.ensures.round

@@ -5,11 +5,12 @@ use Rattle.world_core.specs.Telling.{IfTelling, Receives}
 use Rattle.world_model.specs.Messages.{to_hub}
 use Rattle.hub_lane.specs.Hearing.{IsHeardAs}
 use Rattle.hub_lane.specs.declared.answers.Pumped.TheVariants.{Quiet}
-use Rattle.hub_lane.specs.Rounds.{PaysFor}
+use Rattle.hub_lane.specs.Rounds.{PaysFor, Pumps, RoundFor}
 use Rattle.hub_lane.specs.Standing.{GoesOn}
 use Rattle.hub_lane.proofs.Carrying.{got_brings, quiet_brings}
 use Rattle.hub_lane.proofs.Linked.{fault_on, got_on, quiet_on, received_board, unheard_on, was_received}
 use Rattle.hub_lane.proofs.Rounds.{got_for, quiet_for}
+use Rattle.hub_lane.proofs.InRounds.{round_got, round_quiet}
 use Rattle.hub_lane.proofs.exchange.receive.Goals as goal
 
 pub returns-in_err-receive-clause-running : goal.returns-in_err-receive-clause-running
@@ -153,3 +154,34 @@ returns-in-Quiet-clause-brings g c =
     c.in_ok-receive.ensures.received in
     quiet_brings bytes (held c.args.link.now) (held c.receive.new.self) (telling c.args.link.now)
     (telling c.receive.new.self) quiet
+
+pub returns-in_ok-hear-in-Got-clause-round : goal.returns-in_ok-hear-in-Got-clause-round
+returns-in_ok-hear-in-Got-clause-round g c =
+    let telling = g.L.Link.telling in
+    let held = g.L.Link.held in
+    let bytes = c.receive.new.into.items in
+    let pumped = c.in_ok-hear-in-Got.field-0 in
+    let got = subst (λ (r : Received). IfTelling (telling c.args.link.now) (telling c.receive.new.self)
+    (Receives (Ok r) bytes (held c.args.link.now) (held c.receive.new.self))) c.in-Got.is
+    c.in_ok-receive.ensures.received in
+    subst (λ (h : Hub). RoundFor (Pumps pumped) (telling c.args.link.now) c.args.hub.now (held c.args.link.now)
+    (telling c.receive.new.self) h (held c.receive.new.self))
+    (sym (c.in_ok-hear-in-Got.ensures.hub
+    ∙ ap (λ (heard : List ℕ). take_message c.args.hub.now (to_hub heard)) c.deref.ensures.value))
+    (round_got c.laws_of_ways.ensures pumped c.args.hub.now bytes
+    (held c.args.link.now) (held c.receive.new.self) (telling c.args.link.now) (telling c.receive.new.self)
+    (subst (λ (heard : List ℕ). IsHeardAs c.args.hub.now (to_hub heard) pumped)
+    c.deref.ensures.value c.in_ok-hear-in-Got.ensures.heard) got)
+
+pub returns-in-Quiet-clause-round : goal.returns-in-Quiet-clause-round
+returns-in-Quiet-clause-round g c =
+    let telling = g.L.Link.telling in
+    let held = g.L.Link.held in
+    let bytes = c.receive.new.into.items in
+    let quiet = subst (λ (r : Received). IfTelling (telling c.args.link.now) (telling c.receive.new.self)
+    (Receives (Ok r) bytes (held c.args.link.now) (held c.receive.new.self))) c.in-Quiet.is
+    c.in_ok-receive.ensures.received in
+    subst (λ (h : Hub). RoundFor (Pumps Quiet) (telling c.args.link.now) c.args.hub.now (held c.args.link.now)
+    (telling c.receive.new.self) h (held c.receive.new.self)) (sym c.on_quiet.ensures.hub)
+    (round_quiet c.laws_of_ways.ensures c.args.hub.now (held c.args.link.now) (held c.receive.new.self)
+    (telling c.args.link.now) (telling c.receive.new.self) c.requires.none quiet)

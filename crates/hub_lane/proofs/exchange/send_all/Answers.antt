@@ -1,10 +1,12 @@
-use Rattle.std.proofs.Common.{◌∙◌, ℕ, List, subst, sym, arith}
+use Rattle.std.proofs.Common.{◌∙◌, ℕ, List, subst, refl, sym, arith}
 use Rattle.world_model.specs.Sends.{Next}
 use Rattle.world_core.specs.Telling.{IfTelling, IsSent}
 use Rattle.hub_lane.proofs.Sends.{all_out, next_is, none_is, one_less, same_hub, sent_more}
-use Rattle.hub_lane.proofs.Carrying.{put_more}
+use Rattle.hub_lane.specs.Carrying.{HasPut}
+use Rattle.hub_lane.proofs.Carrying.{put_more, put_none_by}
 use Rattle.hub_lane.proofs.Linked.{sent_on, sent_board, still_spelled}
 use Rattle.hub_lane.proofs.Rounds.{pays_sent}
+use Rattle.hub_lane.proofs.InRounds.{none_sent, round_sent, same_link}
 use Rattle.hub_lane.proofs.exchange.send_all.Goals as goal
 
 pub returns-in_err-write_send-clause-some : goal.returns-in_err-write_send-clause-some
@@ -14,6 +16,25 @@ returns-in_err-write_send-clause-some g c =
 pub returns-in_err-send-clause-some : goal.returns-in_err-send-clause-some
 returns-in_err-send-clause-some g c =
     sent_more c.args.hub.now c.loop-send.hub c.next_send.new.self c.next_send.ensures.hub c.loop-send.invariant.some
+
+pub loop-send-init : goal.loop-send-init
+loop-send-init g c =
+    let telling = g.L.Link.telling c.args.link.now in
+    record {
+      sent = c.requires.sent;
+      queue = c.requires.queue;
+      all = refl;
+      some = record { count = 0; sends = refl };
+      running = λ limits outcomes is. is;
+      fault = omega arith;
+      quiet = refl;
+      got = refl;
+      hold = omega arith;
+      pays = λ limits outcomes mtu rounds given_up start paid. paid;
+      round = none_sent c.args.hub.now (g.L.Link.held c.args.link.now) telling;
+      board = refl;
+      put = same_link (HasPut c.args.hub.now c.args.hub.now) telling (put_none_by c.args.hub.now);
+    }
 
 pub loop-send-preserved : goal.loop-send-preserved
 loop-send-preserved g c =
@@ -43,6 +64,10 @@ loop-send-preserved g c =
           c.args.hub.now old next (held c.args.link.now) (held before.link) (held c.send.new.self)
           (telling c.args.link.now) (telling before.link) (telling c.send.new.self) is c.send.ensures.held
           before.invariant.running call before.invariant.pays;
+      round = round_sent c.laws_of_ways.ensures
+          c.args.hub.now old next (held c.args.link.now) (held before.link) (held c.send.new.self)
+          (telling c.args.link.now) (telling before.link) (telling c.send.new.self) is before.invariant.hold
+          c.send.ensures.held before.invariant.running call before.invariant.pays before.invariant.round;
       quiet = c.send.ensures.quiets ∙ before.invariant.quiet;
       got = c.send.ensures.gots ∙ before.invariant.got;
       board = sent_board _ _ _ _ _ call ∙ before.invariant.board;

@@ -7,7 +7,7 @@ returns-clause-asked g c =
     let before = c.tells_its_own.ensures in
     IfOk-weaker c.ask-asked.result _ _ (λ answer a. ask_means g.L.Link.telling c.an_ask_is_of_its_plan.ensures.planned
     c.args.lane.now c.ask-asked.new.self c.args.client answer before.own before.legal
-    c.tells_its_own-2.ensures.legal a) c.ask-asked.ensures.asked
+    c.tells_its_own-2.ensures.legal c.ask-asked.ensures.opening a) c.ask-asked.ensures.asked
 
 pub returns-clause-looked : goal.returns-clause-looked
 returns-clause-looked g c =

@@ -19,7 +19,8 @@ returns-in-Ok-clause-submitted g c =
     (λ k. HasSubmitted k c.args.body seq) (shown telling new)) (sym asked.0)
     (submit_means telling c.args.lane.now c.plan-planned.new.self new c.args.client c.args.body
     c.tells_its_own.ensures.own c.an_ask_is_of_its_plan.ensures.planned c.in-Ok.seq c.tells_its_own-2.ensures.legal
-    c.tells_its_own-in-Ok.ensures.legal c.requires.all_asked c.in-Ok.ensures.planned asked.1))
+    c.tells_its_own-in-Ok.ensures.legal c.requires.all_asked c.in-Ok.ensures.planned
+    c.ask_planned-asked.ensures.opening asked.1))
     c.ask_planned-asked.ensures.asked
 
 pub returns-in-Ok-clause-refused : goal.returns-in-Ok-clause-refused

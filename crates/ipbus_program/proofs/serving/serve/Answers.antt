@@ -6,7 +6,7 @@ use Rattle.command_words.specs.declared.command.Command.TheVariants.{Serve}
 use Rattle.ipbus_program.specs.Steps.{IsServeFailure}
 use Rattle.ipbus_program.proofs.Leaving.{error_left, failure_left, refusal_left, serve_leaves}
 use Rattle.ipbus_program.proofs.Ready.{may_serve}
-use Rattle.ipbus_program.proofs.Services.{none_back, services, some_served}
+use Rattle.ipbus_program.proofs.Services.{none_back, not_refused, services, some_served}
 use Rattle.ipbus_program.proofs.serving.serve.Goals as goal
 
 pub served-requires-after_bounds : goal.served-requires-after_bounds
@@ -49,6 +49,13 @@ returns-in-Ok-clause-serving g c =
     g.D.Outgoing.Sink.written g.D.Outgoing.Sink.faults g.D.Outgoing.Sink.ended
     _ _ _ _ _ _ c.serve_laws.ensures c.args.count c.args.bytes.now c.in-Ok.read.session c.in-Ok.read.steps.items
     c.in-Ok.ensures.runnable c.served.result c.served.ensures.serving
+
+pub returns-in-Ok-clause-refused : goal.returns-in-Ok-clause-refused
+returns-in-Ok-clause-refused g c =
+    let shown = shown_by g.R.L.Link.faults g.R.L.Link.quiets g.R.L.Link.gots g.R.L.Link.held g.R.L.Link.telling in
+    not_refused shown g.D.Incoming.Source.left g.D.Incoming.Source.faults
+    g.D.Outgoing.Sink.written g.D.Outgoing.Sink.faults g.D.Outgoing.Sink.ended
+    _ _ _ _ _ _ c.in-Ok.read.session c.args.count _ c.served.result c.served.ensures.serving
 
 pub returns-in_ok-refused-in-Err-Refused-clause-leaves :
     goal.returns-in_ok-refused-in-Err-Refused-clause-leaves

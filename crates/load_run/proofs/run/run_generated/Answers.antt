@@ -2,8 +2,8 @@ use Rattle.std.proofs.Common.{◌≡◌, ◌+◌, List, length, map, Err, refl, 
 use Rattle.std.specs.List.{AllByRecursion}
 use Rattle.board_greeting.specs.Boards.{shown_by}
 use Rattle.board_node.specs.declared.spec.BoardSpec.{BoardSpec}
-use Rattle.reliable_engine.specs.Settings.{Limits}
-use Rattle.script_lang.specs.declared.operation.Step.{Step}
+use Rattle.world_model.specs.Settings.{Limits}
+use Rattle.script_steps.specs.declared.operation.Step.{Step}
 use Rattle.lane_history.specs.Links.{IsUntouched}
 use Rattle.lane_history.specs.Runs.{AreRunsOver}
 use Rattle.load_session.specs.Generated.{boards, settings, steps}

@@ -1,8 +1,8 @@
 use Rattle.std.proofs.Common.{List, map, refl, sym, subst, arith, ◌∙◌}
 use Rattle.board_greeting.specs.Boards.{shown_by}
 use Rattle.board_node.specs.declared.spec.BoardSpec.{BoardSpec}
-use Rattle.reliable_engine.specs.Settings.{Limits}
-use Rattle.script_lang.specs.declared.operation.Step.{Step}
+use Rattle.world_model.specs.Settings.{Limits}
+use Rattle.script_steps.specs.declared.operation.Step.{Step}
 use Rattle.load_session.specs.Generated.{boards, settings, steps}
 use Rattle.load_run.specs.Loading.{IsGenerated, IsLoadOf}
 use Rattle.load_run.proofs.Loads.{no_load, reached_of, rightly_left}

@@ -1,9 +1,9 @@
 use Rattle.std.proofs.Common.{◌≡◌, ◌≤◌, List, [], length, Ok, slice_get, sym, subst}
 use Rattle.std.specs.List.{AllByRecursion}
 use Rattle.std.proofs.lemmas.Result.{IfOk-weaker, IfErr-weaker}
-use Rattle.script_lang.specs.declared.operation.Step.{Step}
+use Rattle.script_steps.specs.declared.operation.Step.{Step}
 use Rattle.script_lang.specs.declared.script_refusal.TheConstants.{MAX_LINES}
-use Rattle.script_lang.specs.Packing.{AreWithinLimits, HaveFewPieces}
+use Rattle.script_steps.specs.Packing.{AreWithinLimits, HaveFewPieces}
 use Rattle.script_lang.specs.Scripts.{script_faults, steps_of, TellsLine}
 use Rattle.script_lang.specs.Tallies.{run_all, nothing, StopsAs}
 use Rattle.script_lang.proofs.FewPieces.{few_pieces, short_steps}

@@ -1,6 +1,6 @@
 use Rattle.std.proofs.Common.{◌≡◌, ◌≤◌, ◌+◌, false, drop}
 use Rattle.std.specs.List.{AllByRecursion}
-use Rattle.script_lang.specs.Packing.{CanBePacked}
+use Rattle.script_steps.specs.Packing.{CanBePacked}
 use Rattle.script_lang.specs.Scripts.{is_over}
 use Rattle.script_lang.specs.Tallies.{run_from, joined}
 use Rattle.script_lang.proofs.compile.script_steps.Given as goal

@@ -1,27 +1,57 @@
-use Rattle.std.proofs.Common.{◌≡◌, [], IfErr, rules, subst, ◌∙◌}
+use Rattle.std.proofs.Common.{◌≡◌, [], subst, ◌∙◌}
 use Rattle.toml.specs.View.{table_view}
-use Rattle.script_lang.specs.Document.{duplicates, tables_faults}
-use Rattle.script_lang.specs.Sessions.{boards_of, tables_of}
+use Rattle.script_lang.specs.Document.{duplicates, misfits, size_faults, tables_faults}
+use Rattle.script_lang.specs.Sessions.{boards_of, format_of, tables_of}
 use Rattle.script_lang.specs.Reading.{TellsFault}
-use Rattle.script_lang.proofs.InOrder.{at_names, at_tables}
+use Rattle.script_lang.proofs.InOrder.{all_faultless, at_counts, at_names, at_shape, at_tables, handed_on}
 use Rattle.script_lang.proofs.document.session.Goals as goal
+
+pub returns-in_err-check_shape-clause-first : goal.returns-in_err-check_shape-clause-first
+returns-in_err-check_shape-clause-first c =
+    let document = table_view c.args.document.now in
+    at_shape document c.from_residual.result
+    (handed_on (TellsFault (misfits document)) c.from_residual.result c.in_err-check_shape.field-0.0
+    c.from_residual.ensures.1 c.in_err-check_shape.ensures.first)
+
+pub returns-in_err-check_counts-clause-first : goal.returns-in_err-check_counts-clause-first
+returns-in_err-check_counts-clause-first c =
+    let document = table_view c.args.document.now in
+    let handed = c.from_residual-in_err-check_counts in
+    at_counts document c.in_ok-check_shape.ensures.none handed.result
+    (handed_on (TellsFault (size_faults document)) handed.result c.in_err-check_counts.field-0.0 handed.ensures.1
+    c.in_err-check_counts.ensures.first)
 
 pub returns-in_err-check_names-clause-first : goal.returns-in_err-check_names-clause-first
 returns-in_err-check_names-clause-first c =
-    let same : c.as_slice.result.now ≡ boards_of (table_view c.args.document.now) =
-    c.as_slice.ensures ∙ c.in_ok-boards.ensures in
-    let told : IfErr c.from_residual-in_err-check_names.result (TellsFault (duplicates [] 0 c.as_slice.result.now)) =
-    search rules in
-    at_names (table_view c.args.document.now) c.in_ok-check_shape.ensures.none c.in_ok-check_counts.ensures.none
-    c.from_residual-in_err-check_names.result
-    (subst (λ boards. IfErr c.from_residual-in_err-check_names.result (TellsFault (duplicates [] 0 boards))) same told)
+    let document = table_view c.args.document.now in
+    let handed = c.from_residual-in_err-check_names in
+    let same : c.as_slice.result.now ≡ boards_of document = c.as_slice.ensures ∙ c.in_ok-boards.ensures in
+    at_names document c.in_ok-check_shape.ensures.none c.in_ok-check_counts.ensures.none handed.result
+    (handed_on (TellsFault (duplicates [] 0 (boards_of document))) handed.result c.in_err-check_names.field-0.0
+    handed.ensures.1
+    (subst (λ boards. TellsFault (duplicates [] 0 boards) c.in_err-check_names.field-0.0) same
+    c.in_err-check_names.ensures.first))
 
 pub returns-in_err-tables-clause-first : goal.returns-in_err-tables-clause-first
 returns-in_err-tables-clause-first c =
-    let same : c.as_slice.result.now ≡ boards_of (table_view c.args.document.now) =
-    c.as_slice.ensures ∙ c.in_ok-boards.ensures in
-    let told : IfErr c.from_residual-in_err-tables.result
-    (TellsFault (tables_faults (tables_of (table_view c.args.document.now)))) = search rules in
-    at_tables (table_view c.args.document.now) c.in_ok-check_shape.ensures.none c.in_ok-check_counts.ensures.none
-    (subst (λ boards. duplicates [] 0 boards ≡ []) same c.in_ok-check_names.ensures.none)
-    c.from_residual-in_err-tables.result told
+    let document = table_view c.args.document.now in
+    let handed = c.from_residual-in_err-tables in
+    let same : c.as_slice.result.now ≡ boards_of document = c.as_slice.ensures ∙ c.in_ok-boards.ensures in
+    at_tables document c.in_ok-check_shape.ensures.none c.in_ok-check_counts.ensures.none
+    (subst (λ boards. duplicates [] 0 boards ≡ []) same c.in_ok-check_names.ensures.none) handed.result
+    (handed_on (TellsFault (tables_faults (format_of document) (tables_of document))) handed.result c.in_err-tables.field-0.0
+    handed.ensures.1 c.in_err-tables.ensures.first)
+
+pub returns-clause-found : goal.returns-clause-found
+returns-clause-found c =
+    let document = table_view c.args.document.now in
+    let same : c.as_slice.result.now ≡ boards_of document = c.as_slice.ensures ∙ c.in_ok-boards.ensures in
+    record {
+      faultless = all_faultless document c.in_ok-check_shape.ensures.none c.in_ok-check_counts.ensures.none
+          (subst (λ boards. duplicates [] 0 boards ≡ []) same c.in_ok-check_names.ensures.none)
+          c.in_ok-tables.ensures.none;
+      settings = c.settings.ensures;
+      tables = c.in_ok-tables.ensures.read;
+      boards = c.boards-2.view_is ∙ c.in_ok-boards.ensures;
+      scripts = c.in_ok-scripts.ensures;
+    }

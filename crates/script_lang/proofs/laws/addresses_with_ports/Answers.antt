@@ -1,5 +1,5 @@
 use Rattle.std.proofs.Common.{refl}
-use Rattle.address_table.specs.Numbers.{digit_value}
+use Rattle.ipb_base.specs.Digits.{digit_value}
 use Rattle.script_lang.specs.Texts.{endpoint}
 use Rattle.script_lang.proofs.laws.addresses_with_ports.Goals as goal
 

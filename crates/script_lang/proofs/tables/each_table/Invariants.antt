@@ -9,7 +9,7 @@ use Rattle.script_lang.proofs.tables.each_table.Given as goal
 -- the tables so far, and those that are left
 abbrev pub invariant-loop-name : goal.invariant-loop-name
 invariant-loop-name l = record {
-  pending : ArePending (members_view l.name-iterator) (table_view l.members) l.tables;
+  pending : ArePending l.format (members_view l.name-iterator) (table_view l.members) l.tables;
   ordered : IsStrictlySortedBy string_cmp (names_of l.name-iterator);
-  faults : tables_faults (members_view l.name-iterator) ≡ tables_faults (table_view l.members);
+  faults : tables_faults l.format (members_view l.name-iterator) ≡ tables_faults l.format (table_view l.members);
 }

@@ -2,7 +2,7 @@ use Rattle.std.proofs.Common.{◌≡◌, ℕ, zero, suc, List, [], ◌∷◌, So
 use Rattle.std.specs.List.{slice_get}
 use Rattle.std.proofs.lemmas.Option.{same_Some}
 use Rattle.board_node.specs.declared.spec.BoardSpec.{BoardSpec}
-use Rattle.reliable_engine.specs.Settings.{Limits}
+use Rattle.world_model.specs.Settings.{Limits}
 use Rattle.lane_history.specs.Links.{LinkReport}
 use Rattle.served_history.specs.Boards.{AreServedOver, IsServedAt, IsServedOver, ServedBoard}
 use Rattle.served_history.proofs.boards.each_board_was_served.Goals as goal

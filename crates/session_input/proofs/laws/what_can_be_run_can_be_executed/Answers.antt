@@ -1,7 +1,7 @@
 use Rattle.std.proofs.Common.{List, sym, subst}
 use Rattle.std.specs.List.{AllByRecursion}
-use Rattle.script_lang.specs.declared.operation.Step.{Step}
-use Rattle.script_lang.specs.Executable.{AreExecutable}
+use Rattle.script_steps.specs.declared.operation.Step.{Step}
+use Rattle.script_steps.specs.Executable.{AreExecutable}
 use Rattle.session_input.proofs.laws.what_can_be_run_can_be_executed.Goals as goal
 
 pub returns : goal.returns

@@ -3,7 +3,7 @@ use Rattle.std.proofs.lemmas.List.{take_all}
 use Rattle.std.specs.List.{AllByRecursion}
 use Rattle.client_threads.specs.Clients.{AreOfClientsFrom, IsPlanFor}
 use Rattle.client_threads.specs.declared.plan.ClientPlan.{ClientPlan}
-use Rattle.script_lang.specs.declared.operation.Step.{Step}
+use Rattle.script_steps.specs.declared.operation.Step.{Step}
 use Rattle.session_plans.specs.Plans.{AskAllFrom, plans_over}
 use Rattle.transcript.specs.Plan.{dispatches}
 use Rattle.session_plans.proofs.Plans.{ask_all, client_more, counts_long, dispatch_counts, plans_clients, plans_for}

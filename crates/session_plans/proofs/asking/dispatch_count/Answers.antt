@@ -1,5 +1,5 @@
 use Rattle.std.proofs.Common.{◌≡◌, ◌+◌, ◌∷◌, List, ap, arith, drop, length}
-use Rattle.script_lang.specs.declared.operation.Step.{Step}
+use Rattle.script_steps.specs.declared.operation.Step.{Step}
 use Rattle.transcript.specs.Plan.{dispatches}
 use Rattle.direct_run.proofs.Sending.{begins_at}
 use Rattle.session_plans.proofs.Plans.{one_at_most, step_more}

@@ -4,6 +4,7 @@ use Rattle.std.proofs.lemmas.Bool.Decides.{nat_tests}
 use Rattle.transaction_codec.specs.Reply.{reply_words, IsReply, BreaksReply, reply_at, replies_words}
 use Rattle.transaction_codec.proofs.Lists.{first_fault, one_fault, fault_is_no_list, one_list}
 use Rattle.transaction_codec.proofs.Formats.{replies_format}
+use Rattle.transaction_codec.proofs.OneMore.{read_more}
 use Rattle.transaction_codec.proofs.reading.read_replies.Goals as goal
 
 -- what stands at the front of the rest is the first fault
@@ -43,3 +44,12 @@ returns-in-Err-clause-faulty c place why fault =
     let same = one_fault reply_words IsReply BreaksReply reply_at replies_format c.args.words.now _ place c.in-Err.why
     why found fault in
     inl (rw (c.fault_at.ensures, same.0, same.1) refl)
+
+-- a reply more
+pub loop-rest-preserved : goal.loop-rest-preserved
+loop-rest-preserved c =
+    let more = read_more reply_words IsReply c.args.words.now c.loop-rest.rest.now c.in-Ok.first.rest.now
+    c.loop-rest.replies.items c.push.new.self.items c.in_ok-to_reply-in-Ok.field-0 _ c.loop-rest.invariant.ranges
+    c.loop-rest.invariant.parts c.in_ok-push-in-Ok.ensures.items c.in_ok-to_reply-in-Ok.ensures
+    c.in-Ok.ensures.found in
+    record { ranges = more.0; parts = more.1 }

@@ -1,83 +1,33 @@
-use Rattle.std.proofs.Common.{◌≡◌, ◌∙◌, ℕ, List, sym, ap, subst, refl, length, ◌++◌, ◌∷◌, [], Some, None, ◌≤◌}
-use Rattle.std.proofs.Common.{if◌then◌else◌}
-use Rattle.world_model.specs.Hub.{offer}
-use Rattle.lane_record.specs.declared.outcome.Outcome.TheVariants.{LinkLost}
-use Rattle.world_model.specs.Facts.{IsSendable}
-use Rattle.lane_record.specs.declared.item.Item.{Item}
-use Rattle.lane_record.specs.Items.{asked, found, plan_in}
-use Rattle.lane_record.specs.NextEntry.{MayAsk, ask_of}
-use Rattle.hub_lane.specs.Lanes.{BoardStatus}
-use Rattle.ipb_base.specs.Numbers.{payload_of}
-use Rattle.hub_lane.proofs.Lanes.{body_sendable, found_fits, lane_asks}
-use Rattle.hub_lane.proofs.Rounds.{pays_asked}
-use Rattle.hub_lane.proofs.Datagrams.{asked_unheard, heard_asked}
-use Rattle.hub_lane.specs.OutcomeTable.{AreAskedIn, IsAsked, asked_body}
-use Rattle.hub_lane.proofs.AskedBodies.{asked_more, not_asked_yet}
+use Rattle.std.proofs.Common.{◌≡◌, ap, arith, subst}
+use Rattle.hub_lane.specs.Calls.{Offers, OffersAs}
+use Rattle.hub_lane.specs.Lanes.{board_of}
+use Rattle.hub_lane.proofs.Asking.{asked_put}
+use Rattle.hub_lane.proofs.InRounds.{asked_round}
 use Rattle.hub_lane.proofs.lane.Lane.ask.Goals as goal
 
-pub invariant_of-self-2 : goal.invariant_of-self-2
-invariant_of-self-2 g c =
-    let l = c.self.inside in
-    let status : BoardStatus = record { mtu = l.mtu; buffers = l.buffers; next = l.first } in
-    let items = l.book.items in
-    let client = c.args.client in
-    let seq = asked client items in
-    let planned_there : found plan_in client seq items ≡ Some c.in-Some.body.now = c.in-Some.ensures.some in
-    let same : c.in_ok-body.body ≡ c.in-Some.body.now = c.in_ok-body.ensures.copied ∙ c.as_slice.ensures in
-    let there : found plan_in client seq items ≡ Some c.in_ok-body.body =
-    planned_there ∙ ap (λ (b : List ℕ). Some b) (sym same) in
-    let can : IsSendable c.in_ok-body.body =
-    subst IsSendable (sym c.in_ok-body.ensures.copied) (c.copy_words.ensures.sendable
-    (subst (λ (b : List ℕ). length b ≤ 2242) (sym c.as_slice.ensures) (body_sendable l.mtu c.in-Some.body.now
-    c.self.invariant.0.knows.mtu (found_fits (payload_of l.mtu) items client seq c.in-Some.body.now
-    c.self.invariant.0.fits planned_there)))) in
-    let fits = found_fits (payload_of l.mtu) items client seq c.in_ok-body.body c.self.invariant.0.fits there in
-    let hub_is : c.offer.new.engine ≡ (if l.down then l.engine
-    else offer l.engine (record { tag = length l.outcomes.items; body = c.in_ok-body.body })) =
-    c.in_ok-offer.ensures.engine in
-    let may : MayAsk items client seq l.give_ups = record {
-      some_client = c.requires.client;
-      next = refl;
-      is_planned = c.an_ask_is_of_its_plan.ensures.planned items l.outcomes.items client seq c.in_ok-body.body
-          c.self.invariant.0.kept.legal there;
-      within = c.self.invariant.0.kept.within;
-    } in
-    let number : c.asked-seq.result ≡ seq = c.asked-seq.ensures ∙ ap (asked client) c.in_ok-reserve.ensures.items in
-    let entry : c.ask.new.self.items ≡ items ++ ask_of client seq l.give_ups ∷ [] = c.ask.ensures
-    ∙ (ap (λ (xs : List Item). xs ++ ask_of client c.asked-seq.result l.give_ups ∷ []) c.in_ok-reserve.ensures.items
-    ∙ ap (λ (n : ℕ). items ++ ask_of client n l.give_ups ∷ []) number) in (
-      lane_asks c.each_event_leads_to_a_state_of_a_run.ensures.offered c.only_an_offer_makes_more_bodies.ensures.offered
-          c.an_ask_is_an_offer.ensures.offered c.a_failed_link_loses_what_waits.ensures.later l.settings status l.engine
-          c.offer.new.engine items c.ask.new.self.items l.outcomes.items c.offer.new.self.items l.give_ups l.down
-          l.spent
-          (g.L.Link.telling l.link) (g.L.Link.faults l.link) (g.L.Link.quiets l.link) client seq c.in_ok-body.body
-          (λ kept. c.entries_go_into_the_book.ensures.ask items l.outcomes.items l.engine.window l.give_ups client seq
-          kept
-          may)
-          (λ kept. c.entries_go_into_the_book.ensures.ask_in_vain items l.outcomes.items l.engine.window l.give_ups
-          client seq
-          kept may) there can c.if-self.false
-          hub_is entry
-          c.in_ok-offer.ensures.items c.self.invariant.0,
-      pays_asked c.laws_of_rounds.ensures l.down l.spent l.mtu l.settings.rounds l.give_ups l.engine c.offer.new.engine
-          (length l.outcomes.items) c.in_ok-body.body (g.L.Link.held l.link) (g.L.Link.telling l.link) c.if-self.false
-          fits
-          hub_is c.self.invariant.1,
-      heard_asked (if l.down then Some (LinkLost None) else None) l.outcomes.items c.offer.new.self.items
-          (g.L.Link.gots l.link) (asked_unheard l.down)
-          c.in_ok-offer.ensures.items c.self.invariant.2,
-      subst (λ (xs : List Item). AreAskedIn xs c.offer.new.self.bodies) (sym entry)
-          (asked_more items client seq l.give_ups l.outcomes.bodies c.offer.new.self.bodies c.self.invariant.3
-          (c.in_ok-offer.ensures.bodies ∙ ap (λ (n : ℕ). l.outcomes.bodies ++ asked_body client n ∷ []) number)),
-    )
+pub returns-in-Asked-clause-asked : goal.returns-in-Asked-clause-asked
+returns-in-Asked-clause-asked g c = record {
+  asked = c.offer_next.new.self;
+  offers = subst (λ a. OffersAs c.args.self.now c.args.client c.offer_next.new.self a) c.in-Asked.is
+      c.in_ok-seq.ensures.asked;
+  sends = c.send_wanted.ensures.sends;
+  same = c.send_wanted.ensures.same;
+}
 
-pub offer-requires-clause-bodies : goal.offer-requires-clause-bodies
-offer-requires-clause-bodies g c = c.self.invariant.0.ready.bodies.few
+pub returns-in-Asked-clause-link : goal.returns-in-Asked-clause-link
+returns-in-Asked-clause-link g c =
+    let offers : Offers c.args.self.now c.args.client c.in-Asked.seq c.offer_next.new.self =
+    subst (λ a. OffersAs c.args.self.now c.args.client c.offer_next.new.self a) c.in-Asked.is
+    c.in_ok-seq.ensures.asked in
+    let telling = g.L.Link.telling in
+    asked_put telling c.args.self.now c.offer_next.new.self c.send_wanted.new.self c.args.client c.in-Asked.seq offers
+    c.send_wanted.ensures.sends c.offer_next.ensures.link
+    (subst (λ link. board_of (telling c.send_wanted.new.self.link) ≡ board_of (telling link)) c.offer_next.ensures.link
+    c.send_wanted.ensures.board) c.send_wanted.ensures.link
 
-pub offer-requires-clause-new : goal.offer-requires-clause-new
-offer-requires-clause-new g c =
-    let l = c.self.inside in
-    let seq = c.asked-seq.ensures ∙ ap (asked c.args.client) c.in_ok-reserve.ensures.items in
-    subst (λ (n : ℕ). IsAsked l.outcomes.bodies c.args.client n → ⊥) (sym seq)
-    (not_asked_yet l.book.items l.outcomes.items l.outcomes.bodies c.args.client c.self.invariant.0.kept.legal
-    c.self.invariant.3)
+pub returns-in-Asked-clause-round : goal.returns-in-Asked-clause-round
+returns-in-Asked-clause-round g c =
+    let held = g.L.Link.held in
+    asked_round g.L.Link.telling held c.args.self.now c.offer_next.new.self c.send_wanted.new.self
+    (let same = ap held c.offer_next.ensures.link in omega (arith, same)) c.send_wanted.ensures.held
+    c.send_wanted.ensures.sends c.offer_next.ensures.round c.send_wanted.ensures.round

@@ -5,10 +5,11 @@ use Rattle.hub_lane.specs.Calls.{IsSameRecord}
 use Rattle.hub_lane.specs.Carrying.{Pumping}
 use Rattle.hub_lane.specs.Lanes.{BoardStatus, LaneState}
 use Rattle.hub_lane.proofs.Carrying.{pumping}
-use Rattle.hub_lane.specs.Rounds.{HasPaid}
+use Rattle.hub_lane.specs.Rounds.{HasPaid, Pumps, RoundAfter, round_of}
 use Rattle.hub_lane.proofs.Datagrams.{heard_down, heard_still}
 use Rattle.hub_lane.proofs.Pumps.{PumpLaws, pump_down, pump_heard, pump_received, pump_spent}
 use Rattle.hub_lane.proofs.Rounds.{pays_pumped, pays_stopped, still_up}
+use Rattle.hub_lane.proofs.InRounds.{lane_round, same_lane_idle}
 use Rattle.hub_lane.proofs.lane.Lane.pump.Goals as goal
 
 pub invariant_of-self : goal.invariant_of-self
@@ -190,3 +191,23 @@ returns-in-Ok-clause-link g c =
     (Pumping c.in-Ok.pumped v.hub c.exchange.new.hub)) c.self.view_is
     (pumping c.in-Ok.pumped c.exchange.new.buffer.items l.engine c.exchange.new.hub (telling l.link)
     (telling c.exchange.new.link) c.in-Ok.ensures.event c.in-Ok.ensures.hub c.in-Ok.ensures.carries)
+
+pub returns-in-Ok-clause-round : goal.returns-in-Ok-clause-round
+returns-in-Ok-clause-round g c =
+    let l = c.self.inside in
+    let telling = g.L.Link.telling in
+    let held = g.L.Link.held in
+    subst (λ (v : LaneState _). IfTelling (telling v.link) (telling c.exchange.new.link)
+    (λ t u. RoundAfter (Pumps c.in-Ok.pumped) (round_of v (held v.link) t) (record {
+      hub = c.exchange.new.hub;
+      stopped = l.down || l.spent;
+      told = u;
+      held = held c.exchange.new.link;
+    }))) c.self.view_is
+    (lane_round (Pumps c.in-Ok.pumped) l.down l.spent l.settings l.outcomes.items l.mtu l.give_ups l.engine
+    c.exchange.new.hub (held l.link) (held c.exchange.new.link) (telling l.link) (telling c.exchange.new.link)
+    c.if-self-2.false c.if-self.false c.in-Ok.ensures.round c.self.invariant.0.standing c.self.invariant.1)
+
+pub returns-then-not-waiting-clause-round : goal.returns-then-not-waiting-clause-round
+returns-then-not-waiting-clause-round g c =
+    same_lane_idle g.L.Link.telling g.L.Link.held c.args.self.now c.args.self.now refl

@@ -1,78 +1,139 @@
-use Rattle.std.proofs.Common.{◌≡◌, ◌≤◌, ◌+◌, ◌-◌, [], Ok, IfErr, rules, sym, ap, ◌∙◌, subst, arith, refl}
+use Rattle.std.proofs.Common.{◌≡◌, ◌<◌, ◌≤◌, ◌+◌, ◌-◌, ◌++◌, ℕ, List, [], Ok, IfErr, rules, sym, ap, ◌∙◌, subst, arith}
+use Rattle.std.proofs.Common.{take}
 use Rattle.std.proofs.lemmas.Result.{IfErr-weaker}
+use Rattle.address_table.specs.declared.nodes.Node.{Node, out-Node}
 use Rattle.node_tree.specs.Limits.{most_ids}
-use Rattle.node_tree.specs.Names.{name_below, register_of}
-use Rattle.node_tree.specs.Walk.{walk, siblings}
-use Rattle.node_tree.specs.Run.{run, visit_next, IsStop}
-use Rattle.node_tree.proofs.Runs.{stopped_at, stopped_below, past_both, none_left, below_is}
+use Rattle.node_tree.specs.Names.{name_below, last_index, index_text, name_at, plain_name, address_at, register_at}
+use Rattle.node_tree.specs.Walk.{walk, siblings, twin_text}
+use Rattle.node_tree.specs.Run.{each_index, run, visit_next, IsStop}
+use Rattle.node_tree.proofs.Runs.{stopped_at, stopped_below, past_both, no_index_left, stopped_node, past_node}
+use Rattle.node_tree.proofs.Runs.{none_left, below_is}
 use Rattle.node_tree.proofs.walking.Walker.+walk.Goals as goal
 
-pub loop-node-init : goal.loop-node-init
-loop-node-init t c = refl
+pub walk-returns-in_err-walk_node-clause-stopped : goal.walk-returns-in_err-walk_node-clause-stopped
+walk-returns-in_err-walk_node-clause-stopped t c =
+    let below = walk c.args.tables.now (most_ids + 1 - c.args.level.ids) (c.args.level.ids + 1) in
+    let done = take c.loop-node.node-index c.args.nodes.now in
+    let stop = c.in_err-walk_node.ensures.stopped done in
+    let told : IfErr c.from_residual.result
+    (IsStop (run (each_index c.args.tables.now c.args.level.ids c.args.above.now c.args.level.base
+    c.node-item.result done) c.loop-node.self.found)) = search (rules, stop) in
+    IfErr-weaker c.from_residual.result _ _
+    (λ fault here. subst (λ r. IsStop r fault) c.loop-node.invariant
+    (stopped_node below _ _ _ _ _ _ _ _ fault c.loop-node-test.true c.node-item.is here)) told
 
-pub walk-requires : goal.walk-requires
-walk-requires t c =
-    let shallow : c.args.level.ids ≤ most_ids = c.in_ok-address.ensures.shallow in
-    (omega arith, omega arith)
+pub walk-loop-node-preserved : goal.walk-loop-node-preserved
+walk-loop-node-preserved t c =
+    let below = walk c.args.tables.now (most_ids + 1 - c.args.level.ids) (c.args.level.ids + 1) in
+    sym (past_node below _ _ _ _ _ _ _ _ _ c.loop-node-test.true c.node-item.is
+    (c.in_ok-walk_node.ensures.walked (take c.loop-node.node-index c.args.nodes.now)))
+    ∙ c.loop-node.invariant
 
-pub returns-in_err-address-clause-stopped : goal.returns-in_err-address-clause-stopped
-returns-in_err-address-clause-stopped t c =
-    let called =
-    c.as_str-in-loop-node.ensures.value ∙ c.in_ok-name.ensures
-    ∙ ap (name_below c.args.above.now) c.as_str.ensures in
+pub walk-returns-clause-walked : goal.walk-returns-clause-walked
+walk-returns-clause-walked t c = sym c.loop-node.invariant ∙ none_left _ _ _ _ _ _ _ _ c.loop-node-test.false
+
+pub walk_node-returns-in_err-address-clause-stopped : goal.walk_node-returns-in_err-address-clause-stopped
+walk_node-returns-in_err-address-clause-stopped t c =
+    let below = walk c.args.tables.now (most_ids + 1 - c.args.level.ids) (c.args.level.ids + 1) in
+    let n = c.args.node.now in
+    let i = c.loop-index.index in
+    let found = c.loop-index.self.found in
+    let register = register_at c.args.level.base n i in
+    let within : i < last_index n + 1 =
+    omega (arith, c.loop-index-test.true, c.index_count-index-end.ensures, c.loop-index.auto.index-end) in
+    let plain = c.in_ok-plain.ensures ∙ ap (name_below c.args.above.now) c.as_str.ensures in
+    let called : c.as_str-in-loop-index-2.result.now ≡ name_at c.args.above.now n i =
+    c.as_str-in-loop-index-2.ensures.value ∙ c.in_ok-name.ensures
+    ∙ ap (λ x. x ++ index_text (out-Node n).count i) (c.as_str-in-loop-index.ensures.value ∙ plain) in
+    let twin : c.as_str-in-loop-index-3.result.now ≡ plain_name c.args.above.now n ++ twin_text (out-Node n).count =
+    c.as_str-in-loop-index-3.ensures.value ∙ c.in_ok-twin.ensures
+    ∙ ap (λ x. x ++ twin_text (out-Node n).count) (c.as_str-2.ensures.value ∙ plain) in
     let told : IfErr c.from_residual-in_err-address.result
-    (IsStop (visit_next c.loop-node.self.found c.as_str-in-loop-node.result.now c.args.level.ids
-    (register_of c.args.level.base c.node-item.result))) = search rules in
+    (IsStop (visit_next found c.as_str-in-loop-index-2.result.now c.as_str-in-loop-index-3.result.now
+    c.args.level.ids register)) = search rules in
     IfErr-weaker c.from_residual-in_err-address.result _ _
-    (λ fault stop. subst (λ r. IsStop r fault) c.loop-node.invariant
-    (stopped_at _ _ _ _ _ _ _ _ _ fault c.loop-node-test.true c.node-item.is
-    (subst (λ name. IsStop
-    (visit_next c.loop-node.self.found name c.args.level.ids (register_of c.args.level.base c.node-item.result))
-    fault) called stop))) told
+    (λ fault stop earlier. subst (λ r. IsStop r fault) (c.loop-index.invariant earlier)
+    (stopped_at below c.args.tables.now c.args.level.ids c.args.above.now c.args.level.base earlier n i
+    (last_index n + 1) found fault within
+    (subst (λ y. IsStop (visit_next found (name_at c.args.above.now n i) y c.args.level.ids register) fault) twin
+    (subst (λ x. IsStop (visit_next found x c.as_str-in-loop-index-3.result.now c.args.level.ids register) fault)
+    called stop)))) told
 
-pub returns-in_err-walk-clause-stopped : goal.returns-in_err-walk-clause-stopped
-returns-in_err-walk-clause-stopped t c =
-    let called =
-    c.as_str-in-loop-node.ensures.value ∙ c.in_ok-name.ensures
-    ∙ ap (name_below c.args.above.now) c.as_str.ensures in
-    let again =
-    c.as_str-in-loop-node-2.ensures.value ∙ c.in_ok-name.ensures
-    ∙ ap (name_below c.args.above.now) c.as_str.ensures in
+pub walk_node-returns-in_err-walk-clause-stopped : goal.walk_node-returns-in_err-walk-clause-stopped
+walk_node-returns-in_err-walk-clause-stopped t c =
+    let below = walk c.args.tables.now (most_ids + 1 - c.args.level.ids) (c.args.level.ids + 1) in
+    let n = c.args.node.now in
+    let i = c.loop-index.index in
+    let found = c.loop-index.self.found in
+    let next = c.visit.new.self.found in
+    let register = register_at c.args.level.base n i in
+    let within : i < last_index n + 1 =
+    omega (arith, c.loop-index-test.true, c.index_count-index-end.ensures, c.loop-index.auto.index-end) in
+    let plain = c.in_ok-plain.ensures ∙ ap (name_below c.args.above.now) c.as_str.ensures in
+    let text = c.in_ok-name.ensures
+    ∙ ap (λ x. x ++ index_text (out-Node n).count i) (c.as_str-in-loop-index.ensures.value ∙ plain) in
+    let called : c.as_str-in-loop-index-2.result.now ≡ name_at c.args.above.now n i =
+    c.as_str-in-loop-index-2.ensures.value ∙ text in
+    let again : c.as_str-in-loop-index-4.result.now ≡ name_at c.args.above.now n i =
+    c.as_str-in-loop-index-4.ensures.value ∙ text in
+    let twin : c.as_str-in-loop-index-3.result.now ≡ plain_name c.args.above.now n ++ twin_text (out-Node n).count =
+    c.as_str-in-loop-index-3.ensures.value ∙ c.in_ok-twin.ensures
+    ∙ ap (λ x. x ++ twin_text (out-Node n).count) (c.as_str-2.ensures.value ∙ plain) in
     let visited =
-    subst (λ name. visit_next c.loop-node.self.found name c.args.level.ids
-    (register_of c.args.level.base c.node-item.result) ≡ Ok c.visit.new.self.found) called
-    c.in_ok-address.ensures.visited in
-    let below =
+    subst (λ y. visit_next found (name_at c.args.above.now n i) y c.args.level.ids register ≡ Ok next) twin
+    (subst (λ x. visit_next found x c.as_str-in-loop-index-3.result.now c.args.level.ids register ≡ Ok next)
+    called c.in_ok-address.ensures.visited) in
+    let deep =
     below_is c.args.tables.now c.args.level.ids _ _ _ _ _ _ c.in_ok-address.ensures.shallow again
     c.in_ok-address.ensures.address c.children-below.ensures in
     let deeper =
     siblings (walk c.args.tables.now (most_ids + 1 - (c.args.level.ids + 1)) (c.args.level.ids + 1 + 1))
-    c.args.tables.now (c.args.level.ids + 1) c.as_str-in-loop-node-2.result.now c.in_ok-address.address []
+    c.args.tables.now (c.args.level.ids + 1) c.as_str-in-loop-index-4.result.now c.in_ok-address.address []
     c.children-below.result.now in
-    let told : IfErr c.from_residual-in_err-walk.result (IsStop (run deeper c.visit.new.self.found)) = search rules in
+    let told : IfErr c.from_residual-in_err-walk.result (IsStop (run deeper next)) = search rules in
     IfErr-weaker c.from_residual-in_err-walk.result _ _
-    (λ fault stop. subst (λ r. IsStop r fault) c.loop-node.invariant
-    (stopped_below _ _ _ _ _ _ _ _ _ _ fault c.loop-node-test.true c.node-item.is visited
-    (subst (λ vs. IsStop (run vs c.visit.new.self.found) fault) below stop))) told
+    (λ fault stop earlier. subst (λ r. IsStop r fault) (c.loop-index.invariant earlier)
+    (stopped_below below c.args.tables.now c.args.level.ids c.args.above.now c.args.level.base earlier n i
+    (last_index n + 1) found next fault within visited
+    (subst (λ vs. IsStop (run vs next) fault) deep stop))) told
 
-pub loop-node-preserved : goal.loop-node-preserved
-loop-node-preserved t c =
-    let called =
-    c.as_str-in-loop-node.ensures.value ∙ c.in_ok-name.ensures
-    ∙ ap (name_below c.args.above.now) c.as_str.ensures in
-    let again =
-    c.as_str-in-loop-node-2.ensures.value ∙ c.in_ok-name.ensures
-    ∙ ap (name_below c.args.above.now) c.as_str.ensures in
+pub walk_node-loop-index-preserved : goal.walk_node-loop-index-preserved
+walk_node-loop-index-preserved t c =
+    let below = walk c.args.tables.now (most_ids + 1 - c.args.level.ids) (c.args.level.ids + 1) in
+    let n = c.args.node.now in
+    let i = c.loop-index.index in
+    let found = c.loop-index.self.found in
+    let next = c.visit.new.self.found in
+    let register = register_at c.args.level.base n i in
+    let within : i < last_index n + 1 =
+    omega (arith, c.loop-index-test.true, c.index_count-index-end.ensures, c.loop-index.auto.index-end) in
+    let plain = c.in_ok-plain.ensures ∙ ap (name_below c.args.above.now) c.as_str.ensures in
+    let text = c.in_ok-name.ensures
+    ∙ ap (λ x. x ++ index_text (out-Node n).count i) (c.as_str-in-loop-index.ensures.value ∙ plain) in
+    let called : c.as_str-in-loop-index-2.result.now ≡ name_at c.args.above.now n i =
+    c.as_str-in-loop-index-2.ensures.value ∙ text in
+    let again : c.as_str-in-loop-index-4.result.now ≡ name_at c.args.above.now n i =
+    c.as_str-in-loop-index-4.ensures.value ∙ text in
+    let twin : c.as_str-in-loop-index-3.result.now ≡ plain_name c.args.above.now n ++ twin_text (out-Node n).count =
+    c.as_str-in-loop-index-3.ensures.value ∙ c.in_ok-twin.ensures
+    ∙ ap (λ x. x ++ twin_text (out-Node n).count) (c.as_str-2.ensures.value ∙ plain) in
     let visited =
-    subst (λ name. visit_next c.loop-node.self.found name c.args.level.ids
-    (register_of c.args.level.base c.node-item.result) ≡ Ok c.visit.new.self.found) called
-    c.in_ok-address.ensures.visited in
-    let below =
+    subst (λ y. visit_next found (name_at c.args.above.now n i) y c.args.level.ids register ≡ Ok next) twin
+    (subst (λ x. visit_next found x c.as_str-in-loop-index-3.result.now c.args.level.ids register ≡ Ok next)
+    called c.in_ok-address.ensures.visited) in
+    let deep =
     below_is c.args.tables.now c.args.level.ids _ _ _ _ _ _ c.in_ok-address.ensures.shallow again
     c.in_ok-address.ensures.address c.children-below.ensures in
-    let walked =
-    subst (λ vs. run vs c.visit.new.self.found ≡ Ok c.walk.new.self.found) below c.in_ok-walk.ensures.walked in
-    sym (past_both _ _ _ _ _ _ _ _ _ _ _ c.loop-node-test.true c.node-item.is visited walked) ∙ c.loop-node.invariant
+    let walked = subst (λ vs. run vs next ≡ Ok c.walk.new.self.found) deep c.in_ok-walk.ensures.walked in
+    λ earlier. sym (past_both below c.args.tables.now c.args.level.ids c.args.above.now c.args.level.base earlier n i
+    (last_index n + 1) found next c.walk.new.self.found within visited walked)
+    ∙ c.loop-index.invariant earlier
 
-pub returns-clause-walked : goal.returns-clause-walked
-returns-clause-walked t c = sym c.loop-node.invariant ∙ none_left _ _ _ _ _ _ _ _ c.loop-node-test.false
+pub walk_node-returns-clause-walked : goal.walk_node-returns-clause-walked
+walk_node-returns-clause-walked t c =
+    let below = walk c.args.tables.now (most_ids + 1 - c.args.level.ids) (c.args.level.ids + 1) in
+    let n = c.args.node.now in
+    λ earlier. sym (c.loop-index.invariant earlier)
+    ∙ no_index_left below c.args.tables.now c.args.level.ids c.args.above.now c.args.level.base earlier n
+    c.loop-index.index (last_index n + 1) c.loop-index.self.found
+    (omega (arith, c.loop-index-test.false, c.index_count-index-end.ensures, c.loop-index.auto.index-end))

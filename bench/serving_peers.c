@@ -1,0 +1,184 @@
+/* The peers of bench/serving, on 127.0.0.1: a client that asks a hub again and again, a server that answers as many bytes, a
+   board that reads zeros, and a ping-pong of the same datagrams. */
+#include <arpa/inet.h>
+#include <netinet/tcp.h>
+#include <pthread.h>
+#include <stdint.h>
+#include <stdio.h>
+#include <stdlib.h>
+#include <string.h>
+#include <sys/socket.h>
+#include <time.h>
+#include <unistd.h>
+
+#define MOST 9000
+
+static void need(int holds, const char *what) {
+    if (!holds) { perror(what); exit(1); }
+}
+
+static struct sockaddr_in here(int port) {
+    struct sockaddr_in at = {.sin_family = AF_INET, .sin_port = htons(port)};
+    at.sin_addr.s_addr = htonl(INADDR_LOOPBACK);
+    return at;
+}
+
+static int bound(int kind, int port) {
+    struct sockaddr_in at = here(port);
+    int one = 1, fd = socket(AF_INET, kind, 0);
+    need(fd >= 0, "socket");
+    setsockopt(fd, SOL_SOCKET, SO_REUSEADDR, &one, sizeof one);
+    need(bind(fd, (struct sockaddr *)&at, sizeof at) == 0, "bind");
+    return fd;
+}
+
+static int joined(int kind, int port) {
+    struct sockaddr_in at = here(port);
+    int one = 1, fd = socket(AF_INET, kind, 0);
+    need(fd >= 0, "socket");
+    need(connect(fd, (struct sockaddr *)&at, sizeof at) == 0, "connect");
+    if (kind == SOCK_STREAM) setsockopt(fd, IPPROTO_TCP, TCP_NODELAY, &one, sizeof one);
+    return fd;
+}
+
+static int take(int fd, char *into, int count) {
+    for (int got = 0; got < count;) {
+        int more = read(fd, into + got, count - got);
+        if (more <= 0) return 0;
+        got += more;
+    }
+    return 1;
+}
+
+static double now(void) {
+    struct timespec t;
+    clock_gettime(CLOCK_MONOTONIC, &t);
+    return t.tv_sec + 1e-9 * t.tv_nsec;
+}
+
+static uint32_t word(const unsigned char *at) {
+    uint32_t raw;
+    memcpy(&raw, at, 4);
+    return ntohl(raw);
+}
+
+static void put(unsigned char *at, uint32_t value) {
+    uint32_t raw = htonl(value);
+    memcpy(at, &raw, 4);
+}
+
+static int request_bytes, reply_bytes, words, port, asks;
+
+/* a server that answers as many bytes as a hub: one thread for each connection */
+static void *answer_all(void *given) {
+    int one = 1, fd = (int)(intptr_t)given;
+    char buf[MOST] = {0}, reply[MOST] = {0};
+    setsockopt(fd, IPPROTO_TCP, TCP_NODELAY, &one, sizeof one);
+    while (take(fd, buf, request_bytes)) need(write(fd, reply, reply_bytes) == reply_bytes, "write");
+    close(fd);
+    return 0;
+}
+
+static void answer_streams(void) {
+    int fd = bound(SOCK_STREAM, port);
+    need(listen(fd, 64) == 0, "listen");
+    for (;;) {
+        pthread_t thread;
+        int stream = accept(fd, 0, 0);
+        need(stream >= 0, "accept");
+        pthread_create(&thread, 0, answer_all, (void *)(intptr_t)stream);
+        pthread_detach(thread);
+    }
+}
+
+/* a client that asks a hub, or that server, for so many words of board 0 */
+static void *ask_all(void *given) {
+    int fd = (int)(intptr_t)given;
+    unsigned char frame[20], reply[MOST];
+    put(frame, 16);
+    put(frame + 4, 0);
+    put(frame + 8, 0x200000f0);
+    put(frame + 12, 0x2000000f | words << 8);
+    put(frame + 16, 0);
+    for (int i = 0; i < asks; i++) {
+        need(write(fd, frame, 20) == 20, "write");
+        need(take(fd, (char *)reply, reply_bytes), "read");
+    }
+    return 0;
+}
+
+static void ask_streams(int connections) {
+    pthread_t threads[64];
+    int fds[64];
+    for (int i = 0; i < connections; i++) fds[i] = joined(SOCK_STREAM, port);
+    double began = now();
+    for (int i = 0; i < connections; i++) pthread_create(threads + i, 0, ask_all, (void *)(intptr_t)fds[i]);
+    for (int i = 0; i < connections; i++) pthread_join(threads[i], 0);
+    printf("%.6f\n", now() - began);
+    for (int i = 0; i < connections; i++) {
+        char rest;
+        shutdown(fds[i], SHUT_WR);
+        need(read(fds[i], &rest, 1) <= 0, "nothing is behind the end");
+        close(fds[i]);
+    }
+}
+
+/* a board that reads zeros, with no care for what is lost: nothing is on this machine */
+static void be_board(void) {
+    int fd = bound(SOCK_DGRAM, port);
+    unsigned char in[MOST], out[MOST] = {0};
+    unsigned next = 1;
+    for (;;) {
+        struct sockaddr_in from;
+        socklen_t length = sizeof from;
+        int got = recvfrom(fd, in, sizeof in, 0, (struct sockaddr *)&from, &length), count = 12;
+        if (got == 64 && word(in) == 0x200000f1) {
+            put(out, 0x200000f1);
+            put(out + 4, 1500);
+            put(out + 8, 16);
+            put(out + 12, 0x200000f0 | next << 8);
+            memset(out + 16, 0, 48);
+            count = 64;
+        } else if (got == 12 && word(in) == (0x200000f0 | next << 8)) {
+            count = 8 + 4 * (word(in + 4) >> 8 & 0xff);
+            put(out, word(in));
+            put(out + 4, word(in + 4) & ~0xfu);
+            memset(out + 8, 0, count - 8);
+            next = next % 65535 + 1;
+        } else {
+            continue;
+        }
+        sendto(fd, out, count, 0, (struct sockaddr *)&from, length);
+    }
+}
+
+/* so many datagrams go to that board and come back, one after another */
+static void ask_board(void) {
+    int fd = joined(SOCK_DGRAM, port);
+    unsigned char out[12], in[MOST];
+    double began = now();
+    for (int i = 0; i < asks; i++) {
+        put(out, 0x200000f0 | (i % 65535 + 1) << 8);
+        put(out + 4, 0x2000000f | words << 8);
+        put(out + 8, 0);
+        need(write(fd, out, 12) == 12, "write");
+        need(read(fd, in, sizeof in) == 8 + 4 * words, "read");
+    }
+    printf("%.6f\n", now() - began);
+}
+
+int main(int count, char **args) {
+    need(count == 6, "five words");
+    const char *what = args[1];
+    port = atoi(args[2]);
+    words = atoi(args[3]);
+    int connections = atoi(args[4]);
+    asks = atoi(args[5]);
+    request_bytes = 20;
+    reply_bytes = 20 + 4 * words;
+    if (!strcmp(what, "server")) answer_streams();
+    if (!strcmp(what, "client")) ask_streams(connections);
+    if (!strcmp(what, "board")) be_board();
+    if (!strcmp(what, "pings")) ask_board();
+    return 0;
+}

@@ -1,0 +1,125 @@
+//! Session documents read, and their scripts compiled.
+
+use crate::documents::{LINKS, SESSION};
+use node_tree::compile;
+use script_lang::{BoardSpec, Fates, LinkSpec, Session, compile_scripts, read_session};
+use script_steps::{RegOp, Step, Steps, Verb};
+use std::alloc::Global;
+use std::test::Fail;
+use transaction_codec::Op;
+
+/// Whether a session has the settings, the board and the scripts of `SESSION`.
+fn is_the_session(session: &Session) -> bool {
+    let settings = (session.settings.rounds(), session.settings.window());
+    let is_board = match session.boards.as_slice() {
+        [board] => (board.name.as_str(), board.table.as_str()) == ("fe0", "front"),
+        _ => false,
+    };
+    settings == (255, 4) && is_board && session.scripts.as_slice().len() == 2
+}
+
+#[test]
+fn a_session_is_read(rt: HostRuntime) -> Result<(), Fail> {
+    let session = read_session(rt.alloc(), SESSION.as_bytes())?;
+    assert!(rt; is_the_session(&session));
+    Ok(())
+}
+
+/// Whether a link has what the first of `LINKS` says, and the defaults of the rest.
+fn is_noisy(link: &LinkSpec) -> bool {
+    match link {
+        LinkSpec::Sim {
+            mtu: 1500,
+            buffers: 16,
+            first,
+            ranges,
+            fates: Fates::Noise(8),
+        } => first.get() == 9 && ranges.as_slice().len() == 1,
+        _ => false,
+    }
+}
+
+/// Whether a link has what the second of `LINKS` says, and the default wait.
+fn is_over_udp(link: &LinkSpec) -> bool {
+    matches!(
+        link,
+        LinkSpec::Udp {
+            address: [10, 0, 255, 1],
+            port: 50001,
+            wait: 100
+        }
+    )
+}
+
+fn are_the_links(boards: &[BoardSpec]) -> bool {
+    match boards {
+        [noisy, far] => is_noisy(&noisy.link) && is_over_udp(&far.link),
+        _ => false,
+    }
+}
+
+#[test]
+fn links_are_read(rt: HostRuntime) -> Result<(), Fail> {
+    let session = read_session(rt.alloc(), LINKS.as_bytes())?;
+    assert!(rt; are_the_links(session.boards.as_slice()));
+    Ok(())
+}
+
+/// Whether a step is the read of the gain, asked for by the first line.
+fn is_gain_read(step: &Step) -> bool {
+    match step {
+        Step::Do(
+            RegOp {
+                line: 1,
+                verb: Verb::Read,
+                board: 0,
+                name,
+                mask: 0xf0,
+                op: Op::Read {
+                    base: 0x200,
+                    count: 1,
+                },
+            },
+        ) => name.as_str() == "ch1.ctrl.gain",
+        _ => false,
+    }
+}
+
+/// Whether a step is a block that is written, asked for by the third line.
+fn is_block_write(step: &Step) -> bool {
+    matches!(
+        step,
+        Step::Do(RegOp {
+            line: 3,
+            verb: Verb::WriteBlock,
+            ..
+        },)
+    )
+}
+
+/// Whether clients have the steps of the scripts of `SESSION`.
+fn are_the_steps(clients: &[Steps]) -> bool {
+    let [first, second] = clients else {
+        return false;
+    };
+    match first.as_slice() {
+        [read, Step::Dispatch, write] => {
+            is_gain_read(read) && is_block_write(write) && second.as_slice().is_empty()
+        }
+        _ => false,
+    }
+}
+
+/// What the scripts of `SESSION` are compiled to.
+fn compiled(alloc: Global) -> Result<Vec<Steps>, Fail> {
+    let session = read_session(alloc, SESSION.as_bytes())?;
+    let index = compile(alloc, &session.tables, "front")?;
+    Ok(compile_scripts(alloc, &session, &[index])?)
+}
+
+#[test]
+fn scripts_are_compiled(rt: HostRuntime) -> Result<(), Fail> {
+    let clients = compiled(rt.alloc())?;
+    assert!(rt; are_the_steps(&clients));
+    Ok(())
+}

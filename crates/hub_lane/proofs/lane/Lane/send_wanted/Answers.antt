@@ -1,0 +1,144 @@
+use Rattle.std.proofs.Common.{◌∙◌, ap, arith, refl, sym, subst, Bool, true, ◌||◌}
+use Rattle.std.specs.Prelude.{IfSome}
+use Rattle.hub_lane.specs.Lanes.{BoardStatus, LaneState}
+use Rattle.world_core.specs.Telling.{IfTelling}
+use Rattle.hub_lane.specs.Rounds.{HasPaid, RoundAfter, Sends, round_of}
+use Rattle.hub_lane.proofs.Datagrams.{heard_down, heard_still}
+use Rattle.hub_lane.proofs.Pumps.{PumpLaws, pump_down, pump_sent, pump_spent}
+use Rattle.hub_lane.proofs.Rounds.{pays_pumped, pays_stopped, still_up}
+use Rattle.hub_lane.proofs.InRounds.{lane_round}
+use Rattle.hub_lane.proofs.lane.Lane.send_wanted.Goals as goal
+
+pub invariant_of-self : goal.invariant_of-self
+invariant_of-self g c =
+    let laws : PumpLaws = record {
+      fates = c.a_send_leaves_the_fates.ensures.fates;
+      bodies = c.only_an_offer_makes_more_bodies.ensures.sent;
+      agrees = c.a_send_settles_nothing.ensures.agrees;
+      message_bodies = c.only_an_offer_makes_more_bodies.ensures.message;
+      quiet_bodies = c.only_an_offer_makes_more_bodies.ensures.quiet;
+      message = c.what_a_hub_hears_settles_asks.ensures.message;
+      quiet = c.what_a_hub_hears_settles_asks.ensures.quiet;
+      replied = c.outcomes_go_into_the_book.ensures.replied;
+      gave_up = c.outcomes_go_into_the_book.ensures.gave_up;
+      lost = c.outcomes_go_into_the_book.ensures.lost;
+      lost_agrees = c.a_failed_link_loses_what_waits.ensures.agrees;
+      lost_keeps = c.a_failed_link_loses_what_waits.ensures.keeps;
+      lost_adds = c.a_failed_link_loses_what_waits.ensures.adds;
+    } in
+    let l = c.self.inside in
+    let status : BoardStatus = record { mtu = l.mtu; buffers = l.buffers; next = l.first } in
+    let telling = g.L.Link.telling in
+    let faults = g.L.Link.faults in
+    let quiets = g.L.Link.quiets in
+    let sent = c.send_all.ensures in
+    let up = c.if-self.false in (
+      pump_sent laws l.settings status l.engine l.book.items l.outcomes.items l.give_ups l.down l.spent
+          (telling l.link) (faults l.link) (quiets l.link) c.if-self-2.false up c.self.invariant.0
+          c.send_all.new.hub (telling c.send_all.new.link) (faults c.send_all.new.link) (quiets c.send_all.new.link)
+          sent.some c.in-Ok.ensures.running sent.quiets sent.board,
+      pays_pumped l.down l.spent l.mtu l.settings.rounds l.give_ups l.give_ups l.engine c.send_all.new.hub
+          (g.L.Link.held l.link) (g.L.Link.held c.send_all.new.link) (telling l.link) (telling c.send_all.new.link)
+          c.if-self-2.false up c.self.invariant.0.knows.rounds
+          (c.in-Ok.ensures.pays l.settings l.outcomes.items l.mtu l.engine.rounds l.give_ups
+          (still_up l.down l.spent l.settings l.engine l.outcomes.items (telling l.link) c.if-self-2.false
+          up c.self.invariant.0.standing)) c.self.invariant.1,
+      heard_still l.outcomes.items l.outcomes.items (g.L.Link.gots l.link) (g.L.Link.gots c.send_all.new.link)
+          (let same = sent.gots in omega (arith, same)) refl c.self.invariant.2,
+      c.self.invariant.3,
+    )
+
+pub invariant_of-self-in-Err-Failed : goal.invariant_of-self-in-Err-Failed
+invariant_of-self-in-Err-Failed g c =
+    let laws : PumpLaws = record {
+      fates = c.a_send_leaves_the_fates.ensures.fates;
+      bodies = c.only_an_offer_makes_more_bodies.ensures.sent;
+      agrees = c.a_send_settles_nothing.ensures.agrees;
+      message_bodies = c.only_an_offer_makes_more_bodies.ensures.message;
+      quiet_bodies = c.only_an_offer_makes_more_bodies.ensures.quiet;
+      message = c.what_a_hub_hears_settles_asks.ensures.message;
+      quiet = c.what_a_hub_hears_settles_asks.ensures.quiet;
+      replied = c.outcomes_go_into_the_book.ensures.replied;
+      gave_up = c.outcomes_go_into_the_book.ensures.gave_up;
+      lost = c.outcomes_go_into_the_book.ensures.lost;
+      lost_agrees = c.a_failed_link_loses_what_waits.ensures.agrees;
+      lost_keeps = c.a_failed_link_loses_what_waits.ensures.keeps;
+      lost_adds = c.a_failed_link_loses_what_waits.ensures.adds;
+    } in
+    let l = c.self.inside in
+    let status : BoardStatus = record { mtu = l.mtu; buffers = l.buffers; next = l.first } in
+    let telling = g.L.Link.telling in
+    let faults = g.L.Link.faults in
+    let quiets = g.L.Link.quiets in
+    let sent = c.send_all.ensures in
+    let up = c.if-self.false in (
+      pump_down laws l.settings status l.engine l.book.items l.outcomes.items l.give_ups l.down l.spent
+          (telling l.link) (faults l.link) (quiets l.link) c.if-self-2.false up c.self.invariant.0
+          c.send_all.new.hub l.outcomes.items c.lose_all.new.outcomes.items l.give_ups c.sent.result
+          (telling c.send_all.new.link) (faults c.send_all.new.link) (quiets c.send_all.new.link)
+          sent.some c.in-Err-Failed.ensures.stopped (sent.failed (cc)) sent.quiets refl refl c.sent.ensures
+          c.lose_all.ensures.outcomes sent.board,
+      pays_stopped c.laws_of_rounds.ensures (l.down || l.spent) l.mtu l.settings.rounds l.give_ups l.give_ups
+          l.engine c.send_all.new.hub (g.L.Link.held l.link) (g.L.Link.held c.send_all.new.link) (telling l.link)
+          (telling c.send_all.new.link) sent.board refl sent.held c.self.invariant.1,
+      heard_down c.sent.result l.outcomes.items l.outcomes.items c.lose_all.new.outcomes.items
+          (g.L.Link.gots l.link) (g.L.Link.gots c.send_all.new.link) sent.gots refl c.lose_all.ensures.outcomes
+          c.self.invariant.2,
+      c.lose_all.ensures.bodies ∙ c.self.invariant.3,
+    )
+
+pub invariant_of-self-in-Err-NoMemory : goal.invariant_of-self-in-Err-NoMemory
+invariant_of-self-in-Err-NoMemory g c =
+    let laws : PumpLaws = record {
+      fates = c.a_send_leaves_the_fates.ensures.fates;
+      bodies = c.only_an_offer_makes_more_bodies.ensures.sent;
+      agrees = c.a_send_settles_nothing.ensures.agrees;
+      message_bodies = c.only_an_offer_makes_more_bodies.ensures.message;
+      quiet_bodies = c.only_an_offer_makes_more_bodies.ensures.quiet;
+      message = c.what_a_hub_hears_settles_asks.ensures.message;
+      quiet = c.what_a_hub_hears_settles_asks.ensures.quiet;
+      replied = c.outcomes_go_into_the_book.ensures.replied;
+      gave_up = c.outcomes_go_into_the_book.ensures.gave_up;
+      lost = c.outcomes_go_into_the_book.ensures.lost;
+      lost_agrees = c.a_failed_link_loses_what_waits.ensures.agrees;
+      lost_keeps = c.a_failed_link_loses_what_waits.ensures.keeps;
+      lost_adds = c.a_failed_link_loses_what_waits.ensures.adds;
+    } in
+    let l = c.self.inside in
+    let status : BoardStatus = record { mtu = l.mtu; buffers = l.buffers; next = l.first } in
+    let telling = g.L.Link.telling in
+    let faults = g.L.Link.faults in
+    let quiets = g.L.Link.quiets in
+    let sent = c.send_all.ensures in
+    let up = c.if-self.false in (
+      pump_spent laws l.settings status l.engine l.book.items l.outcomes.items l.give_ups l.down l.spent
+          (telling l.link) (faults l.link) (quiets l.link) c.if-self-2.false up c.self.invariant.0
+          c.send_all.new.hub l.outcomes.items l.give_ups
+          (telling c.send_all.new.link) (faults c.send_all.new.link) (quiets c.send_all.new.link)
+          sent.some c.in-Err-NoMemory.ensures.stopped (let same = sent.quiets in omega (arith, same)) refl refl
+          sent.board,
+      subst (λ (b : Bool). IfSome (telling c.send_all.new.link) (HasPaid (b || true) l.mtu l.settings.rounds
+          l.give_ups c.send_all.new.hub (g.L.Link.held c.send_all.new.link))) (sym c.if-self-2.false)
+          (pays_stopped c.laws_of_rounds.ensures (l.down || l.spent) l.mtu l.settings.rounds l.give_ups l.give_ups
+          l.engine c.send_all.new.hub (g.L.Link.held l.link) (g.L.Link.held c.send_all.new.link) (telling l.link)
+          (telling c.send_all.new.link) sent.board refl sent.held c.self.invariant.1),
+      heard_still l.outcomes.items l.outcomes.items (g.L.Link.gots l.link) (g.L.Link.gots c.send_all.new.link)
+          (let same = sent.gots in omega (arith, same)) refl c.self.invariant.2,
+      c.self.invariant.3,
+    )
+
+pub returns-in-Ok-clause-round : goal.returns-in-Ok-clause-round
+returns-in-Ok-clause-round g c =
+    let l = c.self.inside in
+    let telling = g.L.Link.telling in
+    let held = g.L.Link.held in
+    subst (λ (v : LaneState _). IfTelling (telling v.link) (telling c.send_all.new.link)
+    (λ t u. RoundAfter Sends (round_of v (held v.link) t) (record {
+      hub = c.send_all.new.hub;
+      stopped = l.down || l.spent;
+      told = u;
+      held = held c.send_all.new.link;
+    }))) c.self.view_is
+    (lane_round Sends l.down l.spent l.settings l.outcomes.items l.mtu l.give_ups l.engine c.send_all.new.hub
+    (held l.link) (held c.send_all.new.link) (telling l.link) (telling c.send_all.new.link) c.if-self-2.false
+    c.if-self.false c.in-Ok.ensures.round c.self.invariant.0.standing c.self.invariant.1)

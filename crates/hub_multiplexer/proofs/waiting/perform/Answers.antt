@@ -1,0 +1,34 @@
+use Rattle.std.proofs.Common.{ap, subst, ◌∙◌}
+use Rattle.turn_pass.specs.Pass.{PassState}
+use Rattle.hub_multiplexer.specs.Calls.{IsNone, MadeInTime, PerformMeans}
+use Rattle.hub_multiplexer.specs.Waiting.{FindMeans}
+use Rattle.hub_lane.proofs.Results.{on_err_holds}
+use Rattle.hub_multiplexer.proofs.Looks.{after_looking, looked_more, none_before, performed_before}
+use Rattle.hub_multiplexer.proofs.waiting.perform.Goals as goal
+
+pub returns-in-Some-2-clause-performed : goal.returns-in-Some-2-clause-performed
+returns-in-Some-2-clause-performed g c =
+    let answer = c.in-Some-2.performed in
+    let now = c.loop.pass.knows in
+    let made : MadeInTime now (PerformMeans now answer) c.wait_once.new.pass.knows = subst
+    (λ s. MadeInTime now (FindMeans now s) c.wait_once.new.pass.knows) c.in-Some-2.is c.in_ok-performed.ensures.found in
+    after_looking (λ k. PerformMeans k answer) c.args.pass.now.knows now c.wait_once.new.pass.knows c.loop.invariant.3
+    (performed_before c.args.pass.now.knows answer) made
+
+pub loop-preserved : goal.loop-preserved
+loop-preserved g c =
+    let now = c.loop.pass.knows in
+    let made : MadeInTime now IsNone c.wait_once.new.pass.knows = subst
+    (λ s. MadeInTime now (FindMeans now s) c.wait_once.new.pass.knows) c.in-None-2.is
+    c.in_ok-performed.ensures.found in (
+      (tt, tt),
+      c.in_ok-performed.ensures.same ∙ ap (λ (p : PassState). record p { knows = c.wait_once.new.pass.knows })
+          c.loop.invariant.1,
+      c.in_ok-performed.ensures.number,
+      looked_more c.args.pass.now.knows now c.wait_once.new.pass.knows c.loop.invariant.3 made,
+    )
+
+pub returns-in_err-performed-clause-looked : goal.returns-in_err-performed-clause-looked
+returns-in_err-performed-clause-looked g c =
+    on_err_holds c.from_residual.result (after_looking (λ _. IsNone) c.args.pass.now.knows c.loop.pass.knows
+    c.wait_once.new.pass.knows c.loop.invariant.3 (none_before c.args.pass.now.knows) c.in_err-performed.ensures.looked)

@@ -1,0 +1,177 @@
+//! A simulated link, by itself and through what any link does, and a rack of simulated links.
+
+ghost use Rattle.std.specs.Prelude.{◌≡◌, ◌≤◌, length, IfOk};
+ghost use Rattle.world_core.specs.declared.link.TheConstants.{MAX_DATAGRAM};
+ghost use Rattle.lossy_network.specs.Racks.{IsMakeable};
+
+use crate::fixtures::{REPLY, REQUEST, RESEND, board};
+use crate::same::{same, same_items};
+use board_bus::check_ranges;
+use board_node::{BoardSpec, Fates, LinkSpec, Range, RangeKind, Ranges};
+use ipb_base::{Text, Words};
+use lossy_network::{Link, LinkFault, NoMemory, Rack, RackFault, Received, SimLink, SimRack};
+use packet_ids::Id;
+use rand_core::utils::NextWord;
+use rand_pcg::Lcg64Xsh32;
+use std::alloc::Global;
+use std::test::Fail;
+
+/// The first forty fates of the noise 7.
+const NOISE_7: &str = "drrdd52ddldd2ddddlddddlddrd5drr2ddr2lddl";
+
+/// These fates, or those of the noise 7 where there are none.
+fn fates_of(alloc: Global, fates: &str) -> Result<Fates, NoMemory> {
+    if fates.is_empty() {
+        return Ok(Fates::Noise(7));
+    }
+    Ok(Fates::Text(Text::copy_of(alloc, fates)?))
+}
+
+/// A link with these fates to a board.
+fn link(alloc: Global, fates: &str) -> Result<SimLink, Fail> {
+    let board = board(alloc, 16, 1)?;
+    let fates = fates_of(alloc, fates)?;
+    Ok(SimLink::new(alloc, board, fates, Vec::new(alloc))?)
+}
+
+/// Sends a datagram over any link and waits for one.
+fn ask<L: Link>(link: &mut L, bytes: &[u8], into: &mut Vec<u8>) -> Result<Received, LinkFault>
+    requires { length bytes.now ≤ MAX_DATAGRAM }
+    ensures { L.held link.old ≤ L.held link.new }
+{
+    link.send(bytes)?;
+    link.receive(into)
+}
+
+/// What a link hands out for the request, or for the request to send its reply again: the reply, or nothing.
+fn replied(link: &mut SimLink, again: bool, into: &mut Vec<u8>) -> Result<bool, LinkFault> {
+    let received = if again {
+        ask(link, &RESEND, into)?
+    } else {
+        ask(link, &REQUEST, into)?
+    };
+    Ok(received == Received::Got && into.as_slice() == REPLY.as_slice())
+}
+
+#[test]
+fn a_lost_reply_is_sent_again(rt: HostRuntime) -> Result<(), Fail> {
+    let mut link = link(rt.alloc(), "dl")?;
+    let mut into = Vec::new(rt.alloc());
+    for again in [false, true] {
+        assert!(rt; replied(&mut link, again, &mut into) == Ok(again));
+    }
+    same(&rt, &(link.held(), link.quiets()), &(1, 1));
+    Ok(())
+}
+
+/// The fate that a word of a noise draws.
+fn letter(word: u32) -> char {
+    match word % 16 {
+        0..=9 => 'd',
+        10 | 11 => 'l',
+        12 | 13 => 'r',
+        14 => '2',
+        _ => '5',
+    }
+}
+
+/// So many words of the generator of the noise 7, as letters.
+fn letters(alloc: Global, count: usize) -> Result<String, NoMemory> {
+    let mut noise = Lcg64Xsh32::new(7, 54);
+    let mut letters = String::new(alloc);
+    for _ in 0..count {
+        letters.push(letter(noise.next_word()))?;
+    }
+    Ok(letters)
+}
+
+/// How many datagrams count as held after forty sends.
+fn held_of_forty(alloc: Global, fates: &str) -> Result<u64, Fail> {
+    let mut link = link(alloc, fates)?;
+    for _ in 0..40 {
+        if link.send(&REQUEST).is_err() {
+            return Err("no memory".into());
+        }
+    }
+    Ok(link.held())
+}
+
+#[test]
+fn the_fates_of_a_noise_are_those_of_its_generator(rt: HostRuntime) -> Result<(), Fail> {
+    same(&rt, &letters(rt.alloc(), 40)?.as_str(), &NOISE_7);
+    for fates in ["", NOISE_7] {
+        same(&rt, &held_of_forty(rt.alloc(), fates)?, &11);
+    }
+    Ok(())
+}
+
+/// What a session says of a board with this link.
+fn spec(alloc: Global, link: LinkSpec) -> Result<BoardSpec, NoMemory>
+    ensures { IfOk result (λ spec. spec.link ≡ link) }
+{
+    Ok(BoardSpec {
+        name: Text::copy_of(alloc, "b0")?,
+        table: Text::copy_of(alloc, "main")?,
+        link,
+    })
+}
+
+/// A simulated board of two words.
+fn simulated(alloc: Global) -> Result<BoardSpec, Fail>
+    ensures { IfOk result (λ spec. IsMakeable spec.link) }
+{
+    let range = Range {
+        base: 0,
+        size: 2,
+        kind: RangeKind::Rw,
+        init: Words::from_vec(Vec::new(alloc)),
+    };
+    let ranges = Ranges::from_vec(vec![in alloc; range]?);
+    check_ranges(alloc, ranges.as_slice())?;
+    let link = LinkSpec::Sim {
+        mtu: 1500,
+        buffers: 4,
+        first: Id::new(1).ok_or("0 is no identifier")?,
+        ranges,
+        fates: fates_of(alloc, "l")?,
+    };
+    Ok(spec(alloc, link)?)
+}
+
+/// Makes a link in any rack, asks over it and gives it back: what the board answered, which is lost, or a fault.
+fn ask_and_keep<R: Rack>(
+    rack: &mut R,
+    spec: &BoardSpec,
+    into: &mut Vec<u8>,
+) -> Result<Result<Received, LinkFault>, RackFault>
+    requires { IsMakeable spec.now.link }
+    ensures { R.faults rack.old ≤ R.faults rack.new }
+{
+    let mut link = rack.make(spec)?;
+    let received = ask(&mut link, &REQUEST, into);
+    rack.keep(link);
+    Ok(received)
+}
+
+/// A rack of which the second make fails, and on each link the second call, which is the receive.
+fn failing_rack(alloc: Global) -> Result<SimRack, NoMemory> {
+    let second = [2].to_vec(alloc)?;
+    Ok(SimRack::new(alloc, [2].to_vec(alloc)?, second))
+}
+
+#[test]
+fn a_rack_makes_links_and_keeps_them(rt: HostRuntime) -> Result<(), Fail> {
+    let spec = simulated(rt.alloc())?;
+    let mut rack = failing_rack(rt.alloc())?;
+    let mut into = Vec::new(rt.alloc());
+    for is_made in [true, false, true] {
+        let wanted = if is_made {
+            Ok(Err(LinkFault::Failed))
+        } else {
+            Err(RackFault::Failed)
+        };
+        assert!(rt; ask_and_keep(&mut rack, &spec, &mut into) == wanted);
+    }
+    same(&rt, &rack.kept(1).map(|link| link.held()), &Some(1));
+    Ok(())
+}

@@ -1,0 +1,39 @@
+//! What a client asks of a board, and the texts of lines.
+
+use crate::fixtures::add;
+use crate::same::same_items;
+use ipb_base::Text;
+use script_steps::Verb;
+use std::test::Fail;
+use transcript::laws::few_words_are_few_pieces;
+use transcript::{Greeting, LinePlaces, OpLine, OpResult, line_text, plan_on};
+
+#[test]
+fn a_sum_is_planned(rt: HostRuntime) -> Result<(), Fail> {
+    few_words_are_few_pieces();
+    let steps = [add(rt.alloc(), 0, 7)?];
+    let planned = plan_on(rt.alloc(), &steps, 0, Greeting::Live { payload: 16 })?;
+    let [body] = planned.bodies() else {
+        return Err("not one body")?;
+    };
+    same_items(&rt, body.as_slice(), &[0x2000_015f, 0, 7]);
+    same_items(&rt, planned.counts(), &[1usize]);
+    assert!(rt; planned.pieces(0).is_some_and(|pieces| pieces.len() == 1));
+    Ok(())
+}
+
+#[test]
+fn a_sum_is_printed_with_the_word_before(rt: HostRuntime) -> Result<(), Fail> {
+    let line = OpLine {
+        number: 12,
+        verb: Verb::RmwSum,
+        board: Text::copy_of(rt.alloc(), "b0")?,
+        name: Text::copy_of(rt.alloc(), "a")?,
+        result: OpResult::Was(u32::MAX),
+        places: LinePlaces::from_vec([(1u64, 2u16), (3, 1)].to_vec(rt.alloc())?),
+    };
+    let text = line_text(rt.alloc(), &line)?;
+    let wanted = b"12 rmwsum b0:a was 0xffffffff @1.2,3.1\n";
+    same_items(&rt, text.as_slice(), wanted.as_slice());
+    Ok(())
+}

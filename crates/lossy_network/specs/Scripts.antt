@@ -1,0 +1,108 @@
+-- Links whose answers are given beforehand, as those of a board that answers anything, and a rack of them. Profile
+-- throughout.
+use Rattle.std.specs.Prelude.{ℕ, ◌+◌, ◌≤◌, ◌==◌, Bool, true, false, List, [], ◌∷◌, ◌++◌, map, Result, Ok, Err}
+use Rattle.std.specs.Prelude.{vec_len}
+use Rattle.std.specs.List.{All, list_any}
+use Rattle.std.specs.Global.{Vec}
+use Rattle.ipb_base.specs.Faults.{one_more}
+use Rattle.board_node.specs.declared.spec.LinkSpec.{LinkSpec}
+use Rattle.board_node.specs.declared.spec.LinkSpec.TheVariants.{Sim, Udp}
+use Rattle.world_core.specs.declared.link.TheConstants.{MAX_DATAGRAM}
+use Rattle.world_core.specs.declared.link.Received.{Received}
+use Rattle.world_core.specs.declared.link.Received.TheVariants.{Got, Quiet}
+use Rattle.lossy_network.specs.declared.rack.RackFault.{RackFault}
+use Rattle.lossy_network.specs.declared.rack.RackFault.TheVariants.{Failed, NoMemory}
+
+-- each is not longer than a datagram may be
+abbrev pub AreDatagrams : List (Vec ℕ) → Type 0
+AreDatagrams answers = All (λ bytes. vec_len bytes ≤ MAX_DATAGRAM) answers
+
+abbrev pub bytes_of : List (Vec ℕ) → List (List ℕ)
+bytes_of answers = map (λ bytes. bytes.items) answers
+
+abbrev pub lists_of : List (Vec (Vec ℕ)) → List (List (List ℕ))
+lists_of lists = map (λ answers. bytes_of answers.items) lists
+
+-- ---- a link
+
+-- The answers that were handed out and those that are left, in order; the numbers, from 1, of the calls that fail; and
+-- the counts of its calls, its faults, and the receives that were quiet and that got an answer. A count stands still at
+-- 2^64 - 1.
+pub record ScriptState : Type 0 where
+  pub handed : List (List ℕ)
+  pub left : List (List ℕ)
+  pub fail : List ℕ
+  pub calls : ℕ
+  pub faults : ℕ
+  pub quiets : ℕ
+  pub gots : ℕ
+
+-- a link with these answers, before its first call
+abbrev pub new_script : List (List ℕ) → List ℕ → ScriptState
+new_script answers fail =
+    record { handed = []; left = answers; fail = fail; calls = 0; faults = 0; quiets = 0; gots = 0 }
+
+-- each call is counted, and those whose numbers are named fail
+abbrev pub called : ScriptState → ScriptState
+called link = record link { calls = one_more link.calls }
+
+abbrev pub fails : ScriptState → Bool
+fails link = list_any (λ number. number == one_more link.calls) link.fail
+
+abbrev pub failed : ScriptState → ScriptState
+failed link = record (called link) { faults = one_more link.faults }
+
+-- what a receive answers, what it leaves in its buffer, and the link after it
+pub record ScriptReceipt : Type 0 where
+  pub answer : Received
+  pub bytes : List ℕ
+  pub after : ScriptState
+
+abbrev pub receipt_of : ScriptState → List (List ℕ) → ScriptReceipt
+receipt_of link [] = record { answer = Quiet; bytes = []; after = record link { quiets = one_more link.quiets } }
+receipt_of link (bytes ∷ left) = record {
+  answer = Got;
+  bytes = bytes;
+  after = record link { handed = link.handed ++ bytes ∷ []; left = left; gots = one_more link.gots };
+}
+
+-- a receive hands out the next answer, and is quiet where none is left
+abbrev pub received : ScriptState → ScriptReceipt
+received link = receipt_of (called link) link.left
+
+-- ---- a rack
+
+-- The lists of answers for the links that are still to be made, in order; how many were made; the faults; and the links
+-- given back, in order.
+pub record ScriptRackState : Type 0 where
+  pub left : List (List (List ℕ))
+  pub made : ℕ
+  pub faults : ℕ
+  pub kept : List ScriptState
+
+abbrev pub new_rack : List (List (List ℕ)) → ScriptRackState
+new_rack lists = record { left = lists; made = 0; faults = 0; kept = [] }
+
+-- the answers of the next link: the first list that is left, or none
+abbrev pub next_answers : List (List (List ℕ)) → List (List ℕ)
+next_answers [] = []
+next_answers (answers ∷ lists) = answers
+
+abbrev pub lists_after : List (List (List ℕ)) → List (List (List ℕ))
+lists_after [] = []
+lists_after (answers ∷ lists) = lists
+
+-- no such link tells what it carries, as one to a simulated board would
+abbrev pub is_simulated : LinkSpec → Bool
+is_simulated (Sim mtu buffers first ranges fates) = true
+is_simulated (Udp address port wait) = false
+
+-- a link that is made uses up a list, and a make that fails uses up none
+abbrev pub after_make : Result ScriptState RackFault → ScriptRackState → ScriptRackState
+after_make (Ok link) rack = record rack { left = lists_after rack.left; made = rack.made + 1 }
+after_make (Err Failed) rack = record rack { faults = one_more rack.faults }
+after_make (Err NoMemory) rack = rack
+
+-- a link given back stands behind the others
+abbrev pub after_keep : ScriptState → ScriptRackState → ScriptRackState
+after_keep link rack = record rack { kept = rack.kept ++ link ∷ [] }

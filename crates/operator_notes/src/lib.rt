@@ -1,0 +1,20 @@
+//! What the program says on standard error at its end: what to look for where words are no command or a document is
+//! refused, what was done where the text could not be written, and a page of help. No contract speaks of these texts.
+#![tactic(auto)]
+
+mod escaping;
+mod help;
+mod refusals;
+mod script_words;
+mod sentences;
+mod statuses;
+mod usage;
+
+pub use command_words::{Command, command_of};
+pub use escaping::{MOST_SHOWN, shown};
+pub use help::{HELP, VERSION};
+pub use ipb_base::NoMemory;
+pub use refusals::refusal_notes;
+pub use session_input::Refusal;
+pub use statuses::{door_note, memory_note, rack_note, read_note, write_note};
+pub use usage::usage_notes;

@@ -1,0 +1,85 @@
+//! What each refusal means. `docs/FORMATS.md` has the same sentences.
+
+use address_table::TableWhy;
+use board_bus::BusRefusal;
+use node_tree::CompileWhy;
+use script_lang::{DocWhy, ScriptWhy};
+
+pub(crate) const TOO_LONG: &str = "the document has more than 16777216 bytes";
+
+pub(crate) fn of_document(why: DocWhy) -> &'static str {
+    match why {
+        DocWhy::NotToml => "the document is no TOML",
+        DocWhy::Shape => {
+            "a value of another kind or range, a key that does not belong there, or a key that is missing"
+        }
+        DocWhy::NoBoards => "the document has no board",
+        DocWhy::ManyBoards => "the document has more than 16 boards",
+        DocWhy::ManyClients => "the document has more than 64 clients",
+        DocWhy::DuplicateBoard => "an earlier board has this name",
+    }
+}
+
+pub(crate) fn of_table(why: TableWhy) -> &'static str {
+    match why {
+        TableWhy::Shape => {
+            "a table is an array of nodes, a node has values of the right kinds, and not module beside nodes"
+        }
+        TableWhy::UnknownKey =>
+            "no node of this format has this key; count and stride want format = 2",
+        TableWhy::MissingId => "a node has an id",
+        TableWhy::BadId => "an id is 1 to 64 letters, digits, _ and -",
+        TableWhy::BadNumber => "address, mask, size, count and stride are numbers of 32 bits",
+        TableWhy::BadMask => "a mask has at least one bit",
+        TableWhy::BadPermission => "a permission is r, w or rw",
+        TableWhy::BadMode => {
+            "a mode is single, block, port or hierarchical, and block and port have the full mask"
+        }
+        TableWhy::BadSize => {
+            "a size is 1 to 4194304, and 1 where the mode is single or hierarchical"
+        }
+        TableWhy::BadCount => {
+            "a count is 1 to 65536, a stride is at least 1, and stands beside a count alone"
+        }
+    }
+}
+
+pub(crate) fn of_compiling(why: CompileWhy) -> &'static str {
+    match why {
+        CompileWhy::UnknownModule => "the document has no table of a name that is used",
+        CompileWhy::ModuleCycle => "the modules of the table lead back to it",
+        CompileWhy::TooMany => "the table has more than 65536 names, those of its modules with it",
+        CompileWhy::TooDeep => "a name has more than 16 ids",
+        CompileWhy::Duplicate => "an earlier node at the same place has this id",
+        CompileWhy::AddressPastEnd => "an address is past 0xffffffff",
+    }
+}
+
+pub(crate) fn of_board(why: BusRefusal) -> &'static str {
+    match why {
+        BusRefusal::Empty => "a range has a size of 0",
+        BusRefusal::PastEnd => "a range goes past the address 0xffffffff",
+        BusRefusal::Overlap => "two ranges share an address",
+        BusRefusal::TooLarge => "the ranges have more than 4194304 words together",
+        BusRefusal::InitLong => "init has more words than its range",
+        BusRefusal::NoMemory => "memory ran out",
+    }
+}
+
+pub(crate) fn of_script(why: ScriptWhy) -> &'static str {
+    match why {
+        ScriptWhy::BadLine => "this is no line of a script",
+        ScriptWhy::UnknownBoard => "no board has this name",
+        ScriptWhy::UnknownName => "the table of the board has no such register",
+        ScriptWhy::NoPermission => "the permission of the register does not allow this",
+        ScriptWhy::WrongMode => {
+            "the register is hierarchical, a group that is not read or written"
+        }
+        ScriptWhy::PastSize => "the block has more words than the register",
+        ScriptWhy::BitsOutside => "the value has a bit outside the mask of the register",
+        ScriptWhy::NotWhole => "the register has a mask, which read and write alone take",
+        ScriptWhy::TooMany => {
+            "with this line there are more than 200000 lines, 100000 operations or 1048576 words in blocks"
+        }
+    }
+}

@@ -1,0 +1,46 @@
+//! What is said beside a status that tells of a fault: what was done, and what is missing.
+
+use command_words::Command;
+
+/// The input could not be read.
+pub fn read_note() -> &'static str {
+    "the input could not be read; nothing was executed or written"
+}
+
+/// The text could not be written: what was done before, by what the words asked for. `refused` says that the document
+/// was refused.
+pub fn write_note(command: Option<&Command>, refused: bool) -> &'static str {
+    if refused {
+        return "the output could not be written: the document was refused, nothing was executed, and the line that says so is cut or missing";
+    }
+    match command {
+        Some(Command::Run) => {
+            "the output could not be written: the scripts were executed, and only the text is cut or missing"
+        }
+        Some(Command::Serve { port: _, count: _ }) => {
+            "the output could not be written: the connections were served, and only the text is cut or missing"
+        }
+        Some(Command::Load { count: _ }) => {
+            "the output could not be written: the session was run, and only the text is cut or missing"
+        }
+        Some(Command::Check { table: _ }) => {
+            "the output could not be written: only the listing is cut or missing"
+        }
+        None => "the output could not be written: only the usage line is cut or missing",
+    }
+}
+
+/// Memory ran out.
+pub fn memory_note() -> &'static str {
+    "memory ran out; nothing was written, and what boards were asked before may have been executed"
+}
+
+/// A link could not be made.
+pub fn rack_note() -> &'static str {
+    "a link to a board could not be made; nothing was executed or written"
+}
+
+/// The port could not be used.
+pub fn door_note() -> &'static str {
+    "the port could not be listened to, or a connection not be accepted: the boards were asked before, and only the text is missing"
+}

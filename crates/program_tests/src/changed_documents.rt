@@ -1,0 +1,128 @@
+//! `run` on a document with something changed: the line of the first rule that it breaks.
+
+use crate::document_a::DOCUMENT;
+use crate::fixtures::{over_links, wide_sink};
+use crate::same::same;
+use ipb_base::NoMemory;
+use ipb_outside::CalmSource;
+use ipbus_program::REFUSED;
+use std::alloc::Global;
+use std::marker::Sync;
+use std::sync::Wait;
+use std::test::Fail;
+use std::thread::Threads;
+
+const BOARD: &str = "table = \"main\"\n";
+
+const FIRST_NODE: &str = "mode = \"hierarchical\"\n";
+
+const CLIENT: &str = "[[client]]\n";
+
+const LINE: &str = "read b0:sys.id";
+
+/// What stands in front of the document, a text of it, the text that takes its place, and the line of the refusal.
+const CHANGES: [(&str, &str, &str, &str); 19] = [
+    ("window = 17\n", "", "", "document window Shape"),
+    ("x = 1\n", "", "", "document x Shape"),
+    ("rounds = 1.0\n", "", "", "document rounds Shape"),
+    ("format = 3\n", "", "", "document format Shape"),
+    (
+        "",
+        BOARD,
+        "table = \"main\"\nmtu = 91\n",
+        "document board.0.mtu Shape",
+    ),
+    (
+        "",
+        BOARD,
+        "table = \"main\"\nfates = \"d\"\nnoise = 1\n",
+        "document board.0.noise Shape",
+    ),
+    (
+        "",
+        CLIENT,
+        "[[board]]\nname = \"b0\"\ntable = \"main\"\n[[client]]\n",
+        "document board.1.name DuplicateBoard",
+    ),
+    (
+        "",
+        FIRST_NODE,
+        "mode = \"hierarchical\"\nmask = 0\n",
+        "table main 0 BadMask",
+    ),
+    (
+        "",
+        FIRST_NODE,
+        "mode = \"hierarchical\"\nsize = 2\n",
+        "table main 0 BadSize",
+    ),
+    (
+        "",
+        FIRST_NODE,
+        "mode = \"hierarchical\"\nsize = 2\nmask = 0\n",
+        "table main 0 BadMask",
+    ),
+    (
+        "",
+        CLIENT,
+        "[[board.ranges]]\nbase = 15\nsize = 1\n[[client]]\n",
+        "board b0 Overlap",
+    ),
+    ("", LINE, "reed b0:a", "script 1 1 BadLine"),
+    ("", LINE, "read b1:a", "script 1 1 UnknownBoard"),
+    ("", LINE, "read b0:zz", "script 1 1 UnknownName"),
+    ("", LINE, "write b0:sys.id 1", "script 1 1 NoPermission"),
+    ("", LINE, "read b0:sys", "script 1 1 WrongMode"),
+    ("", LINE, "readblock b0:mem 601", "script 1 1 PastSize"),
+    ("", LINE, "rmwsum b0:a.top 1", "script 1 1 NotWhole"),
+    ("", LINE, "write b0:a.top 2", "script 1 1 BitsOutside"),
+];
+
+/// The document with what stands in front of it, and with this text in the place of the other.
+fn changed(alloc: Global, front: &str, old: &str, new: &str) -> Result<Vec<u8>, NoMemory> {
+    let mut document = front.as_bytes().to_vec(alloc)?;
+    if old.is_empty() {
+        document.extend_from_slice(DOCUMENT.as_bytes())?;
+    } else {
+        document.extend_from_slice(DOCUMENT.replace(alloc, old, new)?.as_bytes())?;
+    }
+    Ok(document)
+}
+
+/// The status of `run` on these bytes, and its text.
+fn run<T: Threads + Wait + Sync>(
+    rt: &T,
+    alloc: Global,
+    document: Vec<u8>,
+) -> Result<(u8, Vec<u8>), NoMemory> {
+    let mut input = CalmSource::new(document);
+    let mut out = wide_sink(alloc)?;
+    let status = over_links(rt, alloc, "run", &mut input, &mut out);
+    Ok((status, out.bytes().to_vec(alloc)?))
+}
+
+/// The line of a refusal.
+fn line_of(alloc: Global, told: &str) -> Result<String, NoMemory> {
+    Ok(format!(in alloc; "refused: {told}\n")?)
+}
+
+/// What is told of the first of these changes that is not refused by its rule.
+fn first_not_refused<'a, T: Threads + Wait + Sync>(
+    rt: &T,
+    alloc: Global,
+    changes: &[(&str, &str, &str, &'a str)],
+) -> Result<Option<&'a str>, NoMemory> {
+    for (front, old, new, told) in changes {
+        let (status, text) = run(rt, alloc, changed(alloc, front, old, new)?)?;
+        if status != REFUSED || text.as_slice() != line_of(alloc, told)?.as_bytes() {
+            return Ok(Some(told));
+        }
+    }
+    Ok(None)
+}
+
+#[test]
+fn each_change_is_refused_by_its_rule(rt: HostRuntime) -> Result<(), Fail> {
+    same(&rt, &first_not_refused(&rt, rt.alloc(), &CHANGES)?, &None);
+    Ok(())
+}

@@ -1,0 +1,27 @@
+use Rattle.std.proofs.Common.{◌≡◌, ◌∙◌, ◌++◌, option_to_list}
+use Rattle.script_lang.proofs.StepsSoFar.{all_can_be_packed, lines_counted, one_line_more, with_no_step, with_step_of}
+use Rattle.script_lang.proofs.compile.script_steps.Goals.{in-Some+in_ok-push, in_default}
+use Rattle.script_lang.proofs.compile.script_steps.Goals as goal
+
+pub loop-i-preserved : goal.loop-i-preserved
+loop-i-preserved c =
+    let before = c.loop-i in
+    let next = c.in_ok-step in
+    let grown : c.match-step.steps.items ≡ c.loop-i.steps.items ++ option_to_list c.in_ok-step.step =
+    elim c.match-step.branch [
+      | in-Some+in_ok-push w ↦
+          rw w.steps-is (with_step_of before.steps.items w.push.new.self.items next.step w.in-Some.step
+          w.in_ok-push.ensures.items w.in-Some.is)
+      | in_default w ↦ rw w.steps-is (with_no_step before.steps.items next.step w.in_default.is)
+    ] in
+    record {
+      run = one_line_more c.args.boards.now c.args.indexes.now c.args.client before.steps.items c.match-step.steps.items
+          before.so_far next.next next.step before.i c.index-lines-i.result c.as_str-text.result.now
+          c.args.lines.now c.loop-i-test.true c.index-lines-i.is c.as_str-text.ensures grown next.ensures.next
+          ∙ before.invariant.run;
+      within = next.ensures.within;
+      counted = lines_counted before.i before.so_far.lines next.next.lines before.invariant.counted
+          next.ensures.counted;
+      packed = all_can_be_packed before.steps.items c.match-step.steps.items next.step grown before.invariant.packed
+          next.ensures.packed;
+    }

@@ -1,0 +1,87 @@
+//! What the lines of scripts become.
+
+ghost use Rattle.std.specs.Prelude.{◌≡◌};
+
+use ipb_base::Text;
+use std::marker::Model;
+use transaction_codec::Op;
+
+/// The operations of a script (uHAL).
+#[derive(Clone, Copy, PartialEq, Eq)]
+pub enum Verb {
+    /// `read REG`
+    Read,
+    /// `write REG VALUE`
+    Write,
+    /// `readblock REG COUNT`
+    ReadBlock,
+    /// `writeblock REG VALUE ..`
+    WriteBlock,
+    /// `rmwbits REG AND OR`
+    RmwBits,
+    /// `rmwsum REG ADDEND`
+    RmwSum,
+}
+
+/// An operation on a register, and the line that asks for it.
+#[derive(Drop)]
+pub struct RegOp {
+    /// The line's number in its script, from 1.
+    pub line: u32,
+    pub verb: Verb,
+    /// The board's position from 0.
+    pub board: u32,
+    /// The register's name in the board's table.
+    pub name: Text,
+    /// The register's mask, under which a word that was read is shown.
+    pub mask: u32,
+    /// The operation on the bus.
+    pub op: Op,
+}
+
+/// What a client does.
+#[derive(Drop)]
+pub enum Step {
+    Do(RegOp),
+    /// The operations since the last dispatch are sent, and their outcomes awaited.
+    Dispatch,
+}
+
+/// The steps of one client, in order. Contracts see that list.
+#[derive(Drop)]
+pub struct Steps {
+    items: Vec<Step>,
+}
+
+impl Model for Steps {
+    ghost use Rattle.std.specs.Prelude.{List};
+    ghost use Rattle.script_steps.specs.declared.operation.Step.{Step};
+
+    ghost Value = { List Step };
+
+    ghost view = { λ steps. steps.items.items };
+}
+
+impl Steps {
+    /// The steps of a vector, in its order. It takes no memory.
+    pub fn from_vec(items: Vec<Step>) -> Steps
+        ensures { result ≡ items.items }
+    {
+        Steps { items }
+    }
+
+    /// The vector of these steps. It takes no memory.
+    pub fn into_vec(self) -> Vec<Step>
+        ensures { result.items ≡ self }
+    {
+        let Steps { items } = self;
+        items
+    }
+
+    /// The steps, in order.
+    pub fn as_slice(&self) -> &[Step]
+        ensures { result.now ≡ self.now }
+    {
+        self.items.as_slice()
+    }
+}

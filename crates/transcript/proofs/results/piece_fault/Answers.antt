@@ -1,0 +1,70 @@
+use Rattle.std.proofs.Common.{◌≡◌, ◌++◌, ◌∙◌, List, ap, refl, slice_get, subst, sym}
+use Rattle.std.specs.Prelude.{IfOk, OnOk}
+use Rattle.reply_join.specs.declared.answer.Answer.{Answer}
+use Rattle.transcript.specs.declared.line.OpResult.{OpResult}
+use Rattle.transcript.specs.Ends.{answered, piece_result}
+use Rattle.transcript.specs.Results.{values_in}
+use Rattle.transcript.specs.Steps.{fault_in}
+use Rattle.transcript.proofs.PiecesSoFar.{end_at, no_words}
+use Rattle.transcript.proofs.results.piece_fault.Goals as goal
+
+pub returns-in-Answered-clause-fault : goal.returns-in-Answered-clause-fault
+returns-in-Answered-clause-fault c =
+    let same : answered (slice_get c.as_slice.result.now c.args.piece.index) ≡ piece_result c.args.ends.now c.args.piece =
+    ap (λ (list : List Answer). answered (slice_get list c.args.piece.index)) c.as_slice.ensures
+    ∙ sym (end_at c.args.ends.now c.args.piece.body c.args.piece.index c.in-Some.end.now _ c.in-Some.ensures.lookup.3.0
+    c.in-Some.ensures.lookup.1 c.in-Answered.is) in
+    subst (λ (r : OpResult). IfOk c.answer_fault.result (λ fault. fault ≡ fault_in r)) same c.answer_fault.ensures.fault
+
+pub returns-in-Answered-clause-values : goal.returns-in-Answered-clause-values
+returns-in-Answered-clause-values c =
+    let same : answered (slice_get c.as_slice.result.now c.args.piece.index) ≡ piece_result c.args.ends.now c.args.piece =
+    ap (λ (list : List Answer). answered (slice_get list c.args.piece.index)) c.as_slice.ensures
+    ∙ sym (end_at c.args.ends.now c.args.piece.body c.args.piece.index c.in-Some.end.now _ c.in-Some.ensures.lookup.3.0
+    c.in-Some.ensures.lookup.1 c.in-Answered.is) in
+    subst (λ (r : OpResult). OnOk c.answer_fault.result
+    (c.answer_fault.new.words.items ≡ c.args.words.now.items ++ values_in r)) same c.answer_fault.ensures.values
+
+pub returns-in-Garbled-clause-fault : goal.returns-in-Garbled-clause-fault
+returns-in-Garbled-clause-fault c =
+    sym (ap fault_in (end_at c.args.ends.now c.args.piece.body c.args.piece.index c.in-Some.end.now _
+    c.in-Some.ensures.lookup.3.0 c.in-Some.ensures.lookup.1 c.in-Garbled.is))
+
+pub returns-in-Garbled-clause-values : goal.returns-in-Garbled-clause-values
+returns-in-Garbled-clause-values c =
+    no_words c.args.words.now.items (piece_result c.args.ends.now c.args.piece) _
+    (end_at c.args.ends.now c.args.piece.body c.args.piece.index c.in-Some.end.now _ c.in-Some.ensures.lookup.3.0
+    c.in-Some.ensures.lookup.1 c.in-Garbled.is) refl
+
+pub returns-in-TimedOut-clause-fault : goal.returns-in-TimedOut-clause-fault
+returns-in-TimedOut-clause-fault c =
+    sym (ap fault_in (end_at c.args.ends.now c.args.piece.body c.args.piece.index c.in-Some.end.now _
+    c.in-Some.ensures.lookup.3.0 c.in-Some.ensures.lookup.1 c.in-TimedOut.is))
+
+pub returns-in-TimedOut-clause-values : goal.returns-in-TimedOut-clause-values
+returns-in-TimedOut-clause-values c =
+    no_words c.args.words.now.items (piece_result c.args.ends.now c.args.piece) _
+    (end_at c.args.ends.now c.args.piece.body c.args.piece.index c.in-Some.end.now _ c.in-Some.ensures.lookup.3.0
+    c.in-Some.ensures.lookup.1 c.in-TimedOut.is) refl
+
+pub returns-in-Unsent-clause-fault : goal.returns-in-Unsent-clause-fault
+returns-in-Unsent-clause-fault c =
+    sym (ap fault_in (end_at c.args.ends.now c.args.piece.body c.args.piece.index c.in-Some.end.now _
+    c.in-Some.ensures.lookup.3.0 c.in-Some.ensures.lookup.1 c.in-Unsent.is))
+
+pub returns-in-Unsent-clause-values : goal.returns-in-Unsent-clause-values
+returns-in-Unsent-clause-values c =
+    no_words c.args.words.now.items (piece_result c.args.ends.now c.args.piece) _
+    (end_at c.args.ends.now c.args.piece.body c.args.piece.index c.in-Some.end.now _ c.in-Some.ensures.lookup.3.0
+    c.in-Some.ensures.lookup.1 c.in-Unsent.is) refl
+
+pub returns-in-LinkLost-clause-fault : goal.returns-in-LinkLost-clause-fault
+returns-in-LinkLost-clause-fault c =
+    sym (ap fault_in (end_at c.args.ends.now c.args.piece.body c.args.piece.index c.in-Some.end.now _
+    c.in-Some.ensures.lookup.3.0 c.in-Some.ensures.lookup.1 c.in-LinkLost.is))
+
+pub returns-in-LinkLost-clause-values : goal.returns-in-LinkLost-clause-values
+returns-in-LinkLost-clause-values c =
+    no_words c.args.words.now.items (piece_result c.args.ends.now c.args.piece) _
+    (end_at c.args.ends.now c.args.piece.body c.args.piece.index c.in-Some.end.now _ c.in-Some.ensures.lookup.3.0
+    c.in-Some.ensures.lookup.1 c.in-LinkLost.is) refl

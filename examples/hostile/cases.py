@@ -1,0 +1,36 @@
+"""Hostile inputs, drawn from numbers and bounded in count: changed documents, streams of frames, and datagrams of a
+board that answers anything. A case takes the words that start the program, a count and the number of the first input. It
+gives what is wrong, as texts, and a line that says what was tried."""
+from hostile.datagrams import try_datagrams
+from hostile.documents import try_documents
+from hostile.streams import AT_ONCE, try_streams
+from net.peers import CASE_SECONDS, within
+
+COUNT = 5000
+
+
+def documents(command, count, first):
+    return try_documents(command, range(first, first + count))
+
+
+def streams(command, count, first):
+    """The streams of one hub after another, as many as it serves."""
+    faults = []
+    for begin in range(first, first + count, AT_ONCE):
+        numbers = range(begin, min(begin + AT_ONCE, first + count))
+        told = within(CASE_SECONDS, command, lambda peers: try_streams(peers, numbers))
+        faults += [f"streams from {begin}: {fault}" for fault in told]
+    return faults, f"{count} streams of frames"
+
+
+def datagrams(command, count, first):
+    """Runs over such a board, until it has sent so many strange datagrams."""
+    faults, sent, number = [], [], first
+    while sum(sent) < count and not faults:
+        told = within(CASE_SECONDS, command, lambda peers: sent.append(try_datagrams(peers, number)))
+        faults += [f"datagrams {number}: {fault}" for fault in told]
+        number += 1
+    return faults, f"{sum(sent)} strange datagrams in {number - first} runs"
+
+
+HOSTILE = {"changed documents": documents, "streams of frames": streams, "a board that answers anything": datagrams}
