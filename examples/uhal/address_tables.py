@@ -186,8 +186,8 @@ class AddressTables:
         return words[text]
 
     def set_mode(self, node):
-        """The mode that is written. Where none is: a block where there is a size of more than 1, a group where there are
-        children and none is a field of the word, and else one word."""
+        """The mode that is written. Where none is: a block where there is a size of more than 1, a group where there
+        are children and none is a field of the word, and else one word."""
         element, keys = node.element, node.keys
         name = keys["id"]
         size = self.number(element, "size") if "size" in element.attributes else None
