@@ -3,9 +3,10 @@
      plain_hub load COUNT                        the work of `ipbus load COUNT`
      plain_hub run CLIENTS BOARDS READS EACH IN_TURN SEED
          the work of `ipbus run` on a session of so many one-word reads, which the clients share, with a dispatch after
-         EACH of them (0: none but the last): client n on board n modulo BOARDS, or on the boards IN_TURN (1); over links
-         with the noise SEED, SEED + 1 and so on, or that lose nothing (-1)
-     plain_hub serve PORT CONNECTIONS UDP_PORT   the work of `ipbus serve`, at a simulated board, or one on a port (not 0)
+         EACH of them (0: none but the last): client n on board n modulo BOARDS, or on the boards IN_TURN (1); over
+         links with the noise SEED, SEED + 1 and so on, or that lose nothing (-1)
+     plain_hub serve PORT CONNECTIONS UDP_PORT
+         the work of `ipbus serve`, at a simulated board, or one on a port (not 0)
 
    A thread for each client or connection; they share a lane for each board behind a lock. Packets are written and read
    as bytes; a simulated link loses, repeats and delays them by the same noise. Replies are matched by their identifiers
@@ -152,15 +153,6 @@ static int run(int count, int board_count, uint32_t reads, uint32_t each, int in
 }
 
 /* ---- serve */
-
-static int take(int fd, unsigned char *into, int count) {
-    for (int got = 0; got < count;) {
-        int more = read(fd, into + got, count - got);
-        if (more <= 0) return 0;
-        got += more;
-    }
-    return 1;
-}
 
 static void *serve_one(void *given) {
     struct client *client = given;

@@ -1,5 +1,6 @@
-/* The lane of one board, for plain_hub.c: a link, which is simulated with noise or a socket, the board behind a simulated
-   one, and the hub's side of the board. Whoever calls `perform` waits, and pumps the lane while nobody else does. */
+/* The lane of one board, for plain_hub.c: a link, which is simulated with noise or a socket, the board behind a
+   simulated one, and the hub's side of the board. Whoever calls `perform` waits, and pumps the lane while nobody else
+   does. */
 #include <arpa/inet.h>
 #include <poll.h>
 #include <pthread.h>
@@ -9,6 +10,8 @@
 #include <stdlib.h>
 #include <string.h>
 #include <sys/socket.h>
+
+#include "bytes.h"
 
 enum {
     MTU = 1500, PACKET = MTU - 28, BUFFERS = 16, CELLS = 256, WINDOW = 16, ROUNDS = 255, MOST_BOARDS = 16,
@@ -23,17 +26,6 @@ static void need(int holds, const char *what) {
         fprintf(stderr, "plain_hub: %s\n", what);
         exit(1);
     }
-}
-
-static uint32_t word(const unsigned char *at) {
-    uint32_t raw;
-    memcpy(&raw, at, 4);
-    return ntohl(raw);
-}
-
-static void put(unsigned char *at, uint32_t value) {
-    uint32_t raw = htonl(value);
-    memcpy(at, &raw, 4);
 }
 
 static uint32_t header(int id, int type) {

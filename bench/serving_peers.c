@@ -1,5 +1,5 @@
-/* The peers of bench/serving, on 127.0.0.1: a client that asks a hub again and again, a server that answers as many bytes, a
-   board that reads zeros, and a ping-pong of the same datagrams. */
+/* The peers of bench/serving, on 127.0.0.1: a client that asks a hub again and again, a server that answers as many
+   bytes, a board that reads zeros, and a ping-pong of the same datagrams. */
 #include <arpa/inet.h>
 #include <netinet/tcp.h>
 #include <pthread.h>
@@ -11,17 +11,7 @@
 #include <time.h>
 #include <unistd.h>
 
-#define MOST 9000
-
-static void need(int holds, const char *what) {
-    if (!holds) { perror(what); exit(1); }
-}
-
-static struct sockaddr_in here(int port) {
-    struct sockaddr_in at = {.sin_family = AF_INET, .sin_port = htons(port)};
-    at.sin_addr.s_addr = htonl(INADDR_LOOPBACK);
-    return at;
-}
+#include "peers.h"
 
 static int bound(int kind, int port) {
     struct sockaddr_in at = here(port);
@@ -41,38 +31,12 @@ static int joined(int kind, int port) {
     return fd;
 }
 
-static int take(int fd, char *into, int count) {
-    for (int got = 0; got < count;) {
-        int more = read(fd, into + got, count - got);
-        if (more <= 0) return 0;
-        got += more;
-    }
-    return 1;
-}
-
-static double now(void) {
-    struct timespec t;
-    clock_gettime(CLOCK_MONOTONIC, &t);
-    return t.tv_sec + 1e-9 * t.tv_nsec;
-}
-
-static uint32_t word(const unsigned char *at) {
-    uint32_t raw;
-    memcpy(&raw, at, 4);
-    return ntohl(raw);
-}
-
-static void put(unsigned char *at, uint32_t value) {
-    uint32_t raw = htonl(value);
-    memcpy(at, &raw, 4);
-}
-
 static int request_bytes, reply_bytes, words, port, asks;
 
 /* a server that answers as many bytes as a hub: one thread for each connection */
 static void *answer_all(void *given) {
     int one = 1, fd = (int)(intptr_t)given;
-    char buf[MOST] = {0}, reply[MOST] = {0};
+    unsigned char buf[MOST] = {0}, reply[MOST] = {0};
     setsockopt(fd, IPPROTO_TCP, TCP_NODELAY, &one, sizeof one);
     while (take(fd, buf, request_bytes)) need(write(fd, reply, reply_bytes) == reply_bytes, "write");
     close(fd);
@@ -102,7 +66,7 @@ static void *ask_all(void *given) {
     put(frame + 16, 0);
     for (int i = 0; i < asks; i++) {
         need(write(fd, frame, 20) == 20, "write");
-        need(take(fd, (char *)reply, reply_bytes), "read");
+        need(take(fd, reply, reply_bytes), "read");
     }
     return 0;
 }

@@ -12,36 +12,10 @@
 #include <time.h>
 #include <unistd.h>
 
-#define MOST 9000
+#include "peers.h"
+
 #define MOST_HELD 65536
 #define MOST_CLIENTS 64
-
-static void need(int holds, const char *what) {
-    if (!holds) { perror(what); exit(1); }
-}
-
-static struct sockaddr_in here(int port) {
-    struct sockaddr_in at = {.sin_family = AF_INET, .sin_port = htons(port)};
-    at.sin_addr.s_addr = htonl(INADDR_LOOPBACK);
-    return at;
-}
-
-static double now(void) {
-    struct timespec t;
-    clock_gettime(CLOCK_MONOTONIC, &t);
-    return t.tv_sec + 1e-9 * t.tv_nsec;
-}
-
-static uint32_t word(const unsigned char *at) {
-    uint32_t raw;
-    memcpy(&raw, at, 4);
-    return ntohl(raw);
-}
-
-static void put(unsigned char *at, uint32_t value) {
-    uint32_t raw = htonl(value);
-    memcpy(at, &raw, 4);
-}
 
 /* ---- a board: it reads zeros, and each answer leaves so many seconds behind its question */
 
@@ -136,15 +110,6 @@ static void ask_board(int port, int connections, double seconds) {
 static int streams[MOST_CLIENTS];
 static long answers[MOST_CLIENTS];
 static double greatest[MOST_CLIENTS], deadline;
-
-static int take(int fd, unsigned char *into, int count) {
-    for (int got = 0; got < count;) {
-        int more = read(fd, into + got, count - got);
-        if (more <= 0) return 0;
-        got += more;
-    }
-    return 1;
-}
 
 /* Asks for a word of board 0. The code of the answer is 0 where the board answered. */
 static uint32_t ask(int client) {
