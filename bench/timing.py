@@ -1,5 +1,5 @@
-"""What the benchmarks share: the program that is timed, runs of a command and their least times, the plain hub in C, and
-small programs that are built over a copy of the crates."""
+"""What the benchmarks share: the program that is timed, runs of a command and their least times, the plain hub in C,
+and small programs that are built over a copy of the crates."""
 import importlib.machinery
 import importlib.util
 import os

@@ -60,8 +60,8 @@ def change_of(request, done):
 
 
 def steps_of(requests, answers, shown):
-    """The steps of a body by their addresses. `answers` tell how far the bus gets with it, and `shown` has what is shown
-    of its words, by index and words that were done."""
+    """The steps of a body by their addresses. `answers` tell how far the bus gets with it, and `shown` has what is
+    shown of its words, by index and words that were done."""
     steps = defaultdict(list)
     for index, (words, _) in enumerate(answers):
         request = requests[index]

@@ -1,5 +1,5 @@
-"""Cases of what the guide to sessions shows of serving: its frames in hexadecimal, its program by names, and its way from
-files of uHAL to a read. Each goes as the guide writes it, but for the ports."""
+"""Cases of what the guide to sessions shows of serving: its frames in hexadecimal, its program by names, and its way
+from files of uHAL to a read. Each goes as the guide writes it, but for the ports."""
 import os
 import pathlib
 import re

@@ -10,8 +10,8 @@
         print(int(read_back))
 
 What is asked waits until `dispatch`, which sends it in as few packets as their order allows and fills the values. A
-register's mask, permission, mode and size are judged as those of a script are, before anything is sent. It is written in
-Python 3.11 with nothing but its standard library; the folder of this file is all that has to be on the path.
+register's mask, permission, mode and size are judged as those of a script are, before anything is sent. It is written
+in Python 3.11 with nothing but its standard library; the folder of this file is all that has to be on the path.
 """
 import contextlib
 import operator

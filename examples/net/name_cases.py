@@ -1,4 +1,4 @@
-"""Cases of a client that speaks by the names of a session document, at a hub and at a server that answers as it is told."""
+"""Cases of a client that speaks by the names of a document, at a hub and at a server that answers as it is told."""
 import pathlib
 import socket
 import struct
@@ -216,8 +216,8 @@ def names_in_lines(peers):
 
 
 def told_server(peers, answers):
-    """The port of a server of one connection, which answers each frame by a function of its board and its identifier: the
-    bytes of a reply frame behind its length. None ends the connection."""
+    """The port of a server of one connection, which answers each frame by a function of its board and its identifier:
+    the bytes of a reply frame behind its length. None ends the connection."""
     door = socket.create_server(("127.0.0.1", 0))
     peers.open.append(door)
 

@@ -217,7 +217,7 @@ def run_while_a_board_sleeps(peers):
 
 
 def silent_boards_take_their_time(peers):
-    """A silent board costs its rounds at the greeting, one board after another, before the port of a server opens."""
+    """Silent boards are greeted one by one, each for all its rounds, and a server opens its port behind the last."""
     boards = boards_of(2)
     rounds = 10
     for board in boards:

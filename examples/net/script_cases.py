@@ -1,5 +1,5 @@
-"""Cases of scripts whose lines a client by names asks: it refuses those that the program refuses, by the same rule, and of
-the others it is given what `run` prints of them."""
+"""Cases of scripts whose lines a client by names asks: it refuses those that the program refuses, by the same rule, and
+of the others it is given what `run` prints of them."""
 import pathlib
 import re
 import tomllib
@@ -53,8 +53,8 @@ def shown(value):
 
 
 def scripts_served(peers):
-    """The lines of each document of `run/` with one client have, when they are asked of a server, the results that `run`
-    prints."""
+    """The lines of each document of `run/` with one client have, when they are asked of a server, the results that
+    `run` prints."""
     tried = 0
     for file in sorted((EXAMPLES / "run").glob("*.toml")):
         scripts = scripts_of(file)

@@ -428,8 +428,8 @@ LONG_WAIT = 10_000
 
 
 def serve_two_at_once(peers):
-    """A board that answers only once it holds the packets of two connections: both are answered. A hub that has one packet
-    under way would wait for as long as a receive does, again and again."""
+    """A board that answers only once it holds the packets of two connections: both are answered. A hub that has one
+    packet under way would wait for as long as a receive does, again and again."""
     (board,) = boards_of(1, together=2)
     peers.start_board(board)
     hub = peers.serve(on_network([board], wait=LONG_WAIT), 2)
