@@ -23,7 +23,7 @@ pub(crate) fn of_document(why: DocWhy) -> &'static str {
 pub(crate) fn of_table(why: TableWhy) -> &'static str {
     match why {
         TableWhy::Shape => {
-            "a table is an array of nodes, a node has values of the right kinds, and not module beside nodes"
+            "a table lists nodes in an array, each with values of the right kinds, and with module or nodes, not both"
         }
         TableWhy::UnknownKey =>
             "no node of this format has this key; count and stride want format = 2",
@@ -39,7 +39,7 @@ pub(crate) fn of_table(why: TableWhy) -> &'static str {
             "a size is 1 to 4194304, and 1 where the mode is single or hierarchical"
         }
         TableWhy::BadCount => {
-            "a count is 1 to 65536, a stride is at least 1, and stands beside a count alone"
+            "a count is 1 to 65536; a stride is at least 1, and wants a count beside it"
         }
     }
 }
@@ -76,7 +76,7 @@ pub(crate) fn of_script(why: ScriptWhy) -> &'static str {
             "the register is hierarchical, a group that is not read or written"
         }
         ScriptWhy::PastSize => "the block has more words than the register",
-        ScriptWhy::BitsOutside => "the value has a bit outside the mask of the register",
+        ScriptWhy::BitsOutside => "the value does not fit the mask of the register",
         ScriptWhy::NotWhole => "the register has a mask, which read and write alone take",
         ScriptWhy::TooMany => {
             "with this line there are more than 200000 lines, 100000 operations or 1048576 words in blocks"
