@@ -113,7 +113,7 @@ impl fmt::Display for TableWhy {
     fn fmt<W: fmt::Write>(&self, f: &mut fmt::Formatter<W>) -> fmt::Result {
         match self {
             TableWhy::Shape => write!(f, "a value of another kind"),
-            TableWhy::UnknownKey => write!(f, "a key that no node has"),
+            TableWhy::UnknownKey => write!(f, "a key that no node of this format has"),
             TableWhy::MissingId => write!(f, "no id"),
             TableWhy::BadId => write!(f, "an id out of form"),
             TableWhy::BadNumber => write!(f, "no number of 32 bits"),
