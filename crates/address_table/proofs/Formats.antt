@@ -1,4 +1,4 @@
--- What format 1 reads, format 2 reads as the same table.
+-- Whatever is a table in format 1 is that table in format 2.
 use Rattle.std.proofs.Common.{◌≡◌, List, ◌∷◌, Bool, true, false, ◌||◌, ◌&&◌, None, drop, refl}
 use Rattle.std.proofs.lemmas.Bool.{and_parts, or_left}
 use Rattle.toml.specs.Data.{Data, string, integer, float, boolean, datetime, array, table, Items, Members, no_members}

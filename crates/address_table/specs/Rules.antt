@@ -64,7 +64,7 @@ takes_size Hierarchical size = size == 1
 abbrev pub takes_count : Option ℕ → Bool
 takes_count count = option_map_or (is_between 1 most_indexes) count true
 
--- a stride is at least 1, and stands beside a count alone
+-- a count that is said is in its range, and a stride is at least 1, and said only where a count is
 unfoldable pub has_count : Members → Bool
 has_count ms =
     holds_of takes_count (count_at ms)

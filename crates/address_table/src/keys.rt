@@ -215,7 +215,7 @@ fn takes_size(mode: Mode, size: u32) -> bool
     }
 }
 
-/// Whether the count, if there is one, and the stride are in their ranges, and a stride stands beside a count alone.
+/// Whether the count, if there is one, and the stride are in their ranges, and a stride is said only where a count is.
 #[tactic(auto, unfolding(crate::specs::Rules::has_count))]
 fn has_count(members: &Table, count: Option<u32>, stride: u32) -> bool
     requires counted { spec.count_at (table_view members.now) ≡ Some count }

@@ -29,7 +29,7 @@ pub fn a_value_is_one_table()
         → SameTable t u }
 {}
 
-/// What format 1 reads, format 2 reads as the same table.
+/// Whatever is a table in format 1 is that table in format 2.
 pub fn what_format_1_reads_format_2_reads()
     ensures { (value : Data) (t : Table) → IsTable 1 value t → IsTable 2 value t }
 {}

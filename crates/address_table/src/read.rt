@@ -17,7 +17,7 @@ use toml::value::Array;
 
 /// Reads a table of nodes (profile), in table format 1 or 2. A value is a table if each node in it keeps the rules of
 /// `TableWhy`; otherwise the first faulty node is told, each node before its children, with the first rule that it
-/// breaks. What format 1 reads, format 2 reads as the same table.
+/// breaks. A value that is a table in format 1 is read in format 2 as that table.
 pub fn read_table(alloc: Global, value: &Value, format: u32) -> Result<Table, TableRefusal>
     requires { IsFormat format }
     ensures read { IfOk result (λ table. IsTable format (view value.now) table) }

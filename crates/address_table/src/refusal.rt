@@ -56,7 +56,7 @@ pub enum TableWhy {
     MissingId,
     /// An id that is not 1 to `MAX_ID_BYTES` letters, digits, `_` or `-`.
     BadId,
-    /// `address`, `mask`, `size`, `count` or `stride` is no number of 32 bits.
+    /// The value of `address`, `mask`, `size`, `count` or `stride` is out of form, or takes more than 32 bits.
     BadNumber,
     /// A mask of 0.
     BadMask,
