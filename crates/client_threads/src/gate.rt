@@ -5,10 +5,10 @@ use std::marker::Sync;
 /// Called by a client's thread between its asks and its answers. It can hold a client, and sees nothing of a lane.
 /// Profile.
 pub trait Gate: Sync {
-    /// Called after all bodies of a dispatch were asked.
+    /// The client has asked each body of a dispatch, and taken nothing of it yet.
     fn between(&self, client: u32);
 
-    /// Called after all that became of them was taken.
+    /// The client has taken what became of each of these bodies.
     fn answered(&self, client: u32);
 }
 
