@@ -1,7 +1,7 @@
 //! Scripts run on boards in this process: clients one after another, without losses.
 //!
-//! Each body goes to its board in a control packet, whose identifier is that of the place, and its reply is read from
-//! the packet that the board answers. The definitions that contracts cite are in `specs/`.
+//! A body becomes a control packet that carries the identifier of its place, and its reply is what stands in the packet
+//! that the board answers. The definitions that contracts cite are in `specs/`.
 #![tactic(auto)]
 
 mod boards;
