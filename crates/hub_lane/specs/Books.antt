@@ -40,7 +40,8 @@ is_marked [] n = false
 is_marked (b ∷ bs) zero = b.is_taken
 is_marked (b ∷ bs) (suc n) = is_marked bs n
 
--- so many were asked; of these all below this number were taken, and the next one was not; no other was
+-- So many were asked. All below the other number were taken, and the body of that number was not, if it was asked; of
+-- the asked ones behind it nothing is said. None that was not asked was taken.
 pub record IsFirstUntaken (bodies : List PlannedBody) (asked taken : ℕ) : Type 0 where
   pub few : asked ≤ length bodies
   pub within : taken ≤ asked

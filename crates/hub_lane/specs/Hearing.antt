@@ -18,7 +18,8 @@ pub record SettlesPlace (hub : Hub) (message : Option ToHub) (place : ℕ) : Typ
   pub open_there : IsOpen hub place
   pub identifier : identifier_at hub.first place ≡ id
 
--- a datagram is a status reply that a round waits for
+-- a datagram is a status reply that a round waits for, which goes on behind it: only a settled place or a quiet receive
+-- ends the round
 pub record EndsRound (hub : Hub) (message : Option ToHub) : Type 0 where
   pub mtu : ℕ
   pub buffers : ℕ

@@ -18,8 +18,8 @@ use Rattle.hub_lane.specs.Hearing.{give_ups_of}
 use Rattle.hub_lane.specs.Standing.{IsRunning}
 
 -- A hub that gave up so many times, and a link that tells and held so many datagrams. The board has the MTU that it
--- told,
--- holds as many replies as the window has places, and can take every body that was offered; and the rounds are paid.
+-- told, holds as many replies as the window has places, and can take every body that was offered; and the rounds are
+-- paid.
 pub record PaysRounds (mtu rounds given_up : ℕ) (hub : Hub) (held : ℕ) (t : Telling) : Type 0 where
   pub board : t.told.board.mtu ≡ mtu
   pub some_window : 1 ≤ hub.window
@@ -71,8 +71,8 @@ pub record KeepsRound (old new : RoundState) : Type 0 where
   pub same : new.hub.status_requests ≡ old.hub.status_requests
   pub way : GoesOnInRound old.hub old.told → GoesOnInRound new.hub new.told ⊎ Rose old.held new.held
 
--- A receive was quiet although something was under way in a round: datagrams were held in the call. Where a round begins
--- with it, the status request of that round is wanted.
+-- A receive was quiet although something was under way in a round: datagrams were held in the call. Where a round
+-- begins with it, the status request of that round is wanted.
 pub record EndsInSilence (old new : RoundState) : Type 0 where
   pub held : 1 ≤ old.hub.status_requests → IsUnderWay old.hub old.told → Rose old.held new.held
   pub wanted : 1 ≤ new.hub.status_requests → new.hub.status_wanted ≡ true

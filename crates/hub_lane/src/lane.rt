@@ -258,10 +258,10 @@ impl<L: Link> Lane<L> {
         }
     }
 
-    /// Asks the client's next planned body: the engine is offered it, and what the engine then wants to be sent is sent;
-    /// or it is lost where the link failed before. Where the link fails in a send, every body that has no outcome is
-    /// lost, this one too. Where memory runs out in a send, the body stands asked and the lane is spent: it never pumps
-    /// again. A spent lane answers want of memory. An `Err` changes nothing.
+    /// Asks the client's next planned body: the engine is offered it, and what the engine then wants to be sent is
+    /// sent; or it is lost where the link failed before. Where the link fails in a send, every body that has no outcome
+    /// is lost, this one too. Where memory runs out in a send, the body stands asked and the lane is spent: it never
+    /// pumps again. A spent lane answers want of memory. An `Err` changes nothing.
     pub fn ask(&mut self, client: u32) -> Result<Asked, NoMemory>
         requires client { 1 ≤ client }
         ensures asked { IfOk result (AsksAs self.old client self.new) }
@@ -362,8 +362,8 @@ impl<L: Link> Lane<L> {
         }
     }
 
-    /// What waits beside the lane for the next datagram of its link. `None` where there is nothing to wait for, or no room
-    /// for it. Nothing that contracts see of the link changes, and nothing of the lane.
+    /// What waits beside the lane for the next datagram of its link. `None` where there is nothing to wait for, or no
+    /// room for it. Nothing that contracts see of the link changes, and nothing of the lane.
     pub fn waiter(&mut self) -> Option<Waiter>
         ensures lane { self.new ≡ with_link self.old self.new.link }
         ensures telling { L.telling self.new.link ≡ L.telling self.old.link }

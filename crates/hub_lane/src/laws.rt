@@ -73,8 +73,8 @@ pub fn a_record_tells_its_lane()
     an_entry_is_spelled_by_numbers();
 }
 
-/// In a lane over a link that tells, whatever is asked, sent and pumped while it stays up: between a status request of the
-/// recovery and the next quiet receive a place is settled, or datagrams are held.
+/// In a lane that stays up, over a link that tells: from where the recovery wants a status request until a receive is
+/// quiet, some place is settled or datagrams are held, whatever is asked, sent and pumped meanwhile.
 pub fn a_round_settles_a_place_unless_datagrams_are_held()
     ensures { (begun last after : RoundState) (calls : List (LaneCall × RoundState)) → 1 ≤ begun.hub.status_requests
         → begun.hub.status_wanted ≡ true → AreCalls begun calls last → IsCall (Pumps came_to.Quiet) last after
