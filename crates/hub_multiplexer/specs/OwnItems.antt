@@ -32,6 +32,6 @@ HasTakenAllOf k = HasTakenAll (own_items k) k.number
 abbrev pub of_client : ℕ → List Item → List Item
 of_client client items = filter (λ x. x.client == client) items
 
--- every body that was planned for the seat's client on this board was asked
+-- of the bodies that stand planned on this board for the client of the seat, none is still to be asked
 abbrev pub HasAskedAll : SeatState → ℕ → Type 0
 HasAskedAll seat board = IfSome (slice_get seat.knows board) (λ k. asked_by k ≡ planned_by k)

@@ -8,19 +8,20 @@ use std::alloc::Global;
 use std::sync::Wait;
 use std::sync::atomic::{AtomicU64, Ordering};
 
-/// What waits beside a board's lane, where its link has such, and who uses it. Of the threads that wait for the board one
-/// at a time listens: it waits beside the lane, and steps where the link has something to tell. The others sleep until
-/// the bell rings.
+/// What waits beside a board's lane, where its link has such, and who uses it. Of the threads that wait for the board
+/// one at a time listens: it waits beside the lane, and steps where the link has something to tell. The others sleep
+/// until the bell rings.
 ///
 /// No wakeup is lost. A thread that waits reads the number of rings, then tries to become the listener, then looks at
 /// the lane, and then sleeps while the number is still that one.
-/// - What comes of its body behind its look comes by a step of another thread, which rings behind the step, or by a send
-///   that stopped the lane: whoever finds it stopped rings behind its call. So the number was read before that ring.
-/// - Where it is not the listener there was one when it tried. That one rings when it ends listening, behind the try, so
-///   the number was read before that ring, and some thread tries again.
+/// - What comes of its body behind its look comes by a step of another thread, which rings behind the step, or by a
+///   send that stopped the lane: whoever finds it stopped rings behind its call. So the number was read before that
+///   ring.
+/// - Where it is not the listener there was one when it tried. That one rings when it ends listening, behind the try,
+///   so the number was read before that ring, and some thread tries again.
 /// - What came of its body before it became the listener it finds at its look, which is behind the try.
-/// - Who is about to sleep counts itself among the sleepers before the system reads the number, and who rings raises the
-///   number before it looks for sleepers. So either the system does not let it sleep, or it is woken.
+/// - Who is about to sleep counts itself among the sleepers before the system reads the number, and who rings raises
+///   the number before it looks for sleepers. So either the system does not let it sleep, or it is woken.
 #[derive(Drop)]
 pub(crate) struct Bell {
     waiter: Option<Waiter>,

@@ -126,7 +126,7 @@ impl<L: Link + Send> Hub<L> {
 
     /// Takes a board's lane, pumps it once where nothing became of the seat's oldest asked and untaken body yet, takes
     /// what did, and gives the lane back: by one exchange, and it never waits. `Busy` where another held the lane at
-    /// that exchange. Want of memory adds nothing; the lane may have been pumped, or be spent.
+    /// that exchange. Want of memory adds nothing, but it may come behind a pump, or leave the lane spent.
     #[tactic(auto, using(crate::proofs::Boards::idle_at))]
     pub fn try_step(&self, seat: &mut Seat, board: usize) -> Result<StepTry, NoMemory>
         requires board { board < length self.now.turns }
@@ -162,10 +162,10 @@ impl<L: Link + Send> Hub<L> {
         )
     }
 
-    /// Waits until something became of the seat's oldest asked and untaken body on a board, and takes it: beside the lane
-    /// where its link has what waits there, and else by steps. It waits for the lane, and goes on as long as the board
-    /// does not answer and the hub does not give up. Want of memory adds nothing; the lane may have been pumped, or be
-    /// spent.
+    /// Waits until something became of the seat's oldest asked and untaken body on a board, and takes it: beside the
+    /// lane where its link has what waits there, and else by steps. It waits for the lane, and goes on as long as the
+    /// board does not answer and the hub does not give up. Want of memory adds nothing, but it may come behind a pump,
+    /// or leave the lane spent.
     #[tactic(auto, using(crate::proofs::Boards::idle_at))]
     pub fn perform<R: Wait>(
         &self,

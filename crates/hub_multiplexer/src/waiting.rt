@@ -93,8 +93,8 @@ fn wait_beside<L: Link + Send, R: Wait>(
     Ok(found)
 }
 
-/// Looks, waits beside the lane where nothing came yet, and steps where the link then has something to tell. Nobody else
-/// listens meanwhile.
+/// Looks, waits beside the lane where nothing came yet, and steps where the link then has something to tell. Nobody
+/// else listens meanwhile.
 fn listen<L: Link + Send, R: Wait>(
     rt: &R,
     turn: &Turn<Boxed<Lane<L>>>,
