@@ -102,8 +102,7 @@ actions_left boards lane seq (Some u) = actions_for lane seq (request_of boards 
 
 -- What the seat did on a lane: of each frame that was answered and whose body was submitted there, the Plan, the Ask
 -- and the Took with what the answer tells, in order, the numbers from 0; then what stands of a frame that was not
--- answered.
--- Nothing else of what the pass knows changed, but what it has seen and how often it found the lane taken.
+-- answered. Nothing else of what the pass knows changed, but what it has seen and how often it found the lane taken.
 pub record HasServedOn (boards : List BoardState) (lane : ℕ) (answered : List Exchange) (unanswered : Option Unanswered)
     (k after : Knowledge) : Type 0 where
   pub rest_same : after ≡ record k { seen = after.seen; mine = after.mine; vain = after.vain }
@@ -182,8 +181,8 @@ pub record IsServed (boards : List BoardState) (old new : SeatState) (left_befor
   pub part : List ℕ
   pub written : written_after ≡ append_known written_before (answers boards answered ++ part)
   pub part_of : IsPartAt boards unanswered part served.end
-  -- The hub was asked for each body that a frame has for a lane, and nothing else changed what the seat knows. Each
-  -- refusal is that of planning on the record that the seat has then seen.
+  -- The hub was asked for each body that a frame has for a lane, and nothing else changed what the seat knows. A
+  -- body was refused by the rules of planning, on the record as the seat saw it then.
   pub exchanges : AllByRecursion (IsExchange boards) answered
   pub between : SeatState
   pub exchanged : ExchangesAll boards answered old between

@@ -1,4 +1,5 @@
-//! A connection of a client, served under one seat of a hub: each request frame has one reply frame, in order.
+//! A connection of a client, served under one seat of a hub: its request frames are answered one by one, as they
+//! came.
 #![tactic(auto)]
 
 mod answering;
