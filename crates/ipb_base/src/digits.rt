@@ -3,8 +3,9 @@
 ghost use Rattle.std.specs.Prelude.{◌≡◌, ◌≤◌, ◌<◌};
 ghost use Rattle.ipb_base.specs.Digits as spec;
 
-/// The number of 32 bits that a text writes (profile): `0x` and 1 to 8 hexadecimal digits of either case, or 1 to 10
-/// decimal digits. Leading zeros count as digits. `None` for every other text, and for a number past 4294967295.
+/// The number of 32 bits that a text writes (profile): behind `0x` in at most 8 hexadecimal digits, upper or lower
+/// case, or in at most 10 decimal ones, one at least. Leading zeros count as digits. `None` for every other text, and
+/// for a number past 4294967295.
 pub fn number_in_text(text: &[u8]) -> Option<u32>
     ensures { result ≡ spec.number_in_text text.now }
 {
