@@ -2,7 +2,7 @@
 --
 -- Take any session and any connections, with any bytes from their clients, in any pieces, any way in which the threads
 -- of the connections take turns, and any losses, repeats, delays and changes of order on the links. The line of a
--- connection is what passed over it between the pair that came and the pair that went back, where these tell: each
+-- connection is what passed over it, from its pair as it came to its pair as it went back, where these tell: each
 -- request frame that it counts was answered by one reply frame, in order. The connections are the clients of the
 -- boards, and each board has one order of packets.
 --
@@ -152,7 +152,7 @@ pub record IsServiceOf (bytes : List ℕ) (count : ℕ) (links : List LinkReport
   pub pairs : length came ≡ count
   pub as_many : length connections ≡ count
   pub memory : AllByRecursion HadMemory connections
-  -- Each line of a connection is what passed between the pair that came and the pair that went back, where the boards
+  -- Each line of a connection is what passed over its pair from its coming to its going back, where the boards
   -- stand as their lines tell. The bodies that a board was asked, and what became of them, are those of the frames of
   -- all connections, and over its link they are one legal history: places from 1, each of one body, replies of one bus
   -- with a single thread where the link tells, bodies given up only after their rounds, and lost only with a link that
