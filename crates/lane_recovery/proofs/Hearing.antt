@@ -1,6 +1,5 @@
 -- What a board answers in a round: it executes the next packet, and then its reply is that of an open place, or it
--- stays
--- as it was and answers what it is asked.
+-- stays as it was and answers what it is asked.
 use Rattle.std.proofs.Common.{◌≡◌, ℕ, ◌+◌, ◌≤◌, true, false, ◌==◌, List, [], ◌∷◌, ◌++◌}
 use Rattle.std.proofs.Common.{length}
 use Rattle.std.proofs.Common.{Option, Some, None, refl, sym, ap, ◌∙◌, subst, arith, inl, inr, ◌⊎◌, length-append}

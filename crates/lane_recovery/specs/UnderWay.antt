@@ -71,8 +71,7 @@ abbrev pub CanTake : Board → Offered → Type 0
 CanTake board offered = is_too_long board offered.body ≡ false
 
 -- A hub and a link that tells, where each round can come to its end: they are joined, the board holds as many replies
--- as
--- the window has places, and takes every body that was sent.
+-- as the window has places, and takes every body that was sent.
 pub record CanRecover (hub : Hub) (t : Telling) : Type 0 where
   pub joined : IsJoined hub t.told
   pub held : hub.window ≤ t.told.board.buffers
