@@ -7,8 +7,8 @@ use ipb_base::NoMemory;
 use std::alloc::Global;
 use std::test::Fail;
 
-/// A datagram: a control packet with this identifier, in the other byte order or not, which reads the word at address 4,
-/// a request to send the reply to it again, or three bytes.
+/// A datagram: a control packet with this identifier, in the other byte order or not, which reads the word at address
+/// 4, a request to send the reply to it again, or three bytes.
 #[derive(Clone, Copy)]
 enum Sent {
     Control(u8),

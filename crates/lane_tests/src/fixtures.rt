@@ -64,8 +64,8 @@ pub(crate) fn add(alloc: Global, board: u32, addend: u32) -> Result<Step, NoMemo
     }))
 }
 
-/// A lane over a simulated link with these fates, to such a board with 16 buffers that expects the identifier 1. The hub
-/// sends at most 4 packets ahead of the replies, and gives up after 3 rounds.
+/// A lane over a simulated link with these fates, to such a board with 16 buffers that expects the identifier 1. The
+/// hub sends at most 4 packets ahead of the replies, and gives up after 3 rounds.
 pub(crate) fn lane(alloc: Global, fates: &str) -> Result<Lane<SimLink>, Fail>
     ensures { IfOk result (λ lane. lane.items ≡ []) }
 {

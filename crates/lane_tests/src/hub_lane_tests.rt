@@ -37,8 +37,8 @@ fn place_and_rounds(outcome: Option<Outcome>) -> Option<(u64, u8)> {
     }
 }
 
-/// What became of the read over a link with these fates, how many bodies have a place, and how many of them were replied
-/// to, timed out and lost.
+/// What became of the read over a link with these fates, how many bodies have a place, and how many of them were
+/// replied to, timed out and lost.
 fn became(alloc: Global, fates: &str) -> Result<(Option<(u64, u8)>, u64, (u64, u64, u64)), Fail> {
     let mut lane = asked_lane(alloc, fates)?;
     let outcome = step(&mut lane);

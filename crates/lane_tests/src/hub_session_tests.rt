@@ -51,8 +51,8 @@ fn hub_and_seat(alloc: Global) -> Result<(Hub<SimLink>, Seat), Fail>
     Ok((hub, seat))
 }
 
-/// What a client sends: a frame to board 0, one to a board that is not there and then this one, a part of it, one with a
-/// bad length behind it, or the same one twice.
+/// What a client sends: a frame to board 0, one to a board that is not there and then this one, a part of it, one with
+/// a bad length behind it, or the same one twice.
 #[derive(Clone, Copy)]
 enum Input {
     Read,
