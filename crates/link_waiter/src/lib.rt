@@ -1,5 +1,6 @@
-//! What waits for the next datagram of a link beside it, so that a thread can wait for a board and hold no lane meanwhile.
-//! It stands below all that knows of a link, since each says that a link may have it; only a link over UDP makes one.
+//! What waits for the next datagram of a link beside it, so that a thread can wait for a board and hold no lane
+//! meanwhile. It stands below all that knows of a link, since each says that a link may have it; only a link over UDP
+//! makes one.
 #![tactic(auto)]
 
 use std::alloc::{AllocError, Global};
@@ -79,9 +80,9 @@ impl Sighting {
     }
 }
 
-/// Waits for the next datagram of a link, at another handle of the link's socket, and leaves it there. Each wait takes as
-/// long as the link waits, and begins again at each datagram from elsewhere, which it drops, and at each signal, up to 64
-/// of these.
+/// Waits for the next datagram of a link, at another handle of the link's socket, and leaves it there. Each wait takes
+/// as long as the link waits, and begins again at each datagram from elsewhere, which it drops, and at each signal, up
+/// to 64 of these.
 #[derive(Drop)]
 pub struct Waiter {
     socket: UdpSocket,
