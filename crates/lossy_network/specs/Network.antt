@@ -97,7 +97,7 @@ heard net told =
     then put_at (length net.told.air) (record net { told = told })
     else record net { told = told }
 
--- the bytes of a datagram that is for the hub and within its lifetime
+-- the bytes of a datagram, if it goes to the hub and is not too old
 abbrev pub hub_bytes : Told → Option Datagram → Option (List ℕ)
 hub_bytes told None = None
 hub_bytes told (Some datagram) =

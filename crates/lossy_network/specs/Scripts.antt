@@ -66,7 +66,7 @@ receipt_of link (bytes ∷ left) = record {
   after = record link { handed = link.handed ++ bytes ∷ []; left = left; gots = one_more link.gots };
 }
 
--- a receive hands out the next answer, and is quiet where none is left
+-- a receive takes the first of the answers that are left, and is quiet behind the last
 abbrev pub received : ScriptState → ScriptReceipt
 received link = receipt_of (called link) link.left
 

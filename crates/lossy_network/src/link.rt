@@ -195,7 +195,7 @@ impl SimLink {
         }
     }
 
-    /// Takes the datagram at the front of the queue: the board hears it, or it is too old. `false` where it is one for
+    /// Takes one datagram, the front of the queue: the board hears it, or it is too old. `false` where it is one for
     /// the hub, or there is none.
     fn take_front(&mut self) -> Result<bool, NoMemory>
         ensures taken { IfOk result (λ taken. IsTaken taken self.old self.new) }
