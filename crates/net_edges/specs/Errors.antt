@@ -4,8 +4,8 @@ use Rattle.std.specs.List.{list_any}
 use Rattle.net_edges.specs.declared.errors.Sending.{Sending}
 use Rattle.net_edges.specs.declared.errors.Sending.TheVariants.{Sent, Lost, Failed}
 
--- Errors that say nothing of the socket and the address, and may be gone at the next call: EPERM, EINTR, EAGAIN, ENOMEM,
--- EACCES, ENETDOWN, ENETUNREACH, ENOBUFS, ECONNREFUSED, EHOSTDOWN and EHOSTUNREACH, by their numbers on Linux.
+-- Errors that say nothing of the socket and the address, and may be gone at the next call: EPERM, EINTR, EAGAIN,
+-- ENOMEM, EACCES, ENETDOWN, ENETUNREACH, ENOBUFS, ECONNREFUSED, EHOSTDOWN and EHOSTUNREACH, by their numbers on Linux.
 abbrev pub passing_errors : List ℕ
 passing_errors = 1 ∷ 4 ∷ 11 ∷ 12 ∷ 13 ∷ 100 ∷ 101 ∷ 105 ∷ 111 ∷ 112 ∷ 113 ∷ []
 
