@@ -1,5 +1,5 @@
--- The names of registers: dotted paths of node ids, each with its index where the node has a count, and addresses that
--- add up along the path (uHAL; arrays of nodes are the profile's).
+-- What registers are called: the ids on the way down to each, with dots between, and behind the id of a node with a
+-- count an index; and where they lie: the addresses on that way, added up (uHAL; arrays of nodes are the profile's).
 use Rattle.std.specs.Prelude.{◌≡◌, ◌↔◌, ◌≤◌, ℕ, ◌+◌, ◌-◌, ◌*◌, List, [], ◌∷◌, ◌++◌, codes, Option, Some, None}
 use Rattle.std.specs.Prelude.{decimal}
 use Rattle.std.specs.Option.{option_map_or}

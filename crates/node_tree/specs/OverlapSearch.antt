@@ -202,7 +202,7 @@ pub record IsPut (events : List Event) (a : ℕ) : Type 0 where
 abbrev pub Grows : List Event → List Event → Type 0
 Grows old new = (x y : Event) → Asks old x y → Asks new x y
 
--- an entry comes after another, and neither name is a dotted prefix of the other
+-- an entry comes after another, and neither stands below the other in the tree of names
 pub record IsPast (es : List (Name × Register)) (a c : ℕ) : Type 0 where
   pub later : a < c
   pub apart : (d e : Name × Register) → slice_get es a ≡ Some d → slice_get es c ≡ Some e

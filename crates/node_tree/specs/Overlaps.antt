@@ -28,7 +28,7 @@ share_an_address a b =
 abbrev pub share_a_bit : Register → Register → Bool
 share_a_bit a b = not (bit_and a.mask b.mask == 0)
 
--- both have words of their own, they share a bit of a word, and neither name is a dotted prefix of the other
+-- both have words of their own, they share a bit of a word, and neither stands below the other in the tree of names
 abbrev pub overlap : Name × Register → Name × Register → Bool
 overlap a b =
     ((takes_words a.1.mode && takes_words b.1.mode) && (share_an_address a.1 b.1 && share_a_bit a.1 b.1))

@@ -16,10 +16,10 @@ use address_table::Text;
 use std::alloc::Global;
 use std::collections::BTreeMap;
 
-/// The index of the registers that a table names (uHAL; at each index of a node with a count). The tables are compiled exactly where they break no rule of
-/// `CompileWhy`, and then the index has the registers that the root names and no others. Each mask and size fits
-/// its mode, and each register ends at an address of 32 bits. A refusal tells the first rule that is broken, and where;
-/// one for a duplicate means that an earlier sibling of the node has its id.
+/// The index of the registers that a table names (uHAL; at each index of a node with a count). The tables are compiled
+/// exactly where they break no rule of `CompileWhy`, and then the index has the registers that the root names and no
+/// others. Each mask and size fits its mode, and each register ends at an address of 32 bits. A refusal tells the first
+/// rule that is broken, and where; one for a duplicate means that an earlier sibling of the node has its id.
 pub fn compile(alloc: Global, tables: &Tables, root: &str) -> Result<Index, CompileRefusal>
     ensures names { IfOk result (λ index. IsIndexOf tables.now root.now index) }
     ensures only_if_kept { OnOk result (KeepsRules tables.now root.now) }

@@ -43,7 +43,7 @@ pub(super) fn events_of(
     Ok(events)
 }
 
-/// Puts the open_places entries whose names an entry's name does not begin with among the earlier ones.
+/// Puts those of the open entries among the earlier ones whose names are no beginning of this entry's name.
 fn close(
     entries: &[Entry],
     place: usize,
