@@ -32,8 +32,8 @@ const SUMS: &str = "client 1
 board b0 places 2 replied 2 timeout 0 lost 0
 ";
 
-/// A line of the board, what stands in the place of the read, and the text: over a link that loses nothing, and over one
-/// that loses, repeats and delays.
+/// A line of the board, what stands in the place of the read, and the text: over a link that loses nothing, and over
+/// one that loses, repeats and delays.
 const SESSIONS: [(&str, &str, &str); 2] = [
     ("mtu = 92\n", "readblock b0:mem 30", BLOCK),
     (

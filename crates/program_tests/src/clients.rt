@@ -133,9 +133,9 @@ fn gated<T: Threads + Wait + Sync, G: Gate + Sync>(
     Ok((status, out))
 }
 
-/// Each call of the gate comes once, in its order and with the number of its client, behind the asks of its dispatch. Where
-/// a call of `between` came before the asks, the first client's would have no place before the second's last; and where
-/// clients ran one after another, one would wait in vain.
+/// Each call of the gate comes once, in its order and with the number of its client, behind the asks of its dispatch.
+/// Where a call of `between` came before the asks, the first client's would have no place before the second's last; and
+/// where clients ran one after another, one would wait in vain.
 #[test]
 fn clients_run_at_once(rt: HostRuntime) -> Result<(), Fail> {
     let gate = MakesThemMeet {

@@ -34,8 +34,8 @@ board = [{ name = "b0", table = "main", ranges = [{ base = 0, size = 16 }] }]
 client = [{ script = ["reed b0:id"] }]
 "#;
 
-/// A door with this many pairs, each with so many bytes of a frame, whose call with this number fails: none, where it is
-/// 0.
+/// A door with this many pairs, each with so many bytes of a frame, whose call with this number fails: none, where it
+/// is 0.
 pub(crate) fn door_for(
     alloc: Global,
     pairs: usize,
