@@ -1,5 +1,5 @@
-//! What the lines of scripts ask, once they are read: operations on registers, step by step, and what packing and the bus
-//! can take of them.
+//! What the lines of scripts ask, once they are read: operations on registers, step by step, and what packing and the
+//! bus can take of them.
 #![tactic(auto)]
 
 pub mod laws;
