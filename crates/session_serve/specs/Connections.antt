@@ -37,8 +37,8 @@ pub record HasFaultsOf (served : Served) (came back : PairReport) : Type 0 where
   pub read_unfaulted : served.end ≢ ends.ReadFault → back.read_faults ≡ came.read_faults
   pub write_unfaulted : served.end ≢ ends.WriteFault → back.write_faults ≡ came.write_faults
 
--- A connection was served under a seat of the hub, between the pair that came and the pair that went back. This is what
--- it came to, where the boards stand so.
+-- A connection was served under a seat of the hub: this is what it came to, by its pair as it came and as it went back,
+-- where the boards stand so.
 pub record IsServedUnder (boards : List BoardState) (before after : SeatState) (came back : PairReport)
     (served : Served) : Type 0 where
   pub as_served : IsServed boards before after came.left back.left came.written back.written served
