@@ -16,9 +16,9 @@ ghost use Rattle.sound_lanes.specs.Reports.{OpenedWith, report_of};
 
 use hub_lane::laws::a_lane_over_a_link_that_tells_is_true;
 
-/// A lane whose give-ups are paid and whose replies came in datagrams, over a link to a board that opened with this bus,
-/// keeps all that the history of the board rests on: `Lane::is_sound`, `Lane::has_paid` and `Lane::has_heard` tell the
-/// first three premises.
+/// A lane whose give-ups are paid and whose replies came in datagrams, over a link to a board that opened with this
+/// bus, keeps all that the history of the board rests on: `Lane::is_sound`, `Lane::has_paid` and `Lane::has_heard` tell
+/// the first three premises.
 pub fn a_lane_is_a_sound_one()
     ensures { (settings : Limits) (status : BoardStatus) (hub : Hub) (items : List Item)
         (outcomes : List (Option Outcome)) (give_ups : ℕ) (down spent : Bool) (telling : Option Telling)
