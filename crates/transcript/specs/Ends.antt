@@ -70,6 +70,6 @@ abbrev pub place_in : Option BodyEnd → ℕ → List (ℕ × ℕ)
 place_in (Some end) index = place_at end.place index
 place_in None index = []
 
--- a piece has a place where its body has one
+-- the place of a piece, by that of its body; none where the body has none
 abbrev pub piece_place : List BodyEnd → PieceAt → List (ℕ × ℕ)
 piece_place ends piece = place_in (slice_get ends piece.body) piece.index
