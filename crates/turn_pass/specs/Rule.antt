@@ -74,8 +74,8 @@ pub record Owns (start history : Record) (views : List View) (n : ℕ) (k : Know
   pub made_are : n ≡ 0 → k.made ≡ length views
   pub joined_stay : AllByRecursion (StaysJoined start history views) k.joined
 
--- Each pass has a number of its own; the first pass knows how many were made, and all numbers are lower. Its entries are
--- those past the opening that have its number. No entry past the opening has a number that was not made.
+-- Each pass has a number of its own; the first pass knows how many were made, and all numbers are lower. Its entries
+-- are those past the opening that have its number. No entry past the opening has a number that was not made.
 pub record OwnEntries {V : Type 0} (start history : Record) (s : State (Option V) View) : Type 0 where
   pub each : (n : ℕ) (v : View) → IsPass s.views n v → Owns start history s.views n v.knows
   pub unmade : (n : ℕ) → length s.views ≤ n → made_by n (past start history) ≡ []
