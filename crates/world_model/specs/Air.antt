@@ -1,6 +1,5 @@
 -- The air between a hub and a board: every datagram ever sent, in order. What is lost is never heard, what is repeated
--- is
--- heard again, and what is late is heard after others. Profile: how long a datagram may be under way.
+-- is heard again, and what is late is heard after others. Profile: how long a datagram may be under way.
 use Rattle.std.specs.Prelude.{ℕ, ◌-◌, nat_le, Bool, true, false}
 use Rattle.world_model.specs.declared.datagram.Datagram.{Datagram}
 use Rattle.world_model.specs.declared.datagram.Direction.{Direction}

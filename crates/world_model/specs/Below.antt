@@ -26,8 +26,7 @@ pub record ReadsPackets : Type 0 where
   pub count : (order : Order) (bytes : List ℕ) → length (words_of order bytes) ≡ length bytes / 4
 
 -- a bus of words answers a body of words by a reply to it, no longer than its room, and is a bus of words after it;
--- each body
--- of a replay has one reply
+-- each body of a replay has one reply
 pub record AnswersBodies : Type 0 where
   pub kept : (cells : CellMap) (body : List ℕ) → HoldsWords cells → AreWords body
       → HoldsWords (run_body cells body).cells

@@ -1,7 +1,6 @@
 -- A board and what it does with a datagram. IPbus 2.0: reliability mechanism, status packet, re-send request packet.
--- Profile:
--- identifier 0 is executed at each arrival, what is too long is dropped, and an answer has the byte order of its
--- request.
+-- Profile: identifier 0 is executed at each arrival, what is too long is dropped, and an answer has the byte order of
+-- its request.
 use Rattle.std.specs.Prelude.{ℕ, ◌+◌, ◌-◌, ◌==◌, ◌||◌, nat_lt, Bool, true, false, if◌then◌else◌, List, [], ◌∷◌, ◌++◌}
 use Rattle.std.specs.Prelude.{length, map, drop, Option, Some, None}
 use Rattle.ipb_base.specs.Numbers.{payload_of}
@@ -21,8 +20,7 @@ use Rattle.world_model.specs.declared.heard.LogEntry.{LogEntry}
 use Rattle.world_model.specs.Messages.{ToBoard, StatusRequest, ResendRequest, ControlPacket, control_packet, to_board}
 
 -- A board: the bus that it opened with, its MTU in bytes, the number of its response buffers, the identifier that it
--- expected
--- first, and the control packets that it executed, in order. All else follows from these.
+-- expected first, and the control packets that it executed, in order. All else follows from these.
 pub record Board : Type 0 where
   pub opening : CellMap
   pub mtu : ℕ

@@ -10,7 +10,7 @@ use Rattle.board_bus.specs.Ranges.{opening_bus}
 use Rattle.world_model.specs.Board.{Board, executed}
 use Rattle.world_model.specs.World.{World, run_moves, start}
 
--- a board of 16 words that open_places with 0xabcd at address 4, as it expects its first packet
+-- a board of 16 words that opens with 0xabcd at address 4, as it expects its first packet
 abbrev pub board_with : ℕ → ℕ → ℕ → Board
 board_with mtu buffers first = record {
   opening = opening_bus (record { base = 0; size = 16; kind = Rw; init = 0 ∷ 0 ∷ 0 ∷ 0 ∷ 0xabcd ∷ [] } ∷ []);
@@ -35,8 +35,7 @@ abbrev pub one_added : List ℕ
 one_added = 0x20000150 ∷ 0 ∷ []
 
 -- how a world stands: the bodies that its board executed, the fates that were handed out, the places that are open, and
--- the
--- bytes in the air
+-- the bytes in the air
 pub record Standing : Type 0 where
   pub executed_bodies : List (List ℕ)
   pub fates : List (ℕ × Fate)

@@ -1,21 +1,15 @@
 -- The facts that hold in every state of every run, and carry the theorem.
 --
 -- An identifier is a number of 16 bits, and the places that it can stand for lie 65,535 apart. So whoever reads an
--- identifier
--- must know which of these places is meant, whatever was lost, repeated or delayed. Say that the hub sent s bodies
--- first and
--- the board executed N of them. The board executes the expected identifier alone, so the executed bodies are the first
--- N of
--- those sent, and what is not executed is open at the hub: no more than the window, at most 16 places, so s <= N + 16.
--- A
--- control packet is sent of an open place alone, at most 16 places behind the first sends at its birth; a reply is that
--- of one
--- of the last 64 executed places, so at most 16 + 64 behind; a status reply tells a place at most 16 behind. Whatever
--- is heard
--- was sent no more than 32,768 first sends ago. So it speaks of a place less than
--- 65,535 away from the next one, and within that distance an identifier names one place: a control packet with the
--- expected
--- identifier is that of place N + 1, and a reply with an open place's identifier is the reply at that place.
+-- identifier must know which of these places is meant, whatever was lost, repeated or delayed. Say that the hub sent s
+-- bodies first and the board executed N of them. The board executes the expected identifier alone, so the executed
+-- bodies are the first N of those sent, and what is not executed is open at the hub: no more than the window, at most
+-- 16 places, so s <= N + 16. A control packet is sent of an open place alone, at most 16 places behind the first sends
+-- at its birth; a reply is that of one of the last 64 executed places, so at most 16 + 64 behind; a status reply tells
+-- a place at most 16 behind. Whatever is heard was sent no more than 32,768 first sends ago. So it speaks of a place
+-- less than 65,535 away from the next one, and within that distance an identifier names one place: a control packet
+-- with the expected identifier is that of place N + 1, and a reply with an open place's identifier is the reply at that
+-- place.
 use Rattle.std.specs.Prelude.{◌≡◌, ℕ, ◌+◌, ◌==◌, ◌||◌, ◌<◌, ◌≤◌, Bool, true, false, List, [], ◌∷◌, length, map, Option}
 use Rattle.std.specs.Prelude.{Some, None}
 use Rattle.std.specs.List.{AllByRecursion}
@@ -80,8 +74,7 @@ has place [] = false
 has place (p ∷ ps) = (p == place) || has place ps
 
 -- the hub's window over `sent` first sends: the open places rise, and from the lowest one to the last first send there
--- are no
--- more places than the window
+-- are no more places than the window
 pub record IsWindow (window sent : ℕ) (ps : List ℕ) : Type 0 where
   pub few : window ≤ MOST_OPEN
   pub rising : AreRising (least ps (sent + 1)) (sent + 1) ps

@@ -51,10 +51,8 @@ pub record IsAliveInAir (w : World) (bytes : List ℕ) : Type 0 where
   pub alive : length w.hub.sent ≤ birth + LIFETIME
 
 -- The theorem. The executed bodies are the front of the bodies that were sent first, in order; and each place whose
--- fate is
--- Replied has the reply that a bus with a single thread gives there, when the executed bodies are replayed by place
--- over the
--- bus that the board opened with.
+-- fate is Replied has the reply that a bus with a single thread gives there, when the executed bodies are replayed by
+-- place over the bus that the board opened with.
 pub record IsTrueHistory (w : World) : Type 0 where
   pub in_order : IsPrefix (executed w.board) (bodies_of w.hub.sent)
   pub replied : (tag place : ℕ) (words : List ℕ) → IsHandedOut w tag (Replied place words)
@@ -113,8 +111,7 @@ placed_tags ((tag, TimedOut place rounds) ∷ fates) = tag ∷ placed_tags fates
 placed_tags ((tag, Unsent) ∷ fates) = placed_tags fates
 
 -- Every offered body stands once among the fates, the bodies that are waited for and those that are queued; and every
--- body that
--- was sent stands once among the fates with a place and the bodies that are waited for.
+-- body that was sent stands once among the fates with a place and the bodies that are waited for.
 pub record IsAccounted (moves : List WorldMove) (w : World) (tag : ℕ) : Type 0 where
   pub offered : times tag (offers moves) ≡
       times tag (map tag_of_fate w.fates) + times tag (waited_tags w.hub.sent w.hub.open_places)

@@ -1,6 +1,5 @@
 -- The hub of one board: a machine of events without time, threads or bytes. IPbus 2.0, reliability mechanism; that one
--- control
--- path keeps each board and does its recovery is a ControlHub's; the window, the rounds and the give-up are the
+-- control path keeps each board and does its recovery is a ControlHub's; the window, the rounds and the give-up are the
 -- profile's.
 use Rattle.std.specs.Prelude.{ℕ, zero, suc, ◌+◌, ◌-◌, nat_lt, ◌==◌, ◌||◌, Bool, true, false, if◌then◌else◌, List, []}
 use Rattle.std.specs.Prelude.{◌∷◌, ◌++◌, length, map, Option, Some, None}
@@ -13,12 +12,9 @@ use Rattle.world_model.specs.Places.{at_place}
 use Rattle.world_model.specs.Messages.{ToHub, StatusReply, Reply}
 
 -- The first identifier that the board expects, the window and the rounds; the bodies that were sent, by place, and
--- those that
--- were not, in the order of offers; the open places, by place: sent, and no reply taken; how many status
--- status_requests were wanted
--- since the last settled place, and whether one is to be sent; whether the hub gave up and nothing was offered since;
--- and the
--- fates that are not handed out yet, each under the tag of its body.
+-- those that were not, in the order of offers; the open places, by place: sent, and no reply taken; how many status
+-- requests were wanted since the last settled place, and whether one is to be sent; whether the hub gave up and
+-- nothing was offered since; and the fates that are not handed out yet, each under the tag of its body.
 pub record Hub : Type 0 where
   pub first : ℕ
   pub window : ℕ
@@ -78,8 +74,7 @@ words_of None = []
 words_of (Some offered) = offered.body
 
 -- A reply is that of the open place with its identifier. The place is closed, and its round with it; the words go to
--- whoever
--- waits for them, and to nobody where nobody does.
+-- whoever waits for them, and to nobody where nobody does.
 abbrev pub open_with : ℕ → ℕ → List OpenPlace → Option OpenPlace
 open_with first id [] = None
 open_with first id (o ∷ os) = if identifier_at first o.place == id then Some o else open_with first id os
@@ -102,10 +97,8 @@ abbrev pub hear_reply : Hub → ℕ → List ℕ → Hub
 hear_reply hub id words = settle hub words (open_with hub.first id hub.open_places)
 
 -- A status reply is taken while a round is under way, where it tells the identifier of a place from the lowest open one
--- to the
--- next one. Each open place below that place was executed: its reply is asked for again. Each other open place was not
--- yet when
--- the board told it: its control packet is sent again.
+-- to the next one. Each open place below that place was executed: its reply is asked for again. Each other open place
+-- was not yet when the board told it: its control packet is sent again.
 abbrev pub place_with : ℕ → ℕ → ℕ → ℕ → Option ℕ
 place_with first place zero id = None
 place_with first place (suc count) id =
@@ -131,8 +124,7 @@ take_message hub (Some (StatusReply mtu buffers next)) = hear_status hub next
 take_message hub (Some (Reply id words)) = hear_reply hub id words
 
 -- A quiet receive begins a round, or ends the last one: then each place that is waited for is timed out, each body
--- without a
--- place is unsent, and nothing is wanted or waited for any more. The open places stay open.
+-- without a place is unsent, and nothing is wanted or waited for any more. The open places stay open.
 abbrev pub abandoned : OpenPlace → OpenPlace
 abandoned o = record { place = o.place; waited = false; resend = false; control = false }
 

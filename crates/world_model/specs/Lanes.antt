@@ -1,6 +1,5 @@
 -- States of runs, and states whose sends still wait: a hub that sends only before it next receives is, once its waiting
--- sends
--- are in the air, in a state of a run. Profile.
+-- sends are in the air, in a state of a run. Profile.
 use Rattle.std.specs.Prelude.{◌≡◌, true, List, Ok}
 use Rattle.std.specs.List.{AllByRecursion}
 use Rattle.world_model.specs.declared.moves.WorldMove.{WorldMove}

@@ -1,6 +1,5 @@
 -- A link that tells its datagrams, seen by its board and its air alone: what its calls may do, and how it stands to the
--- hub that
--- uses it. It counts first sends by itself, from the control packets that it carries. Profile.
+-- hub that uses it. It counts first sends by itself, from the control packets that it carries. Profile.
 use Rattle.std.specs.Prelude.{◌≡◌, ℕ, ◌+◌, ◌==◌, Bool, true, false, if◌then◌else◌, List, [], ◌∷◌, ◌++◌, length, Option}
 use Rattle.std.specs.Prelude.{Some, None}
 use Rattle.std.specs.List.{slice_get}
@@ -20,8 +19,7 @@ pub record Told : Type 0 where
   pub air : List Datagram
 
 -- The link knows a first send by its number: a control packet for the board that carries the identifier which no
--- earlier one
--- had in turn.
+-- earlier one had in turn.
 abbrev pub is_first_message : ℕ → ℕ → Option MessageToBoard → Bool
 is_first_message first count None = false
 is_first_message first count (Some StatusRequest) = false
@@ -78,7 +76,7 @@ pub record IsHeard (old new : Told) : Type 0 where
   pub places : List ℕ
   pub heard : hears_all old places ≡ Some new
 
--- the bytes are those of an alive datagram of the air that is for the hub, at this place
+-- the bytes are those of the datagram at this place of the air, which goes to the hub and is alive
 pub record IsHandedAt (told : Told) (bytes : List ℕ) (place : ℕ) : Type 0 where
   pub birth : ℕ
   pub there : slice_get told.air place ≡ Some (record { direction = ToHub; bytes = bytes; birth = birth })

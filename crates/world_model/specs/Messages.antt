@@ -1,8 +1,6 @@
 -- What a datagram says to a board and to a hub, by the packet that its bytes spell. IPbus 2.0: control packets, status
--- packets
--- and re-send requests. Profile: control packets in both byte orders, the others big-endian; the words of a status
--- packet that
--- are not looked at. Bytes that spell no packet, or one that means nothing there, say nothing.
+-- packets and re-send requests. Profile: control packets in both byte orders, the others big-endian; the words of a
+-- status packet that are not looked at. Bytes that spell no packet, or one that means nothing there, say nothing.
 use Rattle.std.specs.Prelude.{ℕ, ◌==◌, ◌&&◌, nat_le, Bool, if◌then◌else◌, List, [], ◌∷◌, length, Option, Some, None}
 use Rattle.std.specs.Prelude.{Result, Ok, Err}
 use Rattle.packet_codec.specs.declared.header.Header.{Header}

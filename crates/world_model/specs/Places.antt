@@ -1,4 +1,4 @@
--- Places: the bodies that a hub sends to a board stand at 1, 2, 3, .., in the order of their first sends. Profile.
+-- Places: the bodies that went to a board, numbered from 1 on by when each was sent for the first time. Profile.
 use Rattle.std.specs.Prelude.{ℕ, zero, suc, List, Option, None}
 use Rattle.std.specs.List.{slice_get}
 

@@ -45,8 +45,7 @@ wanted first (o ∷ os) =
     else after_open o (wanted first os)
 
 -- The body at the front of the queue gets the next place, where the window has room: from the lowest open place to that
--- one,
--- both counted, there are no more places than the window.
+-- one, both counted, there are no more places than the window.
 abbrev pub opened : ℕ → OpenPlace
 opened place = record { place = place; waited = true; resend = false; control = false }
 

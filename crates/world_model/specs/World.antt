@@ -1,6 +1,5 @@
 -- The world of one hub, one board and the air between them, and its moves. Which datagram is heard next, by whom, how
--- often and
--- whether at all is free: so the moves choose what the path does to each datagram. Profile.
+-- often and whether at all is free: so the moves choose what the path does to each datagram. Profile.
 use Rattle.std.specs.Prelude.{ℕ, zero, suc, ◌+◌, min, if◌then◌else◌, List, [], ◌∷◌, ◌++◌, length, Option, Some}
 use Rattle.std.specs.Prelude.{None, Result, Ok, Err}
 use Rattle.std.specs.List.{slice_get}

@@ -2,12 +2,10 @@
 //! does: all of it as data and functions over data, with the theorem over all that the path can do to datagrams.
 //!
 //! The definitions are in `specs/`: `Board`, `Hub`, `Air` and `World` are what IPbus 2.0 and a ControlHub do,
-//! `Messages`
-//! how each side reads bytes, `Links` and `Lanes` what the crates above need of a link that tells its datagrams,
-//! `Facts`
-//! the facts that carry the theorem, and `History` what it says. Of code there are only the types that these
-//! definitions and the crates above
-//! share: a board, an engine and a link are those crates, which are proved equal to these functions.
+//! `Messages` how each side reads bytes, `Links` and `Lanes` what the crates above need of a link that tells its
+//! datagrams, `Facts` the facts that carry the theorem, and `History` what it says. Of code there are only the types
+//! that these definitions and the crates above share: a board, an engine and a link are those crates, which are proved
+//! equal to these functions.
 #![tactic(auto)]
 
 mod below;

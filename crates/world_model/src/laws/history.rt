@@ -41,8 +41,7 @@ pub fn nothing_is_executed_twice_or_out_of_order()
 }
 
 /// A fate with a place is that of the body that was sent there under its tag: executed where it was replied, and at
-/// most
-/// once where it timed out.
+/// most once where it timed out.
 pub fn a_fate_is_that_of_its_place()
     ensures replied { (window rounds : ℕ) (board : Board) (air : List Datagram) (moves : List WorldMove) (w : World)
         (tag place : ℕ) (words : List ℕ) → IsRun window rounds board air moves w

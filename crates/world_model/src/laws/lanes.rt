@@ -13,8 +13,8 @@ ghost use Rattle.world_model.specs.History.{IsMove};
 ghost use Rattle.world_model.specs.Lanes.{IsLaneState, caught_up};
 
 /// Where a run begins there is nothing to send. An offer, a send and the handing out of fates keep what the state will
-/// be; and where nothing waits, a move makes the next state of the run. Whether the sends that wait go out before a body
-/// is offered, or only behind the offer, they lead to the same world.
+/// be; and where nothing waits, a move makes the next state of the run. Whether the sends that wait go out before a
+/// body is offered, or only behind the offer, they lead to the same world.
 pub fn waiting_sends_change_no_run()
     ensures begins { (window rounds : ℕ) (board : Board) (air : List Datagram)
         → IsLaneState (start window rounds board air) (start window rounds board air) }

@@ -27,8 +27,7 @@ pub fn a_greeting_joins()
 }
 
 /// Each event of the hub and each call of the link keeps the joint fact: an offer, a send that the link carried, what
-/// the
-/// board heard in one receive, a datagram that was handed out, a quiet receive, and a fate that was handed out.
+/// the board heard in one receive, a datagram that was handed out, a quiet receive, and a fate that was handed out.
 pub fn each_event_keeps_them_joined()
     ensures offered { (hub : Hub) (told : Told) (offered : Offered) → IsJoined hub told → IsSendable offered.body
         → IsJoined (offer hub offered) told }
@@ -54,9 +53,8 @@ pub fn joined_ones_tell_the_truth()
     laws_below();
 }
 
-/// A greeting goes on: a status request that is sent and whatever the board hears of it leave a board and an air
-/// where a
-/// run can begin, and what is handed out is the status of that board.
+/// A greeting goes on: a status request that is sent and whatever the board hears of it leave a board and an air where
+/// a run can begin, and what is handed out is the status of that board.
 pub fn a_greeting_goes_on()
     ensures sent { (window : ℕ) (told : Told) → IsStart window told.board told.air
         → IsStart window told.board (sent_on told (packet_bytes status_request)).air }
@@ -91,8 +89,7 @@ pub fn right_fates_stay_right()
 }
 
 /// A send that the link refused is counted by the hub and never joins the air: the world is still sound. A send is
-/// never
-/// longer than a packet can be.
+/// never longer than a packet can be.
 pub fn a_send_may_be_refused()
     ensures refused { (hub : Hub) (told : Told) (next : Next) → IsJoined hub told → next_send hub ≡ Some next
         → IsSound (together next.hub told) }
