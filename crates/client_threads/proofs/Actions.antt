@@ -12,7 +12,7 @@ use Rattle.lane_record.specs.declared.item.What.TheVariants.{Plan, Seal, Ask, To
 use Rattle.lane_record.specs.Items.{ask_in, found, numbers, plan_in, took_in}
 use Rattle.lane_record.specs.Dispatches.{Action, Planned, Sealed, Asked, Taken, NumberedAction, action_of, asks_from}
 use Rattle.lane_record.specs.Dispatches.{dispatches_from, joined, numbered_action, plans_from, tooks_from}
-use Rattle.hub_lane.proofs.TakenRows.{or_right}
+use Rattle.lane_tables.proofs.TakenRows.{or_right}
 
 -- ---- counts of actions
 

@@ -13,7 +13,7 @@ use Rattle.lane_record.specs.Legal.{IsLegal}
 use Rattle.lane_record.specs.NextEntry.{ask_of}
 use Rattle.lane_record.proofs.Asks.{apart}
 use Rattle.lane_record.proofs.Lookups.{claims_push}
-use Rattle.hub_lane.specs.OutcomeTable.{AreAskedIn, AskedBody, IsAsked, asked_body, body_in}
+use Rattle.lane_tables.specs.OutcomeTable.{AreAskedIn, AskedBody, IsAsked, asked_body, body_in}
 use Rattle.hub_lane.proofs.Lanes.{same_claims}
 
 -- another entry asks nothing

@@ -13,18 +13,10 @@ mod Rounds
 mod InRounds
 mod Asking
 mod Ready
-mod PlannedBodies
-mod ClientRows
-mod OneMore
-mod Books
 mod Lanes
 mod Exchanges
 mod Pumps
-pub mod TakenRows
 mod Steps
 mod Records
-mod OutcomeRows
-mod OutcomeSpots
 mod AskedBodies
 mod LostWithLink
-pub mod Results

@@ -21,7 +21,7 @@ use Rattle.hub_lane.specs.declared.answers.Pumped.TheVariants.{Reply, Status, St
 use Rattle.hub_lane.specs.Calls.{GoesDown, IsSameRecord, PumpsAs, WasAsked}
 use Rattle.hub_lane.specs.Hearing.{gots_of, quiets_of}
 use Rattle.hub_lane.specs.Lanes.{LaneState}
-use Rattle.hub_lane.specs.Step.{IsOldest}
+use Rattle.lane_tables.specs.Taken.{IsOldest}
 
 -- ---- an asked body has its Ask
 

@@ -9,13 +9,6 @@ use Rattle.std.proofs.lemmas.Option.{get_or_from_slice_get, slice_get_within}
 use mir.Val.{bool_byte}
 use Rattle.lane_record.specs.declared.outcome.Outcome.{Outcome}
 use Rattle.lane_record.specs.Bounds.{has_timed_out, timeouts}
-use Rattle.lane_record.specs.Offers.{put}
-
-pub put_past : (k : ℕ) (o : Outcome) (xs : List (Option Outcome)) → length xs ≤ k → put k o xs ≡ xs
-put_past zero o [] past = refl
-put_past (suc k) o [] past = refl
-put_past zero o (x ∷ xs) past = absurd (omega arith)
-put_past (suc k) o (x ∷ xs) past = ap (λ (l : List (Option Outcome)). x ∷ l) (put_past k o xs (omega arith))
 
 -- ---- counted one after the other
 

@@ -7,10 +7,8 @@ pub mod Rounds
 pub mod Plans
 pub mod Calls
 pub mod Heard
-pub mod Books
 pub mod Truth
 pub mod Greeting
 pub mod Records
 pub mod Below
 pub mod Step
-pub mod OutcomeTable

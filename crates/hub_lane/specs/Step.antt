@@ -1,31 +1,16 @@
 -- What a step of a client does to a lane, and what a look does. Profile.
-use Rattle.std.specs.Prelude.{◌≡◌, ◌⊎◌, ℕ, ◌<◌, true, None, Some, is_some, List}
+use Rattle.std.specs.Prelude.{◌≡◌, ◌⊎◌, ℕ, None, Some}
 use Rattle.std.specs.List.{slice_get}
 use Rattle.ipb_base.specs.Faults.{Rose}
 use Rattle.lane_record.specs.declared.outcome.Outcome.{Outcome}
-use Rattle.lane_record.specs.declared.item.Item.{Item}
 use Rattle.lane_record.specs.Claims.{Claim, IsAskOf}
-use Rattle.lane_record.specs.Items.{asked, found, took_in}
+use Rattle.lane_tables.specs.Taken.{HasTakenAll, IsOldest}
 use Rattle.hub_lane.specs.Lanes.{LaneState}
 use Rattle.hub_lane.specs.Calls.{IsSameRecord, Takes, TakesNothing}
 use Rattle.hub_lane.specs.declared.step.Looked.{Looked}
 use Rattle.hub_lane.specs.declared.step.Looked.TheVariants as looks
 use Rattle.hub_lane.specs.declared.step.Stepped.{Stepped}
 use Rattle.hub_lane.specs.declared.step.Stepped.TheVariants as steps
-
--- a body of a client that was taken
-abbrev pub IsTakenIn : List Item → ℕ → ℕ → Type 0
-IsTakenIn items client seq = is_some (found took_in client seq items) ≡ true
-
--- the oldest body of a client that was asked and not taken
-pub record IsOldest (items : List Item) (client seq : ℕ) : Type 0 where
-  pub is_asked : seq < asked client items
-  pub untaken : found took_in client seq items ≡ None
-  pub before : (n : ℕ) → n < seq → IsTakenIn items client n
-
--- the client has no asked body to take
-abbrev pub HasTakenAll : List Item → ℕ → Type 0
-HasTakenAll items client = (n : ℕ) → n < asked client items → IsTakenIn items client n
 
 -- What became of the client's oldest asked and untaken body was taken, of a lane whose record is the old one, after one
 -- pump at most.

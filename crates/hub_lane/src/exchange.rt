@@ -23,9 +23,9 @@ ghost use Rattle.hub_lane.specs.Standing.{GoesOn, IsRunning, Stops};
 
 use crate::answers::Pumped;
 use crate::below::{laws_of_rounds, laws_of_ways};
-use crate::outcome_table::OutcomeTable;
 use crate::outcomes::settle;
 use ipb_base::{NoMemory, Words};
+use lane_tables::OutcomeTable;
 use packet_ids::{Id, place_of};
 use reliable_engine::laws::draining_ends;
 use reliable_engine::{Engine, Sending};

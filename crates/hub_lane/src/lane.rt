@@ -23,9 +23,7 @@ ghost use Rattle.hub_lane.specs.Rounds.{LaneRound, Pumps, Sends};
 
 use crate::answers::{Asked, PlanRefusal, Pumped, Taken};
 use crate::below::laws_of_rounds;
-use crate::book::Book;
 use crate::exchange::{exchange, send_all};
-use crate::outcome_table::OutcomeTable;
 use crate::outcomes::{copy_outcome, copy_words, count_of, lose_all, reply_under};
 use ipb_base::{NoMemory, Words};
 use lane_record::Outcome;
@@ -35,6 +33,7 @@ use lane_record::laws::offers::{
     a_failed_link_loses_what_waits, a_send_settles_nothing, an_ask_is_an_offer,
     what_a_hub_hears_settles_asks,
 };
+use lane_tables::{Book, OutcomeTable};
 use packet_ids::Id;
 use reliable_engine::{Engine, Settings};
 use status_packet::Status;
@@ -71,7 +70,7 @@ impl<L: Link> Model for Lane<L> {
     ghost use Rattle.std.specs.Prelude.{IfSome, ◌||◌};
     ghost use Rattle.hub_lane.specs.Heard.{HasHeard};
     ghost use Rattle.hub_lane.specs.Lanes.{IsLane, LaneState};
-    ghost use Rattle.hub_lane.specs.OutcomeTable.{AreAskedIn};
+    ghost use Rattle.lane_tables.specs.OutcomeTable.{AreAskedIn};
     ghost use Rattle.hub_lane.specs.Rounds.{HasPaid};
 
     ghost Value = { LaneState L };

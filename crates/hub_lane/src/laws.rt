@@ -8,10 +8,8 @@ ghost use Rattle.world_model.specs.Facts.{bodies_of};
 ghost use Rattle.world_model.specs.Settings.{Limits};
 ghost use Rattle.world_core.specs.Telling.{Telling};
 ghost use Rattle.lane_record.specs.declared.outcome.Outcome.{Outcome};
-ghost use Rattle.hub_lane.specs.declared.book.TheConstants.{MAX_BODIES, MAX_WORDS};
 ghost use Rattle.hub_lane.specs.declared.greeting.TheConstants.{MOST_OTHERS};
 ghost use Rattle.hub_lane.specs.Greeting.{most_others};
-ghost use Rattle.hub_lane.specs.Plans.{most_bodies, most_words};
 ghost use Rattle.hub_lane.specs.declared.answers.Pumped.TheVariants as came_to;
 ghost use Rattle.hub_lane.specs.Rounds.{AreCalls, IsCall, LaneCall, Pumps, RoundState, SettlesOne};
 ghost use Rattle.hub_lane.specs.Standing.{IsStanding};
@@ -20,7 +18,6 @@ ghost use Rattle.hub_lane.specs.Lanes.{BoardStatus, IsLane, opening_of};
 ghost use Rattle.lane_record.specs.Claims.{IsFinished};
 ghost use Rattle.lane_record.specs.declared.item.Item.{Item};
 
-use crate::book::{MAX_BODIES, MAX_WORDS};
 use crate::greeting::MOST_OTHERS;
 use lane_record::laws::coding::{a_head_is_spelled_by_numbers, an_entry_is_spelled_by_numbers};
 use lane_record::laws::finished::{
@@ -28,11 +25,9 @@ use lane_record::laws::finished::{
 };
 use world_core::laws::a_state_of_a_run_tells_the_truth;
 
-/// The limits of what is planned, and of what a round of the greeting hears.
-pub fn the_limits_of_a_lane()
-    ensures bodies { MAX_BODIES ≡ most_bodies }
-    ensures words { MAX_WORDS ≡ most_words }
-    ensures others { MOST_OTHERS ≡ most_others }
+/// The limit of what a round of the greeting hears.
+pub fn the_limit_of_a_greeting()
+    ensures { MOST_OTHERS ≡ most_others }
 {}
 
 /// Over a link that tells a lane is true at the exit of every call, also where it is down or spent: the board executed

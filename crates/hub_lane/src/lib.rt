@@ -3,23 +3,20 @@
 
 mod answers;
 mod below;
-mod book;
 mod chronicle;
 mod exchange;
 mod greeting;
 mod lane;
 pub mod laws;
-mod outcome_table;
 mod outcomes;
-mod rows;
 mod step;
 
 pub use answers::{Asked, BoardState, PlanRefusal, Pumped, Taken};
-pub use book::{MAX_BODIES, MAX_WORDS};
 pub use greeting::{Greeted, MOST_OTHERS};
 pub use ipb_base::{NoMemory, Words};
 pub use lane::Lane;
 pub use lane_record::Outcome;
+pub use lane_tables::{MAX_BODIES, MAX_WORDS};
 pub use step::{Looked, Stepped, Turned};
 pub use turn_pass::Entry;
 pub use world_core::{Link, LinkFault, Received, Settings, Waiter};

@@ -13,9 +13,9 @@ ghost use Rattle.packet_codec.specs.declared.packet.TheConstants.{MAX_BODY_WORDS
 ghost use Rattle.world_model.specs.Facts.{IsSendable};
 
 use crate::answers::Pumped;
-use crate::outcome_table::OutcomeTable;
 use ipb_base::{NoMemory, Words};
 use lane_record::Outcome;
+use lane_tables::OutcomeTable;
 use reliable_engine::{Engine, Fate};
 use std::alloc::Global;
 

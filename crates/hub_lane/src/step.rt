@@ -3,7 +3,8 @@
 ghost use Rattle.std.specs.Prelude.{◌≡◌, ◌≤◌, IfOk, IfSome, IfNone, OnErr};
 ghost use Rattle.hub_lane.specs.Calls.{IsSameRecord, WasAsked};
 ghost use Rattle.hub_lane.specs.Lanes.{opening_of};
-ghost use Rattle.hub_lane.specs.Step.{HasTakenAll, IsOldest, LooksAs, RoseInVain, StepsAs};
+ghost use Rattle.hub_lane.specs.Step.{LooksAs, RoseInVain, StepsAs};
+ghost use Rattle.lane_tables.specs.Taken.{HasTakenAll, IsOldest};
 
 use crate::answers::Taken;
 use crate::lane::Lane;

@@ -14,7 +14,7 @@ use Rattle.hub_multiplexer.specs.Lanes.{AsksOn, Grew, Means, StepsOn, shown}
 use Rattle.hub_multiplexer.specs.Waiting.{FindMeans, FindsOn}
 use Rattle.hub_multiplexer.specs.declared.answers.Performed.{Performed}
 use Rattle.hub_multiplexer.specs.declared.answers.Performed.TheVariants as performs
-use Rattle.hub_lane.specs.Step.{HasTakenAll, IsOldest}
+use Rattle.lane_tables.specs.Taken.{HasTakenAll, IsOldest}
 use Rattle.hub_multiplexer.specs.OwnItems.{HasTakenAllOf, IsOldestOf, asked_by, of_client, own_items, planned_by}
 use Rattle.hub_lane.specs.declared.answers.Asked.{Asked}
 use Rattle.hub_lane.specs.declared.answers.Asked.TheVariants as asks

@@ -12,7 +12,7 @@ use Rattle.lane_record.specs.declared.item.What.{What}
 use Rattle.lane_record.specs.Coding.{Head, item_from, record_of, recorded}
 use Rattle.lane_record.specs.Items.{ask_in, asked, found, numbers, plan_in, planned, took_in}
 use Rattle.hub_multiplexer.specs.OwnItems.{of_client, own_items}
-use Rattle.hub_lane.specs.Step.{HasTakenAll, IsOldest}
+use Rattle.lane_tables.specs.Taken.{HasTakenAll, IsOldest}
 
 -- every entry can be read back
 abbrev pub CanBeRead : Type 0

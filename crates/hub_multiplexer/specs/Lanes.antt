@@ -12,7 +12,7 @@ use Rattle.lane_record.specs.Legal.{IsLegal}
 use Rattle.hub_lane.specs.Calls.{AsksAs}
 use Rattle.hub_lane.specs.Lanes.{LaneState}
 use Rattle.hub_lane.specs.Records.{record_shown}
-use Rattle.hub_lane.specs.Step.{HasTakenAll, IsOldest}
+use Rattle.lane_tables.specs.Taken.{HasTakenAll, IsOldest}
 use Rattle.world_core.specs.Telling.{Telling}
 use Rattle.hub_multiplexer.specs.Calls.{FoundLane}
 use Rattle.hub_lane.specs.declared.answers.Asked.{Asked}

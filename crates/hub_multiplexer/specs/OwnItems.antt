@@ -7,7 +7,7 @@ use Rattle.lane_record.specs.declared.item.Item.{Item}
 use Rattle.lane_record.specs.Coding.{item_from}
 use Rattle.lane_record.specs.Items.{asked, planned}
 use Rattle.hub_multiplexer.specs.Seats.{SeatState}
-use Rattle.hub_lane.specs.Step.{HasTakenAll, IsOldest}
+use Rattle.lane_tables.specs.Taken.{HasTakenAll, IsOldest}
 
 -- The entries of the pass's client in the lane's record: those of the opening, and those that the pass added itself.
 -- Nobody else adds any, so they are all, also in a record that the pass has not seen.

@@ -21,7 +21,7 @@ use Rattle.ipb_base.specs.Numbers.{payload_of}
 use Rattle.hub_lane.specs.Plans.{IsRefused}
 use Rattle.hub_lane.specs.declared.answers.PlanRefusal.{PlanRefusal}
 use Rattle.hub_lane.specs.declared.answers.PlanRefusal.TheVariants as refusals
-use Rattle.hub_lane.proofs.TakenRows.{or_right}
+use Rattle.lane_tables.proofs.TakenRows.{or_right}
 use Rattle.hub_multiplexer.specs.Calls.{Adds, FoundLane, HasSubmitted, HasTaken, IsNone, MadeInTime, PerformMeans}
 use Rattle.hub_multiplexer.specs.Calls.{SubmitRefused}
 use Rattle.hub_multiplexer.specs.declared.answers.Performed.TheVariants as performs

@@ -16,7 +16,8 @@ use Rattle.lane_record.specs.Coding.{Head, record_of}
 use Rattle.lane_record.specs.Dispatches.{Action, action_of, entries_by, numbered_action}
 use Rattle.lane_record.specs.NextEntry.{plan_of}
 use Rattle.lane_record.specs.Submissions.{Submission}
-use Rattle.hub_lane.specs.Plans.{CanPlan, most_bodies, most_words, planned_bodies, planned_words}
+use Rattle.hub_lane.specs.Plans.{CanPlan}
+use Rattle.lane_tables.specs.Planned.{most_bodies, most_words, planned_bodies, planned_words}
 use Rattle.hub_multiplexer.specs.Ends.{Ends}
 use Rattle.hub_history.specs.Lanes.{came_with}
 use Rattle.hub_history.proofs.Handed.{StandsIn, handed, numbers_of}

@@ -16,7 +16,7 @@ use Rattle.lane_record.specs.Coding.{Head, record_of}
 use Rattle.lane_record.specs.Dispatches.{Action, Asked, NumberedAction, Planned, Sealed, Taken, action_of}
 use Rattle.lane_record.specs.Dispatches.{entries_by, numbered_action}
 use Rattle.lane_record.specs.Submissions.{Submission, submissions_from}
-use Rattle.hub_lane.specs.Plans.{one_with, planned_bodies, planned_words, words_with}
+use Rattle.lane_tables.specs.Planned.{one_with, planned_bodies, planned_words, words_with}
 use Rattle.hub_multiplexer.specs.Ends.{Ends}
 use Rattle.hub_history.specs.Lanes.{came_with}
 use Rattle.hub_history.proofs.Handed.{StandsIn, handed, numbers_of}

@@ -6,7 +6,8 @@ use Rattle.lane_record.specs.declared.item.Item.{Item}
 use Rattle.lane_record.specs.Items.{is_sealed, planned}
 use Rattle.lane_record.specs.NextEntry.{plan_of}
 use Rattle.lane_record.specs.Submissions.{Submission}
-use Rattle.hub_lane.specs.Plans.{CanPlan, most_bodies, most_words, planned_bodies, planned_words}
+use Rattle.hub_lane.specs.Plans.{CanPlan}
+use Rattle.lane_tables.specs.Planned.{most_bodies, most_words, planned_bodies, planned_words}
 
 -- the words of a submitted body and of its longest reply
 abbrev pub words_in : Submission → ℕ

@@ -9,7 +9,7 @@ use Rattle.transaction_codec.specs.Request.{op_count}
 use Rattle.mtu_packer.specs.Packed.{words_with_answer}
 use Rattle.lane_record.specs.declared.item.Item.{Item}
 use Rattle.lane_record.specs.Items.{plan_in}
-use Rattle.hub_lane.specs.Plans.{IsFull, one_with, planned_bodies, planned_words, words_with}
+use Rattle.lane_tables.specs.Planned.{IsFull, one_with, planned_bodies, planned_words, words_with}
 use Rattle.script_steps.specs.Executable.{AreExecutable}
 use Rattle.script_steps.specs.Packing.{AreWithinLimits, all_operations}
 use Rattle.script_steps.specs.declared.operation.Step.{Step}

@@ -2,7 +2,7 @@
 use Rattle.std.specs.Prelude.{ℕ, ◌+◌, ◌≤◌, List, length, sum_by}
 use Rattle.lane_record.specs.declared.item.Item.{Item}
 use Rattle.mtu_packer.specs.Packed.{words_with_answer}
-use Rattle.hub_lane.specs.Plans.{most_bodies, most_words, planned_bodies, planned_words}
+use Rattle.lane_tables.specs.Planned.{most_bodies, most_words, planned_bodies, planned_words}
 
 -- a lane with these entries has room to plan these bodies
 pub record HasRoomFor (items : List Item) (bodies : List (List ℕ)) : Type 0 where

@@ -20,7 +20,8 @@ use Rattle.lane_record.specs.Items.{planned}
 use Rattle.lane_record.specs.NextEntry.{plan_of}
 use Rattle.lane_record.specs.Submissions.{Submission}
 use Rattle.lane_record.proofs.Coding.{spelled_fronts}
-use Rattle.hub_lane.specs.Plans.{IsFull, IsRefused}
+use Rattle.hub_lane.specs.Plans.{IsRefused}
+use Rattle.lane_tables.specs.Planned.{IsFull}
 use Rattle.hub_lane.specs.declared.answers.PlanRefusal.{PlanRefusal}
 use Rattle.hub_lane.specs.declared.answers.PlanRefusal.TheVariants as refusals
 use Rattle.hub_lane.specs.declared.answers.BoardState.{BoardState}

@@ -1,6 +1,6 @@
 use Rattle.hub_multiplexer.specs.Calls.{IsNone, StepMeans}
 use Rattle.hub_multiplexer.proofs.Adds.{at_once, may_give_back}
-use Rattle.hub_lane.proofs.Results.{on_err_holds}
+use Rattle.lane_tables.proofs.Results.{on_err_holds}
 use Rattle.hub_multiplexer.proofs.calls.try_step.Goals as goal
 
 pub returns-clause-tried : goal.returns-clause-tried

@@ -1,7 +1,7 @@
 use Rattle.std.proofs.Common.{subst}
 use Rattle.hub_lane.specs.Step.{LooksAs}
 use Rattle.hub_lane.specs.declared.step.Looked.TheVariants as looks
-use Rattle.hub_lane.proofs.Results.{on_err_holds}
+use Rattle.lane_tables.proofs.Results.{on_err_holds}
 use Rattle.hub_multiplexer.proofs.Grows.{looks_mean, same_means}
 use Rattle.hub_multiplexer.proofs.own.found_on.Goals as goal
 

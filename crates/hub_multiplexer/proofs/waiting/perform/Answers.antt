@@ -2,7 +2,7 @@ use Rattle.std.proofs.Common.{ap, subst, ◌∙◌}
 use Rattle.turn_pass.specs.Pass.{PassState}
 use Rattle.hub_multiplexer.specs.Calls.{IsNone, MadeInTime, PerformMeans}
 use Rattle.hub_multiplexer.specs.Waiting.{FindMeans}
-use Rattle.hub_lane.proofs.Results.{on_err_holds}
+use Rattle.lane_tables.proofs.Results.{on_err_holds}
 use Rattle.hub_multiplexer.proofs.Looks.{after_looking, looked_more, none_before, performed_before}
 use Rattle.hub_multiplexer.proofs.waiting.perform.Goals as goal
 

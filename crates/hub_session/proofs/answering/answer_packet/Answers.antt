@@ -1,5 +1,5 @@
 use Rattle.hub_session.specs.Serving.{Exchanged}
-use Rattle.hub_lane.proofs.Results.{on_err_holds}
+use Rattle.lane_tables.proofs.Results.{on_err_holds}
 use Rattle.hub_session.proofs.answering.answer_packet.Goals as goal
 
 pub returns-clause-reached : goal.returns-clause-reached

@@ -8,7 +8,7 @@ use Rattle.hub_session.specs.Exchanges.{HasCome, WasRefused}
 use Rattle.hub_session.specs.Serving.{AskedToo, HasAskedToo}
 use Rattle.hub_session.specs.Inside.{IsSettled}
 use Rattle.hub_session.proofs.Seats.{all_after, all_at, both, if_some_after, said, same_seat}
-use Rattle.hub_lane.proofs.Results.{on_err_holds}
+use Rattle.lane_tables.proofs.Results.{on_err_holds}
 use Rattle.hub_session.proofs.Passes.{asked_too, came, no_memory_at, not_taken, settled_looked, settled_next}
 use Rattle.hub_session.proofs.Passes.{submitted, was_refused}
 use Rattle.hub_session.proofs.asking.submit.Goals as goal

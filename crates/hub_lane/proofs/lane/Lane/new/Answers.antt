@@ -1,7 +1,7 @@
 use Rattle.std.proofs.Common.{◌∙◌, List, map, sym, ap}
 use Rattle.lane_record.specs.declared.item.Item.{Item}
 use Rattle.lane_record.specs.Claims.{claims}
-use Rattle.hub_lane.specs.OutcomeTable.{body_in}
+use Rattle.lane_tables.specs.OutcomeTable.{body_in}
 use Rattle.hub_lane.specs.Lanes.{status_of}
 use Rattle.hub_lane.proofs.Datagrams.{heard_first}
 use Rattle.hub_lane.proofs.Lanes.{lane_begun}

@@ -14,7 +14,7 @@ use Rattle.ipb_base.specs.Numbers.{payload_of}
 use Rattle.hub_lane.proofs.Lanes.{body_sendable, found_fits, lane_asks}
 use Rattle.hub_lane.proofs.Rounds.{pays_asked}
 use Rattle.hub_lane.proofs.Datagrams.{asked_unheard, heard_asked}
-use Rattle.hub_lane.specs.OutcomeTable.{AreAskedIn, IsAsked, asked_body}
+use Rattle.lane_tables.specs.OutcomeTable.{AreAskedIn, IsAsked, asked_body}
 use Rattle.hub_lane.proofs.AskedBodies.{asked_more, not_asked_yet}
 use Rattle.hub_lane.proofs.lane.Lane.offer_next.Goals as goal
 

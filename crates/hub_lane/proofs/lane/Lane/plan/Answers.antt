@@ -5,7 +5,7 @@ use Rattle.lane_record.specs.Items.{planned}
 use Rattle.lane_record.specs.NextEntry.{plan_of}
 use Rattle.hub_lane.specs.Lanes.{BoardStatus, IsLane, LaneState}
 use Rattle.hub_lane.specs.Plans.{CanPlan}
-use Rattle.hub_lane.specs.OutcomeTable.{AreAskedIn}
+use Rattle.lane_tables.specs.OutcomeTable.{AreAskedIn}
 use Rattle.hub_lane.proofs.AskedBodies.{asked_entry}
 use Rattle.hub_lane.proofs.Lanes.{lane_entry}
 use Rattle.hub_lane.proofs.lane.Lane.plan.Goals as goal

@@ -2,7 +2,7 @@ use Rattle.std.proofs.Common.{◌∙◌, List, sym, subst, refl}
 use Rattle.lane_record.specs.declared.item.Item.{Item}
 use Rattle.lane_record.specs.NextEntry.{the_seal}
 use Rattle.hub_lane.specs.Lanes.{BoardStatus, IsLane}
-use Rattle.hub_lane.specs.OutcomeTable.{AreAskedIn}
+use Rattle.lane_tables.specs.OutcomeTable.{AreAskedIn}
 use Rattle.hub_lane.proofs.AskedBodies.{asked_entry}
 use Rattle.hub_lane.proofs.Lanes.{lane_entry}
 use Rattle.hub_lane.proofs.lane.Lane.seal.Goals as goal

@@ -8,7 +8,7 @@ use Rattle.lane_record.specs.NextEntry.{took_of}
 use Rattle.lane_record.proofs.Lengths.{short_at}
 use Rattle.hub_lane.specs.Calls.{IsUntaken, Takes, WasAsked}
 use Rattle.hub_lane.specs.Lanes.{BoardStatus, IsLane, LaneState}
-use Rattle.hub_lane.specs.OutcomeTable.{AreAskedIn}
+use Rattle.lane_tables.specs.OutcomeTable.{AreAskedIn}
 use Rattle.hub_lane.proofs.AskedBodies.{asked_there, asked_entry}
 use Rattle.hub_lane.proofs.Lanes.{lane_entry}
 use Rattle.hub_lane.proofs.Steps.{asked_below}

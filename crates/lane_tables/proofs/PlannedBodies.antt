@@ -1,0 +1,125 @@
+-- The bodies of a client, by number.
+use Rattle.std.proofs.Common.{◌≡◌, ℕ, zero, suc, ◌<◌, ◌≤◌, ◌+◌, true, false, List, [], ◌∷◌, ◌++◌, length, set}
+use Rattle.std.proofs.Common.{Some, ◌⊎◌, inl, inr, refl, ap, ◌∙◌, arith, get_or}
+use Rattle.std.proofs.Common.{length-append}
+use Rattle.std.specs.List.{slice_get}
+use Rattle.std.proofs.lemmas.Bool.{cases_lt}
+use Rattle.lane_tables.specs.declared.rows.PlannedBody.{PlannedBody}
+use Rattle.lane_tables.specs.Books.{IsFirstUntaken, as_taken, is_marked, planned_at, replaced}
+
+pub length-replaced : (k : ℕ) (change : PlannedBody → PlannedBody) (bodies : List PlannedBody)
+    → length (replaced k change bodies) ≡ length bodies
+length-replaced k change [] = refl
+length-replaced zero change (b ∷ bs) = refl
+length-replaced (suc k) change (b ∷ bs) = ap suc (length-replaced k change bs)
+
+pub set_replaced : (k : ℕ) (change : PlannedBody → PlannedBody) (bodies : List PlannedBody) (body : PlannedBody)
+    → k < length bodies → body ≡ get_or bodies k body → set bodies k (change body) ≡ replaced k change bodies
+set_replaced k change [] body within is = absurd (omega arith)
+set_replaced zero change (b ∷ bs) body within is = ap (λ (x : PlannedBody). change x ∷ bs) is
+set_replaced (suc k) change (b ∷ bs) body within is =
+    ap (λ (l : List PlannedBody). b ∷ l) (set_replaced k change bs body (omega arith) is)
+
+-- a body after another was replaced was there before, or is the one that was
+pub record WasBody (k : ℕ) (change : PlannedBody → PlannedBody) (bodies : List PlannedBody) (seq : ℕ)
+    (body : PlannedBody) : Type 0 where
+  pub old : PlannedBody
+  pub there : slice_get bodies seq ≡ Some old
+  pub is : ((seq ≡ k) × (body ≡ change old)) ⊎ ((seq ≡ k → ⊥) × (body ≡ old))
+
+pub was_body : (k : ℕ) (change : PlannedBody → PlannedBody) (bodies : List PlannedBody) (seq : ℕ) (body : PlannedBody)
+    → slice_get (replaced k change bodies) seq ≡ Some body → WasBody k change bodies seq body
+was_body k change [] seq body e = absurd cc
+was_body zero change (b ∷ bs) zero body e = record { old = b; there = refl; is = inl (refl, cc) }
+was_body zero change (b ∷ bs) (suc n) body e = record { old = body; there = e; is = inr (λ z. omega (arith, z), refl) }
+was_body (suc k) change (b ∷ bs) zero body e = record { old = b; there = refl; is = inr (λ z. omega (arith, z), cc) }
+was_body (suc k) change (b ∷ bs) (suc n) body e =
+    let w = was_body k change bs n body e in
+    record {
+      old = w.old;
+      there = w.there;
+      is = elim w.is [
+        | inl here ↦ inl (ap suc here.0, here.1)
+        | inr apart ↦ inr (λ z. apart.0 (omega (arith, z)), apart.1)
+      ];
+    }
+
+-- ---- marks
+
+pub marked_at : (bodies : List PlannedBody) (n : ℕ)
+    → is_marked bodies n ≡ (get_or bodies n (planned_at 0)).is_taken
+marked_at [] n = refl
+marked_at (b ∷ bs) zero = refl
+marked_at (b ∷ bs) (suc n) = marked_at bs n
+
+-- a body that was planned is not marked
+pub marked_push : (bodies : List PlannedBody) (place n : ℕ)
+    → is_marked (bodies ++ planned_at place ∷ []) n ≡ is_marked bodies n
+marked_push [] place zero = refl
+marked_push [] place (suc n) = refl
+marked_push (b ∷ bs) place zero = refl
+marked_push (b ∷ bs) place (suc n) = marked_push bs place n
+
+pub marked_other : (k : ℕ) (change : PlannedBody → PlannedBody) (bodies : List PlannedBody) (n : ℕ) → (n ≡ k → ⊥)
+    → is_marked (replaced k change bodies) n ≡ is_marked bodies n
+marked_other k change [] n apart = refl
+marked_other zero change (b ∷ bs) zero apart = absurd (apart refl)
+marked_other zero change (b ∷ bs) (suc n) apart = refl
+marked_other (suc k) change (b ∷ bs) zero apart = refl
+marked_other (suc k) change (b ∷ bs) (suc n) apart = marked_other k change bs n (λ e. apart (ap suc e))
+
+pub marked_taken : (k : ℕ) (bodies : List PlannedBody) → k < length bodies
+    → is_marked (replaced k as_taken bodies) k ≡ true
+marked_taken k [] within = absurd (omega arith)
+marked_taken zero (b ∷ bs) within = refl
+marked_taken (suc k) (b ∷ bs) within = marked_taken k bs (omega arith)
+
+-- a mark stays
+pub still_marked : (k : ℕ) (bodies : List PlannedBody) (n : ℕ) → is_marked bodies n ≡ true
+    → is_marked (replaced k as_taken bodies) n ≡ true
+still_marked k [] n is = is
+still_marked zero (b ∷ bs) zero is = refl
+still_marked zero (b ∷ bs) (suc n) is = is
+still_marked (suc k) (b ∷ bs) zero is = is
+still_marked (suc k) (b ∷ bs) (suc n) is = still_marked k bs n is
+
+-- ---- the first one that was not taken
+
+pub first_planned : (bodies : List PlannedBody) (asked taken place : ℕ) → IsFirstUntaken bodies asked taken
+    → IsFirstUntaken (bodies ++ planned_at place ∷ []) asked taken
+first_planned bodies asked taken place is = record {
+  few = (let h = is.few in let longer = length-append bodies (planned_at place ∷ []) in omega (arith, h, longer));
+  within = is.within;
+  below = λ n less. marked_push bodies place n ∙ is.below n less;
+  stops = λ less. marked_push bodies place taken ∙ is.stops less;
+  later = λ n most. marked_push bodies place n ∙ is.later n most;
+}
+
+pub first_asked : (bodies : List PlannedBody) (asked taken : ℕ) → asked < length bodies
+    → IsFirstUntaken bodies asked taken → IsFirstUntaken bodies (asked + 1) taken
+first_asked bodies asked taken left is = record {
+  few = omega (arith, left);
+  within = (let w = is.within in omega (arith, w));
+  below = is.below;
+  stops = λ less. elim (cases_lt taken asked) [
+    | inl lower ↦ is.stops lower
+    | inr most ↦ is.later taken most
+  ];
+  later = λ n most. is.later n (omega (arith, most));
+}
+
+pub first_taken : (bodies : List PlannedBody) (asked taken seq after : ℕ) → seq < asked
+    → IsFirstUntaken bodies asked taken → taken ≤ after → after ≤ asked
+    → ((n : ℕ) → taken ≤ n → n < after → is_marked (replaced seq as_taken bodies) n ≡ true)
+    → (after < asked → is_marked (replaced seq as_taken bodies) after ≡ false)
+    → IsFirstUntaken (replaced seq as_taken bodies) asked after
+first_taken bodies asked taken seq after was is from within marked stops = record {
+  few = (let h = is.few in let same = length-replaced seq as_taken bodies in omega (arith, h, same));
+  within = within;
+  below = λ n less. elim (cases_lt n taken) [
+    | inl lower ↦ still_marked seq bodies n (is.below n lower)
+    | inr most ↦ marked n most less
+  ];
+  stops = stops;
+  later = λ n most. marked_other seq as_taken bodies n (λ e. omega (arith, e, most, was)) ∙ is.later n most;
+}

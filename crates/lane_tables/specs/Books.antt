@@ -1,0 +1,184 @@
+-- What the code keeps of a lane's record: the entries with their contents, and the bodies of each client by number. No
+-- public contract speaks of it.
+use Rattle.std.specs.Prelude.{◌≡◌, ℕ, zero, suc, ◌+◌, ◌-◌, ◌≤◌, ◌<◌, ◌==◌, min, Bool, false, true, if◌then◌else◌}
+use Rattle.std.specs.Prelude.{List, [], ◌∷◌, ◌++◌}
+use Rattle.std.specs.Prelude.{length, map}
+use Rattle.std.specs.Prelude.{Option, Some, None, is_some}
+use Rattle.std.specs.List.{slice_get}
+use Rattle.turn_pass.specs.declared.chronicle.Entry.{Entry}
+use Rattle.lane_record.specs.declared.item.Item.{Item}
+use Rattle.lane_record.specs.Items.{asked, found, is_sealed, numbers, plan_in, planned, took_in}
+use Rattle.lane_record.specs.Lists.{CountsFrom}
+use Rattle.lane_record.specs.Coding.{entry_of}
+use Rattle.lane_record.specs.NextEntry.{plan_of}
+use Rattle.lane_tables.specs.declared.rows.PlannedBody.{PlannedBody}
+use Rattle.lane_tables.specs.Planned.{most_bodies, most_words, planned_bodies, planned_words}
+
+-- the entries of a record, and how many more there is room for
+pub record BookState : Type 0 where
+  pub items : List Item
+  pub room : ℕ
+
+-- ---- the bodies of a client
+
+-- a body whose Plan stands there among the entries; the same once what became of it was taken
+abbrev pub planned_at : ℕ → PlannedBody
+planned_at place = record { plan = place; is_taken = false }
+
+abbrev pub as_taken : PlannedBody → PlannedBody
+as_taken body = record { plan = body.plan; is_taken = true }
+
+-- the body of this number becomes another
+abbrev pub replaced : ℕ → (PlannedBody → PlannedBody) → List PlannedBody → List PlannedBody
+replaced k change [] = []
+replaced zero change (b ∷ bs) = change b ∷ bs
+replaced (suc k) change (b ∷ bs) = b ∷ replaced k change bs
+
+-- whether the body of this number was taken
+abbrev pub is_marked : List PlannedBody → ℕ → Bool
+is_marked [] n = false
+is_marked (b ∷ bs) zero = b.is_taken
+is_marked (b ∷ bs) (suc n) = is_marked bs n
+
+-- So many were asked. All below the other number were taken, and the body of that number was not, if it was asked; of
+-- the asked ones behind it nothing is said. None that was not asked was taken.
+pub record IsFirstUntaken (bodies : List PlannedBody) (asked taken : ℕ) : Type 0 where
+  pub few : asked ≤ length bodies
+  pub within : taken ≤ asked
+  pub below : (n : ℕ) → n < taken → is_marked bodies n ≡ true
+  pub stops : taken < asked → is_marked bodies taken ≡ false
+  pub later : (n : ℕ) → asked ≤ n → is_marked bodies n ≡ false
+
+-- the bodies of a client, by number, and how many were asked
+pub record Row : Type 0 where
+  pub client : ℕ
+  pub bodies : List PlannedBody
+  pub asked : ℕ
+
+-- a row with one Plan, and with one more Plan, Ask or Took
+abbrev pub first_row : ℕ → ℕ → Row
+first_row client place = record { client = client; bodies = planned_at place ∷ []; asked = 0 }
+
+abbrev pub after_plan : ℕ → Row → Row
+after_plan place r = record { client = r.client; bodies = r.bodies ++ planned_at place ∷ []; asked = r.asked }
+
+abbrev pub after_ask : Row → Row
+after_ask r = record { client = r.client; bodies = r.bodies; asked = r.asked + 1 }
+
+abbrev pub after_took : ℕ → Row → Row
+after_took seq r = record { client = r.client; bodies = replaced seq as_taken r.bodies; asked = r.asked }
+
+-- ---- the rows of all clients
+
+-- the row of a client
+abbrev pub row_of : ℕ → List Row → Option Row
+row_of client [] = None
+row_of client (r ∷ rs) = if r.client == client then Some r else row_of client rs
+
+-- where it stands among the rows
+abbrev pub one_later : Option ℕ → Option ℕ
+one_later None = None
+one_later (Some at) = Some (at + 1)
+
+abbrev pub row_at : ℕ → List Row → Option ℕ
+row_at client [] = None
+row_at client (r ∷ rs) = if r.client == client then Some 0 else one_later (row_at client rs)
+
+abbrev pub later_by : ℕ → Option ℕ → Option ℕ
+later_by n None = None
+later_by n (Some at) = Some (n + at)
+
+-- where the next Plan that was not asked stands
+abbrev pub plan_of_body : Option PlannedBody → Option ℕ
+plan_of_body None = None
+plan_of_body (Some body) = Some body.plan
+
+abbrev pub next_in : Row → Option ℕ
+next_in r = plan_of_body (slice_get r.bodies r.asked)
+
+abbrev pub next_of : Option Row → Option ℕ
+next_of None = None
+next_of (Some r) = next_in r
+
+-- the row of a client becomes another
+abbrev pub changed : ℕ → (Row → Row) → List Row → List Row
+changed client change [] = []
+changed client change (r ∷ rs) = if r.client == client then change r ∷ rs else r ∷ changed client change rs
+
+-- one more Plan of a client, at this place among the entries
+abbrev pub with_plan : ℕ → ℕ → List Row → List Row
+with_plan client place [] = first_row client place ∷ []
+with_plan client place (r ∷ rs) =
+    if r.client == client then after_plan place r ∷ rs else r ∷ with_plan client place rs
+
+-- one more Ask of a client
+abbrev pub with_ask : ℕ → List Row → List Row
+with_ask client rows = changed client after_ask rows
+
+-- one more Took of a client
+abbrev pub with_took : ℕ → ℕ → List Row → List Row
+with_took client seq rows = changed client (after_took seq) rows
+
+-- a client asked its body of this number
+pub record HasAsked (client seq : ℕ) (rows : List Row) : Type 0 where
+  pub row : Row
+  pub there : row_of client rows ≡ Some row
+  pub is_asked : seq < row.asked
+
+-- a client has a Plan that was not asked
+pub record HasNext (client : ℕ) (rows : List Row) : Type 0 where
+  pub row : Row
+  pub there : row_of client rows ≡ Some row
+  pub left : row.asked < length row.bodies
+
+-- ---- what the rows tell of the entries
+
+-- the Plan of a client's body stands there
+pub record IsPlanAt (items : List Item) (client seq place : ℕ) : Type 0 where
+  pub body : List ℕ
+  pub there : slice_get items place ≡ Some (plan_of client seq body)
+  pub first : found plan_in client seq items ≡ Some body
+
+-- a row tells the bodies of its client, and where there is no row there are none
+pub record TellsBodies (items : List Item) (client : ℕ) (bodies : List PlannedBody) (asks : ℕ) : Type 0 where
+  pub planned_are : length bodies ≡ planned client items
+  pub asked_are : asks ≡ asked client items
+  pub no_more : asks ≤ length bodies
+  pub plans_are : (seq : ℕ) (body : PlannedBody) → slice_get bodies seq ≡ Some body
+      → IsPlanAt items client seq body.plan
+
+abbrev pub IsRow : List Item → ℕ → Option Row → Type 0
+IsRow items client None = TellsBodies items client [] 0
+IsRow items client (Some r) = TellsBodies items client r.bodies r.asked
+
+-- what a row tells of the bodies that its client took, and where there is no row none was taken
+pub record TellsTaken (items : List Item) (client : ℕ) (bodies : List PlannedBody) (asks : ℕ) : Type 0 where
+  pub marks : (n : ℕ) → is_some (found took_in client n items) ≡ is_marked bodies n
+  pub later : (n : ℕ) → asks ≤ n → found took_in client n items ≡ None
+
+abbrev pub IsTakenRow : List Item → ℕ → Option Row → Type 0
+IsTakenRow items client None = TellsTaken items client [] 0
+IsTakenRow items client (Some r) = TellsTaken items client r.bodies r.asked
+
+-- a client has a body that was planned and not asked
+pub record HasMorePlans (client : ℕ) (items : List Item) : Type 0 where
+  pub body : List ℕ
+  pub there : found plan_in client (asked client items) items ≡ Some body
+
+-- how many more items and entries there is room for
+abbrev pub room_of : ℕ → ℕ → ℕ → ℕ → ℕ
+room_of items items_len entries entries_len = min (items - items_len) (entries - entries_len)
+
+-- the tables are those of the entries; there is always room for the Seal
+pub record IsBook (items : List Item) (entries : List Entry) (rows : List Row) (bodies words : ℕ) (closed : Bool)
+    (room : ℕ) : Type 0 where
+  pub entries_are : entries ≡ map entry_of items
+  pub plans_count : (client : ℕ) → CountsFrom 0 (numbers plan_in client items)
+  pub rows_are : (client : ℕ) → IsRow items client (row_of client rows)
+  pub taken_are : (client : ℕ) → IsTakenRow items client (row_of client rows)
+  pub bodies_are : bodies ≡ planned_bodies items
+  pub words_are : words ≡ planned_words items
+  pub closed_is : closed ≡ is_sealed items
+  pub few_bodies : bodies ≤ most_bodies
+  pub few_words : words ≤ most_words
+  pub seal_fits : is_sealed items ≡ false → 1 ≤ room

@@ -1,0 +1,4 @@
+pub mod Planned
+pub mod Taken
+pub mod Books
+pub mod OutcomeTable

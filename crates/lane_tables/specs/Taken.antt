@@ -1,0 +1,18 @@
+-- Which bodies of a client were taken. Profile.
+use Rattle.std.specs.Prelude.{◌≡◌, ℕ, ◌<◌, true, None, is_some, List}
+use Rattle.lane_record.specs.declared.item.Item.{Item}
+use Rattle.lane_record.specs.Items.{asked, found, took_in}
+
+-- a body of a client that was taken
+abbrev pub IsTakenIn : List Item → ℕ → ℕ → Type 0
+IsTakenIn items client seq = is_some (found took_in client seq items) ≡ true
+
+-- the oldest body of a client that was asked and not taken
+pub record IsOldest (items : List Item) (client seq : ℕ) : Type 0 where
+  pub is_asked : seq < asked client items
+  pub untaken : found took_in client seq items ≡ None
+  pub before : (n : ℕ) → n < seq → IsTakenIn items client n
+
+-- the client has no asked body to take
+abbrev pub HasTakenAll : List Item → ℕ → Type 0
+HasTakenAll items client = (n : ℕ) → n < asked client items → IsTakenIn items client n

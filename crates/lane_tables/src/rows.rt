@@ -1,0 +1,232 @@
+//! The bodies of each client, client by client, each found by its number. A session has at most 64 clients, so rows are
+//! looked through.
+
+ghost use Rattle.std.specs.Prelude.{◌≡◌, ◌≤◌, ◌<◌, ℕ, length, true, false, OnOk, OnErr};
+ghost use Rattle.lane_tables.specs.Books.{HasAsked, HasNext, as_taken, is_marked, next_of, replaced, row_at};
+ghost use Rattle.lane_tables.specs.Books.{row_of, with_ask, with_plan, with_took};
+
+use ipb_base::NoMemory;
+use std::alloc::Global;
+use std::marker::Model;
+
+/// A body of a client: where its Plan stands among the entries, and whether what became of it was taken.
+#[derive(Clone, Copy, PartialEq, Eq)]
+pub(crate) struct PlannedBody {
+    pub(crate) plan: usize,
+    pub(crate) is_taken: bool,
+}
+
+/// The bodies of one client, by number: how many were asked, and the number of the first one that was not taken.
+#[derive(Drop)]
+pub(crate) struct ClientRow {
+    client: u32,
+    bodies: Vec<PlannedBody>,
+    asked: usize,
+    taken: usize,
+}
+
+impl Model for ClientRow {
+    ghost use Rattle.lane_tables.specs.Books.{IsFirstUntaken, Row};
+
+    ghost Value = { Row };
+
+    ghost view = { λ r. record {
+      client = r.client;
+      bodies = r.bodies.items;
+      asked = r.asked;
+    } };
+
+    ghost invariant = { λ r. IsFirstUntaken r.bodies.items r.asked r.taken };
+}
+
+impl ClientRow {
+    ghost use Rattle.std.specs.Prelude.{◌++◌, ◌∷◌, [], ◌+◌, IfOk, IfSome, IfNone, Some};
+    ghost use Rattle.lane_tables.specs.Books.{after_ask, after_took, first_row, next_in, planned_at};
+    ghost use Rattle.lane_tables.specs.declared.rows.PlannedBody.{PlannedBody};
+
+    /// The row of a client with one Plan.
+    fn new(alloc: Global, client: u32, place: usize) -> Result<ClientRow, NoMemory>
+        ensures { IfOk result (λ row. row ≡ first_row client place) }
+    {
+        let mut bodies = Vec::new(alloc);
+        bodies.push(PlannedBody {
+            plan: place,
+            is_taken: false,
+        })?;
+        Ok(ClientRow {
+            client,
+            bodies,
+            asked: 0,
+            taken: 0,
+        })
+    }
+
+    /// Adds a Plan.
+    fn add_plan(&mut self, place: usize) -> Result<(), NoMemory>
+        ensures ok { OnOk result (self.new ≡ record self.old { bodies = self.old.bodies ++ planned_at place ∷ [] }) }
+        ensures err { OnErr result (self.new ≡ self.old) }
+    {
+        self.bodies.push(PlannedBody {
+            plan: place,
+            is_taken: false,
+        })?;
+        Ok(())
+    }
+
+    /// Adds an Ask.
+    fn add_ask(&mut self)
+        requires { self.old.asked < length self.old.bodies }
+        ensures { self.new ≡ after_ask self.old }
+    {
+        self.asked += 1;
+    }
+
+    /// Adds a Took of a body that was asked.
+    fn add_took(&mut self, seq: u64)
+        requires { seq < self.old.asked }
+        ensures { self.new ≡ after_took seq self.old }
+    {
+        set_taken(&mut self.bodies, seq as usize);
+        self.taken = untaken_from(&self.bodies, self.taken, self.asked);
+    }
+
+    /// Whose it is.
+    pub(crate) fn client(&self) -> u32
+        ensures { result ≡ self.now.client }
+    {
+        self.client
+    }
+
+    /// How many bodies were planned.
+    pub(crate) fn planned(&self) -> usize
+        ensures { result ≡ length self.now.bodies }
+    {
+        self.bodies.len()
+    }
+
+    /// How many were asked.
+    pub(crate) fn asked(&self) -> usize
+        ensures { result ≡ self.now.asked }
+    {
+        self.asked
+    }
+
+    /// The number of the first body that was asked and not taken.
+    pub(crate) fn oldest(&self) -> Option<u64>
+        ensures below { IfSome result (λ seq. seq < self.now.asked) }
+        ensures untaken { IfSome result (λ seq. is_marked self.now.bodies seq ≡ false) }
+        ensures before { IfSome result (λ seq. (n : ℕ) → n < seq → is_marked self.now.bodies n ≡ true) }
+        ensures all { IfNone result ((n : ℕ) → n < self.now.asked → is_marked self.now.bodies n ≡ true) }
+    {
+        if self.taken < self.asked {
+            Some(self.taken as u64)
+        } else {
+            None
+        }
+    }
+
+    /// Where the next Plan that was not asked stands.
+    pub(crate) fn next(&self) -> Option<usize>
+        ensures { result ≡ next_in self.now }
+    {
+        match self.bodies.get(self.asked) {
+            Some(body) => Some(body.plan),
+            None => None,
+        }
+    }
+}
+
+/// What became of a body was taken.
+fn set_taken(bodies: &mut Vec<PlannedBody>, at: usize)
+    requires { at < length bodies.old.items }
+    ensures { bodies.new.items ≡ replaced at as_taken bodies.old.items }
+{
+    let body = &mut bodies[at];
+    body.is_taken = true;
+}
+
+/// The least number from `from` on of a body that was not taken, or `asked` where all below it were. Over all calls a
+/// client's bodies are gone through once.
+fn untaken_from(bodies: &[PlannedBody], from: usize, asked: usize) -> usize
+    requires from { from ≤ asked }
+    requires asked { asked ≤ length bodies.now }
+    ensures from { from ≤ result }
+    ensures within { result ≤ asked }
+    ensures taken { (n : ℕ) → from ≤ n → n < result → is_marked bodies.now n ≡ true }
+    ensures stops { result < asked → is_marked bodies.now result ≡ false }
+{
+    for at in from..asked {
+        let body = &bodies[at];
+        if !body.is_taken {
+            return at;
+        }
+    }
+    asked
+}
+
+/// Where the row of a client stands.
+pub(crate) fn row_at(rows: &[ClientRow], client: u32) -> Option<usize>
+    ensures { result ≡ row_at client rows.now }
+{
+    for at in 0..rows.len() {
+        if rows[at].client() == client {
+            return Some(at);
+        }
+    }
+    None
+}
+
+/// Where the next Plan of a client that was not asked stands.
+pub(crate) fn next_place(rows: &Vec<ClientRow>, client: u32) -> Option<usize>
+    ensures { result ≡ next_of (row_of client rows.now.items) }
+{
+    match row_at(rows, client) {
+        Some(at) => rows[at].next(),
+        None => None,
+    }
+}
+
+/// Adds a Plan of a client, at this place among the entries.
+pub(crate) fn add_plan(
+    alloc: Global,
+    rows: &mut Vec<ClientRow>,
+    client: u32,
+    place: usize,
+) -> Result<(), NoMemory>
+    ensures ok { OnOk result (rows.new.items ≡ with_plan client place rows.old.items) }
+    ensures err { OnErr result (rows.new.items ≡ rows.old.items) }
+{
+    match row_at(rows, client) {
+        Some(at) => {
+            let row = &mut rows[at];
+            row.add_plan(place)
+        }
+        None => {
+            let row = ClientRow::new(alloc, client, place)?;
+            rows.push(row)?;
+            Ok(())
+        }
+    }
+}
+
+/// Adds an Ask of a client, which has a Plan that was not asked.
+pub(crate) fn add_ask(rows: &mut Vec<ClientRow>, client: u32)
+    requires { HasNext client rows.old.items }
+    ensures { rows.new.items ≡ with_ask client rows.old.items }
+{
+    if let Some(at) = row_at(rows, client) {
+        let row = &mut rows[at];
+        row.add_ask();
+    }
+}
+
+/// Adds a Took of a client's body, which was asked.
+pub(crate) fn add_took(rows: &mut Vec<ClientRow>, client: u32, seq: u64)
+    requires { HasAsked client seq rows.old.items }
+    ensures { rows.new.items ≡ with_took client seq rows.old.items }
+{
+    if let Some(at) = row_at(rows, client) {
+        let row = &mut rows[at];
+        row.add_took(seq);
+    }
+}
