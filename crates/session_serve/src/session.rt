@@ -21,7 +21,7 @@ use hub_lane::Greeted;
 use ipb_outside::Door;
 use lossy_network::Rack;
 use reliable_engine::Settings;
-use served_history::lanes::{
+use client_history::connections::{
     a_finished_lane_tells_the_numbers_of_its_line, a_finished_lane_was_served,
     connections_of_a_hub_leave_what_they_submitted,
 };
