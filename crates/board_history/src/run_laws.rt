@@ -18,11 +18,13 @@ ghost use Rattle.board_history.specs.Lines.{IsBusLine};
 ghost use Rattle.script_lang.specs.OwnNames.{HaveOwnNames};
 ghost use Rattle.transcript.specs.Shown.{ShowsAllPlaces};
 
-use board_bus::laws::{a_reply_answers_its_body, words_stay_words};
 use crate::laws::{a_history_of_clients_in_turn_is_the_only_one, clients_in_turn_make_a_history};
 use crate::place_laws::lines_show_all_places;
+use board_bus::laws::{a_reply_answers_its_body, words_stay_words};
 use mtu_packer::laws::{operations_of_words_are_packed, packed_bodies_spell_requests};
-use reply_join::laws::{each_answer_is_that_of_its_request, each_request_has_one_answer, joining_is_a_function};
+use reply_join::laws::{
+    each_answer_is_that_of_its_request, each_request_has_one_answer, joining_is_a_function,
+};
 use transaction_codec::laws::one_list_for_words;
 use transcript::laws::bodies_stand_dispatch_by_dispatch;
 

@@ -8,13 +8,13 @@ ghost use Rattle.load_run.specs.Generated.{most_operations};
 ghost use Rattle.load_run.specs.Summary as spec;
 ghost use Rattle.transcript.specs.Lines.{transcript_of};
 
+use crate::laws::a_generated_session_can_be_run;
 use crate::run_laws::the_run_of_a_generated_session;
+use crate::session::generated;
+use crate::summary::{all_done, summary_of_runs, summary_text};
 use board_node::BoardSpec;
 use client_threads::Gate;
 use ipb_base::NoMemory;
-use crate::laws::a_generated_session_can_be_run;
-use crate::session::generated;
-use crate::summary::{all_done, summary_of_runs, summary_text};
 use lossy_network::Rack;
 use reliable_engine::Settings;
 use script_steps::Steps;

@@ -6,8 +6,8 @@ ghost use Rattle.client_threads.specs.Clients.{AreOfClientsFrom, IsPlanFor, OnLa
 ghost use Rattle.session_run.specs.Parts.{HasLanes};
 ghost use Rattle.session_run.specs.Hubs.{CameBack, HoldsAll, RanAtHub};
 
-use client_threads::{ClientPlan, ClientResult, Gate, run_clients};
 use client_history::clients::sealed_plans_await_their_clients;
+use client_threads::{ClientPlan, ClientResult, Gate, run_clients};
 use hub_lane::Lane;
 use hub_multiplexer::Hub;
 use ipb_base::NoMemory;

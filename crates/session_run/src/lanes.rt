@@ -10,21 +10,21 @@ ghost use Rattle.session_run.specs.Plans.{AskAllFrom};
 ghost use Rattle.board_greeting.specs.Boards.{HasNoEntry};
 ghost use Rattle.session_run.specs.Lanes.{AllFour, AllThree, HasGoneOn, IsPlannedOn, IsRunOn};
 
+use crate::asking::client_plans;
+use crate::board_plans::BoardPlans;
 use crate::hub::run_at_hub;
+use crate::parts::client_parts;
 use crate::planning::plan_clients;
-use client_threads::{ClientPlan, ClientResult, Gate};
 use client_history::clients::{
     a_hub_left_at_any_moment_is_partly_planned, a_lane_comes_back_with_its_record,
     clients_of_a_hub_leave_a_clients_record,
 };
+use client_threads::{ClientPlan, ClientResult, Gate};
 use hub_lane::Lane;
 use hub_lane::laws::a_record_tells_its_lane;
 use ipb_base::NoMemory;
 use lane_history::building::a_record_is_partly_planned_on_its_way;
 use script_steps::Steps;
-use crate::asking::client_plans;
-use crate::board_plans::BoardPlans;
-use crate::parts::client_parts;
 use std::alloc::Global;
 use std::marker::{Send, Sync};
 use std::sync::Wait;
