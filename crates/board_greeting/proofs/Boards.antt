@@ -20,7 +20,7 @@ use Rattle.hub_lane.specs.declared.greeting.Greeted.{Greeted}
 use Rattle.hub_lane.specs.declared.greeting.Greeted.TheVariants.{Ready, Silent, Down, NoMemory}
 use Rattle.hub_lane.specs.Greeting.{CanBegin, IfDown, IfReady, IfSilent, StaysFresh, link_of}
 use Rattle.hub_lane.specs.Lanes.{IsGreeted, opened}
-use Rattle.sound_lanes.specs.Reports.{board_there}
+use Rattle.board_greeting.specs.Reports.{board_there}
 use Rattle.lane_history.specs.Links.{IsBoardOf, IsUntouched, LinkReport}
 use Rattle.board_greeting.specs.Boards.{AreReached, AreUntouched, HasRoom, IsGreetedAs, IsReached, shown_by}
 use Rattle.lane_history.specs.Links.{CanBeMade}

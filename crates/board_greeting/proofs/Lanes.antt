@@ -20,8 +20,8 @@ use Rattle.lane_record.specs.Coding.{Head}
 use Rattle.lane_history.specs.Links.{IsBoardOf, LinkReport}
 use Rattle.lane_history.specs.Lanes.{IsSoundLane}
 use Rattle.lane_history.specs.Runs.{TellsPayload}
-use Rattle.direct_run.specs.Runs.{opening_of as opens_with}
-use Rattle.sound_lanes.specs.Reports.{OpenedWith, board_there, report_of}
+use Rattle.board_history.specs.Runs.{opening_of as opens_with}
+use Rattle.board_greeting.specs.Reports.{OpenedWith, board_there, report_of}
 use Rattle.hub_lane.specs.Heard.{HasHeard}
 use Rattle.hub_lane.specs.Lanes.{BoardStatus, HasToldStatus, IsGreeted, IsLane, LaneState, opening_of}
 use Rattle.hub_lane.specs.declared.greeting.Greeted.{Greeted}

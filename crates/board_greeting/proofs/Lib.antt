@@ -1,3 +1,4 @@
 pub mod Boards
 pub mod Splitting
 pub mod Lanes
+mod Sound

@@ -16,11 +16,11 @@ use Rattle.board_bus.specs.Ranges.{opening_bus}
 use Rattle.board_node.specs.declared.spec.LinkSpec.{LinkSpec}
 use Rattle.board_node.specs.declared.spec.LinkSpec.TheVariants.{Sim, Udp}
 use Rattle.hub_lane.specs.Lanes.{BoardStatus, IsGreeted, LaneState, opened, opening_of}
-use Rattle.sound_lanes.specs.Reports.{report_of}
+use Rattle.board_greeting.specs.Reports.{report_of}
 use Rattle.lane_history.specs.Links.{IsBoardOf, IsUntouched, LinkReport}
 use Rattle.lane_history.specs.Lanes.{IsSoundLane}
 use Rattle.lane_history.specs.Runs.{IsDownRun, IsSilentRun, TellsPayload}
-use Rattle.direct_run.specs.Runs.{opening_of as opens_with}
+use Rattle.board_history.specs.Runs.{opening_of as opens_with}
 
 -- a lane before its first entry, over a link that tells this
 pub record IsReadyLane {L : Type 0} (settings : Limits) (lane : LaneState L) (telling : Option Telling) : Type 0 where

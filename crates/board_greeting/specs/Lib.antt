@@ -1,3 +1,4 @@
 pub mod Links
 pub mod Boards
 pub mod Places
+pub mod Reports

@@ -1,7 +1,7 @@
 -- The links of boards, made by a rack and given back to it. Profile.
 use Rattle.std.specs.Prelude.{◌≡◌, ℕ, List, ◌++◌, map, Option}
 use Rattle.world_core.specs.Telling.{Telling}
-use Rattle.sound_lanes.specs.Reports.{report_of}
+use Rattle.board_greeting.specs.Reports.{report_of}
 use Rattle.board_node.specs.declared.spec.BoardSpec.{BoardSpec}
 use Rattle.board_node.specs.OpeningWords.{OpensOnWords}
 use Rattle.lane_history.specs.Links.{CanBeMade, LinkReport}

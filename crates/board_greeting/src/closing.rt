@@ -5,8 +5,8 @@ ghost use Rattle.world_model.specs.Settings.{Limits};
 ghost use Rattle.board_node.specs.declared.spec.BoardSpec.{BoardSpec};
 ghost use Rattle.board_greeting.specs.Boards.{IsEndedLane, IsLaneTo, shown_by};
 
+use crate::sound_lanes::a_lane_is_a_sound_one;
 use hub_lane::Lane;
-use sound_lanes::laws::a_lane_is_a_sound_one;
 use world_core::Link;
 
 /// Ends a lane: its link. What the lane kept, and what the link shows, is all that the history of its board rests on.

@@ -7,3 +7,14 @@ pub mod OwnPlaces
 pub mod Merging
 mod PlacesShown
 pub mod OneRead
+mod ReplyWords
+pub mod Lists
+mod Shown
+pub mod Answering
+pub mod Shaped
+pub mod Asking
+pub mod BusResults
+pub mod BusLines
+pub mod Spelled
+pub mod Readiness
+mod Placed

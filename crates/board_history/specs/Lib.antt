@@ -5,3 +5,7 @@ pub mod History
 pub mod GiveUps
 pub mod Merges
 pub mod Examples
+pub mod Runs
+pub mod Answering
+pub mod Shape
+pub mod Lines

@@ -15,7 +15,7 @@ use Rattle.command_words.specs.declared.command.Command.{Command}
 use Rattle.command_words.specs.declared.command.Command.TheVariants.{Run, Check, Serve, Load}
 use Rattle.ipbus_program.specs.Numbers.{usage_status, refused_status, write_fault_status}
 use Rattle.command_words.specs.Commands.{usage_text}
-use Rattle.serve_text.specs.Text.{all_closed}
+use Rattle.server_summary.specs.Text.{all_closed}
 use Rattle.ipbus_program.specs.Owed.{AreCommand, AreNoCommand, IsReadBy, IsReadToEnd, IsDone, IsRefused, AnswersInput}
 use Rattle.ipbus_program.specs.Owed.{OwesDone, OwesRefusal, OwesWords, OwesText}
 use Rattle.ipbus_program.specs.Owed.{Wrote, WroteOwed, WroteOwedPart, IsStatus, UsedNoneOrSome, UsedSome, ServedSome}

@@ -1,7 +1,7 @@
 -- A command owes one answer to bytes.
 use Rattle.std.proofs.Common.{◌≡◌, ℕ, inl, inr, List, sym, ap, ◌∙◌}
 use Rattle.std.specs.List.{AllByRecursion}
-use Rattle.direct_run.specs.Runs.{runs_from}
+use Rattle.board_history.specs.Runs.{runs_from}
 use Rattle.lane_history.specs.Links.{LinkReport, IsFaithful}
 use Rattle.lane_history.specs.Runs.{HaveOwnBoards}
 use Rattle.script_steps.specs.declared.operation.Step.{Step}

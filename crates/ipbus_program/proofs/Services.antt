@@ -12,10 +12,10 @@ use Rattle.script_lang.specs.declared.session.Session.{Session}
 use Rattle.session_serve.specs.declared.report.ServeFault.{ServeFault}
 use Rattle.session_serve.specs.declared.report.ServeFault.TheVariants.{NoMemory, Rack}
 use Rattle.session_serve.specs.Boards.{AreLinksTo}
-use Rattle.served_history.specs.Boards.{AreServedOver, IsServedOver, ServedBoard}
+use Rattle.client_history.specs.Boards.{AreServedOver, IsServedOver, ServedBoard}
 use Rattle.session_serve.specs.Pairs.{GivesBack, PairReport, pair_shown}
 use Rattle.session_serve.specs.Serving.{AreBack}
-use Rattle.serve_text.specs.Text.{all_closed}
+use Rattle.server_summary.specs.Text.{all_closed}
 use Rattle.ipbus_program.specs.declared.answer.Answer.{Answer}
 use Rattle.command_words.specs.declared.command.Command.TheVariants.{Serve}
 use Rattle.script_steps.specs.declared.operation.Step.{Step}

@@ -1,8 +1,8 @@
 -- What laws of the crates below say of documents and of boards: no public clause speaks of it.
 use Rattle.std.specs.Prelude.{◌≡◌, ℕ, List}
 use Rattle.std.specs.List.{AllByRecursion, AllZip}
-use Rattle.direct_run.specs.Lines.{IsBusLine}
-use Rattle.direct_run.specs.Runs.{runs_from}
+use Rattle.board_history.specs.Lines.{IsBusLine}
+use Rattle.board_history.specs.Runs.{runs_from}
 use Rattle.lane_history.specs.Links.{IsFaithful, LinkReport}
 use Rattle.lane_history.specs.Runs.{AreRunsOver, AreWholeRuns, HaveOwnBoards, IsLineOfRounds, IsUngarbledWhereTold}
 use Rattle.lane_history.specs.Runs.{RepliesCame, ShowAloneRuns, TimeOutsWaited}
@@ -17,14 +17,14 @@ use Rattle.transcript.specs.declared.board_run.BoardRun.{BoardRun}
 use Rattle.transcript.specs.declared.line.BoardLine.{BoardLine}
 use Rattle.board_node.specs.declared.spec.BoardSpec.{BoardSpec}
 use Rattle.world_model.specs.Settings.{Limits}
-use Rattle.served_history.specs.Boards.{AreServedOver, ServedBoard}
+use Rattle.client_history.specs.Boards.{AreServedOver, ServedBoard}
 use Rattle.hub_session.specs.declared.served.Served.{Served}
 use Rattle.session_serve.specs.Boards.{states_of}
 use Rattle.session_serve.specs.Pairs.{PairReport}
 use Rattle.session_serve.specs.Serving.{AreServed, HadMemory}
-use Rattle.served_answers.specs.Answers.{AllTellAnswers, HasWrittenAll}
-use Rattle.served_answers.specs.Frames.{HasUnaskedCodes, OfEachBoard, OfEachFrame}
-use Rattle.served_answers.specs.Ruled.{AreCodedByRules}
+use Rattle.server_summary.specs.Answers.{AllTellAnswers, HasWrittenAll}
+use Rattle.server_summary.specs.Frames.{HasUnaskedCodes, OfEachBoard, OfEachFrame}
+use Rattle.server_summary.specs.Ruled.{AreCodedByRules}
 use Rattle.transcript.specs.Lines.{transcript_of}
 use Rattle.transcript.specs.Shown.{ShowsAllPlaces}
 use Rattle.session_input.specs.Deserved.{BreaksInRun, BreaksInCheck, Deserves, IsRunnable, IsListed}

@@ -23,7 +23,8 @@
 --   lost links, down, silent     IsLostOnlyIfFailed, IsDownRun,          lane_history/specs/Links, Runs
 --                                IsSilentRun                             lane_history/specs/Runs
 --   error and skipped            op_result, told_of                      transcript/specs/Results, Ends
---   the status                   run_status, IsBusLine                   transcript/specs/Lines, direct_run/specs/Lines
+--   the status                   run_status, IsBusLine                   transcript/specs/Lines,
+--                                                                        board_history/specs/Lines
 --   where nothing was held back  AreWholeRuns, ShowAloneRuns             lane_history/specs/Runs
 --   over any link, told or not   HoldsOverAnyLink                        lane_history/specs/Runs
 --   at every status              RanSomeOf, below, by AreLeft            session_run/specs/Links
@@ -32,7 +33,7 @@
 use Rattle.std.specs.Prelude.{◌≡◌, ℕ, List}
 use Rattle.std.specs.List.{AllByRecursion, AllZip}
 use Rattle.lane_history.specs.Links.{LinkReport, IsFaithful}
-use Rattle.direct_run.specs.Lines.{IsBusLine}
+use Rattle.board_history.specs.Lines.{IsBusLine}
 use Rattle.lane_history.specs.Runs.{AreRunsOver, AreWholeRuns, IsLineOfRounds, IsUngarbledWhereTold}
 use Rattle.lane_history.specs.Runs.{RepliesCame, ShowAloneRuns, TimeOutsWaited}
 use Rattle.script_steps.specs.declared.operation.Step.{Step}

@@ -2,7 +2,7 @@
 -- `IsLoadOf` of load_run/specs/Loading, which has a sentence for each part. Profile.
 use Rattle.std.specs.Prelude.{◌≡◌, ℕ, Bool, if◌then◌else◌, List}
 use Rattle.lane_history.specs.Links.{LinkReport}
-use Rattle.load_session.specs.Generated.{boards, steps}
+use Rattle.load_run.specs.Generated.{boards, steps}
 use Rattle.load_run.specs.Loading.{IsLoadOf}
 use Rattle.session_run.specs.Links.{AreLeft}
 use Rattle.ipbus_program.specs.Numbers.{done_status, not_all_done_status}

@@ -28,33 +28,33 @@
 -- It is one record, `IsServiceOf`, whose parts are these words. Profile.
 --
 --   the session                  IsRunnable                              session_input/specs/Deserved
---   the text, the status         serve_text, serve_status                serve_text/specs/Text
+--   the text, the status         serve_text, serve_status                server_summary/specs/Text
 --   the connections              HaveExchanged: IsServed, HasFaultsOf    session_serve/specs/Connections,
 --                                                                        hub_session/specs/Serving
 --   each answer, by its code     answer, reply_to                        hub_session/specs/Answers
 --   how the boards stand         states_of                               session_serve/specs/Boards
 --   the lines of boards          lines_of, IsAddedUp                     session_serve/specs/Boards,
---                                                                        served_history/specs/Shown
---   each board and its link      IsServedOver: IsLiveRun, IsSilentRun,   served_history/specs/Boards,
+--                                                                        client_history/specs/Shown
+--   each board and its link      IsServedOver: IsLiveRun, IsSilentRun,   client_history/specs/Boards,
 --                                IsDownRun                               lane_history/specs/Runs
 --   timeouts in those lines      TimeOutsWaited                          lane_history/specs/Runs
 --   replies in those lines       RepliesCame                             lane_history/specs/Runs
---   lost packets in those lines  HasLostOnlyIfFailed                     served_history/specs/Shown
---   the numbers of answers       AllTellAnswers                          served_answers/specs/Answers
---   the frames for each board    OfEachBoard, OfEachWithCode             served_answers/specs/Frames
---   their places                 PlacesOfFramesRise,                     served_answers/specs/Frames
+--   lost packets in those lines  HasLostOnlyIfFailed                     client_history/specs/Shown
+--   the numbers of answers       AllTellAnswers                          server_summary/specs/Answers
+--   the frames for each board    OfEachBoard, OfEachWithCode             server_summary/specs/Frames
+--   their places                 PlacesOfFramesRise,                     server_summary/specs/Frames
 --                                PlacesOfFramesDiffer, IsPlaced
---   code 0: executed there       IsAnsweredRightly, IsReplyAt            served_answers/specs/Frames,
---                                                                        served_history/specs/Shown
---   codes 1 and 2: the rounds    FramesGivenUpOnlyAfterRounds            served_answers/specs/Frames
---   code 3: the link failed      IsLostOnlyWithLink                      served_answers/specs/Frames
---   codes 4, 5, idle boards      HasUnaskedCodes                         served_answers/specs/Frames
---   codes 6 to 8: the rules      AreCodedByRules                         served_answers/specs/Ruled
+--   code 0: executed there       IsAnsweredRightly, IsReplyAt            server_summary/specs/Frames,
+--                                                                        client_history/specs/Shown
+--   codes 1 and 2: the rounds    FramesGivenUpOnlyAfterRounds            server_summary/specs/Frames
+--   code 3: the link failed      IsLostOnlyWithLink                      server_summary/specs/Frames
+--   codes 4, 5, idle boards      HasUnaskedCodes                         server_summary/specs/Frames
+--   codes 6 to 8: the rules      AreCodedByRules                         server_summary/specs/Ruled
 --   code 8: filled before it     AreServed.filled_before:                session_serve/specs/Refusals
 --                                AreFilledBefore
---   no lane beyond its limits    AreServed.limits: KeepLimits            served_history/specs/Planned
+--   no lane beyond its limits    AreServed.limits: KeepLimits            client_history/specs/Planned
 --   over a faithful link         IsFaithful, NoneIsGivenUpOrLost         lane_history/specs/Links,
---                                                                        served_answers/specs/Frames
+--                                                                        server_summary/specs/Frames
 --   the pairs, at every status   GivesBack, AreBack                      session_serve/specs/Pairs, Serving
 --   the links, at every status   IsLinkedTo, below                       session_serve/specs/Boards
 use Rattle.std.specs.Prelude.{◌≡◌, ℕ, ◌≤◌, List, [], ◌∷◌, length, None, IfSome}
@@ -67,11 +67,11 @@ use Rattle.script_lang.specs.declared.session.Session.{Session}
 use Rattle.transcript.specs.declared.line.BoardLine.{BoardLine}
 use Rattle.transcript.specs.Lines.{board_line}
 use Rattle.transcript.specs.Shown.{places_told}
-use Rattle.direct_run.specs.Runs.{greeting_of, opening_of}
+use Rattle.board_history.specs.Runs.{greeting_of, opening_of}
 use Rattle.lane_history.specs.Links.{LinkReport, IsFaithful}
 use Rattle.lane_history.specs.Runs.{RepliesCame, TimeOutsWaited}
-use Rattle.served_history.specs.Boards.{ServedBoard, run_of}
-use Rattle.served_history.specs.Shown.{HasLostOnlyIfFailed, IsAddedUp}
+use Rattle.client_history.specs.Boards.{ServedBoard, run_of}
+use Rattle.client_history.specs.Shown.{HasLostOnlyIfFailed, IsAddedUp}
 use Rattle.hub_lane.specs.declared.answers.BoardState.{BoardState}
 use Rattle.hub_session.specs.declared.served.Served.{Served}
 use Rattle.hub_session.specs.Codes.{replied_code, timed_out_code, unsent_code}
@@ -79,12 +79,12 @@ use Rattle.session_serve.specs.Boards.{AreLinksTo, states_of}
 use Rattle.session_serve.specs.Connections.{Conversation}
 use Rattle.session_serve.specs.Pairs.{PairReport}
 use Rattle.session_serve.specs.Serving.{AreServed, HadMemory}
-use Rattle.served_answers.specs.Answers.{AllTellAnswers, HasWrittenAll}
-use Rattle.served_answers.specs.Frames.{FramesGivenUpOnlyAfterRounds, HasLane, HasUnaskedCodes, IsAnsweredRightly}
-use Rattle.served_answers.specs.Frames.{IsLostOnlyWithLink, IsPlaced, NoneIsGivenUpOrLost, OfEachBoard, OfEachFrame}
-use Rattle.served_answers.specs.Frames.{OfEachWithCode, PlacesOfFramesDiffer, PlacesOfFramesRise, place_on}
-use Rattle.served_answers.specs.Ruled.{AreCodedByRules}
-use Rattle.serve_text.specs.Text.{serve_text, serve_status}
+use Rattle.server_summary.specs.Answers.{AllTellAnswers, HasWrittenAll}
+use Rattle.server_summary.specs.Frames.{FramesGivenUpOnlyAfterRounds, HasLane, HasUnaskedCodes, IsAnsweredRightly}
+use Rattle.server_summary.specs.Frames.{IsLostOnlyWithLink, IsPlaced, NoneIsGivenUpOrLost, OfEachBoard, OfEachFrame}
+use Rattle.server_summary.specs.Frames.{OfEachWithCode, PlacesOfFramesDiffer, PlacesOfFramesRise, place_on}
+use Rattle.server_summary.specs.Ruled.{AreCodedByRules}
+use Rattle.server_summary.specs.Text.{serve_text, serve_status}
 use Rattle.session_input.specs.Deserved.{IsRunnable}
 
 -- What follows for a board that was served, and its link:

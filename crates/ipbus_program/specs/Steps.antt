@@ -23,7 +23,7 @@ use Rattle.session_serve.specs.Boards.{AreLinksTo}
 use Rattle.session_serve.specs.Pairs.{PairReport}
 use Rattle.session_serve.specs.Serving.{AreServed, HadMemory}
 use Rattle.hub_session.specs.declared.served.Served.{Served}
-use Rattle.serve_text.specs.Text.{serve_text, serve_status}
+use Rattle.server_summary.specs.Text.{serve_text, serve_status}
 use Rattle.command_words.specs.declared.command.Command.{Command}
 use Rattle.command_words.specs.declared.command.Command.TheVariants.{Run, Check, Serve, Load}
 use Rattle.ipbus_program.specs.declared.answer.NoAnswer.{NoAnswer}

@@ -2,6 +2,12 @@
 
 ghost use Rattle.ipbus_program.specs.Below.{InputLaws, OwnBoardsLaw, RunLaws, ServeLaws};
 
+use client_history::boards::{
+    a_board_line_counts_the_bodies_of_its_connections,
+    a_board_that_tells_executed_what_was_replied, a_board_waited_for_what_was_given_up,
+    a_faithful_link_serves_all, a_served_board_loses_bodies_only_with_its_link,
+    replies_of_a_served_board_came_over_its_link,
+};
 use lane_history::runs::{
     a_client_alone_has_one_run, board_lines_count_replies_that_came,
     board_lines_waited_for_their_time_outs, clients_with_boards_of_their_own_have_one_run,
@@ -12,17 +18,11 @@ use script_lang::laws::{
     a_session_keeps_its_limits, the_boards_of_a_session_have_their_own_names,
     the_ranges_of_a_session_name_words,
 };
-use served_answers::laws::{
+use server_summary::laws::{
     board_lines_tell_the_numbers_of_answers, code_0_answers_what_was_executed,
     code_3_answers_where_the_link_failed, codes_1_and_2_answer_after_the_rounds,
     codes_for_which_the_hub_is_not_asked, codes_tell_of_places, each_frame_has_a_place_of_its_own,
     no_frame_is_given_up_or_lost_over_a_faithful_link, the_rules_of_planning_decide_of_codes,
-};
-use served_history::boards::{
-    a_board_line_counts_the_bodies_of_its_connections,
-    a_board_that_tells_executed_what_was_replied, a_board_waited_for_what_was_given_up,
-    a_faithful_link_serves_all, a_served_board_loses_bodies_only_with_its_link,
-    replies_of_a_served_board_came_over_its_link,
 };
 use session_input::laws::{
     bytes_have_one_answer_to_check, bytes_have_one_answer_to_run, what_can_be_run_can_be_executed,

@@ -4,7 +4,7 @@ ghost use Rattle.std.specs.Prelude.{◌≡◌, ◌≢◌, ◌≤◌, [], Err, If
 ghost use Rattle.ipb_base.specs.Faults.{Rose};
 ghost use Rattle.board_greeting.specs.Links.{Keeps};
 ghost use Rattle.command_words.specs.declared.command.Command.TheVariants.{Load};
-ghost use Rattle.load_session.specs.Generated.{most_operations};
+ghost use Rattle.load_run.specs.Generated.{most_operations};
 ghost use Rattle.ipbus_program.specs.Loading as spec;
 ghost use Rattle.ipbus_program.specs.Numbers.{refused_status};
 ghost use Rattle.ipbus_program.specs.Steps.{IsRunFailure, Leaves};

@@ -6,7 +6,7 @@ ghost use Rattle.ipb_base.specs.Faults.{Rose};
 ghost use Rattle.ipb_outside.specs.Told.{TakesAtMost, TakesCount};
 ghost use Rattle.board_greeting.specs.Links.{Keeps};
 ghost use Rattle.lane_history.specs.Links.{IsUntouched};
-ghost use Rattle.load_session.specs.Generated.{most_operations};
+ghost use Rattle.load_run.specs.Generated.{most_operations};
 ghost use Rattle.node_tree.specs.Maps.{RegisterMap};
 ghost use Rattle.script_steps.specs.declared.operation.Step.{Step};
 ghost use Rattle.script_lang.specs.declared.session.Session.{Session};

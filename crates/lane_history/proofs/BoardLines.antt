@@ -15,7 +15,7 @@ use Rattle.transcript.specs.declared.board_run.BoardRun.{BoardRun}
 use Rattle.transcript.specs.Lines.{board_line, live_line, outcomes_on}
 use Rattle.board_history.specs.GiveUps.{IsExact, time_outs}
 use Rattle.board_history.specs.History.{dispatches_by_client}
-use Rattle.direct_run.specs.Runs.{opening_of}
+use Rattle.board_history.specs.Runs.{opening_of}
 use Rattle.lane_history.specs.Links.{LinkReport}
 use Rattle.lane_history.specs.Runs.{AreRunsOver, IsAsTold, IsTrueRun, ShowsScripts}
 use Rattle.lane_history.specs.Runs.{RepliesCame, TimeOutsWaited}

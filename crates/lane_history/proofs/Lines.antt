@@ -30,17 +30,17 @@ use Rattle.board_history.specs.Order.{Placed, with_place, placed, all_placed, or
 use Rattle.board_history.specs.Parts.{IsReplyOf, IsReplied}
 use Rattle.board_history.specs.History.{ShowsHistory, bodies_by_client, outcomes_by_client}
 use Rattle.board_history.proofs.Sorting.{all_sorted, sorted_all}
-use Rattle.direct_run.specs.Runs.{CanRun, RunsHere, greeting_of, opening_of}
-use Rattle.direct_run.specs.Answering.{AsksRequests, AskRequests}
-use Rattle.direct_run.specs.Lines.{IsBusResult}
-use Rattle.direct_run.proofs.Answering.{Answering, AnsweringAny, Keeping, KeepingAll, Garbling, Joins}
-use Rattle.direct_run.proofs.Asking.{Both}
-use Rattle.direct_run.proofs.BusResults.{IsUntold, IsFine}
-use Rattle.direct_run.proofs.BusLines.{FinePart, Shows, CanShow}
-use Rattle.direct_run.proofs.Readiness.{ArePackedFor, IsReady, AreReady, is_ready}
+use Rattle.board_history.specs.Runs.{CanRun, RunsHere, greeting_of, opening_of}
+use Rattle.board_history.specs.Answering.{AsksRequests, AskRequests}
+use Rattle.board_history.specs.Lines.{IsBusResult}
+use Rattle.board_history.proofs.Answering.{Answering, AnsweringAny, Keeping, KeepingAll, Garbling, Joins}
+use Rattle.board_history.proofs.Lists.{Both}
+use Rattle.board_history.proofs.BusResults.{IsUntold, IsFine}
+use Rattle.board_history.proofs.BusLines.{FinePart, Shows, CanShow}
+use Rattle.board_history.proofs.Readiness.{ArePackedFor, IsReady, AreReady, is_ready}
 use Rattle.transcript.proofs.PackedDispatches.{PacksWords}
-use Rattle.direct_run.proofs.Shaped.{Standing, lengths}
-use Rattle.direct_run.proofs.Spelled.{Spelling, parts_spelled}
+use Rattle.board_history.proofs.Shaped.{Standing, lengths}
+use Rattle.board_history.proofs.Spelled.{Spelling, parts_spelled}
 use Rattle.lane_history.specs.Links.{CanBeMade, LinkReport, IsBoardOf, IsFaithful}
 use Rattle.lane_history.specs.Runs.{TellsPayload, IsLiveRun, IsAsTold, IsRunOver, AreRunsOver, AreWholeRuns}
 use Rattle.lane_history.proofs.Ungarbled.{StandsIn, all_stand, HasWords, all_words, words_of, reply_told}

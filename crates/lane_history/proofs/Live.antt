@@ -29,8 +29,8 @@ use Rattle.board_history.specs.History.{IsHistory, bodies_by_client, outcomes_by
 use Rattle.board_history.specs.History.{dispatches_of}
 use Rattle.lane_record.specs.Dispatches.{joined}
 use Rattle.transcript.specs.Plan.{plans_on}
-use Rattle.direct_run.specs.Runs.{opening_of}
-use Rattle.direct_run.proofs.Shaped.{Standing, is_cut, whole_again, heads, lengths, IsCut}
+use Rattle.board_history.specs.Runs.{opening_of}
+use Rattle.board_history.proofs.Shaped.{Standing, is_cut, whole_again, heads, lengths, IsCut}
 use Rattle.lane_history.specs.Links.{LinkReport, HasFailed, IsBoardOf, IsLostOnlyIfFailed}
 use Rattle.lane_history.specs.Runs.{ShowsScripts, TellsPayload, IsTrueRun, IsLiveRun, IsAsTold, IsRunOver}
 use Rattle.lane_history.specs.Runs.{HoldsOverAnyLink}

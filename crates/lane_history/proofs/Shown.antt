@@ -32,10 +32,10 @@ use Rattle.board_history.specs.GiveUps.{GaveUpOnlyAfter}
 use Rattle.board_history.specs.Merges.{AreSubsequences, IsMergeOfSome, IsMergeOfAll}
 use Rattle.board_history.proofs.Alone.{none_placed}
 use Rattle.board_history.proofs.Merging.{executed_some, executed_whole, order_whole}
-use Rattle.direct_run.specs.Runs.{greeting_of, opening_of, IsRun, board_run, runs_from}
-use Rattle.direct_run.specs.Answering.{AskRequests, OpensWithWords}
-use Rattle.direct_run.proofs.Shaped.{Standing}
-use Rattle.direct_run.proofs.Answering.{Answering, AnsweringAny, Keeping, KeepingAll, Garbling, Joins}
+use Rattle.board_history.specs.Runs.{greeting_of, opening_of, IsRun, board_run, runs_from}
+use Rattle.board_history.specs.Answering.{AskRequests, OpensWithWords}
+use Rattle.board_history.proofs.Shaped.{Standing}
+use Rattle.board_history.proofs.Answering.{Answering, AnsweringAny, Keeping, KeepingAll, Garbling, Joins}
 use Rattle.lane_history.specs.Links.{LinkReport, IsBoardOf, IsFaithful, IsLostOnlyIfFailed, IsUntouched}
 use Rattle.lane_history.specs.Runs.{ShowsScripts, TellsPayload, IsTrueRun, IsLiveRun, IsSilentRun, IsDownRun, IsAsTold}
 use Rattle.lane_history.specs.Runs.{IsRunOver, AreRunsOver, ExecutedSome, AllExecutedSome, IsWholeRun, AreWholeRuns}

@@ -24,10 +24,10 @@ use Rattle.board_history.specs.Order.{Placed, with_place, placed, all_placed, or
 use Rattle.board_history.specs.Parts.{IsReplyOf}
 use Rattle.board_history.specs.History.{ShowsHistory, bodies_by_client, outcomes_by_client}
 use Rattle.board_history.proofs.Sorting.{all_sorted, sorted_all}
-use Rattle.direct_run.specs.Answering.{AsksRequests, AskRequests}
-use Rattle.direct_run.proofs.Answering.{Answering, AnsweringAny, Keeping, KeepingAll, Garbling, Joins, IsTold}
-use Rattle.direct_run.proofs.Answering.{body_told}
-use Rattle.direct_run.proofs.Answering.{spelled_words}
+use Rattle.board_history.specs.Answering.{AsksRequests, AskRequests}
+use Rattle.board_history.proofs.Answering.{Answering, AnsweringAny, Keeping, KeepingAll, Garbling, Joins, IsTold}
+use Rattle.board_history.proofs.Answering.{body_told}
+use Rattle.board_history.proofs.Answering.{spelled_words}
 use Rattle.lane_history.specs.Runs.{IsUngarbled, NoneGarbled}
 
 -- ---- each body stands at its place in the order

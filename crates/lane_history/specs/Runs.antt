@@ -32,7 +32,7 @@ use Rattle.board_history.specs.History.{ShowsHistory, bodies_by_client, outcomes
 use Rattle.board_history.specs.GiveUps.{GaveUpOnlyAfter, IsExact}
 use Rattle.board_history.specs.Merges.{IsMergeOfSome, IsMergeOfAll}
 use Rattle.board_history.specs.InTurn.{IsUsedByOne}
-use Rattle.direct_run.specs.Runs.{board_run, greeting_of, opening_of}
+use Rattle.board_history.specs.Runs.{board_run, greeting_of, opening_of}
 use Rattle.lane_history.specs.Links.{LinkReport, HasFailed, IsBoardOf, IsLostOnlyIfFailed}
 use Rattle.lane_history.specs.Links.{IsUntouched}
 

@@ -25,7 +25,7 @@ ghost use Rattle.board_history.specs.History.{IsHistory, bodies_by_client, dispa
 ghost use Rattle.lane_record.specs.Dispatches.{joined};
 ghost use Rattle.board_history.specs.GiveUps.{GaveUpOnlyAfter};
 ghost use Rattle.board_history.specs.Merges.{IsMergeOfSome};
-ghost use Rattle.direct_run.specs.Runs.{opening_of};
+ghost use Rattle.board_history.specs.Runs.{opening_of};
 ghost use Rattle.lane_history.specs.Links.{HasFailed, IsBoardOf, IsLostOnlyIfFailed, IsUntouched, LinkReport};
 ghost use Rattle.lane_history.specs.Runs.{ExecutedSome, IsLiveRun, IsRunOver, ShowsScripts, TellsPayload};
 ghost use Rattle.lane_history.specs.Records.{IsClientsRecord, IsPartlyPlanned, IsRecordOf, has_become};

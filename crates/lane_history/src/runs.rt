@@ -16,9 +16,9 @@ ghost use Rattle.transcript.specs.Lines.{board_line, outcomes_on, transcript_of}
 ghost use Rattle.transcript.specs.Shown.{HaveOwnNames, ShowsAllPlaces};
 ghost use Rattle.board_history.specs.History.{ShowsHistory, dispatches_by_client};
 ghost use Rattle.board_history.specs.GiveUps.{time_outs};
-ghost use Rattle.direct_run.specs.Runs.{opening_of, runs_from};
-ghost use Rattle.direct_run.specs.Lines.{IsBusLine};
-ghost use Rattle.direct_run.specs.Answering.{AskRequests, OpensWithWords};
+ghost use Rattle.board_history.specs.Runs.{opening_of, runs_from};
+ghost use Rattle.board_history.specs.Lines.{IsBusLine};
+ghost use Rattle.board_history.specs.Answering.{AskRequests, OpensWithWords};
 ghost use Rattle.lane_history.specs.Links.{CanBeMade, IsFaithful, LinkReport};
 ghost use Rattle.lane_history.specs.Runs.{AllExecutedSome, AreRunsOver, AreWholeRuns, IsRunOver, IsUngarbledWhereTold};
 ghost use Rattle.lane_history.specs.Runs.{HaveOwnBoards, IsLineOfRounds, NoneGarbled, ShowAloneRuns, ShowsScripts};
@@ -27,7 +27,7 @@ ghost use Rattle.lane_history.specs.Runs.{RepliesCame, TimeOutsWaited};
 use board_bus::laws::{a_reply_answers_its_body, words_stay_words};
 use board_history::laws::a_client_alone_is_in_turn;
 use board_history::place_laws::lines_show_all_places;
-use direct_run::laws::a_session_has_one_run;
+use board_history::run_laws::a_session_has_one_run;
 use mtu_packer::laws::{operations_of_words_are_packed, packed_bodies_spell_requests};
 use reply_join::laws::{
     each_answer_is_that_of_its_request, each_request_has_one_answer, joining_is_a_function,

@@ -1,5 +1,5 @@
--- What the code keeps of a lane's record: the entries with their contents, and the bodies of each client by number. No
--- public contract speaks of it.
+-- The record of a lane as it grows: the entries with their contents, and the bodies of each client by number. The
+-- calls of `Book` speak of the entries; the rows are how the code finds them. Profile.
 use Rattle.std.specs.Prelude.{◌≡◌, ℕ, zero, suc, ◌+◌, ◌-◌, ◌≤◌, ◌<◌, ◌==◌, min, Bool, false, true, if◌then◌else◌}
 use Rattle.std.specs.Prelude.{List, [], ◌∷◌, ◌++◌}
 use Rattle.std.specs.Prelude.{length, map}

@@ -1,4 +1,5 @@
--- What the code keeps of what became of the asked bodies. No public contract speaks of it.
+-- What became of the asked bodies, in the order of their Asks, and whose each body is. The rows by client and number
+-- are how the code finds them. Profile.
 use Rattle.std.specs.Prelude.{◌≡◌, ℕ, zero, suc, ◌≤◌, ◌<◌, List, [], ◌∷◌, length, map, Option, Some, None, get_or}
 use Rattle.std.specs.List.{slice_get}
 use Rattle.lane_record.specs.declared.outcome.Outcome.{Outcome}

@@ -9,8 +9,6 @@ mod board_node_tests;
 #[cfg(test)]
 mod datagram_tests;
 #[cfg(test)]
-mod direct_run_tests;
-#[cfg(test)]
 mod fixtures;
 #[cfg(test)]
 mod hub_lane_tests;

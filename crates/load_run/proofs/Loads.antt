@@ -7,12 +7,12 @@ use Rattle.std.specs.Result.{IsErr, IsErrAnd}
 use Rattle.board_node.specs.declared.spec.BoardSpec.{BoardSpec}
 use Rattle.board_node.specs.declared.spec.LinkSpec.{LinkSpec}
 use Rattle.board_node.specs.declared.spec.LinkSpec.TheVariants.{Sim, Udp}
-use Rattle.direct_run.specs.Runs.{CanRun, RunsHere}
+use Rattle.board_history.specs.Runs.{CanRun, RunsHere}
 use Rattle.board_node.specs.OpeningWords.{OpensOnWords}
 use Rattle.transcript.specs.declared.board_run.BoardRun.{BoardRun}
 use Rattle.transcript.specs.Shown.{HaveOwnNames}
 use Rattle.lane_history.specs.Links.{CanBeMade, IsUntouched, LinkReport}
-use Rattle.load_session.specs.Generated.{boards, most_operations, steps}
+use Rattle.load_run.specs.Generated.{boards, most_operations, steps}
 use Rattle.session_run.specs.Links.{AreLeft, CanBeReached}
 use Rattle.session_run.specs.declared.session.RunFault.{RunFault}
 use Rattle.session_run.specs.declared.session.RunFault.TheVariants.{NoMemory, Rack}

@@ -1,1 +1,6 @@
 pub mod Loading
+pub mod Generated
+pub mod Summary
+pub mod Claims
+pub mod Examples
+pub mod ScriptLines

@@ -13,16 +13,16 @@ use Rattle.script_steps.specs.declared.operation.Step.{Step}
 use Rattle.script_lang.specs.declared.script_refusal.TheConstants.{MAX_LINES}
 use Rattle.script_steps.specs.Executable.{AreExecutable}
 use Rattle.script_steps.specs.Packing.{AreWithinLimits, CanBePacked, HaveFewPieces}
-use Rattle.direct_run.specs.Lines.{IsBusLine}
+use Rattle.board_history.specs.Lines.{IsBusLine}
 use Rattle.transcript.specs.declared.board_run.BoardRun.{BoardRun}
 use Rattle.transcript.specs.Lines.{transcript_of}
 use Rattle.transcript.specs.Shown.{ShowsAllPlaces}
 use Rattle.lane_history.specs.Links.{IsFaithful, IsUntouched, LinkReport}
 use Rattle.lane_history.specs.Runs.{AreRunsOver, AreWholeRuns, IsLineOfRounds, IsUngarbledWhereTold}
 use Rattle.lane_history.specs.Runs.{RepliesCame, ShowAloneRuns, TimeOutsWaited}
-use Rattle.load_session.specs.Claims.{HasEachBelow, TellsRuns, sum_below}
-use Rattle.load_session.specs.Generated.{boards, most_operations, settings, steps}
-use Rattle.load_session.specs.Summary.{all_done, summary_of, summary_text, words_before}
+use Rattle.load_run.specs.Claims.{HasEachBelow, TellsRuns, sum_below}
+use Rattle.load_run.specs.Generated.{boards, most_operations, settings, steps}
+use Rattle.load_run.specs.Summary.{all_done, summary_of, summary_text, words_before}
 use Rattle.session_run.specs.Links.{AreLeft, CanBeReached}
 use Rattle.session_run.specs.declared.session.RunFault.{RunFault}
 use Rattle.session_run.specs.declared.session.RunFault.TheVariants.{Rack}

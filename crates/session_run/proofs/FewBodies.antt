@@ -9,7 +9,7 @@ use Rattle.script_steps.specs.Packing.{AreWithinLimits, all_operations}
 use Rattle.script_steps.specs.declared.operation.Step.{Step}
 use Rattle.transcript.specs.declared.greeting.Greeting.TheVariants.{Live}
 use Rattle.transcript.specs.Plan.{ClientBodies, all_bodies, plans_on}
-use Rattle.session_plans.specs.Plans.{HasFewBodies}
+use Rattle.session_run.specs.Plans.{HasFewBodies}
 use Rattle.session_run.specs.Clients.{HasItsCounts}
 use Rattle.session_run.proofs.Parts.{each_counts, sum_first}
 

@@ -24,14 +24,14 @@ use Rattle.client_threads.specs.Clients.{AreResultsFor, OnLanesFrom, TookIn, cou
 use Rattle.client_threads.specs.declared.plan.ClientPlan.{ClientPlan}
 use Rattle.client_threads.specs.declared.result.ClientResult.{ClientResult}
 use Rattle.script_steps.specs.declared.operation.Step.{Step}
-use Rattle.direct_run.specs.Runs.{parts_with}
+use Rattle.board_history.specs.Runs.{parts_with}
 use Rattle.transcript.specs.declared.board_run.ClientPart.{ClientPart}
 use Rattle.transcript.specs.declared.greeting.Greeting.TheVariants.{Live}
 use Rattle.transcript.specs.Plan.{ClientBodies, planned_on, plans_on}
 use Rattle.lane_history.specs.Records.{IsPartlyPlanned}
-use Rattle.hub_history.specs.Lanes.{AskAll, LeftByClients, came_with, sealed_plans}
-use Rattle.session_plans.specs.Parts.{HasLanes, outcomes_on_lane, parts_from}
-use Rattle.session_plans.specs.Plans.{AskAllFrom, counts_by_client}
+use Rattle.client_history.specs.Clients.{AskAll, LeftByClients, came_with, sealed_plans}
+use Rattle.session_run.specs.Parts.{HasLanes, outcomes_on_lane, parts_from}
+use Rattle.session_run.specs.Plans.{AskAllFrom, counts_by_client}
 use Rattle.session_run.specs.Clients.{HasItsCounts, bodies_of}
 use Rattle.session_run.specs.Hubs.{CameBack, HoldsAll, RanAtHub}
 use Rattle.board_greeting.specs.Boards.{head_shown}

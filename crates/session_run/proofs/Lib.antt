@@ -10,3 +10,6 @@ pub mod PlanningLanes
 pub mod HubRuns
 pub mod Rejoining
 pub mod Sessions
+pub mod Pairs
+pub mod Plans
+pub mod PartLists

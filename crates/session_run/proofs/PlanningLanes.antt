@@ -13,9 +13,9 @@ use Rattle.hub_lane.specs.Lanes.{LaneState, board_of, opening_of}
 use Rattle.script_steps.specs.declared.operation.Step.{Step}
 use Rattle.transcript.specs.declared.greeting.Greeting.TheVariants.{Live}
 use Rattle.transcript.specs.Plan.{ClientBodies, planned_on}
-use Rattle.session_plans.specs.Parts.{HasClients}
-use Rattle.session_plans.specs.Plans.{ArePlansOnBoard, HasFewBodies}
-use Rattle.session_plans.proofs.PartLists.{get_behind}
+use Rattle.session_run.specs.Parts.{HasClients}
+use Rattle.session_run.specs.Plans.{ArePlansOnBoard, HasFewBodies}
+use Rattle.session_run.proofs.PartLists.{get_behind}
 use Rattle.lane_history.specs.Records.{IsPartlyPlanned}
 use Rattle.session_run.specs.Clients.{KeepsLane, bodies_of}
 use Rattle.board_greeting.specs.Boards.{HasNoEntry, head_shown}

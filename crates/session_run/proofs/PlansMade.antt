@@ -16,7 +16,7 @@ use Rattle.script_steps.specs.declared.operation.Step.{Step}
 use Rattle.transcript.specs.declared.greeting.Greeting.{Greeting}
 use Rattle.transcript.specs.Plan.{ClientBodies, planned_on, plans_on}
 use Rattle.lane_record.specs.Dispatches.{all_plans_from, plans_from}
-use Rattle.direct_run.proofs.Sending.{begins_at}
+use Rattle.board_history.proofs.Lists.{begins_at}
 use Rattle.lane_history.specs.Records.{IsPartlyPlanned}
 use Rattle.session_run.specs.Clients.{PlannedSome, bodies_of, with_items}
 

@@ -15,7 +15,7 @@ use Rattle.transcript.specs.declared.greeting.Greeting.TheVariants as greeting
 use Rattle.transcript.specs.declared.board_run.ClientPart.{ClientPart}
 use Rattle.transcript.specs.Plan.{plans_on}
 use Rattle.lane_history.specs.Links.{IsBoardOf, LinkReport}
-use Rattle.sound_lanes.specs.Reports.{board_there}
+use Rattle.board_greeting.specs.Reports.{board_there}
 use Rattle.lane_history.specs.Records.{IsPartlyPlanned}
 use Rattle.board_greeting.specs.Boards.{AreReached, HasMemory, IsReached, shown_by}
 use Rattle.session_run.specs.Clients.{bodies_of}

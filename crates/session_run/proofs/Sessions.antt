@@ -18,7 +18,7 @@ use Rattle.board_greeting.specs.Boards.{AreUntouched, HasRoom}
 use Rattle.session_run.specs.Boards.{OnRun}
 use Rattle.session_run.specs.Places.{AreCameOf, IsCameOf}
 use Rattle.board_greeting.specs.declared.rejoined.Board.{Board}
-use Rattle.direct_run.proofs.Sending.{begins_at}
+use Rattle.board_history.proofs.Lists.{begins_at}
 use Rattle.session_run.specs.Links.{AreLeft, IsLeft}
 
 left_more : (board : ℕ) (specs rest : List BoardSpec) (scripts : List (List Step)) (links : List LinkReport)

@@ -6,7 +6,7 @@ use Rattle.hub_lane.specs.Lanes.{LaneState}
 use Rattle.hub_multiplexer.specs.Ends.{AreEnded}
 use Rattle.hub_multiplexer.specs.Lanes.{shown}
 use Rattle.hub_multiplexer.specs.Seats.{MasterState}
-use Rattle.hub_history.specs.Lanes.{AskAll, sealed_plans}
+use Rattle.client_history.specs.Clients.{AskAll, sealed_plans}
 use Rattle.client_threads.specs.Clients.{HaveRun, WereTakenIn}
 use Rattle.client_threads.specs.declared.plan.ClientPlan.{ClientPlan}
 use Rattle.client_threads.specs.declared.result.ClientResult.{ClientResult}

@@ -8,13 +8,13 @@ use Rattle.world_model.specs.Settings.{Limits}
 use Rattle.board_node.specs.declared.spec.BoardSpec.{BoardSpec}
 use Rattle.script_steps.specs.declared.operation.Step.{Step}
 use Rattle.hub_lane.specs.Lanes.{LaneState, opening_of}
-use Rattle.hub_history.specs.Lanes.{sealed_plans}
+use Rattle.client_history.specs.Clients.{sealed_plans}
 use Rattle.transcript.specs.declared.greeting.Greeting.TheVariants.{Live}
 use Rattle.transcript.specs.declared.board_run.ClientPart.{ClientPart}
 use Rattle.transcript.specs.Plan.{ClientBodies, plans_on}
 use Rattle.board_history.specs.History.{dispatches_of}
 use Rattle.lane_history.specs.Records.{IsClientsRecord, IsPartlyPlanned}
-use Rattle.session_plans.specs.Plans.{HasFewBodies}
+use Rattle.session_run.specs.Plans.{HasFewBodies}
 use Rattle.board_greeting.specs.Boards.{IsKnownAs, head_shown}
 use Rattle.session_run.specs.Clients.{IsWholePart, bodies_of, with_items}
 

@@ -6,3 +6,5 @@ pub mod Places
 pub mod Hubs
 pub mod Faults
 pub mod Room
+pub mod Plans
+pub mod Parts

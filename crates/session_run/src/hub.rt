@@ -3,11 +3,11 @@
 ghost use Rattle.std.specs.Prelude.{◌≡◌, ◌<◌, ◌^◌, length, IfOk};
 ghost use Rattle.std.specs.List.{AllByRecursion};
 ghost use Rattle.client_threads.specs.Clients.{AreOfClientsFrom, IsPlanFor, OnLanesFrom};
-ghost use Rattle.session_plans.specs.Parts.{HasLanes};
+ghost use Rattle.session_run.specs.Parts.{HasLanes};
 ghost use Rattle.session_run.specs.Hubs.{CameBack, HoldsAll, RanAtHub};
 
+use client_history::clients::sealed_plans_await_their_clients;
 use client_threads::{ClientPlan, ClientResult, Gate, run_clients};
-use hub_history::lanes::sealed_plans_await_their_clients;
 use hub_lane::Lane;
 use hub_multiplexer::Hub;
 use ipb_base::NoMemory;

@@ -5,24 +5,26 @@ ghost use Rattle.std.specs.List.{AllByRecursion};
 ghost use Rattle.client_threads.specs.Clients.{AreOfClientsFrom, IsPlanFor};
 ghost use Rattle.script_steps.specs.Executable.{AreExecutable};
 ghost use Rattle.script_steps.specs.Packing.{AreWithinLimits, CanBePacked, HaveFewPieces};
-ghost use Rattle.session_plans.specs.Parts.{HasClients, HasLanes, parts_from};
-ghost use Rattle.session_plans.specs.Plans.{AskAllFrom};
+ghost use Rattle.session_run.specs.Parts.{HasClients, HasLanes, parts_from};
+ghost use Rattle.session_run.specs.Plans.{AskAllFrom};
 ghost use Rattle.board_greeting.specs.Boards.{HasNoEntry};
 ghost use Rattle.session_run.specs.Lanes.{AllFour, AllThree, HasGoneOn, IsPlannedOn, IsRunOn};
 
+use crate::asking::client_plans;
+use crate::board_plans::BoardPlans;
 use crate::hub::run_at_hub;
+use crate::parts::client_parts;
 use crate::planning::plan_clients;
-use client_threads::{ClientPlan, ClientResult, Gate};
-use hub_history::lanes::{
+use client_history::clients::{
     a_hub_left_at_any_moment_is_partly_planned, a_lane_comes_back_with_its_record,
     clients_of_a_hub_leave_a_clients_record,
 };
+use client_threads::{ClientPlan, ClientResult, Gate};
 use hub_lane::Lane;
 use hub_lane::laws::a_record_tells_its_lane;
 use ipb_base::NoMemory;
 use lane_history::building::a_record_is_partly_planned_on_its_way;
 use script_steps::Steps;
-use session_plans::{BoardPlans, client_parts, client_plans};
 use std::alloc::Global;
 use std::marker::{Send, Sync};
 use std::sync::Wait;

@@ -12,7 +12,7 @@ ghost use Rattle.transcript.specs.declared.greeting.Greeting.TheVariants.{Live};
 ghost use Rattle.transcript.specs.Plan.{plans_on};
 ghost use Rattle.lane_record.specs.Dispatches.{all_plans_from, plans_from};
 ghost use Rattle.lane_history.specs.Records.{IsPartlyPlanned};
-ghost use Rattle.session_plans.specs.Plans.{HasFewBodies};
+ghost use Rattle.session_run.specs.Plans.{HasFewBodies};
 ghost use Rattle.session_run.specs.Clients.{KeepsLane, PlannedSome, bodies_of, with_items};
 ghost use Rattle.session_run.specs.Room.{HasRoomFor};
 

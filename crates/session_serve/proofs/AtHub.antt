@@ -28,8 +28,8 @@ use Rattle.hub_multiplexer.specs.Seats.{MasterState, SeatState}
 use Rattle.client_threads.specs.Clients.{TookIn}
 use Rattle.client_threads.specs.Jobs.{made_more}
 use Rattle.client_threads.specs.Running.{AtEach}
-use Rattle.direct_run.proofs.Asking.{all_at}
-use Rattle.hub_history.specs.Lanes.{came_with}
+use Rattle.board_history.proofs.Lists.{all_at}
+use Rattle.client_history.specs.Clients.{came_with}
 use Rattle.hub_session.specs.declared.got.Got.{Got}
 use Rattle.hub_session.specs.declared.got.Got.TheVariants.{NotAsked, Refused, Came}
 use Rattle.hub_session.specs.declared.served.Served.{Served}
@@ -40,8 +40,8 @@ use Rattle.hub_session.specs.Exchanges.{Exchange, LaneRequest, request_of, submi
 use Rattle.hub_framing.specs.Frames.{RequestFrame}
 use Rattle.hub_session.specs.Serving.{IsUnused, Reached, Looked, PlannedOnly, AskedToo, Exchanged, IsPartAt, Unanswered}
 use Rattle.hub_session.specs.Serving.{actions_for, actions_left}
-use Rattle.served_history.specs.Connections.{AllSubmitted, SubmittedAll}
-use Rattle.served_history.specs.Planned.{KeepLimits}
+use Rattle.client_history.specs.Connections.{AllSubmitted, SubmittedAll}
+use Rattle.client_history.specs.Planned.{KeepLimits}
 use Rattle.board_greeting.specs.Boards.{HasNoEntry, head_shown}
 use Rattle.session_serve.specs.Connections.{Conversation, HaveExchanged, and_then, exchanges_of, left_unanswered}
 use Rattle.session_serve.specs.Hubs.{AllBack, AreServedAt, HasServedAll, KeepsHead, served_of, pairs_of, seats_of}

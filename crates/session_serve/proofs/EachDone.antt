@@ -6,7 +6,7 @@ use Rattle.std.specs.Prelude.{IfOk, OnOk, Result, Ok, Err}
 use Rattle.std.specs.Vec.Iter.{into_iter_items}
 use Rattle.turn_pass.specs.Pass.{Knowledge, TurnId}
 use Rattle.ipb_base.proofs.AllLemmas.{front_of_all, back_of_all}
-use Rattle.direct_run.proofs.Asking.{all_at}
+use Rattle.board_history.proofs.Lists.{all_at}
 use Rattle.hub_lane.specs.declared.answers.BoardState.{BoardState}
 use Rattle.hub_multiplexer.specs.Ends.{HasTakenIn}
 use Rattle.hub_multiplexer.specs.Seats.{MasterState, SeatState}

@@ -31,15 +31,15 @@ use Rattle.transcript.specs.declared.greeting.Greeting.TheVariants as greeting
 use Rattle.transcript.specs.declared.line.BoardLine.{BoardLine}
 use Rattle.transcript.specs.declared.line.BoardLine.TheVariants as line
 use Rattle.transcript.specs.Lines.{board_line}
-use Rattle.direct_run.specs.Runs.{opening_of}
+use Rattle.board_history.specs.Runs.{opening_of}
 use Rattle.lane_history.specs.Links.{IsBoardOf, IsUntouched, LinkReport}
 use Rattle.lane_history.specs.Lanes.{IsSoundLane}
 use Rattle.lane_history.specs.Records.{IsRecordOf}
 use Rattle.lane_history.specs.Runs.{TellsPayload}
-use Rattle.hub_history.specs.Lanes.{came_with}
-use Rattle.served_history.specs.Boards.{AreServedOver, IsServedOver, ServedBoard, run_of}
-use Rattle.served_history.specs.Connections.{WereServedOn, bodies_of, dispatches_of}
-use Rattle.served_history.specs.Planned.{KeepLimits}
+use Rattle.client_history.specs.Clients.{came_with}
+use Rattle.client_history.specs.Boards.{AreServedOver, IsServedOver, ServedBoard, run_of}
+use Rattle.client_history.specs.Connections.{WereServedOn, bodies_of, dispatches_of}
+use Rattle.client_history.specs.Planned.{KeepLimits}
 use Rattle.board_greeting.specs.Boards.{AreReached, AreUntouched, HasMemory, IsEndedLane, IsLaneTo}
 use Rattle.board_greeting.specs.Boards.{head_shown, shown_by}
 use Rattle.board_greeting.specs.Places.{lanes_in, place_of, rejoined}

@@ -29,7 +29,7 @@ use Rattle.hub_multiplexer.specs.Ends.{Ends}
 use Rattle.hub_multiplexer.specs.OwnItems.{planned_by}
 use Rattle.hub_multiplexer.specs.Seats.{SeatState}
 use Rattle.hub_framing.specs.Frames.{RequestFrame}
-use Rattle.hub_history.specs.Lanes.{came_with}
+use Rattle.client_history.specs.Clients.{came_with}
 use Rattle.hub_session.specs.declared.got.Got.{Got}
 use Rattle.hub_session.specs.declared.got.Got.TheVariants.{NotAsked, Refused, Came}
 use Rattle.hub_session.specs.declared.served.Served.{Served}
@@ -37,8 +37,8 @@ use Rattle.hub_session.specs.Decisions.{AreFramesDecidedIn, IsDecidedBehind, IsF
 use Rattle.hub_session.specs.Decisions.{plan_behind}
 use Rattle.hub_session.specs.Exchanges.{Exchange, LaneRequest, request_of, submission_in, submissions_on}
 use Rattle.hub_session.specs.Serving.{Exchanged, IsServed}
-use Rattle.served_history.specs.Connections.{WereServedOn}
-use Rattle.served_history.specs.Planned.{HaveFilledLane, IsAmongSubmitted, KeepLimits, WasPlannedLast, WerePlannedLast}
+use Rattle.client_history.specs.Connections.{WereServedOn}
+use Rattle.client_history.specs.Planned.{HaveFilledLane, IsAmongSubmitted, KeepLimits, WasPlannedLast, WerePlannedLast}
 use Rattle.session_serve.specs.Connections.{Conversation, exchanges_of}
 use Rattle.session_serve.specs.Hubs.{submitted_on}
 use Rattle.session_serve.specs.Refusals.{AreFilledBefore, AreFramesByRules, IsDecidedByRules, IsFrameByRules}

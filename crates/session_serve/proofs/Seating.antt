@@ -7,7 +7,7 @@ use Rattle.turn_pass.specs.Pass.{Joined, Knowledge, TurnId, kept_of, newcomer, o
 use Rattle.hub_multiplexer.specs.Ends.{HasTakenIn}
 use Rattle.hub_multiplexer.specs.Seats.{MasterState, SeatState, knows_after_join}
 use Rattle.client_threads.specs.Jobs.{made_more}
-use Rattle.direct_run.proofs.Asking.{all_at}
+use Rattle.board_history.proofs.Lists.{all_at}
 use Rattle.hub_session.specs.Serving.{IsUnused}
 use Rattle.session_serve.specs.Seats.{AreOfClientsFrom, ArePassesOn, AreTakenIn, IsBack, IsFresh, IsOpen, TookSeats}
 use Rattle.session_serve.specs.Seats.{with_seats}

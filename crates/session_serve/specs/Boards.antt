@@ -9,7 +9,7 @@ use Rattle.transcript.specs.declared.greeting.Greeting.TheVariants.{Live, Silent
 use Rattle.transcript.specs.declared.line.BoardLine.{BoardLine}
 use Rattle.transcript.specs.Lines.{board_line}
 use Rattle.lane_history.specs.Links.{LinkReport, IsBoardOf}
-use Rattle.served_history.specs.Boards.{ServedBoard, run_of}
+use Rattle.client_history.specs.Boards.{ServedBoard, run_of}
 
 -- How boards stand by what their greetings came to: the lanes of the live ones are numbered in order, the first of them
 -- with this number.

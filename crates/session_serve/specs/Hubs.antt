@@ -11,13 +11,13 @@ use Rattle.hub_lane.specs.declared.answers.BoardState.{BoardState}
 use Rattle.hub_multiplexer.specs.Ends.{Ends}
 use Rattle.hub_multiplexer.specs.Lanes.{shown}
 use Rattle.hub_multiplexer.specs.Seats.{MasterState, SeatState}
-use Rattle.hub_history.specs.Lanes.{came_with}
+use Rattle.client_history.specs.Clients.{came_with}
 use Rattle.board_greeting.specs.Boards.{head_shown}
 use Rattle.client_threads.specs.Running.{AtEach}
 use Rattle.hub_session.specs.declared.served.Served.{Served}
 use Rattle.hub_session.specs.Exchanges.{submissions_on}
-use Rattle.served_history.specs.Connections.{WereServedOn}
-use Rattle.served_history.specs.Planned.{KeepLimits}
+use Rattle.client_history.specs.Connections.{WereServedOn}
+use Rattle.client_history.specs.Planned.{KeepLimits}
 use Rattle.session_serve.specs.Connections.{Conversation, HaveExchanged, exchanges_of}
 use Rattle.session_serve.specs.Pairs.{Came, PairReport, Went}
 use Rattle.session_serve.specs.Refusals.{AreFilledBefore, AreFramesByRules}

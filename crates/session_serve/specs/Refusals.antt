@@ -9,7 +9,7 @@ use Rattle.hub_lane.specs.declared.answers.BoardState.{BoardState}
 use Rattle.hub_session.specs.declared.got.Got.{Got}
 use Rattle.hub_session.specs.declared.got.Got.TheVariants.{NotAsked, Refused, Came}
 use Rattle.hub_session.specs.Exchanges.{Exchange, request_of, submissions_on}
-use Rattle.served_history.specs.Planned.{HaveFilledLane}
+use Rattle.client_history.specs.Planned.{HaveFilledLane}
 use Rattle.session_serve.specs.Connections.{Conversation, exchanges_of}
 
 -- What the hub came to for a body for the lane of a board with this payload, in words. `connections` are all bodies

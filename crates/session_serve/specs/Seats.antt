@@ -5,7 +5,7 @@ use Rattle.std.specs.List.{AllByRecursion, slice_get}
 use Rattle.std.specs.Vec.Iter.{into_iter_items}
 use Rattle.turn_pass.specs.Pass.{Joined, Knowledge, TurnId, kept_of}
 use Rattle.lane_record.specs.Coding.{Head}
-use Rattle.hub_history.specs.Lanes.{came_with}
+use Rattle.client_history.specs.Clients.{came_with}
 use Rattle.hub_multiplexer.specs.Seats.{MasterState, SeatState}
 use Rattle.client_threads.specs.Jobs.{made_more}
 use Rattle.client_threads.specs.Running.{AtEach}

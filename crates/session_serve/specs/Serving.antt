@@ -8,8 +8,8 @@ use Rattle.lane_history.specs.Links.{LinkReport}
 use Rattle.hub_lane.specs.declared.answers.BoardState.{BoardState}
 use Rattle.hub_session.specs.declared.served.Served.{Served}
 use Rattle.hub_session.specs.declared.served.SessionEnd.TheVariants as ends
-use Rattle.served_history.specs.Boards.{AreServedOver, ServedBoard}
-use Rattle.served_history.specs.Planned.{KeepLimits}
+use Rattle.client_history.specs.Boards.{AreServedOver, ServedBoard}
+use Rattle.client_history.specs.Planned.{KeepLimits}
 use Rattle.session_serve.specs.Boards.{IsLiveAt, lines_of, states_from, states_of}
 use Rattle.session_serve.specs.Connections.{Conversation, HaveExchanged, WereServed, submissions_to}
 use Rattle.session_serve.specs.Pairs.{PairReport}

@@ -22,7 +22,11 @@ use crate::room::{Room, room_for};
 use crate::seats::{join_all, seat_all};
 use crate::serving::{Ended, serve_all};
 use crate::states::BoardStates;
-use hub_history::lanes::a_lane_comes_back_with_its_record;
+use client_history::clients::a_lane_comes_back_with_its_record;
+use client_history::connections::{
+    a_connection_plans_its_first_bodies_first, connections_of_a_hub_keep_the_limits,
+    connections_of_a_hub_plan_what_they_submit,
+};
 use hub_lane::Lane;
 use hub_lane::laws::a_record_tells_its_lane;
 use hub_multiplexer::{Hub, Master};
@@ -30,10 +34,6 @@ use hub_session::laws::each_body_was_decided_on_a_record_that_the_seat_saw;
 use hub_session::{Served, SessionEnd};
 use ipb_base::NoMemory;
 use ipb_outside::Door;
-use served_history::lanes::{
-    a_connection_plans_its_first_bodies_first, connections_of_a_hub_keep_the_limits,
-    connections_of_a_hub_plan_what_they_submit,
-};
 use std::alloc::Global;
 use std::marker::{Send, Sync};
 use std::sync::Wait;

@@ -17,14 +17,14 @@ use crate::prepared::{Prepared, prepare};
 use crate::report::{ServeFault, ServeReport};
 use board_greeting::{Rejoined, Split, greet_boards, keep_all, split_boards};
 use board_node::BoardSpec;
+use client_history::connections::{
+    a_finished_lane_tells_the_numbers_of_its_line, a_finished_lane_was_served,
+    connections_of_a_hub_leave_what_they_submitted,
+};
 use hub_lane::Greeted;
 use ipb_outside::Door;
 use lossy_network::Rack;
 use reliable_engine::Settings;
-use served_history::lanes::{
-    a_finished_lane_tells_the_numbers_of_its_line, a_finished_lane_was_served,
-    connections_of_a_hub_leave_what_they_submitted,
-};
 use std::alloc::Global;
 use std::marker::Sync;
 use std::sync::Wait;

@@ -3,7 +3,7 @@ use Rattle.world_model.specs.Board.{Board, executed}
 use Rattle.lane_record.specs.Claims.{claims}
 use Rattle.transcript.specs.Plan.{ClientBodies, plans_on}
 use Rattle.transcript.specs.declared.greeting.Greeting.TheVariants.{Live}
-use Rattle.direct_run.specs.Runs.{opening_of}
+use Rattle.board_history.specs.Runs.{opening_of}
 use Rattle.lane_history.specs.Lanes.{IsTrueOf}
 use Rattle.lane_history.specs.Runs.{ExecutedSome}
 use Rattle.lane_history.proofs.Merges.{merge_at}

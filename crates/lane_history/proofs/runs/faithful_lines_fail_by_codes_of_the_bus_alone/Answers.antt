@@ -1,8 +1,8 @@
 use Rattle.std.proofs.Common.{◌≡◌, ℕ, ◌+◌, subst, arith}
-use Rattle.direct_run.proofs.BusResults.{pieces_fit}
-use Rattle.direct_run.proofs.BusLines.{CanShow, session_allowed}
-use Rattle.direct_run.proofs.Readiness.{all_verbs_kept, are_ready}
-use Rattle.direct_run.specs.Lines.{IsBusResult}
+use Rattle.board_history.proofs.BusResults.{pieces_fit}
+use Rattle.board_history.proofs.BusLines.{CanShow, session_allowed}
+use Rattle.board_history.proofs.Readiness.{all_verbs_kept, are_ready}
+use Rattle.board_history.specs.Lines.{IsBusResult}
 use Rattle.lane_history.proofs.Lines.{all_here, shows_at, whole_allowed}
 use Rattle.lane_history.proofs.Shown.{whole_runs}
 use Rattle.lane_history.proofs.runs.faithful_lines_fail_by_codes_of_the_bus_alone.Goals as goal

@@ -1,5 +1,5 @@
-use Rattle.direct_run.proofs.BusLines.{session_holds}
-use Rattle.direct_run.proofs.Readiness.{all_verbs_kept}
+use Rattle.board_history.proofs.BusLines.{session_holds}
+use Rattle.board_history.proofs.Readiness.{all_verbs_kept}
 use Rattle.transcript.specs.Lines.{count_on}
 use Rattle.lane_history.specs.Runs.{IsLineOfRounds}
 use Rattle.lane_history.proofs.Rounds.{rounds_at}

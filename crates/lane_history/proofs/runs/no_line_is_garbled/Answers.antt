@@ -1,7 +1,7 @@
 use Rattle.std.proofs.Common.{◌≡◌, ℕ, ◌+◌, subst, arith}
-use Rattle.direct_run.proofs.BusResults.{pieces_fit}
-use Rattle.direct_run.proofs.BusLines.{CanShow, session_holds, showing_allowed}
-use Rattle.direct_run.proofs.Readiness.{all_verbs_kept}
+use Rattle.board_history.proofs.BusResults.{pieces_fit}
+use Rattle.board_history.proofs.BusLines.{CanShow, session_holds, showing_allowed}
+use Rattle.board_history.proofs.Readiness.{all_verbs_kept}
 use Rattle.transcript.specs.Lines.{line_of}
 use Rattle.lane_history.specs.Runs.{IsUngarbledLine, IsUngarbledWhereTold}
 use Rattle.lane_history.proofs.Lines.{IsNotGarbled, bus_is_ungarbled, told_shows_at, ungarbled_allowed}

@@ -3,7 +3,7 @@ use Rattle.board_greeting.specs.Boards.{shown_by}
 use Rattle.board_node.specs.declared.spec.BoardSpec.{BoardSpec}
 use Rattle.world_model.specs.Settings.{Limits}
 use Rattle.script_steps.specs.declared.operation.Step.{Step}
-use Rattle.load_session.specs.Generated.{boards, settings, steps}
+use Rattle.load_run.specs.Generated.{boards, settings, steps}
 use Rattle.load_run.specs.Loading.{IsGenerated, IsLoadOf}
 use Rattle.load_run.proofs.Loads.{no_load, reached_of, rightly_left}
 use Rattle.load_run.proofs.run.run_load.Goals as goal

@@ -7,7 +7,7 @@ use Rattle.hub_multiplexer.specs.Lanes.{shown}
 use Rattle.client_threads.specs.Clients.{AreOfClientsFrom, AreResultsFor, AwaitClients, HaveRun, IsPlanFor}
 use Rattle.client_threads.specs.declared.result.ClientResult.{ClientResult}
 use Rattle.session_run.specs.Hubs.{RanAtHub}
-use Rattle.session_plans.specs.Parts.{HasLanes}
+use Rattle.session_run.specs.Parts.{HasLanes}
 use Rattle.session_run.proofs.HubRuns.{all_await, each_awaits, results_lanes, results_long}
 use Rattle.session_run.proofs.hub.run_at_hub.Goals as goal
 

@@ -1,7 +1,7 @@
 use Rattle.std.proofs.Common.{◌∙◌, ℕ, List, ap, arith, length, subst, sym}
 use Rattle.std.specs.List.{AllByRecursion}
 use Rattle.client_threads.specs.Clients.{IsPlanFor}
-use Rattle.session_plans.specs.Plans.{ArePlansOnBoard, HasFewBodies}
+use Rattle.session_run.specs.Plans.{ArePlansOnBoard, HasFewBodies}
 use Rattle.session_run.specs.Lanes.{IsPlannedOn}
 use Rattle.transcript.specs.Plan.{ClientBodies}
 use Rattle.session_run.proofs.PlanningLanes.{boards_few, boards_planned}

@@ -4,7 +4,7 @@ use Rattle.std.specs.Prelude.{IfOk}
 use Rattle.std.proofs.lemmas.Result.{IfOk-weaker}
 use Rattle.client_threads.specs.Clients.{OnLanesFrom}
 use Rattle.client_threads.specs.declared.plan.ClientPlan.{ClientPlan}
-use Rattle.session_plans.specs.Parts.{HasClients, HasLanes, parts_from}
+use Rattle.session_run.specs.Parts.{HasClients, HasLanes, parts_from}
 use Rattle.session_run.specs.Hubs.{CameBack, HoldsAll, RanAtHub}
 use Rattle.session_run.specs.Lanes.{AllFour, AllThree, HasGoneOn, IsPlannedOn, IsRunOn}
 use Rattle.session_run.proofs.HubRuns.{hold_all, lanes_gone, parts_ran}

@@ -1,7 +1,7 @@
 use Rattle.std.proofs.Common.{ℕ, List, ◌∙◌, ◌≤◌, ap, subst, sym, rules, ◌+◌}
 use Rattle.std.specs.List.{AllByRecursion}
 use Rattle.std.proofs.lemmas.List.{take_all}
-use Rattle.session_plans.specs.Plans.{HasFewBodies}
+use Rattle.session_run.specs.Plans.{HasFewBodies}
 use Rattle.session_run.proofs.FewBodies.{few_planned}
 use Rattle.lane_record.specs.Items.{is_sealed}
 use Rattle.transcript.specs.declared.greeting.Greeting.TheVariants.{Live}

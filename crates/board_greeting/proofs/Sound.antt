@@ -1,0 +1,144 @@
+-- What a lane keeps, in the words of the history of its board.
+use Rattle.std.proofs.Common.{◌≡◌, ℕ, ◌+◌, ◌*◌, ◌≤◌, Bool, true, cond, List, [], ◌++◌, map}
+use Rattle.std.proofs.Common.{◌∷◌, Option, Some, None, refl, sym, ap, ◌∙◌, subst, arith, ◌||◌, append_assoc}
+use Rattle.std.specs.Prelude.{IfSome}
+use Rattle.std.specs.List.{count_by, slice_get}
+use Rattle.std.proofs.Math.Nat.{mul-le-mul_left, mul_comm}
+use Rattle.std.proofs.lemmas.List.{map-append}
+use Rattle.ipb_base.specs.Lists.{IsPrefix}
+use Rattle.board_bus.specs.Cells.{CellMap}
+use Rattle.board_bus.specs.Bodies.{replay}
+use Rattle.world_model.specs.declared.offered.Offered.{Offered}
+use Rattle.world_model.specs.Board.{Board, executed}
+use Rattle.world_model.specs.Facts.{bodies_of, offered_body}
+use Rattle.world_model.specs.Hub.{Hub}
+use Rattle.world_model.specs.Settings.{Limits}
+use Rattle.world_core.specs.Telling.{Telling}
+use Rattle.lane_record.specs.declared.outcome.Outcome.{Outcome}
+use Rattle.lane_record.specs.declared.outcome.Outcome.TheVariants.{Replied, TimedOut, Unsent, LinkLost}
+use Rattle.lane_record.specs.declared.item.Item.{Item}
+use Rattle.lane_record.specs.Claims.{Claim, claims}
+use Rattle.lane_record.specs.Bounds.{AreLostOnlyIf, HasReached, HasWaited, IsKept}
+use Rattle.lane_record.specs.Offers.{offers_from}
+use Rattle.lane_record.specs.Outcomes.{is_replied}
+use Rattle.hub_lane.specs.Calls as lane
+use Rattle.hub_lane.specs.Heard.{HasHeard}
+use Rattle.hub_lane.specs.Lanes.{BoardStatus, IsLane}
+use Rattle.hub_lane.specs.Standing.{IsStanding}
+use Rattle.hub_lane.specs.Truth.{AreRightReplies, IsTrueTo}
+use Rattle.board_history.specs.Parts.{IsReplyOf}
+use Rattle.lane_history.specs.Records.{has_become}
+use Rattle.lane_history.proofs.Waits.{count_cons}
+use Rattle.lane_history.specs.Lanes.{IsSoundLane, IsTrueOf, bodies_offered}
+use Rattle.board_greeting.specs.Reports.{OpenedWith, board_there, report_of}
+
+abbrev pub TrueLaw : Type 0
+TrueLaw = (stopped : Bool) (limits : Limits) (hub : Hub) (outcomes : List (Option Outcome)) (t : Telling)
+    → IsStanding stopped limits hub outcomes t → IsTrueTo t (bodies_of hub.sent) outcomes
+
+-- ---- a window that is no wider
+
+few_more : (n less more g : ℕ) → less ≤ more → n ≤ less * g → n ≤ more * g
+few_more n less more g le few =
+    let grows = mul-le-mul_left g le in
+    let left = mul_comm less g in
+    let right = mul_comm more g in
+    omega (arith, few, grows, left, right)
+
+waited_all : (rounds g requests quiets : ℕ) → HasWaited rounds g requests quiets → HasReached ((rounds + 1) * g) quiets
+waited_all rounds g requests quiets is = omega (arith, is)
+
+wider : (items : List Item) (outcomes : List (Option Outcome)) (less more g : ℕ) → less ≤ more
+    → IsKept items outcomes less g → IsKept items outcomes more g
+wider items outcomes less more g le is = record {
+  legal = is.legal;
+  within = is.within;
+  given_up_before = is.given_up_before;
+  few = few_more _ less more g le is.few;
+}
+
+-- ---- what is true over a link that tells
+
+front_longer : (done sent all : List (List ℕ)) → IsPrefix done sent → IsPrefix sent all → IsPrefix done all
+front_longer done sent all one two =
+    (one.0 ++ two.0, two.1 ∙ (ap (λ (xs : List (List ℕ)). xs ++ two.0) one.1 ∙ append_assoc done one.0 two.0))
+
+sent_offered : (sent queue : List Offered) (cs : List Claim) (outcomes : List (Option Outcome))
+    → sent ++ queue ≡ offers_from 0 cs outcomes → IsPrefix (bodies_of sent) (bodies_offered cs outcomes)
+sent_offered sent queue cs outcomes same =
+    (bodies_of queue, sym (ap (map offered_body) same) ∙ map-append offered_body sent queue)
+
+reply_is : (opening : CellMap) (t : Telling) (outcomes : List (Option Outcome)) (k : ℕ) (outcome : Outcome)
+    → OpenedWith opening t → AreRightReplies t outcomes → slice_get outcomes k ≡ Some (Some outcome)
+    → IsReplyOf (replay opening (executed t.told.board)).replies outcome
+reply_is opening t outcomes k (Replied place words) opened right there =
+    subst (λ (o : CellMap). IsReplyOf (replay o (executed t.told.board)).replies (Replied place words)) opened
+    (right.right k place words there)
+reply_is opening t outcomes k (TimedOut place rounds) opened right there = tt
+reply_is opening t outcomes k Unsent opened right there = tt
+reply_is opening t outcomes k (LinkLost place) opened right there = tt
+
+true_of : TrueLaw → (stopped : Bool) (limits : Limits) (hub : Hub) (queue : List Offered) (cs : List Claim)
+    (outcomes : List (Option Outcome)) (opening : CellMap) (t : Telling) → OpenedWith opening t
+    → hub.sent ++ queue ≡ offers_from 0 cs outcomes → IsStanding stopped limits hub outcomes t
+    → IsTrueOf opening cs outcomes (executed t.told.board)
+true_of law stopped limits hub queue cs outcomes opening t opened same standing =
+    let truth = law stopped limits hub outcomes t standing in
+    record {
+      front = front_longer (executed t.told.board) (bodies_of hub.sent) (bodies_offered cs outcomes) truth.in_order
+          (sent_offered hub.sent queue cs outcomes same);
+      replies = λ k outcome there. reply_is opening t outcomes k outcome opened truth.replied there;
+    }
+
+-- what holds where a link tells is said of the board that it shows
+shown : (P Q : Telling → Type 0) (R : Board → Type 0) (telling : Option Telling) → IfSome telling P → IfSome telling Q
+    → ((t : Telling) → P t → Q t → R t.told.board) → IfSome (board_there telling) R
+shown P Q R None p q leads = tt
+shown P Q R (Some t) p q leads = leads t p q
+
+lost_if : (P Q : Type 0) (outcomes : List (Option Outcome)) → (P → Q) → AreLostOnlyIf P outcomes
+    → AreLostOnlyIf Q outcomes
+lost_if P Q outcomes leads are = λ k outcome there lost. leads (are k outcome there lost)
+
+-- ---- replies
+
+reply_counted : (o : Option Outcome) → has_become is_replied o ≡ lane.is_replied o
+reply_counted None = refl
+reply_counted (Some (Replied place words)) = refl
+reply_counted (Some (TimedOut place rounds)) = refl
+reply_counted (Some Unsent) = refl
+reply_counted (Some (LinkLost place)) = refl
+
+replies_counted : (os : List (Option Outcome)) → count_by (has_become is_replied) os ≡ count_by lane.is_replied os
+replies_counted [] = refl
+replies_counted (o ∷ os) = count_cons (has_become is_replied) o os
+    ∙ ap (λ (b : Bool). cond b 1 0 + count_by (has_become is_replied) os) (reply_counted o)
+    ∙ ap (λ (n : ℕ). cond (lane.is_replied o) 1 0 + n) (replies_counted os) ∙ sym (count_cons lane.is_replied o os)
+
+-- ---- a lane
+
+pub sound_lane : TrueLaw → (settings : Limits) (status : BoardStatus) (hub : Hub) (items : List Item)
+    (outcomes : List (Option Outcome)) (give_ups : ℕ) (down spent : Bool) (telling : Option Telling)
+    (faults quiets gots held : ℕ) (opening : CellMap)
+    → IsLane settings status hub items outcomes give_ups down spent telling faults quiets
+    → IfSome telling (λ _. HasReached (settings.rounds * give_ups) held) → HasHeard outcomes gots
+    → IfSome telling (OpenedWith opening)
+    → IsSoundLane settings opening (report_of faults quiets gots held telling) items outcomes give_ups
+sound_lane law settings status hub items outcomes give_ups down spent telling faults quiets gots held opening is paid
+    heard opened = record {
+      kept = wider items outcomes hub.window settings.window give_ups (let w = is.knows.window in omega (arith, w))
+          is.kept;
+      waited = waited_all settings.rounds give_ups hub.status_requests quiets
+          (subst (λ (r : ℕ). HasWaited r give_ups hub.status_requests quiets) is.knows.rounds is.waited);
+      heard = subst (λ (n : ℕ). HasReached (n + 1) gots)
+          (sym (replies_counted outcomes)) heard;
+      lost = lost_if (down ≡ true) (1 ≤ faults) outcomes is.fault is.lost;
+      tells = is.tells;
+      told = shown (IsStanding (down || spent) settings hub outcomes) (OpenedWith opening)
+          (λ (board : Board). IsTrueOf opening (claims items) outcomes (executed board)) telling is.standing opened
+          (λ t standing opens. true_of law (down || spent) settings hub (cond down [] hub.queue) (claims items) outcomes
+          opening t opens is.agrees.offered standing);
+      held = shown (λ _. HasReached (settings.rounds * give_ups) held) (OpenedWith opening)
+          (λ (board : Board). HasReached (settings.rounds * give_ups) held) telling paid opened (λ t is_paid opens.
+          is_paid);
+    }

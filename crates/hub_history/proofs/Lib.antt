@@ -1,4 +1,0 @@
-pub mod Handed
-mod Did
-mod Partly
-mod Awaits

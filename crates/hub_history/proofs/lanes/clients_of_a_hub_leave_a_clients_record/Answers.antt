@@ -1,5 +1,0 @@
-use Rattle.hub_history.proofs.Did.{left_by_clients}
-use Rattle.hub_history.proofs.lanes.clients_of_a_hub_leave_a_clients_record.Goals as goal
-
-pub returns : goal.returns
-returns c = left_by_clients

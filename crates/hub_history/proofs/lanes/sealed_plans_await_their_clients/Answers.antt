@@ -1,5 +1,0 @@
-use Rattle.hub_history.proofs.Awaits.{await_clients}
-use Rattle.hub_history.proofs.lanes.sealed_plans_await_their_clients.Goals as goal
-
-pub returns : goal.returns
-returns c = await_clients

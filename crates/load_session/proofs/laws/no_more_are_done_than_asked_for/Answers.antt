@@ -1,5 +1,0 @@
-use Rattle.load_session.proofs.Runs.{few-done}
-use Rattle.load_session.proofs.laws.no_more_are_done_than_asked_for.Goals as goal
-
-pub returns : goal.returns
-returns c = few-done c.the_first_sends_are_the_order.ensures

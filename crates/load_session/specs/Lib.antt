@@ -1,5 +1,0 @@
-pub mod Generated
-pub mod Summary
-pub mod Claims
-pub mod Examples
-pub mod ScriptLines

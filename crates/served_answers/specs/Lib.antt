@@ -1,4 +1,0 @@
-pub mod Answers
-pub mod Frames
-pub mod Ruled
-pub mod Examples

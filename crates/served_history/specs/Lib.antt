@@ -1,5 +1,0 @@
-pub mod Connections
-pub mod Planned
-pub mod Boards
-pub mod Shown
-pub mod Examples

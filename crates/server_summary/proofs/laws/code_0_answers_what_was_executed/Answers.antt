@@ -1,0 +1,27 @@
+use Rattle.std.proofs.Common.{subst, refl}
+use Rattle.world_model.specs.Board.{Board, executed}
+use Rattle.board_history.specs.Runs.{opening_of}
+use Rattle.lane_history.proofs.Shown.{some_then}
+use Rattle.session_serve.specs.Boards.{states_of}
+use Rattle.client_history.specs.Shown.{IsRightlyReplied, OfEach}
+use Rattle.hub_session.specs.Codes.{replied_code}
+use Rattle.server_summary.specs.Frames.{IsAnsweredRightly, OfEachWithCode}
+use Rattle.server_summary.proofs.Asked.{all_asked}
+use Rattle.server_summary.proofs.EachBoard.{all_rightly, board_at, stands_as, submitted}
+use Rattle.server_summary.proofs.laws.code_0_answers_what_was_executed.Goals as goal
+
+pub returns : goal.returns
+returns c = λ settings specs links came back connections lines is position spec link at there.
+    let one = board_at settings specs is.boards links position spec link is.over_links at there in
+    let states = states_of is.boards in
+    let state = stands_as is.boards position one.served one.served.told one.there refl in
+    let asked = all_asked states 1 is.conversations came back connections is.exchanged in
+    some_then
+    (λ (board : Board). OfEach (IsRightlyReplied (opening_of spec.link) (executed board)) one.served.connections)
+    (λ (board : Board). OfEachWithCode replied_code position states
+    (IsAnsweredRightly (opening_of spec.link) (executed board) states position) is.conversations) link.board
+    (λ board right. all_rightly is.boards position (opening_of spec.link) (executed board) state.0 state.1
+    is.conversations asked
+    (subst (OfEach (IsRightlyReplied (opening_of spec.link) (executed board)))
+    (submitted is.boards is.conversations is.asked position state.0 one.served one.there state.1) right))
+    (c.a_board_that_tells_executed_what_was_replied.ensures.replied settings spec one.served link one.over)

@@ -1,8 +1,0 @@
-use Rattle.std.proofs.Common.{◌≡◌, take}
-use Rattle.session_plans.specs.Plans.{plans_over}
-use Rattle.session_plans.proofs.Plans.{dispatch_counts}
-use Rattle.session_plans.proofs.asking.client_plans.Given as goal
-
--- the clients so far
-abbrev pub invariant-loop-client : goal.invariant-loop-client
-invariant-loop-client l = l.plans.items ≡ plans_over l.boards 0 (dispatch_counts (take l.client l.scripts))

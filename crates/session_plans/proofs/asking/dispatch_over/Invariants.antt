@@ -1,7 +1,0 @@
-use Rattle.std.proofs.Common.{◌≡◌, map, take}
-use Rattle.session_plans.specs.Plans.{count_at, pairs_from}
-use Rattle.session_plans.proofs.asking.dispatch_over.Given as goal
-
--- the lanes so far
-abbrev pub invariant-loop-lane : goal.invariant-loop-lane
-invariant-loop-lane l = l.asks.items ≡ pairs_from 0 (map (count_at l.client l.dispatch) (take l.lane l.boards))

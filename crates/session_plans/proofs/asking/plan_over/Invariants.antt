@@ -1,8 +1,0 @@
-use Rattle.std.proofs.Common.{◌≡◌, map}
-use Rattle.std.specs.List.{range_with_len}
-use Rattle.session_plans.specs.Plans.{dispatch_over}
-use Rattle.session_plans.proofs.asking.plan_over.Given as goal
-
--- the dispatches so far
-abbrev pub invariant-loop-dispatch : goal.invariant-loop-dispatch
-invariant-loop-dispatch l = l.all.items ≡ map (dispatch_over l.boards l.client) (range_with_len 0 l.dispatch)

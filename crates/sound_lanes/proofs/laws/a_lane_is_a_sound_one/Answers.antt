@@ -1,5 +1,0 @@
-use Rattle.sound_lanes.proofs.Sound.{sound_lane}
-use Rattle.sound_lanes.proofs.laws.a_lane_is_a_sound_one.Goals as goal
-
-pub returns : goal.returns
-returns c = sound_lane c.a_lane_over_a_link_that_tells_is_true.ensures
