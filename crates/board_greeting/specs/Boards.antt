@@ -9,8 +9,8 @@ use Rattle.hub_lane.specs.Records.{head_of}
 use Rattle.hub_lane.specs.declared.greeting.Greeted.{Greeted}
 use Rattle.hub_lane.specs.declared.greeting.Greeted.TheVariants.{Ready, Silent, Down, NoMemory}
 use Rattle.hub_lane.specs.Greeting.{link_of}
-use Rattle.transcript.specs.declared.greeting.Greeting.{Greeting}
-use Rattle.transcript.specs.declared.greeting.Greeting.TheVariants as greeting
+use Rattle.script_plans.specs.declared.greeting.Greeting.{Greeting}
+use Rattle.script_plans.specs.declared.greeting.Greeting.TheVariants as greeting
 use Rattle.board_bus.specs.Cells.{CellMap}
 use Rattle.board_bus.specs.Ranges.{opening_bus}
 use Rattle.board_node.specs.declared.spec.LinkSpec.{LinkSpec}

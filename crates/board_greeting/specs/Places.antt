@@ -9,8 +9,8 @@ use Rattle.board_node.specs.declared.spec.BoardSpec.{BoardSpec}
 use Rattle.hub_lane.specs.Lanes.{LaneState}
 use Rattle.hub_lane.specs.declared.greeting.Greeted.{Greeted}
 use Rattle.hub_lane.specs.declared.greeting.Greeted.TheVariants.{Ready, Silent, Down, NoMemory}
-use Rattle.transcript.specs.declared.greeting.Greeting.{Greeting}
-use Rattle.transcript.specs.declared.greeting.Greeting.TheVariants as greeting
+use Rattle.script_plans.specs.declared.greeting.Greeting.{Greeting}
+use Rattle.script_plans.specs.declared.greeting.Greeting.TheVariants as greeting
 use Rattle.lane_history.specs.Links.{IsBoardOf, IsUntouched, LinkReport}
 use Rattle.lane_history.specs.Runs.{IsDownRun, IsSilentRun}
 use Rattle.board_greeting.specs.Boards.{AreReached, HasMemory}

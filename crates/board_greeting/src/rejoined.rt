@@ -5,9 +5,9 @@ ghost use Rattle.board_greeting.specs.Places as spec;
 
 use crate::split::Place;
 use hub_lane::Lane;
+use script_plans::Greeting;
 use std::marker::Model;
 use std::vec::IntoIter;
-use transcript::Greeting;
 use world_core::Link;
 
 /// A board after its clients ran, or were held up.

@@ -7,8 +7,8 @@ ghost use Rattle.board_greeting.specs.Boards.{HasMemory};
 ghost use Rattle.board_greeting.specs.Places.{HasRoomForBoards, IsApart, lane_in, place_of, position_in};
 
 use hub_lane::{Greeted, Lane};
+use script_plans::Greeting;
 use std::alloc::Global;
-use transcript::Greeting;
 use world_core::Link;
 
 /// What stays in the place of a board while its lane is at a hub.

@@ -17,9 +17,9 @@ use Rattle.board_node.specs.declared.spec.BoardSpec.{BoardSpec}
 use Rattle.script_steps.specs.declared.operation.Step.{Step}
 use Rattle.lane_record.specs.declared.outcome.Outcome.{Outcome}
 use Rattle.lane_record.specs.declared.outcome.Outcome.TheVariants.{Replied}
-use Rattle.transcript.specs.declared.board_run.ClientPart.{ClientPart}
-use Rattle.transcript.specs.declared.board_run.BoardRun.{BoardRun}
-use Rattle.transcript.specs.Plan.{ClientBodies, AreSpelled}
+use Rattle.script_plans.specs.declared.board_run.ClientPart.{ClientPart}
+use Rattle.script_plans.specs.declared.board_run.BoardRun.{BoardRun}
+use Rattle.script_plans.specs.Plan.{ClientBodies, AreSpelled}
 use Rattle.lane_record.specs.Outcomes.{place_of}
 use Rattle.transcript.specs.Ends.{told_of, end_of, told_by}
 use Rattle.board_history.specs.InTurn.{outcomes_from}

@@ -20,10 +20,9 @@ use Rattle.mtu_packer.specs.Packed.{piece_at, pieces_at, Contents, IsPacked, pac
 use Rattle.script_steps.specs.declared.operation.RegOp.{RegOp}
 use Rattle.script_steps.specs.declared.operation.Step.{Step}
 use Rattle.script_steps.specs.declared.operation.Step.TheVariants.{Do, Dispatch}
-use Rattle.transcript.specs.declared.planned.PieceAt.{PieceAt}
-use Rattle.transcript.specs.Plan.{ClientBodies, no_bodies, moved, begun, dispatches, operations, ops_on, plan}
-use Rattle.transcript.specs.Plan.{with_dispatch, all_dispatches}
-use Rattle.transcript.specs.Lines.{count_on}
+use Rattle.script_plans.specs.declared.planned.PieceAt.{PieceAt}
+use Rattle.script_plans.specs.Plan.{ClientBodies, no_bodies, moved, begun, dispatches, operations, ops_on, plan}
+use Rattle.script_plans.specs.Plan.{with_dispatch, all_dispatches, count_on}
 use Rattle.script_steps.specs.Executable.{IsRmw}
 use Rattle.board_history.proofs.Readiness.{ArePacked}
 use Rattle.board_history.proofs.Lists.{Both, all_at, both_append, both_map, both_same, get_back}

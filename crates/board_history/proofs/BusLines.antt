@@ -13,18 +13,18 @@ use Rattle.ipb_base.specs.Numbers.{payload_of}
 use Rattle.transaction_codec.specs.declared.request.Op.{Op}
 use Rattle.script_steps.specs.declared.operation.RegOp.{RegOp}
 use Rattle.script_steps.specs.declared.operation.Step.{Step}
-use Rattle.transcript.specs.declared.planned.PieceAt.{PieceAt}
-use Rattle.transcript.specs.declared.greeting.Greeting.{Greeting}
-use Rattle.transcript.specs.declared.greeting.Greeting.TheVariants.{Live, Silent, Down}
-use Rattle.transcript.specs.declared.board_run.ClientPart.{ClientPart}
-use Rattle.transcript.specs.declared.board_run.BoardRun.{BoardRun}
+use Rattle.script_plans.specs.declared.planned.PieceAt.{PieceAt}
+use Rattle.script_plans.specs.declared.greeting.Greeting.{Greeting}
+use Rattle.script_plans.specs.declared.greeting.Greeting.TheVariants.{Live, Silent, Down}
+use Rattle.script_plans.specs.declared.board_run.ClientPart.{ClientPart}
+use Rattle.script_plans.specs.declared.board_run.BoardRun.{BoardRun}
 use Rattle.transcript.specs.declared.line.OpResult.{OpResult}
 use Rattle.transcript.specs.declared.line.OpResult.TheVariants.{Unsent, LinkLost}
 use Rattle.transcript.specs.declared.line.OpLine.{OpLine}
 use Rattle.lane_record.specs.declared.outcome.Outcome.{Outcome}
-use Rattle.transcript.specs.Plan.{ClientBodies, operations, ops_on, plan, planned_on, all_dispatches}
+use Rattle.script_plans.specs.Plan.{ClientBodies, operations, ops_on, plan, planned_on, all_dispatches, count_on}
 use Rattle.transcript.specs.Ends.{ends_of, piece_result}
-use Rattle.transcript.specs.Lines.{showing, by_pieces, count_on, line_of, lines_behind, lines_from}
+use Rattle.transcript.specs.Lines.{showing, by_pieces, line_of, lines_behind, lines_from}
 use Rattle.board_history.specs.Runs.{RunsHere, IsRun, AreRuns, greeting_of, plans_on}
 use Rattle.board_history.specs.Answering.{AskRequests}
 use Rattle.board_history.specs.Lines.{IsBusResult, IsBusLine}

@@ -8,10 +8,11 @@ use Rattle.ipb_base.proofs.AllLemmas.{front_of_all, back_of_all, all-map}
 use Rattle.world_model.proofs.Lists.{either}
 use Rattle.lane_record.specs.declared.outcome.Outcome.{Outcome}
 use Rattle.transcript.specs.declared.body_end.BodyEnd.{BodyEnd}
-use Rattle.transcript.specs.declared.board_run.ClientPart.{ClientPart}
+use Rattle.script_plans.specs.declared.board_run.ClientPart.{ClientPart}
 use Rattle.lane_record.specs.Outcomes.{place_of}
 use Rattle.transcript.specs.Ends.{end_of, ends_of}
-use Rattle.transcript.specs.Claims.{Rises, HaveOwnPlaces}
+use Rattle.script_plans.specs.Claims.{Rises}
+use Rattle.transcript.specs.Claims.{HaveOwnPlaces}
 use Rattle.board_history.specs.Order.{Placed, with_place, placed, all_placed, insert, by_place, order, places_of}
 use Rattle.lane_record.specs.Lists.{CountsFrom}
 use Rattle.board_history.specs.Parts.{HasOneOrder}

@@ -4,8 +4,8 @@ use Rattle.std.specs.List.{AllByRecursion}
 use Rattle.board_node.specs.declared.spec.BoardSpec.{BoardSpec}
 use Rattle.script_steps.specs.declared.operation.Step.{Step}
 use Rattle.script_lang.specs.OwnNames as boards
-use Rattle.transcript.specs.declared.board_run.BoardRun.{BoardRun}
-use Rattle.transcript.specs.Shown.{ArePlanned, HaveOwnNames}
+use Rattle.script_plans.specs.declared.board_run.BoardRun.{BoardRun}
+use Rattle.script_plans.specs.Runs.{ArePlanned, HaveOwnNames}
 use Rattle.board_history.specs.History.{IsOrdered}
 use Rattle.board_history.specs.Runs.{AreRuns}
 

@@ -8,16 +8,17 @@ use Rattle.std.proofs.lemmas.Option.{same_Some}
 use Rattle.mtu_packer.proofs.AnyLemmas.{any_nowhere, any_here, any_later, any_cases, any_front, any_back, any_append}
 use Rattle.world_model.proofs.Lists.{either}
 use Rattle.script_steps.specs.declared.operation.Step.{Step}
-use Rattle.transcript.specs.declared.greeting.Greeting.{Greeting}
-use Rattle.transcript.specs.declared.greeting.Greeting.TheVariants.{Live, Silent, Down}
+use Rattle.script_plans.specs.declared.greeting.Greeting.{Greeting}
+use Rattle.script_plans.specs.declared.greeting.Greeting.TheVariants.{Live, Silent, Down}
 use Rattle.lane_record.specs.declared.outcome.Outcome.{Outcome}
-use Rattle.transcript.specs.declared.board_run.ClientPart.{ClientPart}
-use Rattle.transcript.specs.declared.board_run.BoardRun.{BoardRun}
+use Rattle.script_plans.specs.declared.board_run.ClientPart.{ClientPart}
+use Rattle.script_plans.specs.declared.board_run.BoardRun.{BoardRun}
 use Rattle.lane_record.specs.Outcomes.{place_of}
 use Rattle.transcript.specs.Ends.{end_of}
 use Rattle.lane_record.specs.Outcomes.{is_sent}
-use Rattle.transcript.specs.Lines.{outcomes_on, board_line, lines_from, transcript_of}
-use Rattle.transcript.specs.Shown.{IsShown, EndsAt, HasBodyAt, IsPlaceOn, IsPlanned, ArePlanned}
+use Rattle.script_plans.specs.Runs.{outcomes_on, IsPlanned, ArePlanned}
+use Rattle.transcript.specs.Lines.{board_line, lines_from, transcript_of}
+use Rattle.transcript.specs.Shown.{IsShown, EndsAt, HasBodyAt, IsPlaceOn}
 use Rattle.transcript.specs.Shown.{ShowPlacesOf, ShowsAllPlaces}
 use Rattle.transcript.proofs.ShownLines.{planned_there, place_on_live}
 use Rattle.board_history.specs.Order.{Placed, with_place, placed, all_placed, insert, by_place, places_of}

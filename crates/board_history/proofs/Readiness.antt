@@ -13,10 +13,10 @@ use Rattle.script_steps.specs.Executable.{FitsVerb, AreExecutable}
 use Rattle.script_steps.specs.declared.operation.RegOp.{RegOp}
 use Rattle.script_steps.specs.declared.operation.Step.{Step}
 use Rattle.script_steps.specs.declared.operation.Step.TheVariants.{Do, Dispatch}
-use Rattle.transcript.specs.declared.greeting.Greeting.{Greeting}
-use Rattle.transcript.specs.declared.greeting.Greeting.TheVariants.{Live, Silent, Down}
-use Rattle.transcript.specs.Plan.{dispatches, operation_in, operations, ops_on}
-use Rattle.transcript.proofs.PackedDispatches.{PacksWords, dispatched, dispatches_packed}
+use Rattle.script_plans.specs.declared.greeting.Greeting.{Greeting}
+use Rattle.script_plans.specs.declared.greeting.Greeting.TheVariants.{Live, Silent, Down}
+use Rattle.script_plans.specs.Plan.{dispatches, operation_in, operations, ops_on}
+use Rattle.script_plans.proofs.PackedDispatches.{PacksWords, dispatched, dispatches_packed}
 use Rattle.board_history.specs.Runs.{CanRun, RunsHere, greeting_of, opening_of}
 use Rattle.board_history.specs.Answering.{OpensWithWords}
 

@@ -8,12 +8,12 @@ use Rattle.mtu_packer.proofs.Dealing.{joined_deal}
 use Rattle.board_node.specs.declared.spec.BoardSpec.{BoardSpec}
 use Rattle.script_steps.specs.declared.operation.Step.{Step}
 use Rattle.lane_record.specs.declared.outcome.Outcome.{Outcome}
-use Rattle.transcript.specs.declared.greeting.Greeting.{Greeting}
-use Rattle.transcript.specs.declared.greeting.Greeting.TheVariants.{Live, Silent, Down}
-use Rattle.transcript.specs.declared.board_run.ClientPart.{ClientPart}
-use Rattle.transcript.specs.declared.board_run.BoardRun.{BoardRun}
-use Rattle.transcript.specs.Plan.{ClientBodies, no_bodies, bodies_in, with_dispatch, all_dispatches, plan, planned_on}
-use Rattle.transcript.specs.Session.{BoardFate, parts_on}
+use Rattle.script_plans.specs.declared.greeting.Greeting.{Greeting}
+use Rattle.script_plans.specs.declared.greeting.Greeting.TheVariants.{Live, Silent, Down}
+use Rattle.script_plans.specs.declared.board_run.ClientPart.{ClientPart}
+use Rattle.script_plans.specs.declared.board_run.BoardRun.{BoardRun}
+use Rattle.script_plans.specs.Plan.{ClientBodies, no_bodies, bodies_in, with_dispatch, all_dispatches, plan, planned_on}
+use Rattle.script_plans.specs.Runs.{BoardFate, parts_on}
 use Rattle.board_history.specs.Runs.{plans_on, AreRuns}
 use Rattle.board_history.specs.Shape.{HaveFates}
 

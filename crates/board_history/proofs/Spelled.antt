@@ -8,11 +8,11 @@ use Rattle.mtu_packer.specs.Packed.{Contents, IsPacked, packed}
 use Rattle.board_node.specs.declared.spec.BoardSpec.{BoardSpec}
 use Rattle.script_steps.specs.declared.operation.RegOp.{RegOp}
 use Rattle.script_steps.specs.declared.operation.Step.{Step}
-use Rattle.transcript.specs.declared.greeting.Greeting.{Greeting}
-use Rattle.transcript.specs.declared.greeting.Greeting.TheVariants.{Live, Silent, Down}
-use Rattle.transcript.specs.declared.board_run.ClientPart.{ClientPart}
-use Rattle.transcript.specs.declared.board_run.BoardRun.{BoardRun}
-use Rattle.transcript.specs.Plan.{ClientBodies, no_bodies, AreSpelled, dispatches, ops_on, planned_on, with_dispatch}
+use Rattle.script_plans.specs.declared.greeting.Greeting.{Greeting}
+use Rattle.script_plans.specs.declared.greeting.Greeting.TheVariants.{Live, Silent, Down}
+use Rattle.script_plans.specs.declared.board_run.ClientPart.{ClientPart}
+use Rattle.script_plans.specs.declared.board_run.BoardRun.{BoardRun}
+use Rattle.script_plans.specs.Plan.{ClientBodies, no_bodies, AreSpelled, dispatches, ops_on, planned_on, with_dispatch}
 use Rattle.board_history.specs.Runs.{AreRuns, greeting_of, plans_on}
 use Rattle.board_history.specs.Answering.{AsksRequests, AskRequests}
 use Rattle.board_history.proofs.Readiness.{ArePackedFor, AreReady}

@@ -6,10 +6,10 @@ use Rattle.board_node.specs.declared.spec.BoardSpec.{BoardSpec}
 use Rattle.reply_join.specs.declared.answer.Answer.{Answer}
 use Rattle.transcript.specs.declared.body_end.Told.TheVariants.{Answered}
 use Rattle.transcript.specs.declared.body_end.BodyEnd.{BodyEnd}
-use Rattle.transcript.specs.declared.board_run.ClientPart.{ClientPart}
-use Rattle.transcript.specs.declared.board_run.BoardRun.{BoardRun}
+use Rattle.script_plans.specs.declared.board_run.ClientPart.{ClientPart}
+use Rattle.script_plans.specs.declared.board_run.BoardRun.{BoardRun}
 use Rattle.transcript.specs.Ends.{ends_of}
-use Rattle.transcript.specs.Plan.{AreSpelled}
+use Rattle.script_plans.specs.Plan.{AreSpelled}
 use Rattle.board_history.specs.Runs.{opening_of}
 
 -- The body has a place, and its board told the answer to each of its transactions: it is not garbled, timed out, unsent

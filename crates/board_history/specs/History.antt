@@ -3,8 +3,8 @@ use Rattle.std.specs.Prelude.{◌≡◌, ℕ, List, map, length}
 use Rattle.board_bus.specs.Cells.{CellMap}
 use Rattle.mtu_packer.specs.Packed.{deal}
 use Rattle.lane_record.specs.declared.outcome.Outcome.{Outcome}
-use Rattle.transcript.specs.declared.board_run.ClientPart.{ClientPart}
-use Rattle.transcript.specs.declared.board_run.BoardRun.{BoardRun}
+use Rattle.script_plans.specs.declared.board_run.ClientPart.{ClientPart}
+use Rattle.script_plans.specs.declared.board_run.BoardRun.{BoardRun}
 use Rattle.board_history.specs.Order.{order}
 use Rattle.board_history.specs.Parts.{HasOneOrder, KeepsScripts, AreRepliesOf}
 

@@ -2,10 +2,9 @@
 use Rattle.std.specs.Prelude.{◌≡◌, ℕ, ◌+◌, List, [], ◌∷◌, length, map}
 use Rattle.script_steps.specs.declared.operation.Step.{Step}
 use Rattle.lane_record.specs.declared.outcome.Outcome.{Outcome}
-use Rattle.transcript.specs.declared.board_run.BoardRun.{BoardRun}
-use Rattle.transcript.specs.Plan.{planned_on}
-use Rattle.transcript.specs.Session as session
-use Rattle.transcript.specs.Session.{BoardFate}
+use Rattle.script_plans.specs.declared.board_run.BoardRun.{BoardRun}
+use Rattle.script_plans.specs.Plan.{planned_on}
+use Rattle.script_plans.specs.Runs.{runs_from, BoardFate}
 
 -- on the board at this position each dispatch of each client has an outcome for each of its bodies
 abbrev pub IsInShape : ℕ → List (List Step) → BoardFate → Type 0
@@ -22,5 +21,5 @@ AreInShape board scripts (fate ∷ fates) = IsInShape board scripts fate × AreI
 -- of the plan.
 pub record HaveFates (board : ℕ) (scripts : List (List Step)) (runs : List BoardRun) : Type 0 where
   pub fates : List BoardFate
-  pub shown : runs ≡ session.runs_from board scripts fates
+  pub shown : runs ≡ runs_from board scripts fates
   pub shape : AreInShape board scripts fates

@@ -4,9 +4,10 @@
 ghost use Rattle.std.specs.Prelude.{List};
 ghost use Rattle.std.specs.List.{AllByRecursion};
 ghost use Rattle.script_steps.specs.declared.operation.Step.{Step};
-ghost use Rattle.transcript.specs.declared.board_run.BoardRun.{BoardRun};
+ghost use Rattle.script_plans.specs.declared.board_run.BoardRun.{BoardRun};
 ghost use Rattle.transcript.specs.Lines.{transcript_of};
-ghost use Rattle.transcript.specs.Shown.{ArePlanned, HaveOwnNames, ShowsAllPlaces};
+ghost use Rattle.script_plans.specs.Runs.{ArePlanned, HaveOwnNames};
+ghost use Rattle.transcript.specs.Shown.{ShowsAllPlaces};
 ghost use Rattle.board_history.specs.History.{IsOrdered};
 
 use transcript::place_laws::lines_show_the_places_of_bodies;

@@ -7,7 +7,7 @@ ghost use Rattle.board_node.specs.declared.spec.BoardSpec.{BoardSpec};
 ghost use Rattle.script_steps.specs.declared.operation.Step.{Step};
 ghost use Rattle.board_node.specs.OpeningWords.{OpensOnWords};
 ghost use Rattle.script_steps.specs.Executable.{AreExecutable};
-ghost use Rattle.transcript.specs.declared.board_run.BoardRun.{BoardRun};
+ghost use Rattle.script_plans.specs.declared.board_run.BoardRun.{BoardRun};
 ghost use Rattle.board_history.specs.Order.{bodies_of, order};
 ghost use Rattle.board_history.specs.History.{bodies_by_client, outcomes_by_client};
 ghost use Rattle.board_history.specs.Runs.{AreRuns, CanRun, IsRun, board_run, runs_from};
@@ -25,8 +25,8 @@ use mtu_packer::laws::{operations_of_words_are_packed, packed_bodies_spell_reque
 use reply_join::laws::{
     each_answer_is_that_of_its_request, each_request_has_one_answer, joining_is_a_function,
 };
+use script_plans::laws::bodies_stand_dispatch_by_dispatch;
 use transaction_codec::laws::one_list_for_words;
-use transcript::laws::bodies_stand_dispatch_by_dispatch;
 
 /// What becomes of a board is a run of it: each client asked for the bodies of its script, the outcomes are one history
 /// of the board, each body was replied to, and the clients stand one after another. So it is for each board of a

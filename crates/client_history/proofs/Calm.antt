@@ -6,8 +6,8 @@ use Rattle.world_model.specs.Board.{Board}
 use Rattle.world_model.specs.Settings.{Limits}
 use Rattle.lane_record.specs.Dispatches.{joined}
 use Rattle.lane_record.specs.Submissions.{Submission}
-use Rattle.transcript.specs.declared.greeting.Greeting.{Greeting}
-use Rattle.transcript.specs.declared.greeting.Greeting.TheVariants.{Live, Silent, Down}
+use Rattle.script_plans.specs.declared.greeting.Greeting.{Greeting}
+use Rattle.script_plans.specs.declared.greeting.Greeting.TheVariants.{Live, Silent, Down}
 use Rattle.board_history.specs.GiveUps.{GaveUpOnlyAfter}
 use Rattle.board_history.specs.History.{dispatches_by_client, outcomes_by_client}
 use Rattle.board_history.specs.Parts.{AllReplied, IsReplied}

@@ -10,11 +10,12 @@ use Rattle.lane_record.specs.declared.outcome.Outcome.{Outcome}
 use Rattle.lane_record.specs.declared.outcome.Outcome.TheVariants.{Replied, TimedOut, Unsent, LinkLost}
 use Rattle.lane_record.specs.Outcomes.{is_given_up, is_replied, is_sent, is_timed_out}
 use Rattle.lane_record.specs.Submissions.{Submission}
-use Rattle.transcript.specs.declared.greeting.Greeting.{Greeting}
-use Rattle.transcript.specs.declared.greeting.Greeting.TheVariants.{Live, Silent, Down}
+use Rattle.script_plans.specs.declared.greeting.Greeting.{Greeting}
+use Rattle.script_plans.specs.declared.greeting.Greeting.TheVariants.{Live, Silent, Down}
 use Rattle.transcript.specs.declared.line.BoardLine.{BoardLine}
 use Rattle.transcript.specs.declared.line.BoardLine.TheVariants as board_lines
-use Rattle.transcript.specs.Lines.{board_line, is_lost, live_line, outcomes_on}
+use Rattle.transcript.specs.Lines.{board_line, is_lost, live_line}
+use Rattle.script_plans.specs.Runs.{outcomes_on}
 use Rattle.board_history.specs.GiveUps.{IsExact, time_outs, times_given_up, was_given_up}
 use Rattle.board_history.specs.History.{dispatches_by_client}
 use Rattle.board_history.specs.Runs.{opening_of}

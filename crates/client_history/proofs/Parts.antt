@@ -6,8 +6,8 @@ use Rattle.lane_record.specs.declared.item.Item.{Item}
 use Rattle.lane_record.specs.Dispatches.{joined}
 use Rattle.lane_record.specs.Submissions.{Submission}
 use Rattle.mtu_packer.specs.Packed.{deal}
-use Rattle.transcript.specs.declared.board_run.ClientPart.{ClientPart}
-use Rattle.transcript.specs.Lines.{outcomes_in}
+use Rattle.script_plans.specs.declared.board_run.ClientPart.{ClientPart}
+use Rattle.script_plans.specs.Runs.{outcomes_in}
 use Rattle.board_history.specs.History as shown
 use Rattle.lane_history.specs.Records.{IsRecordOf}
 use Rattle.client_history.specs.Connections.{bodies_of, dispatches_of, outcomes_of}

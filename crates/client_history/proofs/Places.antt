@@ -6,9 +6,9 @@ use Rattle.board_node.specs.declared.spec.BoardSpec.{BoardSpec}
 use Rattle.world_model.specs.Settings.{Limits}
 use Rattle.lane_record.specs.Outcomes.{place_of}
 use Rattle.lane_record.specs.Submissions.{Submission}
-use Rattle.transcript.specs.Claims.{Rises}
-use Rattle.transcript.specs.declared.greeting.Greeting.{Greeting}
-use Rattle.transcript.specs.declared.greeting.Greeting.TheVariants.{Live, Silent, Down}
+use Rattle.script_plans.specs.Claims.{Rises}
+use Rattle.script_plans.specs.declared.greeting.Greeting.{Greeting}
+use Rattle.script_plans.specs.declared.greeting.Greeting.TheVariants.{Live, Silent, Down}
 use Rattle.board_history.specs.Order.{Placed, RisesFrom, all_placed, order, placed, places_of, with_place}
 use Rattle.board_history.specs.Parts.{KeepsScripts}
 use Rattle.board_history.proofs.OwnPlaces.{AreApart, counting_apart, sorted_apart}

@@ -4,10 +4,10 @@ use Rattle.std.specs.List.{AllByRecursion, slice_get}
 use Rattle.board_node.specs.declared.spec.BoardSpec.{BoardSpec}
 use Rattle.world_model.specs.Settings.{Limits}
 use Rattle.lane_record.specs.Submissions.{Submission}
-use Rattle.transcript.specs.declared.greeting.Greeting.{Greeting}
-use Rattle.transcript.specs.declared.greeting.Greeting.TheVariants.{Live, Silent, Down}
-use Rattle.transcript.specs.declared.board_run.ClientPart.{ClientPart}
-use Rattle.transcript.specs.declared.board_run.BoardRun.{BoardRun}
+use Rattle.script_plans.specs.declared.greeting.Greeting.{Greeting}
+use Rattle.script_plans.specs.declared.greeting.Greeting.TheVariants.{Live, Silent, Down}
+use Rattle.script_plans.specs.declared.board_run.ClientPart.{ClientPart}
+use Rattle.script_plans.specs.declared.board_run.BoardRun.{BoardRun}
 use Rattle.lane_history.specs.Links.{IsBoardOf, LinkReport}
 use Rattle.lane_history.specs.Runs.{IsAsTold}
 use Rattle.client_history.specs.Connections.{bodies_of, outcomes_of}

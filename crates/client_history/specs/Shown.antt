@@ -9,7 +9,7 @@ use Rattle.lane_record.specs.declared.outcome.Outcome.{Outcome}
 use Rattle.lane_record.specs.declared.outcome.Outcome.TheVariants.{Replied, TimedOut, Unsent, LinkLost}
 use Rattle.lane_record.specs.Outcomes.{is_given_up, place_of}
 use Rattle.lane_record.specs.Submissions.{Submission}
-use Rattle.transcript.specs.Claims.{Rises}
+use Rattle.script_plans.specs.Claims.{Rises}
 use Rattle.transcript.specs.declared.line.BoardLine.{BoardLine}
 use Rattle.transcript.specs.declared.line.BoardLine.TheVariants.{Live, Silent, Down}
 use Rattle.board_history.specs.Order.{RisesFrom}

@@ -7,7 +7,7 @@ ghost use Rattle.board_node.specs.declared.spec.BoardSpec.{BoardSpec};
 ghost use Rattle.world_model.specs.Board.{executed};
 ghost use Rattle.world_model.specs.Settings.{Limits};
 ghost use Rattle.lane_record.specs.Outcomes.{is_replied, is_sent, is_timed_out};
-ghost use Rattle.transcript.specs.declared.greeting.Greeting.TheVariants.{Live};
+ghost use Rattle.script_plans.specs.declared.greeting.Greeting.TheVariants.{Live};
 ghost use Rattle.transcript.specs.declared.line.BoardLine.TheVariants as board_lines;
 ghost use Rattle.transcript.specs.Lines.{board_line, is_lost};
 ghost use Rattle.transcript.specs.Shown.{places_told};

@@ -19,7 +19,7 @@ ghost use Rattle.lane_record.specs.Submissions.{Submission};
 ghost use Rattle.hub_lane.specs.Calls.{is_lost_at_place, is_replied};
 ghost use Rattle.hub_lane.specs.Lanes.{BoardStatus, IsLane};
 ghost use Rattle.hub_multiplexer.specs.Ends.{Ends};
-ghost use Rattle.transcript.specs.declared.greeting.Greeting.TheVariants.{Live};
+ghost use Rattle.script_plans.specs.declared.greeting.Greeting.TheVariants.{Live};
 ghost use Rattle.transcript.specs.declared.line.BoardLine.TheVariants as board_lines;
 ghost use Rattle.transcript.specs.Lines.{board_line};
 ghost use Rattle.lane_history.specs.Links.{IsBoardOf, LinkReport};

@@ -8,7 +8,7 @@ ghost use Rattle.client_history.specs.ClientExamples.{client_1_alone, one_after_
 ghost use Rattle.client_history.specs.ClientExamples.{two_plans, two_results};
 ghost use Rattle.board_node.specs.declared.spec.BoardSpec.{BoardSpec};
 ghost use Rattle.board_history.specs.Examples.{read_body, seven};
-ghost use Rattle.transcript.specs.declared.greeting.Greeting.TheVariants.{Live};
+ghost use Rattle.script_plans.specs.declared.greeting.Greeting.TheVariants.{Live};
 ghost use Rattle.transcript.specs.declared.line.BoardLine.TheVariants as board_lines;
 ghost use Rattle.transcript.specs.Lines.{board_line};
 ghost use Rattle.lane_history.specs.Records.{IsRecordOf};

@@ -18,7 +18,7 @@ use Rattle.session_input.specs.Lines.{refusal_line}
 use Rattle.session_run.specs.declared.session.RunFault.{RunFault}
 use Rattle.session_run.specs.declared.session.RunFault.TheVariants.{Rack, NoMemory}
 use Rattle.session_run.specs.Links.{AreLeft}
-use Rattle.transcript.specs.declared.board_run.BoardRun.{BoardRun}
+use Rattle.script_plans.specs.declared.board_run.BoardRun.{BoardRun}
 use Rattle.transcript.specs.Lines.{transcript_of, all_good, run_status}
 use Rattle.transcript.specs.Text.{transcript_text}
 use Rattle.session_serve.specs.declared.report.ServeFault.{ServeFault}

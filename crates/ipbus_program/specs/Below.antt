@@ -13,7 +13,7 @@ use Rattle.script_lang.specs.Document.{SameSession, StandsFor}
 use Rattle.board_node.specs.OpeningWords.{OpensOnWords}
 use Rattle.script_steps.specs.Executable.{AreExecutable}
 use Rattle.session_input.specs.declared.refusal.Refusal.{Refusal}
-use Rattle.transcript.specs.declared.board_run.BoardRun.{BoardRun}
+use Rattle.script_plans.specs.declared.board_run.BoardRun.{BoardRun}
 use Rattle.transcript.specs.declared.line.BoardLine.{BoardLine}
 use Rattle.board_node.specs.declared.spec.BoardSpec.{BoardSpec}
 use Rattle.world_model.specs.Settings.{Limits}

@@ -40,7 +40,7 @@ use Rattle.script_steps.specs.declared.operation.Step.{Step}
 use Rattle.script_lang.specs.declared.session.Session.{Session}
 use Rattle.session_input.specs.Deserved.{IsRunnable}
 use Rattle.session_run.specs.Links.{AreLeft}
-use Rattle.transcript.specs.declared.board_run.BoardRun.{BoardRun}
+use Rattle.script_plans.specs.declared.board_run.BoardRun.{BoardRun}
 use Rattle.transcript.specs.Lines.{transcript_of, run_status}
 use Rattle.transcript.specs.Shown.{ShowsAllPlaces}
 use Rattle.transcript.specs.Text.{transcript_text}

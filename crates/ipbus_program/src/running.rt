@@ -27,6 +27,7 @@ use lossy_network::Rack;
 use node_tree::Index;
 use script_lang::Session;
 use script_lang::laws::the_ranges_of_a_session_name_words;
+use script_plans::BoardRun;
 use script_steps::Steps;
 use session_input::laws::what_can_be_run_can_be_executed;
 use session_input::{Refusal, Unread, read_for_check, read_for_run};
@@ -35,9 +36,7 @@ use std::alloc::Global;
 use std::marker::Sync;
 use std::sync::Wait;
 use std::thread::Threads;
-use transcript::{
-    BoardRun, OpLine, all_good, board_lines, lines_of_clients, listing_text, transcript_text,
-};
+use transcript::{OpLine, all_good, board_lines, lines_of_clients, listing_text, transcript_text};
 
 /// What a command answers to the bytes of a document.
 pub(crate) fn answer_to<R: Rack, D: Door, T: Threads + Wait + Sync, G: Gate>(

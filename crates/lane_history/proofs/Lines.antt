@@ -19,13 +19,13 @@ use Rattle.script_steps.specs.Executable.{AreExecutable}
 use Rattle.lane_record.specs.declared.outcome.Outcome.{Outcome}
 use Rattle.lane_record.specs.declared.outcome.Outcome.TheVariants.{Replied, TimedOut, Unsent, LinkLost}
 use Rattle.lane_record.specs.Outcomes.{place_of}
-use Rattle.transcript.specs.declared.greeting.Greeting.{Greeting}
-use Rattle.transcript.specs.declared.greeting.Greeting.TheVariants.{Live, Silent, Down}
-use Rattle.transcript.specs.declared.board_run.ClientPart.{ClientPart}
-use Rattle.transcript.specs.declared.board_run.BoardRun.{BoardRun}
+use Rattle.script_plans.specs.declared.greeting.Greeting.{Greeting}
+use Rattle.script_plans.specs.declared.greeting.Greeting.TheVariants.{Live, Silent, Down}
+use Rattle.script_plans.specs.declared.board_run.ClientPart.{ClientPart}
+use Rattle.script_plans.specs.declared.board_run.BoardRun.{BoardRun}
 use Rattle.transcript.specs.declared.line.OpResult.{OpResult}
 use Rattle.transcript.specs.declared.line.OpResult.TheVariants as result
-use Rattle.transcript.specs.Plan.{AreSpelled, plans_on}
+use Rattle.script_plans.specs.Plan.{AreSpelled, plans_on}
 use Rattle.board_history.specs.Order.{Placed, with_place, placed, all_placed, order, bodies_of}
 use Rattle.board_history.specs.Parts.{IsReplyOf, IsReplied}
 use Rattle.board_history.specs.History.{ShowsHistory, bodies_by_client, outcomes_by_client}
@@ -38,7 +38,7 @@ use Rattle.board_history.proofs.Lists.{Both}
 use Rattle.board_history.proofs.BusResults.{IsUntold, IsFine}
 use Rattle.board_history.proofs.BusLines.{FinePart, Shows, CanShow}
 use Rattle.board_history.proofs.Readiness.{ArePackedFor, IsReady, AreReady, is_ready}
-use Rattle.transcript.proofs.PackedDispatches.{PacksWords}
+use Rattle.script_plans.proofs.PackedDispatches.{PacksWords}
 use Rattle.board_history.proofs.Shaped.{Standing, lengths}
 use Rattle.board_history.proofs.Spelled.{Spelling, parts_spelled}
 use Rattle.lane_history.specs.Links.{CanBeMade, LinkReport, IsBoardOf, IsFaithful}

@@ -17,18 +17,18 @@ use Rattle.lane_record.specs.Claims.{claims, taken}
 use Rattle.lane_record.specs.FirstSends.{bodies_sent, first_sends}
 use Rattle.lane_record.specs.Legal.{IsLegal}
 use Rattle.lane_record.specs.Bounds.{AreLostOnlyIf, HasReached, TellRounds}
-use Rattle.transcript.specs.declared.greeting.Greeting.{Greeting}
-use Rattle.transcript.specs.declared.greeting.Greeting.TheVariants.{Live}
-use Rattle.transcript.specs.declared.board_run.ClientPart.{ClientPart}
-use Rattle.transcript.specs.declared.board_run.BoardRun.{BoardRun}
-use Rattle.transcript.specs.Lines.{outcomes_on}
+use Rattle.script_plans.specs.declared.greeting.Greeting.{Greeting}
+use Rattle.script_plans.specs.declared.greeting.Greeting.TheVariants.{Live}
+use Rattle.script_plans.specs.declared.board_run.ClientPart.{ClientPart}
+use Rattle.script_plans.specs.declared.board_run.BoardRun.{BoardRun}
+use Rattle.script_plans.specs.Runs.{outcomes_on}
 use Rattle.board_history.specs.GiveUps.{IsExact}
 use Rattle.board_history.specs.Order.{order, bodies_of}
 use Rattle.board_history.specs.Parts.{HasOneOrder, KeepsScripts, IsExecutedOnce, AreRepliesOf}
 use Rattle.board_history.specs.History.{IsHistory, bodies_by_client, outcomes_by_client, dispatches_by_client}
 use Rattle.board_history.specs.History.{dispatches_of}
 use Rattle.lane_record.specs.Dispatches.{joined}
-use Rattle.transcript.specs.Plan.{plans_on}
+use Rattle.script_plans.specs.Plan.{plans_on}
 use Rattle.board_history.specs.Runs.{opening_of}
 use Rattle.board_history.proofs.Shaped.{Standing, is_cut, whole_again, heads, lengths, IsCut}
 use Rattle.lane_history.specs.Links.{LinkReport, HasFailed, IsBoardOf, IsLostOnlyIfFailed}

@@ -15,12 +15,12 @@ use Rattle.world_model.specs.Settings.{Limits}
 use Rattle.script_steps.specs.declared.operation.Step.{Step}
 use Rattle.lane_record.specs.declared.outcome.Outcome.{Outcome}
 use Rattle.lane_record.specs.Lists.{CountsFrom}
-use Rattle.transcript.specs.declared.greeting.Greeting.{Greeting}
-use Rattle.transcript.specs.declared.greeting.Greeting.TheVariants.{Live, Silent, Down}
-use Rattle.transcript.specs.declared.board_run.ClientPart.{ClientPart}
-use Rattle.transcript.specs.declared.board_run.BoardRun.{BoardRun}
-use Rattle.transcript.specs.Plan.{ClientBodies, plans_on, planned_on}
-use Rattle.transcript.specs.Shown.{ArePlanned}
+use Rattle.script_plans.specs.declared.greeting.Greeting.{Greeting}
+use Rattle.script_plans.specs.declared.greeting.Greeting.TheVariants.{Live, Silent, Down}
+use Rattle.script_plans.specs.declared.board_run.ClientPart.{ClientPart}
+use Rattle.script_plans.specs.declared.board_run.BoardRun.{BoardRun}
+use Rattle.script_plans.specs.Plan.{ClientBodies, plans_on, planned_on}
+use Rattle.script_plans.specs.Runs.{ArePlanned}
 use Rattle.transcript.specs.Ends.{end_of, ends_of}
 use Rattle.board_history.specs.Order.{Placed, by_place, places_of}
 use Rattle.board_history.specs.Parts.{HasOneOrder, KeepsScripts, AllReplied}

@@ -16,9 +16,9 @@ use Rattle.lane_record.specs.declared.outcome.Outcome.TheVariants.{Replied, Time
 use Rattle.lane_record.specs.Outcomes.{place_of}
 use Rattle.lane_record.specs.Lists.{CountsFrom}
 use Rattle.transcript.specs.declared.body_end.Told.TheVariants.{Garbled}
-use Rattle.transcript.specs.declared.board_run.ClientPart.{ClientPart}
-use Rattle.transcript.specs.declared.board_run.BoardRun.{BoardRun}
-use Rattle.transcript.specs.Plan.{AreSpelled}
+use Rattle.script_plans.specs.declared.board_run.ClientPart.{ClientPart}
+use Rattle.script_plans.specs.declared.board_run.BoardRun.{BoardRun}
+use Rattle.script_plans.specs.Plan.{AreSpelled}
 use Rattle.transcript.specs.Ends.{told_of, told_by, end_of, ends_of}
 use Rattle.board_history.specs.Order.{Placed, with_place, placed, all_placed, order, places_of, bodies_of}
 use Rattle.board_history.specs.Parts.{IsReplyOf}

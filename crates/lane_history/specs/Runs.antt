@@ -11,8 +11,8 @@ use Rattle.world_model.specs.Board.{Board, executed}
 use Rattle.world_model.specs.Settings.{Limits}
 use Rattle.lane_record.specs.Outcomes.{TellsRounds, is_replied}
 use Rattle.script_steps.specs.declared.operation.Step.{Step}
-use Rattle.transcript.specs.declared.greeting.Greeting.{Greeting}
-use Rattle.transcript.specs.declared.greeting.Greeting.TheVariants.{Live, Silent, Down}
+use Rattle.script_plans.specs.declared.greeting.Greeting.{Greeting}
+use Rattle.script_plans.specs.declared.greeting.Greeting.TheVariants.{Live, Silent, Down}
 use Rattle.transcript.specs.declared.body_end.Told.TheVariants.{Garbled}
 use Rattle.transcript.specs.declared.body_end.BodyEnd.{BodyEnd}
 use Rattle.transcript.specs.declared.line.OpResult.{OpResult}
@@ -20,12 +20,11 @@ use Rattle.transcript.specs.declared.line.OpResult.TheVariants as result
 use Rattle.transcript.specs.declared.line.OpLine.{OpLine}
 use Rattle.transcript.specs.declared.line.BoardLine.{BoardLine}
 use Rattle.transcript.specs.declared.line.BoardLine.TheVariants as board_lines
-use Rattle.transcript.specs.declared.board_run.ClientPart.{ClientPart}
-use Rattle.transcript.specs.declared.board_run.BoardRun.{BoardRun}
+use Rattle.script_plans.specs.declared.board_run.ClientPart.{ClientPart}
+use Rattle.script_plans.specs.declared.board_run.BoardRun.{BoardRun}
 use Rattle.transcript.specs.Ends.{ends_of}
-use Rattle.transcript.specs.Lines.{outcomes_on}
-use Rattle.transcript.specs.Plan.{ClientBodies, plans_on}
-use Rattle.transcript.specs.Shown.{IsPlanned}
+use Rattle.script_plans.specs.Runs.{outcomes_on, IsPlanned}
+use Rattle.script_plans.specs.Plan.{ClientBodies, plans_on}
 use Rattle.board_history.specs.Order.{order}
 use Rattle.board_history.specs.Parts.{HasOneOrder, KeepsScripts, AreRepliesOf, IsExecutedOnce, AllReplied}
 use Rattle.board_history.specs.History.{ShowsHistory, bodies_by_client, outcomes_by_client, dispatches_by_client}

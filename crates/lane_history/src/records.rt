@@ -16,9 +16,9 @@ ghost use Rattle.lane_record.specs.FirstSends.{bodies_sent, first_sends};
 ghost use Rattle.lane_record.specs.Legal.{IsLegal};
 ghost use Rattle.lane_record.specs.Bounds.{AreLostOnlyIf, HasReached, IsKept, TellRounds};
 ghost use Rattle.lane_record.specs.Outcomes.{TellsRounds};
-ghost use Rattle.transcript.specs.declared.greeting.Greeting.TheVariants.{Live};
-ghost use Rattle.transcript.specs.declared.board_run.BoardRun.{BoardRun};
-ghost use Rattle.transcript.specs.Plan.{ClientBodies, plans_on};
+ghost use Rattle.script_plans.specs.declared.greeting.Greeting.TheVariants.{Live};
+ghost use Rattle.script_plans.specs.declared.board_run.BoardRun.{BoardRun};
+ghost use Rattle.script_plans.specs.Plan.{ClientBodies, plans_on};
 ghost use Rattle.board_history.specs.Order.{bodies_of, order};
 ghost use Rattle.board_history.specs.Parts.{HasOneOrder, IsExecutedOnce, KeepsScripts};
 ghost use Rattle.board_history.specs.History.{IsHistory, bodies_by_client, dispatches_by_client, outcomes_by_client};
@@ -31,7 +31,7 @@ ghost use Rattle.lane_history.specs.Runs.{ExecutedSome, IsLiveRun, IsRunOver, Sh
 ghost use Rattle.lane_history.specs.Records.{IsClientsRecord, IsPartlyPlanned, IsRecordOf, has_become};
 ghost use Rattle.lane_history.specs.Lanes.{IsSoundLane, IsTrueOf, bodies_offered};
 
-use transcript::laws::bodies_stand_dispatch_by_dispatch;
+use script_plans::laws::bodies_stand_dispatch_by_dispatch;
 
 /// The record of clients who planned all their bodies before the Seal, and did their dispatches behind it, is one of
 /// clients who planned these bodies and did these dispatches.

@@ -10,10 +10,11 @@ ghost use Rattle.board_node.specs.OpeningWords.{OpensOnWords};
 ghost use Rattle.script_steps.specs.Executable.{AreExecutable};
 ghost use Rattle.script_steps.specs.declared.operation.Step.{Step};
 ghost use Rattle.lane_record.specs.Outcomes.{is_timed_out};
-ghost use Rattle.transcript.specs.declared.greeting.Greeting.TheVariants.{Live};
-ghost use Rattle.transcript.specs.declared.board_run.BoardRun.{BoardRun};
-ghost use Rattle.transcript.specs.Lines.{board_line, outcomes_on, transcript_of};
-ghost use Rattle.transcript.specs.Shown.{HaveOwnNames, ShowsAllPlaces};
+ghost use Rattle.script_plans.specs.declared.greeting.Greeting.TheVariants.{Live};
+ghost use Rattle.script_plans.specs.declared.board_run.BoardRun.{BoardRun};
+ghost use Rattle.transcript.specs.Lines.{board_line, transcript_of};
+ghost use Rattle.script_plans.specs.Runs.{outcomes_on, HaveOwnNames};
+ghost use Rattle.transcript.specs.Shown.{ShowsAllPlaces};
 ghost use Rattle.board_history.specs.History.{ShowsHistory, dispatches_by_client};
 ghost use Rattle.board_history.specs.GiveUps.{time_outs};
 ghost use Rattle.board_history.specs.Runs.{opening_of, runs_from};
@@ -32,8 +33,8 @@ use mtu_packer::laws::{operations_of_words_are_packed, packed_bodies_spell_reque
 use reply_join::laws::{
     each_answer_is_that_of_its_request, each_request_has_one_answer, joining_is_a_function,
 };
+use script_plans::laws::bodies_stand_dispatch_by_dispatch;
 use transaction_codec::laws::one_list_for_words;
-use transcript::laws::bodies_stand_dispatch_by_dispatch;
 
 /// Over a link that tells, what a run shows of a live board is one legal history of it.
 pub fn a_live_board_shows_a_history()

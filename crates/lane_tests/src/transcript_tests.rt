@@ -3,10 +3,11 @@
 use crate::fixtures::add;
 use crate::same::same_items;
 use ipb_base::Text;
+use script_plans::laws::few_words_are_few_pieces;
+use script_plans::{Greeting, plan_on};
 use script_steps::Verb;
 use std::test::Fail;
-use transcript::laws::few_words_are_few_pieces;
-use transcript::{Greeting, LinePlaces, OpLine, OpResult, line_text, plan_on};
+use transcript::{LinePlaces, OpLine, OpResult, line_text};
 
 #[test]
 fn a_sum_is_planned(rt: HostRuntime) -> Result<(), Fail> {

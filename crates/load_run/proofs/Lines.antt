@@ -12,16 +12,18 @@ use Rattle.lane_record.specs.declared.outcome.Outcome.{Outcome}
 use Rattle.lane_record.specs.declared.outcome.Outcome.TheVariants.{Replied}
 use Rattle.script_steps.specs.declared.operation.RegOp.{RegOp}
 use Rattle.script_steps.specs.declared.operation.Verb.TheVariants.{RmwSum}
-use Rattle.transcript.specs.declared.greeting.Greeting.TheVariants.{Live, Silent, Down}
-use Rattle.transcript.specs.declared.planned.PieceAt.{PieceAt}
+use Rattle.script_plans.specs.declared.greeting.Greeting.TheVariants.{Live, Silent, Down}
+use Rattle.script_plans.specs.declared.planned.PieceAt.{PieceAt}
 use Rattle.transcript.specs.declared.body_end.BodyEnd.{BodyEnd}
 use Rattle.transcript.specs.declared.line.OpResult.{OpResult}
-use Rattle.transcript.specs.declared.board_run.ClientPart.{ClientPart}
-use Rattle.transcript.specs.declared.board_run.BoardRun.{BoardRun}
+use Rattle.script_plans.specs.declared.board_run.ClientPart.{ClientPart}
+use Rattle.script_plans.specs.declared.board_run.BoardRun.{BoardRun}
 use Rattle.transcript.specs.Ends.{end_of, ends_of, told_of, told_at, told_by, result_in}
 use Rattle.transcript.specs.Results.{combined}
-use Rattle.transcript.specs.Lines.{showing, in_part, by_pieces, count_on, line_of, lines_behind, lines_from}
-use Rattle.transcript.specs.Lines.{client_lines, outcomes_in}
+use Rattle.transcript.specs.Lines.{showing, in_part, by_pieces, line_of, lines_behind, lines_from}
+use Rattle.script_plans.specs.Plan.{count_on}
+use Rattle.transcript.specs.Lines.{client_lines}
+use Rattle.script_plans.specs.Runs.{outcomes_in}
 use Rattle.std.proofs.lemmas.List.Sums.{sum_by-append}
 use Rattle.load_run.specs.Generated.{operation, steps_behind}
 use Rattle.load_run.specs.Summary.{word_before, words_of_client, words_before}

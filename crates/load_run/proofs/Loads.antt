@@ -9,8 +9,8 @@ use Rattle.board_node.specs.declared.spec.LinkSpec.{LinkSpec}
 use Rattle.board_node.specs.declared.spec.LinkSpec.TheVariants.{Sim, Udp}
 use Rattle.board_history.specs.Runs.{CanRun, RunsHere}
 use Rattle.board_node.specs.OpeningWords.{OpensOnWords}
-use Rattle.transcript.specs.declared.board_run.BoardRun.{BoardRun}
-use Rattle.transcript.specs.Shown.{HaveOwnNames}
+use Rattle.script_plans.specs.declared.board_run.BoardRun.{BoardRun}
+use Rattle.script_plans.specs.Runs.{HaveOwnNames}
 use Rattle.lane_history.specs.Links.{CanBeMade, IsUntouched, LinkReport}
 use Rattle.load_run.specs.Generated.{boards, most_operations, steps}
 use Rattle.session_run.specs.Links.{AreLeft, CanBeReached}

@@ -4,8 +4,8 @@ use Rattle.std.proofs.Common.{length-append}
 use Rattle.std.specs.List.{fold}
 use Rattle.mtu_packer.specs.Packed.{Contents}
 use Rattle.script_steps.specs.declared.operation.RegOp.{RegOp}
-use Rattle.transcript.specs.declared.planned.PieceAt.{PieceAt}
-use Rattle.transcript.specs.Plan.{ClientBodies, with_dispatch, plan, operations}
+use Rattle.script_plans.specs.declared.planned.PieceAt.{PieceAt}
+use Rattle.script_plans.specs.Plan.{ClientBodies, with_dispatch, plan, operations}
 use Rattle.load_run.specs.Generated.{operation, steps_behind}
 
 -- one transaction: an RMW sum of 1 at address 0

@@ -12,12 +12,13 @@ use Rattle.lane_record.specs.declared.outcome.Outcome.{Outcome}
 use Rattle.lane_record.specs.Lists.{CountsFrom}
 use Rattle.lane_record.specs.Outcomes.{is_sent}
 use Rattle.script_steps.specs.declared.operation.Step.{Step}
-use Rattle.transcript.specs.declared.greeting.Greeting.{Greeting}
-use Rattle.transcript.specs.declared.greeting.Greeting.TheVariants.{Live, Silent, Down}
-use Rattle.transcript.specs.declared.board_run.ClientPart.{ClientPart}
-use Rattle.transcript.specs.declared.board_run.BoardRun.{BoardRun}
-use Rattle.transcript.specs.Plan.{ClientBodies, no_bodies, planned_on, plans_on}
-use Rattle.transcript.specs.Lines.{board_line, lines_from, outcomes_in, outcomes_on, transcript_of}
+use Rattle.script_plans.specs.declared.greeting.Greeting.{Greeting}
+use Rattle.script_plans.specs.declared.greeting.Greeting.TheVariants.{Live, Silent, Down}
+use Rattle.script_plans.specs.declared.board_run.ClientPart.{ClientPart}
+use Rattle.script_plans.specs.declared.board_run.BoardRun.{BoardRun}
+use Rattle.script_plans.specs.Plan.{ClientBodies, no_bodies, planned_on, plans_on}
+use Rattle.transcript.specs.Lines.{board_line, lines_from, transcript_of}
+use Rattle.script_plans.specs.Runs.{outcomes_in, outcomes_on}
 use Rattle.transcript.specs.Shown.{places_told}
 use Rattle.board_history.specs.Order.{places_of}
 use Rattle.board_history.specs.Order as orders

@@ -11,8 +11,8 @@ use Rattle.lane_record.specs.declared.outcome.Outcome.{Outcome}
 use Rattle.lane_record.specs.declared.outcome.Outcome.TheVariants.{Replied, TimedOut, Unsent, LinkLost}
 use Rattle.lane_record.specs.Lists.{CountsFrom}
 use Rattle.lane_record.specs.Outcomes.{place_of, is_sent}
-use Rattle.transcript.specs.declared.board_run.ClientPart.{ClientPart}
-use Rattle.transcript.specs.Lines.{outcomes_in}
+use Rattle.script_plans.specs.declared.board_run.ClientPart.{ClientPart}
+use Rattle.script_plans.specs.Runs.{outcomes_in}
 use Rattle.board_history.specs.Order.{Placed, with_place, placed, all_placed, insert, by_place, places_of}
 use Rattle.board_history.specs.Order as orders
 use Rattle.board_history.specs.Parts.{IsReplied, IsReplyOf}

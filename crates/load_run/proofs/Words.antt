@@ -7,8 +7,8 @@ use Rattle.ipb_base.proofs.AllLemmas.{AllByRecursion-append, back_of_all, front_
 use Rattle.lane_record.specs.declared.outcome.Outcome.{Outcome}
 use Rattle.lane_record.specs.declared.outcome.Outcome.TheVariants.{Replied, TimedOut, Unsent, LinkLost}
 use Rattle.lane_record.specs.Lists.{CountsFrom}
-use Rattle.transcript.specs.declared.board_run.ClientPart.{ClientPart}
-use Rattle.transcript.specs.Lines.{outcomes_in}
+use Rattle.script_plans.specs.declared.board_run.ClientPart.{ClientPart}
+use Rattle.script_plans.specs.Runs.{outcomes_in}
 use Rattle.board_history.specs.Order.{Placed, all_placed, placed, places_of}
 use Rattle.board_history.specs.Parts.{IsReplied}
 use Rattle.board_history.proofs.Sorting.{all_sorted}

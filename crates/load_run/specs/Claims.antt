@@ -8,8 +8,8 @@ use Rattle.board_bus.specs.Bodies.{replay}
 use Rattle.lane_record.specs.declared.outcome.Outcome.{Outcome}
 use Rattle.lane_record.specs.declared.outcome.Outcome.TheVariants.{Replied, TimedOut, Unsent, LinkLost}
 use Rattle.world_model.specs.Places.{at_place}
-use Rattle.transcript.specs.declared.board_run.BoardRun.{BoardRun}
-use Rattle.transcript.specs.Lines.{outcomes_on}
+use Rattle.script_plans.specs.declared.board_run.BoardRun.{BoardRun}
+use Rattle.script_plans.specs.Runs.{outcomes_on}
 use Rattle.board_history.specs.Order.{Placed, order, bodies_of}
 use Rattle.board_history.specs.History.{bodies_by_client, outcomes_by_client}
 use Rattle.board_history.specs.Runs.{opening_of}

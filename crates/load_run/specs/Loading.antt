@@ -14,7 +14,7 @@ use Rattle.script_lang.specs.declared.script_refusal.TheConstants.{MAX_LINES}
 use Rattle.script_steps.specs.Executable.{AreExecutable}
 use Rattle.script_steps.specs.Packing.{AreWithinLimits, CanBePacked, HaveFewPieces}
 use Rattle.board_history.specs.Lines.{IsBusLine}
-use Rattle.transcript.specs.declared.board_run.BoardRun.{BoardRun}
+use Rattle.script_plans.specs.declared.board_run.BoardRun.{BoardRun}
 use Rattle.transcript.specs.Lines.{transcript_of}
 use Rattle.transcript.specs.Shown.{ShowsAllPlaces}
 use Rattle.lane_history.specs.Links.{IsFaithful, IsUntouched, LinkReport}

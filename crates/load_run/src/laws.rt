@@ -10,7 +10,7 @@ ghost use Rattle.node_tree.specs.Names.{IsIndexOf};
 ghost use Rattle.script_steps.specs.Packing.{AreWithinLimits, CanBePacked, HaveFewPieces};
 ghost use Rattle.script_lang.specs.Scripts.{steps_of};
 ghost use Rattle.script_lang.specs.declared.script_refusal.TheConstants.{MAX_LINES};
-ghost use Rattle.transcript.specs.declared.board_run.BoardRun.{BoardRun};
+ghost use Rattle.script_plans.specs.declared.board_run.BoardRun.{BoardRun};
 ghost use Rattle.transcript.specs.Lines.{transcript_of};
 ghost use Rattle.board_history.specs.Runs.{CanRun};
 ghost use Rattle.lane_history.specs.Links.{LinkReport};
@@ -22,7 +22,7 @@ ghost use Rattle.load_run.specs.ScriptLines.{HasCountAlone, scripts, table_name}
 ghost use Rattle.load_run.specs.Summary.{all_done, summary_of, words_before};
 
 use board_history::laws::the_first_sends_are_the_order;
-use transcript::laws::few_words_are_few_pieces;
+use script_plans::laws::few_words_are_few_pieces;
 
 /// The most operations that the code takes are those of the definitions.
 pub fn the_limit_of_operations()

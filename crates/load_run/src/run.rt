@@ -17,13 +17,13 @@ use client_threads::Gate;
 use ipb_base::NoMemory;
 use lossy_network::Rack;
 use reliable_engine::Settings;
+use script_plans::BoardRun;
 use script_steps::Steps;
 use session_run::{RunFault, run_session};
 use std::alloc::Global;
 use std::marker::Sync;
 use std::sync::Wait;
 use std::thread::Threads;
-use transcript::BoardRun;
 
 /// What is told of a run.
 #[derive(Drop)]

@@ -7,9 +7,10 @@ ghost use Rattle.ipb_base.specs.Numbers.{in_64_bits};
 ghost use Rattle.load_run.specs.Summary as spec;
 
 use ipb_base::NoMemory;
+use script_plans::BoardRun;
 use script_steps::Steps;
 use std::alloc::Global;
-use transcript::{BoardLine, BoardRun, OpLine, OpResult, board_lines, lines_of_clients};
+use transcript::{BoardLine, OpLine, OpResult, board_lines, lines_of_clients};
 
 /// What is told of the run of a generated session (profile).
 #[derive(Clone, Copy, PartialEq, Eq)]

@@ -9,8 +9,8 @@ use Rattle.lane_record.specs.Outcomes.{is_replied, is_sent, is_timed_out}
 use Rattle.lane_record.specs.Submissions.{Submission}
 use Rattle.hub_lane.specs.declared.answers.BoardState.{BoardState}
 use Rattle.hub_lane.specs.declared.answers.BoardState.TheVariants as stands
-use Rattle.transcript.specs.declared.greeting.Greeting.{Greeting}
-use Rattle.transcript.specs.declared.greeting.Greeting.TheVariants.{Live, Silent, Down}
+use Rattle.script_plans.specs.declared.greeting.Greeting.{Greeting}
+use Rattle.script_plans.specs.declared.greeting.Greeting.TheVariants.{Live, Silent, Down}
 use Rattle.transcript.specs.declared.line.BoardLine.TheVariants as board_lines
 use Rattle.transcript.specs.Lines.{board_line, is_lost}
 use Rattle.lane_history.proofs.Waits.{count_cons}

@@ -18,9 +18,9 @@ use Rattle.hub_session.specs.Codes.{bad_packet_code, link_lost_code, no_board_co
 use Rattle.hub_session.specs.Exchanges.{Exchange}
 use Rattle.board_node.specs.declared.spec.BoardSpec.{BoardSpec}
 use Rattle.world_model.specs.Settings.{Limits}
-use Rattle.transcript.specs.declared.greeting.Greeting.{Greeting}
-use Rattle.transcript.specs.declared.greeting.Greeting.TheVariants.{Live}
-use Rattle.transcript.specs.declared.greeting.Greeting.TheVariants as greeting
+use Rattle.script_plans.specs.declared.greeting.Greeting.{Greeting}
+use Rattle.script_plans.specs.declared.greeting.Greeting.TheVariants.{Live}
+use Rattle.script_plans.specs.declared.greeting.Greeting.TheVariants as greeting
 use Rattle.lane_history.specs.Links.{LinkReport}
 use Rattle.client_history.specs.Boards.{AreServedOver, ServedBoard}
 use Rattle.session_serve.specs.Boards.{states_from, states_of}

@@ -11,9 +11,9 @@ use Rattle.world_model.specs.Settings.{Limits}
 use Rattle.lane_record.specs.Submissions.{Submission}
 use Rattle.hub_lane.specs.declared.answers.BoardState.{BoardState}
 use Rattle.hub_lane.specs.declared.answers.BoardState.TheVariants as stands
-use Rattle.transcript.specs.declared.greeting.Greeting.{Greeting}
-use Rattle.transcript.specs.declared.greeting.Greeting.TheVariants.{Live, Silent, Down}
-use Rattle.transcript.specs.Claims.{Rises}
+use Rattle.script_plans.specs.declared.greeting.Greeting.{Greeting}
+use Rattle.script_plans.specs.declared.greeting.Greeting.TheVariants.{Live, Silent, Down}
+use Rattle.script_plans.specs.Claims.{Rises}
 use Rattle.board_history.specs.GiveUps.{IsExact}
 use Rattle.board_history.specs.Order.{RisesFrom}
 use Rattle.board_history.specs.Parts.{IsReplied}

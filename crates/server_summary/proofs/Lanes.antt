@@ -3,8 +3,8 @@ use Rattle.std.proofs.Common.{◌≡◌, ℕ, zero, suc, ◌+◌, ◌≤◌, Lis
 use Rattle.std.specs.List.{slice_get}
 use Rattle.hub_lane.specs.declared.answers.BoardState.TheVariants.{Lane}
 use Rattle.hub_lane.specs.declared.answers.BoardState.TheVariants as stands
-use Rattle.transcript.specs.declared.greeting.Greeting.{Greeting}
-use Rattle.transcript.specs.declared.greeting.Greeting.TheVariants.{Live, Silent, Down}
+use Rattle.script_plans.specs.declared.greeting.Greeting.{Greeting}
+use Rattle.script_plans.specs.declared.greeting.Greeting.TheVariants.{Live, Silent, Down}
 use Rattle.session_serve.specs.Boards.{states_from}
 
 pub same_lane : (m n : ℕ) → Some (Lane m) ≡ Some (Lane n) → m ≡ n

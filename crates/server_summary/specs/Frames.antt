@@ -9,7 +9,7 @@ use Rattle.board_bus.specs.Cells.{CellMap}
 use Rattle.board_node.specs.declared.spec.BoardSpec.{BoardSpec}
 use Rattle.world_model.specs.Settings.{Limits}
 use Rattle.lane_record.specs.Outcomes.{place_of}
-use Rattle.transcript.specs.Claims.{Rises}
+use Rattle.script_plans.specs.Claims.{Rises}
 use Rattle.board_history.specs.Order.{RisesFrom}
 use Rattle.board_history.specs.GiveUps.{IsExact}
 use Rattle.lane_history.specs.Links.{HasFailed, LinkReport}

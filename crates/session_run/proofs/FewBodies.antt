@@ -7,8 +7,8 @@ use Rattle.transaction_codec.specs.Request.{op_count}
 use Rattle.script_steps.specs.Executable.{AreExecutable}
 use Rattle.script_steps.specs.Packing.{AreWithinLimits, all_operations}
 use Rattle.script_steps.specs.declared.operation.Step.{Step}
-use Rattle.transcript.specs.declared.greeting.Greeting.TheVariants.{Live}
-use Rattle.transcript.specs.Plan.{ClientBodies, all_bodies, plans_on}
+use Rattle.script_plans.specs.declared.greeting.Greeting.TheVariants.{Live}
+use Rattle.script_plans.specs.Plan.{ClientBodies, all_bodies, plans_on}
 use Rattle.session_run.specs.Plans.{HasFewBodies}
 use Rattle.session_run.specs.Clients.{HasItsCounts}
 use Rattle.session_run.proofs.Parts.{each_counts, sum_first}

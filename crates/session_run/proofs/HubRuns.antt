@@ -25,9 +25,9 @@ use Rattle.client_threads.specs.declared.plan.ClientPlan.{ClientPlan}
 use Rattle.client_threads.specs.declared.result.ClientResult.{ClientResult}
 use Rattle.script_steps.specs.declared.operation.Step.{Step}
 use Rattle.board_history.specs.Runs.{parts_with}
-use Rattle.transcript.specs.declared.board_run.ClientPart.{ClientPart}
-use Rattle.transcript.specs.declared.greeting.Greeting.TheVariants.{Live}
-use Rattle.transcript.specs.Plan.{ClientBodies, planned_on, plans_on}
+use Rattle.script_plans.specs.declared.board_run.ClientPart.{ClientPart}
+use Rattle.script_plans.specs.declared.greeting.Greeting.TheVariants.{Live}
+use Rattle.script_plans.specs.Plan.{ClientBodies, planned_on, plans_on}
 use Rattle.lane_history.specs.Records.{IsPartlyPlanned}
 use Rattle.client_history.specs.Clients.{AskAll, LeftByClients, came_with, sealed_plans}
 use Rattle.session_run.specs.Parts.{HasLanes, outcomes_on_lane, parts_from}

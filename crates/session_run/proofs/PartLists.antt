@@ -7,8 +7,8 @@ use Rattle.std.proofs.lemmas.List.{set_at, take_all, take_more}
 use Rattle.lane_record.specs.declared.outcome.Outcome.{Outcome}
 use Rattle.client_threads.specs.declared.result.ClientResult.{ClientResult}
 use Rattle.board_history.specs.Runs.{parts_with}
-use Rattle.transcript.specs.declared.board_run.ClientPart.{ClientPart}
-use Rattle.transcript.specs.Plan.{ClientBodies}
+use Rattle.script_plans.specs.declared.board_run.ClientPart.{ClientPart}
+use Rattle.script_plans.specs.Plan.{ClientBodies}
 use Rattle.session_run.specs.Parts.{HasClients, HasLanes, HasNext, next_of, others_of, outcomes_on_lane, parts_from}
 
 -- the parts on each board, by what is left of each client's outcomes

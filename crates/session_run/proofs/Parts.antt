@@ -9,11 +9,11 @@ use Rattle.lane_record.specs.declared.outcome.Outcome.{Outcome}
 use Rattle.lane_record.specs.Dispatches.{joined}
 use Rattle.board_history.specs.History.{dispatches_of}
 use Rattle.board_history.specs.Runs.{parts_with}
-use Rattle.transcript.specs.declared.board_run.ClientPart.{ClientPart}
+use Rattle.script_plans.specs.declared.board_run.ClientPart.{ClientPart}
 use Rattle.script_steps.specs.declared.operation.Step.{Step}
-use Rattle.transcript.specs.declared.greeting.Greeting.{Greeting}
-use Rattle.transcript.specs.declared.greeting.Greeting.TheVariants.{Live, Silent, Down}
-use Rattle.transcript.specs.Plan.{ClientBodies, no_bodies, plan, planned_on, plans_on, with_dispatch}
+use Rattle.script_plans.specs.declared.greeting.Greeting.{Greeting}
+use Rattle.script_plans.specs.declared.greeting.Greeting.TheVariants.{Live, Silent, Down}
+use Rattle.script_plans.specs.Plan.{ClientBodies, no_bodies, plan, planned_on, plans_on, with_dispatch}
 use Rattle.session_run.specs.Plans.{counts_by_client}
 use Rattle.session_run.specs.Clients.{HasItsCounts, IsWholePart, bodies_of}
 

@@ -11,8 +11,8 @@ use Rattle.world_model.specs.Board.{Board}
 use Rattle.board_bus.specs.Cells.{CellMap}
 use Rattle.hub_lane.specs.Lanes.{LaneState, board_of, opening_of}
 use Rattle.script_steps.specs.declared.operation.Step.{Step}
-use Rattle.transcript.specs.declared.greeting.Greeting.TheVariants.{Live}
-use Rattle.transcript.specs.Plan.{ClientBodies, planned_on}
+use Rattle.script_plans.specs.declared.greeting.Greeting.TheVariants.{Live}
+use Rattle.script_plans.specs.Plan.{ClientBodies, planned_on}
 use Rattle.session_run.specs.Parts.{HasClients}
 use Rattle.session_run.specs.Plans.{ArePlansOnBoard, HasFewBodies}
 use Rattle.session_run.proofs.PartLists.{get_behind}

@@ -13,9 +13,9 @@ use Rattle.script_steps.specs.declared.operation.Step.TheVariants.{Do, Dispatch 
 use Rattle.client_threads.specs.Clients.{AreOfClientsFrom, AreRisingFrom, IsPlanFor, bodies_on, counts_on}
 use Rattle.client_threads.specs.declared.plan.Dispatch.{Dispatch}
 use Rattle.client_threads.specs.declared.plan.ClientPlan.{ClientPlan}
-use Rattle.transcript.specs.declared.greeting.Greeting.TheVariants.{Live}
-use Rattle.transcript.specs.Plan.{ClientBodies, begun, dispatches, no_bodies, plan, planned_on, plans_on}
-use Rattle.transcript.specs.Plan.{ops_on, with_dispatch}
+use Rattle.script_plans.specs.declared.greeting.Greeting.TheVariants.{Live}
+use Rattle.script_plans.specs.Plan.{ClientBodies, begun, dispatches, no_bodies, plan, planned_on, plans_on}
+use Rattle.script_plans.specs.Plan.{ops_on, with_dispatch}
 use Rattle.session_run.specs.Plans.{ArePlansOnBoard, AskAllFrom, HasFewBodies, count_at, counts_by_client, ends_in}
 use Rattle.session_run.specs.Plans.{dispatch_over, pair_of, pairs_from, plan_over, plans_over}
 use Rattle.session_run.proofs.Pairs.{bodies_at, pairs_more, pairs_rise}

@@ -13,8 +13,8 @@ use Rattle.lane_record.proofs.Lookups.{numbers_append, sealed_append}
 use Rattle.hub_lane.specs.Lanes.{LaneState, with_item}
 use Rattle.hub_lane.specs.Calls.{sealed}
 use Rattle.script_steps.specs.declared.operation.Step.{Step}
-use Rattle.transcript.specs.declared.greeting.Greeting.{Greeting}
-use Rattle.transcript.specs.Plan.{ClientBodies, planned_on, plans_on}
+use Rattle.script_plans.specs.declared.greeting.Greeting.{Greeting}
+use Rattle.script_plans.specs.Plan.{ClientBodies, planned_on, plans_on}
 use Rattle.lane_record.specs.Dispatches.{all_plans_from, plans_from}
 use Rattle.board_history.proofs.Lists.{begins_at}
 use Rattle.lane_history.specs.Records.{IsPartlyPlanned}

@@ -11,9 +11,9 @@ use Rattle.script_steps.specs.declared.operation.Step.{Step}
 use Rattle.hub_lane.specs.Lanes.{BoardStatus, LaneState}
 use Rattle.hub_lane.specs.declared.greeting.Greeted.{Greeted}
 use Rattle.hub_lane.specs.declared.greeting.Greeted.TheVariants.{Ready, Silent, Down, NoMemory}
-use Rattle.transcript.specs.declared.greeting.Greeting.TheVariants as greeting
-use Rattle.transcript.specs.declared.board_run.ClientPart.{ClientPart}
-use Rattle.transcript.specs.Plan.{plans_on}
+use Rattle.script_plans.specs.declared.greeting.Greeting.TheVariants as greeting
+use Rattle.script_plans.specs.declared.board_run.ClientPart.{ClientPart}
+use Rattle.script_plans.specs.Plan.{plans_on}
 use Rattle.lane_history.specs.Links.{IsBoardOf, LinkReport}
 use Rattle.board_greeting.specs.Reports.{board_there}
 use Rattle.lane_history.specs.Records.{IsPartlyPlanned}

@@ -10,8 +10,8 @@ use Rattle.world_core.specs.Telling.{Telling}
 use Rattle.world_model.specs.Settings.{Limits}
 use Rattle.board_node.specs.declared.spec.BoardSpec.{BoardSpec}
 use Rattle.script_steps.specs.declared.operation.Step.{Step}
-use Rattle.transcript.specs.declared.board_run.BoardRun.{BoardRun}
-use Rattle.transcript.specs.declared.board_run.ClientPart.{ClientPart}
+use Rattle.script_plans.specs.declared.board_run.BoardRun.{BoardRun}
+use Rattle.script_plans.specs.declared.board_run.ClientPart.{ClientPart}
 use Rattle.lane_history.specs.Links.{IsUntouched, LinkReport}
 use Rattle.lane_history.specs.Runs.{AreRunsOver, ExecutedSome, IsRunOver}
 use Rattle.board_greeting.specs.Boards.{AreUntouched, HasRoom}

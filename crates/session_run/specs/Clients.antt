@@ -6,8 +6,8 @@ use Rattle.lane_record.specs.declared.item.Item.{Item}
 use Rattle.lane_record.specs.Dispatches.{joined, plans_from}
 use Rattle.hub_lane.specs.Lanes.{LaneState, board_of}
 use Rattle.board_history.specs.History.{dispatches_of}
-use Rattle.transcript.specs.declared.board_run.ClientPart.{ClientPart}
-use Rattle.transcript.specs.Plan.{ClientBodies}
+use Rattle.script_plans.specs.declared.board_run.ClientPart.{ClientPart}
+use Rattle.script_plans.specs.Plan.{ClientBodies}
 
 -- ---- the lane around its record
 

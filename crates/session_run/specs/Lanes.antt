@@ -9,9 +9,9 @@ use Rattle.board_node.specs.declared.spec.BoardSpec.{BoardSpec}
 use Rattle.script_steps.specs.declared.operation.Step.{Step}
 use Rattle.hub_lane.specs.Lanes.{LaneState, opening_of}
 use Rattle.client_history.specs.Clients.{sealed_plans}
-use Rattle.transcript.specs.declared.greeting.Greeting.TheVariants.{Live}
-use Rattle.transcript.specs.declared.board_run.ClientPart.{ClientPart}
-use Rattle.transcript.specs.Plan.{ClientBodies, plans_on}
+use Rattle.script_plans.specs.declared.greeting.Greeting.TheVariants.{Live}
+use Rattle.script_plans.specs.declared.board_run.ClientPart.{ClientPart}
+use Rattle.script_plans.specs.Plan.{ClientBodies, plans_on}
 use Rattle.board_history.specs.History.{dispatches_of}
 use Rattle.lane_history.specs.Records.{IsClientsRecord, IsPartlyPlanned}
 use Rattle.session_run.specs.Plans.{HasFewBodies}

@@ -4,8 +4,8 @@ use Rattle.std.specs.List.{slice_index_or}
 use Rattle.lane_record.specs.declared.outcome.Outcome.{Outcome}
 use Rattle.client_threads.specs.declared.result.ClientResult.{ClientResult}
 use Rattle.board_history.specs.Runs.{parts_with}
-use Rattle.transcript.specs.declared.board_run.ClientPart.{ClientPart}
-use Rattle.transcript.specs.Plan.{ClientBodies}
+use Rattle.script_plans.specs.declared.board_run.ClientPart.{ClientPart}
+use Rattle.script_plans.specs.Plan.{ClientBodies}
 
 -- the result has outcomes on so many lanes
 abbrev pub HasLanes : ℕ → ClientResult → Type 0

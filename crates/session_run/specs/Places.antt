@@ -4,7 +4,7 @@ use Rattle.world_core.specs.Telling.{Telling}
 use Rattle.world_model.specs.Settings.{Limits}
 use Rattle.board_node.specs.declared.spec.BoardSpec.{BoardSpec}
 use Rattle.script_steps.specs.declared.operation.Step.{Step}
-use Rattle.transcript.specs.declared.board_run.ClientPart.{ClientPart}
+use Rattle.script_plans.specs.declared.board_run.ClientPart.{ClientPart}
 use Rattle.lane_history.specs.Links.{LinkReport}
 use Rattle.board_greeting.specs.Places.{IsIdleBoard}
 use Rattle.board_greeting.specs.declared.rejoined.Board.{Board}

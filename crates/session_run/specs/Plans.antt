@@ -7,8 +7,8 @@ use Rattle.client_threads.specs.declared.plan.Dispatch.{Dispatch}
 use Rattle.client_threads.specs.declared.plan.ClientPlan.{ClientPlan}
 use Rattle.script_steps.specs.declared.operation.Step.{Step}
 use Rattle.script_steps.specs.declared.operation.Step.TheVariants.{Do, Dispatch as EndOfDispatch}
-use Rattle.transcript.specs.declared.greeting.Greeting.TheVariants.{Live}
-use Rattle.transcript.specs.Plan.{ClientBodies, plans_on}
+use Rattle.script_plans.specs.declared.greeting.Greeting.TheVariants.{Live}
+use Rattle.script_plans.specs.Plan.{ClientBodies, plans_on}
 
 -- these are the plans of the clients' scripts on a live board
 pub record ArePlansOnBoard (scripts : List (List Step)) (planned : List ClientBodies) : Type 0 where

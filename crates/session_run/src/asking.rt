@@ -5,14 +5,14 @@ ghost use Rattle.std.specs.List.{AllByRecursion};
 ghost use Rattle.client_threads.specs.Clients.{AreOfClientsFrom, IsPlanFor};
 ghost use Rattle.session_run.specs.Plans.{ArePlansOnBoard, AskAllFrom, HasFewBodies};
 ghost use Rattle.session_run.specs.Plans as spec;
-ghost use Rattle.transcript.specs.Plan.{dispatches};
+ghost use Rattle.script_plans.specs.Plan.{dispatches};
 
 use crate::board_plans::BoardPlans;
 use client_threads::{Asks, ClientPlan, Dispatch, Dispatches};
 use ipb_base::NoMemory;
+use script_plans::Planned;
 use script_steps::{Step, Steps};
 use std::alloc::Global;
-use transcript::Planned;
 
 /// How many bodies a client, from 0, has in a dispatch on a board.
 fn count_at(planned: &[Planned], client: usize, dispatch: usize) -> usize

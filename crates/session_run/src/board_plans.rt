@@ -2,8 +2,8 @@
 
 ghost use Rattle.std.specs.Prelude.{◌≡◌};
 
+use script_plans::Planned;
 use std::marker::Model;
-use transcript::Planned;
 
 /// What each client has planned on a live board, client 1 first. Contracts see that list.
 #[derive(Drop)]
@@ -13,7 +13,7 @@ pub struct BoardPlans {
 
 impl Model for BoardPlans {
     ghost use Rattle.std.specs.Prelude.{List};
-    ghost use Rattle.transcript.specs.Plan.{ClientBodies};
+    ghost use Rattle.script_plans.specs.Plan.{ClientBodies};
 
     ghost Value = { List ClientBodies };
 

@@ -17,11 +17,12 @@ use ipb_base::{NoMemory, Text};
 use lane_history::records::{
     a_finished_lane_is_a_live_run, a_lane_left_at_any_moment_executed_a_merge,
 };
+use lane_record::Outcomes;
 use lossy_network::Rack;
 use reliable_engine::Settings;
+use script_plans::{BoardRun, ClientPart, ClientParts, Greeting, plan_on};
 use script_steps::Steps;
 use std::alloc::Global;
-use transcript::{BoardRun, ClientPart, ClientParts, Greeting, Outcomes, plan_on};
 use world_core::Link;
 
 /// The run of a board under its name, where it has parts.

@@ -24,12 +24,12 @@ use hub_lane::Lane;
 use hub_lane::laws::a_record_tells_its_lane;
 use ipb_base::NoMemory;
 use lane_history::building::a_record_is_partly_planned_on_its_way;
+use script_plans::ClientParts;
 use script_steps::Steps;
 use std::alloc::Global;
 use std::marker::{Send, Sync};
 use std::sync::Wait;
 use std::thread::Threads;
-use transcript::ClientParts;
 use world_core::Link;
 
 /// Plans the clients on each lane, whose board has the position beside it.

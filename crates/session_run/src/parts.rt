@@ -10,8 +10,8 @@ use crate::board_plans::BoardPlans;
 use crate::rest::RestOutcomes;
 use client_threads::ClientResult;
 use ipb_base::NoMemory;
+use script_plans::{ClientPart, ClientParts};
 use std::alloc::Global;
-use transcript::{ClientPart, ClientParts};
 
 /// The parts of the clients on a board, by what became of their bodies on the next lane.
 fn parts_on_next(

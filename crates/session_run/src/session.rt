@@ -21,12 +21,12 @@ use ipb_base::NoMemory;
 use lane_history::records::a_lane_left_at_any_moment_executed_a_merge;
 use lossy_network::{Rack, RackFault};
 use reliable_engine::Settings;
+use script_plans::{BoardRun, ClientParts};
 use script_steps::Steps;
 use std::alloc::Global;
 use std::marker::Sync;
 use std::sync::Wait;
 use std::thread::Threads;
-use transcript::{BoardRun, ClientParts};
 
 /// Why a session has no runs.
 #[derive(Clone, Copy, PartialEq, Eq)]

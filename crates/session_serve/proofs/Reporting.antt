@@ -26,8 +26,8 @@ use Rattle.hub_lane.specs.declared.answers.BoardState.TheVariants as stands
 use Rattle.hub_multiplexer.specs.Ends.{Ends}
 use Rattle.hub_multiplexer.specs.Lanes.{shown}
 use Rattle.client_threads.specs.Running.{AtEach}
-use Rattle.transcript.specs.declared.greeting.Greeting.{Greeting}
-use Rattle.transcript.specs.declared.greeting.Greeting.TheVariants as greeting
+use Rattle.script_plans.specs.declared.greeting.Greeting.{Greeting}
+use Rattle.script_plans.specs.declared.greeting.Greeting.TheVariants as greeting
 use Rattle.transcript.specs.declared.line.BoardLine.{BoardLine}
 use Rattle.transcript.specs.declared.line.BoardLine.TheVariants as line
 use Rattle.transcript.specs.Lines.{board_line}

@@ -8,7 +8,7 @@ use Rattle.hub_lane.specs.declared.greeting.Greeted.{Greeted}
 use Rattle.hub_lane.specs.declared.greeting.Greeted.TheVariants.{Ready, Silent, Down, NoMemory}
 use Rattle.hub_lane.specs.declared.answers.BoardState.{BoardState}
 use Rattle.hub_session.specs.Serving.{IsLaneBelow}
-use Rattle.transcript.specs.declared.greeting.Greeting.{Greeting}
+use Rattle.script_plans.specs.declared.greeting.Greeting.{Greeting}
 use Rattle.board_greeting.specs.Places.{lanes_in}
 use Rattle.session_serve.specs.Boards.{states_from}
 use Rattle.session_serve.specs.Pairs.{GivesBack, PairReport, pair_shown}

@@ -4,8 +4,8 @@ use Rattle.std.specs.List.{slice_get}
 use Rattle.board_node.specs.declared.spec.BoardSpec.{BoardSpec}
 use Rattle.hub_lane.specs.declared.answers.BoardState.{BoardState}
 use Rattle.hub_lane.specs.declared.answers.BoardState.TheVariants as stands
-use Rattle.transcript.specs.declared.greeting.Greeting.{Greeting}
-use Rattle.transcript.specs.declared.greeting.Greeting.TheVariants.{Live, Silent, Down}
+use Rattle.script_plans.specs.declared.greeting.Greeting.{Greeting}
+use Rattle.script_plans.specs.declared.greeting.Greeting.TheVariants.{Live, Silent, Down}
 use Rattle.transcript.specs.declared.line.BoardLine.{BoardLine}
 use Rattle.transcript.specs.Lines.{board_line}
 use Rattle.lane_history.specs.Links.{LinkReport, IsBoardOf}

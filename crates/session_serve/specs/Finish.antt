@@ -6,8 +6,8 @@ use Rattle.board_node.specs.declared.spec.BoardSpec.{BoardSpec}
 use Rattle.lane_record.specs.Bounds.{timeouts}
 use Rattle.hub_lane.specs.Calls.{is_lost_at_place, is_replied}
 use Rattle.hub_lane.specs.Lanes.{IsLane, LaneState}
-use Rattle.transcript.specs.declared.greeting.Greeting.{Greeting}
-use Rattle.transcript.specs.declared.greeting.Greeting.TheVariants as greeting
+use Rattle.script_plans.specs.declared.greeting.Greeting.{Greeting}
+use Rattle.script_plans.specs.declared.greeting.Greeting.TheVariants as greeting
 use Rattle.transcript.specs.declared.line.BoardLine.{BoardLine}
 use Rattle.transcript.specs.declared.line.BoardLine.TheVariants as line
 use Rattle.board_greeting.specs.Boards.{IsEndedLane, IsLaneTo, shown_by}

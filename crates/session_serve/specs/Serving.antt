@@ -2,7 +2,7 @@
 use Rattle.std.specs.Prelude.{◌≡◌, ◌≢◌, ℕ, List, map}
 use Rattle.board_node.specs.declared.spec.BoardSpec.{BoardSpec}
 use Rattle.world_model.specs.Settings.{Limits}
-use Rattle.transcript.specs.declared.greeting.Greeting.{Greeting}
+use Rattle.script_plans.specs.declared.greeting.Greeting.{Greeting}
 use Rattle.transcript.specs.declared.line.BoardLine.{BoardLine}
 use Rattle.lane_history.specs.Links.{LinkReport}
 use Rattle.hub_lane.specs.declared.answers.BoardState.{BoardState}

@@ -9,7 +9,8 @@ ghost use Rattle.session_serve.specs.Finish.{IsSound, line_in, lines_in, link_in
 use board_greeting::{Board, Rejoined, close_lane};
 use ipb_base::Text;
 use lossy_network::Rack;
-use transcript::{BoardLine, Greeting};
+use script_plans::Greeting;
+use transcript::BoardLine;
 use world_core::Link;
 
 /// The line of a board that is not live.

@@ -1,9 +1,8 @@
 -- The lines of a client, operation by operation.
-use Rattle.std.proofs.Common.{◌≡◌, ℕ, suc, ◌+◌, ◌<◌, ◌==◌, cond, Bool, length, get_or, take, drop, List, [], ◌∷◌}
-use Rattle.std.proofs.Common.{◌++◌}
-use Rattle.std.proofs.Common.{sym, ap, ◌∙◌, inl, inr, arith, zero-add, append_assoc, append-nil, add-one, drop-cons}
+use Rattle.std.proofs.Common.{◌≡◌, ℕ, suc, ◌+◌, ◌<◌, ◌==◌, cond, length, get_or, take, drop, List, [], ◌∷◌, ◌++◌, sym}
+use Rattle.std.proofs.Common.{ap, ◌∙◌, inl, inr, arith, zero-add, append_assoc, append-nil, add-one, drop-cons}
 use Rattle.std.proofs.Common.{length-append, length-set}
-use Rattle.std.specs.List.{slice_get, count_by}
+use Rattle.std.specs.List.{slice_get}
 use Rattle.std.specs.Option.{option_map}
 use Rattle.std.specs.Prelude.{option_to_list, slice_index}
 use Rattle.std.proofs.lemmas.Bool.{cases_eq}
@@ -11,21 +10,16 @@ use Rattle.std.proofs.lemmas.Bool.Decides.{nat_tests}
 use Rattle.std.proofs.lemmas.Grind.{get_or-set_at}
 use Rattle.std.proofs.lemmas.List.{take_more, get_or-set_other}
 use Rattle.std.proofs.lemmas.List.Elements.{filter_map-append}
-use Rattle.std.proofs.lemmas.List.Sums.{sum_by-append}
 use Rattle.std.proofs.lemmas.Option.{slice_get_cases}
 use Rattle.script_steps.specs.declared.operation.RegOp.{RegOp}
 use Rattle.script_steps.specs.declared.operation.Step.{Step}
 use Rattle.script_steps.specs.declared.operation.Step.TheVariants.{Do, Dispatch}
-use Rattle.transcript.specs.declared.board_run.BoardRun.{BoardRun}
+use Rattle.script_plans.specs.declared.board_run.BoardRun.{BoardRun}
 use Rattle.transcript.specs.declared.line.OpLine.{OpLine}
-use Rattle.transcript.specs.Plan.{operation_in, operations}
-use Rattle.transcript.specs.Lines.{line_of, count_on}
+use Rattle.script_plans.specs.Plan.{operation_in, operations, count_on}
+use Rattle.transcript.specs.Lines.{line_of}
 use Rattle.transcript.specs.Steps.{line_on, bumped, IsProgress}
-
--- what is counted of two lists
-pub count_by-append : {A : Type 0} (p : A → Bool) (xs ys : List A)
-    → count_by p (xs ++ ys) ≡ count_by p xs + count_by p ys
-count_by-append p xs ys = sum_by-append (λ x. cond (p x) 1 0) xs ys
+use Rattle.script_plans.proofs.Covering.{count_by-append}
 
 -- the count at a place that is raised, and at the others
 bumped_at : (counts : List ℕ) (at b : ℕ) → b < length counts

@@ -6,7 +6,7 @@ use Rattle.reply_join.specs.declared.answer.Answer.{Answer}
 use Rattle.std.proofs.lemmas.List.{append_assoc, drop_all, drop_more}
 use Rattle.std.proofs.lemmas.Option.{slice_get_read}
 use Rattle.script_steps.specs.declared.operation.Verb.{Verb}
-use Rattle.transcript.specs.declared.planned.PieceAt.{PieceAt}
+use Rattle.script_plans.specs.declared.planned.PieceAt.{PieceAt}
 use Rattle.transcript.specs.declared.body_end.BodyEnd.{BodyEnd}
 use Rattle.transcript.specs.declared.body_end.Told.{Told}
 use Rattle.transcript.specs.declared.line.OpResult.{OpResult}

@@ -25,25 +25,25 @@ use Rattle.script_steps.specs.declared.operation.RegOp.{RegOp}
 use Rattle.script_steps.specs.declared.operation.Step.{Step}
 use Rattle.lane_record.specs.declared.outcome.Outcome.{Outcome}
 use Rattle.lane_record.specs.declared.outcome.Outcome.TheVariants as became
-use Rattle.transcript.specs.declared.greeting.Greeting.{Greeting}
-use Rattle.transcript.specs.declared.greeting.Greeting.TheVariants.{Live, Silent, Down}
-use Rattle.transcript.specs.declared.planned.PieceAt.{PieceAt}
+use Rattle.script_plans.specs.declared.greeting.Greeting.{Greeting}
+use Rattle.script_plans.specs.declared.greeting.Greeting.TheVariants.{Live, Silent, Down}
+use Rattle.script_plans.specs.declared.planned.PieceAt.{PieceAt}
 use Rattle.transcript.specs.declared.body_end.Told.{Told}
 use Rattle.transcript.specs.declared.body_end.Told.TheVariants as told
 use Rattle.transcript.specs.declared.body_end.BodyEnd.{BodyEnd}
-use Rattle.transcript.specs.declared.board_run.ClientPart.{ClientPart}
-use Rattle.transcript.specs.declared.board_run.BoardRun.{BoardRun}
+use Rattle.script_plans.specs.declared.board_run.ClientPart.{ClientPart}
+use Rattle.script_plans.specs.declared.board_run.BoardRun.{BoardRun}
 use Rattle.transcript.specs.declared.line.OpResult.{OpResult}
 use Rattle.transcript.specs.declared.line.OpResult.TheVariants.{Value, Done, Was, Error, Skipped, TimedOut, Unsent}
 use Rattle.transcript.specs.declared.line.OpResult.TheVariants.{LinkLost, Garbled}
-use Rattle.transcript.specs.Plan.{IsWithinBody, operations}
+use Rattle.script_plans.specs.Plan.{IsWithinBody, operations}
 use Rattle.transcript.specs.Ends.{told_by, end_of, ends_of, answered, told_at, result_in, piece_result}
 use Rattle.transcript.specs.Ends.{place_at, place_in, piece_place}
 use Rattle.transcript.specs.Results.{is_good, first_fault, values_in, word_before, shown, op_places}
 use Rattle.transcript.specs.Lines.{Showing, by_pieces, in_part, showing, line_of, lines_behind, client_lines}
 use Rattle.transcript.specs.Claims.{IsByte, IsPrinted, IsPrintedPlace, IsPrintedLine, IsInRange, IsPartInRange}
 use Rattle.transcript.specs.Claims.{IsRunInRange, IsSpaceless}
-use Rattle.transcript.proofs.Lookups.{all_at}
+use Rattle.script_plans.proofs.Lookups.{all_at}
 use Rattle.transcript.proofs.Skipping.{Joins}
 
 -- ---- bodies

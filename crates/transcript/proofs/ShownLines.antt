@@ -11,24 +11,24 @@ use Rattle.mtu_packer.proofs.AnyLemmas.{any_nowhere, any_here, any_later, any_ca
 use Rattle.mtu_packer.proofs.AnyLemmas.{any_at, at_any}
 use Rattle.script_steps.specs.declared.operation.RegOp.{RegOp}
 use Rattle.script_steps.specs.declared.operation.Step.{Step}
-use Rattle.transcript.specs.declared.greeting.Greeting.{Greeting}
-use Rattle.transcript.specs.declared.greeting.Greeting.TheVariants.{Live, Silent, Down}
+use Rattle.script_plans.specs.declared.greeting.Greeting.{Greeting}
+use Rattle.script_plans.specs.declared.greeting.Greeting.TheVariants.{Live, Silent, Down}
 use Rattle.lane_record.specs.declared.outcome.Outcome.{Outcome}
-use Rattle.transcript.specs.declared.planned.PieceAt.{PieceAt}
+use Rattle.script_plans.specs.declared.planned.PieceAt.{PieceAt}
 use Rattle.transcript.specs.declared.body_end.BodyEnd.{BodyEnd}
-use Rattle.transcript.specs.declared.board_run.ClientPart.{ClientPart}
-use Rattle.transcript.specs.declared.board_run.BoardRun.{BoardRun}
+use Rattle.script_plans.specs.declared.board_run.ClientPart.{ClientPart}
+use Rattle.script_plans.specs.declared.board_run.BoardRun.{BoardRun}
 use Rattle.transcript.specs.declared.line.OpLine.{OpLine}
-use Rattle.transcript.specs.Plan.{ClientBodies, operations, plan, planned_on, all_dispatches}
+use Rattle.script_plans.specs.Plan.{ClientBodies, operations, plan, planned_on, all_dispatches, count_on}
 use Rattle.transcript.specs.Ends.{end_of, ends_of, place_at, place_in, piece_place}
 use Rattle.transcript.specs.Results.{op_places}
-use Rattle.transcript.specs.Lines.{by_pieces, in_part, showing, count_on, line_of, lines_behind, client_lines}
+use Rattle.transcript.specs.Lines.{by_pieces, in_part, showing, line_of, lines_behind, client_lines}
 use Rattle.transcript.specs.Lines.{lines_from}
-use Rattle.transcript.specs.Shown.{ShowsPlace, IsShown, EndsAt, HasBodyAt, IsPlaceOn, IsPlanned, ArePlanned}
-use Rattle.transcript.specs.Shown.{HaveOwnNames, HasPiece}
-use Rattle.transcript.proofs.LineLemmas.{count_by-append}
-use Rattle.transcript.proofs.Covering.{each_has_pieces}
-use Rattle.transcript.proofs.EachBody.{BodiesHavePieces, each_body}
+use Rattle.transcript.specs.Shown.{ShowsPlace, IsShown, EndsAt, HasBodyAt, IsPlaceOn}
+use Rattle.script_plans.specs.Runs.{IsPlanned, ArePlanned, HaveOwnNames}
+use Rattle.script_plans.specs.Claims.{HasPiece}
+use Rattle.script_plans.proofs.Covering.{count_by-append, each_has_pieces}
+use Rattle.script_plans.proofs.EachBody.{BodiesHavePieces, each_body}
 
 abbrev IsAtPlace : ℕ → ℕ × ℕ → Type 0
 IsAtPlace place at = at.0 ≡ place

@@ -1,20 +1,18 @@
 -- What the laws say of lines and outcomes.
-use Rattle.std.specs.Prelude.{◌≡◌, ◌≢◌, ◌⊎◌, ℕ, ◌<◌, ◌^◌, ◌==◌, Bool, true, not, List, [], ◌∷◌, Some, None}
+use Rattle.std.specs.Prelude.{◌≡◌, ◌≢◌, ◌⊎◌, ℕ, ◌<◌, ◌^◌, ◌==◌, Bool, true, not, List, Some, None, length}
 use Rattle.std.specs.List.{AllByRecursion, list_all, slice_get}
 use Rattle.ipb_base.specs.Word.{IsWord, AreWords}
-use Rattle.std.specs.Prelude.{length}
 use Rattle.script_steps.specs.declared.operation.RegOp.{RegOp}
 use Rattle.script_steps.specs.declared.operation.Step.{Step}
-use Rattle.transcript.specs.declared.board_run.BoardRun.{BoardRun}
-use Rattle.transcript.specs.declared.board_run.ClientPart.{ClientPart}
-use Rattle.transcript.specs.Plan.{ClientBodies, IsWithinBody, operations}
+use Rattle.script_plans.specs.declared.board_run.BoardRun.{BoardRun}
+use Rattle.script_plans.specs.declared.board_run.ClientPart.{ClientPart}
+use Rattle.script_plans.specs.Plan.{IsWithinBody, operations}
 use Rattle.lane_record.specs.declared.outcome.Outcome.{Outcome}
 use Rattle.lane_record.specs.declared.outcome.Outcome.TheVariants as became
 use Rattle.transcript.specs.declared.line.OpResult.{OpResult}
 use Rattle.transcript.specs.declared.line.OpResult.TheVariants.{Value, Done, Was, Error, Skipped, TimedOut, Unsent}
 use Rattle.transcript.specs.declared.line.OpResult.TheVariants.{LinkLost, Garbled}
 use Rattle.transcript.specs.declared.line.OpLine.{OpLine}
-use Rattle.transcript.specs.declared.planned.PieceAt.{PieceAt}
 use Rattle.transcript.specs.declared.body_end.BodyEnd.{BodyEnd}
 
 -- the result is a value, `done` or `was`
@@ -68,15 +66,6 @@ pub record IsPrintedLine (line : OpLine) : Type 0 where
 
 -- ---- the order of pieces
 
--- a piece in an earlier body, or before the other in the same one
-abbrev pub IsBefore : PieceAt → PieceAt → Type 0
-IsBefore p q = (p.body < q.body) ⊎ ((p.body ≡ q.body) × (p.index < q.index))
-
--- each item of a list stands so to each later one
-abbrev pub Rises : {T : Type 0} → (T → T → Type 0) → List T → Type 0
-Rises R [] = Unit {0}
-Rises R (x ∷ xs) = AllByRecursion (R x) xs × Rises R xs
-
 abbrev pub IsOther : ℕ × ℕ → ℕ × ℕ → Type 0
 IsOther place other = place ≢ other
 
@@ -94,10 +83,6 @@ IsOnBoard runs op = op.board < length runs
 -- each operation is on a board of the run
 abbrev pub AreOnBoards : List BoardRun → List Step → Type 0
 AreOnBoards runs steps = AllByRecursion (IsOnBoard runs) (operations steps)
-
--- each piece stands in a body that is there
-abbrev pub HaveBodies : ClientBodies → Type 0
-HaveBodies all = AllByRecursion (AllByRecursion (λ (piece : PieceAt). piece.body < length all.bodies)) all.pieces
 
 -- ---- runs whose numbers have the ranges of their fields
 

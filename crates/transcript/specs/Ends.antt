@@ -7,11 +7,11 @@ use Rattle.reply_join.specs.ByWords.{answers}
 use Rattle.lane_record.specs.declared.outcome.Outcome.{Outcome}
 use Rattle.lane_record.specs.declared.outcome.Outcome.TheVariants as became
 use Rattle.lane_record.specs.Outcomes.{place_of}
-use Rattle.transcript.specs.declared.planned.PieceAt.{PieceAt}
+use Rattle.script_plans.specs.declared.planned.PieceAt.{PieceAt}
 use Rattle.transcript.specs.declared.body_end.Told.{Told}
 use Rattle.transcript.specs.declared.body_end.Told.TheVariants as told
 use Rattle.transcript.specs.declared.body_end.BodyEnd.{BodyEnd}
-use Rattle.transcript.specs.declared.board_run.ClientPart.{ClientPart}
+use Rattle.script_plans.specs.declared.board_run.ClientPart.{ClientPart}
 use Rattle.transcript.specs.declared.line.OpResult.{OpResult}
 use Rattle.transcript.specs.declared.line.OpResult.TheVariants.{Value, Done, Error, Skipped, TimedOut, Unsent, LinkLost}
 use Rattle.transcript.specs.declared.line.OpResult.TheVariants.{Garbled}

@@ -1,4 +1,3 @@
-pub mod Plan
 pub mod Ends
 pub mod Results
 pub mod Lines

@@ -1,24 +1,26 @@
 -- The lines of a run: a function of each client's steps, and of what became of each board. Profile.
-use Rattle.std.specs.Prelude.{ℕ, ◌+◌, ◌==◌, Bool, true, false, if◌then◌else◌, List, [], ◌∷◌, ◌++◌, length}
-use Rattle.std.specs.Prelude.{map, count_by, slice_get, Option, Some, None, option_to_list, option_map}
-use Rattle.std.specs.List.{flat_map, list_all}
+use Rattle.std.specs.Prelude.{ℕ, ◌+◌, Bool, true, false, if◌then◌else◌, List, [], ◌∷◌, ◌++◌, length, map, count_by}
+use Rattle.std.specs.Prelude.{slice_get, Option, Some, None, option_to_list, option_map}
+use Rattle.std.specs.List.{list_all}
 use Rattle.script_steps.specs.declared.operation.RegOp.{RegOp}
 use Rattle.script_steps.specs.declared.operation.Step.{Step}
 use Rattle.lane_record.specs.declared.outcome.Outcome.{Outcome}
 use Rattle.lane_record.specs.declared.outcome.Outcome.TheVariants.{Replied, TimedOut, Unsent, LinkLost}
 use Rattle.lane_record.specs.Outcomes.{is_sent, is_replied, is_timed_out}
-use Rattle.transcript.specs.declared.greeting.Greeting.TheVariants as greeting
-use Rattle.transcript.specs.declared.planned.PieceAt.{PieceAt}
-use Rattle.transcript.specs.declared.board_run.ClientPart.{ClientPart}
-use Rattle.transcript.specs.declared.board_run.BoardRun.{BoardRun}
+use Rattle.script_plans.specs.declared.greeting.Greeting.TheVariants as greeting
+use Rattle.script_plans.specs.declared.planned.PieceAt.{PieceAt}
+use Rattle.script_plans.specs.declared.board_run.ClientPart.{ClientPart}
+use Rattle.script_plans.specs.declared.board_run.BoardRun.{BoardRun}
 use Rattle.transcript.specs.declared.line.OpResult.{OpResult}
 use Rattle.transcript.specs.declared.line.OpResult.TheVariants as result
 use Rattle.transcript.specs.declared.line.OpLine.{OpLine}
 use Rattle.transcript.specs.declared.line.BoardLine.{BoardLine}
 use Rattle.transcript.specs.declared.line.BoardLine.TheVariants as board_lines
-use Rattle.transcript.specs.Plan.{operations}
+use Rattle.script_plans.specs.Plan.{operations}
 use Rattle.transcript.specs.Ends.{ends_of}
 use Rattle.transcript.specs.Results.{op_result, op_places, is_good}
+use Rattle.script_plans.specs.Plan.{count_on}
+use Rattle.script_plans.specs.Runs.{outcomes_on}
 
 -- ---- operations
 
@@ -45,10 +47,6 @@ showing run client k op = elim run.greeting as (λ _. Showing) [
   | greeting.Silent ↦ never_sent
   | greeting.Down ↦ (result.LinkLost, [])
 ]
-
--- how many of these operations are on a board
-abbrev pub count_on : ℕ → List RegOp → ℕ
-count_on board ops = count_by (λ (op : RegOp). op.board == board) ops
 
 abbrev pub line_with : ℕ → RegOp → List ℕ → Showing → OpLine
 line_with number op name shows =
@@ -84,13 +82,6 @@ is_lost (TimedOut place rounds) = false
 is_lost Unsent = false
 is_lost (LinkLost (Some place)) = true
 is_lost (LinkLost None) = false
-
--- what became of all bodies of some clients on a board
-abbrev pub outcomes_in : List ClientPart → List Outcome
-outcomes_in parts = flat_map (λ (part : ClientPart). part.outcomes) parts
-
-abbrev pub outcomes_on : BoardRun → List Outcome
-outcomes_on run = outcomes_in run.parts
 
 abbrev pub live_line : List ℕ → List Outcome → BoardLine
 live_line name outcomes =

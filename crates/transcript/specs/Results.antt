@@ -5,7 +5,7 @@ use Rattle.masked_fields.specs.Field.{field}
 use Rattle.script_steps.specs.declared.operation.Verb.{Verb}
 use Rattle.script_steps.specs.declared.operation.Verb.TheVariants.{Read, Write, ReadBlock, WriteBlock, RmwBits, RmwSum}
 use Rattle.script_steps.specs.declared.operation.RegOp.{RegOp}
-use Rattle.transcript.specs.declared.planned.PieceAt.{PieceAt}
+use Rattle.script_plans.specs.declared.planned.PieceAt.{PieceAt}
 use Rattle.transcript.specs.declared.body_end.BodyEnd.{BodyEnd}
 use Rattle.transcript.specs.declared.line.OpResult.{OpResult}
 use Rattle.transcript.specs.declared.line.OpResult.TheVariants.{Value, Done, Was, Error, Skipped, TimedOut, Unsent}

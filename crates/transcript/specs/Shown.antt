@@ -1,21 +1,14 @@
 -- Which places of their boards the lines of a transcript show. Profile.
-use Rattle.std.specs.Prelude.{◌≡◌, ◌≢◌, ◌↔◌, ℕ, ◌+◌, ◌≤◌, List, [], ◌∷◌, map, Some}
-use Rattle.std.specs.List.{AllByRecursion, AllPairs, Any}
-use Rattle.script_steps.specs.declared.operation.Step.{Step}
-use Rattle.transcript.specs.declared.planned.PieceAt.{PieceAt}
+use Rattle.std.specs.Prelude.{◌≡◌, ◌↔◌, ℕ, ◌≤◌, List, Some}
+use Rattle.std.specs.List.{AllByRecursion, Any}
 use Rattle.transcript.specs.declared.body_end.BodyEnd.{BodyEnd}
-use Rattle.transcript.specs.declared.board_run.ClientPart.{ClientPart}
-use Rattle.transcript.specs.declared.board_run.BoardRun.{BoardRun}
+use Rattle.script_plans.specs.declared.board_run.ClientPart.{ClientPart}
+use Rattle.script_plans.specs.declared.board_run.BoardRun.{BoardRun}
 use Rattle.transcript.specs.declared.line.OpLine.{OpLine}
 use Rattle.transcript.specs.declared.line.BoardLine.{BoardLine}
 use Rattle.transcript.specs.declared.line.BoardLine.TheVariants.{Live, Silent, Down}
-use Rattle.transcript.specs.Plan.{plans_on}
 use Rattle.transcript.specs.Ends.{ends_of}
 use Rattle.transcript.specs.Lines.{Transcript}
-
--- some operation has a piece in the body of this number
-abbrev pub HasPiece : ℕ → List (List PieceAt) → Type 0
-HasPiece body pieces = Any (Any (λ (piece : PieceAt). piece.body ≡ body)) pieces
 
 -- ---- what lines show
 
@@ -62,19 +55,3 @@ HasBodyAt place part = Any (EndsAt place) (ends_of part)
 -- some body of some client has this place on the board
 abbrev pub IsPlaceOn : BoardRun → ℕ → Type 0
 IsPlaceOn run place = Any (HasBodyAt place) run.parts
-
--- ---- the boards of a session
-
--- each client asked the board at this position for the bodies of its script
-abbrev pub IsPlanned : ℕ → List (List Step) → BoardRun → Type 0
-IsPlanned board scripts run =
-    map (λ (part : ClientPart). part.planned) run.parts ≡ plans_on board run.greeting scripts
-
--- the same of all boards, the first of which has this position
-abbrev pub ArePlanned : ℕ → List (List Step) → List BoardRun → Type 0
-ArePlanned board scripts [] = Unit {0}
-ArePlanned board scripts (run ∷ runs) = IsPlanned board scripts run × ArePlanned (board + 1) scripts runs
-
--- no two boards have one name
-abbrev pub HaveOwnNames : List BoardRun → Type 0
-HaveOwnNames runs = AllPairs (λ (one other : BoardRun). one.name ≢ other.name) runs

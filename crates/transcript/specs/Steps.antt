@@ -1,32 +1,22 @@
 -- How the steps of the calls work together: what private functions promise one another. No public clause speaks of
 -- these.
-use Rattle.std.specs.Prelude.{◌≡◌, ℕ, ◌+◌, ◌≤◌, ◌<◌, ◌^◌, Bool, if◌then◌else◌, List, [], ◌∷◌, ◌++◌, length, map, take}
-use Rattle.std.specs.Prelude.{drop, slice_get, slice_set, slice_index, Option, Some, None}
+use Rattle.std.specs.Prelude.{◌≡◌, ℕ, ◌+◌, ◌≤◌, ◌<◌, Bool, if◌then◌else◌, List, [], ◌++◌, length, take, drop, slice_get}
+use Rattle.std.specs.Prelude.{slice_set, slice_index, Option, Some, None}
 use Rattle.std.specs.Option.{option_map_or}
 use Rattle.script_steps.specs.declared.operation.RegOp.{RegOp}
 use Rattle.script_steps.specs.declared.operation.Step.{Step}
 use Rattle.lane_record.specs.declared.outcome.Outcome.{Outcome}
 use Rattle.transcript.specs.declared.body_end.BodyEnd.{BodyEnd}
-use Rattle.transcript.specs.declared.board_run.BoardRun.{BoardRun}
+use Rattle.script_plans.specs.declared.board_run.BoardRun.{BoardRun}
 use Rattle.transcript.specs.declared.line.OpResult.{OpResult}
 use Rattle.transcript.specs.declared.line.OpLine.{OpLine}
 use Rattle.transcript.specs.declared.boards.Kind.{Kind}
 use Rattle.transcript.specs.declared.boards.Kind.TheVariants as kind
-use Rattle.std.specs.Prelude.{All, fold}
-use Rattle.std.specs.List.{AllByRecursion, flat_map}
-use Rattle.transaction_codec.specs.declared.request.Op.{Op}
-use Rattle.mtu_packer.specs.Cutting.{CanBeCut, cut}
-use Rattle.mtu_packer.specs.Packed.{Contents, FitsPackets, packed}
-use Rattle.script_steps.specs.Packing.{CanBePacked, IsSelection}
-use Rattle.script_steps.specs.Packing as script
-use Rattle.transcript.specs.declared.planning.Planning.{Planning}
-use Rattle.transcript.specs.Plan.{ClientBodies, AreSound, operations, dispatches, ops_on, plan, with_dispatch}
-use Rattle.transcript.specs.Plan.{all_dispatches}
+use Rattle.script_plans.specs.Plan.{operations, count_on}
 use Rattle.transcript.specs.Ends.{ends_of}
 use Rattle.transcript.specs.Results.{is_good}
 use Rattle.lane_record.specs.Outcomes.{is_sent, is_replied, is_timed_out}
-use Rattle.transcript.specs.Lines.{showing, line_with, lines_behind, client_lines, count_on}
-use Rattle.transcript.specs.Lines.{is_lost}
+use Rattle.transcript.specs.Lines.{showing, line_with, lines_behind, client_lines, is_lost}
 
 -- what a piece came to, where it failed
 abbrev pub fault_in : OpResult → Option OpResult
@@ -61,32 +51,3 @@ is_of kind.Sent outcome = is_sent outcome
 is_of kind.Replied outcome = is_replied outcome
 is_of kind.TimedOut outcome = is_timed_out outcome
 is_of kind.Lost outcome = is_lost outcome
-
--- ---- planning
-
-abbrev pub so_far : Planning → ClientBodies
-so_far p = record { bodies = p.bodies.items; pieces = p.pieces.items; counts = p.counts.items }
-
--- the dispatches that are left, the first of which begins with the operations that wait
-abbrev pub continued : ℕ → ℕ → List Op → List (List RegOp) → List Contents
-continued payload board queued [] = packed payload queued ∷ []
-continued payload board queued (dispatch ∷ later) =
-    packed payload (queued ++ ops_on board dispatch) ∷ map (λ ops. packed payload (ops_on board ops)) later
-
--- selections of operations, behind these, are cut into no more pieces than packing takes
-abbrev pub HaveFewBehind : ℕ → List Op → List Step → Type 0
-HaveFewBehind payload queued steps =
-    (ops : List Op) → IsSelection ops (script.operations steps)
-    → length (flat_map (cut payload) (queued ++ ops)) ≤ 2 ^ 31
-
--- where the first `i` steps are planned, but for what waits for the next dispatch
-pub record IsPlanning (payload board : ℕ) (steps : List Step) (i : ℕ) (all : ClientBodies) (queued : List Op) : Type 0
-  where
-    pub planned : fold with_dispatch all (continued payload board queued (dispatches (drop i steps)))
-        ≡ all_dispatches (plan payload board steps)
-    pub sound : AreSound all
-    pub room : AllByRecursion (FitsPackets payload) all.bodies
-    pub can : All CanBeCut queued
-    pub can_later : AllByRecursion CanBePacked (drop i steps)
-    pub few : HaveFewBehind payload queued (drop i steps)
-    pub few_later : HaveFewBehind payload [] (drop i steps)

@@ -2,13 +2,13 @@
 
 ghost use Rattle.std.specs.Prelude.{◌≡◌, IfOk, map, count_by};
 ghost use Rattle.transcript.specs.Lines as spec;
+ghost use Rattle.script_plans.specs.Runs.{outcomes_in};
 ghost use Rattle.transcript.specs.Steps.{is_of};
 
-use crate::board_run::{BoardRun, ClientPart};
-use crate::greeting::Greeting;
 use crate::line::BoardLine;
 use ipb_base::{NoMemory, Text};
 use lane_record::Outcome;
+use script_plans::{BoardRun, ClientPart, Greeting};
 use std::alloc::Global;
 
 /// What a board's line counts.
@@ -43,7 +43,7 @@ fn count_in(outcomes: &[Outcome], kind: Kind) -> usize
 
 /// How many bodies of the clients on a board are of a kind.
 fn count(parts: &[ClientPart], kind: Kind) -> Result<u64, NoMemory>
-    ensures { IfOk result (λ total. total ≡ count_by (is_of kind) (spec.outcomes_in parts.now)) }
+    ensures { IfOk result (λ total. total ≡ count_by (is_of kind) (outcomes_in parts.now)) }
 {
     let mut total = 0u64;
     for part in parts {

@@ -4,7 +4,7 @@ ghost use Rattle.std.specs.Prelude.{◌≡◌, IfOk, map};
 ghost use Rattle.std.specs.List.{zip};
 ghost use Rattle.transaction_codec.specs.Request.{SpellsRequests};
 ghost use Rattle.reply_join.specs.ByWords.{answers};
-ghost use Rattle.transcript.specs.Plan.{AreSpelled};
+ghost use Rattle.script_plans.specs.Plan.{AreSpelled};
 ghost use Rattle.transcript.specs.Ends as spec;
 
 use ipb_base::{NoMemory, Words};

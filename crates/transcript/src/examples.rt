@@ -3,7 +3,7 @@
 
 ghost use Rattle.std.specs.Prelude.{◌≡◌, ℕ, ◌∷◌, ◌++◌, [], Some, None, codes, replicate};
 ghost use Rattle.lane_record.specs.declared.outcome.Outcome.TheVariants.{Replied, TimedOut, Unsent, LinkLost};
-ghost use Rattle.transcript.specs.declared.greeting.Greeting.TheVariants.{Silent, Down};
+ghost use Rattle.script_plans.specs.declared.greeting.Greeting.TheVariants.{Silent, Down};
 ghost use Rattle.script_steps.specs.declared.operation.Step.TheVariants.{Dispatch};
 ghost use Rattle.std.specs.List.{flat_map};
 ghost use Rattle.transcript.specs.Listing.{named_text};

@@ -1,35 +1,26 @@
 //! Laws of the definitions. These functions do nothing when they run: their clauses are what is proved.
 
-ghost use Rattle.std.specs.Prelude.{◌≡◌, ◌↔◌, ℕ, ◌+◌, ◌*◌, ◌<◌, ◌≤◌, ◌^◌, sum_by, List, length};
+ghost use Rattle.std.specs.Prelude.{◌≡◌, ◌↔◌, ℕ, ◌+◌, ◌<◌, ◌^◌, List, length};
 ghost use Rattle.std.specs.Prelude.{count_by, map};
-ghost use Rattle.std.specs.List.{AllByRecursion, filter_map, flat_map, range_with_len};
+ghost use Rattle.std.specs.List.{AllByRecursion, filter_map, range_with_len};
 ghost use Rattle.ipb_base.specs.Word.{AreWords};
-ghost use Rattle.transaction_codec.specs.Request.{op_count};
-ghost use Rattle.mtu_packer.specs.Packed.{Contents, deal, words_with_answer};
-ghost use Rattle.mtu_packer.specs.declared.packing.TheConstants.{MIN_PAYLOAD, MAX_PAYLOAD};
-ghost use Rattle.script_steps.specs.Executable.{AreExecutable};
-ghost use Rattle.script_steps.specs.Packing.{all_operations, operations, HaveFewPieces};
 ghost use Rattle.script_steps.specs.declared.operation.Step.{Step};
 ghost use Rattle.lane_record.specs.declared.outcome.Outcome.{Outcome as OutcomeValue};
 ghost use Rattle.transcript.specs.declared.line.OpLine.{OpLine as OpLineValue};
 ghost use Rattle.transcript.specs.declared.line.OpResult.TheVariants.{Skipped, Error};
-ghost use Rattle.transcript.specs.declared.planned.PieceAt.{PieceAt as PieceValue};
+ghost use Rattle.script_plans.specs.declared.planned.PieceAt.{PieceAt as PieceValue};
 ghost use Rattle.transcript.specs.declared.body_end.BodyEnd.{BodyEnd as BodyEndValue};
-ghost use Rattle.transcript.specs.declared.board_run.BoardRun.{BoardRun as BoardRunValue};
-ghost use Rattle.transcript.specs.Plan as in_order;
-ghost use Rattle.transcript.specs.declared.greeting.Greeting.TheVariants.{Live};
-ghost use Rattle.transcript.specs.Plan.{all_bodies, bodies_in, all_dispatches, plan, plans_on};
+ghost use Rattle.script_plans.specs.declared.board_run.BoardRun.{BoardRun as BoardRunValue};
+ghost use Rattle.script_plans.specs.Plan as in_order;
 ghost use Rattle.lane_record.specs.Outcomes.{place_of, is_sent, is_replied, is_timed_out};
 ghost use Rattle.transcript.specs.Ends.{told_of, told_at};
 ghost use Rattle.transcript.specs.Results.{op_places};
 ghost use Rattle.transcript.specs.Text.{line_text};
-ghost use Rattle.transcript.specs.Lines.{is_lost, run_status, client_lines, count_on};
-ghost use Rattle.transcript.specs.Claims.{IsDone, HaveWords, IsPrintedLine, IsBefore, Rises, IsOther, HaveOwnPlaces};
-ghost use Rattle.transcript.specs.Claims.{AreOnBoards, HaveBodies, IsRunInRange, IsSpaceless};
+ghost use Rattle.transcript.specs.Lines.{is_lost, run_status, client_lines};
+ghost use Rattle.transcript.specs.Claims.{IsDone, HaveWords, IsPrintedLine, IsOther, HaveOwnPlaces};
+ghost use Rattle.script_plans.specs.Claims.{IsBefore, Rises};
+ghost use Rattle.transcript.specs.Claims.{AreOnBoards, IsRunInRange, IsSpaceless};
 
-use mtu_packer::laws::{
-    operations_of_words_are_packed, packings_are_short, pieces_are_no_more_than_words,
-};
 use reply_join::laws::{joining_is_a_function, skipped_stands_behind_a_fault};
 
 /// The first sends of a board's line are the bodies that have a place, and each of them was replied to, timed out, or
@@ -48,28 +39,11 @@ pub fn the_status_tells_whether_all_was_done()
     ensures other { (clients : List (List OpLineValue)) → run_status clients < 2 }
 {}
 
-/// The bodies of a client on a board are those of its plan, one dispatch behind the other, and `counts` cuts them into
-/// the plan's dispatches again.
-pub fn bodies_stand_dispatch_by_dispatch()
-    ensures bodies { (plan : List Contents) →
-        (all_dispatches plan).bodies ≡ flat_map (λ bodies. bodies) (bodies_in plan) }
-    ensures counts { (plan : List Contents) →
-        deal (all_dispatches plan).counts (all_dispatches plan).bodies ≡ bodies_in plan }
-{}
-
 /// Every operation of a client has its line, in order, and the lines are numbered from 1.
 pub fn every_operation_has_its_line()
     ensures { (runs : List BoardRunValue) (client : ℕ) (steps : List Step) → AreOnBoards runs steps →
         map (λ (line : OpLineValue). line.number) (client_lines runs client steps)
         ≡ range_with_len 1 (length (in_order.operations steps)) }
-{}
-
-/// A plan has pieces for every operation on the board, and each piece stands in a body of the plan: so none is told as
-/// unsent for want of a piece or a body.
-pub fn every_operation_has_its_pieces()
-    ensures pieces { (payload board : ℕ) (steps : List Step) →
-        length (all_dispatches (plan payload board steps)).pieces ≡ count_on board (in_order.operations steps) }
-    ensures bodies { (payload board : ℕ) (steps : List Step) → HaveBodies (all_dispatches (plan payload board steps)) }
 {}
 
 /// A transaction is told as skipped only where one before it in the same body failed: so a body without a failure has
@@ -83,12 +57,9 @@ pub fn skipped_stands_behind_an_error()
     skipped_stands_behind_a_fault();
 }
 
-/// The pieces of an operation stand one behind the other, in rising bodies and, within a body, with rising numbers.
-/// So where no two bodies have one place, no two pieces of an operation have one.
+/// Where no two bodies have one place, no two pieces of an operation have one, since they stand in order.
 pub fn pieces_of_an_operation_have_their_own_places()
-    ensures pieces { (payload board : ℕ) (steps : List Step) →
-        AllByRecursion (Rises IsBefore) (all_dispatches (plan payload board steps)).pieces }
-    ensures places { (ends : List BodyEndValue) (pieces : List PieceValue) → HaveOwnPlaces ends →
+    ensures { (ends : List BodyEndValue) (pieces : List PieceValue) → HaveOwnPlaces ends →
         Rises IsBefore pieces → Rises IsOther (op_places ends pieces) }
 {}
 
@@ -107,26 +78,4 @@ pub fn the_lines_of_a_client_can_be_told()
         AllByRecursion IsPrintedLine (client_lines runs client steps) }
 {
     joining_is_a_function();
-}
-
-/// Operations that read and write at most 2^31 words together are cut into few enough pieces for packing.
-pub fn few_words_are_few_pieces()
-    ensures { (steps : List Step) → sum_by op_count (operations steps) ≤ 2 ^ 31 → HaveFewPieces steps }
-{
-    pieces_are_no_more_than_words();
-}
-
-/// The bodies that clients ask of one board are few, and short with the longest answers to them, by how many operations
-/// all clients have and how many words these read and write.
-pub fn plans_are_short()
-    ensures bodies { (payload board : ℕ) (scripts : List (List Step)) → MIN_PAYLOAD ≤ payload → payload ≤ MAX_PAYLOAD →
-        AllByRecursion AreExecutable scripts → 13 * length (all_bodies (plans_on board (Live payload) scripts))
-        ≤ sum_by op_count (all_operations scripts) + 12 * length (all_operations scripts) }
-    ensures words { (payload board : ℕ) (scripts : List (List Step)) → MIN_PAYLOAD ≤ payload → payload ≤ MAX_PAYLOAD →
-        AllByRecursion AreExecutable scripts →
-        sum_by words_with_answer (all_bodies (plans_on board (Live payload) scripts))
-        ≤ 6 * sum_by op_count (all_operations scripts) }
-{
-    operations_of_words_are_packed();
-    packings_are_short();
 }

@@ -2,17 +2,16 @@
 
 ghost use Rattle.std.specs.Prelude.{◌≡◌, ◌+◌, ◌-◌, ◌++◌, ◌^◌, ◌<◌, [], IfOk, OnOk, length, map, option_to_list};
 ghost use Rattle.std.specs.Prelude.{option_map, slice_get, slice_index};
-ghost use Rattle.transcript.specs.declared.board_run.ClientPart.{ClientPart as PartValue};
+ghost use Rattle.script_plans.specs.declared.board_run.ClientPart.{ClientPart as PartValue};
 ghost use Rattle.transcript.specs.Ends as of_ends;
 ghost use Rattle.transcript.specs.Lines as spec;
 ghost use Rattle.transcript.specs.Steps.{ends_on, line_on, bumped, AreBelow};
 
-use crate::board_run::{BoardRun, ClientPart};
 use crate::body_end::{BodyEnd, ends_of};
-use crate::greeting::Greeting;
 use crate::line::{LinePlaces, OpLine, OpResult};
 use crate::results::{op_places, op_result};
 use ipb_base::{NoMemory, Text};
+use script_plans::{BoardRun, ClientPart, Greeting};
 use script_steps::{RegOp, Step, Steps};
 use std::alloc::Global;
 

@@ -1,22 +1,13 @@
 //! Laws of the places that lines show. These functions do nothing when they run: their clauses are what is proved.
 
-ghost use Rattle.std.specs.Prelude.{◌≡◌, ◌↔◌, ℕ, ◌<◌, List, length, Some, slice_get};
+ghost use Rattle.std.specs.Prelude.{◌≡◌, ◌↔◌, ℕ, List, Some, slice_get};
 ghost use Rattle.script_steps.specs.declared.operation.Step.{Step};
-ghost use Rattle.transcript.specs.declared.board_run.BoardRun.{BoardRun as BoardRunValue};
+ghost use Rattle.script_plans.specs.declared.board_run.BoardRun.{BoardRun as BoardRunValue};
 ghost use Rattle.transcript.specs.Lines.{transcript_of};
-ghost use Rattle.transcript.specs.Plan.{all_dispatches, plan};
-ghost use Rattle.transcript.specs.Shown.{ArePlanned, HasPiece, HaveOwnNames, IsPlaceOn, IsShown};
+ghost use Rattle.script_plans.specs.Runs.{ArePlanned, HaveOwnNames};
+ghost use Rattle.transcript.specs.Shown.{IsPlaceOn, IsShown};
 
 use mtu_packer::laws::each_body_has_a_piece;
-
-/// Each body of a plan has a piece of some operation, so none is sent for nothing.
-pub fn each_body_of_a_plan_has_a_piece()
-    ensures { (payload board : ℕ) (steps : List Step) (body : ℕ) →
-        body < length (all_dispatches (plan payload board steps)).bodies →
-        HasPiece body (all_dispatches (plan payload board steps)).pieces }
-{
-    each_body_has_a_piece();
-}
 
 /// The lines of a run show of each board the places of the bodies that its clients asked for, each in some line, and no
 /// other place.

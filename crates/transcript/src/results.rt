@@ -3,17 +3,17 @@
 ghost use Rattle.std.specs.Prelude.{◌≡◌, ◌++◌, IfOk, OnOk, map, slice_get};
 ghost use Rattle.std.specs.List.{AllByRecursion};
 ghost use Rattle.masked_fields.specs.Field.{field};
-ghost use Rattle.transcript.specs.Plan.{IsWithinBody};
+ghost use Rattle.script_plans.specs.Plan.{IsWithinBody};
 ghost use Rattle.transcript.specs.Ends.{answered, piece_result, piece_place};
 ghost use Rattle.transcript.specs.Results as spec;
 ghost use Rattle.transcript.specs.Steps.{fault_in};
 
 use crate::body_end::{BodyEnd, Told};
 use crate::line::{LinePlaces, OpResult};
-use crate::planned::PieceAt;
 use ipb_base::{NoMemory, Words};
 use masked_fields::extract;
 use reply_join::Answer;
+use script_plans::PieceAt;
 use script_steps::{RegOp, Verb};
 use std::alloc::Global;
 

@@ -1,6 +1,6 @@
 use Rattle.std.proofs.Common.{sym, subst}
 use Rattle.std.specs.List.{AllByRecursion}
-use Rattle.transcript.specs.declared.board_run.BoardRun.{BoardRun}
+use Rattle.script_plans.specs.declared.board_run.BoardRun.{BoardRun}
 use Rattle.board_history.specs.Runs.{opening_of, plans_on, greeting_of}
 use Rattle.board_history.specs.Answering.{AskRequests}
 use Rattle.board_history.specs.Lines.{IsBusResult}

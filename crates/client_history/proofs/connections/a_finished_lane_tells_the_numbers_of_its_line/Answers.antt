@@ -6,7 +6,7 @@ use Rattle.lane_record.specs.declared.outcome.Outcome.{Outcome}
 use Rattle.lane_record.specs.FirstSends.{bodies_sent, first_sends}
 use Rattle.lane_record.specs.Outcomes.{is_replied, is_timed_out}
 use Rattle.hub_lane.specs.Calls as lane
-use Rattle.transcript.specs.declared.greeting.Greeting.TheVariants.{Live}
+use Rattle.script_plans.specs.declared.greeting.Greeting.TheVariants.{Live}
 use Rattle.transcript.specs.declared.line.BoardLine.TheVariants as board_lines
 use Rattle.transcript.specs.Lines.{is_lost}
 use Rattle.board_history.specs.Order.{Placed, bodies_of as bodies_in, order}

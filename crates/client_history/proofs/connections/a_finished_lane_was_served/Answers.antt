@@ -1,4 +1,4 @@
-use Rattle.transcript.specs.declared.greeting.Greeting.TheVariants.{Live}
+use Rattle.script_plans.specs.declared.greeting.Greeting.TheVariants.{Live}
 use Rattle.client_history.specs.Boards.{run_of}
 use Rattle.client_history.proofs.Parts.{record_shown, same_joined}
 use Rattle.client_history.proofs.connections.a_finished_lane_was_served.Goals as goal

@@ -1,8 +1,8 @@
 use Rattle.std.proofs.Common.{map}
 use Rattle.world_model.specs.Board.{Board, executed}
 use Rattle.lane_record.specs.Claims.{claims}
-use Rattle.transcript.specs.Plan.{ClientBodies, plans_on}
-use Rattle.transcript.specs.declared.greeting.Greeting.TheVariants.{Live}
+use Rattle.script_plans.specs.Plan.{ClientBodies, plans_on}
+use Rattle.script_plans.specs.declared.greeting.Greeting.TheVariants.{Live}
 use Rattle.board_history.specs.Runs.{opening_of}
 use Rattle.lane_history.specs.Lanes.{IsTrueOf}
 use Rattle.lane_history.specs.Runs.{ExecutedSome}

@@ -1,6 +1,6 @@
 use Rattle.board_history.proofs.BusLines.{session_holds}
 use Rattle.board_history.proofs.Readiness.{all_verbs_kept}
-use Rattle.transcript.specs.Lines.{count_on}
+use Rattle.script_plans.specs.Plan.{count_on}
 use Rattle.lane_history.specs.Runs.{IsLineOfRounds}
 use Rattle.lane_history.proofs.Rounds.{rounds_at}
 use Rattle.lane_history.proofs.runs.lines_show_the_rounds_of_the_session.Goals as goal

@@ -5,7 +5,7 @@ use Rattle.client_threads.specs.Clients.{AreOfClientsFrom, IsPlanFor}
 use Rattle.client_threads.specs.declared.plan.ClientPlan.{ClientPlan}
 use Rattle.script_steps.specs.declared.operation.Step.{Step}
 use Rattle.session_run.specs.Plans.{AskAllFrom, plans_over}
-use Rattle.transcript.specs.Plan.{dispatches}
+use Rattle.script_plans.specs.Plan.{dispatches}
 use Rattle.session_run.proofs.Plans.{ask_all, client_more, counts_long, dispatch_counts, plans_clients, plans_for}
 use Rattle.session_run.proofs.Plans.{plans_many}
 use Rattle.session_run.proofs.asking.client_plans.Goals as goal

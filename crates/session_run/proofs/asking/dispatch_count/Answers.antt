@@ -1,6 +1,6 @@
 use Rattle.std.proofs.Common.{◌≡◌, ◌+◌, ◌∷◌, List, ap, arith, drop, length}
 use Rattle.script_steps.specs.declared.operation.Step.{Step}
-use Rattle.transcript.specs.Plan.{dispatches}
+use Rattle.script_plans.specs.Plan.{dispatches}
 use Rattle.board_history.proofs.Lists.{begins_at}
 use Rattle.session_run.proofs.Plans.{one_at_most, step_more}
 use Rattle.session_run.proofs.asking.dispatch_count.Goals as goal

@@ -1,5 +1,5 @@
 use Rattle.std.proofs.Common.{◌≡◌, ◌≤◌, ◌+◌, drop, length}
-use Rattle.transcript.specs.Plan.{dispatches}
+use Rattle.script_plans.specs.Plan.{dispatches}
 use Rattle.session_run.proofs.asking.dispatch_count.Given as goal
 
 -- the dispatches that ended so far, and those that are left

@@ -1,7 +1,7 @@
 use Rattle.std.proofs.lemmas.Result.{IfOk-weaker}
 use Rattle.ipb_base.specs.Numbers.{payload_of}
-use Rattle.transcript.specs.declared.board_run.BoardRun.{BoardRun}
-use Rattle.transcript.specs.declared.greeting.Greeting.TheVariants.{Live}
+use Rattle.script_plans.specs.declared.board_run.BoardRun.{BoardRun}
+use Rattle.script_plans.specs.declared.greeting.Greeting.TheVariants.{Live}
 use Rattle.lane_history.specs.Runs.{IsRunOver}
 use Rattle.board_greeting.specs.Boards.{shown_by}
 use Rattle.session_run.specs.Boards.{IsNamed}

@@ -3,7 +3,7 @@ use Rattle.std.specs.List.{AllByRecursion}
 use Rattle.client_threads.specs.Clients.{IsPlanFor}
 use Rattle.session_run.specs.Plans.{ArePlansOnBoard, HasFewBodies}
 use Rattle.session_run.specs.Lanes.{IsPlannedOn}
-use Rattle.transcript.specs.Plan.{ClientBodies}
+use Rattle.script_plans.specs.Plan.{ClientBodies}
 use Rattle.session_run.proofs.PlanningLanes.{boards_few, boards_planned}
 use Rattle.session_run.proofs.Sides.{four_ends, four_long}
 use Rattle.session_run.proofs.lanes.plan_all.Goals as goal

@@ -1,7 +1,7 @@
 use Rattle.std.proofs.Common.{◌≡◌, ◌∙◌, ◌<◌, ◌++◌, ◌∷◌, [], List, ap, arith, get_or, length, refl, subst, sym}
 use Rattle.std.proofs.lemmas.Grind.{get_or_default_zero}
 use Rattle.hub_lane.specs.Lanes.{LaneState}
-use Rattle.transcript.specs.Plan.{ClientBodies}
+use Rattle.script_plans.specs.Plan.{ClientBodies}
 use Rattle.session_run.proofs.PlanningLanes.{all_planned, gone_between, gone_within, lane_planned, next_lane}
 use Rattle.session_run.proofs.PlanningLanes.{next_unused}
 use Rattle.session_run.proofs.PlanningLanes.{none_planned, planned_gone, unused_gone}

@@ -4,8 +4,8 @@ use Rattle.std.proofs.lemmas.List.{take_all}
 use Rattle.session_run.specs.Plans.{HasFewBodies}
 use Rattle.session_run.proofs.FewBodies.{few_planned}
 use Rattle.lane_record.specs.Items.{is_sealed}
-use Rattle.transcript.specs.declared.greeting.Greeting.TheVariants.{Live}
-use Rattle.transcript.specs.Plan.{ClientBodies, planned_on, plans_on}
+use Rattle.script_plans.specs.declared.greeting.Greeting.TheVariants.{Live}
+use Rattle.script_plans.specs.Plan.{ClientBodies, planned_on, plans_on}
 use Rattle.lane_record.specs.Dispatches.{all_plans_from, plans_from}
 use Rattle.lane_history.specs.Records.{IsPartlyPlanned}
 use Rattle.session_run.specs.Clients.{bodies_of, with_items}

@@ -1,5 +1,5 @@
 use Rattle.std.proofs.Common.{take}
-use Rattle.transcript.specs.declared.greeting.Greeting.TheVariants.{Live}
+use Rattle.script_plans.specs.declared.greeting.Greeting.TheVariants.{Live}
 use Rattle.session_run.proofs.PlansMade.{PlanningClients}
 use Rattle.session_run.proofs.planning.plan_clients.Given as goal
 

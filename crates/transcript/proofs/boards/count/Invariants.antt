@@ -1,6 +1,6 @@
 use Rattle.std.proofs.Common.{◌≡◌, ◌+◌, drop}
 use Rattle.std.specs.List.{count_by}
-use Rattle.transcript.specs.Lines.{outcomes_in}
+use Rattle.script_plans.specs.Runs.{outcomes_in}
 use Rattle.transcript.specs.Steps.{is_of}
 use Rattle.transcript.proofs.boards.count.Given as goal
 

@@ -1,6 +1,6 @@
 use Rattle.std.proofs.Common.{◌≡◌, ◌++◌, drop, map}
 use Rattle.std.specs.List.{zip}
-use Rattle.transcript.specs.Plan.{AreSpelled}
+use Rattle.script_plans.specs.Plan.{AreSpelled}
 use Rattle.transcript.specs.Ends as spec
 use Rattle.transcript.proofs.body_end.ends_of.Given as goal
 

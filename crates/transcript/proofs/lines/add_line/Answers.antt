@@ -3,7 +3,7 @@ use Rattle.std.proofs.lemmas.Grind.{common_steps}
 use Rattle.std.proofs.lemmas.List.{get_or_default}
 use Rattle.std.proofs.lemmas.Option.{gets}
 use Rattle.transcript.specs.Steps.{ends_on}
-use Rattle.transcript.proofs.Lookups.{same_read}
+use Rattle.script_plans.proofs.Lookups.{same_read}
 use Rattle.transcript.proofs.lines.add_line.Goals as goal
 
 pub returns-in_default-get-clause-lines : goal.returns-in_default-get-clause-lines

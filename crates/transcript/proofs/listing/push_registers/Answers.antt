@@ -3,7 +3,7 @@ use Rattle.std.proofs.Math.ListN.{drop_of_length-le}
 use Rattle.std.specs.FinMap.{entries, len-entries}
 use Rattle.std.specs.List.{flat_map}
 use Rattle.transcript.specs.Listing as spec
-use Rattle.transcript.proofs.Lookups.{drop_at}
+use Rattle.script_plans.proofs.Lookups.{drop_at}
 use Rattle.transcript.proofs.listing.push_registers.Goals as goal
 
 pub loop-i-preserved : goal.loop-i-preserved

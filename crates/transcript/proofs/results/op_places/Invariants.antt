@@ -1,6 +1,6 @@
 use Rattle.std.proofs.Common.{◌≡◌, ◌++◌, drop}
 use Rattle.std.specs.List.{AllByRecursion}
-use Rattle.transcript.specs.Plan.{IsWithinBody}
+use Rattle.script_plans.specs.Plan.{IsWithinBody}
 use Rattle.transcript.specs.Results as spec
 use Rattle.transcript.proofs.results.op_places.Given as goal
 

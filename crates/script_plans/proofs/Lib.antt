@@ -1,0 +1,9 @@
+pub mod Lookups
+mod PlanLemmas
+mod DispatchLemmas
+mod Rising
+mod FewWords
+pub mod PackedDispatches
+mod FewBodies
+pub mod Covering
+pub mod EachBody

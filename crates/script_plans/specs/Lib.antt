@@ -1,0 +1,4 @@
+pub mod Plan
+pub mod Runs
+pub mod Claims
+pub mod Steps

@@ -1,0 +1,64 @@
+//! What became of a board.
+
+ghost use Rattle.std.specs.Prelude.{◌≡◌};
+
+use crate::greeting::Greeting;
+use crate::planned::Planned;
+use ipb_base::Text;
+use lane_record::Outcomes;
+use std::marker::Model;
+
+/// What one client asked of a board, and what became of it: the outcomes stand in the order of the bodies.
+#[derive(Drop)]
+pub struct ClientPart {
+    pub planned: Planned,
+    pub outcomes: Outcomes,
+}
+
+/// The parts of the clients on a board, client 1 first. Contracts see that list.
+#[derive(Drop)]
+pub struct ClientParts {
+    items: Vec<ClientPart>,
+}
+
+impl Model for ClientParts {
+    ghost use Rattle.std.specs.Prelude.{List};
+    ghost use Rattle.script_plans.specs.declared.board_run.ClientPart.{ClientPart};
+
+    ghost Value = { List ClientPart };
+
+    ghost view = { λ parts. parts.items.items };
+}
+
+impl ClientParts {
+    /// The parts of a vector, in its order. It takes no memory.
+    pub fn from_vec(items: Vec<ClientPart>) -> ClientParts
+        ensures { result ≡ items.items }
+    {
+        ClientParts { items }
+    }
+
+    /// The vector of these parts. It takes no memory.
+    pub fn into_vec(self) -> Vec<ClientPart>
+        ensures { result.items ≡ self }
+    {
+        let ClientParts { items } = self;
+        items
+    }
+
+    /// The parts, in order.
+    pub fn as_slice(&self) -> &[ClientPart]
+        ensures { result.now ≡ self.now }
+    {
+        self.items.as_slice()
+    }
+}
+
+/// A board after a run: its name, what greeting it told, and what each client asked of it. A board that is not live
+/// was asked nothing.
+#[derive(Drop)]
+pub struct BoardRun {
+    pub name: Text,
+    pub greeting: Greeting,
+    pub parts: ClientParts,
+}

@@ -1,0 +1,221 @@
+//! The operations of a client on one board, packed dispatch by dispatch.
+
+ghost use Rattle.std.specs.Prelude.{◌≡◌, ◌+◌, ◌++◌, ◌∷◌, ◌^◌, ◌<◌, ◌≤◌, [], All, IfOk, OnOk, length, map};
+ghost use Rattle.std.specs.List.{AllByRecursion, flat_map};
+ghost use Rattle.mtu_packer.specs.Cutting.{CanBeCut, cut};
+ghost use Rattle.mtu_packer.specs.Packed.{FitsPackets, packed};
+ghost use Rattle.mtu_packer.specs.declared.packing.TheConstants.{MIN_PAYLOAD, MAX_PAYLOAD};
+ghost use Rattle.script_steps.specs.Packing.{CanBePacked, HaveFewPieces};
+ghost use Rattle.script_plans.specs.Plan as spec;
+ghost use Rattle.script_plans.specs.Steps.{so_far};
+
+use crate::greeting::Greeting;
+use crate::planned::{OpPieces, PieceAt, Planned};
+use ipb_base::{NoMemory, Words};
+use mtu_packer::laws::{packed_bodies_spell_requests, packing_is_a_function};
+use mtu_packer::{Packed, Piece, pack};
+use script_steps::{RegOp, Step};
+use std::alloc::Global;
+use transaction_codec::Op;
+
+fn copied_words(alloc: Global, words: &Words) -> Result<Words, NoMemory>
+    ensures { IfOk result (λ copied. copied ≡ words.now) }
+{
+    Ok(Words::from_vec(words.as_slice().to_vec(alloc)?))
+}
+
+/// The same operation in memory of its own.
+fn copied_op(alloc: Global, op: &Op) -> Result<Op, NoMemory>
+    ensures { IfOk result (λ copied. copied ≡ op.now) }
+{
+    match op {
+        Op::Read { base, count } => Ok(Op::Read {
+            base: *base,
+            count: *count,
+        }),
+        Op::ReadPort { base, count } => Ok(Op::ReadPort {
+            base: *base,
+            count: *count,
+        }),
+        Op::Write { base, words } => Ok(Op::Write {
+            base: *base,
+            words: copied_words(alloc, words)?,
+        }),
+        Op::WritePort { base, words } => Ok(Op::WritePort {
+            base: *base,
+            words: copied_words(alloc, words)?,
+        }),
+        Op::RmwBits {
+            base,
+            and_term,
+            or_term,
+        } => Ok(Op::RmwBits {
+            base: *base,
+            and_term: *and_term,
+            or_term: *or_term,
+        }),
+        Op::RmwSum { base, addend } => Ok(Op::RmwSum {
+            base: *base,
+            addend: *addend,
+        }),
+    }
+}
+
+/// The pieces of an operation in a dispatch that begins with the body of this number.
+fn moved_pieces(alloc: Global, pieces: &[Piece], first: usize) -> Result<OpPieces, NoMemory>
+    requires { first < 2 ^ 63 }
+    ensures { IfOk result (λ moved. moved ≡ map (spec.moved first) pieces.now) }
+{
+    let mut moved = Vec::with_capacity(alloc, pieces.len())?;
+    for piece in pieces {
+        moved.push(PieceAt {
+            body: first + piece.body as usize,
+            index: piece.index,
+        })?;
+    }
+    Ok(OpPieces::from_vec(moved))
+}
+
+/// Adds the pieces of the operations of a dispatch, of which there are so many.
+fn push_pieces(
+    alloc: Global,
+    all: &mut Vec<OpPieces>,
+    packed: &Packed,
+    count: usize,
+    first: usize,
+) -> Result<(), NoMemory>
+    requires few { first < 2 ^ 63 }
+    requires all_of_them { count ≡ length packed.now.pieces }
+    ensures { OnOk result (all.new.items
+        ≡ all.old.items ++ map (λ pieces. map (spec.moved first) pieces) packed.now.pieces) }
+{
+    for op in 0..count {
+        all.push(moved_pieces(alloc, packed.pieces(op), first)?)?;
+    }
+    Ok(())
+}
+
+fn push_bodies(all: &mut Vec<Words>, bodies: Vec<Words>) -> Result<(), NoMemory>
+    ensures { OnOk result (all.new.items ≡ all.old.items ++ bodies.items) }
+{
+    for body in bodies {
+        all.push(body)?;
+    }
+    Ok(())
+}
+
+/// What was planned so far, and the operations that wait for the next dispatch.
+#[derive(Drop)]
+struct Planning {
+    bodies: Vec<Words>,
+    pieces: Vec<OpPieces>,
+    counts: Vec<usize>,
+    queued: Vec<Op>,
+}
+
+/// An operation on the board waits for the next dispatch.
+fn queue(alloc: Global, queued: &mut Vec<Op>, op: &RegOp, board: u32) -> Result<(), NoMemory>
+    ensures { OnOk result (queued.new.items ≡ queued.old.items ++ spec.ops_on board (op.now ∷ [])) }
+{
+    if op.board == board {
+        queued.push(copied_op(alloc, &op.op)?)?;
+    }
+    Ok(())
+}
+
+/// Packs the operations that wait into bodies of their own.
+fn dispatch(alloc: Global, planning: &mut Planning, payload: u32) -> Result<(), NoMemory>
+    requires payload_low { MIN_PAYLOAD ≤ payload }
+    requires payload_high { payload ≤ MAX_PAYLOAD }
+    requires can { All CanBeCut planning.old.queued.items }
+    requires few { length (flat_map (cut payload) planning.old.queued.items) ≤ 2 ^ 31 }
+    requires sound { spec.AreSound (so_far planning.old) }
+    requires room { AllByRecursion (FitsPackets payload) planning.old.bodies.items }
+    ensures planned { OnOk result (so_far planning.new
+        ≡ spec.with_dispatch (so_far planning.old) (packed payload planning.old.queued.items)) }
+    ensures emptied { OnOk result (planning.new.queued.items ≡ []) }
+    ensures sound { OnOk result (spec.AreSound (so_far planning.new)) }
+    ensures room { OnOk result (AllByRecursion (FitsPackets payload) planning.new.bodies.items) }
+{
+    if planning.queued.is_empty() {
+        return Ok(planning.counts.push(0)?);
+    }
+    packing_is_a_function();
+    packed_bodies_spell_requests();
+    let packed = pack(alloc, planning.queued.as_slice(), payload)?;
+    let first = planning.bodies.len();
+    let count = planning.queued.len();
+    push_pieces(alloc, &mut planning.pieces, &packed, count, first)?;
+    let (bodies, _) = packed.into_parts();
+    planning.counts.push(bodies.len())?;
+    push_bodies(&mut planning.bodies, bodies)?;
+    planning.queued.clear();
+    Ok(())
+}
+
+/// The bodies of a client on a board that takes packets of `payload` words.
+fn pack_dispatches(
+    alloc: Global,
+    steps: &[Step],
+    board: u32,
+    payload: u32,
+) -> Result<Planned, NoMemory>
+    requires payload_low { MIN_PAYLOAD ≤ payload }
+    requires payload_high { payload ≤ MAX_PAYLOAD }
+    requires can { AllByRecursion CanBePacked steps.now }
+    requires few { HaveFewPieces steps.now }
+    ensures planned { IfOk result (λ planned. planned ≡ spec.all_dispatches (spec.plan payload board steps.now)) }
+    ensures room { IfOk result (λ planned. AllByRecursion (FitsPackets payload) planned.bodies) }
+{
+    let mut planning = Planning {
+        bodies: Vec::new(alloc),
+        pieces: Vec::new(alloc),
+        counts: Vec::new(alloc),
+        queued: Vec::new(alloc),
+    };
+    for step in steps {
+        match step {
+            Step::Do(op) => queue(alloc, &mut planning.queued, op, board)?,
+            Step::Dispatch => dispatch(alloc, &mut planning, payload)?,
+        }
+    }
+    dispatch(alloc, &mut planning, payload)?;
+    let Planning {
+        bodies,
+        pieces,
+        counts,
+        ..
+    } = planning;
+    Ok(Planned::new(bodies, pieces, counts))
+}
+
+fn nothing(alloc: Global) -> Planned
+    ensures { result ≡ spec.no_bodies }
+{
+    Planned::new(Vec::new(alloc), Vec::new(alloc), Vec::new(alloc))
+}
+
+/// The bodies of a client's steps on the board at a position from 0, and where the pieces of each operation stand in
+/// them. Each dispatch is packed on its own, for the packets that the board takes (profile); a board that is not live
+/// is asked nothing.
+///
+/// The operations can be packed and cut into few enough pieces, as those of compiled scripts can. A live board takes
+/// packets of `MIN_PAYLOAD` to `MAX_PAYLOAD` words.
+pub fn plan_on(
+    alloc: Global,
+    steps: &[Step],
+    board: u32,
+    greeting: Greeting,
+) -> Result<Planned, NoMemory>
+    requires payload { spec.IsGreeting greeting }
+    requires can { AllByRecursion CanBePacked steps.now }
+    requires few { HaveFewPieces steps.now }
+    ensures planned { IfOk result (λ planned. planned ≡ spec.planned_on board greeting steps.now) }
+    // Each body and the longest answer to it fit packets of the board.
+    ensures room { IfOk result (λ planned. spec.FitGreeting greeting planned.bodies) }
+{
+    match greeting {
+        Greeting::Live { payload } => pack_dispatches(alloc, steps, board, payload),
+        Greeting::Silent | Greeting::Down => Ok(nothing(alloc)),
+    }
+}
