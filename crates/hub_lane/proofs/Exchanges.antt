@@ -25,7 +25,7 @@ use Rattle.lane_record.specs.Outcomes.{AreShort, is_given_up, is_lost, is_replie
 use Rattle.lane_record.specs.Offers.{AddsOnly, AgreesWith, KeepsOutcomes, Settles, put_all}
 use Rattle.lane_record.proofs.Rounds.{give_up_tells, message_tells}
 use Rattle.lane_record.proofs.Lengths.{give_up_short, message_short}
-use Rattle.lane_recovery.proofs.Rounds.{mul_more}
+use Rattle.recovery_laws.proofs.Rounds.{mul_more}
 use Rattle.hub_lane.specs.declared.answers.Pumped.{Pumped}
 use Rattle.hub_lane.specs.declared.answers.Pumped.TheVariants.{Reply, Status, Stray, Quiet, Idle, LinkDown}
 use Rattle.hub_lane.specs.Hearing.{IsEventAs, give_ups_of, hub_after, quiets_of}

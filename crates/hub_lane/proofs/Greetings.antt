@@ -27,8 +27,8 @@ use Rattle.world_core.specs.declared.link.LinkFault.TheVariants as fault
 use Rattle.world_core.specs.declared.link.Received.{Received}
 use Rattle.world_core.specs.declared.link.Received.TheVariants as came
 use Rattle.world_core.specs.Telling.{IfTelling, IsGot, IsQuiet, IsReceived, IsSent, Receives, Telling}
-use Rattle.lane_recovery.proofs.Heard.{AirGrows, GoesThere, contains_get, front_goes, heard_first, heard_goes}
-use Rattle.lane_recovery.proofs.Heard.{nothing_due, one_way}
+use Rattle.recovery_laws.proofs.Heard.{AirGrows, GoesThere, contains_get, front_goes, heard_first, heard_goes}
+use Rattle.recovery_laws.proofs.Heard.{nothing_due, one_way}
 use Rattle.hub_lane.specs.declared.greeting.Answer.{Answer}
 use Rattle.hub_lane.specs.declared.greeting.Answer.TheVariants as answer
 use Rattle.hub_lane.specs.Greeting.{CanBegin, EndsAskingWith, EndsRoundWith, IsExpecting}

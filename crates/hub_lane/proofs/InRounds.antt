@@ -19,7 +19,7 @@ use Rattle.reliable_engine.specs.Events.{IsAtRest}
 use Rattle.world_model.specs.Settings.{Limits}
 use Rattle.world_core.specs.Telling.{IfTelling, IsGot, IsQuiet, IsSent, Telling}
 use Rattle.lane_record.specs.declared.outcome.Outcome.{Outcome}
-use Rattle.lane_recovery.specs.UnderWay.{CanRecover, IsUnderWay}
+use Rattle.recovery_laws.specs.UnderWay.{CanRecover, IsUnderWay}
 use Rattle.hub_lane.specs.declared.answers.Pumped.{Pumped}
 use Rattle.hub_lane.specs.declared.answers.Pumped.TheVariants.{Reply, Status, Stray, Quiet, Idle, LinkDown}
 use Rattle.hub_lane.specs.Below.{WayLaws}

@@ -12,7 +12,7 @@ use Rattle.reliable_engine.specs.Answers.{hub_next}
 use Rattle.world_model.specs.Board.{Board}
 use Rattle.world_core.specs.declared.link.Received.{Received}
 use Rattle.world_core.specs.declared.link.Received.TheVariants.{Got, Quiet as received_quiet}
-use Rattle.lane_recovery.proofs.Heard.{AirGrows}
+use Rattle.recovery_laws.proofs.Heard.{AirGrows}
 use Rattle.hub_lane.specs.Lanes.{board_of}
 use Rattle.world_core.specs.declared.link.LinkFault.{LinkFault}
 use Rattle.world_core.specs.declared.link.LinkFault.TheVariants.{Failed, NoMemory}

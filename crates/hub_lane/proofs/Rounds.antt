@@ -21,9 +21,9 @@ use Rattle.world_model.specs.Settings.{AreLimits, Limits}
 use Rattle.world_core.specs.Telling.{IfTelling, IsGot, IsQuiet, IsSent, Telling}
 use Rattle.lane_record.specs.declared.outcome.Outcome.{Outcome}
 use Rattle.lane_record.specs.Bounds.{HasReached}
-use Rattle.lane_recovery.specs.Rounds.{IsPaid}
-use Rattle.lane_recovery.specs.UnderWay.{CanRecover, CanTake}
-use Rattle.lane_recovery.proofs.Rounds.{fits_on, reached_later}
+use Rattle.recovery_laws.specs.Rounds.{IsPaid}
+use Rattle.recovery_laws.specs.UnderWay.{CanRecover, CanTake}
+use Rattle.recovery_laws.proofs.Rounds.{fits_on, reached_later}
 use Rattle.hub_lane.specs.declared.answers.Pumped.{Pumped}
 use Rattle.hub_lane.specs.declared.answers.Pumped.TheVariants.{Reply, Status, Stray, Quiet, Idle, LinkDown}
 use Rattle.hub_lane.specs.Hearing.{IsHeardAs, give_ups_after, give_ups_of}

@@ -33,7 +33,7 @@ use Rattle.lane_record.specs.declared.outcome.Outcome.{Outcome}
 use Rattle.lane_record.specs.declared.outcome.Outcome.TheVariants as became
 use Rattle.lane_record.specs.Offers.{AreToldBy, IsToldBy, all_lost, lost_after, outcome_of, put, put_all}
 use Rattle.lane_record.specs.Outcomes.{is_sent}
-use Rattle.lane_recovery.proofs.Heard.{AirGrows}
+use Rattle.recovery_laws.proofs.Heard.{AirGrows}
 use Rattle.hub_lane.specs.Standing.{IsHandedFate, IsRunning, IsStopped}
 
 -- ---- the laws of world_core and world_model that these rest on

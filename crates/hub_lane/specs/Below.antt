@@ -7,8 +7,8 @@ use Rattle.world_model.specs.Hub.{Hub, give_up, is_waiting, offer, take_message,
 use Rattle.world_model.specs.Sends.{Next, bytes_to_send, next_send}
 use Rattle.world_core.specs.Telling.{IsGot, IsQuiet, IsSent, Telling}
 use Rattle.lane_record.specs.Bounds.{HasReached}
-use Rattle.lane_recovery.specs.Rounds.{IsPaid}
-use Rattle.lane_recovery.specs.UnderWay.{CanRecover, IsUnderWay}
+use Rattle.recovery_laws.specs.Rounds.{IsPaid}
+use Rattle.recovery_laws.specs.UnderWay.{CanRecover, IsUnderWay}
 
 pub record RoundLaws : Type 0 where
   pub begins : (rounds : ℕ) (hub : Hub) (held : ℕ) (t : Telling) → hub.status_requests ≡ 0

@@ -8,8 +8,8 @@ use Rattle.world_model.specs.Settings.{Limits}
 use Rattle.world_core.specs.Telling.{IfTelling, Telling}
 use Rattle.lane_record.specs.declared.outcome.Outcome.{Outcome}
 use Rattle.lane_record.specs.Bounds.{HasReached}
-use Rattle.lane_recovery.specs.Rounds.{IsPaid}
-use Rattle.lane_recovery.specs.UnderWay.{CanTake, IsUnderWay}
+use Rattle.recovery_laws.specs.Rounds.{IsPaid}
+use Rattle.recovery_laws.specs.UnderWay.{CanTake, IsUnderWay}
 use Rattle.hub_lane.specs.declared.answers.Pumped.{Pumped}
 use Rattle.hub_lane.specs.declared.answers.Pumped.TheVariants.{Reply, Status, Stray, Quiet, Idle, LinkDown}
 use Rattle.hub_lane.specs.Calls.{has_stopped}

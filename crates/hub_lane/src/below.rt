@@ -1,6 +1,6 @@
 ghost use Rattle.hub_lane.specs.Below.{RoundLaws, WayLaws};
 
-use lane_recovery::laws::{
+use recovery_laws::laws::{
     a_round_goes_on_unless_datagrams_are_held, give_ups_are_paid_by_datagrams_held,
 };
 

@@ -22,9 +22,9 @@ use Rattle.world_model.specs.Board.{Board, body_of, executed, expected, held, nu
 use Rattle.world_model.specs.Board.{present_bus, replies, with_id}
 use Rattle.world_model.specs.Facts.{IsBoard, IsLogged, IsSendable}
 use Rattle.world_model.proofs.Places.{id_fits}
-use Rattle.lane_recovery.specs.Below.{RecoveryLaws}
-use Rattle.lane_recovery.specs.UnderWay.{done}
-use Rattle.lane_recovery.proofs.Reading.{reply_read}
+use Rattle.recovery_laws.specs.Below.{RecoveryLaws}
+use Rattle.recovery_laws.specs.UnderWay.{done}
+use Rattle.recovery_laws.proofs.Reading.{reply_read}
 
 -- ---- answers are words
 

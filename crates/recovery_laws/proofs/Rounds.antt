@@ -28,17 +28,17 @@ use Rattle.world_model.proofs.Hubs.{IsWantedOr, places_map, recover_place, wante
 use Rattle.world_model.proofs.Lists.{either}
 use Rattle.world_core.specs.Telling.{IsGot, IsQuiet, IsReceived, IsSent, Telling}
 use Rattle.lane_record.specs.Bounds.{HasReached}
-use Rattle.lane_recovery.specs.Below.{RecoveryLaws}
-use Rattle.lane_recovery.specs.Rounds.{IsPaid}
-use Rattle.lane_recovery.specs.UnderWay.{CanRecover, CanTake, IsUnderWay, IsUseful, TellsHub}
-use Rattle.lane_recovery.specs.UnderWay.{WantsMore, done}
-use Rattle.lane_recovery.proofs.Heard.{contains_get, nothing_due}
-use Rattle.lane_recovery.proofs.Receiving.{IsHandedUseful, received}
-use Rattle.lane_recovery.proofs.Sending.{HasAll, WantsOr, due_more, sends_on, wants_sent}
+use Rattle.recovery_laws.specs.Below.{RecoveryLaws}
+use Rattle.recovery_laws.specs.Rounds.{IsPaid}
+use Rattle.recovery_laws.specs.UnderWay.{CanRecover, CanTake, IsUnderWay, IsUseful, TellsHub}
+use Rattle.recovery_laws.specs.UnderWay.{WantsMore, done}
+use Rattle.recovery_laws.proofs.Heard.{contains_get, nothing_due}
+use Rattle.recovery_laws.proofs.Receiving.{IsHandedUseful, received}
+use Rattle.recovery_laws.proofs.Sending.{HasAll, WantsOr, due_more, sends_on, wants_sent}
 use Rattle.ipb_base.specs.Numbers.{payload_of}
 use Rattle.ipb_base.proofs.AllLemmas.{all-map}
 use Rattle.transaction_codec.specs.Answer.{reply_room}
-use Rattle.lane_recovery.proofs.Lowest.{GoesOn, useful_taken}
+use Rattle.recovery_laws.proofs.Lowest.{GoesOn, useful_taken}
 
 -- ---- what stays under way
 

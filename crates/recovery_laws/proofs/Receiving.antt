@@ -17,12 +17,12 @@ use Rattle.world_model.specs.Facts.{IsWindow, bodies_of, offered_body}
 use Rattle.world_model.specs.Links.{IsHeard, IsJoined, Told, first_sends, heard_on, hears_all, then_told}
 use Rattle.world_model.proofs.Lists.{get_front, get_seam, get_within}
 use Rattle.world_core.specs.Telling.{IsReceived, Telling}
-use Rattle.lane_recovery.specs.Below.{RecoveryLaws}
-use Rattle.lane_recovery.specs.UnderWay.{IsUnderWay, IsUseful, IsUsefulAt, AsksBoard, TellsHub}
-use Rattle.lane_recovery.specs.UnderWay.{WantsMore, done}
-use Rattle.lane_recovery.proofs.Heard.{GoesThere, HeardFirst, contains_get, front_goes, heard_first, heard_goes}
-use Rattle.lane_recovery.proofs.Heard.{one_way}
-use Rattle.lane_recovery.proofs.Hearing.{Hears, IsPlaced, StaysAs, board_hears}
+use Rattle.recovery_laws.specs.Below.{RecoveryLaws}
+use Rattle.recovery_laws.specs.UnderWay.{IsUnderWay, IsUseful, IsUsefulAt, AsksBoard, TellsHub}
+use Rattle.recovery_laws.specs.UnderWay.{WantsMore, done}
+use Rattle.recovery_laws.proofs.Heard.{GoesThere, HeardFirst, contains_get, front_goes, heard_first, heard_goes}
+use Rattle.recovery_laws.proofs.Heard.{one_way}
+use Rattle.recovery_laws.proofs.Hearing.{Hears, IsPlaced, StaysAs, board_hears}
 
 -- a hub and a link that are joined, whose board has buffers enough
 pub record IsSetUp (hub : Hub) (t : Told) : Type 0 where

@@ -1,6 +1,6 @@
-use Rattle.lane_recovery.proofs.Rounds.{way_got, way_quiet}
-use Rattle.lane_recovery.proofs.Sending.{sends_on}
-use Rattle.lane_recovery.proofs.laws.a_round_goes_on_unless_datagrams_are_held.Goals as goal
+use Rattle.recovery_laws.proofs.Rounds.{way_got, way_quiet}
+use Rattle.recovery_laws.proofs.Sending.{sends_on}
+use Rattle.recovery_laws.proofs.laws.a_round_goes_on_unless_datagrams_are_held.Goals as goal
 
 pub returns-clause-sent : goal.returns-clause-sent
 returns-clause-sent c = λ hub next before now old new can e is way.

@@ -25,10 +25,10 @@ use Rattle.world_model.specs.Board.{with_id}
 use Rattle.world_model.specs.Facts.{IsBoard, IsExecuted, IsLogged, IsWindow, has}
 use Rattle.world_model.proofs.Lists.{either, front_length}
 use Rattle.world_model.proofs.Places.{has_from, id_fits, is_identifier}
-use Rattle.lane_recovery.specs.Below.{RecoveryLaws}
-use Rattle.lane_recovery.specs.UnderWay.{AsksBoard, TellsHub, done}
-use Rattle.lane_recovery.proofs.Answers.{expects_next, held_read, new_reply_sendable, numbered_all}
-use Rattle.lane_recovery.proofs.Reading.{reply_read, status_read}
+use Rattle.recovery_laws.specs.Below.{RecoveryLaws}
+use Rattle.recovery_laws.specs.UnderWay.{AsksBoard, TellsHub, done}
+use Rattle.recovery_laws.proofs.Answers.{expects_next, held_read, new_reply_sendable, numbered_all}
+use Rattle.recovery_laws.proofs.Reading.{reply_read, status_read}
 
 -- what is known of a board, beside the bodies that were sent to it
 pub record IsPlaced (first window : ℕ) (all : List (List ℕ)) (ps : List ℕ) (b : Board) : Type 0 where

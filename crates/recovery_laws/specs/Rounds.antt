@@ -4,7 +4,7 @@ use Rattle.std.specs.Prelude.{◌⊎◌, ℕ, ◌+◌, ◌*◌, ◌-◌, ◌≤�
 use Rattle.world_model.specs.Hub.{Hub}
 use Rattle.world_core.specs.Telling.{Telling}
 use Rattle.lane_record.specs.Bounds.{HasReached}
-use Rattle.lane_recovery.specs.UnderWay.{IsUnderWay}
+use Rattle.recovery_laws.specs.UnderWay.{IsUnderWay}
 
 -- The hub gave up so many times, each time after `rounds` rounds, and so many datagrams were held. Of the rounds since
 -- the last settled place all but the one that is under way are paid; and what is under way in that one is either still

@@ -29,10 +29,10 @@ use Rattle.world_model.proofs.Hubs.{IsWantedOr, has_first, has_later, wanted_is}
 use Rattle.world_model.proofs.Lists.{all_get, at_exists, either, get_front, get_seam}
 use Rattle.world_model.proofs.Places.{has_below, id_fits}
 use Rattle.world_core.specs.Telling.{IsSent, Telling}
-use Rattle.lane_recovery.specs.Below.{RecoveryLaws}
-use Rattle.lane_recovery.specs.UnderWay.{AsksBoard, CanRecover, CanTake, IsDue, IsUnderWay, IsUseful}
-use Rattle.lane_recovery.specs.UnderWay.{TellsHub, WantsMore, done}
-use Rattle.lane_recovery.proofs.Reading.{control_read, request_read, resend_read}
+use Rattle.recovery_laws.specs.Below.{RecoveryLaws}
+use Rattle.recovery_laws.specs.UnderWay.{AsksBoard, CanRecover, CanTake, IsDue, IsUnderWay, IsUseful}
+use Rattle.recovery_laws.specs.UnderWay.{TellsHub, WantsMore, done}
+use Rattle.recovery_laws.proofs.Reading.{control_read, request_read, resend_read}
 
 -- ---- more open places
 

@@ -1,6 +1,6 @@
-use Rattle.lane_recovery.proofs.Rounds.{paid_begins, paid_gave_up, paid_give_ups, paid_got, paid_heard, paid_offered}
-use Rattle.lane_recovery.proofs.Rounds.{paid_quiet, paid_sent}
-use Rattle.lane_recovery.proofs.laws.give_ups_are_paid_by_datagrams_held.Goals as goal
+use Rattle.recovery_laws.proofs.Rounds.{paid_begins, paid_gave_up, paid_give_ups, paid_got, paid_heard, paid_offered}
+use Rattle.recovery_laws.proofs.Rounds.{paid_quiet, paid_sent}
+use Rattle.recovery_laws.proofs.laws.give_ups_are_paid_by_datagrams_held.Goals as goal
 
 pub returns-clause-begins : goal.returns-clause-begins
 returns-clause-begins c = paid_begins

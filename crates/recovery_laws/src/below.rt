@@ -1,4 +1,4 @@
-ghost use Rattle.lane_recovery.specs.Below.{RecoveryLaws};
+ghost use Rattle.recovery_laws.specs.Below.{RecoveryLaws};
 
 use board_bus::laws::{a_reply_answers_its_body, a_reply_has_room, words_stay_words};
 use board_node::laws::the_last_replies_alone_are_held;

@@ -8,8 +8,8 @@ ghost use Rattle.world_model.specs.Messages.{to_hub};
 ghost use Rattle.world_model.specs.Sends.{Next, bytes_to_send, next_send};
 ghost use Rattle.world_core.specs.Telling.{IsGot, IsQuiet, IsReceived, IsSent, Telling};
 ghost use Rattle.lane_record.specs.Bounds.{HasReached};
-ghost use Rattle.lane_recovery.specs.Rounds.{IsPaid};
-ghost use Rattle.lane_recovery.specs.UnderWay.{CanRecover, IsUnderWay};
+ghost use Rattle.recovery_laws.specs.Rounds.{IsPaid};
+ghost use Rattle.recovery_laws.specs.UnderWay.{CanRecover, IsUnderWay};
 
 use crate::below::laws_below;
 

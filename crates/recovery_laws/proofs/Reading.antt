@@ -16,7 +16,7 @@ use Rattle.status_packet.specs.Range.{IsBufferCount, IsMtu}
 use Rattle.world_model.specs.Messages.{ControlPacket, Reply, ResendRequest, StatusReply, StatusRequest, control_packet}
 use Rattle.world_model.specs.Messages.{packet_to_board, packet_to_hub, status_with, to_board, to_hub}
 use Rattle.world_model.specs.Facts.{IsSendable}
-use Rattle.lane_recovery.specs.Below.{RecoveryLaws}
+use Rattle.recovery_laws.specs.Below.{RecoveryLaws}
 
 module _ (below : RecoveryLaws) where
   board_reads : (p : Packet) → IsPacket p → to_board (packet_bytes p) ≡ packet_to_board (Ok p)

@@ -17,8 +17,8 @@ use Rattle.world_model.specs.Facts.{IsExecuted, IsWindow, bodies_of, has, offere
 use Rattle.world_model.proofs.Lists.{either, front_length}
 use Rattle.world_model.proofs.Places.{has_from, least_end, one_place}
 use Rattle.world_core.specs.Telling.{Telling}
-use Rattle.lane_recovery.specs.UnderWay.{CanRecover, TellsHub}
-use Rattle.lane_recovery.specs.UnderWay.{WantsMore, done}
+use Rattle.recovery_laws.specs.UnderWay.{CanRecover, TellsHub}
+use Rattle.recovery_laws.specs.UnderWay.{WantsMore, done}
 
 -- ---- plain facts
 
