@@ -11,7 +11,7 @@ use Rattle.script_plans.specs.declared.greeting.Greeting.TheVariants.{Live}
 use Rattle.script_plans.specs.Plan.{ClientBodies, all_bodies, plans_on}
 use Rattle.session_run.specs.Plans.{HasFewBodies}
 use Rattle.session_run.specs.Clients.{HasItsCounts}
-use Rattle.session_run.proofs.Parts.{each_counts, sum_first}
+use Rattle.session_run.proofs.DispatchParts.{each_counts, sum_first}
 
 few_counts : (counts : List ℕ) → sum counts < 2 ^ 32 → AllByRecursion (λ (count : ℕ). count < 2 ^ 32) counts
 few_counts [] few = tt

@@ -36,7 +36,7 @@ use Rattle.session_run.specs.Clients.{HasItsCounts, bodies_of}
 use Rattle.session_run.specs.Hubs.{CameBack, HoldsAll, RanAtHub}
 use Rattle.board_greeting.specs.Boards.{head_shown}
 use Rattle.session_run.specs.Lanes.{AllFour, AllThree, HasGoneOn, IsPlannedOn, IsRunOn, plans_over}
-use Rattle.session_run.proofs.Parts.{each_counts, parts_of_dispatches}
+use Rattle.session_run.proofs.DispatchParts.{each_counts, parts_of_dispatches}
 
 -- ---- the laws of a lane at a hub
 

@@ -9,7 +9,7 @@ use Rattle.script_plans.specs.declared.board_run.BoardRun.{BoardRun}
 use Rattle.script_plans.specs.declared.greeting.Greeting.{Greeting}
 use Rattle.script_plans.specs.Plan.{plans_on}
 use Rattle.lane_history.specs.Runs.{ShowsScripts}
-use Rattle.session_run.proofs.Parts.{plan_in_part}
+use Rattle.session_run.proofs.DispatchParts.{plan_in_part}
 
 -- a client that asked nothing
 pub record HasNothing (part : ClientPart) : Type 0 where

@@ -9,7 +9,7 @@ use Rattle.script_plans.specs.declared.board_run.BoardRun.{BoardRun}
 use Rattle.script_plans.specs.Plan.{plans_on}
 use Rattle.lane_history.specs.Runs.{ShowsScripts}
 use Rattle.session_run.specs.Clients.{IsWholePart}
-use Rattle.session_run.proofs.Parts.{plan_in_part}
+use Rattle.session_run.proofs.DispatchParts.{plan_in_part}
 
 same_shape : (parts : List ClientPart) → AllByRecursion IsWholePart parts
     → map (λ (l : List Outcome). length l) (map (λ (p : ClientPart). p.outcomes) parts)

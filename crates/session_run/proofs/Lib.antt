@@ -1,7 +1,7 @@
 pub mod PlansMade
 pub mod RoomLeft
 pub mod Sides
-pub mod Parts
+pub mod DispatchParts
 pub mod FewBodies
 pub mod LaneRuns
 pub mod BoardRuns

@@ -6,7 +6,7 @@ use Rattle.std.proofs.lemmas.List.{take_all}
 use Rattle.script_plans.specs.Plan.{plans_on}
 use Rattle.lane_history.specs.Runs.{ShowsScripts}
 use Rattle.session_run.specs.Boards.{IsNamed}
-use Rattle.session_run.proofs.Parts.{plan_in_part}
+use Rattle.session_run.proofs.DispatchParts.{plan_in_part}
 use Rattle.session_run.proofs.Idle.{HasNothing, idle_shows}
 use Rattle.session_run.proofs.finish.run_idle.Goals as goal
 

@@ -1,7 +1,7 @@
 use Rattle.std.proofs.Common.{◌≡◌, map, take}
 use Rattle.std.specs.List.{AllByRecursion}
 use Rattle.script_plans.specs.Plan.{plans_on}
-use Rattle.session_run.proofs.Parts.{plan_in_part}
+use Rattle.session_run.proofs.DispatchParts.{plan_in_part}
 use Rattle.session_run.proofs.Idle.{HasNothing}
 use Rattle.session_run.proofs.finish.run_idle.Given as goal
 
