@@ -11,3 +11,15 @@ fn texts_are_copied_and_kept(rt: HostRuntime) -> Result<(), Fail> {
     assert!(rt; Text::from_vec(b"b\xc3\xa4r".to_vec(rt.alloc())?) == Ok(text));
     Ok(())
 }
+
+/// A byte of no text, the first byte of two, and half of a pair of 16-bit units.
+#[test]
+fn bytes_that_are_no_text_are_refused_again(rt: HostRuntime) -> Result<(), Fail> {
+    let rows: [&[u8]; 3] = [b"\xff", b"\xc3", b"\xed\xa0\x80"];
+    for bytes in rows {
+        for _ in 0..2 {
+            assert!(rt; Text::from_vec(bytes.to_vec(rt.alloc())?).is_err());
+        }
+    }
+    Ok(())
+}

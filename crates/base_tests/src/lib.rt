@@ -22,6 +22,8 @@ mod node_tree_tests;
 #[cfg(test)]
 mod packet_codec_tests;
 #[cfg(test)]
+mod refused_documents_tests;
+#[cfg(test)]
 mod refused_twice_tests;
 #[cfg(test)]
 mod reply_join_tests;
