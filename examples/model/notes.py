@@ -37,6 +37,13 @@ def usage_notes(line):
     return f"ipbus: {line}\nipbus: {TRY}\n".encode()
 
 
+def usage_line():
+    """The line for words that are no command, as `docs/FORMATS.md` has it."""
+    page = (TOP / "docs" / "FORMATS.md").read_text()
+    [line] = re.findall(r"^\| `(usage: .+?)` \|", page, re.MULTILINE)
+    return (line.replace("\\|", "|") + "\n").encode()
+
+
 def sentences():
     """The refusals of `docs/FORMATS.md` and what each means, by the second word and the last one of its line."""
     page = (TOP / "docs" / "FORMATS.md").read_text()
