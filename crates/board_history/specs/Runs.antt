@@ -14,7 +14,7 @@ use Rattle.script_plans.specs.declared.greeting.Greeting.TheVariants.{Live, Down
 use Rattle.script_plans.specs.declared.board_run.ClientPart.{ClientPart}
 use Rattle.script_plans.specs.declared.board_run.BoardRun.{BoardRun}
 use Rattle.script_plans.specs.Plan.{ClientBodies}
-pub use Rattle.transcript.specs.Plan.{plans_on}
+pub use Rattle.script_plans.specs.Plan.{plans_on}
 use Rattle.board_history.specs.Parts.{AllReplied}
 use Rattle.board_history.specs.InTurn.{in_turn, AreInTurn}
 use Rattle.board_history.specs.History.{ShowsHistory, bodies_by_client, outcomes_by_client}
