@@ -26,7 +26,7 @@ def guide_to_frames(peers):
     shown = re.findall(r"^([<>]) ([0-9a-f ]+)$", PAGE.read_text(), re.MULTILINE)
     frames = [(sign, bytes.fromhex(text)) for sign, text in shown]
     require([sign for sign, _ in frames] == [">", "<"] * 2, f"the guide shows {shown}")
-    hub = peers.serve((EXAMPLES / "first.toml").read_bytes(), 1)
+    hub = peers.serve((EXAMPLES / "start" / "first.toml").read_bytes(), 1)
     connection = peers.connect(hub)
     for sign, data in frames:
         if sign == ">":

@@ -6,9 +6,9 @@ pub const VERSION: &str = "version 1, for IPbus 2.0 and session documents of for
 /// The lines of the page of help: each command with what it does and an example.
 pub const HELP: [&str; 9] = [
     "ipbus run                runs the scripts of the session document on standard input on its boards",
-    "                           bin/ipbus run < examples/first.toml",
+    "                           bin/ipbus run < examples/start/first.toml",
     "ipbus check TABLE        lists the registers of a table of the document, and which of them overlap",
-    "                           bin/ipbus check channel < examples/front_ends.toml",
+    "                           bin/ipbus check channel < examples/start/front_ends.toml",
     "ipbus serve PORT COUNT   serves COUNT connections, 1 to 64, on a TCP port at the boards of the document",
     "                           bin/ipbus serve 5000 2 < examples/net/over_udp.toml",
     "ipbus load COUNT         runs a session of COUNT additions, 1 to 100000, that it makes itself",

@@ -7,7 +7,7 @@ use std::alloc::Global;
 
 /// How to go on where words are no command.
 const TRY: &str =
-    "the session document is read from standard input; try: bin/ipbus run < examples/first.toml, or --help";
+    "the session document is read from standard input; try: bin/ipbus run < examples/start/first.toml, or --help";
 
 /// The notes for words that are no command: the page of help or the version where a word asks for it, and else which
 /// word is wrong, and how to go on.
