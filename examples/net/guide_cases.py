@@ -65,27 +65,33 @@ def guide_from_uhal(peers):
     peers.connect(hub).close()
     lines = ["read b0:id", "write b0:ctrl.gain 5", "read b0:ctrl"]
     command = [sys.executable, EXAMPLES / "net" / "client", "--document", document, f"127.0.0.1:{hub.port}", *lines]
-    wanted = lines_of_the_guide("    $ examples/net/client --document session.toml", "\nWho has")
+    wanted = lines_of_the_guide("    $ examples/net/client --document session.toml", "\nWith that")
     given = run(command).splitlines()
     require(given == wanted, f"{given}, wanted {wanted}")
     require_served(hub, [line_of(1, 0, ["closed"]), line_of(2, 1, ["closed"])], [board_line("b0", 1)])
 
 
-def guide_to_names(peers):
-    """The program of the guide prints what the guide says."""
-    document = front_end(peers)
-    hub = peers.serve(document.read_bytes(), 2)
-    peers.connect(hub).close()
-    guide = EXAMPLES / "guide"
-    program = (guide / "by_names.py").read_text().replace("5000", str(hub.port))
-    settings = {"cwd": document.parent, "env": {**os.environ, "PYTHONPATH": str(EXAMPLES / "net")}}
-    given = run([sys.executable, "-B", "-c", program], **settings)
-    require(given == (guide / "by_names.txt").read_text(), given)
-    require_served(hub, [line_of(1, 0, ["closed"]), line_of(2, 2, ["closed"])], [board_line("b0", 2)])
+def guide_program(name, *modules):
+    """A program of the guide prints what the guide says. These folders have the modules that it imports, where uHAL has
+    a stand-in."""
+
+    def case(peers):
+        document = front_end(peers)
+        hub = peers.serve(document.read_bytes(), 2)
+        peers.connect(hub).close()
+        program = (EXAMPLES / "guide" / name).read_text().replace("5000", str(hub.port))
+        path = os.pathsep.join(str(EXAMPLES / "net" / module) for module in modules)
+        settings = {"env": {**os.environ, "PYTHONPATH": path, "HUB_PORT": str(hub.port)}}
+        given = run([sys.executable, "-B", "-c", program], cwd=document.parent, **settings)
+        require(given == (EXAMPLES / "guide" / "by_names.txt").read_text(), given)
+        require_served(hub, [line_of(1, 0, ["closed"]), line_of(2, 2, ["closed"])], [board_line("b0", 2)])
+
+    return case
 
 
 GUIDE = {
     "guide to frames": guide_to_frames,
     "guide from uHAL": guide_from_uhal,
-    "guide to a program by names": guide_to_names,
+    "guide to a program by names": guide_program("by_names.py", "."),
+    "guide to a program over uHAL, by a stand-in": guide_program("in_uhal.py", "stand_in", "."),
 }
