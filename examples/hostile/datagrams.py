@@ -72,10 +72,6 @@ def status_out_of_range(draw):
     return status_reply(Status(mtu, buffers, expected))
 
 
-def is_no_packet(data):
-    return len(data) % 4 or data[:1] not in (b"\x20", b"\xf0")
-
-
 def nothing(draw, device, heard, answer):
     """What a hub is to leave alone: no packet, one out of range, or one with an identifier far from those in use."""
     far = (device.expected + 30_000) % 65_535 + 1

@@ -23,12 +23,12 @@ DRAWN = 20
 
 # what a value, a name or a text may be in the place of another, at the edge of some rule or past it
 VALUES = """0 1 -1 16 17 64 65 91 92 255 256 600 9000 9001 65535 65536 4194304 4194305 4294967295 4294967296 0xffffffff
-0x100000000 1.0 1e3 inf true "" "0" "0x" "0xffffffff" "0x100000000" "4294967295" "00000000001" "+1" "rw" "block"
+0x100000000 65537 1.0 1e3 inf true "" "0" "0x" "0xffffffff" "0x100000000" "4294967295" "00000000001" "+1" "rw" "block"
 9223372036854775807 9223372036854775808 [] {} [1] [[]] {a=1} 1979-05-27 07:32:00 0o7 0b1 1_000""".split()
 NUMBERS = """0 1 2 15 16 255 256 600 601 700 65536 4294967295 4294967296 0xffffffff 0x100000000 00000000001 -1 +1
 1.0""".split()
 NAMES = """format rounds window tables board client script name table mtu buffers first fates noise ranges base size kind
-init address mask permission mode module nodes id tags description link wait x""".split()
+init address mask permission mode module nodes id tags description count stride link wait x""".split()
 TEXTS = """|sim|rw|ro|wo|slow|r|w|read|write|single|block|port|inc|hierarchical|main|group|b0|b1|d|lrd159|x|0|a-b_c|a.b
 |dispatch|read b0:id|read b0:|read :id|read b0|read b0:id 1|read  b0:id|write b0:count|write b0:count 0x100000000|# b0:id
 |b0:id read|readblock b0:mem 0|readblock b0:mem 4194304|writeblock b0:mem|writeblock b0:mem 1 2 3|rmwsum b0:count 1
@@ -62,15 +62,21 @@ def is_plain(value, levels):
     return not isinstance(value, int) or -(2**63) <= value < 2**63
 
 
+def is_refused(document):
+    """Whether the status beside a document says so."""
+    status = document.with_suffix(".status")
+    return status.exists() and int(status.read_text()) == 3
+
+
 def base_documents():
     """Documents of the examples whose boards are all simulated: those of sessions that run, with some that are drawn,
     and those that are refused."""
     good, bad = [drawn_session(number) for number in range(DRAWN)], []
-    for folder, found in (("run", good), ("guide", good), ("listings", good), ("refused", bad)):
+    for folder in ("run", "guide", "listings", "arrays", "refused"):
         for file in sorted((HERE.parent / folder).rglob("*.toml")):
             data = file.read_bytes()
             if len(data) <= LARGEST and b"udp" not in data and is_toml(data):
-                found.append(data)
+                (bad if is_refused(file) else good).append(data)
     return good, good, good, bad
 
 

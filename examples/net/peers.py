@@ -286,7 +286,8 @@ class Late(Exception):
 
 
 def within(seconds, command, case):
-    """What is wrong in a case, as a list of texts. It ends in its time, and so do all its peers."""
+    """What is wrong in a case, as a list of texts. It ends in its time, and so do all its peers. A case that this machine
+    does not allow ends as `Skipped`."""
 
     def ring(_signal, _frame):
         raise Late(f"it took longer than {seconds} s")
@@ -297,9 +298,8 @@ def within(seconds, command, case):
     try:
         case(peers)
         return []
-    except Skipped as why:
-        print(f"skipped: {why}", file=sys.stderr, flush=True)
-        return []
+    except Skipped:
+        raise
     except Exception as error:
         return [f"{type(error).__name__}: {error}"]
     finally:
