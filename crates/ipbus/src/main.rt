@@ -107,9 +107,9 @@ fn main(rt: HostRuntime) -> ExitCode {
     // one byte more than the longest document tells that it is too long
     let mut input = KeptSource::new(alloc, StdinSource::new(&rt), MAX_DOCUMENT + 1);
     let mut out = StdoutSink::new(&rt);
-    let mut rack = RealRack::telling(&rt, to);
+    let mut rack = RealRack::with_notes(&rt, to);
     let mut door = match connections_of(command.as_ref()) {
-        Some(connections) => TcpDoor::telling(&rt, to, connections),
+        Some(connections) => TcpDoor::with_notes(&rt, to, connections),
         None => TcpDoor::new(&rt),
     };
     let status = control(

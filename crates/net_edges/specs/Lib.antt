@@ -1,3 +1,6 @@
+pub mod Numbers
+pub mod Places
 pub mod States
 pub mod Errors
+pub mod Heard
 pub mod Links

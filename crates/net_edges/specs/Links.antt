@@ -5,6 +5,7 @@ use Rattle.board_node.specs.declared.spec.LinkSpec.TheVariants.{Sim as SimBoard,
 use Rattle.world_core.specs.Telling.{Telling}
 use Rattle.lossy_network.specs.Network.{new_network, telling_of as network_telling}
 use Rattle.lossy_network.specs.Racks.{fresh_board}
+use Rattle.net_edges.specs.Numbers.{wait_nanos}
 use Rattle.net_edges.specs.declared.any_link.AnyLink.{AnyLink}
 use Rattle.net_edges.specs.declared.any_link.AnyLink.TheVariants.{Sim, Udp}
 
@@ -29,11 +30,19 @@ abbrev pub held_of : AnyLink → ℕ
 held_of (Sim link) = link.traffic.held
 held_of (Udp link) = 0
 
--- the link that is made for a board: no call of a simulated one fails, and one over UDP starts with counts of 0
+-- The link that is made for a board: no call of a simulated one fails. One over UDP goes to the address and the port of
+-- the board, waits as long as its document says, and starts with counts of 0.
 abbrev pub new_link : LinkSpec → AnyLink
 new_link (SimBoard mtu buffers first ranges fates) =
     Sim (new_network (fresh_board mtu buffers first ranges) fates [])
-new_link (UdpBoard address port wait) = Udp (record { faults = 0; quiets = 0; gots = 0 })
+new_link (UdpBoard address port wait) = Udp (record {
+  address = address;
+  port = port;
+  wait = wait_nanos wait;
+  faults = 0;
+  quiets = 0;
+  gots = 0;
+})
 
 abbrev pub IsOnNetwork : LinkSpec → Type 0
 IsOnNetwork (SimBoard mtu buffers first ranges fates) = ⊥

@@ -31,7 +31,7 @@ const EHOSTUNREACH: u32 = 113;
 
 /// What became of a datagram that was to be sent.
 #[derive(Clone, Copy, Debug, PartialEq, Eq)]
-pub enum Sending {
+pub enum SendOutcome {
     /// All its bytes went.
     Sent,
     /// The machine refused it for a reason that passes: it is lost, as on the network.
@@ -62,14 +62,14 @@ pub(crate) fn is_passing_error(error: &io::Error) -> bool
 }
 
 /// What became of a datagram of so many bytes, by what the socket answered.
-pub(crate) fn sent_as(sent: &io::Result<usize>, length: usize) -> Sending
+pub(crate) fn sent_as(sent: &io::Result<usize>, length: usize) -> SendOutcome
     ensures sent { IfOk sent.now (λ count. result ≡ spec.sent_of count length) }
     ensures refused { IfErr sent.now (λ error. result ≡ spec.refused_by (spec.number_in (raw_os_error error))) }
 {
     match sent {
-        Ok(count) if *count == length => Sending::Sent,
-        Ok(_) => Sending::Failed,
-        Err(error) if is_passing_error(error) => Sending::Lost,
-        Err(_) => Sending::Failed,
+        Ok(count) if *count == length => SendOutcome::Sent,
+        Ok(_) => SendOutcome::Failed,
+        Err(error) if is_passing_error(error) => SendOutcome::Lost,
+        Err(_) => SendOutcome::Failed,
     }
 }

@@ -7,10 +7,14 @@
 #![tactic(auto)]
 
 mod any_link;
+mod bound;
 mod counting;
 mod errors;
+mod heard;
 mod kept_source;
+pub mod laws;
 mod notes;
+mod places;
 mod real_rack;
 mod silence;
 mod std_streams;
@@ -19,14 +23,14 @@ mod tcp_door;
 mod udp_link;
 
 pub use any_link::AnyLink;
-pub use errors::{Sending, is_passing};
+pub use errors::{SendOutcome, is_passing};
 pub use ipb_base::NoMemory;
 pub use ipb_outside::{Door, Failed, Sink, Source};
 pub use kept_source::KeptSource;
 pub use lossy_network::{Link, LinkFault, Rack, RackFault, Received};
 pub use real_rack::RealRack;
 pub use silence::{SILENT_AFTER, Silence};
-pub use std_streams::{StdinSource, StdoutSink};
-pub use tcp::{TcpSink, TcpSource};
+pub use std_streams::{Printed, StdinSource, StdoutSink};
+pub use tcp::{EndWriting, TcpSink, TcpSource};
 pub use tcp_door::TcpDoor;
 pub use udp_link::UdpLink;

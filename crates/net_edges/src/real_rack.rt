@@ -43,17 +43,17 @@ impl<R: Net + AllocGlobal + Drop> RealRack<R> {
     pub fn new(rt: R) -> RealRack<R>
         ensures { result ≡ record { kept = []; made = 0; faults = 0 } }
     {
-        RealRack::with_notes(rt, None)
+        RealRack::made(rt, None)
     }
 
     /// A rack that has made no link, and whose links over UDP say on standard error what befalls them.
-    pub fn telling(rt: R, to: Stderr) -> RealRack<R>
+    pub fn with_notes(rt: R, to: Stderr) -> RealRack<R>
         ensures { result ≡ record { kept = []; made = 0; faults = 0 } }
     {
-        RealRack::with_notes(rt, Some(to))
+        RealRack::made(rt, Some(to))
     }
 
-    fn with_notes(rt: R, to: Option<Stderr>) -> RealRack<R>
+    fn made(rt: R, to: Option<Stderr>) -> RealRack<R>
         ensures { result ≡ record { kept = []; made = 0; faults = 0 } }
     {
         let kept = Vec::new(rt.alloc());
@@ -116,7 +116,7 @@ fn make_link<R: Net + AllocGlobal>(
             address,
             port,
             wait,
-        } => match UdpLink::telling(rt, *address, *port, *wait, to) {
+        } => match UdpLink::with_notes(rt, *address, *port, *wait, to) {
             Ok(link) => Ok(AnyLink::Udp(link)),
             Err(Failed) => Err(RackFault::Failed),
         },

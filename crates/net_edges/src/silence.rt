@@ -1,6 +1,7 @@
 //! How long a board has been silent.
 
 ghost use Rattle.std.specs.Prelude.{◌≡◌, ◌+◌, ◌-◌, ◌^◌, ◌==◌, min, nat_le};
+ghost use Rattle.net_edges.specs.Numbers.{silent_after};
 
 use std::marker::Model;
 
@@ -32,7 +33,7 @@ impl Silence {
     /// Counts a quiet receive, and answers whether the board counts as silent from it on.
     pub fn quiet(&mut self) -> bool
         ensures counted { self.new ≡ min (self.old + 1) (2 ^ 32 - 1) }
-        ensures first { result ≡ (self.new == 2) }
+        ensures first { result ≡ (self.new == silent_after) }
     {
         self.quiets = self.quiets.saturating_add(1);
         self.quiets == SILENT_AFTER
@@ -41,7 +42,7 @@ impl Silence {
     /// Ends the silence at a receive, and answers whether the board counted as silent.
     pub fn ended(&mut self) -> bool
         ensures over { self.new ≡ 0 }
-        ensures was { result ≡ nat_le 2 self.old }
+        ensures was { result ≡ nat_le silent_after self.old }
     {
         let was_silent = SILENT_AFTER <= self.quiets;
         self.quiets = 0;

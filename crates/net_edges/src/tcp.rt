@@ -1,69 +1,94 @@
-//! The two sides of a TCP connection.
+//! The two sides of a TCP connection. They stand on any reader and writer of std, so that a clause says what is handed
+//! to those that tell their bytes, as those of a test do; a stream does not tell them.
 
-ghost use Rattle.std.specs.Prelude.{◌≡◌, false, None};
+ghost use Rattle.std.specs.Prelude.{◌≡◌, ◌<◌, ◌≤◌, false, Ok, None, IfOk, OnOk, length};
+ghost use Rattle.std.specs.Io.KnownBytes.{IsAtEnd, ReadConsumes, WriteAppends};
+ghost use Rattle.ipb_base.specs.Faults.{HasCause};
+ghost use Rattle.ipb_outside.specs.Told.{Reads, Writes};
 
 use crate::counting::{read_counted, write_counted};
 use ipb_outside::{Failed, Sink, Source};
+use std::io::{Read, Write};
 use std::marker::Model;
 use std::net::{Shutdown, TcpStream};
 
-/// The side of a TCP connection from which bytes come. It does not tell them. A read waits for the peer, for as long as
-/// that takes. Contracts see how many errors it met, in 64 bits.
+/// The side of a TCP connection from which bytes come. A read waits for the peer, for as long as that takes. Contracts
+/// see a `SourceState`.
 #[derive(Drop)]
-pub struct TcpSource {
-    stream: TcpStream,
+pub struct TcpSource<R: Read + Drop = TcpStream> {
+    stream: R,
     faults: u64,
 }
 
-impl Model for TcpSource {
-    ghost use Rattle.std.specs.Prelude.{ℕ};
+impl<R: Read + Drop> Model for TcpSource<R> {
+    ghost use Rattle.net_edges.specs.States.{SourceState};
 
-    ghost Value = { ℕ };
+    ghost Value = { SourceState };
 
-    ghost view = { λ source. source.faults };
+    ghost view = { λ source. record { remaining = R.remaining source.stream; faults = source.faults } };
 }
 
-impl TcpSource {
+impl<R: Read + Drop> TcpSource<R> {
     /// The stream, or one of two handles of it, as a source that met no error yet.
-    pub fn new(stream: TcpStream) -> TcpSource
-        ensures { result ≡ 0 }
+    pub fn new(stream: R) -> TcpSource<R>
+        ensures { result ≡ record { remaining = R.remaining stream; faults = 0 } }
     {
         TcpSource { stream, faults: 0 }
     }
 }
 
-impl Source for TcpSource {
+impl<R: Read + Drop> Source for TcpSource<R> {
     ghost left = { λ _. None };
 
-    ghost faults = { λ source. source };
+    ghost faults = { λ source. source.faults };
 
     /// One read of the stream. An error, of any kind, is counted.
-    fn read(&mut self, buf: &mut [u8]) -> Result<usize, Failed> {
+    fn read(&mut self, buf: &mut [u8]) -> Result<usize, Failed>
+        ensures within { IfOk result (λ count. count ≤ length buf.new) }
+        ensures taken { Reads None None result buf.new }
+        ensures at_end { result ≡ Ok 0 → 0 < length buf.new → IsAtEnd None }
+        ensures cause { HasCause self.old.faults self.new.faults result }
+        ensures unfaulted { OnOk result (self.new.faults ≡ self.old.faults) }
+        ensures handed_on { ReadConsumes self.old.remaining self.new.remaining result buf.new }
+    {
         read_counted(&mut self.stream, buf, &mut self.faults)
     }
 }
 
-/// The side of a TCP connection to which bytes go. It does not tell them. A write may wait for the peer, for as long as
-/// that takes. Contracts see a `SinkState`.
+/// A writer whose peer reads to an end once nothing more is written.
+pub trait EndWriting: Write {
+    /// Says that nothing more is written. Where that is no longer possible the connection is gone already.
+    fn end_writing(&mut self);
+}
+
+impl EndWriting for TcpStream {
+    /// Shuts the writing side of the stream down.
+    fn end_writing(&mut self) {
+        let _ = self.shutdown(Shutdown::Write);
+    }
+}
+
+/// The side of a TCP connection to which bytes go. A write may wait for the peer, for as long as that takes. Contracts
+/// see a `SinkState`.
 #[derive(Drop)]
-pub struct TcpSink {
-    stream: TcpStream,
+pub struct TcpSink<W: EndWriting + Drop = TcpStream> {
+    stream: W,
     faults: u64,
     ended: bool,
 }
 
-impl Model for TcpSink {
+impl<W: EndWriting + Drop> Model for TcpSink<W> {
     ghost use Rattle.net_edges.specs.States.{SinkState};
 
     ghost Value = { SinkState };
 
-    ghost view = { λ sink. record { faults = sink.faults; ended = sink.ended } };
+    ghost view = { λ sink. record { contents = W.contents sink.stream; faults = sink.faults; ended = sink.ended } };
 }
 
-impl TcpSink {
+impl<W: EndWriting + Drop> TcpSink<W> {
     /// The stream, or one of two handles of it, as a sink that met no error yet and was not ended.
-    pub fn new(stream: TcpStream) -> TcpSink
-        ensures { result ≡ record { faults = 0; ended = false } }
+    pub fn new(stream: W) -> TcpSink<W>
+        ensures { result ≡ record { contents = W.contents stream; faults = 0; ended = false } }
     {
         TcpSink {
             stream,
@@ -73,7 +98,7 @@ impl TcpSink {
     }
 }
 
-impl Sink for TcpSink {
+impl<W: EndWriting + Drop> Sink for TcpSink<W> {
     ghost written = { λ _. None };
 
     ghost faults = { λ sink. sink.faults };
@@ -82,14 +107,22 @@ impl Sink for TcpSink {
 
     /// One write of the stream. An error, of any kind, and a write that took nothing of bytes that are there are
     /// counted.
-    fn write(&mut self, bytes: &[u8]) -> Result<usize, Failed> {
+    fn write(&mut self, bytes: &[u8]) -> Result<usize, Failed>
+        ensures within { IfOk result (λ count. count ≤ length bytes.now) }
+        ensures goes_on { IfOk result (λ count. 0 < length bytes.now → 0 < count) }
+        ensures appended { Writes None None result bytes.now }
+        ensures cause { HasCause self.old.faults self.new.faults result }
+        ensures unfaulted { OnOk result (self.new.faults ≡ self.old.faults) }
+        ensures ended_kept { self.new.ended ≡ self.old.ended }
+        ensures handed_on { WriteAppends self.old.contents self.new.contents result bytes.now }
+    {
         write_counted(&mut self.stream, bytes, &mut self.faults)
     }
 
     /// Shuts the writing side of the stream down, so that the peer reads to its end. An error is not counted: then the
     /// connection is gone already.
     fn end(&mut self) {
-        let _ = self.stream.shutdown(Shutdown::Write);
+        self.stream.end_writing();
         self.ended = true;
     }
 }

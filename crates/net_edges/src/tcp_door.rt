@@ -1,22 +1,24 @@
 //! A TCP port that lets connections in.
 
-ghost use Rattle.std.specs.Prelude.{◌≡◌, ◌≤◌, None};
-ghost use Rattle.ipb_base.specs.Faults.{one_more};
+ghost use Rattle.std.specs.Prelude.{◌≡◌, ◌≤◌, None, OnOk, OnErr, IsSomeAnd};
+ghost use Rattle.ipb_base.specs.Faults.{HasCause, one_more};
+ghost use Rattle.net_edges.specs.Places.{IsAt, every_address};
 
+use crate::bound::{BoundListener, listener_of_port};
 use crate::counting::incremented;
 use crate::notes::DoorNotes;
 use crate::tcp::{TcpSink, TcpSource};
 use ipb_outside::{Door, Failed};
 use std::io::{self, ErrorKind, Stderr};
 use std::marker::Model;
-use std::net::{Ipv4Addr, Net, TcpListener, TcpStream};
+use std::net::{Net, TcpListener, TcpStream};
 
 /// A door on a TCP port of every IPv4 address of the machine. It does not tell its connections, and drops those that it
 /// takes back. Contracts see a `DoorState`.
 #[derive(Drop)]
 pub struct TcpDoor<R: Net<Listener = TcpListener, Stream = TcpStream> + Drop> {
     rt: R,
-    listener: Option<TcpListener>,
+    listener: Option<BoundListener>,
     notes: Option<DoorNotes>,
     out: u64,
     faults: u64,
@@ -27,27 +29,27 @@ impl<R: Net<Listener = TcpListener, Stream = TcpStream> + Drop> Model for TcpDoo
 
     ghost Value = { DoorState };
 
-    ghost view = { λ door. record { out = door.out; faults = door.faults } };
+    ghost view = { λ door. record { place = door.listener; out = door.out; faults = door.faults } };
 }
 
 impl<R: Net<Listener = TcpListener, Stream = TcpStream> + Drop> TcpDoor<R> {
     /// A door that does not listen yet.
     pub fn new(rt: R) -> TcpDoor<R>
-        ensures { result ≡ record { out = 0; faults = 0 } }
+        ensures { result ≡ record { place = None; out = 0; faults = 0 } }
     {
-        TcpDoor::with_notes(rt, None)
+        TcpDoor::made(rt, None)
     }
 
     /// A door that does not listen yet, is to let so many connections in, and says on standard error that it listens
     /// and why it cannot.
-    pub fn telling(rt: R, to: Stderr, connections: u32) -> TcpDoor<R>
-        ensures { result ≡ record { out = 0; faults = 0 } }
+    pub fn with_notes(rt: R, to: Stderr, connections: u32) -> TcpDoor<R>
+        ensures { result ≡ record { place = None; out = 0; faults = 0 } }
     {
-        TcpDoor::with_notes(rt, Some(DoorNotes::new(to, connections)))
+        TcpDoor::made(rt, Some(DoorNotes::new(to, connections)))
     }
 
-    fn with_notes(rt: R, notes: Option<DoorNotes>) -> TcpDoor<R>
-        ensures { result ≡ record { out = 0; faults = 0 } }
+    fn made(rt: R, notes: Option<DoorNotes>) -> TcpDoor<R>
+        ensures { result ≡ record { place = None; out = 0; faults = 0 } }
     {
         TcpDoor {
             rt,
@@ -82,8 +84,14 @@ impl<R: Net<Listener = TcpListener, Stream = TcpStream> + Drop> Door for TcpDoor
     ghost faults = { λ door. door.faults };
 
     /// Listens on the port of the IPv4 address 0.0.0.0. `Failed` where the machine refuses that, as for a port in use.
-    fn listen(&mut self, port: u16) -> Result<(), Failed> {
-        match TcpListener::bind(&self.rt, (Ipv4Addr::UNSPECIFIED, port)) {
+    fn listen(&mut self, port: u16) -> Result<(), Failed>
+        ensures listens { OnOk result (IsSomeAnd self.new.place (IsAt every_address port)) }
+        ensures cause { HasCause self.old.faults self.new.faults result }
+        ensures unfaulted { OnOk result (self.new.faults ≡ self.old.faults) }
+        ensures out_kept { self.new.out ≡ self.old.out }
+        ensures not_opened { OnErr result (self.new.place ≡ self.old.place) }
+    {
+        match listener_of_port(&self.rt, port) {
             Ok(listener) => {
                 self.listener = Some(listener);
                 if let Some(notes) = self.notes {
@@ -129,11 +137,11 @@ impl<R: Net<Listener = TcpListener, Stream = TcpStream> + Drop> Door for TcpDoor
 }
 
 // The next connection, as a handle of its stream for each of its two sides.
-fn next_connection(listener: Option<&TcpListener>) -> io::Result<(TcpStream, TcpStream)> {
+fn next_connection(listener: Option<&BoundListener>) -> io::Result<(TcpStream, TcpStream)> {
     let Some(listener) = listener else {
         return Err(io::Error::from(ErrorKind::NotConnected));
     };
-    let (stream, _) = listener.accept()?;
+    let (stream, _) = listener.listener().accept()?;
     // An answer is sent at once, also behind one that the client has not acknowledged. Where the machine refuses that,
     // answers are slower, and no less right.
     let _ = stream.set_nodelay(true);

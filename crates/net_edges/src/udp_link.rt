@@ -1,21 +1,25 @@
 //! A link to a board over UDP.
 
-ghost use Rattle.std.specs.Prelude.{◌≡◌, ◌≢◌, ◌≤◌, ℕ, length, IfOk, IfSome, OnOk, OnErr, None, []};
+ghost use Rattle.std.specs.Prelude.{◌≡◌, ◌≤◌, length, IfOk, IfSome, OnOk, OnErr, None};
 ghost use Rattle.ipb_base.specs.Faults.{one_more};
 ghost use Rattle.world_core.specs.declared.link.TheConstants.{MAX_DATAGRAM};
+ghost use Rattle.net_edges.specs.Heard.{told_of, counted};
+ghost use Rattle.net_edges.specs.Numbers.{wait_nanos};
 
+use crate::bound::{BoundSocket, socket_that_waits};
 use crate::counting::incremented;
-use crate::errors::{Sending, is_passing_error, sent_as};
+use crate::errors::{SendOutcome, sent_as};
+use crate::heard::{Heard, copy_heard, hear_board};
 use crate::notes::LinkNotes;
+use crate::places::place_of_board;
 use ipb_base::NoMemory;
 use ipb_outside::Failed;
-use link_waiter::{MOST_FROM_ELSEWHERE, Sighting, Waiter};
+use link_waiter::{Sighting, Waiter};
 use std::alloc::Global;
-use std::io::{self, ErrorKind, Stderr};
+use std::io::{self, Stderr};
 use std::marker::Model;
-use std::net::{Ipv4Addr, Net, SocketAddr, UdpSocket};
+use std::net::{Net, SocketAddr};
 use std::sync::Arc;
-use std::time::Duration;
 use world_core::{Link, LinkFault, MAX_DATAGRAM, Received};
 
 /// A link to a board at an IPv4 address and a UDP port. It does not tell what it carries, and knows of no datagram that
@@ -24,7 +28,7 @@ use world_core::{Link, LinkFault, MAX_DATAGRAM, Received};
 /// The socket is bound to no peer, so that a board that is not there is quiet and makes no error.
 #[derive(Drop)]
 pub struct UdpLink {
-    socket: UdpSocket,
+    socket: BoundSocket,
     board: SocketAddr,
     // room for one datagram, from the first receive on; so it is filled once
     buffer: Vec<u8>,
@@ -37,11 +41,20 @@ pub struct UdpLink {
 }
 
 impl Model for UdpLink {
+    ghost use Rattle.std.specs.Net.Socket.{socket_port};
+    ghost use Rattle.net_edges.specs.Places.{octets_of};
     ghost use Rattle.net_edges.specs.States.{UdpState};
 
     ghost Value = { UdpState };
 
-    ghost view = { λ link. record { faults = link.faults; quiets = link.quiets; gots = link.gots } };
+    ghost view = { λ link. record {
+      address = octets_of link.board;
+      port = socket_port link.board;
+      wait = link.socket.wait;
+      faults = link.faults;
+      quiets = link.quiets;
+      gots = link.gots;
+    } };
 }
 
 impl UdpLink {
@@ -53,25 +66,39 @@ impl UdpLink {
         port: u16,
         wait: u32,
     ) -> Result<UdpLink, Failed>
-        ensures { IfOk result (λ link. link ≡ record { faults = 0; quiets = 0; gots = 0 }) }
+        ensures { IfOk result (λ link. link ≡ record {
+          address = address;
+          port = port;
+          wait = wait_nanos wait;
+          faults = 0;
+          quiets = 0;
+          gots = 0;
+        }) }
     {
-        UdpLink::telling(rt, address, port, wait, None)
+        UdpLink::with_notes(rt, address, port, wait, None)
     }
 
     /// The same link, which says on standard error, where it is given, its first error, that the board does not answer,
     /// and that it answers again.
-    pub fn telling<R: Net + AllocGlobal>(
+    pub fn with_notes<R: Net + AllocGlobal>(
         rt: &R,
         address: [u8; 4],
         port: u16,
         wait: u32,
         to: Option<Stderr>,
     ) -> Result<UdpLink, Failed>
-        ensures { IfOk result (λ link. link ≡ record { faults = 0; quiets = 0; gots = 0 }) }
+        ensures { IfOk result (λ link. link ≡ record {
+          address = address;
+          port = port;
+          wait = wait_nanos wait;
+          faults = 0;
+          quiets = 0;
+          gots = 0;
+        }) }
     {
-        let board = SocketAddr::from((Ipv4Addr::from_octets(address), port));
+        let board = place_of_board(address, port);
         let mut notes = LinkNotes::new(to, board);
-        match bound(rt, wait) {
+        match socket_that_waits(rt, wait) {
             Ok(socket) => Ok(UdpLink {
                 socket,
                 board,
@@ -118,6 +145,32 @@ impl UdpLink {
         LinkFault::Failed
     }
 
+    // Counts a receive that got a datagram.
+    fn count_got(&mut self) -> Received
+        ensures got { result ≡ Received.Got }
+        ensures counted { self.new ≡ record self.old { gots = one_more self.old.gots } }
+        ensures later { self.old.gots ≤ self.new.gots }
+    {
+        self.gots = incremented(self.gots);
+        self.notes.answered();
+        Received::Got
+    }
+
+    // Counts what was heard, and answers what a receive does.
+    fn count_heard(&mut self, heard: Heard) -> Result<Received, LinkFault>
+        ensures told { result ≡ told_of heard }
+        ensures counted { self.new ≡ counted heard self.old }
+        ensures faults { self.old.faults ≤ self.new.faults }
+        ensures quiets { self.old.quiets ≤ self.new.quiets }
+        ensures gots { self.old.gots ≤ self.new.gots }
+    {
+        match heard {
+            Heard::Board(_) => Ok(self.count_got()),
+            Heard::Elsewhere | Heard::Nothing => Ok(self.count_quiet()),
+            Heard::Fault(error) => Err(self.count_error(error)),
+        }
+    }
+
     // Counts an error of the machine, and says it where it is the first.
     fn count_error(&mut self, error: io::Error) -> LinkFault
         ensures fault { result ≡ LinkFault.Failed }
@@ -143,13 +196,13 @@ impl Link for UdpLink {
     /// One datagram to the board. An error, of any kind, is counted, and so is a datagram of which a part alone went.
     /// After an error that passes (`is_passing`) the datagram counts as sent: it is lost, as on the network.
     fn send(&mut self, bytes: &[u8]) -> Result<(), LinkFault> {
-        let sent = self.socket.send_to(bytes, self.board);
+        let sent = self.socket.socket().send_to(bytes, self.board);
         // behind the send, so that a wait that begins between them does not take it for an earlier one
         if let Some(sighting) = &self.sighting {
             sighting.count_send();
         }
         let came_to = sent_as(&sent, bytes.len());
-        if came_to == Sending::Sent {
+        if came_to == SendOutcome::Sent {
             return Ok(());
         }
         let fault = match sent {
@@ -157,8 +210,8 @@ impl Link for UdpLink {
             Err(error) => self.count_error(error),
         };
         match came_to {
-            Sending::Sent | Sending::Lost => Ok(()),
-            Sending::Failed => Err(fault),
+            SendOutcome::Sent | SendOutcome::Lost => Ok(()),
+            SendOutcome::Failed => Err(fault),
         }
     }
 
@@ -176,23 +229,15 @@ impl Link for UdpLink {
         reserve(into)?;
         let mut passed = None;
         let buffer = self.buffer.as_mut_slice();
-        let heard = hear_board(&self.socket, self.board, buffer, &mut passed);
+        let heard = hear_board(self.socket.socket(), self.board, buffer, &mut passed);
         count_passed(passed, &mut self.faults, &mut self.notes);
-        match heard {
-            Heard::Board(count) => {
-                copy_front(&self.buffer, count, into)?;
-                self.gots = incremented(self.gots);
-                self.notes.answered();
-                Ok(Received::Got)
-            }
-            Heard::Elsewhere | Heard::Nothing => Ok(self.count_quiet()),
-            Heard::Fault(error) => Err(self.count_error(error)),
-        }
+        copy_heard(&heard, &self.buffer, into)?;
+        self.count_heard(heard)
     }
 
     /// It waits at another handle of the same socket. `None` too where the machine has no handle or memory for it.
     fn waiter(&mut self, alloc: Global) -> Option<Waiter> {
-        let Ok(socket) = self.socket.try_clone() else {
+        let Ok(socket) = self.socket.socket().try_clone() else {
             return None;
         };
         match Waiter::new(alloc, socket, self.board) {
@@ -205,18 +250,6 @@ impl Link for UdpLink {
     }
 }
 
-// What one call of the socket came to.
-enum Heard {
-    // a datagram from the board, of this many bytes
-    Board(usize),
-    // nothing from the board yet: one from another address or port, or a signal that interrupted the wait
-    Elsewhere,
-    // none in the time that the socket waits
-    Nothing,
-    // an error
-    Fault(io::Error),
-}
-
 // Counts an error that passed, where there was one, and says it where it is the first.
 fn count_passed(passed: Option<io::Error>, faults: &mut u64, notes: &mut LinkNotes)
     ensures counted { IfSome passed (λ _. faults.new ≡ one_more faults.old) }
@@ -226,15 +259,6 @@ fn count_passed(passed: Option<io::Error>, faults: &mut u64, notes: &mut LinkNot
         notes.failed(error);
         *faults = incremented(*faults);
     }
-}
-
-// A socket of any port, of which one receive waits for so many milliseconds, and for 1 where that is 0.
-fn bound<R: Net>(rt: &R, wait: u32) -> io::Result<UdpSocket> {
-    let socket = UdpSocket::bind(rt, (Ipv4Addr::UNSPECIFIED, 0))?;
-    // a time of 0 would be refused
-    let wait = Duration::from_millis(u64::from(wait.max(1)));
-    socket.set_read_timeout(Some(wait))?;
-    Ok(socket)
 }
 
 // Room for one datagram, the longest that there may be. It is made once.
@@ -254,64 +278,4 @@ fn reserve(into: &mut Vec<u8>) -> Result<(), NoMemory>
 {
     into.reserve(MAX_DATAGRAM)?;
     Ok(())
-}
-
-// The first bytes of a buffer, put into an empty vector.
-fn copy_front(buffer: &[u8], count: usize, into: &mut Vec<u8>) -> Result<(), NoMemory>
-    requires within { count ≤ length buffer.now }
-    requires empty { into.old.items ≡ [] }
-    ensures copied { OnOk result (length into.new.items ≡ count) }
-    ensures kept { OnErr result (into.new.items ≡ []) }
-{
-    into.extend_from_slice(&buffer[..count])?;
-    Ok(())
-}
-
-// The next datagram from the board, past those from elsewhere and errors that pass, of which there may be 64. `passed`
-// is the last such error.
-fn hear_board(
-    socket: &UdpSocket,
-    board: SocketAddr,
-    buf: &mut [u8],
-    passed: &mut Option<io::Error>,
-) -> Heard
-    ensures room { length buf.new ≡ length buf.old }
-    ensures within { (count : ℕ) → result ≡ Heard.Board count → count ≤ length buf.new }
-{
-    for _ in 0..MOST_FROM_ELSEWHERE {
-        match hear(socket, board, buf) {
-            Heard::Elsewhere => {}
-            Heard::Fault(error) if is_passing_error(&error) => *passed = Some(error),
-            heard => return heard,
-        }
-    }
-    Heard::Elsewhere
-}
-
-// One call of the socket.
-fn hear(socket: &UdpSocket, board: SocketAddr, buf: &mut [u8]) -> Heard
-    ensures room { length buf.new ≡ length buf.old }
-    ensures within { (count : ℕ) → result ≡ Heard.Board count → count ≤ length buf.new }
-{
-    match socket.recv_from(buf) {
-        Ok((count, from)) => heard_from(from, board, count),
-        Err(error) => match error.kind() {
-            // a process that is stopped and goes on has lost nothing
-            ErrorKind::Interrupted => Heard::Elsewhere,
-            ErrorKind::WouldBlock | ErrorKind::TimedOut => Heard::Nothing,
-            _ => Heard::Fault(error),
-        },
-    }
-}
-
-// What a datagram of so many bytes from this address and port is.
-fn heard_from(from: SocketAddr, board: SocketAddr, count: usize) -> Heard
-    ensures board { from ≡ board → result ≡ Heard.Board count }
-    ensures elsewhere { from ≢ board → result ≡ Heard.Elsewhere }
-{
-    if from == board {
-        Heard::Board(count)
-    } else {
-        Heard::Elsewhere
-    }
 }
