@@ -3,14 +3,35 @@ use Rattle.std.proofs.Common.{◌≡◌, ◌≤◌, ℕ, Bool, true, false, ◌&
 use Rattle.std.proofs.Common.{Some, None, arith, nat_le, refl}
 use Rattle.std.proofs.lemmas.Bool.Decides.{nat_tests}
 use Rattle.std.specs.Prelude.{option_and_then}
+use Rattle.std.specs.List.{AllByRecursion, list_all}
 use Rattle.std.specs.Str.{bytes_eq}
 use Rattle.ipb_base.specs.Digits.{digits_number}
-use Rattle.command_words.specs.declared.command.Command.TheVariants.{Run, Check, Load}
-use Rattle.command_words.specs.Commands.{command_of, is_option, load_of, loaded, number_between, serve_of, within}
+use Rattle.command_words.specs.declared.command.Command.{Command}
+use Rattle.command_words.specs.declared.command.Command.TheVariants.{Check, Load}
+use Rattle.command_words.specs.Commands.{alone, command_of, command_of_one, is_option, load_of, loaded, number_between}
+use Rattle.command_words.specs.Commands.{serve_of, within}
+use Rattle.command_words.proofs.Alone.{one_of}
 
-one_apart : (b : Bool) (count : ℕ) → (if b then Some Run else None) ≡ Some (Load count) → ⊥
-one_apart true count is = cc
-one_apart false count is = cc
+generates : Command → Bool
+generates (Load count) = true
+generates _ = false
+
+neither : {P : Type 0} (a b : Bool) → (not a && b) ≡ true → (b ≡ true → P) → (a ≡ false) × P
+neither true b all rest = absurd cc
+neither false b all rest = (refl, rest all)
+
+-- no command that is a name alone is a load
+no_loads : (rows : List (List ℕ × Command)) → list_all (λ row. not (generates row.1)) rows ≡ true
+    → AllByRecursion (λ row. generates row.1 ≡ false) rows
+no_loads [] none = tt
+no_loads (row ∷ rows) none =
+    neither (generates row.1) (list_all (λ row. not (generates row.1)) rows) none (no_loads rows)
+
+one_apart : (word : List ℕ) (count : ℕ) → command_of_one word ≡ Some (Load count) → ⊥
+unfolding generates
+one_apart word count is =
+    let no : generates (Load count) ≡ false =
+    one_of (λ command. generates command ≡ false) alone (no_loads alone refl) word (Load count) is in cc
 
 served_apart : (port connections : Option ℕ) (count : ℕ) → serve_of port connections ≡ Some (Load count) → ⊥
 served_apart None connections count is = cc
@@ -46,7 +67,7 @@ two_within false false text count is = absurd cc
 
 pub bounded : (words : List (List ℕ)) (count : ℕ) → command_of words ≡ Some (Load count) → count ≤ 100000
 bounded [] count is = absurd cc
-bounded (word ∷ []) count is = absurd (one_apart (bytes_eq word (codes "run")) count is)
+bounded (word ∷ []) count is = absurd (one_apart word count is)
 bounded (word ∷ (first ∷ [])) count is =
     two_within (bytes_eq word (codes "check") && not (is_option first)) (bytes_eq word (codes "load")) first count is
 bounded (word ∷ (first ∷ (second ∷ []))) count is =

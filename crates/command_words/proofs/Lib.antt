@@ -1,3 +1,4 @@
+pub mod Alone
 pub mod Walks
 pub mod Strays
 pub mod Digits

@@ -5,13 +5,14 @@ use Rattle.std.proofs.Common.{Option, Some, None, refl, sym, ap, subst, inl, inr
 use Rattle.std.proofs.lemmas.Bool.Decides.{eqb_tells}
 use Rattle.std.specs.Str.{bytes_eq}
 use Rattle.command_words.specs.Commands.{command_of, is_option, number_between}
+use Rattle.std.specs.List.{list_all}
 use Rattle.command_words.specs.Commands.{load_of, loaded, serve_of, served}
-use Rattle.command_words.specs.Forms.{Form, words_of, IsPlain, ArePlain, run, check, serve, load}
+use Rattle.command_words.specs.Forms.{Form, words_of, IsAlone, IsNamed, IsPlain, ArePlain, alone, check, serve, load}
 use Rattle.command_words.specs.Read.{named}
 use Rattle.command_words.specs.declared.command.Command.{Command}
 use Rattle.command_words.specs.declared.command.Command.TheVariants as command
 use Rattle.command_words.proofs.Digits.{hyphen}
-use Rattle.command_words.proofs.Strays.{is_word}
+use Rattle.command_words.proofs.Alone.{each_true, is_alone_or_none, is_word}
 use Rattle.command_words.proofs.Walks.{not_hyphen}
 
 no_option : (w : List ℕ) → IsPlain w → is_option w ≡ false
@@ -31,7 +32,7 @@ if_table is_check is_load word = if is_check then Some (command.Check word) else
 
 pub named_words : (s : Form) → ArePlain (words_of s) → command_of (words_of s) ≡ named s
 unfolding if_table
-named_words run plain = refl
+named_words (alone name) plain = refl
 named_words (check table) plain =
     ap (λ b. if_table (not b) (bytes_eq (codes "check") (codes "load")) table) (no_option table plain.1.0)
 named_words (serve port count) plain = refl
@@ -49,17 +50,26 @@ no_count : (port : Option ℕ) → serve_of port None ≡ None
 no_count None = refl
 no_count (Some port) = refl
 
+-- no name alone begins with a hyphen
+plain_name : (w : List ℕ) → IsAlone w → IsPlain w
+plain_name w is = elim (plain_or w) [
+  | inl option ↦ absurd (option_apart w option (each_true (λ n. not (is_option n)) refl w is))
+  | inr plain ↦ plain
+]
+  where
+    option_apart : (w : List ℕ) → is_option w ≡ true → not (is_option w) ≡ true → ⊥
+    option_apart w option other = let no : false ≡ true = sym (ap not option) ∙ other in cc
+
 abbrev IsNone : List (List ℕ) → Type 0
 IsNone ws = command_of ws ≡ None
 
 abbrev Says : List (List ℕ) → Type 0
-Says ws = (s : Form) → ws ≡ words_of s → ArePlain ws → ⊥
+Says ws = (s : Form) → IsNamed s → ws ≡ words_of s → ArePlain ws → ⊥
 
 one : (w : List ℕ) → Says (w ∷ []) → IsNone (w ∷ [])
-one w never = elim (is_word w (codes "run")) [
-  | inl not ↦ ap (λ b. if b then Some command.Run else None) not
-  | inr is ↦ absurd (never run (ap (λ n. n ∷ []) is)
-      (subst (λ n. ArePlain (n ∷ [])) (sym is) ((λ e. absurd (omega (arith, e))), tt)))
+one w never = elim (is_alone_or_none w) [
+  | inr none ↦ none
+  | inl is ↦ absurd (never (alone w) is refl (plain_name w is, tt))
 ]
 
 no_load : (w : List ℕ) → is_option w ≡ true → loaded w ≡ None
@@ -70,13 +80,13 @@ two_check : (t : List ℕ) → Says (codes "check" ∷ t ∷ []) → IsNone (cod
 unfolding if_table
 two_check t never = elim (plain_or t) [
   | inl option ↦ ap (λ b. if_table (not b) false t) option
-  | inr plain ↦ absurd (never (check t) refl ((λ e. absurd (omega (arith, e))), (plain, tt)))
+  | inr plain ↦ absurd (never (check t) tt refl ((λ e. absurd (omega (arith, e))), (plain, tt)))
 ]
 
 two_load : (t : List ℕ) → Says (codes "load" ∷ t ∷ []) → IsNone (codes "load" ∷ t ∷ [])
 two_load t never = elim (plain_or t) [
   | inl option ↦ no_load t option
-  | inr plain ↦ absurd (never (load t) refl ((λ e. absurd (omega (arith, e))), (plain, tt)))
+  | inr plain ↦ absurd (never (load t) tt refl ((λ e. absurd (omega (arith, e))), (plain, tt)))
 ]
 
 two : (w t : List ℕ) → Says (w ∷ t ∷ []) → IsNone (w ∷ t ∷ [])
@@ -101,7 +111,7 @@ three w p c never = elim (is_word w (codes "serve")) [
     | inr port ↦ elim (plain_or c) [
       | inl option ↦ ap (serve_of (number_between 1 65535 p)) (no_number 1 64 c option)
           ∙ no_count (number_between 1 65535 p)
-      | inr count ↦ absurd (never (serve p c) (ap (λ n. n ∷ p ∷ c ∷ []) is)
+      | inr count ↦ absurd (never (serve p c) tt (ap (λ n. n ∷ p ∷ c ∷ []) is)
           (subst (λ n. ArePlain (n ∷ p ∷ c ∷ [])) (sym is) ((λ e. absurd (omega (arith, e))), (port, (count, tt)))))
     ]
   ])

@@ -14,8 +14,9 @@ use Rattle.clap.specs.Simple.{Shape, is_simple, new_rule, subcommand_of}
 use Rattle.clap.specs.Takes.{default_passes, flag_word_passes, is_valid, level_passes, positional_passes, settle_passes}
 use Rattle.clap.specs.Takes.{step_passes, takes, turn_passes, word_passes, bundle_passes}
 use Rattle.clap.proofs.OnLiterals.{clap_on_literals}
-use Rattle.command_words.specs.Forms.{Form, words_of, IsPlain, ArePlain, run, check, serve, load}
+use Rattle.command_words.specs.Forms.{Form, words_of, IsAlone, IsNamed, IsPlain, ArePlain, alone, check, serve, load}
 use Rattle.command_words.specs.App.{ipbus, leaf, start, stand, after_one, after_two, rows_of_form, name_of}
+use Rattle.command_words.proofs.Alone.{each_same, each_true}
 
 -- ---- a word with no hyphen before it
 
@@ -110,49 +111,50 @@ two_words s w v a b w_plain v_plain there also stands =
     ∙ ap (λ (x : Walk). (positional_passes s.rules s.args_override_self a nothing_held
     && (positional_passes s.rules s.args_override_self b (after_one s w).held && true)) && ends s x) two
 
-taken_run : takes ipbus (words_of run) ≡ true
+taken_alone : (name : Text) → IsAlone name → takes ipbus (words_of (alone name)) ≡ true
 unfolding clap_on_literals
-taken_run = refl
+taken_alone name is = each_true (λ (n : Text). takes ipbus (n ∷ [])) refl name is
 
 taken_check : (t : Text) → IsPlain t → takes ipbus (words_of (check t)) ≡ true
 unfolding clap_on_literals
-taken_check t plain = ap (λ (b : Bool). b && true) (one_word (leaf 1) t (first (leaf 1)) plain refl)
+taken_check t plain = ap (λ (b : Bool). b && true) (one_word (leaf 0) t (first (leaf 0)) plain refl)
 
 taken_load : (t : Text) → IsPlain t → takes ipbus (words_of (load t)) ≡ true
 unfolding clap_on_literals
-taken_load t plain = ap (λ (b : Bool). b && true) (one_word (leaf 3) t (first (leaf 3)) plain refl)
+taken_load t plain = ap (λ (b : Bool). b && true) (one_word (leaf 2) t (first (leaf 2)) plain refl)
 
 taken_serve : (p c : Text) → IsPlain p → IsPlain c → takes ipbus (words_of (serve p c)) ≡ true
 unfolding clap_on_literals
 taken_serve p c p_plain c_plain =
     ap (λ (b : Bool). b && true)
-    (two_words (leaf 2) p c (first (leaf 2)) (second (leaf 2)) p_plain c_plain refl refl refl)
+    (two_words (leaf 1) p c (first (leaf 1)) (second (leaf 1)) p_plain c_plain refl refl refl)
 
-pub taken : (s : Form) → ArePlain (words_of s) → takes ipbus (words_of s) ≡ true
-taken run plain = taken_run
-taken (check t) plain = taken_check t plain.1.0
-taken (serve p c) plain = taken_serve p c plain.1.0 plain.1.1.0
-taken (load c) plain = taken_load c plain.1.0
+pub taken : (s : Form) → IsNamed s → ArePlain (words_of s) → takes ipbus (words_of s) ≡ true
+taken (alone name) named plain = taken_alone name named
+taken (check t) named plain = taken_check t plain.1.0
+taken (serve p c) named plain = taken_serve p c plain.1.0 plain.1.1.0
+taken (load c) named plain = taken_load c plain.1.0
 
 -- ---- the matches
 
-entered_run : subcommand_of ipbus (words_of run) ≡ Some (codes "run", [])
+entered_alone : (name : Text) → IsAlone name → subcommand_of ipbus (words_of (alone name)) ≡ Some (name, [])
 unfolding clap_on_literals
-entered_run = refl
+entered_alone name is =
+    each_same (λ (n : Text). subcommand_of ipbus (n ∷ [])) (λ (n : Text). Some (n, [])) refl name is
 
 entered_check : (t : Text) → IsPlain t
     → subcommand_of ipbus (words_of (check t)) ≡ Some (codes "check", rows_of_form (check t))
 unfolding clap_on_literals
 entered_check t plain =
-    ap (λ (w : Walk). Some (codes "check", finished (leaf 1).rules w.held))
-    (walked_plain (leaf 1).rules 1 t nothing_held plain)
+    ap (λ (w : Walk). Some (codes "check", finished (leaf 0).rules w.held))
+    (walked_plain (leaf 0).rules 1 t nothing_held plain)
 
 entered_load : (t : Text) → IsPlain t
     → subcommand_of ipbus (words_of (load t)) ≡ Some (codes "load", rows_of_form (load t))
 unfolding clap_on_literals
 entered_load t plain =
-    ap (λ (w : Walk). Some (codes "load", finished (leaf 3).rules w.held))
-    (walked_plain (leaf 3).rules 1 t nothing_held plain)
+    ap (λ (w : Walk). Some (codes "load", finished (leaf 2).rules w.held))
+    (walked_plain (leaf 2).rules 1 t nothing_held plain)
 
 walked_two : (s : Shape) (w v : Text) → IsPlain w → IsPlain v → after_one s w ≡ stand (after_one s w).held 2
     → walked s.rules [] (walked s.rules [] start w) v ≡ after_two s w v
@@ -164,14 +166,15 @@ entered_serve : (p c : Text) → IsPlain p → IsPlain c
     → subcommand_of ipbus (words_of (serve p c)) ≡ Some (codes "serve", rows_of_form (serve p c))
 unfolding clap_on_literals
 entered_serve p c p_plain c_plain =
-    ap (λ (w : Walk). Some (codes "serve", finished (leaf 2).rules w.held))
-    (walked_two (leaf 2) p c p_plain c_plain refl)
+    ap (λ (w : Walk). Some (codes "serve", finished (leaf 1).rules w.held))
+    (walked_two (leaf 1) p c p_plain c_plain refl)
 
-pub entered : (s : Form) → ArePlain (words_of s) → subcommand_of ipbus (words_of s) ≡ Some (name_of s, rows_of_form s)
-entered run plain = entered_run
-entered (check t) plain = entered_check t plain.1.0
-entered (serve p c) plain = entered_serve p c plain.1.0 plain.1.1.0
-entered (load c) plain = entered_load c plain.1.0
+pub entered : (s : Form) → IsNamed s → ArePlain (words_of s)
+    → subcommand_of ipbus (words_of s) ≡ Some (name_of s, rows_of_form s)
+entered (alone name) named plain = entered_alone name named
+entered (check t) named plain = entered_check t plain.1.0
+entered (serve p c) named plain = entered_serve p c plain.1.0 plain.1.1.0
+entered (load c) named plain = entered_load c plain.1.0
 
 pub table_is : (t : Text) → first_of (codes "table") (rows_of_form (check t)) ≡ Some t
 table_is t = refl

@@ -1,19 +1,16 @@
 -- The command line as `clap` sees it: its commands and their words, and what it makes of the words of each. No public
 -- clause but the laws speaks of these.
-use Rattle.std.specs.Prelude.{◌≡◌, ℕ, true, false, List, [], codes, Some, None, slice_index_or}
+use Rattle.std.specs.Prelude.{◌≡◌, ℕ, true, false, List, [], ◌∷◌, codes, Some, None, slice_index_or}
 use Rattle.clap.specs.Simple.{App, Shape, built, new_app, new_rule, new_shape, on_top, with_rule, with_subcommand}
 use Rattle.clap.specs.Simple.{subcommand_rows_of}
 use Rattle.clap.specs.Walk.{Held, Row, Rule, Text, Walk, arg_by_index, finished, idle, nothing_held, to_positional}
 use Rattle.clap.specs.Walk.{walk_from}
 use Rattle.clap.specs.declared.parser.matches.ArgMatches.{ArgMatches}
-use Rattle.command_words.specs.Forms.{Form, run, check, serve, load}
+use Rattle.command_words.specs.Forms.{Form, alone, check, serve, load, names_alone}
 
 -- a word that has to be there
 abbrev pub needed : Text → Rule
 needed name = record (new_rule name) { required = true }
-
-abbrev pub run_app : App
-run_app = new_app (codes "run")
 
 abbrev pub check_app : App
 check_app = with_rule (new_app (codes "check")) (needed (codes "table"))
@@ -35,16 +32,27 @@ bare =
       subcommand_required = true;
     }) (new_app (codes "ipbus"))
 
+-- the commands that have words
+abbrev pub worded : App
+worded = with_subcommand (with_subcommand (with_subcommand bare check_app.top) serve_app.top) load_app.top
+
+-- and commands of these names behind them, which have none
+abbrev pub with_alone : App → List Text → App
+with_alone app [] = app
+with_alone app (name ∷ names) = with_alone (with_subcommand app (new_app name).top) names
+
 abbrev pub ipbus : App
-ipbus =
-    with_subcommand (with_subcommand (with_subcommand (with_subcommand bare run_app.top) check_app.top) serve_app.top)
-    load_app.top
+ipbus = with_alone worded names_alone
 
 -- ---- what clap makes of the words of a command
 
 -- the command at this position, as it is built
 abbrev pub leaf : ℕ → Shape
 leaf i = slice_index_or (built ipbus).subs i (new_shape [])
+
+-- the command that is this name alone, as it is built
+abbrev pub leaf_alone : Text → Shape
+leaf_alone name = slice_index_or (built (with_alone bare (name ∷ []))).subs 0 (new_shape [])
 
 abbrev pub start : Walk
 start = walk_from nothing_held
@@ -59,13 +67,13 @@ abbrev pub after_two : Shape → Text → Text → Walk
 after_two s w v = to_positional s.rules (arg_by_index s.rules 2) v (stand (after_one s w).held 2) (after_one s w).held
 
 abbrev pub rows_of_form : Form → List Row
-rows_of_form run = []
-rows_of_form (check t) = finished (leaf 1).rules (after_one (leaf 1) t).held
-rows_of_form (serve p c) = finished (leaf 2).rules (after_two (leaf 2) p c).held
-rows_of_form (load c) = finished (leaf 3).rules (after_one (leaf 3) c).held
+rows_of_form (alone name) = []
+rows_of_form (check t) = finished (leaf 0).rules (after_one (leaf 0) t).held
+rows_of_form (serve p c) = finished (leaf 1).rules (after_two (leaf 1) p c).held
+rows_of_form (load c) = finished (leaf 2).rules (after_one (leaf 2) c).held
 
 abbrev pub name_of : Form → Text
-name_of run = codes "run"
+name_of (alone name) = name
 name_of (check t) = codes "check"
 name_of (serve p c) = codes "serve"
 name_of (load c) = codes "load"

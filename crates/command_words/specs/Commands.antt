@@ -19,9 +19,17 @@ within least most number = if is_between least most number then Some number else
 abbrev pub number_between : ℕ → ℕ → List ℕ → Option ℕ
 number_between least most word = option_and_then (within least most) (digits_number 10 10 word)
 
--- `run`
+-- the commands that are a name alone, each beside its name
+abbrev pub alone : List (List ℕ × Command)
+alone = (codes "run", Run) ∷ []
+
+-- the first command that has this name
+abbrev pub first_named : List (List ℕ × Command) → List ℕ → Option Command
+first_named [] word = None
+first_named (one ∷ others) word = if bytes_eq one.0 word then Some one.1 else first_named others word
+
 abbrev pub command_of_one : List ℕ → Option Command
-command_of_one word = if bytes_eq word (codes "run") then Some Run else None
+command_of_one word = first_named alone word
 
 -- a load of 1 to 100,000 operations
 abbrev pub load_of : Option ℕ → Option Command
@@ -52,9 +60,9 @@ served port count = serve_of (number_between 1 65535 port) (number_between 1 64 
 abbrev pub command_of_three : List ℕ → List ℕ → List ℕ → Option Command
 command_of_three word port count = if bytes_eq word (codes "serve") then served port count else None
 
--- The command that words are: `run`; `check` and the name of a table, which is any text that does not begin with a
--- hyphen; `serve`, a port and a number of connections; or `load` and a number of operations. A number is 1 to 10
--- decimal digits without a sign. All other words are none.
+-- The command that words are: a name alone, as `run`; `check` and the name of a table, which is any text that does not
+-- begin with a hyphen; `serve`, a port and a number of connections; or `load` and a number of operations. A number is 1
+-- to 10 decimal digits without a sign. All other words are none.
 abbrev pub command_of : List (List ℕ) → Option Command
 command_of [] = None
 command_of (word ∷ []) = command_of_one word

@@ -42,12 +42,22 @@ fn command_in(alloc: Global, line: Line<'_>) -> Result<Option<Command>, NoMemory
     ensures { IfOk result (λ command. command ≡ named (form_of line.entry)) }
 {
     match line {
-        Line::Run => Ok(Some(Command::Run)),
+        Line::Alone(name) => Ok(alone(name)),
         Line::Check(table) => Ok(Some(Command::Check {
             table: Text::copy_of(alloc, table)?,
         })),
         Line::Serve(port, count) => Ok(serve(port.as_bytes(), count.as_bytes())),
         Line::Load(count) => Ok(load(count.as_bytes())),
+    }
+}
+
+/// The command that is this name alone.
+fn alone(name: &str) -> Option<Command>
+    ensures { result ≡ spec.command_of_one name.now }
+{
+    match name {
+        "run" => Some(Command::Run),
+        _ => None,
     }
 }
 

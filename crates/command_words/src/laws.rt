@@ -4,17 +4,17 @@ ghost use Rattle.std.specs.Prelude.{◌≡◌, ◌≤◌, ◌∷◌, ℕ, List, 
 ghost use Rattle.clap.specs.Words.{takes, fault_of};
 ghost use Rattle.command_words.specs.App.{ipbus};
 ghost use Rattle.command_words.specs.Commands.{command_of};
-ghost use Rattle.command_words.specs.Forms.{Form, words_of, ArePlain};
+ghost use Rattle.command_words.specs.Forms.{Form, words_of, ArePlain, IsNamed};
 ghost use Rattle.command_words.specs.declared.command.Command.TheVariants.{Run, Check, Serve, Load};
 
 /// The words of a command are taken by clap.
 pub fn the_words_of_a_command_are_taken()
-    ensures { (s : Form) → ArePlain (words_of s) → takes ipbus (words_of s) ≡ true }
+    ensures { (s : Form) → IsNamed s → ArePlain (words_of s) → takes ipbus (words_of s) ≡ true }
 {}
 
 /// Words in which clap finds no fault are those of a command.
 pub fn words_without_a_fault_are_those_of_a_command()
-    ensures { (ws : List (List ℕ)) → ArePlain ws → fault_of ipbus ws ≡ [] → (s : Form) × (ws ≡ words_of s) }
+    ensures { (ws : List (List ℕ)) → ArePlain ws → fault_of ipbus ws ≡ [] → (s : Form) × IsNamed s × (ws ≡ words_of s) }
 {}
 
 /// A load is of at most so many operations.

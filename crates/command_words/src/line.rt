@@ -1,19 +1,22 @@
 //! The words of a command line as `clap` reads them: one command with exactly its words.
 
-ghost use Rattle.std.specs.Prelude.{◌≡◌, ℕ, true, false, IfOk, IsErrOf, Some, List};
+ghost use Rattle.std.specs.Prelude.{◌≡◌, ℕ, true, false, map, IfOk, IsErrOf, Some, List};
 ghost use Rattle.clap.specs.Words.{app_of, rule_of, rows_of, found_of, first_of};
-ghost use Rattle.command_words.specs.Forms.{Form, words_of, IsPlain, ArePlain, texts};
-ghost use Rattle.command_words.specs.App.{ipbus, needed, IsFor, name_of, rows_of_form};
+ghost use Rattle.command_words.specs.Forms.{Form, words_of, IsNamed, IsPlain, ArePlain, texts};
+ghost use Rattle.command_words.specs.App.{ipbus, needed, with_alone as with_names, IsFor, name_of, rows_of_form};
 ghost use Rattle.command_words.specs.Read.{form_of};
 
 use clap::error::ErrorKind;
 use clap::{Arg, ArgMatches, Command, Error};
 use std::alloc::{AllocError, Global};
 
-/// A command, and the words behind its name as they are written.
+/// The names of the commands that are a name alone.
+const ALONE: [&str; 1] = ["run"];
+
+/// A command that is a name alone, or another and the words behind its name as they are written.
 #[derive(Clone, Copy, PartialEq, Eq)]
 pub(crate) enum Line<'a> {
-    Run,
+    Alone(&'a str),
     Check(&'a str),
     Serve(&'a str, &'a str),
     Load(&'a str),
@@ -38,29 +41,45 @@ fn needed<'a>(alloc: Global, name: &'a str) -> Arg<'a>
 fn command<'a>(alloc: Global) -> Result<Command<'a>, AllocError>
     ensures { IfOk result (λ c. app_of c ≡ ipbus) }
 {
-    let run = Command::new(alloc, "run");
     let check = Command::new(alloc, "check").arg(needed(alloc, "table"))?;
     let serve = Command::new(alloc, "serve")
         .arg(needed(alloc, "port"))?
         .arg(needed(alloc, "count"))?;
     let load = Command::new(alloc, "load").arg(needed(alloc, "count"))?;
-    Command::new(alloc, "ipbus")
+    let worded = Command::new(alloc, "ipbus")
         .no_binary_name(true)
         .disable_help_flag(true)
         .disable_help_subcommand(true)
         .disable_version_flag(true)
         .subcommand_required(true)
-        .subcommand(run)?
         .subcommand(check)?
         .subcommand(serve)?
-        .subcommand(load)
+        .subcommand(load)?;
+    with_alone(alloc, worded, &ALONE)
+}
+
+/// A command with commands of these names below it, which have no words.
+fn with_alone<'a>(
+    alloc: Global,
+    command: Command<'a>,
+    names: &[&'a str],
+) -> Result<Command<'a>, AllocError>
+    ensures { IfOk result (λ c. app_of c ≡ with_names (app_of command.entry) (map (λ name. name.now) names.now)) }
+{
+    match names {
+        [name, rest @ ..] => {
+            let more = command.subcommand(Command::new(alloc, name))?;
+            with_alone(alloc, more, rest)
+        }
+        [] => Ok(command),
+    }
 }
 
 /// What clap finds in words of which none begins with a hyphen.
 fn matches_for<'a>(alloc: Global, words: &'a [String]) -> Result<ArgMatches<'a>, LineError>
     requires plain { ArePlain (texts words.now) }
-    ensures ok { IfOk result (λ m. (s : Form) × (texts words.now ≡ words_of s) × IsFor s m) }
-    ensures usage { IsErrOf result LineError.Usage → (s : Form) → texts words.now ≡ words_of s → ⊥ }
+    ensures ok { IfOk result (λ m. (s : Form) × IsNamed s × (texts words.now ≡ words_of s) × IsFor s m) }
+    ensures usage { IsErrOf result LineError.Usage → (s : Form) → IsNamed s → texts words.now ≡ words_of s → ⊥ }
 {
     let Ok(command) = command(alloc) else {
         return Err(LineError::NoMemory);
@@ -79,23 +98,24 @@ fn matches_for<'a>(alloc: Global, words: &'a [String]) -> Result<ArgMatches<'a>,
 
 /// The command that was entered, with its words.
 fn line_of<'a>(matches: &ArgMatches<'a>) -> Line<'a>
-    ensures { (s : Form) → IsFor s matches.now → form_of result ≡ s }
+    ensures { (s : Form) → IsNamed s → IsFor s matches.now → form_of result ≡ s }
 {
     match matches.subcommand() {
         Some((name, inner)) => entered(name, inner),
-        None => Line::Run,
+        None => Line::Alone(""),
     }
 }
 
 /// The command of this name, with the words that it was given.
 fn entered<'a>(name: &'a str, matches: &ArgMatches<'a>) -> Line<'a>
-    ensures { (s : Form) → name.now ≡ name_of s → rows_of (found_of matches.now) ≡ rows_of_form s → form_of result ≡ s }
+    ensures { (s : Form) → IsNamed s → name.now ≡ name_of s → rows_of (found_of matches.now) ≡ rows_of_form s
+        → form_of result ≡ s }
 {
     match name {
         "check" => Line::Check(word(matches, "table")),
         "serve" => Line::Serve(word(matches, "port"), word(matches, "count")),
         "load" => Line::Load(word(matches, "count")),
-        _ => Line::Run,
+        name => Line::Alone(name),
     }
 }
 
@@ -130,8 +150,9 @@ fn has_hyphen(words: &[String]) -> bool
 
 /// The command that words name, with its words. `Usage` comes exactly where they name none.
 pub(crate) fn read_line<'a>(alloc: Global, words: &'a [String]) -> Result<Line<'a>, LineError>
-    ensures ok { IfOk result (λ line. (texts words.now ≡ words_of (form_of line)) × ArePlain (texts words.now)) }
-    ensures usage { IsErrOf result LineError.Usage → (s : Form) → texts words.now ≡ words_of s
+    ensures ok { IfOk result (λ line. (texts words.now ≡ words_of (form_of line)) × IsNamed (form_of line)
+        × ArePlain (texts words.now)) }
+    ensures usage { IsErrOf result LineError.Usage → (s : Form) → IsNamed s → texts words.now ≡ words_of s
         → ArePlain (texts words.now) → ⊥ }
 {
     if has_hyphen(words) {

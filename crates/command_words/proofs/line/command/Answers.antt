@@ -2,7 +2,8 @@ use Rattle.std.proofs.Common.{◌≡◌, ◌∙◌, ◌||◌, ap, ap₂, codes, 
 use Rattle.std.proofs.lemmas.Result.{IfOk-weaker}
 use Rattle.clap.specs.Simple.{App, app_of_fields, on_top, new_app, with_rule, with_subcommand}
 use Rattle.clap.specs.Words.{app_of}
-use Rattle.command_words.specs.App.{needed, check_app, serve_app, load_app, bare}
+use Rattle.command_words.specs.App.{needed, check_app, serve_app, load_app, bare, with_alone, worded}
+use Rattle.command_words.specs.Forms.{names_alone}
 use Rattle.command_words.proofs.line.command.Goals as goal
 
 pub returns : goal.returns
@@ -37,15 +38,15 @@ returns c =
     let port_local = c.in_ok-arg.ensures.globals ∙ ap₂ both c.new-2.ensures.local c.needed-2.ensures.local in
     let serve_local = c.in_ok-serve.ensures.globals ∙ ap₂ both port_local c.needed-3.ensures.local in
     let load_local = c.in_ok-load.ensures.globals ∙ ap₂ both c.new-3.ensures.local c.needed-4.ensures.local in
-    let with_run =
-    c.in_ok-subcommand.ensures.shape c.new-run.ensures.local
-    ∙ ap₂ with_subcommand bare_is (ap (λ (a : App). a.top) c.new-run.ensures.app) in
     let with_check =
-    c.in_ok-subcommand-2.ensures.shape check_local
-    ∙ ap₂ with_subcommand with_run (ap (λ (a : App). a.top) check_is) in
+    c.in_ok-subcommand.ensures.shape check_local
+    ∙ ap₂ with_subcommand bare_is (ap (λ (a : App). a.top) check_is) in
     let with_serve =
-    c.in_ok-subcommand-3.ensures.shape serve_local
+    c.in_ok-subcommand-2.ensures.shape serve_local
     ∙ ap₂ with_subcommand with_check (ap (λ (a : App). a.top) serve_is) in
-    IfOk-weaker c.subcommand-4.result _ _
-    (λ r h. h.shape load_local ∙ ap₂ with_subcommand with_serve (ap (λ (a : App). a.top) load_is))
-    c.subcommand-4.ensures
+    let worded_is : app_of c.in_ok-worded.worded ≡ worded =
+    c.in_ok-worded.ensures.shape load_local
+    ∙ ap₂ with_subcommand with_serve (ap (λ (a : App). a.top) load_is) in
+    IfOk-weaker c.with_alone.result _ _
+    (λ r h. h ∙ ap (λ (a : App). with_alone a names_alone) worded_is)
+    c.with_alone.ensures

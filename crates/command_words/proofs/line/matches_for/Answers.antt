@@ -16,15 +16,16 @@ returns-in-Ok-try_get_matches_from-clause-ok c =
     let said = strays.says (texts c.args.words.now) c.requires.plain none in (
       said.0,
       said.1,
+      said.2,
       (c.in-Ok-try_get_matches_from.ensures.matches (ap is_simple app_is ∙ walks.simple)).1
-          ∙ ap₂ subcommand_of app_is said.1 ∙ walks.entered said.0 (subst ArePlain said.1 c.requires.plain),
+          ∙ ap₂ subcommand_of app_is said.2 ∙ walks.entered said.0 said.1 (subst ArePlain said.2 c.requires.plain),
     )
 
 pub returns-clause-usage : goal.returns-clause-usage
-returns-clause-usage c = λ _ s e.
+returns-clause-usage c = λ _ s named e.
     let app_is : app_of c.in-Ok.command ≡ ipbus = c.in-Ok.ensures in
     let taken : takes (app_of c.in-Ok.command) (texts c.args.words.now) ≡ true =
-    ap₂ takes app_is e ∙ walks.taken s (subst ArePlain e c.requires.plain) in
+    ap₂ takes app_is e ∙ walks.taken s named (subst ArePlain e c.requires.plain) in
     let oom : kind_of c.in-Err.error ≡ OutOfMemory = c.in-Err.ensures.passes taken in
     let wrong : ⊥ = search (rules, oom) in
     absurd wrong
