@@ -5,6 +5,7 @@ import importlib.util
 import os
 import pathlib
 import shutil
+import socket
 import subprocess
 import sys
 import tempfile
@@ -53,6 +54,31 @@ def least(spent):
 
 def least_of(runs, words, data=b""):
     return least(run(words, data) for _ in range(runs))
+
+
+def spent(wall, processor=None):
+    """Times that were taken otherwise than by `run`."""
+    return Spent(wall, processor, 0, "", 0)
+
+
+def free_port(kind):
+    """A port that nobody has, of a kind of sockets."""
+    with socket.socket(socket.AF_INET, kind) as probe:
+        probe.bind(("127.0.0.1", 0))
+        return probe.getsockname()[1]
+
+
+# the first line of a document whose parse alone is timed: it is refused behind that, and nothing else is read
+REFUSED_FORMAT = b"format = 3\n"
+REFUSED = "refused: document format Shape"
+
+
+def parse_alone(runs, words, data):
+    """The times of the TOML parse of a document, which is refused behind it. What is refused is read a second time, for
+    what standard error says of it: so half of the whole."""
+    parsed = least_of(runs, words, REFUSED_FORMAT + data)
+    assert (parsed.status, last_line(parsed.text)) == (3, REFUSED), (parsed.status, last_line(parsed.text))
+    return parsed._replace(wall=parsed.wall / 2, processor=parsed.processor / 2)
 
 
 def last_line(text):

@@ -27,7 +27,8 @@ struct held {
 };
 
 static struct held queue[MOST_HELD];
-static unsigned head, tail, held_packets, most_held;
+static unsigned head, tail, held_packets, most_held, statuses;
+static double latest;
 
 static void hold(double due, struct sockaddr_in to, uint32_t header, uint32_t first, int count) {
     need(tail - head < MOST_HELD, "too many answers are held");
@@ -39,9 +40,13 @@ static int is_packet(const struct held *answer) { return (answer->header & 0xff)
 static void let_go(int fd) {
     unsigned char out[MOST] = {0};
     struct held *answer = &queue[head++ % MOST_HELD];
+    double late = now() - answer->due;
     put(out, answer->header);
     put(out + 4, answer->first);
-    if (is_packet(answer)) held_packets--;
+    if (is_packet(answer)) {
+        held_packets--;
+        if (late > latest) latest = late;
+    }
     else {
         put(out + 8, 16);
         put(out + 12, 0x200000f0 | answer->count << 8);
@@ -49,7 +54,8 @@ static void let_go(int fd) {
     sendto(fd, out, is_packet(answer) ? answer->count : 64, 0, (struct sockaddr *)&answer->to, sizeof answer->to);
 }
 
-/* After so many packets it is silent. A datagram of one byte asks for the most packets that it held at once. */
+/* After so many packets it is silent. A datagram of one byte asks for the most packets that it held at once, by how
+   many seconds the latest of its answers was late, and how often it was asked for its status. */
 static void be_board(int port, double seconds, long packets) {
     struct sockaddr_in at = here(port), from;
     int fd = socket(AF_INET, SOCK_DGRAM, 0);
@@ -67,9 +73,10 @@ static void be_board(int port, double seconds, long packets) {
             uint32_t header = got >= 4 ? word(in) : 0;
             if (got == 1) {
                 char text[64];
-                int count = snprintf(text, sizeof text, "%u %ld", most_held, heard);
+                int count = snprintf(text, sizeof text, "%u %.6f %u", most_held, latest, statuses);
                 sendto(fd, text, count, 0, (struct sockaddr *)&from, length);
             } else if (got == 64 && header == 0x200000f1) {
+                statuses++;
                 if (packets < 0 || heard < packets || !heard) hold(now() + seconds, from, header, 1500, next);
             } else if (got == 12 && header == (0x200000f0 | next << 8)) {
                 if (packets >= 0 && heard++ >= packets) continue;
@@ -83,26 +90,30 @@ static void be_board(int port, double seconds, long packets) {
     }
 }
 
-/* ---- as many packets under way at that board as there are connections, for so long: the most that a hub can get */
+/* ---- as many packets under way at that board as there are connections, for so long: the most that a hub can get, and
+   the longest that one of them waited for its answer */
 
 static void ask_board(int port, int connections, double seconds) {
     struct sockaddr_in at = here(port);
     int fd = socket(AF_INET, SOCK_DGRAM, 0);
     unsigned char out[12], in[MOST];
+    double began[MOST_CLIENTS], longest = 0;
     long answers = 0, asked = 0;
     need(fd >= 0 && connect(fd, (struct sockaddr *)&at, sizeof at) == 0, "connect");
     double end = now() + seconds;
     while (now() < end) {
         while (asked - answers < connections) {
+            began[asked % MOST_CLIENTS] = now();
             put(out, 0x200000f0 | (asked++ % 65535 + 1) << 8);
             put(out + 4, 0x2000010f);
             put(out + 8, 0);
             need(write(fd, out, 12) == 12, "write");
         }
         need(read(fd, in, sizeof in) == 12, "read");
-        answers++;
+        double took = now() - began[answers++ % MOST_CLIENTS];
+        if (took > longest) longest = took;
     }
-    printf("%ld\n", answers);
+    printf("%ld %.6f\n", answers, longest);
 }
 
 /* ---- clients of a hub, each with a connection and one request at a time */
@@ -164,18 +175,21 @@ static void ask_for(int port, int connections, double seconds) {
     for (int i = 0; i < connections; i++) printf("%ld %.6f\n", answers[i], greatest[i]);
 }
 
-/* Bursts of 2 to all connections, which ask once each. The longest wait, and when all were told. */
+/* Bursts of 2 to all connections, which ask once each. How long the longest took until all were told, and how many
+   clients it had. */
 static void ask_in_bursts(int port, int connections, int bursts) {
     double longest = 0;
+    int clients = 0;
     join_hub(port, connections);
     srand(1);
     for (int i = 0; i < bursts; i++) {
+        int count = 2 + rand() % (connections - 1);
         double began = now();
-        together(0, 2 + rand() % (connections - 1), ask_once);
+        together(0, count, ask_once);
         double took = now() - began;
-        if (took > longest) longest = took;
+        if (took > longest) longest = took, clients = count;
     }
-    printf("%.6f\n", longest);
+    printf("%.6f %d\n", longest, clients);
 }
 
 int main(int count, char **args) {
