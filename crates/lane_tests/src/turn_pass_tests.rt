@@ -1,10 +1,11 @@
 //! A list of entries that passes hand to one another.
 
-ghost use Rattle.std.specs.Prelude.{◌≡◌, ◌<◌, false, true};
+ghost use Rattle.std.specs.Prelude.{◌≡◌, ◌<◌, IfOk, false, true};
 ghost use Rattle.turn_pass.specs.Record.{GrowsBy};
 
 use crate::same::same;
 use std::alloc::{AllocError, Global};
+use std::process::Abort;
 use std::test::*;
 use turn_pass::{Chronicle, Entry, Pass, Turn};
 
@@ -78,23 +79,55 @@ fn add_and_give<V: Grows + Send>(
     added
 }
 
-#[test]
-fn a_value_is_taken_by_one_pass(rt: HostRuntime) -> Result<(), Fail> {
-    let Ok((turn, mut first)) = Turn::new(rt.alloc(), planned(rt.alloc())?) else {
-        return Err(Fail::from("no memory"));
-    };
-    let mut second = turn.split(&mut first);
-    same(&rt, &(first.number(), second.number()), &(0, 1));
-    let Some(log) = turn.try_take(&mut second) else {
+/// A pass takes the value, which the other pass cannot take then, adds an entry to it and gives it back.
+fn adds_alone<V: Grows + Send + Drop>(
+    rt: &impl Abort,
+    turn: &Turn<V>,
+    pass: &mut Pass,
+    other: &mut Pass,
+) -> Result<(), Fail>
+    requires pass { (pass.old.turn ≡ turn.now) × (pass.old.holds ≡ false) }
+    requires other { (other.old.turn ≡ turn.now) × (other.old.holds ≡ false) }
+    ensures pass { (pass.new.turn ≡ turn.now) × (pass.new.holds ≡ false) }
+    ensures other { (other.new.turn ≡ turn.now) × (other.new.holds ≡ false) }
+    ensures number { pass.new.knows.number ≡ pass.old.knows.number }
+{
+    let Some(value) = turn.try_take(pass) else {
         return Err(Fail::from("the value is there"));
     };
-    assert!(rt; turn.try_take(&mut first).is_none());
-    add_and_give(&turn, &mut second, log)?;
-    let Some(log) = turn.try_take(&mut first) else {
-        return Err(Fail::from("the value was given back"));
-    };
-    same(&rt, &log.count(), &3);
-    turn.give(&mut first, log);
+    assert!(rt; turn.try_take(other).is_none());
+    Ok(add_and_give(turn, pass, value)?)
+}
+
+/// How many entries a pass finds, which takes the value and gives it back.
+fn count_found<V: Chronicle + Send>(turn: &Turn<V>, pass: &mut Pass) -> Option<u64>
+    requires { (pass.old.turn ≡ turn.now) × (pass.old.holds ≡ false) }
+    ensures { (pass.new.turn ≡ turn.now) × (pass.new.holds ≡ false) }
+{
+    let value = turn.try_take(pass)?;
+    let count = value.count();
+    turn.give(pass, value);
+    Some(count)
+}
+
+/// A turn for a plan and a seal, and the first pass.
+fn opened(alloc: Global) -> Result<(Turn<Log>, Pass), Fail>
+    ensures turn { IfOk result (λ made. (made.1.turn ≡ made.0) × (made.1.holds ≡ false)) }
+    ensures first { IfOk result (λ made. (made.1.knows.number ≡ 0) × (made.1.knows.made ≡ 1)) }
+{
+    match Turn::new(alloc, planned(alloc)?) {
+        Ok(made) => Ok(made),
+        Err(_) => Err(Fail::from("no memory")),
+    }
+}
+
+#[test]
+fn a_value_is_taken_by_one_pass(rt: HostRuntime) -> Result<(), Fail> {
+    let (turn, mut first) = opened(rt.alloc())?;
+    let mut second = turn.split(&mut first);
+    same(&rt, &(first.number(), second.number()), &(0, 1));
+    adds_alone(&rt, &turn, &mut second, &mut first)?;
+    same(&rt, &count_found(&turn, &mut first), &Some(3));
     turn.join(&mut first, second);
     let log = turn.close(&rt, first);
     let last = Entry {
