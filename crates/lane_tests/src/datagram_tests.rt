@@ -2,26 +2,37 @@
 
 use crate::same::{same, same_items};
 use board_node::{Board, Bus, DropCause, Heard};
+use ipb_base::NoMemory;
 use packet_ids::Id;
 use std::alloc::Global;
 use std::test::Fail;
 
-/// What a fresh board does with these bytes and zeros behind them, so many bytes in all, and its answer. Its MTU is 92
-/// bytes where it takes small packets alone, and else 1500.
+/// A board that has heard nothing. Its MTU is 92 bytes where it takes small packets alone, and else 1500.
+fn fresh_board(alloc: Global, is_small: bool) -> Result<Board, Fail> {
+    let first = Id::new(1).ok_or("0 is no identifier")?;
+    let bus = Bus::new(alloc, &[])?;
+    let mtu = if is_small { 92 } else { 1500 };
+    Ok(Board::new(alloc, bus, mtu, 16, first)?)
+}
+
+/// These bytes and zeros behind them, so many bytes in all.
+fn padded(alloc: Global, front: &[u8], length: usize) -> Result<Vec<u8>, NoMemory> {
+    let mut bytes = front.to_vec(alloc)?;
+    for _ in front.len()..length {
+        bytes.push(0)?;
+    }
+    Ok(bytes)
+}
+
+/// What a fresh board does with these bytes and zeros behind them, so many bytes in all, and its answer.
 fn answered(
     alloc: Global,
     is_small: bool,
     front: &[u8],
     length: usize,
 ) -> Result<(Heard, Vec<u8>), Fail> {
-    let first = Id::new(1).ok_or("0 is no identifier")?;
-    let bus = Bus::new(alloc, &[])?;
-    let mtu = if is_small { 92 } else { 1500 };
-    let mut board = Board::new(alloc, bus, mtu, 16, first)?;
-    let mut datagram = front.to_vec(alloc)?;
-    for _ in front.len()..length {
-        datagram.push(0)?;
-    }
+    let datagram = padded(alloc, front, length)?;
+    let mut board = fresh_board(alloc, is_small)?;
     let mut out = Vec::new(alloc);
     let heard = board.hear(&datagram, &mut out)?;
     Ok((heard, out))
