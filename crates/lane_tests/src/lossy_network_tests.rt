@@ -1,15 +1,15 @@
 //! A simulated link, by itself and through what any link does, and a rack of simulated links.
 
-ghost use Rattle.std.specs.Prelude.{◌≡◌, ◌≤◌, length, IfOk};
-ghost use Rattle.world_core.specs.declared.link.TheConstants.{MAX_DATAGRAM};
+ghost use Rattle.std.specs.Prelude.{◌≡◌, IfOk};
 ghost use Rattle.lossy_network.specs.Racks.{IsMakeable};
 
 use crate::fixtures::{REPLY, REQUEST, RESEND, board};
+use crate::links::{ask, ask_and_keep};
 use crate::same::{same, same_items};
 use board_bus::check_ranges;
 use board_node::{BoardSpec, Fates, LinkSpec, Range, RangeKind, Ranges};
 use ipb_base::{Text, Words};
-use lossy_network::{Link, LinkFault, NoMemory, Rack, RackFault, Received, SimLink, SimRack};
+use lossy_network::{Link, LinkFault, NoMemory, RackFault, Received, SimLink, SimRack};
 use packet_ids::Id;
 use rand_core::utils::NextWord;
 use rand_pcg::Lcg64Xsh32;
@@ -32,15 +32,6 @@ fn link(alloc: Global, fates: &str) -> Result<SimLink, Fail> {
     let board = board(alloc, 16, 1)?;
     let fates = fates_of(alloc, fates)?;
     Ok(SimLink::new(alloc, board, fates, Vec::new(alloc))?)
-}
-
-/// Sends a datagram over any link and waits for one.
-fn ask<L: Link>(link: &mut L, bytes: &[u8], into: &mut Vec<u8>) -> Result<Received, LinkFault>
-    requires { length bytes.now ≤ MAX_DATAGRAM }
-    ensures { L.held link.old ≤ L.held link.new }
-{
-    link.send(bytes)?;
-    link.receive(into)
 }
 
 /// What a link hands out for the request, or for the request to send its reply again: the reply, or nothing.
@@ -136,21 +127,6 @@ fn simulated(alloc: Global) -> Result<BoardSpec, Fail>
         fates: fates_of(alloc, "l")?,
     };
     Ok(spec(alloc, link)?)
-}
-
-/// Makes a link in any rack, asks over it and gives it back: what the board answered, which is lost, or a fault.
-fn ask_and_keep<R: Rack>(
-    rack: &mut R,
-    spec: &BoardSpec,
-    into: &mut Vec<u8>,
-) -> Result<Result<Received, LinkFault>, RackFault>
-    requires { IsMakeable spec.now.link }
-    ensures { R.faults rack.old ≤ R.faults rack.new }
-{
-    let mut link = rack.make(spec)?;
-    let received = ask(&mut link, &REQUEST, into);
-    rack.keep(link);
-    Ok(received)
 }
 
 /// A rack of which the second make fails, and on each link the second call, which is the receive.

@@ -1,24 +1,16 @@
 //! A link whose answers are given beforehand, by itself and through what any link does, and a rack of such links.
 
-ghost use Rattle.std.specs.Prelude.{◌≤◌, length};
-ghost use Rattle.world_core.specs.declared.link.TheConstants.{MAX_DATAGRAM};
+ghost use Rattle.std.specs.Prelude.{IfOk};
+ghost use Rattle.lossy_network.specs.Racks.{IsMakeable};
 
 use crate::fixtures::{REPLY, REQUEST};
+use crate::links::{ask, ask_and_keep};
 use crate::same::same;
 use board_node::{BoardSpec, LinkSpec};
 use ipb_base::Text;
-use lossy_network::{Link, LinkFault, NoMemory, Received, ScriptLink, ScriptRack, are_datagrams};
+use lossy_network::{LinkFault, NoMemory, Received, ScriptLink, ScriptRack, are_datagrams};
 use std::alloc::Global;
 use std::test::Fail;
-
-/// Sends a datagram over any link and waits for one.
-fn ask<L: Link>(link: &mut L, bytes: &[u8], into: &mut Vec<u8>) -> Result<Received, LinkFault>
-    requires { length bytes.now ≤ MAX_DATAGRAM }
-    ensures { L.held link.old ≤ L.held link.new }
-{
-    link.send(bytes)?;
-    link.receive(into)
-}
 
 /// A list of these two answers.
 fn two(alloc: Global) -> Result<Vec<Vec<u8>>, NoMemory> {
@@ -50,7 +42,9 @@ fn answers_are_handed_out_in_order(rt: HostRuntime) -> Result<(), Fail> {
 }
 
 /// A board behind a port.
-fn on_network(alloc: Global) -> Result<BoardSpec, NoMemory> {
+fn on_network(alloc: Global) -> Result<BoardSpec, NoMemory>
+    ensures { IfOk result (λ spec. IsMakeable spec.link) }
+{
     Ok(BoardSpec {
         name: Text::copy_of(alloc, "b0")?,
         table: Text::copy_of(alloc, "main")?,
@@ -62,21 +56,25 @@ fn on_network(alloc: Global) -> Result<BoardSpec, NoMemory> {
     })
 }
 
+/// A rack whose first link has these two answers, and whose others have none.
+fn rack_of_two(alloc: Global) -> Result<ScriptRack, Fail> {
+    let mut lists = Vec::new(alloc);
+    lists.push(two(alloc)?)?;
+    if !lists.iter().all(|list| are_datagrams(list)) {
+        return Err("an answer is too long for a datagram".into());
+    }
+    Ok(ScriptRack::new(alloc, lists))
+}
+
 /// The second link has no answers.
 #[test]
 fn each_link_of_a_rack_has_its_answers(rt: HostRuntime) -> Result<(), Fail> {
     let spec = on_network(rt.alloc())?;
-    let mut lists = Vec::new(rt.alloc());
-    lists.push(two(rt.alloc())?)?;
-    assert!(rt; lists.iter().all(|list| are_datagrams(list)));
-    let mut rack = ScriptRack::new(rt.alloc(), lists);
-    let mut link = rack.make(&spec)?;
+    let mut rack = rack_of_two(rt.alloc())?;
     let mut into = Vec::new(rt.alloc());
-    assert!(rt; ask(&mut link, &REQUEST, &mut into) == Ok(Received::Got));
-    rack.keep(link);
-    let mut other = rack.make(&spec)?;
-    assert!(rt; ask(&mut other, &REQUEST, &mut into) == Ok(Received::Quiet));
-    rack.keep(other);
+    for received in [Received::Got, Received::Quiet] {
+        assert!(rt; ask_and_keep(&mut rack, &spec, &mut into) == Ok(Ok(received)));
+    }
     let handed = rack.kept(0).map(|link| link.handed().len());
     same(&rt, &(rack.made(), handed), &(2, Some(1)));
     Ok(())

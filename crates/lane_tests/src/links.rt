@@ -1,0 +1,37 @@
+//! What is asked of any link and of any rack.
+
+ghost use Rattle.std.specs.Prelude.{◌≤◌, length};
+ghost use Rattle.world_core.specs.declared.link.TheConstants.{MAX_DATAGRAM};
+ghost use Rattle.lossy_network.specs.Racks.{IsMakeable};
+
+use crate::fixtures::REQUEST;
+use board_node::BoardSpec;
+use lossy_network::{Link, LinkFault, Rack, RackFault, Received};
+
+/// Sends a datagram over any link and waits for one.
+pub(crate) fn ask<L: Link>(
+    link: &mut L,
+    bytes: &[u8],
+    into: &mut Vec<u8>,
+) -> Result<Received, LinkFault>
+    requires { length bytes.now ≤ MAX_DATAGRAM }
+    ensures { L.held link.old ≤ L.held link.new }
+{
+    link.send(bytes)?;
+    link.receive(into)
+}
+
+/// Makes a link in any rack, asks over it and gives it back: what came over it, or a fault.
+pub(crate) fn ask_and_keep<R: Rack>(
+    rack: &mut R,
+    spec: &BoardSpec,
+    into: &mut Vec<u8>,
+) -> Result<Result<Received, LinkFault>, RackFault>
+    requires { IsMakeable spec.now.link }
+    ensures { R.faults rack.old ≤ R.faults rack.new }
+{
+    let mut link = rack.make(spec)?;
+    let received = ask(&mut link, &REQUEST, into);
+    rack.keep(link);
+    Ok(received)
+}
