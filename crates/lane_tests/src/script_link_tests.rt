@@ -6,9 +6,12 @@ ghost use Rattle.lossy_network.specs.Racks.{IsMakeable};
 use crate::fixtures::{REPLY, REQUEST};
 use crate::links::{ask, ask_and_keep};
 use crate::same::same;
-use board_node::{BoardSpec, LinkSpec};
+use board_node::{BoardSpec, Fates, LinkSpec, Ranges};
 use ipb_base::Text;
-use lossy_network::{LinkFault, NoMemory, Received, ScriptLink, ScriptRack, are_datagrams};
+use lossy_network::{
+    LinkFault, NoMemory, RackFault, Received, ScriptLink, ScriptRack, are_datagrams,
+};
+use packet_ids::Id;
 use std::alloc::Global;
 use std::test::Fail;
 
@@ -77,5 +80,53 @@ fn each_link_of_a_rack_has_its_answers(rt: HostRuntime) -> Result<(), Fail> {
     }
     let handed = rack.kept(0).map(|link| link.handed().len());
     same(&rt, &(rack.made(), handed), &(2, Some(1)));
+    Ok(())
+}
+
+/// A board of the program's own.
+fn simulated(alloc: Global) -> Result<BoardSpec, Fail> {
+    Ok(BoardSpec {
+        name: Text::copy_of(alloc, "b0")?,
+        table: Text::copy_of(alloc, "main")?,
+        link: LinkSpec::Sim {
+            mtu: 1500,
+            buffers: 16,
+            first: Id::new(1).ok_or("0 is no identifier")?,
+            ranges: Ranges::from_vec(Vec::new(alloc)),
+            fates: Fates::Text(Text::copy_of(alloc, "")?),
+        },
+    })
+}
+
+/// A simulated board is refused, and refused again, and no list is used up: the link made behind that has the first one.
+#[test]
+fn simulated_boards_are_refused_again(rt: HostRuntime) -> Result<(), Fail> {
+    let mut lists = Vec::new(rt.alloc());
+    lists.push(two(rt.alloc())?)?;
+    assert!(rt; lists.iter().all(|list| are_datagrams(list)));
+    let mut rack = ScriptRack::new(rt.alloc(), lists);
+    let spec = simulated(rt.alloc())?;
+    for _ in 0..2 {
+        assert!(rt; rack.make(&spec).err() == Some(RackFault::Failed));
+    }
+    let mut link = rack.make(&on_network(rt.alloc())?)?;
+    let mut into = Vec::new(rt.alloc());
+    assert!(rt; ask(&mut link, &REQUEST, &mut into) == Ok(Received::Got));
+    same(&rt, &into.len(), &12);
+    Ok(())
+}
+
+#[test]
+fn answers_longer_than_a_datagram_are_refused_again(rt: HostRuntime) -> Result<(), Fail> {
+    for length in [9000, 9001] {
+        let mut answer = Vec::new(rt.alloc());
+        for _ in 0..length {
+            answer.push(0)?;
+        }
+        let list = [answer];
+        for _ in 0..2 {
+            assert!(rt; are_datagrams(&list) == (length == 9000));
+        }
+    }
     Ok(())
 }

@@ -5,9 +5,7 @@ use crate::same::same;
 use ipb_base::{NoMemory, Words};
 use std::alloc::Global;
 use std::test::Fail;
-use world_core::{
-    Air, Fate, Message, Settings, World, WorldEnd, WorldMove, are_short, read_for_hub, run_world,
-};
+use world_core::{Air, Fate, Settings, World, WorldEnd, WorldMove, are_short, run_world};
 
 /// A move of these tests: an offer of the read under a tag, or what a side hears.
 #[derive(Clone, Copy)]
