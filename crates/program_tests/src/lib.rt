@@ -26,6 +26,8 @@ mod program;
 #[cfg(test)]
 mod rack_tests;
 #[cfg(test)]
+mod refused_again;
+#[cfg(test)]
 mod same;
 #[cfg(test)]
 mod serving;
