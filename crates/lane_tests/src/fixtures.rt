@@ -6,8 +6,9 @@ ghost use Rattle.transaction_codec.specs.Request.{op_count};
 ghost use Rattle.script_steps.specs.Packing.{CanBePacked, operations};
 ghost use Rattle.world_model.specs.Board.{executed};
 
+use crate::links::ready;
 use board_node::{Board, Bus, Fates, Range, RangeKind};
-use hub_lane::{Entry, Greeted, Lane, Outcome, Settings};
+use hub_lane::{Entry, Lane, Outcome, Settings};
 use ipb_base::{NoMemory, Text, Words};
 use lossy_network::SimLink;
 use packet_ids::Id;
@@ -69,15 +70,12 @@ pub(crate) fn add(alloc: Global, board: u32, addend: u32) -> Result<Step, NoMemo
 pub(crate) fn lane(alloc: Global, fates: &str) -> Result<Lane<SimLink>, Fail>
     ensures { IfOk result (λ lane. lane.items ≡ []) }
 {
+    let settings = Settings::new(3, 4).ok_or("settings out of range")?;
+    let fates = Fates::Text(Text::copy_of(alloc, fates)?);
     let board = board(alloc, 16, 1)?;
     board.keeps_its_ranges();
-    let fates = Fates::Text(Text::copy_of(alloc, fates)?);
     let link = SimLink::new(alloc, board, fates, Vec::new(alloc))?;
-    let settings = Settings::new(3, 4).ok_or("settings out of range")?;
-    match Lane::greet(alloc, link, settings) {
-        Greeted::Ready(lane) => Ok(lane),
-        _ => Err("the board told no status".into()),
-    }
+    ready(Lane::greet(alloc, link, settings))
 }
 
 /// A body that reads that word, and the words of the longest reply to it.

@@ -1,12 +1,15 @@
-//! What is asked of any link and of any rack.
+//! What is asked of any link and of any rack, and what came of a greeting.
 
-ghost use Rattle.std.specs.Prelude.{◌≤◌, length};
+ghost use Rattle.std.specs.Prelude.{◌≡◌, ◌≤◌, [], IfOk, length};
 ghost use Rattle.world_core.specs.declared.link.TheConstants.{MAX_DATAGRAM};
 ghost use Rattle.lossy_network.specs.Racks.{IsMakeable};
+ghost use Rattle.hub_lane.specs.Greeting.{IfReady};
 
 use crate::fixtures::REQUEST;
 use board_node::BoardSpec;
-use lossy_network::{Link, LinkFault, Rack, RackFault, Received};
+use hub_lane::{Greeted, Lane};
+use lossy_network::{Link, LinkFault, Rack, RackFault, Received, SimLink};
+use std::test::Fail;
 
 /// Sends a datagram over any link and waits for one.
 pub(crate) fn ask<L: Link>(
@@ -34,4 +37,15 @@ pub(crate) fn ask_and_keep<R: Rack>(
     let received = ask(&mut link, &REQUEST, into);
     rack.keep(link);
     Ok(received)
+}
+
+/// The lane of a board that told its status, to which nothing was planned.
+pub(crate) fn ready(greeted: Greeted<SimLink>) -> Result<Lane<SimLink>, Fail>
+    requires { IfReady greeted (λ lane. lane.items ≡ []) }
+    ensures { IfOk result (λ lane. lane.items ≡ []) }
+{
+    match greeted {
+        Greeted::Ready(lane) => Ok(lane),
+        _ => Err("the board told no status".into()),
+    }
 }
