@@ -6,6 +6,7 @@ use crate::fixtures::{
     FIRST, TRANSCRIPT, calm, first_in_bytes, over, over_links, shut_door, wide_sink,
 };
 use crate::same::{same, same_items};
+use command_words::USAGE_LINE;
 use ipb_base::NoMemory;
 use ipb_outside::{CalmSource, MemSink, read_all};
 use ipbus_program::{
@@ -17,8 +18,6 @@ use std::marker::Sync;
 use std::sync::Wait;
 use std::test::Fail;
 use std::thread::Threads;
-
-const USAGE_LINE: &str = "usage: ipbus run | check TABLE | serve PORT COUNT | load COUNT\n";
 
 /// A board behind UDP, of which a rack of simulated links makes none.
 const OVER_UDP: &str = r#"

@@ -1,11 +1,12 @@
 //! Standard input and output, over runtimes that stand in for them.
 
-use crate::same::{same, same_items};
+use crate::same::{differing_bytes, same, same_items};
 use ipb_outside::{Failed, Sink, Source, read_all, write_whole};
 use net_edges::{StdinSource, StdoutSink};
 use std::alloc::Allocator;
 use std::fmt::Display;
 use std::io::{self, BufRead, ErrorKind, Input, Lines, Print};
+use std::sync::atomic::{AtomicUsize, Ordering};
 use std::test::Fail;
 
 /// A runtime whose standard input is these bytes.
@@ -82,4 +83,49 @@ fn writes_of_each_way(rt: HostRuntime) {
     same(&rt, &slow.write(b"ab"), &Ok(1));
     same(&rt, &write_whole(&mut slow, b"hello"), &Ok(()));
     slow.end();
+}
+
+/// A runtime whose standard output takes seven bytes at once, and counts those that are the next of the bytes awaited.
+#[derive(Clone, Copy)]
+struct Awaiting<'a> {
+    bytes: &'a [u8],
+    right: &'a AtomicUsize,
+}
+
+impl<'a> Print for Awaiting<'a> {
+    fn print<D: Display + Drop>(&self, _value: D) -> io::Result<()> {
+        Err(io::Error::from(ErrorKind::Unsupported))
+    }
+
+    fn println<D: Display + Drop>(&self, _value: D) -> io::Result<()> {
+        Err(io::Error::from(ErrorKind::Unsupported))
+    }
+
+    fn write_all(&self, _bytes: &[u8]) -> io::Result<()> {
+        Err(io::Error::from(ErrorKind::Unsupported))
+    }
+
+    fn write_some(&self, bytes: &[u8]) -> io::Result<usize> {
+        let count = bytes.len().min(7);
+        for byte in &bytes[..count] {
+            let next = self.right.load(Ordering::SeqCst);
+            if self.bytes.get(next) == Some(byte) {
+                self.right.fetch_add(1, Ordering::SeqCst);
+            }
+        }
+        Ok(count)
+    }
+}
+
+#[test]
+fn each_byte_is_written_to_standard_output(rt: HostRuntime) -> Result<(), Fail> {
+    let bytes = differing_bytes(rt.alloc(), 1000)?;
+    let right = AtomicUsize::new(0);
+    let mut sink = StdoutSink::new(Awaiting {
+        bytes: &bytes,
+        right: &right,
+    });
+    write_whole(&mut sink, &bytes)?;
+    same(&rt, &right.load(Ordering::SeqCst), &1000);
+    Ok(())
 }
