@@ -127,7 +127,7 @@ enum Read {
     Other,
 }
 
-fn read(alloc: Global, datagram: &[u8]) -> Result<Read, NoMemory> {
+fn read_by_hub(alloc: Global, datagram: &[u8]) -> Result<Read, NoMemory> {
     Ok(match read_for_hub(alloc, datagram)? {
         Message::Reply { id, words } => Read::Reply(id.get(), words.len()),
         Message::Status(_) => Read::Status,
@@ -166,7 +166,7 @@ fn a_hub_reads_anything(rt: HostRuntime) -> Result<(), Fail> {
     for (front, length, wanted) in HEARD {
         let datagram = padded(rt.alloc(), front, length)?;
         for _ in 0..2 {
-            same(&rt, &read(rt.alloc(), &datagram)?, &wanted);
+            same(&rt, &read_by_hub(rt.alloc(), &datagram)?, &wanted);
         }
     }
     Ok(())

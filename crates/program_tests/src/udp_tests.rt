@@ -79,7 +79,8 @@ fn is_heard_alone(rt: &HostRuntime, address: Ipv4Addr) -> Result<bool, Fail> {
     let _ = other.send_to(b"noise", hub);
     let _ = board.send_to(b"reply", (address, hub.port()))?;
     let mut into = Vec::new(rt.alloc());
-    let is_heard = link.receive(&mut into) == Ok(Received::Got) && into.as_slice() == b"reply".as_slice();
+    let is_heard = link.receive(&mut into) == Ok(Received::Got)
+        && into.as_slice() == b"reply".as_slice();
     Ok(is_heard && link.receive(&mut into) == Ok(Received::Quiet))
 }
 
