@@ -1,16 +1,12 @@
 //! A lane of one client over a simulated link.
 
-ghost use Rattle.std.specs.Prelude.{◌≡◌, IfOk};
-ghost use Rattle.transaction_codec.specs.Answer.{reply_room};
-
-use crate::fixtures::{FOUR_READ, lane, place_of, planned_lane};
+use crate::fixtures::{FOUR_READ, place_of, planned_lane};
 use crate::same::same;
-use hub_lane::{Asked, Lane, Looked, Outcome, PlanRefusal, Stepped};
-use ipb_base::{NoMemory, Words};
+use hub_lane::{Asked, Lane, Looked, Outcome, Stepped};
+use ipb_base::NoMemory;
 use lossy_network::SimLink;
 use std::alloc::Global;
 use std::test::Fail;
-use transaction_codec::reply_room;
 
 /// Asks the first body of client 1. Whether it was asked.
 fn asks_first(lane: &mut Lane<SimLink>) -> Result<bool, NoMemory> {
@@ -104,52 +100,5 @@ fn an_ask_sends_and_a_look_receives_nothing(rt: HostRuntime) -> Result<(), Fail>
     let mut lane = asked_lane(rt.alloc(), "")?;
     assert!(rt; has_sent_one(&mut lane));
     same(&rt, &are_ready(&mut lane), &Ok((Some(false), Some(true))));
-    Ok(())
-}
-
-/// So many reads of no word or of 255 words, a number of which is in the words field, and the words of the longest reply.
-fn reads(alloc: Global, count: usize, number: u32) -> Result<(Words, u32), NoMemory>
-    ensures { IfOk result (λ read. read.1 ≡ reply_room read.0) }
-{
-    let mut words = Vec::new(alloc);
-    for _ in 0..count {
-        words.push(0x2000_000f | (number & 255) << 8)?;
-        words.push(0)?;
-    }
-    let body = Words::from_vec(words);
-    let reply_words = reply_room(body.as_slice());
-    Ok((body, reply_words))
-}
-
-/// Why a lane whose board takes 368 words refuses a plan of such reads each time.
-fn refusals(
-    alloc: Global,
-    is_sealed: bool,
-    count: usize,
-    number: u32,
-) -> Result<Vec<Option<PlanRefusal>>, Fail> {
-    let mut lane = lane(alloc, "")?;
-    if is_sealed {
-        lane.seal();
-    }
-    let mut told = Vec::new(alloc);
-    for _ in 0..2 {
-        let (body, reply_words) = reads(alloc, count, number)?;
-        told.push(lane.plan(1, body, reply_words).err())?;
-    }
-    Ok(told)
-}
-
-#[test]
-fn plans_are_refused_again(rt: HostRuntime) -> Result<(), Fail> {
-    for (is_sealed, count, number, wanted) in [
-        (true, 1, 1, Some(PlanRefusal::Sealed)),
-        (false, 184, 0, Some(PlanRefusal::TooLong)),
-        (false, 2, 255, Some(PlanRefusal::ReplyTooLong)),
-        (false, 183, 1, None),
-    ] {
-        let told = refusals(rt.alloc(), is_sealed, count, number)?;
-        assert!(rt; told.as_slice() == [wanted; 2].as_slice(), "{count}");
-    }
     Ok(())
 }
