@@ -150,7 +150,7 @@ impl<V: Chronicle + Send> Turn<V> {
     }
 
     /// Takes the value, and tries again until it has it. It waits for the pass that holds the value, and sleeps where
-    /// that takes long. Threads that slept before this call have a moment to take the value first.
+    /// that takes long.
     pub fn take<R: Wait>(&self, rt: &R, pass: &mut Pass) -> V
         requires turn { pass.old.turn ≡ self.now }
         requires idle { pass.old.holds ≡ false }
@@ -161,7 +161,6 @@ impl<V: Chronicle + Send> Turn<V> {
         } }
         ensures told { Told pass.old.knows (V.entries result) }
     {
-        self.let_sleepers_in();
         for _ in rt.forever() {
             if let Some(value) = self.try_take(pass) {
                 return value;
@@ -187,20 +186,7 @@ impl<V: Chronicle + Send> Turn<V> {
         value
     }
 
-    /// Where threads sleep until the value is given, lets one of them take it, for a moment.
-    fn let_sleepers_in(&self) {
-        if self.sleepers.load(Ordering::SeqCst) == 0 {
-            return;
-        }
-        for _ in 0..LETS_IN {
-            if self.is_taken() {
-                return;
-            }
-            thread::yield_now();
-        }
-    }
-
-    /// Waits while the value is taken: it looks a few times, and then sleeps until the value is given.
+    /// Waits while the value is taken: it looks for some time, and then sleeps until the value is given.
     ///
     /// No wakeup is lost. A thread counts itself among the sleepers before the system looks once more whether the value
     /// is taken, and whoever gives the value empties word 0 before it looks for sleepers. So either the system finds
@@ -233,12 +219,9 @@ impl<V: Chronicle + Send> Turn<V> {
 /// Word 0 while a pass holds the value.
 const TAKEN: u32 = 1;
 
-/// How often a thread looks whether the value was given before it sleeps (profile).
-const LOOKS: u32 = 8;
-
-/// How often a thread gives way at most to those that sleep (profile). One that is woken takes some 50 microseconds to
-/// run.
-const LETS_IN: u32 = 64;
+/// How often a thread looks whether the value was given before it sleeps (profile): for some tens of microseconds, in
+/// which a lane is mostly given back. A thread that sleeps takes some 50 microseconds to run again.
+const LOOKS: u32 = 64;
 
 /// The exchange, the value out of the slot, and the load, by which the emptied slot is at home again.
 fn take_from<V: Chronicle>(
