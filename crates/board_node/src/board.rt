@@ -17,7 +17,7 @@ ghost use Rattle.world_model.specs.Board.{is_too_long, present_bus, send_again, 
 ghost use Rattle.board_node.specs.Answers.{answer_bytes, IsHeard};
 ghost use Rattle.board_node.specs.View.{said_by};
 
-use crate::replies::{find_held, keep_reply, packet_length};
+use crate::replies::{find_held, keep_reply, packet_length, words_of};
 use board_bus::Bus;
 use board_bus::laws::a_reply_has_room;
 use circular_buffer::HeapCircularBuffer;
@@ -28,6 +28,7 @@ use packet_ids::{Id, id_at};
 use status_packet::{Status, write_status_reply};
 use std::alloc::Global;
 use std::marker::Model;
+use std::mem;
 use transaction_codec::reply_room;
 use world_model::{DropCause, Heard, LogEntry};
 
@@ -52,6 +53,8 @@ pub struct Board {
     numbered: u64,
     /// The replies to the last numbered packets, the oldest first.
     held: HeapCircularBuffer<Packet>,
+    /// The words of a reply that is held no longer: the next one is written in their place.
+    spare: Vec<u32>,
 }
 
 impl Model for Board {
@@ -91,6 +94,7 @@ impl Board {
             log: Vec::new(alloc),
             numbered: 0,
             held: HeapCircularBuffer::with_capacity(alloc, buffers as usize)?,
+            spare: Vec::new(alloc),
         })
     }
 
@@ -309,9 +313,11 @@ impl Board {
     {
         a_reply_has_room();
         let body = entry.body.as_slice();
-        let mut words = Vec::with_capacity(self.alloc, room as usize)?;
+        self.spare.clear();
+        self.spare.reserve(room as usize)?;
         out.reserve(packet_length(room as usize))?;
         self.log.reserve(1)?;
+        let mut words = mem::replace(&mut self.spare, Vec::new(self.alloc));
         self.bus.execute_in_room(body, &mut words);
         let reply = Packet {
             order: entry.order,
@@ -320,7 +326,8 @@ impl Board {
             body: Words::from_vec(words),
         };
         put_packet(out, reply.head(), reply.body.as_slice());
-        keep_reply(&mut self.held, entry.numbered, reply);
+        let gone = keep_reply(&mut self.held, entry.numbered, reply);
+        self.spare = words_of(self.alloc, gone);
         self.numbered += u64::from(entry.numbered);
         self.log.push_reserved(entry);
         Ok(Heard::Replied)

@@ -7,6 +7,7 @@ ghost use Rattle.board_node.specs.View.{lent, keeping, IsShort};
 
 use circular_buffer::HeapCircularBuffer;
 use packet_codec::Packet;
+use std::alloc::Global;
 
 /// The first of these replies that has an identifier.
 pub(crate) fn find_reply(replies: &[Packet], id: u16) -> Option<&Packet>
@@ -35,12 +36,27 @@ pub(crate) fn find_held(held: &HeapCircularBuffer<Packet>, id: u16) -> Option<&P
     }
 }
 
-/// Keeps the reply to a numbered packet, in place of the oldest one where the ring is full.
-pub(crate) fn keep_reply(held: &mut HeapCircularBuffer<Packet>, numbered: bool, reply: Packet)
+/// Keeps the reply to a numbered packet, in place of the oldest one where the ring is full. Answers the reply that is
+/// held no longer, or was not kept.
+pub(crate) fn keep_reply(
+    held: &mut HeapCircularBuffer<Packet>,
+    numbered: bool,
+    reply: Packet,
+) -> Option<Packet>
     ensures { held.new ≡ keeping held.old numbered reply }
 {
     if numbered {
-        held.push_back(reply);
+        held.push_back(reply)
+    } else {
+        Some(reply)
+    }
+}
+
+/// The words of a reply that is held no longer, and none where there is no such reply.
+pub(crate) fn words_of(alloc: Global, gone: Option<Packet>) -> Vec<u32> {
+    match gone {
+        Some(reply) => reply.body.into_vec(),
+        None => Vec::new(alloc),
     }
 }
 

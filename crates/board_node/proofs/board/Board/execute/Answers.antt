@@ -38,7 +38,7 @@ invariant_of-self-2 c =
     let id = c.args.id in
     let body : c.as_slice-body.result.now ≡ e.body = c.as_slice-body.ensures in
     let log : c.push_reserved.new.self.items ≡ i.log.items ++ e ∷ [] =
-    c.push_reserved.ensures.items ∙ ap (λ (l : List LogEntry). l ++ e ∷ []) c.in_ok-reserve-2.ensures.items in
+    c.push_reserved.ensures.items ∙ ap (λ (l : List LogEntry). l ++ e ∷ []) c.in_ok-reserve-3.ensures.items in
     let board : record {
       opening = i.opening;
       mtu = i.mtu;
@@ -59,10 +59,10 @@ invariant_of-self-2 c =
     ap (run_body i.bus) body ∙ ap (λ (x : CellMap). run_body x e.body) is.bus in
     let words : c.from_vec.result ≡ (run_body (present_bus b) e.body).reply =
     c.from_vec.ensures ∙ (c.execute_in_room.ensures.reply
-    ∙ (ap (λ (ws : List ℕ). ws ++ (run_body i.bus c.as_slice-body.result.now).reply) c.in_ok-words.ensures.items
+    ∙ (ap (λ (ws : List ℕ). ws ++ (run_body i.bus c.as_slice-body.result.now).reply) (ap (λ v. v.items) c.replace-words.ensures.value ∙ (c.in_ok-reserve.ensures.items ∙ c.clear.ensures.items))
     ∙ ap (λ (x : Executed). x.reply) run)) in
     let reply : Packet = control_packet e.order id c.from_vec.result in
-    let ring : c.keep_reply.new.held ≡ keeping i.held e.numbered reply = c.keep_reply.ensures in
+    let ring : c.keep_reply-gone.new.held ≡ keeping i.held e.numbered reply = c.keep_reply-gone.ensures in
     let held_now : keeping i.held e.numbered reply ≡ buffer (held (with_entry b e)) i.buffers =
     ap (λ (w : List ℕ). keeping i.held e.numbered (control_packet e.order id w)) words
     ∙ holds_more b e id i.held is.kept (λ n. c.requires.id n ∙ ap expected (sym c.self.view_is)) in
