@@ -1,4 +1,5 @@
 mod Airs
+mod Store
 mod Sends
 mod Hearing
 mod Moves

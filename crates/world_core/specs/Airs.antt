@@ -12,7 +12,7 @@ use Rattle.world_model.specs.Links.{Told, first_sends, is_first_send}
 use Rattle.world_core.specs.declared.air.Air.TheInside.{Inside}
 
 abbrev pub told_of : Inside → Told
-told_of a = record { board = a.board; air = a.datagrams.items }
+told_of a = record { board = a.board; air = a.datagrams }
 
 -- the code counts the first sends
 pub record IsCounted (a : Inside) : Type 0 where

@@ -4,3 +4,4 @@ pub mod Runs
 pub mod Telling
 pub mod States
 pub mod Airs
+pub mod Store

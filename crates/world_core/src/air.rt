@@ -1,23 +1,24 @@
 //! The air between a hub and a board, and the board, as a link keeps them that tells.
 
-ghost use Rattle.std.specs.Prelude.{◌≡◌, ◌↔◌, ◌+◌, ◌<◌, ◌^◌, ◌++◌, ◌∷◌, ℕ, List, [], length, IsTrue};
+ghost use Rattle.std.specs.Prelude.{◌≡◌, ◌+◌, ◌<◌, ◌^◌, ◌++◌, ◌∷◌, ℕ, List, [], length, IsTrue, Some};
 ghost use Rattle.std.specs.Prelude.{IfOk, OnOk, OnErr, IfSome, IfNone};
 ghost use Rattle.std.specs.List.{slice_get};
-ghost use Rattle.std.specs.Vec.{vec_len, vec_capacity};
 ghost use Rattle.world_model.specs.declared.datagram.Direction.TheVariants.{ToBoard};
 ghost use Rattle.world_model.specs.Board.{executed};
 ghost use Rattle.world_model.specs.Air.{goes_to, is_alive};
 ghost use Rattle.world_model.specs.Links.{first_sends, heard_by, is_first_send, IsHandedAt, sent_on};
-ghost use Rattle.world_core.specs.Airs.{answers_of, birth_after, IsHeardAt, IsHeardBy, may_hear};
+ghost use Rattle.world_core.specs.Airs.{birth_after, IsHeardBy, may_hear};
+ghost use Rattle.world_core.specs.Store.{datagram_of};
 
+use crate::datagrams::{DatagramRef, Datagrams};
 use board_node::Board;
 use ipb_base::NoMemory;
 use packet_codec::{PacketKind, read_head};
 use packet_ids::{Id, id_at};
 use std::alloc::Global;
 use std::marker::Model;
+use world_model::Direction;
 use world_model::laws::links::a_link_forgets_nothing;
-use world_model::{Bytes, Datagram, Direction};
 
 /// The most further first sends to the board after which a datagram may still be heard (profile).
 pub const LIFETIME: u64 = 32_768;
@@ -26,10 +27,9 @@ pub const LIFETIME: u64 = 32_768;
 /// first sends when it was sent. Contracts see it as the board and the air of `world_model`'s links.
 #[derive(Drop)]
 pub struct Air {
-    alloc: Global,
     board: Board,
     first: Id,
-    datagrams: Vec<Datagram>,
+    datagrams: Datagrams,
     sent: u64,
 }
 
@@ -51,10 +51,9 @@ impl Air {
         ensures { result ≡ record { board = board; air = [] } }
     {
         Air {
-            alloc,
             first: board.next(),
             board,
-            datagrams: Vec::new(alloc),
+            datagrams: Datagrams::new(alloc),
             sent: 0,
         }
     }
@@ -93,13 +92,8 @@ impl Air {
         ensures sent { OnOk result (self.new ≡ sent_on self.old bytes.now) }
         ensures unchanged { OnErr result (self.new ≡ self.old) }
     {
-        self.sent = put_send(
-            self.alloc,
-            self.first,
-            self.sent,
-            &mut self.datagrams,
-            bytes,
-        )?;
+        self.datagrams.are_few();
+        self.sent = put_send(self.first, self.sent, &mut self.datagrams, bytes)?;
         Ok(())
     }
 
@@ -114,13 +108,7 @@ impl Air {
             return Ok(false);
         }
         a_link_forgets_nothing();
-        hear_at(
-            self.alloc,
-            &mut self.board,
-            &mut self.datagrams,
-            self.sent,
-            place,
-        )?;
+        self.datagrams.hear_at(&mut self.board, self.sent, place)?;
         Ok(true)
     }
 
@@ -129,38 +117,30 @@ impl Air {
         ensures some { IfSome result (λ bytes. IsHandedAt self.now bytes.now place) }
         ensures none { IfNone result ((bytes : List ℕ) → ¬ IsHandedAt self.now bytes place) }
     {
-        if !is_for(&self.datagrams, place, Direction::ToHub, self.sent) {
+        let Some(datagram) = self.datagrams.get(place) else {
+            return None;
+        };
+        if !may_hear(Direction::ToHub, self.sent, &datagram) {
             return None;
         }
-        Some(self.datagrams[place].bytes.as_slice())
+        Some(datagram.bytes)
     }
 }
 
 /// Puts a datagram for the board at the end, and counts the first sends.
-fn put_send(
-    alloc: Global,
-    first: Id,
-    count: u64,
-    air: &mut Vec<Datagram>,
-    bytes: &[u8],
-) -> Result<u64, NoMemory>
+fn put_send(first: Id, count: u64, air: &mut Datagrams, bytes: &[u8]) -> Result<u64, NoMemory>
     requires { count < 2 ^ 63 }
     ensures counted { IfOk result (λ birth. birth ≡ birth_after first count bytes.now) }
-    ensures put { OnOk result (air.new.items ≡ air.old.items
+    ensures put { OnOk result (air.new ≡ air.old
         ++ record { direction = ToBoard; bytes = bytes.now; birth = birth_after first count bytes.now } ∷ []) }
-    ensures unchanged { OnErr result (air.new.items ≡ air.old.items) }
+    ensures unchanged { OnErr result (air.new ≡ air.old) }
 {
-    let copied = Bytes::from_vec(Vec::from_slice(alloc, bytes)?);
     let birth = if is_first_send(first, count, bytes) {
         count + 1
     } else {
         count
     };
-    air.push(Datagram {
-        direction: Direction::ToBoard,
-        bytes: copied,
-        birth,
-    })?;
+    air.push(Direction::ToBoard, bytes, birth)?;
     Ok(birth)
 }
 
@@ -178,57 +158,21 @@ fn is_first_send(first: Id, count: u64, bytes: &[u8]) -> bool
     }
 }
 
-/// The board hears the datagram at a place, and its answer is put at the end.
-pub(crate) fn hear_at(
-    alloc: Global,
-    board: &mut Board,
-    air: &mut Vec<Datagram>,
-    sent: u64,
-    place: usize,
-) -> Result<(), NoMemory>
-    requires { place < length air.old.items }
-    ensures heard { OnOk result (IsHeardAt sent place board.old air.old.items board.new air.new.items) }
-    ensures board { OnErr result (board.new ≡ board.old) }
-    ensures air { OnErr result (air.new.items ≡ air.old.items) }
-{
-    let mut answer = Vec::new(alloc);
-    air.reserve(1)?;
-    board.hear(air[place].bytes.as_slice(), &mut answer)?;
-    put_answer(air, sent, answer);
-    Ok(())
-}
-
-/// Puts an answer at the end, where there is one, in room that was taken before.
-fn put_answer(air: &mut Vec<Datagram>, birth: u64, answer: Vec<u8>)
-    requires { vec_len air.old < vec_capacity air.old }
-    ensures { air.new.items ≡ air.old.items ++ answers_of birth answer.items }
-{
-    if is_silent(&answer) {
-        return;
-    }
-    air.push_reserved(Datagram {
-        direction: Direction::ToHub,
-        bytes: Bytes::from_vec(answer),
-        birth,
-    });
-}
-
-/// Whether nothing was answered.
-fn is_silent(answer: &Vec<u8>) -> bool
-    ensures { IsTrue result ↔ (answer.now.items ≡ []) }
-{
-    answer.is_empty()
-}
-
 /// Whether the datagram at a place may be heard by this side, where there are so many first sends.
-fn is_for(air: &[Datagram], place: usize, hearer: Direction, sent: u64) -> bool
+fn is_for(air: &Datagrams, place: usize, hearer: Direction, sent: u64) -> bool
     ensures may { result ≡ may_hear hearer sent (slice_get air.now place) }
     ensures there { IsTrue result → place < length air.now }
 {
-    if place >= air.len() {
-        return false;
+    match air.get(place) {
+        Some(datagram) => may_hear(hearer, sent, &datagram),
+        None => false,
     }
-    let datagram = &air[place];
+}
+
+/// Whether a datagram may be heard by this side, where there are so many first sends.
+fn may_hear(hearer: Direction, sent: u64, datagram: &DatagramRef<'_>) -> bool
+    ensures { result ≡ may_hear hearer sent (Some (datagram_of datagram.now)) }
+{
     goes_to(hearer, datagram.direction) && is_alive(sent, datagram)
 }
 
@@ -243,8 +187,8 @@ pub(crate) fn goes_to(hearer: Direction, direction: Direction) -> bool
 }
 
 /// Whether a datagram is within its lifetime, where there are so many first sends.
-pub(crate) fn is_alive(sent: u64, datagram: &Datagram) -> bool
-    ensures { result ≡ is_alive sent datagram.now }
+pub(crate) fn is_alive(sent: u64, datagram: &DatagramRef<'_>) -> bool
+    ensures { result ≡ is_alive sent (datagram_of datagram.now) }
 {
     sent.saturating_sub(datagram.birth) <= LIFETIME
 }

@@ -6,6 +6,7 @@
 #![tactic(auto)]
 
 mod air;
+mod datagrams;
 pub mod laws;
 mod link;
 mod message;

@@ -14,7 +14,8 @@ ghost use Rattle.world_core.specs.Runs.{IsShortMove};
 ghost use Rattle.world_core.specs.Messages.{IsWritable};
 ghost use Rattle.world_core.specs.Steps.{board_told, end_of, HasSpellings, hub_told, put_into, world_of};
 
-use crate::air::{goes_to, hear_at, is_alive};
+use crate::air::{goes_to, is_alive};
+use crate::datagrams::Datagrams;
 use crate::message::{Message, read_for_hub};
 use crate::sending::{copy_words, write_sending};
 use board_node::Board;
@@ -22,14 +23,14 @@ use ipb_base::NoMemory;
 use reliable_engine::{Engine, Fate, Sending};
 use std::alloc::Global;
 use world_model::laws::sends::{only_an_offer_makes_more_bodies, sends_go_one_by_one};
-use world_model::{Bytes, Datagram, Direction, WorldEnd, WorldMove};
+use world_model::{Direction, WorldEnd, WorldMove};
 
 /// A board, the hub of it, the air between them, and the fates that were handed out.
 #[derive(Drop)]
 pub(crate) struct Run {
     pub(crate) board: Board,
     pub(crate) hub: Engine,
-    pub(crate) air: Vec<Datagram>,
+    pub(crate) air: Datagrams,
     pub(crate) fates: Vec<(u64, Fate)>,
 }
 
@@ -39,14 +40,9 @@ impl Run {
         requires { IsWritable self.old.hub send }
         ensures { OnOk result (world_of self.new ≡ put_into (world_of self.old) send) }
     {
-        let bytes = Bytes::from_vec(write_sending(alloc, &self.hub, send)?);
+        let bytes = write_sending(alloc, &self.hub, send)?;
         let birth = self.hub.sent();
-        self.air.push(Datagram {
-            direction: Direction::ToBoard,
-            bytes,
-            birth,
-        })?;
-        Ok(())
+        self.air.push(Direction::ToBoard, &bytes, birth)
     }
 
     /// Puts all sends that the hub wants into the air.
@@ -91,16 +87,15 @@ impl Run {
     /// Whether the datagram at a place in the air may be heard by this side.
     fn check(&self, at: usize, hearer: Direction, place: usize) -> Result<(), WorldEnd>
         ensures { result
-            ≡ end_of (taken at (length self.now.hub.sent) hearer (slice_get self.now.air.items place)) }
+            ≡ end_of (taken at (length self.now.hub.sent) hearer (slice_get self.now.air place)) }
     {
-        if place >= self.air.len() {
+        let Some(datagram) = self.air.get(place) else {
             return Err(WorldEnd::NotThere { at });
-        }
-        let datagram = &self.air[place];
+        };
         if !goes_to(hearer, datagram.direction) {
             return Err(WorldEnd::NotThere { at });
         }
-        if !is_alive(self.hub.sent(), datagram) {
+        if !is_alive(self.hub.sent(), &datagram) {
             return Err(WorldEnd::TooOld { at });
         }
         Ok(())
@@ -108,15 +103,18 @@ impl Run {
 
     /// The hub hears the datagram at a place in the air.
     fn tell_hub(&mut self, alloc: Global, place: usize) -> Result<(), NoMemory>
-        requires there { place < length self.old.air.items }
+        requires there { place < length self.old.air }
         requires spellings { HasSpellings self.old.hub }
         ensures told { OnOk result (world_of self.new
-            ≡ hub_told (world_of self.old) (slice_get self.old.air.items place)) }
+            ≡ hub_told (world_of self.old) (slice_get self.old.air place)) }
         ensures spellings { OnOk result (HasSpellings self.new.hub) }
         ensures counted { OnOk result (body_count self.new.hub ≤ body_count self.old.hub) }
     {
         only_an_offer_makes_more_bodies();
-        match read_for_hub(alloc, self.air[place].bytes.as_slice())? {
+        let Some(datagram) = self.air.get(place) else {
+            unreachable!();
+        };
+        match read_for_hub(alloc, datagram.bytes)? {
             Message::Reply { id, words } => {
                 self.hub.on_reply(id, words);
             }
@@ -129,13 +127,13 @@ impl Run {
     }
 
     /// The board hears the datagram at a place in the air, and its answer joins the air.
-    fn tell_board(&mut self, alloc: Global, place: usize) -> Result<(), NoMemory>
-        requires { place < length self.old.air.items }
+    fn tell_board(&mut self, place: usize) -> Result<(), NoMemory>
+        requires { place < length self.old.air }
         ensures { OnOk result (world_of self.new
-            ≡ board_told (world_of self.old) (slice_get self.old.air.items place)) }
+            ≡ board_told (world_of self.old) (slice_get self.old.air place)) }
     {
         let sent = self.hub.sent();
-        hear_at(alloc, &mut self.board, &mut self.air, sent, place)
+        self.air.hear_at(&mut self.board, sent, place)
     }
 }
 
@@ -205,7 +203,7 @@ impl Run {
             }
             WorldMove::BoardHears(place) => {
                 self.check(at, Direction::ToBoard, *place)?;
-                self.tell_board(alloc, *place)?;
+                self.tell_board(*place)?;
             }
         }
         Ok(())

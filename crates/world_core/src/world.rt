@@ -11,6 +11,7 @@ ghost use Rattle.world_model.specs.History.{IsExecutedAtMostOnce, IsExecutedTher
 ghost use Rattle.world_core.specs.Runs.{IsNotThere, IsShortMove, IsTooOld, StopsAt};
 ghost use Rattle.world_core.specs.Steps.{HasSpellings, world_of};
 
+use crate::datagrams::Datagrams;
 use crate::laws::a_run_stops_at_the_first_move_that_is_not_allowed;
 use crate::run::Run;
 use board_node::Board;
@@ -158,7 +159,7 @@ fn begin(alloc: Global, settings: Settings, board: Board) -> Result<Run, NoMemor
     Ok(Run {
         hub: Engine::new(alloc, settings, status)?,
         board,
-        air: Vec::new(alloc),
+        air: Datagrams::new(alloc),
         fates: Vec::new(alloc),
     })
 }

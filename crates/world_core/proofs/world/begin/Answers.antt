@@ -14,7 +14,7 @@ returns-clause-begun c =
       fates = c.new-3.result;
     }))
     c.requires (c.identifiers_follow_each_other.ensures.first c.args.board.first c.keeps_its_ranges.ensures.first)
-    status.ensures.next status.ensures.buffers status.ensures.board c.in_ok-new.ensures c.new-2.ensures.items
+    status.ensures.next status.ensures.buffers status.ensures.board c.in_ok-new.ensures c.new-2.ensures
     c.new-3.ensures.items
 
 pub returns-clause-spellings : goal.returns-clause-spellings

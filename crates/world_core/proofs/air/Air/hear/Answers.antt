@@ -1,6 +1,5 @@
-use Rattle.std.proofs.Common.{◌≡◌, ◌∙◌, sym, ap, List, true}
+use Rattle.std.proofs.Common.{◌≡◌, ◌∙◌, sym, ap, true}
 use Rattle.std.specs.List.{slice_get}
-use Rattle.world_model.specs.declared.datagram.Datagram.{Datagram}
 use Rattle.world_model.specs.declared.datagram.Direction.TheVariants.{ToBoard}
 use Rattle.world_model.specs.Links.{Told, heard_by}
 use Rattle.world_core.specs.Airs.{may_hear, told_of}
@@ -12,11 +11,10 @@ invariant_of-self-2 c =
     let i = c.self.inside in
     let told = told_of i in
     let board = c.hear_at.new.board in
-    let air = c.hear_at.new.air.items in
+    let air = c.hear_at.new.self in
     let heard = c.in_ok-hear_at.ensures.heard in
-    let may : may_hear ToBoard i.sent (slice_get i.datagrams.items c.args.place) ≡ true =
-    ap (λ (xs : List Datagram). may_hear ToBoard i.sent (slice_get xs c.args.place)) (sym c.deref.ensures.value)
-    ∙ (sym c.is_for.ensures.may ∙ c.if-not-is_for.false) in
+    let may : may_hear ToBoard i.sent (slice_get i.datagrams c.args.place) ≡ true =
+    sym c.is_for.ensures.may ∙ c.if-not-is_for.false in
     let same = same_first told (record { board = board; air = air }) c.args.place c.a_link_forgets_nothing.ensures.board
     (heard_now told c.args.place i.sent board air c.self.invariant.sent may heard) in
     record {
@@ -29,9 +27,8 @@ returns-clause-heard c =
     let i = c.self.inside in
     let told = told_of i in
     let board = c.hear_at.new.board in
-    let air = c.hear_at.new.air.items in
-    let may : may_hear ToBoard i.sent (slice_get i.datagrams.items c.args.place) ≡ true =
-    ap (λ (xs : List Datagram). may_hear ToBoard i.sent (slice_get xs c.args.place)) (sym c.deref.ensures.value)
-    ∙ (sym c.is_for.ensures.may ∙ c.if-not-is_for.false) in
+    let air = c.hear_at.new.self in
+    let may : may_hear ToBoard i.sent (slice_get i.datagrams c.args.place) ≡ true =
+    sym c.is_for.ensures.may ∙ c.if-not-is_for.false in
     ap (λ (t : Told). heard_by t (slice_get t.air c.args.place)) (sym c.self.view_is)
     ∙ heard_now told c.args.place i.sent board air c.self.invariant.sent may c.in_ok-hear_at.ensures.heard

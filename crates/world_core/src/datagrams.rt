@@ -1,0 +1,192 @@
+//! Datagrams one after another in one store of bytes, so that none of them takes memory of its own.
+
+ghost use Rattle.std.specs.Prelude.{◌≡◌, ◌+◌, ◌^◌, ◌<◌, ◌≤◌, ◌++◌, ◌∷◌, [], length, OnOk, OnErr};
+ghost use Rattle.std.specs.List.{slice_get};
+ghost use Rattle.std.specs.Vec.{vec_len, vec_capacity};
+ghost use Rattle.world_core.specs.Airs.{answers_of, IsHeardAt};
+ghost use Rattle.world_core.specs.Store.{lent, stored, AreWithin};
+
+use crate::link::MAX_DATAGRAM;
+use board_node::Board;
+use ipb_base::NoMemory;
+use std::alloc::Global;
+use std::marker::Model;
+use world_model::Direction;
+
+/// Where the bytes of a datagram stand in the store, who hears it, and the number of first sends when it was sent.
+#[derive(Clone, Copy)]
+pub(crate) struct Entry {
+    direction: Direction,
+    birth: u64,
+    start: usize,
+    end: usize,
+}
+
+/// A datagram, with its bytes where they stand.
+#[derive(Clone, Copy)]
+pub(crate) struct DatagramRef<'a> {
+    /// Who hears it.
+    pub(crate) direction: Direction,
+    pub(crate) bytes: &'a [u8],
+    /// How many first sends to the board there were when it was sent, itself counted.
+    pub(crate) birth: u64,
+}
+
+/// Every datagram that was sent, in order. Contracts see the list of them.
+#[derive(Drop)]
+pub(crate) struct Datagrams {
+    bytes: Vec<u8>,
+    entries: Vec<Entry>,
+    /// Where a board writes its answer, before that joins the others.
+    answer: Vec<u8>,
+}
+
+impl Model for Datagrams {
+    ghost use Rattle.std.specs.Prelude.{List};
+    ghost use Rattle.world_model.specs.declared.datagram.Datagram.{Datagram};
+    ghost use Rattle.world_core.specs.Store.{datagrams_of, IsStored};
+
+    ghost Value = { List Datagram };
+
+    ghost view = { datagrams_of };
+
+    ghost invariant = { IsStored };
+}
+
+impl Datagrams {
+    /// No datagrams.
+    pub(crate) fn new(alloc: Global) -> Datagrams
+        ensures { result ≡ [] }
+    {
+        Datagrams {
+            bytes: Vec::new(alloc),
+            entries: Vec::new(alloc),
+            answer: Vec::new(alloc),
+        }
+    }
+
+    /// How many there are.
+    pub(crate) fn len(&self) -> usize
+        ensures { result ≡ length self.now }
+    {
+        self.entries.len()
+    }
+
+    /// There are fewer than 2^63. It does nothing when it runs.
+    pub(crate) fn are_few(&self)
+        ensures { length self.now < 2 ^ 63 }
+    {
+        let _entries = &self.entries;
+    }
+
+    /// The datagram at a place, from 0.
+    pub(crate) fn get(&self, place: usize) -> Option<DatagramRef<'_>>
+        ensures { lent result ≡ slice_get self.now place }
+    {
+        datagram_at(&self.bytes, &self.entries, place)
+    }
+
+    /// Puts a datagram at the end. Where memory ran out nothing changed.
+    pub(crate) fn push(
+        &mut self,
+        direction: Direction,
+        datagram: &[u8],
+        birth: u64,
+    ) -> Result<(), NoMemory>
+        ensures put { OnOk result (self.new
+            ≡ self.old ++ record { direction = direction; bytes = datagram.now; birth = birth } ∷ []) }
+        ensures unchanged { OnErr result (self.new ≡ self.old) }
+    {
+        self.entries.reserve(1)?;
+        self.bytes.reserve(datagram.len())?;
+        put(
+            &mut self.bytes,
+            &mut self.entries,
+            direction,
+            datagram,
+            birth,
+        );
+        Ok(())
+    }
+
+    /// The board hears the datagram at a place, and its answer is put at the end. All memory is taken before.
+    pub(crate) fn hear_at(
+        &mut self,
+        board: &mut Board,
+        sent: u64,
+        place: usize,
+    ) -> Result<(), NoMemory>
+        requires { place < length self.old }
+        ensures heard { OnOk result (IsHeardAt sent place board.old self.old board.new self.new) }
+        ensures board { OnErr result (board.new ≡ board.old) }
+        ensures air { OnErr result (self.new ≡ self.old) }
+    {
+        board.keeps_its_ranges();
+        board.answers_fit();
+        self.entries.reserve(1)?;
+        self.bytes.reserve(MAX_DATAGRAM)?;
+        let Some(datagram) = datagram_at(&self.bytes, &self.entries, place) else {
+            unreachable!();
+        };
+        board.hear(datagram.bytes, &mut self.answer)?;
+        put_answer(&mut self.bytes, &mut self.entries, &self.answer, sent);
+        Ok(())
+    }
+}
+
+/// The datagram at a place.
+fn datagram_at<'a>(bytes: &'a [u8], entries: &[Entry], place: usize) -> Option<DatagramRef<'a>>
+    requires { AreWithin (length bytes.now) entries.now }
+    ensures { lent result ≡ slice_get (stored bytes.now entries.now) place }
+{
+    if place >= entries.len() {
+        return None;
+    }
+    let entry = &entries[place];
+    Some(DatagramRef {
+        direction: entry.direction,
+        bytes: &bytes[entry.start..entry.end],
+        birth: entry.birth,
+    })
+}
+
+/// Puts an answer at the end, where there is one, in room that was taken before.
+fn put_answer(bytes: &mut Vec<u8>, entries: &mut Vec<Entry>, answer: &[u8], birth: u64)
+    requires bytes { vec_len bytes.old + length answer.now ≤ vec_capacity bytes.old }
+    requires entries { vec_len entries.old < vec_capacity entries.old }
+    requires within { AreWithin (length bytes.old.items) entries.old.items }
+    ensures within { AreWithin (length bytes.new.items) entries.new.items }
+    ensures put { stored bytes.new.items entries.new.items
+        ≡ stored bytes.old.items entries.old.items ++ answers_of birth answer.now }
+{
+    if answer.is_empty() {
+        return;
+    }
+    put(bytes, entries, Direction::ToHub, answer, birth);
+}
+
+/// Puts a datagram at the end, in room that was taken before.
+fn put(
+    bytes: &mut Vec<u8>,
+    entries: &mut Vec<Entry>,
+    direction: Direction,
+    datagram: &[u8],
+    birth: u64,
+)
+    requires bytes { vec_len bytes.old + length datagram.now ≤ vec_capacity bytes.old }
+    requires entries { vec_len entries.old < vec_capacity entries.old }
+    requires within { AreWithin (length bytes.old.items) entries.old.items }
+    ensures within { AreWithin (length bytes.new.items) entries.new.items }
+    ensures put { stored bytes.new.items entries.new.items ≡ stored bytes.old.items entries.old.items
+        ++ record { direction = direction; bytes = datagram.now; birth = birth } ∷ [] }
+{
+    let start = bytes.len();
+    bytes.extend_from_slice(datagram).unwrap();
+    let end = bytes.len();
+    entries.push_reserved(Entry {
+        direction,
+        birth,
+        start,
+        end,
+    });
+}
