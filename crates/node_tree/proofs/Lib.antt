@@ -14,6 +14,7 @@ pub mod SearchLemmas
 pub mod Compiled
 pub mod DottedLemmas
 pub mod OverlapLemmas
+pub mod SpanLemmas
 pub mod PairLemmas
 pub mod NotingLemmas
 pub mod EventLemmas

@@ -11,5 +11,6 @@ pub mod Same
 pub mod Run
 pub mod Overlaps
 pub mod OverlapSearch
+pub mod Spans
 pub mod Repeats
 pub mod Examples

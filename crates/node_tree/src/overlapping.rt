@@ -6,10 +6,12 @@ ghost use Rattle.node_tree.specs.Named.{named, AreInOrder};
 ghost use Rattle.node_tree.specs.Overlaps as spec;
 ghost use Rattle.node_tree.specs.OverlapSearch.{pair_before, AreNamedRegisters, AreFirsts};
 
+mod apart;
 mod events;
 mod noting;
 mod settling;
 
+use self::apart::are_apart;
 use self::events::events_of;
 use self::settling::settle;
 use crate::walking::words_of;
@@ -43,6 +45,9 @@ pub(crate) fn overlapping_pairs(
     requires registers { AreNamedRegisters (named entries.now) }
     ensures { IfOk result (λ pairs. pairs.items ≡ spec.overlapping [] (named entries.now)) }
 {
+    if are_apart(alloc, entries)? {
+        return Ok(Vec::new(alloc));
+    }
     let firsts = first_overlaps(alloc, entries)?;
     let mut pairs = Vec::new(alloc);
     for i in 0..entries.len() {

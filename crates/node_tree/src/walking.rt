@@ -6,6 +6,7 @@ ghost use Rattle.address_table.specs.declared.nodes.Node.{Node as Nod, out-Node}
 ghost use Rattle.node_tree.specs.Limits.{most_ids};
 ghost use Rattle.node_tree.specs.Maps.{nodes_of as table_nodes};
 ghost use Rattle.node_tree.specs.Names.{children_of, name_below, last_index, index_text, address_at, register_at};
+ghost use Rattle.node_tree.specs.Names.{plain_name, name_at};
 ghost use Rattle.node_tree.specs.Walk as spec;
 ghost use Rattle.node_tree.specs.Walk.{twin_text};
 ghost use Rattle.node_tree.specs.Run.{each_index, visit_next, run, IsStop};
@@ -13,7 +14,7 @@ ghost use Rattle.node_tree.specs.Run.{each_index, visit_next, run, IsStop};
 use crate::name_map::NameMap;
 use crate::{CompileWhy, MAX_IDS, MAX_NODES, Register, Tables};
 use address_table::{Mode, NoMemory, Node, Text};
-use std::alloc::{AllocError, Global};
+use std::alloc::Global;
 
 /// The registers that the walk has found, and how many nodes it came to.
 #[derive(Drop)]
@@ -39,16 +40,6 @@ impl From<NoMemory> for Fault {
     }
 }
 
-impl From<AllocError> for Fault {
-    ghost use Rattle.node_tree.specs.declared.walking.Fault.TheVariants.{NoMemory};
-
-    ghost from_gives = { λ _ e. e ≡ NoMemory };
-
-    fn from(_error: AllocError) -> Fault {
-        Fault::NoMemory
-    }
-}
-
 /// Where nodes stand: the address that theirs are counted from, and how many ids their names have.
 #[derive(Clone, Copy)]
 pub(crate) struct Level {
@@ -56,11 +47,34 @@ pub(crate) struct Level {
     pub ids: u32,
 }
 
+/// The name of the node at hand and that of its twin, in memory that it shares with its siblings.
+#[derive(Drop)]
+struct Names {
+    name: String,
+    twin: String,
+}
+
 /// A walk through nodes, with what it has found.
 #[derive(Drop)]
 pub(crate) struct Walker {
     pub alloc: Global,
     pub found: Found,
+}
+
+impl Names {
+    /// The name of an index of a node, and the first name that another node of the id would have, with a count where
+    /// this one has none, or without.
+    fn set(&mut self, above: &str, node: &Node, index: u32) -> Result<(), NoMemory>
+        ensures name { OnOk result (string_bytes self.new.name ≡ name_at above.now node.now index) }
+        ensures twin { let text = plain_name above.now node.now ++ twin_text (out-Node node.now).count in
+            OnOk result (string_bytes self.new.twin ≡ text) }
+    {
+        let id = node.id.as_str();
+        set_plain(&mut self.name, above, id)?;
+        push_index(&mut self.name, node, index)?;
+        set_plain(&mut self.twin, above, id)?;
+        push_twin(&mut self.twin, node)
+    }
 }
 
 impl Walker {
@@ -81,8 +95,12 @@ impl Walker {
             let visits = spec.siblings below tables.now level.ids above.now level.base [] nodes.now in
             IfErr result (λ fault. IsStop (run visits self.old.found) fault) }
     {
+        let mut names = Names {
+            name: String::new(self.alloc),
+            twin: String::new(self.alloc),
+        };
         for node in nodes {
-            self.walk_node(tables, node, above, level)?;
+            self.walk_node(tables, node, above, level, &mut names)?;
         }
         Ok(())
     }
@@ -95,6 +113,7 @@ impl Walker {
         node: &Node,
         above: &str,
         level: Level,
+        names: &mut Names,
     ) -> Result<(), Fault>
         requires { level.ids ≤ most_ids + 1 }
         ensures walked { let visits = each_index tables.now level.ids above.now level.base node.now in
@@ -102,17 +121,16 @@ impl Walker {
         ensures stopped { let visits = each_index tables.now level.ids above.now level.base node.now in
             IfErr result (λ fault. (earlier : List Nod) → IsStop (run (visits earlier) self.old.found) fault) }
     {
-        let plain = dotted_name(self.alloc, above, node.id.as_str())?;
-        let twin = twin_name(self.alloc, plain.as_str(), node)?;
         for index in 0..index_count(node) {
-            let name = indexed_name(self.alloc, plain.as_str(), node, index)?;
-            let address = self.visit(name.as_str(), twin.as_str(), level, node, index)?;
+            names.set(above, node, index)?;
+            let name = names.name.as_str();
+            let address = self.visit(name, names.twin.as_str(), level, node, index)?;
             let below = children(tables, node);
             let deeper = Level {
                 base: address,
                 ids: level.ids + 1,
             };
-            self.walk(tables, below, name.as_str(), deeper)?;
+            self.walk(tables, below, name, deeper)?;
         }
         Ok(())
     }
@@ -204,16 +222,16 @@ fn fault_at(alloc: Global, name: &str, why: CompileWhy) -> Fault
     }
 }
 
-/// An id below a name.
-fn dotted_name(alloc: Global, above: &str, id: &str) -> Result<String, AllocError>
-    ensures { IfOk result (λ name. string_bytes name ≡ name_below above.now id.now) }
+/// Makes a text the name of an id below a name.
+fn set_plain(text: &mut String, above: &str, id: &str) -> Result<(), NoMemory>
+    ensures { OnOk result (string_bytes text.new ≡ name_below above.now id.now) }
 {
-    let mut name = String::from_str(alloc, above)?;
+    text.clear();
+    text.push_str(above)?;
     if !above.is_empty() {
-        name.push_str(".")?;
+        text.push_str(".")?;
     }
-    name.push_str(id)?;
-    Ok(name)
+    Ok(text.push_str(id)?)
 }
 
 /// How many indexes a node has, from 0 on; one where it has no count.
@@ -226,25 +244,23 @@ fn index_count(node: &Node) -> u32
     }
 }
 
-/// A name with the index of a node in brackets, if the node has a count.
-fn indexed_name(alloc: Global, plain: &str, node: &Node, index: u32) -> Result<String, AllocError>
-    ensures { let text = plain.now ++ index_text (out-Node node.now).count index in
-        IfOk result (λ name. string_bytes name ≡ text) }
+/// Adds the index of a node in brackets, if the node has a count.
+fn push_index(text: &mut String, node: &Node, index: u32) -> Result<(), NoMemory>
+    ensures { OnOk result (string_bytes text.new ≡ string_bytes text.old ++ index_text (out-Node node.now).count index) }
 {
     match node.count {
-        Some(_) => format!(in alloc; "{plain}[{index}]"),
-        None => String::from_str(alloc, plain),
+        Some(_) => Ok(write!(text, "[{index}]")?),
+        None => Ok(()),
     }
 }
 
-/// The first name that another node of the id would have, with a count where this one has none, or without.
-fn twin_name(alloc: Global, plain: &str, node: &Node) -> Result<String, AllocError>
-    ensures { let text = plain.now ++ twin_text (out-Node node.now).count in
-        IfOk result (λ name. string_bytes name ≡ text) }
+/// Adds the first index in brackets, if the node has no count.
+fn push_twin(text: &mut String, node: &Node) -> Result<(), NoMemory>
+    ensures { OnOk result (string_bytes text.new ≡ string_bytes text.old ++ twin_text (out-Node node.now).count) }
 {
     match node.count {
-        Some(_) => String::from_str(alloc, plain),
-        None => format!(in alloc; "{plain}[0]"),
+        Some(_) => Ok(()),
+        None => Ok(text.push_str("[0]")?),
     }
 }
 

@@ -1,11 +1,12 @@
 use Rattle.std.proofs.Common.{◌≡◌, ◌++◌, ◌+◌, ◌<◌, take, drop, length, slice_index, option_to_list, ap, ◌∙◌}
-use Rattle.std.proofs.Common.{append_assoc, arith}
+use Rattle.std.proofs.Common.{append_assoc, sym, arith}
 use Rattle.std.proofs.lemmas.List.{get_or_read}
 use Rattle.node_tree.specs.Named.{named}
 use Rattle.node_tree.specs.Overlaps.{overlapping}
 use Rattle.node_tree.specs.OverlapSearch.{pair_before}
 use Rattle.node_tree.proofs.NamedLemmas.{length-named}
 use Rattle.node_tree.proofs.OverlapLemmas.{next_told}
+use Rattle.node_tree.proofs.SpanLemmas.{none-overlaps}
 use Rattle.node_tree.proofs.overlapping.overlapping_pairs.Goals as goal
 
 pub loop-i-preserved : goal.loop-i-preserved
@@ -26,3 +27,8 @@ loop-i-preserved c =
     (ap (λ ps. ps ++ rest) pair ∙ next_told xs firsts i c.in_ok-firsts.ensures within)
     ∙ c.loop-i.invariant
     )
+
+pub returns-then-branch : goal.returns-then-branch
+returns-then-branch c =
+    c.new.ensures.items
+    ∙ sym (none-overlaps c.args.entries.now c.requires.registers (c.in_ok-are_apart.ensures c.if-branch.true))

@@ -1,9 +1,9 @@
-use Rattle.std.proofs.Common.{◌≡◌, ◌<◌, ◌≤◌, ◌+◌, ◌-◌, ◌++◌, ℕ, List, [], Ok, IfErr, rules, sym, ap, ◌∙◌, subst, arith}
+use Rattle.std.proofs.Common.{◌≡◌, ◌<◌, ◌≤◌, ◌+◌, ◌-◌, ◌++◌, ℕ, List, [], Ok, IfErr, rules, sym, ◌∙◌, subst, arith}
 use Rattle.std.proofs.Common.{take}
 use Rattle.std.proofs.lemmas.Result.{IfErr-weaker}
 use Rattle.address_table.specs.declared.nodes.Node.{Node, out-Node}
 use Rattle.node_tree.specs.Limits.{most_ids}
-use Rattle.node_tree.specs.Names.{name_below, last_index, index_text, name_at, plain_name, address_at, register_at}
+use Rattle.node_tree.specs.Names.{last_index, name_at, plain_name, address_at, register_at}
 use Rattle.node_tree.specs.Walk.{walk, siblings, twin_text}
 use Rattle.node_tree.specs.Run.{each_index, run, visit_next, IsStop}
 use Rattle.node_tree.proofs.Runs.{stopped_at, stopped_below, past_both, no_index_left, stopped_node, past_node}
@@ -41,22 +41,19 @@ walk_node-returns-in_err-address-clause-stopped t c =
     let register = register_at c.args.level.base n i in
     let within : i < last_index n + 1 =
     omega (arith, c.loop-index-test.true, c.index_count-index-end.ensures, c.loop-index.auto.index-end) in
-    let plain = c.in_ok-plain.ensures ∙ ap (name_below c.args.above.now) c.as_str.ensures in
-    let called : c.as_str-in-loop-index-2.result.now ≡ name_at c.args.above.now n i =
-    c.as_str-in-loop-index-2.ensures.value ∙ c.in_ok-name.ensures
-    ∙ ap (λ x. x ++ index_text (out-Node n).count i) (c.as_str-in-loop-index.ensures.value ∙ plain) in
-    let twin : c.as_str-in-loop-index-3.result.now ≡ plain_name c.args.above.now n ++ twin_text (out-Node n).count =
-    c.as_str-in-loop-index-3.ensures.value ∙ c.in_ok-twin.ensures
-    ∙ ap (λ x. x ++ twin_text (out-Node n).count) (c.as_str-2.ensures.value ∙ plain) in
+    let called : c.as_str-name.result.now ≡ name_at c.args.above.now n i =
+    c.as_str-name.ensures.value ∙ c.in_ok-set.ensures.name in
+    let twin : c.as_str.result.now ≡ plain_name c.args.above.now n ++ twin_text (out-Node n).count =
+    c.as_str.ensures.value ∙ c.in_ok-set.ensures.twin in
     let told : IfErr c.from_residual-in_err-address.result
-    (IsStop (visit_next found c.as_str-in-loop-index-2.result.now c.as_str-in-loop-index-3.result.now
+    (IsStop (visit_next found c.as_str-name.result.now c.as_str.result.now
     c.args.level.ids register)) = search rules in
     IfErr-weaker c.from_residual-in_err-address.result _ _
     (λ fault stop earlier. subst (λ r. IsStop r fault) (c.loop-index.invariant earlier)
     (stopped_at below c.args.tables.now c.args.level.ids c.args.above.now c.args.level.base earlier n i
     (last_index n + 1) found fault within
     (subst (λ y. IsStop (visit_next found (name_at c.args.above.now n i) y c.args.level.ids register) fault) twin
-    (subst (λ x. IsStop (visit_next found x c.as_str-in-loop-index-3.result.now c.args.level.ids register) fault)
+    (subst (λ x. IsStop (visit_next found x c.as_str.result.now c.args.level.ids register) fault)
     called stop)))) told
 
 pub walk_node-returns-in_err-walk-clause-stopped : goal.walk_node-returns-in_err-walk-clause-stopped
@@ -69,26 +66,20 @@ walk_node-returns-in_err-walk-clause-stopped t c =
     let register = register_at c.args.level.base n i in
     let within : i < last_index n + 1 =
     omega (arith, c.loop-index-test.true, c.index_count-index-end.ensures, c.loop-index.auto.index-end) in
-    let plain = c.in_ok-plain.ensures ∙ ap (name_below c.args.above.now) c.as_str.ensures in
-    let text = c.in_ok-name.ensures
-    ∙ ap (λ x. x ++ index_text (out-Node n).count i) (c.as_str-in-loop-index.ensures.value ∙ plain) in
-    let called : c.as_str-in-loop-index-2.result.now ≡ name_at c.args.above.now n i =
-    c.as_str-in-loop-index-2.ensures.value ∙ text in
-    let again : c.as_str-in-loop-index-4.result.now ≡ name_at c.args.above.now n i =
-    c.as_str-in-loop-index-4.ensures.value ∙ text in
-    let twin : c.as_str-in-loop-index-3.result.now ≡ plain_name c.args.above.now n ++ twin_text (out-Node n).count =
-    c.as_str-in-loop-index-3.ensures.value ∙ c.in_ok-twin.ensures
-    ∙ ap (λ x. x ++ twin_text (out-Node n).count) (c.as_str-2.ensures.value ∙ plain) in
+    let called : c.as_str-name.result.now ≡ name_at c.args.above.now n i =
+    c.as_str-name.ensures.value ∙ c.in_ok-set.ensures.name in
+    let twin : c.as_str.result.now ≡ plain_name c.args.above.now n ++ twin_text (out-Node n).count =
+    c.as_str.ensures.value ∙ c.in_ok-set.ensures.twin in
     let visited =
     subst (λ y. visit_next found (name_at c.args.above.now n i) y c.args.level.ids register ≡ Ok next) twin
-    (subst (λ x. visit_next found x c.as_str-in-loop-index-3.result.now c.args.level.ids register ≡ Ok next)
+    (subst (λ x. visit_next found x c.as_str.result.now c.args.level.ids register ≡ Ok next)
     called c.in_ok-address.ensures.visited) in
     let deep =
-    below_is c.args.tables.now c.args.level.ids _ _ _ _ _ _ c.in_ok-address.ensures.shallow again
+    below_is c.args.tables.now c.args.level.ids _ _ _ _ _ _ c.in_ok-address.ensures.shallow called
     c.in_ok-address.ensures.address c.children-below.ensures in
     let deeper =
     siblings (walk c.args.tables.now (most_ids + 1 - (c.args.level.ids + 1)) (c.args.level.ids + 1 + 1))
-    c.args.tables.now (c.args.level.ids + 1) c.as_str-in-loop-index-4.result.now c.in_ok-address.address []
+    c.args.tables.now (c.args.level.ids + 1) c.as_str-name.result.now c.in_ok-address.address []
     c.children-below.result.now in
     let told : IfErr c.from_residual-in_err-walk.result (IsStop (run deeper next)) = search rules in
     IfErr-weaker c.from_residual-in_err-walk.result _ _
@@ -107,22 +98,16 @@ walk_node-loop-index-preserved t c =
     let register = register_at c.args.level.base n i in
     let within : i < last_index n + 1 =
     omega (arith, c.loop-index-test.true, c.index_count-index-end.ensures, c.loop-index.auto.index-end) in
-    let plain = c.in_ok-plain.ensures ∙ ap (name_below c.args.above.now) c.as_str.ensures in
-    let text = c.in_ok-name.ensures
-    ∙ ap (λ x. x ++ index_text (out-Node n).count i) (c.as_str-in-loop-index.ensures.value ∙ plain) in
-    let called : c.as_str-in-loop-index-2.result.now ≡ name_at c.args.above.now n i =
-    c.as_str-in-loop-index-2.ensures.value ∙ text in
-    let again : c.as_str-in-loop-index-4.result.now ≡ name_at c.args.above.now n i =
-    c.as_str-in-loop-index-4.ensures.value ∙ text in
-    let twin : c.as_str-in-loop-index-3.result.now ≡ plain_name c.args.above.now n ++ twin_text (out-Node n).count =
-    c.as_str-in-loop-index-3.ensures.value ∙ c.in_ok-twin.ensures
-    ∙ ap (λ x. x ++ twin_text (out-Node n).count) (c.as_str-2.ensures.value ∙ plain) in
+    let called : c.as_str-name.result.now ≡ name_at c.args.above.now n i =
+    c.as_str-name.ensures.value ∙ c.in_ok-set.ensures.name in
+    let twin : c.as_str.result.now ≡ plain_name c.args.above.now n ++ twin_text (out-Node n).count =
+    c.as_str.ensures.value ∙ c.in_ok-set.ensures.twin in
     let visited =
     subst (λ y. visit_next found (name_at c.args.above.now n i) y c.args.level.ids register ≡ Ok next) twin
-    (subst (λ x. visit_next found x c.as_str-in-loop-index-3.result.now c.args.level.ids register ≡ Ok next)
+    (subst (λ x. visit_next found x c.as_str.result.now c.args.level.ids register ≡ Ok next)
     called c.in_ok-address.ensures.visited) in
     let deep =
-    below_is c.args.tables.now c.args.level.ids _ _ _ _ _ _ c.in_ok-address.ensures.shallow again
+    below_is c.args.tables.now c.args.level.ids _ _ _ _ _ _ c.in_ok-address.ensures.shallow called
     c.in_ok-address.ensures.address c.children-below.ensures in
     let walked = subst (λ vs. run vs next ≡ Ok c.walk.new.self.found) deep c.in_ok-walk.ensures.walked in
     λ earlier. sym (past_both below c.args.tables.now c.args.level.ids c.args.above.now c.args.level.base earlier n i
