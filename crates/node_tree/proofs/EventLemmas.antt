@@ -1,5 +1,5 @@
 -- Events in their order.
-use Rattle.std.proofs.Common.{◌≡◌, ◌⊎◌, inl, inr, ℕ, zero, suc, ◌+◌, ◌<◌, ◌≤◌, List, [], ◌∷◌, ◌++◌, length, take}
+use Rattle.std.proofs.Common.{◌≡◌, ◌⊎◌, inl, inr, ℕ, zero, suc, ◌+◌, ◌<◌, List, [], ◌∷◌, ◌++◌, length, take}
 use Rattle.std.proofs.Common.{get_or, false, ap, sym, ◌∙◌, subst, arith}
 use Rattle.std.specs.List.{All, Contains}
 use Rattle.std.proofs.lemmas.List.{take_more, get_or_default}
@@ -31,14 +31,6 @@ pub before-other : (es : List Event) (x y : Event) → Before es x y → Contain
 before-other [] x y h = absurd h
 before-other (e ∷ es) x y (inl h) = tail_there e y es h.1
 before-other (e ∷ es) x y (inr h) = tail_there e y es (before-other es x y h)
-
-some_length : {X : Type 0} (xs : List X) (x : X) → Contains xs x → 1 ≤ length xs
-some_length xs x (k, within, is) = omega arith
-
-pub before-two : (es : List Event) (x y : Event) → Before es x y → 2 ≤ length es
-before-two [] x y h = absurd h
-before-two (e ∷ es) x y (inl h) = let some = some_length es y h.1 in omega (arith, some)
-before-two (e ∷ es) x y (inr h) = let rest = before-two es x y h in omega (arith, rest)
 
 pub before-push : (es : List Event) (z x y : Event) → Before es x y → Before (es ++ z ∷ []) x y
 before-push [] z x y h = absurd h

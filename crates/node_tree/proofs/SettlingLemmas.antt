@@ -1,6 +1,6 @@
 -- Settling events: lowering each that asks to those that were put before and that it meets.
 use Rattle.std.proofs.Common.{◌≡◌, ◌⊎◌, inl, inr, ℕ, zero, suc, ◌+◌, ◌-◌, ◌*◌, ◌^◌, ◌<◌, ◌≤◌, List, [], length, take}
-use Rattle.std.proofs.Common.{get_or, true, false, min, bit_and, Option, Some, None, slice_index, refl, ap, sym, ◌∙◌}
+use Rattle.std.proofs.Common.{get_or, Bool, true, false, not, ◌&&◌, ◌||◌, min, bit_and, Option, Some, None, slice_index, refl, ap, sym, ◌∙◌}
 use Rattle.std.proofs.Common.{subst, arith}
 use Rattle.std.specs.List.{Contains}
 use Rattle.std.specs.Int.{bit_at, trailing_zeros, w32}
@@ -13,10 +13,11 @@ use Rattle.node_tree.specs.declared.overlapping.settling.Test.TheVariants.{Each,
 use Rattle.node_tree.specs.Overlaps.{overlap_at}
 use Rattle.node_tree.specs.OverlapSearch.{Lowers, lowered, lowered_to, lesser_of, Asks, Has, Meet, HasBits, AreEvents}
 use Rattle.node_tree.specs.OverlapSearch.{AreSettled, Settles, Passes, AsksWhere, SettlesWhere, GoesOn, IsPart}
+use Rattle.node_tree.specs.OverlapSearch.{HasNoneToSettle}
 use Rattle.node_tree.proofs.CycleLemmas.{either}
 use Rattle.node_tree.proofs.NotingLemmas.{Registers, lowers-same, lowers-more, lowers-lowered, lowered-value}
 use Rattle.node_tree.proofs.NotingLemmas.{lowered-falls, length-lowered}
-use Rattle.node_tree.proofs.EventLemmas.{before-one, before-other, before-two, none_there, take-there, take-now}
+use Rattle.node_tree.proofs.EventLemmas.{before-one, before-other, none_there, take-there, take-now}
 use Rattle.node_tree.proofs.EventLemmas.{take-there_cases, take-before, take-last, take-before_cases}
 
 -- the least place of the events that were put so far and pass a test
@@ -389,13 +390,60 @@ module _ (es : Registers) (events : List Event) (first half : ℕ) (some : 1 ≤
       )
 
 -- with less than two events there is nothing to settle
-pub settles-few : (events : List Event) (first «end» : ℕ) (f : List ℕ) → length events < 2
+pub settles-none : (events : List Event) (first «end» : ℕ) (f : List ℕ) → HasNoneToSettle events
     → Settles events first «end» f f
-settles-few events first «end» f few es are = (
-  lowers-same es f,
-  λ x y asks m from until. let two = before-two events x y asks.before in absurd
-      (omega (arith, two)),
-)
+settles-none events first «end» f none es are = (lowers-same es f, λ x y asks m from until. absurd (none x y asks))
+
+-- the events so far, of which none asks after another was put
+pub record IsQuiet (events : List Event) (is_put : Bool) : Type 0 where
+  pub none : HasNoneToSettle events
+  pub asking : is_put ≡ false → (x : Event) → Contains events x → x.asks ≡ false → ⊥
+
+pub quiet-none : IsQuiet [] false
+quiet-none = record {
+  none = λ x y asks. absurd asks.before;
+  asking = λ _ x there put. absurd (none_there x there);
+}
+
+or_false : (a b : Bool) → (a || not b) ≡ false → (a ≡ false) × (b ≡ true)
+or_false true b h = absurd (false≢true (sym h))
+or_false false true h = (refl, refl)
+or_false false false h = absurd (false≢true (sym h))
+
+and_false : (a b : Bool) → (a && b) ≡ false → a ≡ true → b ≡ false
+and_false true b h is = h
+and_false false b h is = absurd (false≢true is)
+
+pub and_no_one : (a b : Bool) → a ≡ false → (a && b) ≡ false
+and_no_one true b h = absurd (false≢true (sym h))
+and_no_one false b h = refl
+
+pub and_no_other : (a b : Bool) → b ≡ false → (a && b) ≡ false
+and_no_other true b h = h
+and_no_other false b h = refl
+
+pub or_one : (a b : Bool) → a ≡ true → a ≡ (a || b)
+or_one true b h = refl
+or_one false b h = absurd (false≢true h)
+
+pub or_other : (a b : Bool) → a ≡ false → b ≡ (a || b)
+or_other true b h = absurd (false≢true (sym h))
+or_other false b h = refl
+
+module _ (events : List Event) (i : ℕ) (e : Event) (within : i < length events) (here : e ≡ get_or events i e)
+    (is_put : Bool) (quiet : IsQuiet (take i events) is_put) (goes_on : (e.asks && is_put) ≡ false) where
+  pub quiet-more : IsQuiet (take (i + 1) events) (is_put || not e.asks)
+  quiet-more = record {
+    none = λ x y asks. either (take-before_cases events i e within here x y asks.before)
+        (λ before. quiet.none x y (record { before = before; put = asks.put; asking = asks.asking }))
+        (λ (there, same).
+        quiet.asking (and_false e.asks is_put goes_on (ap (λ z. z.asks) same ∙ asks.asking)) x there asks.put);
+    asking = λ h x there put.
+        let parts = or_false is_put e.asks h in
+        either (take-there_cases events i e within here x there)
+        (λ before. quiet.asking parts.0 x before put)
+        (λ same. false≢true (sym put ∙ (ap (λ z. z.asks) (sym same) ∙ parts.1)));
+  }
 
 pub pow_half : (level : ℕ) → 1 ≤ level → 2 ^ level ≡ 2 ^ (level - 1) + 2 ^ (level - 1)
 pow_half zero h = absurd (omega arith)

@@ -39,7 +39,7 @@ by_test false h = refl
 takes-past : (address : ℕ) (span : ℕ × ℕ) → span.1 ≤ address → takes_at address span ≡ 0
 takes-past address span past =
     by_test (nat_le span.0 address && nat_lt address span.1) (λ holds.
-    let less = ltb-true address span.1 (and_parts _ _ holds).1 in omega (arith, less, past))
+    let less : address < span.1 = ltb-true address span.1 (and_parts _ _ holds).1 in omega (arith, less, past))
 
 by_either : (b : Bool) → (one_if b ≡ 0) ⊎ ((one_if b ≡ 1) × (b ≡ true))
 by_either true = inr (refl, refl)

@@ -111,6 +111,10 @@ pub record Asks (events : List Event) (x y : Event) : Type 0 where
   pub put : x.asks ≡ false
   pub asking : y.asks ≡ true
 
+-- no event asks after another was put
+abbrev pub HasNoneToSettle : List Event → Type 0
+HasNoneToSettle events = (x y : Event) → Asks events x y → ⊥
+
 -- an address of an event
 abbrev pub Has : Event → ℕ → Type 0
 Has e address = (e.first ≤ address) × (address < e.«end»)

@@ -32,7 +32,7 @@ pub(super) fn events_of(
     requires in_order { AreInOrder entries.now }
     ensures { IfOk result (λ events. AreAllEvents (named entries.now) firsts.old firsts.new events.items) }
 {
-    let mut events = Vec::new(alloc);
+    let mut events = Vec::with_capacity(alloc, entries.len().saturating_mul(2))?;
     let mut open_places = Vec::new(alloc);
     for place in 0..entries.len() {
         close(entries, place, &mut open_places, &mut events)?;

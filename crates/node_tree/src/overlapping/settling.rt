@@ -2,6 +2,7 @@
 ghost use Rattle.std.specs.Prelude.{◌≡◌, ◌↔◌, ◌+◌, ◌-◌, ◌<◌, ◌≤◌, ◌^◌, ℕ, IfOk, IsTrue, length};
 ghost use Rattle.std.specs.List.{All};
 ghost use Rattle.node_tree.specs.OverlapSearch.{Settles, SettlesWhere, Passes, GoesOn, IsPart, lesser_of, lowered_to};
+ghost use Rattle.node_tree.specs.OverlapSearch.{HasNoneToSettle};
 
 use super::events::Event;
 use super::noting::lower;
@@ -33,7 +34,7 @@ pub(super) fn settle(
     requires places { All (λ event. event.place < length firsts.old) events.items }
     ensures { IfOk result (λ _. Settles events.items first (first + 2 ^ level) firsts.old firsts.new) }
 {
-    if events.len() < 2 {
+    if has_none_to_settle(&events) {
         return Ok(());
     }
     if level == 0 {
@@ -51,6 +52,20 @@ pub(super) fn settle(
     drop(events);
     settle(alloc, lower, first, level - 1, firsts)?;
     settle(alloc, upper, middle, level - 1, firsts)
+}
+
+/// Whether no event asks after another was put, as with those of one register: it asks, and then it is put.
+fn has_none_to_settle(events: &[Event]) -> bool
+    ensures { IsTrue result → HasNoneToSettle events.now }
+{
+    let mut is_put = false;
+    for event in events {
+        if event.asks && is_put {
+            return false;
+        }
+        is_put = is_put || !event.asks;
+    }
+    true
 }
 
 /// How many addresses are in half of a level.
@@ -140,13 +155,24 @@ fn part(
 ) -> Result<Vec<Event>, NoMemory>
     ensures { IfOk result (λ some. IsPart (GoesOn covers first «end») events.now some.items) }
 {
-    let mut some = Vec::new(alloc);
+    let mut some = Vec::with_capacity(alloc, part_len(events, covers, first, end))?;
     for event in events {
         if goes_on(event, covers, first, end) {
             some.push(*event)?;
         }
     }
     Ok(some)
+}
+
+/// How many events these are.
+fn part_len(events: &[Event], covers: Test, first: u64, end: u64) -> usize {
+    let mut count = 0;
+    for event in events {
+        if goes_on(event, covers, first, end) {
+            count += 1;
+        }
+    }
+    count
 }
 
 fn goes_on(event: &Event, covers: Test, first: u64, end: u64) -> bool

@@ -1,8 +1,6 @@
-use Rattle.std.proofs.Common.{◌≡◌, [], ◌∷◌, ◌++◌, Some, codes, ap, ◌∙◌, refl, arith}
+use Rattle.std.proofs.Common.{◌≡◌, ◌++◌, codes, ap, ◌∙◌, refl, arith}
 use Rattle.std.specs.Fmt.{decimal}
 use Rattle.std.proofs.lemmas.Fmt.{decimal_digit, decimal_step}
-use Rattle.address_table.specs.declared.nodes.Node.{Node, out-Node}
-use Rattle.node_tree.specs.Names.{name_below}
 use Rattle.node_tree.proofs.laws.indexes_stand_behind_ids.Goals as goal
 
 zero_text : decimal 0 ≡ codes "0"

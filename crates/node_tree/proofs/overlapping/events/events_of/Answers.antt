@@ -9,7 +9,7 @@ use Rattle.node_tree.proofs.overlapping.events.events_of.Goals as goal
 
 pub loop-place-init : goal.loop-place-init
 loop-place-init c =
-    rw (c.new-events.ensures.items, c.new-open_places.ensures.items)
+    rw (c.in_ok-events.ensures.items, c.new-open_places.ensures.items)
     record {
       timeline = timeline-none (named c.args.entries.now);
       lowers = lowers-same (named c.args.entries.now) c.args.firsts.now;

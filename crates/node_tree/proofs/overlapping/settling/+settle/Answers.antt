@@ -2,21 +2,23 @@ use Rattle.std.proofs.Common.{◌≡◌, ◌+◌, ◌-◌, ◌^◌, ◌<◌, ◌
 use Rattle.std.specs.List.{All}
 use Rattle.std.proofs.lemmas.Result.{IfOk-weaker}
 use Rattle.node_tree.specs.declared.overlapping.settling.Test.TheVariants.{Each, Covers}
-use Rattle.node_tree.specs.OverlapSearch.{Settles, SettlesWhere, GoesOn, IsPart}
+use Rattle.node_tree.specs.OverlapSearch.{Settles, SettlesWhere, GoesOn, IsPart, HasNoneToSettle}
 use Rattle.node_tree.proofs.EventLemmas.{part-places}
-use Rattle.node_tree.proofs.SettlingLemmas.{settles-few, settles-halves, pow_half, some_power}
+use Rattle.node_tree.proofs.SettlingLemmas.{settles-none, settles-halves, pow_half, some_power}
 use Rattle.node_tree.proofs.overlapping.settling.+settle.Goals as goal
 
-pub returns-then-len-lt2 : goal.returns-then-len-lt2
-returns-then-len-lt2 t c = settles-few _ _ _ _ (omega (arith, c.len.ensures))
+pub returns-then-has_none_to_settle : goal.returns-then-has_none_to_settle
+returns-then-has_none_to_settle t c =
+    settles-none _ _ _ _
+    (subst HasNoneToSettle c.deref.ensures.value (c.has_none_to_settle.ensures c.if-has_none_to_settle.true))
 
 pub returns-then-level-eq0 : goal.returns-then-level-eq0
 returns-then-level-eq0 t c =
     let one : c.args.first + 1 ≡ c.args.first + 2 ^ c.args.level =
     ap (λ n. c.args.first + 2 ^ n) (sym c.if-level-eq0.true) in
     subst (λ events. Settles events c.args.first
-    (c.args.first + 2 ^ c.args.level) c.args.firsts.now c.settle_bits.new.firsts) c.deref.ensures.value
-    (subst (λ n. Settles c.deref.result.now c.args.first n c.args.firsts.now c.settle_bits.new.firsts) one
+    (c.args.first + 2 ^ c.args.level) c.args.firsts.now c.settle_bits.new.firsts) c.deref-then-level-eq0.ensures.value
+    (subst (λ n. Settles c.deref-then-level-eq0.result.now c.args.first n c.args.firsts.now c.settle_bits.new.firsts) one
     (c.settle_bits.ensures c.args.first))
 
 pub settle-requires : goal.settle-requires

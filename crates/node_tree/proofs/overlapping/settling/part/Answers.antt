@@ -7,7 +7,7 @@ use Rattle.node_tree.proofs.overlapping.settling.part.Goals.{then-goes_on+in_ok-
 use Rattle.node_tree.proofs.overlapping.settling.part.Goals as goal
 
 pub loop-event-init : goal.loop-event-init
-loop-event-init c = rw c.new-some.ensures.items (part-none (GoesOn c.args.covers c.args.first c.args.«end»))
+loop-event-init c = rw c.in_ok-some.ensures.items (part-none (GoesOn c.args.covers c.args.first c.args.«end»))
 
 pub loop-event-preserved : goal.loop-event-preserved
 loop-event-preserved c =

@@ -1,9 +1,9 @@
-use Rattle.std.proofs.Common.{◌≡◌, ◌<◌, ◌≤◌, ◌+◌, ◌-◌, ◌++◌, ℕ, List, [], Ok, IfErr, rules, sym, ◌∙◌, subst, arith}
+use Rattle.std.proofs.Common.{◌≡◌, ◌<◌, ◌+◌, ◌-◌, ◌++◌, [], Ok, IfErr, rules, sym, ◌∙◌, subst, arith}
 use Rattle.std.proofs.Common.{take}
 use Rattle.std.proofs.lemmas.Result.{IfErr-weaker}
-use Rattle.address_table.specs.declared.nodes.Node.{Node, out-Node}
+use Rattle.address_table.specs.declared.nodes.Node.{out-Node}
 use Rattle.node_tree.specs.Limits.{most_ids}
-use Rattle.node_tree.specs.Names.{last_index, name_at, plain_name, address_at, register_at}
+use Rattle.node_tree.specs.Names.{last_index, name_at, plain_name, register_at}
 use Rattle.node_tree.specs.Walk.{walk, siblings, twin_text}
 use Rattle.node_tree.specs.Run.{each_index, run, visit_next, IsStop}
 use Rattle.node_tree.proofs.Runs.{stopped_at, stopped_below, past_both, no_index_left, stopped_node, past_node}
