@@ -1,4 +1,5 @@
 pub mod Lookups
+mod SpanLemmas
 mod PlanLemmas
 mod DispatchLemmas
 mod Rising

@@ -13,7 +13,7 @@ use Rattle.script_plans.specs.declared.planning.Planning.{Planning}
 use Rattle.script_plans.specs.Plan.{ClientBodies, AreSound, dispatches, ops_on, plan, with_dispatch, all_dispatches}
 
 abbrev pub so_far : Planning → ClientBodies
-so_far p = record { bodies = p.bodies.items; pieces = p.pieces.items; counts = p.counts.items }
+so_far p = record { bodies = p.bodies.items; pieces = p.pieces; counts = p.counts.items }
 
 -- the dispatches that are left, the first of which begins with the operations that wait
 abbrev pub continued : ℕ → ℕ → List Op → List (List RegOp) → List Contents

@@ -9,6 +9,7 @@
 mod board_run;
 mod greeting;
 pub mod laws;
+mod op_pieces;
 mod planned;
 mod planning;
 

@@ -5,6 +5,7 @@ ghost use Rattle.std.specs.List.{AllByRecursion};
 ghost use Rattle.transaction_codec.specs.Request.{SpellsRequests};
 ghost use Rattle.script_plans.specs.Plan.{IsWithinBody, AreSound};
 
+use crate::op_pieces::OpPieces;
 use ipb_base::Words;
 use std::marker::Model;
 
@@ -17,43 +18,12 @@ pub struct PieceAt {
     pub index: u16,
 }
 
-/// Where the pieces of one operation stand, in order. Contracts see that list.
-#[derive(Drop)]
-pub(crate) struct OpPieces {
-    items: Vec<PieceAt>,
-}
-
-impl Model for OpPieces {
-    ghost use Rattle.std.specs.Prelude.{List};
-    ghost use Rattle.script_plans.specs.declared.planned.PieceAt.{PieceAt};
-
-    ghost Value = { List PieceAt };
-
-    ghost view = { λ pieces. pieces.items.items };
-}
-
-impl OpPieces {
-    /// The pieces of a vector, in its order. It takes no memory.
-    pub(crate) fn from_vec(items: Vec<PieceAt>) -> OpPieces
-        ensures { result ≡ items.items }
-    {
-        OpPieces { items }
-    }
-
-    /// The pieces, in order.
-    pub(crate) fn as_slice(&self) -> &[PieceAt]
-        ensures { result.now ≡ self.now }
-    {
-        self.items.as_slice()
-    }
-}
-
 /// The bodies of a client on one board, through all its dispatches, where the pieces of each of its operations there
 /// stand, and how many bodies each dispatch has. Contracts see the three lists.
 #[derive(Drop)]
 pub struct Planned {
     bodies: Vec<Words>,
-    pieces: Vec<OpPieces>,
+    pieces: OpPieces,
     counts: Vec<usize>,
 }
 
@@ -62,18 +32,18 @@ impl Model for Planned {
 
     ghost Value = { ClientBodies };
 
-    ghost view = { λ p. record { bodies = p.bodies.items; pieces = p.pieces.items; counts = p.counts.items } };
+    ghost view = { λ p. record { bodies = p.bodies.items; pieces = p.pieces; counts = p.counts.items } };
 
     ghost invariant = { λ p.
-        AreSound (record { bodies = p.bodies.items; pieces = p.pieces.items; counts = p.counts.items }) };
+        AreSound (record { bodies = p.bodies.items; pieces = p.pieces; counts = p.counts.items }) };
 }
 
 impl Planned {
     /// The bodies, where the pieces of each operation stand in them, and how many each dispatch has. It takes no
     /// memory.
-    pub(crate) fn new(bodies: Vec<Words>, pieces: Vec<OpPieces>, counts: Vec<usize>) -> Planned
-        requires { AreSound (record { bodies = bodies.items; pieces = pieces.items; counts = counts.items }) }
-        ensures { result ≡ record { bodies = bodies.items; pieces = pieces.items; counts = counts.items } }
+    pub(crate) fn new(bodies: Vec<Words>, pieces: OpPieces, counts: Vec<usize>) -> Planned
+        requires { AreSound (record { bodies = bodies.items; pieces = pieces; counts = counts.items }) }
+        ensures { result ≡ record { bodies = bodies.items; pieces = pieces; counts = counts.items } }
     {
         Planned {
             bodies,
@@ -103,7 +73,6 @@ impl Planned {
             (λ pieces. slice_get self.now.pieces op ≡ Some pieces.now) }
         ensures within { IfSome result (λ pieces. AllByRecursion IsWithinBody pieces.now) }
     {
-        let pieces = self.pieces.get(op)?;
-        Some(pieces.as_slice())
+        self.pieces.get(op)
     }
 }

@@ -10,10 +10,11 @@ ghost use Rattle.script_plans.specs.Plan as spec;
 ghost use Rattle.script_plans.specs.Steps.{so_far};
 
 use crate::greeting::Greeting;
-use crate::planned::{OpPieces, PieceAt, Planned};
+use crate::op_pieces::OpPieces;
+use crate::planned::Planned;
 use ipb_base::{NoMemory, Words};
 use mtu_packer::laws::{packed_bodies_spell_requests, packing_is_a_function};
-use mtu_packer::{Packed, Piece, pack};
+use mtu_packer::{Packed, pack};
 use script_steps::{RegOp, Step};
 use std::alloc::Global;
 use transaction_codec::Op;
@@ -61,45 +62,20 @@ fn copied_op(alloc: Global, op: &Op) -> Result<Op, NoMemory>
     }
 }
 
-/// The pieces of an operation in a dispatch that begins with the body of this number.
-fn moved_pieces(alloc: Global, pieces: &[Piece], first: usize) -> Result<OpPieces, NoMemory>
-    requires { first < 2 ^ 63 }
-    ensures { IfOk result (λ moved. moved ≡ map (spec.moved first) pieces.now) }
-{
-    let mut moved = Vec::with_capacity(alloc, pieces.len())?;
-    for piece in pieces {
-        moved.push(PieceAt {
-            body: first + piece.body as usize,
-            index: piece.index,
-        })?;
-    }
-    Ok(OpPieces::from_vec(moved))
-}
-
 /// Adds the pieces of the operations of a dispatch, of which there are so many.
 fn push_pieces(
-    alloc: Global,
-    all: &mut Vec<OpPieces>,
+    all: &mut OpPieces,
     packed: &Packed,
     count: usize,
     first: usize,
 ) -> Result<(), NoMemory>
     requires few { first < 2 ^ 63 }
     requires all_of_them { count ≡ length packed.now.pieces }
-    ensures { OnOk result (all.new.items
-        ≡ all.old.items ++ map (λ pieces. map (spec.moved first) pieces) packed.now.pieces) }
+    ensures { OnOk result (all.new
+        ≡ all.old ++ map (λ pieces. map (spec.moved first) pieces) packed.now.pieces) }
 {
     for op in 0..count {
-        all.push(moved_pieces(alloc, packed.pieces(op), first)?)?;
-    }
-    Ok(())
-}
-
-fn push_bodies(all: &mut Vec<Words>, bodies: Vec<Words>) -> Result<(), NoMemory>
-    ensures { OnOk result (all.new.items ≡ all.old.items ++ bodies.items) }
-{
-    for body in bodies {
-        all.push(body)?;
+        all.push(packed.pieces(op), first)?;
     }
     Ok(())
 }
@@ -108,7 +84,7 @@ fn push_bodies(all: &mut Vec<Words>, bodies: Vec<Words>) -> Result<(), NoMemory>
 #[derive(Drop)]
 struct Planning {
     bodies: Vec<Words>,
-    pieces: Vec<OpPieces>,
+    pieces: OpPieces,
     counts: Vec<usize>,
     queued: Vec<Op>,
 }
@@ -145,10 +121,10 @@ fn dispatch(alloc: Global, planning: &mut Planning, payload: u32) -> Result<(), 
     let packed = pack(alloc, planning.queued.as_slice(), payload)?;
     let first = planning.bodies.len();
     let count = planning.queued.len();
-    push_pieces(alloc, &mut planning.pieces, &packed, count, first)?;
-    let (bodies, _) = packed.into_parts();
+    push_pieces(&mut planning.pieces, &packed, count, first)?;
+    let (mut bodies, _) = packed.into_parts();
     planning.counts.push(bodies.len())?;
-    push_bodies(&mut planning.bodies, bodies)?;
+    planning.bodies.append(&mut bodies)?;
     planning.queued.clear();
     Ok(())
 }
@@ -169,7 +145,7 @@ fn pack_dispatches(
 {
     let mut planning = Planning {
         bodies: Vec::new(alloc),
-        pieces: Vec::new(alloc),
+        pieces: OpPieces::new(alloc),
         counts: Vec::new(alloc),
         queued: Vec::new(alloc),
     };
@@ -192,7 +168,7 @@ fn pack_dispatches(
 fn nothing(alloc: Global) -> Planned
     ensures { result ≡ spec.no_bodies }
 {
-    Planned::new(Vec::new(alloc), Vec::new(alloc), Vec::new(alloc))
+    Planned::new(Vec::new(alloc), OpPieces::new(alloc), Vec::new(alloc))
 }
 
 /// The bodies of a client's steps on the board at a position from 0, and where the pieces of each operation stand in

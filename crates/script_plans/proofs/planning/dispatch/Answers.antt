@@ -8,7 +8,7 @@ use Rattle.script_plans.proofs.planning.dispatch.Goals as goal
 
 pub returns-clause-sound : goal.returns-clause-sound
 returns-clause-sound c = record {
-  spelled = rw (c.in_ok-push_bodies.ensures, c.into_parts-bodies.ensures.bodies) (
+  spelled = rw (c.in_ok-append.ensures.items, c.into_parts-bodies.ensures.bodies) (
       AllByRecursion-append SpellsRequests _ _ c.requires.sound.spelled
       (c.packed_bodies_spell_requests.ensures _ c.args.payload _ c.in_ok-packed.ensures.packed)
       );
@@ -20,5 +20,5 @@ returns-clause-sound c = record {
 
 pub returns-clause-room : goal.returns-clause-room
 returns-clause-room c =
-    rw (c.in_ok-push_bodies.ensures, c.into_parts-bodies.ensures.bodies)
+    rw (c.in_ok-append.ensures.items, c.into_parts-bodies.ensures.bodies)
     (AllByRecursion-append (FitsPackets c.args.payload) _ _ c.requires.room c.in_ok-packed.ensures.room)

@@ -11,7 +11,7 @@ use Rattle.script_plans.proofs.planning.pack_dispatches.Goals.{in-Dispatch+in_ok
 
 pub loop-step-init : goal.loop-step-init
 loop-step-init c =
-    rw (c.new.ensures.items, c.new-2.ensures.items, c.new-3.ensures.items, c.new-4.ensures.items)
+    rw (c.new.ensures.items, c.new-2.ensures, c.new-3.ensures.items, c.new-4.ensures.items)
     (at_start c.args.payload c.args.board c.args.steps.now c.requires.can c.requires.payload_low c.requires.few)
 
 pub loop-step-preserved : goal.loop-step-preserved

@@ -8,4 +8,4 @@ loop-op-preserved c =
     let rest =
     ap (map (λ pieces. map (spec.moved c.args.first) pieces))
     (drop_at c.args.packed.now.pieces c.loop-op.op _ c.pieces.ensures) in
-    rw (c.in_ok-push.ensures.items, c.in_ok-moved_pieces.ensures, append_assoc) (rw rest at c.loop-op.invariant)
+    rw (c.in_ok-push.ensures, append_assoc) (rw rest at c.loop-op.invariant)
