@@ -9,4 +9,5 @@ mod Covering
 mod Printed
 mod PiecesSoFar
 mod TextSoFar
+mod PrintedLines
 pub mod ShownLines

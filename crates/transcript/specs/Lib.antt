@@ -6,5 +6,6 @@ pub mod Text
 pub mod Listing
 pub mod Examples
 pub mod Steps
+pub mod Printing
 pub mod Claims
 pub mod Shown

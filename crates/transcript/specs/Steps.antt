@@ -5,10 +5,12 @@ use Rattle.std.specs.Prelude.{slice_set, slice_index, Option, Some, None}
 use Rattle.std.specs.Option.{option_map_or}
 use Rattle.script_steps.specs.declared.operation.RegOp.{RegOp}
 use Rattle.script_steps.specs.declared.operation.Step.{Step}
+use Rattle.script_steps.specs.declared.operation.Verb.{Verb}
 use Rattle.lane_record.specs.declared.outcome.Outcome.{Outcome}
 use Rattle.transcript.specs.declared.body_end.BodyEnd.{BodyEnd}
 use Rattle.script_plans.specs.declared.board_run.BoardRun.{BoardRun}
 use Rattle.transcript.specs.declared.line.OpResult.{OpResult}
+use Rattle.transcript.specs.declared.line.OpResult.TheVariants as result
 use Rattle.transcript.specs.declared.line.OpLine.{OpLine}
 use Rattle.transcript.specs.declared.boards.Kind.{Kind}
 use Rattle.transcript.specs.declared.boards.Kind.TheVariants as kind
@@ -21,6 +23,16 @@ use Rattle.transcript.specs.Lines.{showing, line_with, lines_behind, client_line
 -- what a piece came to, where it failed
 abbrev pub fault_in : OpResult → Option OpResult
 fault_in r = if is_good r then None else Some r
+
+-- this, or else the value of the words
+abbrev pub or_value : Option OpResult → List ℕ → OpResult
+or_value (Some told) words = told
+or_value None words = result.Value words
+
+-- the line of an operation that was never sent
+abbrev pub unsent_line : ℕ → Verb → List ℕ → List ℕ → OpLine
+unsent_line number verb board name =
+    record { number = number; verb = verb; board = board; name = name; result = result.Unsent; places = [] }
 
 -- how a client's bodies on a board ended
 abbrev pub ends_on : ℕ → BoardRun → List BodyEnd

@@ -80,7 +80,7 @@ fn board_line(alloc: Global, run: &BoardRun) -> Result<BoardLine, NoMemory>
 pub fn board_lines(alloc: Global, runs: &[BoardRun]) -> Result<Vec<BoardLine>, NoMemory>
     ensures { IfOk result (λ lines. lines.items ≡ map spec.board_line runs.now) }
 {
-    let mut lines = Vec::new(alloc);
+    let mut lines = Vec::with_capacity(alloc, runs.len())?;
     for run in runs {
         lines.push(board_line(alloc, run)?)?;
     }

@@ -2,16 +2,15 @@
 
 ghost use Rattle.std.specs.Prelude.{◌≡◌, ◌+◌, ◌-◌, ◌++◌, ◌^◌, ◌<◌, [], IfOk, OnOk, length, map, option_to_list};
 ghost use Rattle.std.specs.Prelude.{option_map, slice_get, slice_index};
-ghost use Rattle.script_plans.specs.declared.board_run.ClientPart.{ClientPart as PartValue};
-ghost use Rattle.transcript.specs.Ends as of_ends;
 ghost use Rattle.transcript.specs.Lines as spec;
 ghost use Rattle.transcript.specs.Steps.{ends_on, line_on, bumped, AreBelow};
 
 use crate::body_end::{BodyEnd, ends_of};
-use crate::line::{LinePlaces, OpLine, OpResult};
-use crate::results::{op_places, op_result};
+use crate::counting::Counts;
+use crate::line::OpLine;
+use crate::showing::Shown;
 use ipb_base::{NoMemory, Text};
-use script_plans::{BoardRun, ClientPart, Greeting};
+use script_plans::BoardRun;
 use script_steps::{RegOp, Step, Steps};
 use std::alloc::Global;
 
@@ -26,7 +25,11 @@ fn ends_on(alloc: Global, run: &BoardRun, client: usize) -> Result<Vec<BodyEnd>,
 }
 
 /// The same of every board.
-fn all_ends(alloc: Global, runs: &[BoardRun], client: usize) -> Result<Vec<Vec<BodyEnd>>, NoMemory>
+pub(crate) fn all_ends(
+    alloc: Global,
+    runs: &[BoardRun],
+    client: usize,
+) -> Result<Vec<Vec<BodyEnd>>, NoMemory>
     ensures { IfOk result (λ all. map (λ ends. ends.items) all.items ≡ map (ends_on client) runs.now) }
 {
     let mut all = Vec::with_capacity(alloc, runs.len())?;
@@ -34,55 +37,6 @@ fn all_ends(alloc: Global, runs: &[BoardRun], client: usize) -> Result<Vec<Vec<B
         all.push(ends_on(alloc, run, client)?)?;
     }
     Ok(all)
-}
-
-/// An operation without a place, and what it came to.
-fn without_place(alloc: Global, came_to: OpResult) -> (OpResult, LinePlaces)
-    ensures { result ≡ (came_to, []) }
-{
-    (came_to, LinePlaces::from_vec(Vec::new(alloc)))
-}
-
-/// What operation `k`, from 0, of those of a client on a board came to, and its places.
-fn in_part(
-    alloc: Global,
-    parts: &[ClientPart],
-    client: usize,
-    ends: &[BodyEnd],
-    k: usize,
-    op: &RegOp,
-) -> Result<(OpResult, LinePlaces), NoMemory>
-    requires { (part : PartValue) → slice_get parts.now client ≡ Some part → ends.now ≡ of_ends.ends_of part }
-    ensures { IfOk result (λ shows. shows ≡ spec.in_part (slice_get parts.now client) k op.now) }
-{
-    let Some(part) = parts.get(client) else {
-        return Ok(without_place(alloc, OpResult::Unsent));
-    };
-    let Some(pieces) = part.planned.pieces(k) else {
-        return Ok(without_place(alloc, OpResult::Unsent));
-    };
-    let came_to = op_result(alloc, ends, op, pieces)?;
-    let places = op_places(alloc, ends, pieces)?;
-    Ok((came_to, places))
-}
-
-/// The same of a board, whatever its greeting told.
-fn showing(
-    alloc: Global,
-    run: &BoardRun,
-    client: usize,
-    ends: &[BodyEnd],
-    k: usize,
-    op: &RegOp,
-) -> Result<(OpResult, LinePlaces), NoMemory>
-    requires { ends.now ≡ ends_on client run.now }
-    ensures { IfOk result (λ shows. shows ≡ spec.showing run.now client k op.now) }
-{
-    match run.greeting {
-        Greeting::Live { .. } => in_part(alloc, run.parts.as_slice(), client, ends, k, op),
-        Greeting::Silent => Ok(without_place(alloc, OpResult::Unsent)),
-        Greeting::Down => Ok(without_place(alloc, OpResult::LinkLost)),
-    }
 }
 
 /// The line of an operation: line `number` of its client, and operation `k`, from 0, of those on its board.
@@ -98,7 +52,9 @@ fn line_on(
     requires { ends.now ≡ ends_on client run.now }
     ensures { IfOk result (λ line. line ≡ line_on client number k op.now run.now) }
 {
-    let (result, places) = showing(alloc, run, client, ends, k, op)?;
+    let mut shown = Shown::new(alloc);
+    shown.tell(run, client, ends, k, op)?;
+    let (result, places) = shown.into_parts();
     Ok(OpLine {
         number,
         verb: op.verb,
@@ -109,13 +65,11 @@ fn line_on(
     })
 }
 
-/// The lines of a client so far.
+/// The lines of a client so far, and how many operations they are of.
 #[derive(Drop)]
 struct Progress {
     lines: Vec<OpLine>,
-    /// How many operations there were, and how many of them on each board.
-    number: u32,
-    counts: Vec<usize>,
+    counts: Counts,
 }
 
 /// Adds the line of a client's next operation.
@@ -128,29 +82,23 @@ fn add_line(
     progress: &mut Progress,
 ) -> Result<(), NoMemory>
     requires ends { map (λ e. e.items) ends.now ≡ map (ends_on client) runs.now }
-    requires boards { length progress.old.counts.items ≡ length runs.now }
-    requires below { AreBelow progress.old.number progress.old.counts.items }
-    ensures number { OnOk result (progress.new.number ≡ progress.old.number + 1) }
-    ensures counts { OnOk result (progress.new.counts.items ≡ bumped op.now.board progress.old.counts.items) }
-    ensures lines { let number = progress.old.number + 1 in
-        let k = slice_index progress.old.counts.items op.now.board in
+    requires below { AreBelow progress.old.counts.number progress.old.counts.on_boards.items }
+    ensures number { OnOk result (progress.new.counts.number ≡ progress.old.counts.number + 1) }
+    ensures counts { OnOk result (progress.new.counts.on_boards.items
+        ≡ bumped op.now.board progress.old.counts.on_boards.items) }
+    ensures lines { let number = progress.old.counts.number + 1 in
+        let k = slice_index progress.old.counts.on_boards.items op.now.board in
         OnOk result (progress.new.lines.items ≡ progress.old.lines.items
         ++ option_to_list (option_map (line_on client number k op.now) (slice_get runs.now op.now.board))) }
 {
-    let Some(number) = progress.number.checked_add(1) else {
-        return Err(NoMemory);
-    };
-    progress.number = number;
     let board = op.board as usize;
+    let k = progress.counts.add(board)?;
     let Some(run) = runs.get(board) else {
         return Ok(());
     };
-    let k = progress.counts[board];
     let ends = ends[board].as_slice();
-    let line = line_on(alloc, run, client, ends, number, k, op)?;
-    progress.lines.push(line)?;
-    progress.counts[board] = k + 1;
-    Ok(())
+    let line = line_on(alloc, run, client, ends, progress.counts.number, k, op)?;
+    Ok(progress.lines.push(line)?)
 }
 
 /// The lines of a client, counted from 0, in the order of its operations: by its steps, and by what became of each
@@ -166,8 +114,7 @@ pub fn client_lines(
     let ends = all_ends(alloc, runs, client)?;
     let mut progress = Progress {
         lines: Vec::with_capacity(alloc, steps.len())?,
-        number: 0,
-        counts: vec![in alloc; 0; runs.len()]?,
+        counts: Counts::new(alloc, runs.len())?,
     };
     for step in steps {
         if let Step::Do(op) = step {
@@ -185,7 +132,7 @@ pub fn lines_of_clients(
 ) -> Result<Vec<Vec<OpLine>>, NoMemory>
     ensures { IfOk result (λ all. map (λ lines. lines.items) all.items ≡ spec.lines_from runs.now 0 scripts.now) }
 {
-    let mut all = Vec::new(alloc);
+    let mut all = Vec::with_capacity(alloc, scripts.len())?;
     for (client, steps) in scripts.iter().enumerate() {
         all.push(client_lines(alloc, runs, client, steps.as_slice())?)?;
     }

@@ -1,21 +1,20 @@
 //! What an operation came to, by how the bodies of its pieces ended.
 
-ghost use Rattle.std.specs.Prelude.{◌≡◌, ◌++◌, IfOk, OnOk, map, slice_get};
+ghost use Rattle.std.specs.Prelude.{◌≡◌, ◌++◌, [], IfOk, OnOk, map, slice_get};
 ghost use Rattle.std.specs.List.{AllByRecursion};
 ghost use Rattle.masked_fields.specs.Field.{field};
 ghost use Rattle.script_plans.specs.Plan.{IsWithinBody};
 ghost use Rattle.transcript.specs.Ends.{answered, piece_result, piece_place};
 ghost use Rattle.transcript.specs.Results as spec;
-ghost use Rattle.transcript.specs.Steps.{fault_in};
+ghost use Rattle.transcript.specs.Steps.{fault_in, or_value};
 
 use crate::body_end::{BodyEnd, Told};
-use crate::line::{LinePlaces, OpResult};
-use ipb_base::{NoMemory, Words};
+use crate::line::OpResult;
+use ipb_base::NoMemory;
 use masked_fields::extract;
 use reply_join::Answer;
 use script_plans::PieceAt;
 use script_steps::{RegOp, Verb};
-use std::alloc::Global;
 
 /// Adds the values of a transaction's answer. Where it failed, what it came to.
 fn answer_fault(
@@ -90,34 +89,35 @@ fn word_before(words: &[u32]) -> OpResult
     }
 }
 
-/// What an operation that was done shows of the words that its pieces gave.
-fn shown(verb: Verb, mask: u32, mut words: Vec<u32>) -> OpResult
-    ensures { result ≡ spec.shown verb mask words.items }
+/// What an operation that was done shows of the words that its pieces gave, unless that is the words as they stand
+/// then.
+fn shown(verb: Verb, mask: u32, words: &mut Vec<u32>) -> Option<OpResult>
+    ensures { or_value result words.new.items ≡ spec.shown verb mask words.old.items }
 {
     match verb {
         Verb::Read => {
             show_fields(words.as_mut_slice(), mask);
-            OpResult::Value(Words::from_vec(words))
+            None
         }
-        Verb::Write | Verb::WriteBlock => OpResult::Done,
-        Verb::ReadBlock => OpResult::Value(Words::from_vec(words)),
-        Verb::RmwBits | Verb::RmwSum => word_before(words.as_slice()),
+        Verb::Write | Verb::WriteBlock => Some(OpResult::Done),
+        Verb::ReadBlock => None,
+        Verb::RmwBits | Verb::RmwSum => Some(word_before(words.as_slice())),
     }
 }
 
-/// What an operation came to.
+/// What an operation came to, unless that is the words that are added to none.
 pub(crate) fn op_result(
-    alloc: Global,
+    words: &mut Vec<u32>,
     ends: &[BodyEnd],
     op: &RegOp,
     pieces: &[PieceAt],
-) -> Result<OpResult, NoMemory>
-    ensures { IfOk result (λ came_to. came_to ≡ spec.op_result ends.now op.now pieces.now) }
+) -> Result<Option<OpResult>, NoMemory>
+    requires { words.old.items ≡ [] }
+    ensures { IfOk result (λ told. or_value told words.new.items ≡ spec.op_result ends.now op.now pieces.now) }
 {
-    let mut words = Vec::new(alloc);
     for piece in pieces {
-        if let Some(fault) = piece_fault(ends, *piece, &mut words)? {
-            return Ok(fault);
+        if let Some(fault) = piece_fault(ends, *piece, words)? {
+            return Ok(Some(fault));
         }
     }
     Ok(shown(op.verb, op.mask, words))
@@ -141,18 +141,18 @@ fn push_place(
     }
 }
 
-/// The places of the pieces whose bodies have one.
-pub(crate) fn op_places(
-    alloc: Global,
+/// Adds the places of the pieces whose bodies have one.
+pub(crate) fn push_op_places(
+    places: &mut Vec<(u64, u16)>,
     ends: &[BodyEnd],
     pieces: &[PieceAt],
-) -> Result<LinePlaces, NoMemory>
+) -> Result<(), NoMemory>
     requires { AllByRecursion IsWithinBody pieces.now }
-    ensures { IfOk result (λ places. places ≡ spec.op_places ends.now pieces.now) }
+    ensures { OnOk result (places.new.items ≡ places.old.items ++ spec.op_places ends.now pieces.now) }
 {
-    let mut places = Vec::with_capacity(alloc, pieces.len())?;
+    places.reserve_exact(pieces.len())?;
     for piece in pieces {
-        push_place(&mut places, ends, *piece)?;
+        push_place(places, ends, *piece)?;
     }
-    Ok(LinePlaces::from_vec(places))
+    Ok(())
 }

@@ -7,7 +7,7 @@ ghost use Rattle.transcript.specs.Lines as spec;
 use crate::line::{OpLine, OpResult};
 
 /// Whether an operation was executed without a fault.
-fn is_good(came_to: &OpResult) -> bool
+pub(crate) fn is_good(came_to: &OpResult) -> bool
     ensures { result ≡ of_results.is_good came_to.now }
 {
     matches!(

@@ -1,6 +1,7 @@
 //! The text of a transcript.
 
 ghost use Rattle.std.specs.Prelude.{◌≡◌, ◌+◌, ◌++◌, ◌<◌, map, IfOk, OnOk, string_bytes, codes};
+ghost use Rattle.transcript.specs.Steps.{unsent_line};
 ghost use Rattle.transcript.specs.Text as spec;
 
 use crate::line::{BoardLine, OpLine, OpResult};
@@ -41,7 +42,7 @@ fn verb_text(verb: Verb) -> &'static str
 }
 
 /// `= 0xW 0xW ..`
-fn push_value(text: &mut String, words: &[u32]) -> Result<(), NoMemory>
+pub(crate) fn push_value(text: &mut String, words: &[u32]) -> Result<(), NoMemory>
     ensures { OnOk result (string_bytes text.new
         ≡ string_bytes text.old ++ (codes "=" ++ spec.words_text words.now)) }
 {
@@ -73,7 +74,7 @@ fn push_timeout(text: &mut String, rounds: u8) -> Result<(), NoMemory>
 }
 
 /// What an operation came to.
-fn push_result(text: &mut String, came_to: &OpResult) -> Result<(), NoMemory>
+pub(crate) fn push_result(text: &mut String, came_to: &OpResult) -> Result<(), NoMemory>
     ensures { OnOk result (string_bytes text.new ≡ string_bytes text.old ++ spec.result_text came_to.now) }
 {
     match came_to {
@@ -109,7 +110,7 @@ fn push_more_places(text: &mut String, places: &[(u64, u16)]) -> Result<(), NoMe
 }
 
 /// The places of an operation, behind an at sign, where it has any.
-fn push_places(text: &mut String, places: &[(u64, u16)]) -> Result<(), NoMemory>
+pub(crate) fn push_places(text: &mut String, places: &[(u64, u16)]) -> Result<(), NoMemory>
     ensures { OnOk result (string_bytes text.new ≡ string_bytes text.old ++ spec.places_text places.now) }
 {
     match places {
@@ -123,13 +124,17 @@ fn push_places(text: &mut String, places: &[(u64, u16)]) -> Result<(), NoMemory>
 }
 
 /// What stands before the result: number, verb and register.
-fn push_asked(text: &mut String, line: &OpLine) -> Result<(), NoMemory>
-    ensures { OnOk result (string_bytes text.new ≡ string_bytes text.old ++ spec.asked_text line.now) }
+pub(crate) fn push_asked(
+    text: &mut String,
+    number: u32,
+    verb: Verb,
+    board: &str,
+    name: &str,
+) -> Result<(), NoMemory>
+    ensures { OnOk result (string_bytes text.new
+        ≡ string_bytes text.old ++ spec.asked_text (unsent_line number verb board.now name.now)) }
 {
-    let number = line.number;
-    let verb = verb_text(line.verb);
-    let board = line.board.as_str();
-    let name = line.name.as_str();
+    let verb = verb_text(verb);
     Ok(write!(text, "{number} {verb} {board}:{name} ")?)
 }
 
@@ -137,7 +142,8 @@ fn push_asked(text: &mut String, line: &OpLine) -> Result<(), NoMemory>
 fn push_line(text: &mut String, line: &OpLine) -> Result<(), NoMemory>
     ensures { OnOk result (string_bytes text.new ≡ string_bytes text.old ++ spec.line_text line.now) }
 {
-    push_asked(text, line)?;
+    let board = line.board.as_str();
+    push_asked(text, line.number, line.verb, board, line.name.as_str())?;
     push_result(text, &line.result)?;
     push_places(text, line.places.as_slice())?;
     Ok(text.push_str("\n")?)
@@ -153,7 +159,7 @@ pub fn line_text(alloc: Global, line: &OpLine) -> Result<Vec<u8>, NoMemory>
 }
 
 /// The heading of a client, whose number counts from 1.
-fn push_heading(text: &mut String, client: u64) -> Result<(), NoMemory>
+pub(crate) fn push_heading(text: &mut String, client: u64) -> Result<(), NoMemory>
     ensures { OnOk result (string_bytes text.new ≡ string_bytes text.old ++ spec.heading client) }
 {
     Ok(write!(text, "client {client}\n")?)

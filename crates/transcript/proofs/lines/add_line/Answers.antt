@@ -1,30 +1,18 @@
-use Rattle.std.proofs.Common.{◌<◌, length, ◌∙◌, arith, append-nil}
+use Rattle.std.proofs.Common.{◌∙◌, arith, append-nil}
 use Rattle.std.proofs.lemmas.Grind.{common_steps}
-use Rattle.std.proofs.lemmas.List.{get_or_default}
 use Rattle.std.proofs.lemmas.Option.{gets}
 use Rattle.transcript.specs.Steps.{ends_on}
 use Rattle.script_plans.proofs.Lookups.{same_read}
 use Rattle.transcript.proofs.lines.add_line.Goals as goal
 
-pub returns-in_default-get-clause-lines : goal.returns-in_default-get-clause-lines
-returns-in_default-get-clause-lines c = grind (arith, common_steps, gets, append-nil)
+pub returns-in_default-clause-lines : goal.returns-in_default-clause-lines
+returns-in_default-clause-lines c = grind (arith, common_steps, gets, append-nil)
 
 pub line_on-requires : goal.line_on-requires
 line_on-requires c =
     c.as_slice-ends.ensures.value
     ∙ same_read (λ ends. ends.items) (ends_on c.args.client) c.args.ends.now c.args.runs.now c.args.op.now.board _ _
-    c.requires.ends c.in-Some-get.ensures.lookup.3.0 c.index-ends-board.is c.in-Some-get.ensures.lookup.1
-
-pub overflow_add-k : goal.overflow_add-k
-overflow_add-k c =
-    let within : c.args.op.now.board < length c.args.progress.now.counts.items = omega
-    (arith, c.in-Some-get.ensures.lookup.3.0) in
-    omega (
-      arith,
-      c.requires.below c.args.op.now.board,
-      c.index-k.ensures ∙ get_or_default c.args.progress.now.counts.items c.args.op.now.board c.index-k.result.now 0
-          within,
-    )
+    c.requires.ends c.in-Some.ensures.lookup.3.0 c.index-ends-board.is c.in-Some.ensures.lookup.1
 
 pub returns-clause-lines : goal.returns-clause-lines
 returns-clause-lines c = grind (arith, common_steps, gets)

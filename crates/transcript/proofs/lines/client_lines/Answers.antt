@@ -8,8 +8,8 @@ use Rattle.transcript.proofs.lines.client_lines.Goals.{in-Do+in_ok-add_line, in_
 pub loop-step-preserved : goal.loop-step-preserved
 loop-step-preserved c =
     let Holds : Progress → Type 0 =
-    λ p. IsProgress c.args.runs.now c.args.client c.args.steps.now (c.loop-step.step-index + 1) p.lines.items p.number
-    p.counts.items in
+    λ p. IsProgress c.args.runs.now c.args.client c.args.steps.now (c.loop-step.step-index + 1) p.lines.items
+    p.counts.number p.counts.on_boards.items in
     elim c.match-step.branch [
       | in-Do+in_ok-add_line w ↦ subst Holds (sym w.progress-is) (
           rw (w.in_ok-add_line.ensures.lines, w.in_ok-add_line.ensures.number, w.in_ok-add_line.ensures.counts)
