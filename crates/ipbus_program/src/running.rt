@@ -1,6 +1,6 @@
 //! What a command makes of the bytes of a document.
 
-ghost use Rattle.std.specs.Prelude.{◌≡◌, ◌≢◌, ◌≤◌, ℕ, List, [], Err, IfOk, map};
+ghost use Rattle.std.specs.Prelude.{◌≡◌, ◌≢◌, ◌≤◌, if◌then◌else◌, ℕ, List, [], Err, IfOk};
 ghost use Rattle.ipb_base.specs.Faults.{Rose};
 ghost use Rattle.session_input.specs.Lines.{refusal_line};
 ghost use Rattle.board_greeting.specs.Links.{Keeps};
@@ -36,7 +36,7 @@ use std::alloc::Global;
 use std::marker::Sync;
 use std::sync::Wait;
 use std::thread::Threads;
-use transcript::{OpLine, all_good, board_lines, lines_of_clients, listing_text, transcript_text};
+use transcript::{listing_text, print_runs};
 
 /// What a command answers to the bytes of a document.
 pub(crate) fn answer_to<R: Rack, D: Door, T: Threads + Wait + Sync, G: Gate>(
@@ -180,20 +180,16 @@ fn printed(alloc: Global, runs: &[BoardRun], steps: &[Steps]) -> Result<Answer, 
     ensures status { IfOk result (λ answer. answer.status
         ≡ lines.run_status (lines.transcript_of steps.now runs.now).clients) }
 {
-    let clients = lines_of_clients(alloc, runs, steps)?;
-    let boards = board_lines(alloc, runs)?;
-    let text = transcript_text(alloc, &clients, &boards)?;
-    let status = run_status(&clients);
-    Ok(Answer { status, text })
+    let printed = print_runs(alloc, runs, steps)?;
+    Ok(Answer {
+        status: run_status(printed.all_good),
+        text: printed.text,
+    })
 }
 
 /// 0 where every line is a value, `done` or `was`.
-fn run_status(clients: &[Vec<OpLine>]) -> u8
-    ensures { result ≡ lines.run_status (map (λ client. client.items) clients.now) }
+fn run_status(all_good: bool) -> u8
+    ensures { result ≡ (if all_good then 0 else 1) }
 {
-    if all_good(clients) {
-        DONE
-    } else {
-        NOT_ALL_DONE
-    }
+    if all_good { DONE } else { NOT_ALL_DONE }
 }
