@@ -31,14 +31,29 @@ static int joined(int kind, int port) {
     return fd;
 }
 
-static int request_bytes, reply_bytes, words, port, asks;
+enum { REQUEST_BYTES = 20, MOST_AHEAD = 64 };
 
-/* a server that answers as many bytes as a hub: one thread for each connection */
+static int reply_bytes, words, port, asks, ahead;
+
+static void write_all(int fd, const unsigned char *bytes, int count) {
+    for (int done = 0; done < count;) {
+        int wrote = write(fd, bytes + done, count - done);
+        need(wrote > 0, "write");
+        done += wrote;
+    }
+}
+
+/* a server that answers as many bytes as a hub: one thread for each connection, and one write for what came in a read */
 static void *answer_all(void *given) {
-    int one = 1, fd = (int)(intptr_t)given;
-    unsigned char buf[MOST] = {0}, reply[MOST] = {0};
+    static unsigned char replies[MOST_AHEAD * MOST];
+    int one = 1, fd = (int)(intptr_t)given, got = 0, count;
+    unsigned char buf[MOST_AHEAD * REQUEST_BYTES];
     setsockopt(fd, IPPROTO_TCP, TCP_NODELAY, &one, sizeof one);
-    while (take(fd, buf, request_bytes)) need(write(fd, reply, reply_bytes) == reply_bytes, "write");
+    while ((count = read(fd, buf, sizeof buf)) > 0) {
+        got += count;
+        write_all(fd, replies, got / REQUEST_BYTES * reply_bytes);
+        got %= REQUEST_BYTES;
+    }
     close(fd);
     return 0;
 }
@@ -55,18 +70,28 @@ static void answer_streams(void) {
     }
 }
 
-/* a client that asks a hub, or that server, for so many words of board 0 */
+/* A client that asks a hub, or that server, for so many words of board 0, with so many requests under way: as many as
+   were answered in a read are asked next, in one write. */
 static void *ask_all(void *given) {
-    int fd = (int)(intptr_t)given;
-    unsigned char frame[20], reply[MOST];
-    put(frame, 16);
-    put(frame + 4, 0);
-    put(frame + 8, 0x200000f0);
-    put(frame + 12, 0x2000000f | words << 8);
-    put(frame + 16, 0);
-    for (int i = 0; i < asks; i++) {
-        need(write(fd, frame, 20) == 20, "write");
-        need(take(fd, reply, reply_bytes), "read");
+    int fd = (int)(intptr_t)given, sent = 0, done = 0, got = 0, next = ahead;
+    unsigned char frames[MOST_AHEAD * REQUEST_BYTES], replies[4 * MOST];
+    for (int i = 0; i < ahead; i++) {
+        unsigned char *frame = frames + i * REQUEST_BYTES;
+        put(frame, 16);
+        put(frame + 4, 0);
+        put(frame + 8, 0x200000f0);
+        put(frame + 12, 0x2000000f | words << 8);
+        put(frame + 16, 0);
+    }
+    while (done < asks) {
+        if (next > asks - sent) next = asks - sent;
+        write_all(fd, frames, next * REQUEST_BYTES);
+        sent += next;
+        int count = read(fd, replies, sizeof replies);
+        need(count > 0, "read");
+        next = (got + count) / reply_bytes;
+        got = (got + count) % reply_bytes;
+        done += next;
     }
     return 0;
 }
@@ -132,13 +157,14 @@ static void ask_board(void) {
 }
 
 int main(int count, char **args) {
-    need(count == 6, "five words");
+    need(count == 7, "six words");
     const char *what = args[1];
     port = atoi(args[2]);
     words = atoi(args[3]);
     int connections = atoi(args[4]);
     asks = atoi(args[5]);
-    request_bytes = 20;
+    ahead = atoi(args[6]);
+    need(ahead >= 1 && ahead <= MOST_AHEAD, "requests under way");
     reply_bytes = 20 + 4 * words;
     if (!strcmp(what, "server")) answer_streams();
     if (!strcmp(what, "client")) ask_streams(connections);
