@@ -1,11 +1,12 @@
-/* A hub as one would write it by hand, with no proof, for the times of `ipbus` beside it. It prints the same text.
+/* A hub as one would write it by hand, with no proof, for the times of `ipbus` beside it. It prints the same text. With
+   --keep in front of the other words it keeps to its end all that the definitions of the proved hub speak of (kept.h).
 
-     plain_hub load COUNT                        the work of `ipbus load COUNT`
-     plain_hub run CLIENTS BOARDS READS EACH IN_TURN SEED
+     plain_hub [--keep] load COUNT               the work of `ipbus load COUNT`
+     plain_hub [--keep] run CLIENTS BOARDS READS EACH IN_TURN SEED
          the work of `ipbus run` on a session of so many one-word reads, which the clients share, with a dispatch after
          EACH of them (0: none but the last): client n on board n modulo BOARDS, or on the boards IN_TURN (1); over
          links with the noise SEED, SEED + 1 and so on, or that lose nothing (-1)
-     plain_hub serve PORT CONNECTIONS UDP_PORT
+     plain_hub [--keep] serve PORT CONNECTIONS UDP_PORT
          the work of `ipbus serve`, at a simulated board, or one on a port (not 0)
 
    A thread for each client or connection; they share a lane for each board behind a lock. Packets are written and read
@@ -22,7 +23,7 @@
 
 #include "plain_lane.h"
 
-enum { MOST_CLIENTS = 64, LOAD_CLIENTS = 4, READS_OF_A_PACKET = (PACKET / 4 - 1) / 2, READ_ADDRESS = 4 };
+enum { LOAD_CLIENTS = 4, READS_OF_A_PACKET = (PACKET / 4 - 1) / 2, READ_ADDRESS = 4 };
 
 /* ---- load */
 
@@ -53,7 +54,7 @@ static void *add_all(void *given) {
         body.length = 0;
         put(put_request(&body, 0, RMW_SUM, 0), 1);
         body.length += 4;
-        perform(lanes, &body, 1);
+        perform(lanes, client->number, &body, 1);
         int is_done = body.outcome == REPLIED && body.reply_length == 8
             && word(body.reply) == (0x20000000 | 1 << 8 | RMW_SUM << 4);
         client->done += is_done;
@@ -63,8 +64,10 @@ static void *add_all(void *given) {
 }
 
 static void start(int count, void *(*work)(void *)) {
-    for (int i = 0; i < count; i++)
+    for (int i = 0; i < count; i++) {
+        clients[i].number = i;
         need(pthread_create(&clients[i].thread, 0, work, clients + i) == 0, "no thread");
+    }
     for (int i = 0; i < count; i++) pthread_join(clients[i].thread, 0);
 }
 
@@ -110,7 +113,7 @@ static void *read_all(void *given) {
             if (index == 0) body->length = 0;
             put_request(body, index, READ, READ_ADDRESS);
         }
-        perform(lanes + board, client->bodies, count);
+        perform(lanes + board, client->number, client->bodies, count);
         for (int i = 0; i < count; i++) {
             uint32_t first = i * READS_OF_A_PACKET, rest = reads - first;
             int here = rest < READS_OF_A_PACKET ? rest : READS_OF_A_PACKET;
@@ -129,7 +132,6 @@ static int run(int count, int board_count, uint32_t reads, uint32_t each, int in
     goes_in_turn = in_turn;
     for (int i = 0; i < count; i++) {
         struct client *client = clients + i;
-        client->number = i;
         client->share = reads / count;
         uint32_t longest = each ? each : client->share;
         client->results = calloc(client->share, sizeof *client->results);
@@ -166,7 +168,7 @@ static void *serve_one(void *given) {
         if (code == 0) {
             body.length = length - 4;
             memcpy(body.request, frame + 12, body.length);
-            perform(lanes + board, &body, 1);
+            perform(lanes + board, client->number, &body, 1);
             code = body.outcome == REPLIED ? 0 : body.outcome == TIMED_OUT ? 1 : 2;
         }
         if (code == 0) {
@@ -198,6 +200,7 @@ static int serve(int port, int count, int udp_port) {
     need(bind(door, (struct sockaddr *)&at, sizeof at) == 0 && listen(door, MOST_CLIENTS) == 0, "the port");
     need(count >= 1 && count <= MOST_CLIENTS, "connections");
     for (int i = 0; i < count; i++) {
+        clients[i].number = i;
         clients[i].fd = accept(door, 0, 0);
         need(clients[i].fd >= 0, "accept");
         setsockopt(clients[i].fd, IPPROTO_TCP, TCP_NODELAY, &one, sizeof one);
@@ -210,13 +213,22 @@ static int serve(int port, int count, int udp_port) {
     return 0;
 }
 
-int main(int count, char **words) {
-    const char *what = count > 1 ? words[1] : "";
+static int work(int count, char **words) {
+    const char *what = count > 0 ? words[0] : "";
     long numbers[6] = {0};
-    for (int i = 2; i < count && i < 8; i++) numbers[i - 2] = strtol(words[i], 0, 10);
-    if (count == 3 && !strcmp(what, "load")) return load(numbers[0]);
-    if (count == 8 && !strcmp(what, "run"))
+    for (int i = 1; i < count && i < 7; i++) numbers[i - 1] = strtol(words[i], 0, 10);
+    if (count == 2 && !strcmp(what, "load")) return load(numbers[0]);
+    if (count == 7 && !strcmp(what, "run"))
         return run(numbers[0], numbers[1], numbers[2], numbers[3], numbers[4], numbers[5]);
-    if (count == 5 && !strcmp(what, "serve")) return serve(numbers[0], numbers[1], numbers[2]);
-    need(0, "usage: plain_hub load COUNT | run CLIENTS BOARDS READS EACH IN_TURN SEED | serve PORT COUNT UDP_PORT");
+    if (count == 4 && !strcmp(what, "serve")) return serve(numbers[0], numbers[1], numbers[2]);
+    need(0, "usage: plain_hub [--keep] load COUNT | run CLIENTS BOARDS READS EACH IN_TURN SEED"
+            " | serve PORT COUNT UDP_PORT");
+    return 1;
+}
+
+int main(int count, char **words) {
+    keeps = count > 1 && !strcmp(words[1], "--keep");
+    int status = work(count - 1 - keeps, words + 1 + keeps);
+    for (int i = 0; keeps && i < boards; i++) need(has_kept_all(lanes + i), "something is not kept");
+    return status;
 }

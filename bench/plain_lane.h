@@ -1,6 +1,6 @@
 /* The lane of one board, for plain_hub.c: a link, which is simulated with noise or a socket, the board behind a
    simulated one, and the hub's side of the board. Whoever calls `perform` waits, and pumps the lane while nobody else
-   does. */
+   does. Where `keeps` is set, all that happens is kept to the end. */
 #include <arpa/inet.h>
 #include <poll.h>
 #include <pthread.h>
@@ -12,10 +12,12 @@
 #include <sys/socket.h>
 
 #include "bytes.h"
+#include "kept.h"
 
 enum {
     MTU = 1500, PACKET = MTU - 28, BUFFERS = 16, CELLS = 256, WINDOW = 16, ROUNDS = 255, MOST_BOARDS = 16,
-    IDENTIFIERS = 65535, LIFETIME = 32768, QUEUE = 256, LATE = 16, STATUS = 64, WAIT = 1000
+    IDENTIFIERS = 65535, LIFETIME = 32768, QUEUE = 256, LATE = 16, STATUS = 64, WAIT = 1000,
+    MOST_CLIENTS = 64
 };
 enum { READ, WRITE, READ_PORT, WRITE_PORT, RMW_BITS, RMW_SUM };
 enum { CONTROL, STATUS_PACKET, RESEND };
@@ -46,16 +48,16 @@ static int id_at(int first, uint64_t place) {
 /* ---- what belongs to one board */
 
 struct datagram {
-    uint64_t birth, due;
+    uint64_t birth, due, number;
     int is_for_board, length;
     unsigned char bytes[PACKET];
 };
 
-/* one packet of a client: its request and what came of it */
+/* one packet of a client: its request and what came of it; its number among those of its client and of the lane */
 struct body {
     enum outcome outcome;
     int length, reply_length;
-    uint64_t place;
+    uint64_t place, seq, ask;
     unsigned char request[PACKET], reply[PACKET];
 };
 
@@ -81,12 +83,14 @@ struct lane {
     struct body **asked;
     uint64_t asked_front, asked_back, asked_room;
     struct place places[WINDOW];
-    uint64_t sent, low, replied;
+    uint64_t sent, low, replied, give_ups;
     int first, wants_status, round_number, gave_up;
+    uint64_t asked_of[MOST_CLIENTS];
+    struct kept kept;
 };
 
 static struct lane *lanes;
-static int boards;
+static int boards, keeps;
 
 /* ---- the link */
 
@@ -116,9 +120,11 @@ static void send_datagram(struct lane *lane, int is_for_board, const unsigned ch
     }
     struct datagram it;
     it.birth = lane->first_sends;
+    it.number = lane->numbers;
     it.is_for_board = is_for_board;
     it.length = length;
     memcpy(it.bytes, bytes, length);
+    if (keeps) keep_datagram(&lane->kept, is_for_board, it.birth, bytes, length);
     char fate = lane->is_noisy ? fates[noise(lane) % 16] : 'd';
     lane->numbers++;
     if (fate == 'd' || fate == 'r') arrive(lane, &it);
@@ -198,6 +204,7 @@ static void board_hear(struct lane *lane, const unsigned char *packet, int lengt
                 send_datagram(lane, 0, lane->replies[i].bytes, lane->replies[i].length);
     } else if (type == CONTROL && id == lane->expected) {
         int made = 4 + execute(lane, packet + 4, length - 4, out + 4), slot = lane->executed++ % BUFFERS;
+        if (keeps) keep_executed(&lane->kept, packet + 4, length - 4);
         put(out, header(id, CONTROL));
         memcpy(lane->replies[slot].bytes, out, made);
         lane->replies[slot].id = id;
@@ -218,7 +225,10 @@ static const struct datagram *receive(struct lane *lane) {
     while (lane->queue_front < lane->queue_back) {
         const struct datagram *it = lane->queue + lane->queue_front++ % QUEUE;
         if (lane->first_sends - it->birth > LIFETIME) continue;
-        if (!it->is_for_board) return it;
+        if (!it->is_for_board) {
+            if (keeps) keep_heard(&lane->kept, it->number);
+            return it;
+        }
         board_hear(lane, it->bytes, it->length);
     }
     return 0;
@@ -271,6 +281,15 @@ static int send_next(struct lane *lane) {
     return 1;
 }
 
+/* something came of a body */
+static void settle(struct lane *lane, struct body *body, enum outcome outcome) {
+    body->outcome = outcome;
+    if (!keeps) return;
+    uint64_t place = outcome == UNSENT ? 0 : body->place;
+    int length = outcome == REPLIED ? body->reply_length : 0;
+    keep_outcome(&lane->kept, body->ask, outcome, place, body->reply, length);
+}
+
 static void hear_reply(struct lane *lane, int id, const unsigned char *reply, int length) {
     for (uint64_t at = lane->low; at <= lane->sent; at++) {
         struct place *place = lane->places + at % WINDOW;
@@ -280,7 +299,7 @@ static void hear_reply(struct lane *lane, int id, const unsigned char *reply, in
         if (place->body) {
             memcpy(place->body->reply, reply, length);
             place->body->reply_length = length;
-            place->body->outcome = REPLIED;
+            settle(lane, place->body, REPLIED);
             lane->replied++;
         }
         break;
@@ -309,14 +328,15 @@ static void hear_quiet(struct lane *lane) {
     }
     for (uint64_t at = lane->low; at <= lane->sent; at++) {
         struct place *place = lane->places + at % WINDOW;
-        if (place->body && place->is_open) place->body->outcome = TIMED_OUT;
+        if (place->body && place->is_open) settle(lane, place->body, TIMED_OUT);
         place->body = 0;
         place->wants_resend = place->wants_control = 0;
     }
     while (lane->asked_front < lane->asked_back)
-        lane->asked[lane->asked_front++ % lane->asked_room]->outcome = UNSENT;
+        settle(lane, lane->asked[lane->asked_front++ % lane->asked_room], UNSENT);
     lane->wants_status = lane->round_number = 0;
     lane->gave_up = 1;
+    lane->give_ups++;
 }
 
 /* all that is to be sent, and then one datagram */
@@ -344,8 +364,10 @@ static void make_room(struct lane *lane) {
     lane->asked_room = room;
 }
 
-static void ask(struct lane *lane, struct body *body) {
+static void ask(struct lane *lane, int client, struct body *body) {
     body->outcome = WAITING;
+    body->seq = lane->asked_of[client]++;
+    if (keeps) body->ask = keep_ask(&lane->kept, client, body->seq, lane->give_ups, body->request, body->length);
     if (lane->asked_back - lane->asked_front == lane->asked_room) make_room(lane);
     lane->asked[lane->asked_back++ % lane->asked_room] = body;
     for (uint64_t at = lane->low; lane->gave_up && at <= lane->sent; at++)
@@ -353,15 +375,20 @@ static void ask(struct lane *lane, struct body *body) {
     lane->gave_up = 0;
 }
 
-/* asks for bodies, one after the other, and waits until something came of each */
-static void perform(struct lane *lane, struct body *bodies, int count) {
+static void take_outcome(struct lane *lane, int client, const struct body *body) {
+    if (keeps)
+        keep_entry(&lane->kept, (struct kept_entry){TAKEN, client, body->seq, body->ask, lane->give_ups, {0, 0}});
+}
+
+/* a client asks for bodies, one after the other, and waits until something came of each */
+static void perform(struct lane *lane, int client, struct body *bodies, int count) {
     pthread_mutex_lock(&lane->lock);
-    for (int i = 0; i < count; i++) ask(lane, bodies + i);
+    for (int i = 0; i < count; i++) ask(lane, client, bodies + i);
     pthread_mutex_unlock(&lane->lock);
     for (int settled = 0; settled < count;) {
         pthread_mutex_lock(&lane->lock);
         if (bodies[settled].outcome == WAITING) pump(lane);
-        while (settled < count && bodies[settled].outcome != WAITING) settled++;
+        while (settled < count && bodies[settled].outcome != WAITING) take_outcome(lane, client, bodies + settled++);
         pthread_mutex_unlock(&lane->lock);
     }
 }
@@ -394,4 +421,11 @@ static void open_lanes(int count, long seed, int fd) {
         noise(lane);
         need(greet(lane), "the board is silent");
     }
+}
+
+/* whether all is kept that there was; over a socket no air and no board is seen */
+static int has_kept_all(const struct lane *lane) {
+    const struct kept *kept = &lane->kept;
+    return kept->datagrams.count == lane->numbers && kept->executed.count == (size_t)lane->executed
+        && kept->outcomes.count == lane->asked_back && kept->entries.count == 3 * kept->outcomes.count;
 }

@@ -105,6 +105,12 @@ def plain_hub(folder):
     return compiled(folder, BENCH / "plain_hub.c")
 
 
+def hubs_in_c(plain):
+    """The forms of the plain hub by their names in a table: their first words. The second keeps to its end what the
+    definitions of the program speak of."""
+    return {"a hub in C": [plain], "a hub in C that keeps the same": [plain, "--keep"]}
+
+
 def copy_of_crates(folder):
     for name in ("crates.txt", "HANDLES"):
         shutil.copy(TOP / name, folder / name)
