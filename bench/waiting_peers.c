@@ -175,30 +175,30 @@ static void ask_for(int port, int connections, double seconds) {
     for (int i = 0; i < connections; i++) printf("%ld %.6f\n", answers[i], greatest[i]);
 }
 
-/* Bursts of 2 to all connections, which ask once each. How long the longest took until all were told, and how many
-   clients it had. */
-static void ask_in_bursts(int port, int connections, int bursts) {
-    double longest = 0;
-    int clients = 0;
+/* So many bursts of 2 to all connections, which ask once each, or those that begin within so many seconds. How long the
+   longest took until all were told, how many clients it had, and how many bursts there were. */
+static void ask_in_bursts(int port, int connections, int bursts, double seconds) {
+    double longest = 0, end = now() + seconds;
+    int clients = 0, done = 0;
     join_hub(port, connections);
     srand(1);
-    for (int i = 0; i < bursts; i++) {
+    for (; done < bursts && now() < end; done++) {
         int count = 2 + rand() % (connections - 1);
         double began = now();
         together(0, count, ask_once);
         double took = now() - began;
         if (took > longest) longest = took, clients = count;
     }
-    printf("%.6f %d\n", longest, clients);
+    printf("%.6f %d %d\n", longest, clients, done);
 }
 
 int main(int count, char **args) {
-    need(count == 5, "four words");
+    need(count == 5 || count == 6, "four words, or five");
     int port = atoi(args[2]);
     double number = atof(args[4]);
     if (!strcmp(args[1], "board")) be_board(port, 1e-3 * atof(args[3]), (long)number);
     if (!strcmp(args[1], "pings")) ask_board(port, atoi(args[3]), number);
     if (!strcmp(args[1], "clients")) ask_for(port, atoi(args[3]), number);
-    if (!strcmp(args[1], "bursts")) ask_in_bursts(port, atoi(args[3]), (int)number);
+    if (!strcmp(args[1], "bursts")) ask_in_bursts(port, atoi(args[3]), (int)number, atof(args[5]));
     return 0;
 }
