@@ -1,6 +1,7 @@
 ghost use Rattle.std.specs.Prelude.{◌≡◌, ◌<◌, Some, length, map, slice_get};
 ghost use Rattle.mtu_packer.specs.Span.{span_places, AreWithin};
 
+use smallvec::SmallVec;
 use std::marker::Model;
 use transaction_codec::Words;
 
@@ -14,7 +15,7 @@ pub struct Piece {
 }
 
 /// Which places belong to one operation.
-#[derive(Clone, Copy)]
+#[derive(Clone, Copy, Default)]
 pub(crate) struct Span {
     pub(crate) start: u32,
     pub(crate) end: u32,
@@ -25,7 +26,8 @@ pub(crate) struct Span {
 #[derive(Drop)]
 pub struct Places {
     places: Vec<Piece>,
-    spans: Vec<Span>,
+    // few of them stand in the value itself, as those of a dispatch of few operations
+    spans: SmallVec<Span, 4>,
 }
 
 impl Model for Places {
@@ -41,7 +43,7 @@ impl Model for Places {
 }
 
 impl Places {
-    pub(crate) fn new(places: Vec<Piece>, spans: Vec<Span>) -> Places
+    pub(crate) fn new(places: Vec<Piece>, spans: SmallVec<Span, 4>) -> Places
         requires { AreWithin (length places.items) spans.items }
         ensures { result ≡ map (span_places places.items) spans.items }
     {
@@ -53,7 +55,7 @@ impl Places {
         requires { op < length self.now }
         ensures { slice_get self.now op ≡ Some result.now }
     {
-        let span = self.spans[op];
+        let span = self.spans.as_slice()[op];
         &self.places.as_slice()[span.start as usize..span.end as usize]
     }
 }

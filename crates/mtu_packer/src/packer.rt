@@ -12,6 +12,7 @@ ghost use Rattle.mtu_packer.specs.Progress.{IsWithin, FitsAlone, step, run};
 
 use crate::cutting::{HEADERS, piece, piece_count};
 use crate::packed::{Packed, Piece, Places, Span};
+use smallvec::SmallVec;
 use std::alloc::Global;
 use std::marker::Model;
 use std::mem;
@@ -140,7 +141,7 @@ impl Packer {
     }
 
     /// Closes the last body. Each operation has the places of its span.
-    pub(crate) fn finish(mut self, spans: Vec<Span>) -> Result<Packed, NoMemory>
+    pub(crate) fn finish(mut self, spans: SmallVec<Span, 4>) -> Result<Packed, NoMemory>
         requires within { IsWithin self }
         requires spans { AreWithin (length self.places) spans.items }
         ensures bodies { IfOk result (λ packed. packed.bodies ≡ progress.all_bodies self) }

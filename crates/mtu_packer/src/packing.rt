@@ -5,6 +5,7 @@ ghost use Rattle.mtu_packer.specs.Packed.{FitsPackets, IsPacked};
 
 use crate::packed::{Packed, Span};
 use crate::packer::Packer;
+use smallvec::SmallVec;
 use std::alloc::Global;
 use transaction_codec::{NoMemory, Op};
 
@@ -33,7 +34,8 @@ pub fn pack(alloc: Global, ops: &[Op], payload: u32) -> Result<Packed, NoMemory>
     ensures room { IfOk result (λ packed. AllByRecursion (FitsPackets payload) packed.bodies) }
 {
     let mut packer = Packer::new(alloc, payload);
-    let mut spans = Vec::with_capacity(alloc, ops.len())?;
+    let mut spans = SmallVec::new(alloc);
+    spans.reserve(ops.len())?;
     let mut start = 0;
     for op in ops {
         let end = packer.push_op(op)?;

@@ -19,7 +19,7 @@ loop-op-preserved c =
     pushed.taken pushed.within in
     let end_is = pushed.places ∙ next.places in
     subst (λ spans. Underway c.args.ops.now c.args.payload (c.loop-op.op-index + 1) after spans c.in_ok-end.end)
-    (sym c.in_ok-push.ensures.items)
+    (sym c.in_ok-push.ensures.ok)
     (subst (λ n. Underway c.args.ops.now c.args.payload (c.loop-op.op-index + 1) after (c.loop-op.spans.items
     ++ record { start = start; end = n } ∷ []) n) (sym end_is) next)
 
