@@ -2,8 +2,6 @@ mod Seats
 mod Passes
 mod Packets
 mod Entries
-mod Results
-mod Waiting
 mod Connections
 mod Told
 mod Replies
