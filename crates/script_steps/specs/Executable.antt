@@ -6,7 +6,7 @@ use Rattle.transaction_codec.specs.declared.request.Op.TheVariants as ops
 use Rattle.mtu_packer.specs.Cutting.{CanBeCut, HasWords}
 use Rattle.script_steps.specs.declared.operation.RegOp.{RegOp}
 use Rattle.script_steps.specs.declared.operation.Step.{Step}
-use Rattle.script_steps.specs.declared.operation.Step.TheVariants.{Do, Dispatch}
+use Rattle.script_steps.specs.declared.operation.Step.TheVariants.{Do, Denied, Dispatch}
 use Rattle.script_steps.specs.declared.operation.Verb.{Verb}
 use Rattle.script_steps.specs.declared.operation.Verb.TheVariants.{Read, Write, ReadBlock, WriteBlock, RmwBits, RmwSum}
 
@@ -37,6 +37,7 @@ pub record CanBeAsked (op : RegOp) : Type 0 where
 
 abbrev pub CanBeDone : Step → Type 0
 CanBeDone (Do op) = CanBeAsked op
+CanBeDone (Denied rule op) = Unit {0}
 CanBeDone Dispatch = Unit {0}
 
 -- so can each operation of a client

@@ -6,16 +6,18 @@ use Rattle.mtu_packer.specs.declared.packing.TheConstants.{MIN_PAYLOAD}
 use Rattle.transaction_codec.specs.declared.request.Op.{Op}
 use Rattle.transaction_codec.specs.Request.{op_count}
 use Rattle.script_steps.specs.declared.operation.Step.{Step}
-use Rattle.script_steps.specs.declared.operation.Step.TheVariants.{Do, Dispatch}
+use Rattle.script_steps.specs.declared.operation.Step.TheVariants.{Do, Denied, Dispatch}
 use Rattle.script_steps.specs.declared.limits.TheConstants.{MAX_OPERATIONS, MAX_BLOCK_WORDS}
 
 -- An operation can be cut into pieces of any packets: a block has a word at least, and ends within 32 bits.
 abbrev pub CanBePacked : Step → Type 0
 CanBePacked (Do op) = CanBeCut op.op
+CanBePacked (Denied rule op) = Unit {0}
 CanBePacked Dispatch = Unit {0}
 
 abbrev pub operation_of : Step → Option Op
 operation_of (Do op) = Some op.op
+operation_of (Denied rule op) = None
 operation_of Dispatch = None
 
 -- the operations of steps, in order

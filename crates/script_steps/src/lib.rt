@@ -8,4 +8,4 @@ mod operation;
 
 pub use ipb_base::Text;
 pub use limits::{MAX_BLOCK_WORDS, MAX_OPERATIONS};
-pub use operation::{RegOp, Step, Steps, Verb};
+pub use operation::{Decision, RegOp, Step, Steps, Verb};

@@ -1,9 +1,11 @@
 //! What the lines of scripts become.
 
 ghost use Rattle.std.specs.Prelude.{◌≡◌};
+ghost use Rattle.script_steps.specs.Rulings.{ruled, ruled_step};
 
 use ipb_base::Text;
 use std::marker::Model;
+use std::mem;
 use transaction_codec::Op;
 
 /// The operations of a script (uHAL).
@@ -39,12 +41,38 @@ pub struct RegOp {
     pub op: Op,
 }
 
+/// What an access policy says of a step (profile).
+#[derive(Clone, Copy, PartialEq, Eq)]
+pub enum Decision {
+    Allowed,
+    /// The rule of this number, from 1, denies it; 0 where no rule of the policy decides.
+    Denied { rule: u32 },
+}
+
 /// What a client does.
 #[derive(Drop)]
 pub enum Step {
     Do(RegOp),
+    /// An operation that a policy denies, and the number of the rule: nothing of it is sent.
+    Denied { rule: u32, op: RegOp },
     /// The operations since the last dispatch are sent, and their outcomes awaited.
     Dispatch,
+}
+
+impl Step {
+    /// Puts the step under what a policy says of it. It takes no memory.
+    pub fn rule(&mut self, decision: Decision)
+        ensures { self.new ≡ ruled_step self.old decision }
+    {
+        let Decision::Denied { rule } = decision else {
+            return;
+        };
+        let ruled = match mem::replace(self, Step::Dispatch) {
+            Step::Do(op) => Step::Denied { rule, op },
+            step => step,
+        };
+        *self = ruled;
+    }
 }
 
 /// The steps of one client, in order. Contracts see that list.
@@ -83,5 +111,14 @@ impl Steps {
         ensures { result.now ≡ self.now }
     {
         self.items.as_slice()
+    }
+
+    /// Puts each step under the decision of its position. It takes no memory.
+    pub fn rule(&mut self, decisions: &[Decision])
+        ensures { self.new ≡ ruled self.old decisions.now }
+    {
+        for (step, decision) in self.items.iter_mut().zip(decisions) {
+            step.rule(*decision);
+        }
     }
 }
