@@ -1,0 +1,18 @@
+-- How the code names what it has cut and read so far. No public clause speaks of it.
+use Rattle.std.specs.Prelude.{◌≡◌, ℕ, List, [], ◌∷◌, Option, Some, None, slice_get}
+use Rattle.script_lang.specs.Walk.{Way}
+use Rattle.script_lang.specs.declared.steps.PathStep.TheVariants.{Key}
+use Rattle.access_policy.specs.Names.{parts_of}
+use Rattle.access_policy.specs.declared.rule_keys.Misfit.{Misfit}
+use Rattle.access_policy.specs.declared.rule_keys.Misfit.TheVariants.{AtRule, AtKey, NoMemory}
+
+-- the parts of what stands behind a dot, none where no dot is left
+abbrev pub parts_left : Option (List ℕ) → List (List ℕ)
+parts_left None = []
+parts_left (Some text) = parts_of text
+
+-- a fault of a rule tells the first of these places, want of memory aside
+abbrev pub TellsFirst : List Way → Misfit → Type 0
+TellsFirst ways AtRule = slice_get ways 0 ≡ Some []
+TellsFirst ways (AtKey key) = slice_get ways 0 ≡ Some (Key key ∷ [])
+TellsFirst ways NoMemory = Unit {0}
