@@ -1,2 +1,2 @@
-pub mod Ruling
-pub mod Denied
+mod Ruling
+mod Denied
