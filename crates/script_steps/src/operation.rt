@@ -114,11 +114,13 @@ impl Steps {
     }
 
     /// Puts each step under the decision of its position. It takes no memory.
+    #[tactic(auto, using(crate::proofs::Ruling::ruled_to_the_end))]
     pub fn rule(&mut self, decisions: &[Decision])
         ensures { self.new ≡ ruled self.old decisions.now }
     {
-        for (step, decision) in self.items.iter_mut().zip(decisions) {
-            step.rule(*decision);
+        let count = self.items.len().min(decisions.len());
+        for i in 0..count {
+            self.items[i].rule(decisions[i]);
         }
     }
 }
