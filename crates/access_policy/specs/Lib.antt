@@ -5,3 +5,4 @@ pub mod Reading
 pub mod Decisions
 pub mod Cutting
 pub mod Candidates
+pub mod Examples

@@ -1,6 +1,9 @@
 //! A rule in one line, as it is written.
 
 ghost use Rattle.std.specs.Prelude.{◌≡◌, ◌++◌, IfOk, OnOk, string_bytes};
+ghost use Rattle.std.specs.List.{join_with_byte};
+ghost use Rattle.node_tree.specs.Names.{dot};
+ghost use Rattle.access_policy.specs.Cutting.{with_part};
 ghost use Rattle.access_policy.specs.Spelling as spec;
 
 use crate::policy::{BoardPattern, Effect, ItemPattern, Pattern, Rule};
@@ -77,8 +80,24 @@ fn push_pattern(alloc: Global, text: &mut String, pattern: &Pattern) -> Result<(
     Ok(())
 }
 
+/// Items joined by dots, and `**` behind them where the rest of a name may be anything.
+fn items_text(alloc: Global, items: &[ItemPattern], rest: bool) -> Result<String, NoMemory>
+    ensures { IfOk result (λ text. string_bytes text ≡ join_with_byte dot (spec.item_texts items.now rest)) }
+{
+    let mut text = String::new(alloc);
+    for i in 0..items.len() {
+        let item = item_text(alloc, &items[i])?;
+        push_part(&mut text, i == 0, item.as_str())?;
+    }
+    if rest {
+        push_part(&mut text, items.is_empty(), "**")?;
+    }
+    Ok(text)
+}
+
 /// Adds a text to others, which dots part.
 fn push_part(text: &mut String, is_first: bool, part: &str) -> Result<(), NoMemory>
+    ensures { OnOk result (string_bytes text.new ≡ with_part is_first (string_bytes text.old) part.now) }
 {
     if !is_first {
         text.push_str(".")?;
