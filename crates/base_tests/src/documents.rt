@@ -36,3 +36,40 @@ board = [
   { name = "u", table = "t", link = "udp", address = "10.0.255.1:50001" },
 ]
 "#;
+
+/// A policy by which client 1 may not write the gains, everybody may use the channels, and all may be read; and a
+/// script of client 1.
+pub(crate) const GUARDED: &str = r#"
+format = 2
+[[policy]]
+effect = "deny"
+access = "w"
+name = "fe0:ch[*].gain"
+client = 1
+[[policy]]
+effect = "allow"
+access = "rw"
+name = "*:ch[*]"
+[[policy]]
+effect = "allow"
+access = "rw"
+name = "fe0:ch[*].**"
+[[policy]]
+effect = "allow"
+access = "r"
+name = "*:**"
+[[tables.front]]
+id = "id"
+[[tables.front]]
+id = "ch"
+address = 0x10
+count = 2
+stride = 4
+mode = "hierarchical"
+nodes = [{ id = "gain" }]
+[[board]]
+name = "fe0"
+table = "front"
+[[client]]
+script = ["write fe0:ch[1].gain 1", "dispatch", "rmwsum fe0:id 1"]
+"#;

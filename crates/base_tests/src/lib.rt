@@ -1,8 +1,11 @@
-//! Tests of the lower crates: packets, transactions, the bus, tables, documents, scripts, the outside and frames. What
+//! Tests of the lower crates: packets, transactions, the bus, tables, documents, scripts and policies, the outside and
+//! frames. What
 //! their clauses cannot say is run here: that each call succeeds where memory is there, what is printed, and that the
 //! clauses mean the numbers of worked examples. The documents under `examples` show what is read and what is refused.
 #![tactic(auto)]
 
+#[cfg(test)]
+mod access_policy_tests;
 #[cfg(test)]
 mod address_table_tests;
 #[cfg(test)]

@@ -5,13 +5,13 @@
 #![tactic(auto)]
 
 use ipbus_program::{
-    DOOR_FAULT, MAX_DOCUMENT, NO_MEMORY, NoGate, RACK_FAULT, READ_FAULT, REFUSED, USAGE,
-    WRITE_FAULT, control,
+    DOOR_FAULT, MAX_DOCUMENT, NO_MEMORY, NOT_ALL_DONE, NoGate, RACK_FAULT, READ_FAULT, REFUSED,
+    USAGE, WRITE_FAULT, control,
 };
 use net_edges::{KeptSource, RealRack, StdinSource, StdoutSink, TcpDoor};
 use operator_notes::{
-    Command, NoMemory, command_of, door_note, memory_note, rack_note, read_note, refusal_notes,
-    usage_notes, write_note,
+    Command, NoMemory, command_of, denial_notes, door_note, memory_note, rack_note, read_note,
+    refusal_notes, usage_notes, write_note,
 };
 use std::alloc::{AllocError, Global};
 use std::env;
@@ -69,6 +69,18 @@ fn refusal_lines(
     }
 }
 
+/// What the policy of a document denied that was run.
+fn denial_lines(
+    alloc: Global,
+    command: Option<&Command>,
+    given: Option<&[u8]>,
+) -> Result<Vec<String>, NoMemory> {
+    match (command, given) {
+        (Some(Command::Run), Some(bytes)) => denial_notes(alloc, bytes),
+        _ => Ok(Vec::new(alloc)),
+    }
+}
+
 /// What is said on standard error at the end, beside a status.
 fn say_end(
     to: Stderr,
@@ -79,10 +91,12 @@ fn say_end(
     given: Option<&[u8]>,
 ) -> Result<(), NoMemory> {
     match status {
+        NOT_ALL_DONE => say_all(to, denial_lines(alloc, command, given)?.as_slice()),
         USAGE => say_all(to, usage_notes(alloc, words)?.as_slice()),
         REFUSED => say_all(to, refusal_lines(alloc, command, given)?.as_slice()),
         READ_FAULT => say(to, read_note()),
         WRITE_FAULT => {
+            say_all(to, denial_lines(alloc, command, given)?.as_slice());
             let refusal = refusal_lines(alloc, command, given)?;
             say(to, write_note(command, !refusal.is_empty()));
             say_all(to, refusal.as_slice());

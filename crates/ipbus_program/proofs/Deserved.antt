@@ -49,7 +49,7 @@ module _ (laws : InputLaws) where
       → Deserves (breaks_in command) bytes q → r ≡ q
   one_refusal Run reads bytes r q one other = laws.one_run_refusal bytes r q one other
   one_refusal (Check table) reads bytes r q one other = laws.one_list_refusal bytes table r q one other
-  one_refusal (Serve port count) reads bytes r q one other = laws.one_run_refusal bytes r q one other
+  one_refusal (Serve port count) reads bytes r q one other = laws.one_serve_refusal bytes r q one other
   one_refusal (Load count) reads bytes r q one other = absurd cc
 
   pub done_apart : (command : Command) → Reads command
@@ -60,7 +60,7 @@ module _ (laws : InputLaws) where
   done_apart (Check table) reads bytes links status text r done deserved = laws.list_apart bytes table done.registers r
       done.listed deserved
   done_apart (Serve port count) reads bytes links status text r done deserved =
-      laws.run_apart bytes done.2.session done.2.steps r done.2.runnable deserved
+      laws.serve_apart bytes done.2.session r done.2.servable deserved
   done_apart (Load count) reads bytes links status text r done deserved = absurd cc
 
   -- a session whose boards were used deserves no refusal
@@ -70,7 +70,7 @@ module _ (laws : InputLaws) where
       deserved
   used_apart (Check table) reads bytes links r uses deserved = uses
   used_apart (Serve port count) reads bytes links r uses deserved =
-      laws.run_apart bytes uses.session uses.steps r uses.runnable deserved
+      laws.serve_apart bytes uses.session r uses.servable deserved
   used_apart (Load count) reads bytes links r uses deserved = absurd cc
 
   -- what is refused of bytes that were read is what all bytes deserve

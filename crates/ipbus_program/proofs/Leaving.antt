@@ -13,7 +13,7 @@ use Rattle.lane_history.specs.Runs.{AreRunsOver}
 use Rattle.script_steps.specs.declared.operation.Step.{Step}
 use Rattle.script_lang.specs.declared.session.Session.{Session}
 use Rattle.session_input.specs.declared.refusal.Refusal.{Refusal}
-use Rattle.session_input.specs.Deserved.{Deserves, IsRunnable}
+use Rattle.session_input.specs.Deserved.{Deserves, IsRunnable, IsServable, session_part}
 use Rattle.session_input.specs.Lines.{refusal_line}
 use Rattle.session_run.specs.declared.session.RunFault.{RunFault}
 use Rattle.session_run.specs.declared.session.RunFault.TheVariants.{Rack, NoMemory}
@@ -121,14 +121,13 @@ as_many_came boards client (c ∷ cs) (came ∷ cames) (back ∷ backs) [] is = 
 as_many_came boards client (c ∷ cs) (came ∷ cames) (back ∷ backs) (served ∷ serveds) is =
     ap suc (as_many_came boards (client + 1) cs cames backs serveds is.1)
 
-pub service_of : ServeLaws → (count : ℕ) (bytes : List ℕ) (session : Session) (steps : List (List Step))
+pub service_of : ServeLaws → (count : ℕ) (bytes : List ℕ) (session : Session)
     (links : List LinkReport) (came back : List PairReport) (status : ℕ) (text : List ℕ)
-    → IsRunnable bytes session steps
+    → IsServable bytes session
     → ServesSession session count links came back status text → IsServiceOf bytes count links came back status text
-service_of laws count bytes session steps links came back status text runs serves = record {
+service_of laws count bytes session links came back status text can serves = record {
   session = session;
-  steps = steps;
-  runnable = runs;
+  servable = can;
   connections = serves.connections;
   lines = serves.lines;
   spelled = serves.spelled;
@@ -137,8 +136,9 @@ service_of laws count bytes session steps links came back status text runs serve
   as_many = serves.all;
   memory = serves.memory;
   served = serves.served;
-  rightly = laws.rightly bytes session serves.served.boards links runs.stands serves.served.over_links;
-  frames = laws.frames bytes session links came back serves.connections serves.lines serves.served runs.stands;
+  rightly = laws.rightly (session_part can.stands.document) session serves.served.boards links can.stands.is_session serves.served.over_links;
+  frames = laws.frames (session_part can.stands.document) session links came back serves.connections serves.lines
+      serves.served can.stands.is_session;
   unasked = laws.unasked session.settings session.boards links came back serves.connections serves.lines serves.served;
   ruled = laws.ruled session.settings session.boards links came back serves.connections serves.lines serves.served;
   numbers = laws.numbers session.settings session.boards links came back serves.connections serves.lines serves.served
@@ -146,19 +146,19 @@ service_of laws count bytes session steps links came back status text runs serve
   status' = serves.told;
 }
 
-service_owed : ServeLaws → (port count : ℕ) (bytes : List ℕ) (session : Session) (steps : List (List Step))
-    (links : List LinkReport) (result : Result Answer ServeFault) → IsRunnable bytes session steps
+service_owed : ServeLaws → (port count : ℕ) (bytes : List ℕ) (session : Session)
+    (links : List LinkReport) (result : Result Answer ServeFault) → IsServable bytes session
     → IfOk result (λ answer. (came : List PairReport) × (back : List PairReport)
     × ServesSession session count links came back answer.status answer.text.items)
     → IfOk result (λ answer. Owes (Serve port count) bytes links answer.status answer.text.items)
-service_owed laws port count bytes session steps links (Ok answer) runs serves =
+service_owed laws port count bytes session links (Ok answer) can serves =
     inl (
       serves.0,
       serves.1,
-      service_of laws count bytes session steps links serves.0 serves.1 answer.status
-          answer.text.items runs serves.2,
+      service_of laws count bytes session links serves.0 serves.1 answer.status
+          answer.text.items can serves.2,
     )
-service_owed laws port count bytes session steps links (Err why) runs serves = tt
+service_owed laws port count bytes session links (Err why) can serves = tt
 
 pub run_leaves : RunLaws → (bytes : List ℕ) (session : Session) (steps : List (List Step)) (made makes : ℕ)
     (result : Result Answer RunFault) (links : List LinkReport) → IsRunnable bytes session steps
@@ -175,18 +175,18 @@ run_leaves laws bytes session steps made makes result links runs leaves =
 
 -- ---- a server
 
-pub serve_leaves : ServeLaws → (count port : ℕ) (bytes : List ℕ) (session : Session) (steps : List (List Step))
-    (made makes : ℕ) (result : Result Answer ServeFault) (links : List LinkReport) → IsRunnable bytes session steps
+pub serve_leaves : ServeLaws → (count port : ℕ) (bytes : List ℕ) (session : Session)
+    (made makes : ℕ) (result : Result Answer ServeFault) (links : List LinkReport) → IsServable bytes session
     → ServeLeaves session made makes result links
     → IfOk result (λ answer. (came : List PairReport) × (back : List PairReport)
     × ServesSession session count links came back answer.status answer.text.items)
     → Leaves IsServeFailure serve.Rack (Serve port count) bytes made makes result links
-serve_leaves laws count port bytes session steps made makes result links runs leaves serves =
+serve_leaves laws count port bytes session made makes result links can leaves serves =
     let linked : IsLinkedTo bytes links =
-    record { session = session; steps = steps; runnable = runs; linked = leaves.linked } in record {
+    record { session = session; servable = can; linked = leaves.linked } in record {
       used = inr linked;
       counted = leaves.counted;
-      owed = service_owed laws port count bytes session steps links result runs serves;
+      owed = service_owed laws port count bytes session links result can serves;
       behind = λ fault is failed. linked;
       untouched = leaves.untouched;
     }

@@ -19,7 +19,7 @@ use Rattle.server_summary.specs.Text.{all_closed}
 use Rattle.ipbus_program.specs.declared.answer.Answer.{Answer}
 use Rattle.command_words.specs.declared.command.Command.TheVariants.{Serve}
 use Rattle.script_steps.specs.declared.operation.Step.{Step}
-use Rattle.session_input.specs.Deserved.{IsRunnable}
+use Rattle.session_input.specs.Deserved.{IsServable}
 use Rattle.ipbus_program.specs.declared.answer.NoAnswer.{NoAnswer}
 use Rattle.ipbus_program.specs.Below.{ServeLaws}
 use Rattle.ipbus_program.specs.Numbers.{refused_status}
@@ -139,18 +139,18 @@ module _ {L I O : Type 0} (shown : L → LinkReport) (left : I → Option (List 
       absurd (no_refusal (all_closed told.2.4.connections) answer.status told.2.4.told refused)
   not_refused session count Q (Err why) told = tt
 
-  pub services : ServeLaws → (count : ℕ) (bytes : List ℕ) (session : Session) (steps : List (List Step))
-      → IsRunnable bytes session steps → (result : Result Answer ServeFault)
+  pub services : ServeLaws → (count : ℕ) (bytes : List ℕ) (session : Session)
+      → IsServable bytes session → (result : Result Answer ServeFault)
       → IfOk result (λ answer. Together
       (λ ls came back. ServesSession session count ls came back answer.status answer.text.items))
       → IfOk result (λ answer. answer.status ≢ refused_status → Together
       (λ ls came back. IsServiceOf bytes count ls came back answer.status answer.text.items))
-  services laws count bytes session steps runs (Ok answer) told = λ _.
+  services laws count bytes session can (Ok answer) told = λ _.
       together_also (λ ls came back. ServesSession session count ls came back answer.status answer.text.items)
       (λ ls came back. IsServiceOf bytes count ls came back answer.status answer.text.items)
       (λ ls came back serves.
-      service_of laws count bytes session steps ls came back answer.status answer.text.items runs serves) told
-  services laws count bytes session steps runs (Err why) told = tt
+      service_of laws count bytes session ls came back answer.status answer.text.items can serves) told
+  services laws count bytes session can (Err why) told = tt
 
   pub owed_services : (count : ℕ) (before now : Option (List ℕ)) (given bytes : List ℕ) → given ≡ bytes
       → IsReadToEnd before now bytes → (result : Result Answer NoAnswer)

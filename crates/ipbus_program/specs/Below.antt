@@ -9,7 +9,8 @@ use Rattle.lane_history.specs.Runs.{RepliesCame, ShowAloneRuns, TimeOutsWaited}
 use Rattle.node_tree.specs.Maps.{RegisterMap}
 use Rattle.script_steps.specs.declared.operation.Step.{Step}
 use Rattle.script_lang.specs.declared.session.Session.{Session}
-use Rattle.script_lang.specs.Document.{SameSession, StandsFor}
+use Rattle.script_lang.specs.Document.{IsSession, SameSession}
+use Rattle.toml.specs.Data.{Members}
 use Rattle.board_node.specs.OpeningWords.{OpensOnWords}
 use Rattle.script_steps.specs.Executable.{AreExecutable}
 use Rattle.session_input.specs.declared.refusal.Refusal.{Refusal}
@@ -27,7 +28,8 @@ use Rattle.server_summary.specs.Frames.{HasUnaskedCodes, OfEachBoard, OfEachFram
 use Rattle.server_summary.specs.Ruled.{AreCodedByRules}
 use Rattle.transcript.specs.Lines.{transcript_of}
 use Rattle.transcript.specs.Shown.{ShowsAllPlaces}
-use Rattle.session_input.specs.Deserved.{BreaksInRun, BreaksInCheck, Deserves, IsRunnable, IsListed}
+use Rattle.session_input.specs.Deserved.{BreaksInRun, BreaksInServe, BreaksInCheck, Deserves, IsRunnable, IsListed}
+use Rattle.session_input.specs.Deserved.{IsServable}
 use Rattle.ipbus_program.specs.Serving.{AreAnsweredRightly, AreServedRightly}
 
 -- bytes have one answer to a command
@@ -38,6 +40,10 @@ pub record InputLaws : Type 0 where
       → Deserves BreaksInRun bytes r → Deserves BreaksInRun bytes q → r ≡ q
   pub run_apart : (bytes : List ℕ) (session : Session) (steps : List (List Step)) (refusal : Refusal)
       → IsRunnable bytes session steps → ¬ Deserves BreaksInRun bytes refusal
+  pub one_serve_refusal : (bytes : List ℕ) (r q : Refusal)
+      → Deserves BreaksInServe bytes r → Deserves BreaksInServe bytes q → r ≡ q
+  pub serve_apart : (bytes : List ℕ) (session : Session) (refusal : Refusal)
+      → IsServable bytes session → ¬ Deserves BreaksInServe bytes refusal
   pub one_index : (bytes root : List ℕ) (index other : RegisterMap)
       → IsListed bytes root index → IsListed bytes root other → index ≡ other
   pub one_list_refusal : (bytes root : List ℕ) (r q : Refusal)
@@ -93,17 +99,17 @@ OwnBoardsLaw =
 
 -- what follows for the boards of a session that were served, and for the numbers of answers
 pub record ServeLaws : Type 0 where
-  pub rightly : (bytes : List ℕ) (session : Session) (boards : List ServedBoard) (links : List LinkReport)
-      → StandsFor bytes session → AreServedOver session.settings session.boards boards links
+  pub rightly : (document : Members) (session : Session) (boards : List ServedBoard) (links : List LinkReport)
+      → IsSession document session → AreServedOver session.settings session.boards boards links
       → AreServedRightly session.settings session.boards boards links
   pub numbers : (settings : Limits) (specs : List BoardSpec) (links : List LinkReport) (came back : List PairReport)
       (connections : List Served) (lines : List BoardLine)
       (is : AreServed settings specs links came back connections lines)
       → AllByRecursion HadMemory connections → AllByRecursion HasWrittenAll connections
       → AllTellAnswers (states_of is.boards) is.conversations 0 lines
-  pub frames : (bytes : List ℕ) (session : Session) (links : List LinkReport) (came back : List PairReport)
+  pub frames : (document : Members) (session : Session) (links : List LinkReport) (came back : List PairReport)
       (connections : List Served) (lines : List BoardLine)
-      (is : AreServed session.settings session.boards links came back connections lines) → StandsFor bytes session
+      (is : AreServed session.settings session.boards links came back connections lines) → IsSession document session
       → OfEachBoard (AreAnsweredRightly session.settings (states_of is.boards) is.conversations) session.boards links
   pub unasked : (settings : Limits) (specs : List BoardSpec) (links : List LinkReport) (came back : List PairReport)
       (connections : List Served) (lines : List BoardLine)
@@ -117,7 +123,8 @@ pub record ServeLaws : Type 0 where
 -- the ranges of a session name words
 abbrev pub RangesNameWords : Type 0
 RangesNameWords =
-    (bytes : List ℕ) (session : Session) → StandsFor bytes session → AllByRecursion OpensOnWords session.boards
+    (document : Members) (session : Session) → IsSession document session
+    → AllByRecursion OpensOnWords session.boards
 
 -- what its scripts ask can be executed
 abbrev pub CanBeExecuted : Type 0

@@ -122,8 +122,8 @@ pub record RanSome (words : List (String Global)) (before now : Option (List ℕ
 abbrev pub RanNoneOrSome : List (String Global) → Option (List ℕ) → Option (List ℕ) → List LinkReport → Type 0
 RanNoneOrSome words before now links = (links ≡ []) ⊎ RanSome words before now links
 
--- The words are `serve`, the input stands for a session that can be run, and the links are those of its first boards,
--- in order.
+-- The words are `serve`, the input stands for a session that can be served, and the links are those of its first
+-- boards, in order.
 pub record ServedSome (words : List (String Global)) (before now : Option (List ℕ)) (links : List LinkReport) : Type 0
   where
     pub port : ℕ

@@ -1,12 +1,13 @@
 -- What a command owes to the bytes of a document: a status and a text. Profile.
 use Rattle.std.specs.Prelude.{◌≡◌, ◌⊎◌, ℕ, ◌==◌, if◌then◌else◌, List, [], length, Option, Some, None}
 use Rattle.std.specs.FinMap.{entries}
+use Rattle.access_policy.specs.declared.policy.Rule.{Rule}
 use Rattle.lane_history.specs.Links.{LinkReport}
 use Rattle.node_tree.specs.Maps.{RegisterMap}
 use Rattle.node_tree.specs.Overlaps.{overlapping}
 use Rattle.script_lang.specs.declared.session.Session.{Session}
 use Rattle.session_input.specs.declared.refusal.Refusal.{Refusal}
-use Rattle.session_input.specs.Deserved.{BreaksInRun, BreaksInCheck, Deserves, IsListed}
+use Rattle.session_input.specs.Deserved.{BreaksInRun, BreaksInServe, BreaksInCheck, Deserves, IsListed}
 use Rattle.session_input.specs.Lines.{refusal_line}
 use Rattle.transcript.specs.Listing.{listing_text}
 use Rattle.command_words.specs.declared.command.Command.{Command}
@@ -53,12 +54,12 @@ IsDoneOf (Serve port count) bytes links status text =
     (came : List PairReport) × (back : List PairReport) × IsServiceOf bytes count links came back status text
 IsDoneOf (Load count) bytes links status text = IsSummaryOf count links status text
 
--- the rules of a command on a session; one that reads none has none
-abbrev pub breaks_in : Command → Session → Refusal → Type 0
+-- the rules of a command on a session and its policy; one that reads none has none
+abbrev pub breaks_in : Command → Session → Option (List Rule) → Refusal → Type 0
 breaks_in Run = BreaksInRun
 breaks_in (Check table) = BreaksInCheck table
-breaks_in (Serve port count) = BreaksInRun
-breaks_in (Load count) = λ session refusal. ⊥
+breaks_in (Serve port count) = BreaksInServe
+breaks_in (Load count) = λ session policy refusal. ⊥
 
 -- the command reads, the bytes deserve a refusal of it, and the text is its line
 pub record IsRefusalOf (command : Command) (bytes : List ℕ) (text : List ℕ) : Type 0 where

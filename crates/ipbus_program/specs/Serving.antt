@@ -27,7 +27,7 @@
 --
 -- It is one record, `IsServiceOf`, whose parts are these words. Profile.
 --
---   the session                  IsRunnable                              session_input/specs/Deserved
+--   the session                  IsServable                              session_input/specs/Deserved
 --   the text, the status         serve_text, serve_status                server_summary/specs/Text
 --   the connections              HaveExchanged: IsServed, HasFaultsOf    session_serve/specs/Connections,
 --                                                                        hub_session/specs/Serving
@@ -62,7 +62,6 @@ use Rattle.std.specs.List.{AllByRecursion}
 use Rattle.board_node.specs.declared.spec.BoardSpec.{BoardSpec}
 use Rattle.world_model.specs.Board.{executed}
 use Rattle.world_model.specs.Settings.{Limits}
-use Rattle.script_steps.specs.declared.operation.Step.{Step}
 use Rattle.script_lang.specs.declared.session.Session.{Session}
 use Rattle.transcript.specs.declared.line.BoardLine.{BoardLine}
 use Rattle.transcript.specs.Lines.{board_line}
@@ -85,7 +84,7 @@ use Rattle.server_summary.specs.Frames.{IsLostOnlyWithLink, IsPlaced, NoneIsGive
 use Rattle.server_summary.specs.Frames.{OfEachWithCode, PlacesOfFramesDiffer, PlacesOfFramesRise, place_on}
 use Rattle.server_summary.specs.Ruled.{AreCodedByRules}
 use Rattle.server_summary.specs.Text.{serve_text, serve_status}
-use Rattle.session_input.specs.Deserved.{IsRunnable}
+use Rattle.session_input.specs.Deserved.{IsServable}
 
 -- What follows for a board that was served, and its link:
 pub record IsServedRightly (settings : Limits) (spec : BoardSpec) (served : ServedBoard) (link : LinkReport) : Type 0
@@ -140,10 +139,10 @@ pub record AreAnsweredRightly (settings : Limits) (boards : List BoardState) (co
 -- what the pairs showed that came and that went back, the status and the text:
 pub record IsServiceOf (bytes : List ℕ) (count : ℕ) (links : List LinkReport) (came back : List PairReport) (status : ℕ)
     (text : List ℕ) : Type 0 where
-  -- the bytes stand for a session that can be run; its scripts were checked and not run
+  -- the bytes stand for a session that can be served, one without a policy that could be run; its scripts were checked
+  -- and not run
   pub session : Session
-  pub steps : List (List Step)
-  pub runnable : IsRunnable bytes session steps
+  pub servable : IsServable bytes session
   -- there are lines of the connections and of the boards, and the text is these lines and nothing else
   pub connections : List Served
   pub lines : List BoardLine
@@ -178,10 +177,9 @@ pub record IsServiceOf (bytes : List ℕ) (count : ℕ) (links : List LinkReport
   -- the status is 0 exactly where every connection ended between two frames, with no fault
   pub status' : status ≡ serve_status connections
 
--- At every status: the bytes stand for a session that can be run, and the links are those of its first boards, in
+-- At every status: the bytes stand for a session that can be served, and the links are those of its first boards, in
 -- order, each given back once.
 pub record IsLinkedTo (bytes : List ℕ) (links : List LinkReport) : Type 0 where
   pub session : Session
-  pub steps : List (List Step)
-  pub runnable : IsRunnable bytes session steps
+  pub servable : IsServable bytes session
   pub linked : AreLinksTo session.boards links

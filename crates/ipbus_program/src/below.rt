@@ -25,7 +25,8 @@ use server_summary::laws::{
     no_frame_is_given_up_or_lost_over_a_faithful_link, the_rules_of_planning_decide_of_codes,
 };
 use session_input::laws::{
-    bytes_have_one_answer_to_check, bytes_have_one_answer_to_run, what_can_be_run_can_be_executed,
+    bytes_have_one_answer_to_check, bytes_have_one_answer_to_run, bytes_have_one_answer_to_serve,
+    what_can_be_run_can_be_executed,
 };
 
 /// Bytes have one answer to a command.
@@ -33,6 +34,7 @@ pub(crate) fn input_laws()
     ensures { InputLaws }
 {
     bytes_have_one_answer_to_run();
+    bytes_have_one_answer_to_serve();
     bytes_have_one_answer_to_check();
 }
 

@@ -10,7 +10,7 @@ ghost use Rattle.load_run.specs.Generated.{most_operations};
 ghost use Rattle.node_tree.specs.Maps.{RegisterMap};
 ghost use Rattle.script_steps.specs.declared.operation.Step.{Step};
 ghost use Rattle.script_lang.specs.declared.session.Session.{Session};
-ghost use Rattle.session_input.specs.Deserved.{Deserves, IsListed, IsRunnable};
+ghost use Rattle.session_input.specs.Deserved.{Deserves, IsListed, IsRunnable, IsServable};
 ghost use Rattle.session_input.specs.Numbers.{document_bytes};
 ghost use Rattle.session_input.specs.declared.refusal.Refusal.{Refusal as WhyRefused};
 ghost use Rattle.session_serve.specs.Pairs.{GivesBack};
@@ -237,7 +237,7 @@ pub fn control<S: Source, O: Sink, R: Rack, D: Door, T: Threads + Wait + Sync, G
         × (O.written out.new ≡ O.written out.old)
         × Keeps R.L.faults R.L.quiets R.L.gots R.L.held R.L.telling (R.kept rack.old) (R.kept rack.new)
         (λ links. UsedSome words.now (S.left input.old) (S.left input.new) links × AllByRecursion IsUntouched links) }
-    // The door failed, at boards of a session that can be run. Nothing was written.
+    // The door failed, at boards of a session that can be served. Nothing was written.
     ensures door_fault { result ≡ door_fault_status → Rose (D.faults door.old) (D.faults door.new)
         × (O.written out.new ≡ O.written out.old)
         × Keeps R.L.faults R.L.quiets R.L.gots R.L.held R.L.telling (R.kept rack.old) (R.kept rack.new)
@@ -274,13 +274,13 @@ pub fn control<S: Source, O: Sink, R: Rack, D: Door, T: Threads + Wait + Sync, G
         → ¬ Rose (S.faults input.old) (S.faults input.new) → ¬ Rose (O.faults out.old) (O.faults out.new)
         → ¬ Rose (R.faults rack.old) (R.faults rack.new)
         → IsCalmDoor command (D.faults door.old) (D.faults door.new) → IsWhole result }
-    // So it is done whole where it stands for a session that can be run, or lists the registers of its table.
+    // So it is done whole where it stands for a session that can be run or served, or lists the registers of its table.
     ensures runnable { (bytes : List ℕ) (session : Session) (steps : List (List Step))
         → AreCommand words.now Run → S.left input.old ≡ Some bytes → IsRunnable bytes session steps
         → ¬ Rose (S.faults input.old) (S.faults input.new) → ¬ Rose (O.faults out.old) (O.faults out.new)
         → ¬ Rose (R.faults rack.old) (R.faults rack.new) → IsWhole result }
-    ensures servable { (port count : ℕ) (bytes : List ℕ) (session : Session) (steps : List (List Step))
-        → AreCommand words.now (Serve port count) → S.left input.old ≡ Some bytes → IsRunnable bytes session steps
+    ensures servable { (port count : ℕ) (bytes : List ℕ) (session : Session)
+        → AreCommand words.now (Serve port count) → S.left input.old ≡ Some bytes → IsServable bytes session
         → ¬ Rose (S.faults input.old) (S.faults input.new) → ¬ Rose (O.faults out.old) (O.faults out.new)
         → ¬ Rose (R.faults rack.old) (R.faults rack.new) → ¬ Rose (D.faults door.old) (D.faults door.new)
         → IsWhole result }

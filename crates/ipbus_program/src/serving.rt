@@ -20,7 +20,7 @@ use lossy_network::Rack;
 use script_lang::Session;
 use script_lang::laws::the_ranges_of_a_session_name_words;
 use server_summary::{Served, all_closed, serve_text};
-use session_input::{Unread, read_for_run};
+use session_input::{Unread, read_for_serve};
 use session_serve::{ServeFault, ServeReport, serve_session};
 use std::alloc::Global;
 use std::marker::Sync;
@@ -58,8 +58,8 @@ pub(crate) fn serve<R: Rack, D: Door, T: Threads + Wait + Sync>(
 {
     serve_laws();
     the_ranges_of_a_session_name_words();
-    match read_for_run(alloc, bytes) {
-        Ok(read) => served(rt, alloc, &read.session, port, count, rack, door),
+    match read_for_serve(alloc, bytes) {
+        Ok(session) => served(rt, alloc, &session, port, count, rack, door),
         Err(Unread::Refused(refusal)) => Ok(refused(alloc, &refusal)?),
         Err(Unread::NoMemory) => Err(ServeFault::NoMemory),
     }

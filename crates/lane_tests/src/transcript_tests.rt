@@ -4,10 +4,14 @@ use crate::fixtures::add;
 use crate::same::same_items;
 use ipb_base::Text;
 use script_plans::laws::few_words_are_few_pieces;
-use script_plans::{Greeting, plan_on};
-use script_steps::Verb;
+use script_plans::{BoardRun, ClientPart, ClientParts, Greeting, plan_on};
+use script_steps::{Decision, Steps, Verb};
+use std::alloc::Global;
 use std::test::Fail;
-use transcript::{LinePlaces, OpLine, OpResult, line_text};
+use transcript::{
+    LinePlaces, OpLine, OpResult, all_good, board_lines, line_text, lines_of_clients,
+    transcript_text,
+};
 
 #[test]
 fn a_sum_is_planned(rt: HostRuntime) -> Result<(), Fail> {
@@ -36,5 +40,37 @@ fn a_sum_is_printed_with_the_word_before(rt: HostRuntime) -> Result<(), Fail> {
     let text = line_text(rt.alloc(), &line)?;
     let wanted = b"12 rmwsum b0:a was 0xffffffff @1.2,3.1\n";
     same_items(&rt, text.as_slice(), wanted.as_slice());
+    Ok(())
+}
+
+/// A board that did not answer.
+fn silent(alloc: Global) -> Result<BoardRun, Fail> {
+    Ok(BoardRun {
+        name: Text::copy_of(alloc, "b0")?,
+        greeting: Greeting::Silent,
+        parts: ClientParts::from_vec(Vec::<ClientPart>::new(alloc)),
+    })
+}
+
+/// Two sums, the first of which rule 2 denies.
+fn ruled(alloc: Global) -> Result<Steps, Fail> {
+    let mut sums = Vec::new(alloc);
+    sums.push(add(alloc, 0, 1)?)?;
+    sums.push(add(alloc, 0, 2)?)?;
+    let mut steps = Steps::from_vec(sums);
+    steps.rule(&[Decision::Denied { rule: 2 }]);
+    Ok(steps)
+}
+
+#[test]
+fn a_denied_operation_has_its_line(rt: HostRuntime) -> Result<(), Fail> {
+    let runs = [silent(rt.alloc())?];
+    let clients = lines_of_clients(rt.alloc(), &runs, &[ruled(rt.alloc())?])?;
+    let boards = board_lines(rt.alloc(), &runs)?;
+    let text = transcript_text(rt.alloc(), &clients, &boards)?;
+    let wanted =
+        "client 1\n1 rmwsum b0:a denied by rule 2\n2 rmwsum b0:a unsent\nboard b0 silent\n";
+    same_items(&rt, text.as_slice(), wanted.as_bytes());
+    assert!(rt; !all_good(&clients));
     Ok(())
 }

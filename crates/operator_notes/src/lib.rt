@@ -1,7 +1,8 @@
 //! What the program says on standard error at its end: what to look for where words are no command or a document is
-//! refused, what was done where the text could not be written, and a page of help. No contract speaks of these texts.
+//! refused, what a policy denied, what was done where the text could not be written, and a page of help. No contract speaks of these texts.
 #![tactic(auto)]
 
+mod denials;
 mod escaping;
 mod help;
 mod refusals;
@@ -11,6 +12,7 @@ mod statuses;
 mod usage;
 
 pub use command_words::{Command, command_of};
+pub use denials::denial_notes;
 pub use escaping::{MOST_SHOWN, shown};
 pub use help::{HELP, VERSION};
 pub use ipb_base::NoMemory;

@@ -2,11 +2,13 @@
 
 use crate::escaping::shown;
 use crate::script_words::word_at_fault;
-use crate::sentences::{TOO_LONG, of_board, of_compiling, of_document, of_script, of_table};
+use crate::sentences::{
+    NOT_SERVED, POLICY, TOO_LONG, of_board, of_compiling, of_document, of_script, of_table,
+};
 use command_words::Command;
 use ipb_base::NoMemory;
-use script_lang::{DocWhy, ScriptWhy, read_session};
-use session_input::{Refusal, Unread, read_for_check, read_for_run};
+use script_lang::{DocWhy, ScriptWhy, parse_document, read_session_table, take_key};
+use session_input::{Refusal, Unread, read_for_check, read_for_run, read_for_serve};
 use std::alloc::Global;
 use std::str;
 
@@ -32,7 +34,8 @@ pub fn refusal_notes(
 /// Why a command refuses a document, if it does.
 fn refusal_of(alloc: Global, command: &Command, bytes: &[u8]) -> Result<Option<Refusal>, NoMemory> {
     let unread = match command {
-        Command::Run | Command::Serve { port: _, count: _ } => read_for_run(alloc, bytes).err(),
+        Command::Run => read_for_run(alloc, bytes).err(),
+        Command::Serve { port: _, count: _ } => read_for_serve(alloc, bytes).err(),
         Command::Check { table } => read_for_check(alloc, bytes, table.as_str()).err(),
         Command::Load { count: _ } => None,
     };
@@ -51,6 +54,8 @@ fn place_and_rule(alloc: Global, refusal: &Refusal) -> Result<String, NoMemory> 
         Refusal::Table { table, path, why } => {
             table_note(alloc, table.as_str(), path.as_slice(), of_table(*why))
         }
+        Refusal::Policy { path } => policy_note(alloc, path.as_str()),
+        Refusal::NoServe => note(alloc, NOT_SERVED),
         Refusal::Compile { table, path, why } => {
             let rule = of_compiling(*why);
             compile_note(alloc, table.as_str(), path.as_str(), rule)
@@ -78,6 +83,15 @@ fn document_note(alloc: Global, path: &str, why: DocWhy) -> Result<String, NoMem
     }
     let path = shown(alloc, path)?;
     Ok(format!(in alloc; "at {path}: {rule}")?)
+}
+
+/// The path begins at the array.
+fn policy_note(alloc: Global, path: &str) -> Result<String, NoMemory> {
+    if path.is_empty() {
+        return Ok(format!(in alloc; "at policy: {POLICY}")?);
+    }
+    let path = shown(alloc, path)?;
+    Ok(format!(in alloc; "at policy.{path}: {POLICY}")?)
 }
 
 /// The node is told by its positions from 0, from the top of the table down.
@@ -172,7 +186,11 @@ fn line_note(
     line: u32,
     why: ScriptWhy,
 ) -> Result<Option<String>, NoMemory> {
-    let Ok(session) = read_session(alloc, bytes) else {
+    let Ok(mut document) = parse_document(alloc, bytes) else {
+        return Err(NoMemory);
+    };
+    take_key(&mut document, "policy");
+    let Ok(session) = read_session_table(alloc, &document) else {
         return Err(NoMemory);
     };
     let scripts = session.scripts.as_slice();

@@ -7,6 +7,12 @@ use script_lang::{DocWhy, ScriptWhy};
 
 pub(crate) const TOO_LONG: &str = "the document has more than 16777216 bytes";
 
+pub(crate) const POLICY: &str =
+    "a policy lists at most 1024 rules, each with effect allow or deny, access r, w or rw, a pattern as its name, and at most a client from 1 to 64";
+
+pub(crate) const NOT_SERVED: &str =
+    "a policy binds scripts and no connections, so a document that has one is not served";
+
 pub(crate) fn of_document(why: DocWhy) -> &'static str {
     match why {
         DocWhy::NotToml => "the document is no TOML",

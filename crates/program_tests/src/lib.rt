@@ -22,6 +22,8 @@ mod fixtures;
 #[cfg(test)]
 mod notes_tests;
 #[cfg(test)]
+mod policies;
+#[cfg(test)]
 mod program;
 #[cfg(test)]
 mod rack_tests;

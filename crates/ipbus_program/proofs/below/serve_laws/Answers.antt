@@ -3,9 +3,9 @@ use Rattle.ipbus_program.proofs.below.serve_laws.Goals as goal
 
 pub returns : goal.returns
 returns c = record {
-  rightly = λ bytes session boards links stands over.
+  rightly = λ document session boards links stands over.
       let settings = session.settings in
-      let some = (c.a_session_keeps_its_limits.ensures bytes session stands).settings.some_rounds in
+      let some = (c.a_session_keeps_its_limits.ensures document session stands).settings.some_rounds in
       all_rightly settings
       (λ spec served link is. record {
         executed_some = c.a_board_that_tells_executed_what_was_replied.ensures.executed settings spec served link is;
@@ -17,10 +17,10 @@ returns c = record {
       })
       session.boards boards links over;
   numbers = c.board_lines_tell_the_numbers_of_answers.ensures;
-  frames = λ bytes session links came back connections lines is stands position spec link at there.
+  frames = λ document session links came back connections lines is stands position spec link at there.
       let settings = session.settings in
       let specs = session.boards in
-      let some = (c.a_session_keeps_its_limits.ensures bytes session stands).settings.some_rounds in record {
+      let some = (c.a_session_keeps_its_limits.ensures document session stands).settings.some_rounds in record {
         rise = c.each_frame_has_a_place_of_its_own.ensures.rise settings specs links came back connections lines is
             position spec link at there;
         differ = c.each_frame_has_a_place_of_its_own.ensures.differ settings specs links came back connections lines is

@@ -318,7 +318,7 @@ returns-in-Ok-clause-runnable g c bytes session steps run told runs calm unfault
     left.2.owed c.deliver-in-Ok.ensures.delivers unfaulted
 
 pub returns-in-Ok-clause-servable : goal.returns-in-Ok-clause-servable
-returns-in-Ok-clause-servable g c port count bytes session steps serve told runs calm unfaulted quiet shut =
+returns-in-Ok-clause-servable g c port count bytes session serve told can calm unfaulted quiet shut =
     let left = c.in-Ok.ensures.leaves in
     let shown = shown_by g.R.L.Link.faults g.R.L.Link.quiets g.R.L.Link.gots g.R.L.Link.held g.R.L.Link.telling in
     let links = map shown left.0 in
@@ -329,7 +329,7 @@ returns-in-Ok-clause-servable g c port count bytes session steps serve told runs
     c.in-Ok.answer.status c.in-Ok.answer.text.items c.as_slice.result.now c.as_slice.ensures.value _ _ _ _
     c.deliver-in-Ok.result
     (subst (λ command. (r : Refusal) → Deserves (breaks_in command) bytes r → ⊥) same
-    (λ r deserved. c.input_laws.ensures.run_apart bytes session steps r runs deserved))
+    (λ r deserved. c.input_laws.ensures.serve_apart bytes session r can deserved))
     left.2.owed c.deliver-in-Ok.ensures.delivers unfaulted
 
 pub returns-in-Ok-clause-listed : goal.returns-in-Ok-clause-listed
