@@ -1,6 +1,6 @@
 -- What a pattern sees of the name of a register: the ids between its dots, each with the index that may stand behind
 -- it. Profile.
-use Rattle.std.specs.Prelude.{◌≡◌, ◌⊎◌, ◌≤◌, ℕ, ◌==◌, true, List, [], ◌∷◌, ◌++◌, map, codes, decimal, Option, Some, None}
+use Rattle.std.specs.Prelude.{◌≡◌, ◌≤◌, ℕ, ◌==◌, true, List, [], ◌∷◌, ◌++◌, map, codes, decimal, Option, Some, None, IfSome}
 use Rattle.std.specs.List.{AllByRecursion, join_with_byte, slice_split}
 use Rattle.std.specs.Option.{option_map_or, unwrap_or}
 use Rattle.address_table.specs.Rules.{is_id}
@@ -62,4 +62,4 @@ name_text items = join_with_byte dot (map item_text items)
 -- an id of a register's name keeps the rule of ids, and an index is one that a node can have
 pub record IsNameItem (item : NameItem) : Type 0 where
   pub id' : is_id item.id ≡ true
-  pub index' : option_map_or (λ i. i ≤ MAX_INDEX) item.index (Unit {0})
+  pub index' : IfSome item.index (λ i. i ≤ MAX_INDEX)

@@ -1,7 +1,8 @@
 -- What the pattern of a rule matches: a board by its name, and a register by the ids of its name and their indexes, and
 -- never by its address. Profile.
-use Rattle.std.specs.Prelude.{◌≡◌, ◌≤◌, ℕ, ◌==◌, Bool, true, false, not, ◌&&◌, if◌then◌else◌, List, [], ◌∷◌, ◌++◌, length}
+use Rattle.std.specs.Prelude.{◌≡◌, ◌≤◌, ℕ, ◌==◌, Bool, true, false, not, ◌&&◌, List, [], ◌∷◌, ◌++◌, length}
 use Rattle.std.specs.Prelude.{Option, is_none, is_some}
+use Rattle.std.specs.Bool.{MatchBool}
 use Rattle.std.specs.List.{AllZip}
 use Rattle.std.specs.Str.{bytes_eq}
 use Rattle.address_table.specs.Rules.{holds_of}
@@ -41,4 +42,4 @@ pub record AreItems (patterns : List ItemPattern) (rest : Bool) (items : List Na
   pub behind : List NameItem
   pub whole : items ≡ front ++ behind
   pub each : AllZip (λ pattern item. item_matches pattern item ≡ true) patterns front
-  pub more : if rest then 1 ≤ length behind else (behind ≡ [])
+  pub more : MatchBool rest (1 ≤ length behind) (behind ≡ [])

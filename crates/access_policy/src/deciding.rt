@@ -55,11 +55,11 @@ pub(crate) fn has_access(permission: Permission, access: Access) -> bool
     }
 }
 
-/// Whether a rule is for a client.
-pub(crate) fn client_matches(rule: &Rule, client: u32) -> bool
-    ensures { result ≡ spec.client_matches rule.now.client client }
+/// Whether a rule for a client, or for each client, is for this one.
+pub(crate) fn client_matches(of: Option<u32>, client: u32) -> bool
+    ensures { result ≡ spec.client_matches of client }
 {
-    match rule.client {
+    match of {
         Some(number) => number == client,
         None => true,
     }
@@ -79,7 +79,7 @@ pub(crate) fn said(number: u32, effect: Effect) -> Decision
 fn speaks_of(rule: &Rule, access: Access, client: u32, board: &str, name: &str) -> bool
     ensures { result ≡ spec.speaks_of access client board.now (items_of name.now) rule.now }
 {
-    if !has_access(rule.access, access) || !client_matches(rule, client) {
+    if !has_access(rule.access, access) || !client_matches(rule.client, client) {
         return false;
     }
     let pattern = &rule.pattern;

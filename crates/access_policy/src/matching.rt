@@ -1,6 +1,7 @@
 //! Whether the pattern of a rule matches a board and a register.
 
-ghost use Rattle.std.specs.Prelude.{◌≡◌};
+ghost use Rattle.std.specs.Prelude.{◌≡◌, ◌==◌, true, false, nat_lt};
+ghost use Rattle.address_table.specs.Rules.{holds_of};
 ghost use Rattle.access_policy.specs.Names.{items_of};
 ghost use Rattle.access_policy.specs.Patterns as spec;
 

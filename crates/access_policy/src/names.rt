@@ -2,7 +2,7 @@
 
 ghost use Rattle.std.specs.Prelude.{◌≡◌, ◌<◌, ◌∷◌, option_map, option_copied, IfOk};
 ghost use Rattle.std.specs.List.{list_all};
-ghost use Rattle.script_lang.specs.Texts as text;
+ghost use Rattle.script_lang.specs.Texts as texts;
 ghost use Rattle.access_policy.specs.Cutting.{parts_left};
 ghost use Rattle.access_policy.specs.Names as spec;
 
@@ -45,7 +45,7 @@ impl<'a> NamePart<'a> {
 /// What stands before and after the first such byte.
 pub(crate) fn cut_at(cut: char, text: &str) -> Option<(&str, &str)>
     requires ascii { cut < 128 }
-    ensures { option_map (λ parts. (parts.0.now, parts.1.now)) result ≡ text.cut_at cut text.now }
+    ensures { option_map (λ parts. (parts.0.now, parts.1.now)) result ≡ texts.cut_at cut text.now }
 {
     text.split_once(cut)
 }
@@ -61,20 +61,20 @@ pub(crate) fn first_part(text: &str) -> (&str, Option<&str>)
 }
 
 fn is_digit(byte: u8) -> bool
-    ensures { result ≡ text.is_digit byte }
+    ensures { result ≡ texts.is_digit byte }
 {
     matches!(byte, b'0'..=b'9')
 }
 
 fn are_digits(text: &[u8]) -> bool
-    ensures { result ≡ list_all text.is_digit text.now }
+    ensures { result ≡ list_all texts.is_digit text.now }
 {
     text.iter().all(|byte| is_digit(*byte))
 }
 
 /// Whether a text is decimal digits without a leading zero.
 fn is_decimal(text: &[u8]) -> bool
-    ensures { result ≡ text.is_decimal text.now }
+    ensures { result ≡ texts.is_decimal text.now }
 {
     match text {
         [] => false,

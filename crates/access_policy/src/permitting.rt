@@ -130,7 +130,7 @@ fn rules_on<'a>(
 fn concerns(rule: &Rule, client: u32, board: &str) -> bool
     ensures { result ≡ of.concerns client board.now rule.now }
 {
-    client_matches(rule, client) && board_matches(&rule.pattern.board, board)
+    client_matches(rule.client, client) && board_matches(&rule.pattern.board, board)
 }
 
 fn step_decision(

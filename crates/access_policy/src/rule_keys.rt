@@ -1,11 +1,15 @@
 //! The keys of a rule: what is wrong with them, and what they say.
 
-ghost use Rattle.std.specs.Prelude.{◌≡◌, [], IfOk, IfErr, OnOk, option_copied, option_and_then, option_map};
+ghost use Rattle.std.specs.Prelude.{◌≡◌, [], ◌∷◌, codes, Some, slice_get, IfOk, IfErr, OnOk, MatchOption};
+ghost use Rattle.std.specs.Prelude.{option_and_then, option_map};
+ghost use Rattle.std.specs.Option.{unwrap_or};
 ghost use Rattle.address_table.specs.Numbers.{number as number_of};
-ghost use Rattle.toml.specs.Data.{as_str, get_member};
+ghost use Rattle.toml.specs.Data.{get_member};
 ghost use Rattle.toml.specs.View.{view, table_view};
 ghost use Rattle.script_lang.specs.Fields.{text_at as text_there};
+ghost use Rattle.script_lang.specs.declared.steps.PathStep.TheVariants.{Key};
 ghost use Rattle.access_policy.specs.Cutting.{TellsFirst};
+ghost use Rattle.access_policy.specs.Spelling.{pattern_of};
 ghost use Rattle.access_policy.specs.Reading as spec;
 
 use crate::patterns::pattern_in;

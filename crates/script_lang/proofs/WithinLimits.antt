@@ -27,7 +27,14 @@ module _ (boards : List BoardSpec) (indexes : List RegisterMap) where
   line_operations line lines (Err why) is rest = rw is (omega (arith, rest))
   line_operations line lines (Ok None) is rest = rw is (omega (arith, rest))
   line_operations line lines (Ok (Some Dispatch)) is rest = rw is (omega (arith, rest))
-  line_operations line lines (Ok (Some (Denied rule op))) is rest = rw is (omega (arith, rest))
+  line_operations line lines (Ok (Some (Denied rule op))) is rest =
+      let one : count (line ∷ lines) ≡ 1 + count lines = count_more boards indexes operations_in line lines ∙ rw is refl
+      in
+      let steps : steps_in boards indexes (line ∷ lines) ≡ Denied rule op ∷ steps_in boards indexes lines = rw is refl in
+      let same : length (operations (steps_in boards indexes (line ∷ lines)))
+      ≡ length (operations (steps_in boards indexes lines)) =
+      ap (λ (all : List Step). length (operations all)) steps in
+      omega (arith, rest, one, same)
   line_operations line lines (Ok (Some (Do op))) is rest =
       let one : count (line ∷ lines) ≡ 1 + count lines = count_more boards indexes operations_in line lines ∙ rw is refl
       in

@@ -30,4 +30,5 @@ pub use refusal::{DocWhy, MAX_BOARDS, MAX_CLIENTS, SessionRefusal};
 pub use script_refusal::{MAX_LINES, ScriptRefusal, ScriptWhy};
 pub use script_steps::{MAX_BLOCK_WORDS, MAX_OPERATIONS, RegOp, Step, Steps, Verb};
 pub use session::{Boards, Script, Scripts, Session};
+pub use steps::PathStep;
 pub use world_model::Settings;

@@ -15,7 +15,7 @@ use Rattle.script_steps.specs.declared.operation.Step.{Step}
 use Rattle.script_lang.specs.declared.refusal.DocWhy.TheVariants.{NotToml}
 use Rattle.script_lang.specs.declared.session.Session.{Session}
 use Rattle.script_lang.specs.Aside.{without}
-use Rattle.script_lang.specs.Document.{Fault, IsNotToml, IsSession, IsToml, faults, in_document, in_table}
+use Rattle.script_lang.specs.Document.{IsNotToml, IsSession, IsToml, faults, in_document, in_table}
 use Rattle.script_lang.specs.Paths.{path as path_text}
 use Rattle.script_lang.specs.Scripts.{LineFault, script_faults, steps_of}
 use Rattle.access_policy.specs.declared.policy.Rule.{Rule}
@@ -53,21 +53,6 @@ pub record StandsForSession (bytes : List ℕ) (session : Session) (policy : Opt
   pub toml : IsToml bytes document
   pub is_session : IsSession (session_part document) session
   pub has_policy : HasPolicy document policy
-
--- the bytes are a document whose first fault beside its policy is this one
-pub record HasFirstFaultBeside (bytes : List ℕ) (fault : Fault) : Type 0 where
-  pub document : Members
-  pub toml : IsToml bytes document
-  pub first : slice_get (faults (session_part document)) 0 ≡ Some fault
-
--- the bytes are a document without a fault beside its policy, and this is the path of the first fault of the policy
-pub record HasFirstPolicyFault (bytes path : List ℕ) : Type 0 where
-  pub document : Members
-  pub toml : IsToml bytes document
-  pub faultless : faults (session_part document) ≡ []
-  pub value : Data
-  pub there : get_member policy_key document ≡ Some value
-  pub first : slice_get (map path_text (policy_faults value)) 0 ≡ Some path
 
 -- ---- boards and scripts
 
@@ -158,16 +143,31 @@ BreaksInServe session None refusal = BreaksInRun session None refusal
 abbrev pub BreaksInCheck : Name → Session → Option (List Rule) → Refusal → Type 0
 BreaksInCheck root session policy refusal = TellsCompile session.tables root refusal
 
+-- this is the path of the first faulty place of a policy
+abbrev pub BreaksPolicy : Option Data → List ℕ → Type 0
+BreaksPolicy None path = ⊥
+BreaksPolicy (Some value) path = slice_get (map path_text (policy_faults value)) 0 ≡ Some path
+
+-- The first rule that is broken by what is read as a session, or else by the value of the policy beside it.
+abbrev pub BreaksParts : Members → Option Data → Refusal → Type 0
+BreaksParts rest value (Document path NotToml) = ⊥
+BreaksParts rest value (Document path why) = slice_get (faults rest) 0 ≡ Some (in_document path why)
+BreaksParts rest value (Table table path why) = slice_get (faults rest) 0 ≡ Some (in_table table path why)
+BreaksParts rest value (Policy path) = (faults rest ≡ []) × BreaksPolicy value path
+BreaksParts rest value _ = ⊥
+
+abbrev pub BreaksDocument : Members → Refusal → Type 0
+BreaksDocument document refusal = BreaksParts (session_part document) (get_member policy_key document) refusal
+
+-- the bytes are a document that breaks this rule first
+abbrev pub HasFirstRefusal : List ℕ → Refusal → Type 0
+HasFirstRefusal bytes refusal = (document : Members) × IsToml bytes document × BreaksDocument document refusal
+
 -- The bytes are no document of a session: the first rule that they break.
 abbrev pub DeservesUnread : List ℕ → Refusal → Type 0
 DeservesUnread bytes TooLong = document_bytes < length bytes
 DeservesUnread bytes (Document path NotToml) = (length bytes ≤ document_bytes) × (path ≡ []) × IsNotToml bytes
-DeservesUnread bytes (Document path why) =
-    (length bytes ≤ document_bytes) × HasFirstFaultBeside bytes (in_document path why)
-DeservesUnread bytes (Table table path why) =
-    (length bytes ≤ document_bytes) × HasFirstFaultBeside bytes (in_table table path why)
-DeservesUnread bytes (Policy path) = (length bytes ≤ document_bytes) × HasFirstPolicyFault bytes path
-DeservesUnread bytes _ = ⊥
+DeservesUnread bytes refusal = (length bytes ≤ document_bytes) × HasFirstRefusal bytes refusal
 
 -- the bytes are the document of a session and its policy, which break a rule of a command first
 pub record BreaksRule (Breaks : Session → Option (List Rule) → Refusal → Type 0) (bytes : List ℕ) (refusal : Refusal)

@@ -1,4 +1,4 @@
-use Rattle.script_lang.proofs.Aside.{gone, others, unchanged}
+use Rattle.script_lang.proofs.TakenOut.{gone, others, unchanged}
 use Rattle.script_lang.proofs.laws.a_key_taken_out_leaves_the_others.Goals as goal
 
 pub returns-clause-others : goal.returns-clause-others
