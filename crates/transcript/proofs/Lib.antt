@@ -6,6 +6,7 @@ mod Skipping
 mod Reading
 mod Rising
 mod Covering
+mod Denials
 mod Printed
 mod PiecesSoFar
 mod TextSoFar
