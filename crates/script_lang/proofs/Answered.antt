@@ -1,5 +1,5 @@
 -- What reading a parsed document gives, said of the bytes that it was parsed from.
-use Rattle.std.proofs.Common.{◌≡◌, ◌≢◌, ℕ, List, [], Option, Some, None, Result, Ok, Err, IfOk, IfErr, MatchResult}
+use Rattle.std.proofs.Common.{◌≡◌, ℕ, List, [], Option, Some, None, Result, Ok, Err, IfOk, IfErr, MatchResult}
 use Rattle.std.proofs.Common.{slice_get, refl, sym, ◌∙◌, subst}
 use Rattle.toml.specs.Data.{Data, Members}
 use Rattle.address_table.specs.declared.nodes.Table.{Table}
@@ -10,9 +10,8 @@ use Rattle.script_lang.specs.declared.refusal.DocWhy.TheVariants.{DuplicateBoard
 use Rattle.script_lang.specs.declared.refusal.SessionRefusal.{SessionRefusal}
 use Rattle.script_lang.specs.declared.refusal.SessionRefusal.TheVariants as refusal
 use Rattle.script_lang.specs.declared.session.Session.{Session}
-use Rattle.script_lang.specs.Document.{Fault, faults, IsTableAt, IsSession, IsToml, IsNotToml, StandsFor, IsRefusal}
-use Rattle.script_lang.specs.Document.{SameTableAt, SameSession}
-use Rattle.script_lang.specs.Reading.{TellsFault}
+use Rattle.script_lang.specs.Document.{Fault, faults, IsTableAt, IsSession, IsToml, StandsFor, IsRefusal}
+use Rattle.script_lang.specs.Document.{SameTableAt, SameSession, TellsFault, TellsNotToml}
 
 same_at : (format : ℕ) (value : Option Data) (t u : Option Table) → IsTableAt format value t → IsTableAt format value u
     → SameTableAt t u
@@ -55,11 +54,33 @@ only_memory fs (refusal.Table name table_refusal.NoMemory) none h = absurd h
 only_memory fs refusal.NoMemory none h = refl
 
 -- bytes that stand for a session are TOML, so that only want of memory is left
-pub memory_alone : (bytes : List ℕ) (r : SessionRefusal) (session : Session) → (r ≢ refusal.NoMemory → IsNotToml bytes)
+pub memory_alone : (bytes : List ℕ) (r : SessionRefusal) (session : Session) → TellsNotToml bytes r
     → StandsFor bytes session → r ≡ refusal.NoMemory
-memory_alone bytes (refusal.Document path why) session h stands = absurd (h (λ same. cc) stands.0 stands.1)
-memory_alone bytes (refusal.Table name why) session h stands = absurd (h (λ same. cc) stands.0 stands.1)
-memory_alone bytes refusal.NoMemory session h stands = refl
+memory_alone bytes (refusal.Document path NotToml) session told stands = absurd (told.1 stands.0 stands.1)
+memory_alone bytes (refusal.Document path Shape) session told stands = absurd told
+memory_alone bytes (refusal.Document path NoBoards) session told stands = absurd told
+memory_alone bytes (refusal.Document path ManyBoards) session told stands = absurd told
+memory_alone bytes (refusal.Document path ManyClients) session told stands = absurd told
+memory_alone bytes (refusal.Document path DuplicateBoard) session told stands = absurd told
+memory_alone bytes (refusal.Table name why) session told stands = absurd told
+memory_alone bytes refusal.NoMemory session told stands = refl
+
+pub not_toml : (bytes : List ℕ) (r : SessionRefusal) → TellsNotToml bytes r → IsRefusal bytes r
+not_toml bytes (refusal.Document path NotToml) told = told
+not_toml bytes (refusal.Document path Shape) told = absurd told
+not_toml bytes (refusal.Document path NoBoards) told = absurd told
+not_toml bytes (refusal.Document path ManyBoards) told = absurd told
+not_toml bytes (refusal.Document path ManyClients) told = absurd told
+not_toml bytes (refusal.Document path DuplicateBoard) told = absurd told
+not_toml bytes (refusal.Table name why) told = absurd told
+not_toml bytes refusal.NoMemory told = tt
+
+-- what reading a document gives is the session that it stands for
+pub only : (document : Members) (result : Result Session SessionRefusal) → IfOk result (IsSession document)
+    → IfErr result (TellsFault (faults document)) → (session : Session) → IsSession document session
+    → MatchResult result (λ read. SameSession read session) (λ r. r ≡ refusal.NoMemory)
+only document (Ok read) found told session is = one_session document read session found is
+only document (Err r) found told session is = only_memory (faults document) r is.faultless told
 
 module _ (bytes : List ℕ) (document : Members) (toml : IsToml bytes document) where
   refused_as : (r : SessionRefusal) → TellsFault (faults document) r → IsRefusal bytes r
@@ -78,12 +99,7 @@ module _ (bytes : List ℕ) (document : Members) (toml : IsToml bytes document) 
   refused (Ok read) h = tt
   refused (Err r) h = refused_as r h
 
-  pub only : (result : Result Session SessionRefusal) → IfOk result (IsSession document)
-      → IfErr result (TellsFault (faults document)) → (session : Session) → StandsFor bytes session
-      → MatchResult result (λ read. SameSession read session) (λ r. r ≡ refusal.NoMemory)
-  only (Ok read) found told session stands =
-      one_session document read session found
-      (subst (λ d. IsSession d session) (one_document bytes stands.0 document stands.1 toml) stands.2)
-  only (Err r) found told session stands =
-      only_memory (faults document) r
-      (subst (λ d. faults d ≡ []) (one_document bytes stands.0 document stands.1 toml) stands.2.faultless) told
+  -- what the bytes stand for is what their document stands for
+  pub of_document : (session : Session) → StandsFor bytes session → IsSession document session
+  of_document session stands =
+      subst (λ d. IsSession d session) (one_document bytes stands.0 document stands.1 toml) stands.2

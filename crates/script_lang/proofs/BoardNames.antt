@@ -6,8 +6,7 @@ use Rattle.std.specs.Str.{bytes_eq}
 use Rattle.std.proofs.lemmas.List.{drop_more, take_more}
 use Rattle.board_node.specs.declared.spec.BoardSpec.{BoardSpec}
 use Rattle.script_lang.specs.declared.refusal.SessionRefusal.{SessionRefusal}
-use Rattle.script_lang.specs.Document.{duplicates, duplicate_at}
-use Rattle.script_lang.specs.Reading.{TellsFault}
+use Rattle.script_lang.specs.Document.{duplicates, duplicate_at, TellsFault}
 use Rattle.script_lang.proofs.FaultLists.{front_fault}
 
 -- the faults from a board on

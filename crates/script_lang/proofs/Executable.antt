@@ -10,6 +10,7 @@ use Rattle.std.proofs.lemmas.Nat.{and_le_r}
 use Rattle.std.proofs.lemmas.Option.{same_Some}
 use Rattle.ipb_base.specs.Word.{IsWord, AreWords}
 use Rattle.address_table.specs.Rules.{first_broken}
+use Rattle.toml.specs.Data.{Members}
 use Rattle.board_node.specs.declared.spec.BoardSpec.{BoardSpec}
 use Rattle.masked_fields.specs.Field.{shifted}
 use Rattle.mtu_packer.specs.Cutting.{HasWords}
@@ -25,7 +26,7 @@ use Rattle.script_steps.specs.declared.operation.Verb.{Verb}
 use Rattle.script_steps.specs.declared.operation.Verb.TheVariants.{Read, Write, ReadBlock, WriteBlock, RmwBits, RmwSum}
 use Rattle.script_lang.specs.declared.script_refusal.ScriptWhy.{ScriptWhy}
 use Rattle.script_lang.specs.declared.session.Session.{Session}
-use Rattle.script_lang.specs.Document.{StandsFor}
+use Rattle.script_lang.specs.Document.{IsSession}
 use Rattle.script_steps.specs.Executable.{FitsVerb, CanBeDone, AreExecutable}
 use Rattle.script_lang.specs.Lines.{command_of, takes, words}
 use Rattle.script_lang.specs.Operations.{use_rules, is_full, is_port, fits_mask, fits_field, write_op}
@@ -185,9 +186,10 @@ module _ (boards : List BoardSpec) (indexes : List RegisterMap) (sound : AllByRe
     scripts_well [] = tt
     scripts_well (script ∷ scripts) = (script_well 1 script, scripts_well scripts)
 
-pub session_executable : (bytes : List ℕ) (session : Session) (indexes : List RegisterMap) → StandsFor bytes session
+pub session_executable : (document : Members) (session : Session) (indexes : List RegisterMap)
+    → IsSession document session
     → AllByRecursion (λ (b : BoardSpec). KeepsRules session.tables b.table) session.boards
     → AllZip (λ (b : BoardSpec) (index : RegisterMap). IsIndexOf session.tables b.table index) session.boards indexes
     → AllByRecursion AreExecutable (steps_of session.boards indexes session.scripts)
-session_executable bytes session indexes stands kept are =
-    scripts_well session.boards indexes (session_registers bytes session indexes stands kept are) session.scripts
+session_executable document session indexes is kept are =
+    scripts_well session.boards indexes (session_registers document session indexes is kept are) session.scripts

@@ -5,8 +5,7 @@ use Rattle.script_lang.specs.declared.refusal.DocWhy.TheVariants.{NotToml, Shape
 use Rattle.script_lang.specs.declared.refusal.DocWhy.TheVariants.{DuplicateBoard}
 use Rattle.script_lang.specs.declared.refusal.SessionRefusal.{SessionRefusal}
 use Rattle.script_lang.specs.declared.refusal.SessionRefusal.TheVariants as refusal
-use Rattle.script_lang.specs.Document.{Fault}
-use Rattle.script_lang.specs.Reading.{TellsFault}
+use Rattle.script_lang.specs.Document.{Fault, TellsFault}
 
 first-of-front : (xs ys : List Fault) (f : Fault) → slice_get xs 0 ≡ Some f → slice_get (xs ++ ys) 0 ≡ Some f
 first-of-front [] ys f h = cc

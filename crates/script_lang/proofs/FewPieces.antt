@@ -18,7 +18,7 @@ use Rattle.script_lang.specs.declared.call.Call.{Call}
 use Rattle.script_lang.specs.declared.call.Command.{Command}
 use Rattle.script_lang.specs.declared.call.Command.TheVariants as says
 use Rattle.script_steps.specs.declared.operation.Step.{Step}
-use Rattle.script_steps.specs.declared.operation.Step.TheVariants.{Do, Dispatch}
+use Rattle.script_steps.specs.declared.operation.Step.TheVariants.{Do, Denied, Dispatch}
 use Rattle.script_steps.specs.declared.operation.Verb.{Verb}
 use Rattle.script_steps.specs.declared.operation.Verb.TheVariants.{Read, Write, ReadBlock, WriteBlock, RmwBits, RmwSum}
 use Rattle.script_lang.specs.declared.script_refusal.ScriptWhy.{ScriptWhy}
@@ -39,6 +39,7 @@ use Rattle.script_lang.proofs.Kept.{parts_none}
 abbrev HasWords : Option Step → Type 0
 HasWords None = Unit {0}
 HasWords (Some Dispatch) = Unit {0}
+HasWords (Some (Denied rule op)) = Unit {0}
 HasWords (Some (Do op)) = op_count op.op ≤ 1 + (if is_block op.verb then op_count op.op else 0)
 
 abbrev MeansWords : Meaning → Type 0
@@ -159,6 +160,16 @@ module _ (boards : List BoardSpec) (indexes : List RegisterMap) where
   line-total line lines (Err why) is has rest = rw is (omega (arith, rest))
   line-total line lines (Ok None) is has rest = rw is (omega (arith, rest))
   line-total line lines (Ok (Some Dispatch)) is has rest = rw is (omega (arith, rest))
+  line-total line lines (Ok (Some (Denied rule op))) is has rest =
+      let one : count_of boards indexes operations_in (line ∷ lines) ≡ 1 + count_of boards indexes operations_in lines =
+      count_more operations_in line lines ∙ rw is refl in
+      let words : count_of boards indexes block_words_in (line ∷ lines)
+      ≡ (if is_block op.verb then op_count op.op else 0) + count_of boards indexes block_words_in lines =
+      count_more block_words_in line lines ∙ rw is refl in
+      let steps : steps_in (line ∷ lines) ≡ Denied rule op ∷ steps_in lines = rw is refl in
+      let sum : sum_by op_count (operations (steps_in (line ∷ lines))) ≡ sum_by op_count (operations (steps_in lines)) =
+      ap (λ all. sum_by op_count (operations all)) steps in
+      omega (arith, rest, one, words, sum)
   line-total line lines (Ok (Some (Do op))) is has rest =
       let one : count_of boards indexes operations_in (line ∷ lines) ≡ 1 + count_of boards indexes operations_in lines =
       count_more operations_in line lines ∙ rw is refl in

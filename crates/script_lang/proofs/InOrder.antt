@@ -4,9 +4,8 @@ use Rattle.std.specs.Prelude.{IsErrAnd}
 use Rattle.toml.specs.Data.{Members}
 use Rattle.script_lang.specs.declared.refusal.SessionRefusal.{SessionRefusal}
 use Rattle.script_lang.specs.declared.session.Session.{Session}
-use Rattle.script_lang.specs.Document.{faults, misfits, size_faults, duplicates, tables_faults}
+use Rattle.script_lang.specs.Document.{TellsFault, faults, misfits, size_faults, duplicates, tables_faults}
 use Rattle.script_lang.specs.Sessions.{boards_of, format_of, tables_of}
-use Rattle.script_lang.specs.Reading.{TellsFault}
 use Rattle.script_lang.proofs.FaultLists.{first_fault, last_fault, no_faults, second_fault, third_fault}
 
 -- an error that is handed on tells what it told

@@ -7,7 +7,7 @@ use Rattle.toml.specs.Data.{Data, Members, get_member, as_str, as_table}
 use Rattle.address_table.specs.Numbers.{number}
 use Rattle.address_table.specs.Rules.{has_key, holds_of}
 use Rattle.script_lang.specs.declared.session.Session.{Session}
-use Rattle.script_lang.specs.Document.{Fault, breaks, misfits, size_faults, duplicates, StandsFor}
+use Rattle.script_lang.specs.Document.{Fault, breaks, misfits, size_faults, duplicates, IsSession}
 use Rattle.script_lang.specs.declared.refusal.DocWhy.TheVariants.{NoBoards, ManyBoards}
 use Rattle.script_lang.specs.declared.refusal.TheConstants.{MAX_BOARDS, MAX_CLIENTS}
 use Rattle.std.proofs.lemmas.Bool.Decides.{nat_tests}
@@ -99,14 +99,13 @@ kept_length : {A : Type 0} (read : Members → A) (ds : List Data) → length (t
 kept_length read [] = omega arith
 kept_length read (d ∷ ds) = kept_more read d ds (as_table d) refl (kept_length read ds)
 
-pub within : (bytes : List ℕ) (session : Session) → StandsFor bytes session → IsWithin session
-within bytes session stands =
-    let document = stands.0 in
+pub within : (document : Members) (session : Session) → IsSession document session → IsWithin session
+within document session is =
     let boards = items_at (codes "board") document in
     let clients = items_at (codes "client") document in
     let named =
     parts_none (misfits document ++ size_faults document ++ duplicates [] 0 (boards_of document)) _
-    stands.2.faultless in
+    is.faultless in
     let sized = parts_none (misfits document ++ size_faults document) _ named.0 in
     let counted = parts_none (misfits document) _ sized.0 in
     let last =
@@ -120,9 +119,9 @@ within bytes session stands =
     let all_boards : length (boards_of document) ≡ length boards = ruled.1 in
     let kept_clients : length (scripts_of document) ≤ length clients = kept_length script_of clients in
     record {
-      some_boards = rw stands.2.boards (omega arith);
-      few_boards = rw stands.2.boards (omega arith);
-      few_clients = rw stands.2.scripts (omega arith);
-      boards = rw stands.2.boards ruled.0;
-      settings = rw stands.2.settings (are_limits document);
+      some_boards = rw is.boards (omega arith);
+      few_boards = rw is.boards (omega arith);
+      few_clients = rw is.scripts (omega arith);
+      boards = rw is.boards ruled.0;
+      settings = rw is.settings (are_limits document);
     }

@@ -4,6 +4,7 @@ pub mod Faults
 pub mod Numbers
 pub mod FaultLists
 pub mod TableLists
+pub mod TakenOut
 pub mod BoardNames
 pub mod Answered
 pub mod InOrder

@@ -6,9 +6,10 @@ use Rattle.std.specs.Str.{bytes_eq}
 use Rattle.std.proofs.lemmas.List.Folds.{list_any-from_Any}
 use Rattle.std.proofs.lemmas.Slice.Eq.{bytes_eq-Decides}
 use Rattle.mtu_packer.proofs.AnyLemmas.{any_same, any_front, any_back, any_here}
+use Rattle.toml.specs.Data.{Members}
 use Rattle.board_node.specs.declared.spec.BoardSpec.{BoardSpec}
 use Rattle.script_lang.specs.declared.session.Session.{Session}
-use Rattle.script_lang.specs.Document.{duplicates, duplicate_at, Fault, misfits, size_faults, StandsFor}
+use Rattle.script_lang.specs.Document.{duplicates, duplicate_at, Fault, misfits, size_faults, IsSession}
 use Rattle.script_lang.specs.OwnNames.{HaveOwnNames}
 use Rattle.script_lang.specs.Sessions.{boards_of}
 use Rattle.script_lang.proofs.Kept.{parts_none}
@@ -56,10 +57,10 @@ own_from earlier first (board ∷ boards) none (suc i) (suc j) d less within sam
     own_from (earlier ++ board ∷ []) (first + 1) boards (later_none earlier first board boards none) i j d (omega arith)
     (omega arith) same
 
-pub own_names : (bytes : List ℕ) (session : Session) → StandsFor bytes session → HaveOwnNames session.boards
-own_names bytes session stands =
-    let document = stands.0 in
+pub own_names : (document : Members) (session : Session) → IsSession document session
+    → HaveOwnNames session.boards
+own_names document session is =
     let named = parts_none (misfits document ++ size_faults document ++ duplicates [] 0 (boards_of document)) _
-    stands.2.faultless in
+    is.faultless in
     let none = (parts_none (misfits document ++ size_faults document) _ named.0).1 in
-    subst HaveOwnNames (sym stands.2.boards) (own_from [] 0 (boards_of document) none)
+    subst HaveOwnNames (sym is.boards) (own_from [] 0 (boards_of document) none)

@@ -6,7 +6,7 @@ use Rattle.std.specs.Option.{option_map_or}
 use Rattle.std.specs.FinMap.{get}
 use Rattle.std.proofs.lemmas.Bool.{ltb-true, leb-true}
 use Rattle.ipb_base.specs.Word.{IsWord}
-use Rattle.toml.specs.Data.{Data, Items, no_items, array, get_member}
+use Rattle.toml.specs.Data.{Data, Items, no_items, array, get_member, Members}
 use Rattle.address_table.specs.Numbers.{number}
 use Rattle.address_table.specs.Rules.{first_broken}
 use Rattle.address_table.specs.Tables.{IsTable, IsNode, node, AreNodes, none, more, children}
@@ -27,7 +27,7 @@ use Rattle.node_tree.specs.declared.register.Register.{Register}
 use Rattle.node_tree.proofs.NamesLemmas.{named-listed}
 use Rattle.node_tree.proofs.RegisterLemmas.{root-register}
 use Rattle.script_lang.specs.declared.session.Session.{Session}
-use Rattle.script_lang.specs.Document.{IsTableAt, StandsFor}
+use Rattle.script_lang.specs.Document.{IsTableAt, IsSession}
 use Rattle.script_lang.specs.Sessions.{format_of, tables_of}
 use Rattle.script_lang.proofs.SmallNumbers.{IsSmall, number_small}
 
@@ -53,10 +53,11 @@ table_at format (Some value) (Some u) t is there =
     let same : u ≡ t = cc in
     subst (λ (x : Table). AreWritten x.nodes.items) same (table_written format value u is)
 
-session_tables : (bytes : List ℕ) (session : Session) → StandsFor bytes session → AreWrittenTables session.tables
-session_tables bytes session stands name t there =
-    table_at (format_of stands.0) (get_member name (tables_of stands.0)) (get session.tables name) t
-    (stands.2.tables name) there
+session_tables : (document : Members) (session : Session) → IsSession document session
+    → AreWrittenTables session.tables
+session_tables document session is name t there =
+    table_at (format_of document) (get_member name (tables_of document)) (get session.tables name) t
+    (is.tables name) there
 
 valid_tables : (tables : TableMap) → AreWrittenTables tables → AreValidTables tables
 valid_tables tables written name t there =
@@ -194,9 +195,10 @@ indexes_sound tables written (b ∷ boards) (index ∷ indexes) kept are = (
   indexes_sound tables written boards indexes kept.1 are.1,
 )
 
-pub session_registers : (bytes : List ℕ) (session : Session) (indexes : List RegisterMap) → StandsFor bytes session
+pub session_registers : (document : Members) (session : Session) (indexes : List RegisterMap)
+    → IsSession document session
     → AllByRecursion (λ (b : BoardSpec). KeepsRules session.tables b.table) session.boards
     → AllZip (λ (b : BoardSpec) (index : RegisterMap). IsIndexOf session.tables b.table index) session.boards indexes
     → AllByRecursion AreSoundRegisters indexes
-session_registers bytes session indexes stands kept are =
-    indexes_sound session.tables (session_tables bytes session stands) session.boards indexes kept are
+session_registers document session indexes is kept are =
+    indexes_sound session.tables (session_tables document session is) session.boards indexes kept are

@@ -10,7 +10,7 @@ use Rattle.ipb_base.specs.Digits.{number_in_text, digits_number, digits_in_base,
 use Rattle.address_table.specs.Numbers.{number, number_of_integer}
 use Rattle.ipb_base.specs.Digits.{are_digits, is_between, value_of_digits}
 use Rattle.script_lang.specs.declared.session.Session.{Session}
-use Rattle.script_lang.specs.Document.{StandsFor}
+use Rattle.script_lang.specs.Document.{IsSession}
 use Rattle.board_node.specs.OpeningWords.{NamesWords, LinkNamesWords, OpensOnWords}
 use Rattle.script_lang.specs.Fields.{items_at, numbers_in, tables_in}
 use Rattle.script_lang.specs.Keys.{is_udp}
@@ -103,8 +103,8 @@ by_link false ms = tables_kept NamesWords range_of (items_at (codes "ranges") ms
 board_small : (ms : Members) → OpensOnWords (board_of ms)
 board_small ms = by_link (is_udp ms) ms
 
-pub opens_on_words : (bytes : List ℕ) (session : Session) → StandsFor bytes session
+pub opens_on_words : (document : Members) (session : Session) → IsSession document session
     → AllByRecursion OpensOnWords session.boards
-opens_on_words bytes session stands =
-    subst (AllByRecursion OpensOnWords) (sym stands.2.boards)
-    (tables_kept OpensOnWords board_of (items_at (codes "board") stands.0) board_small)
+opens_on_words document session is =
+    subst (AllByRecursion OpensOnWords) (sym is.boards)
+    (tables_kept OpensOnWords board_of (items_at (codes "board") document) board_small)

@@ -16,8 +16,8 @@ use Rattle.toml.specs.declared.value.Value.{Value}
 use Rattle.address_table.specs.Tables.{IsTable, table_fault}
 use Rattle.address_table.specs.declared.nodes.Table.{Table}
 use Rattle.node_tree.specs.Maps.{Name, TableMap}
-use Rattle.script_lang.specs.Document.{IsTableAt, tables_faults}
-use Rattle.script_lang.specs.Reading.{TellsFault, table_fault_list, AreTables}
+use Rattle.script_lang.specs.Document.{IsTableAt, TellsFault, tables_faults}
+use Rattle.script_lang.specs.Reading.{table_fault_list, AreTables}
 use Rattle.script_lang.specs.declared.refusal.SessionRefusal.{SessionRefusal}
 use Rattle.script_lang.proofs.FaultLists.{front_fault}
 

@@ -7,7 +7,7 @@ use Rattle.board_node.specs.declared.spec.BoardSpec.{BoardSpec}
 use Rattle.node_tree.specs.Maps.{RegisterMap}
 use Rattle.transaction_codec.specs.Request.{op_count}
 use Rattle.script_steps.specs.declared.operation.Step.{Step}
-use Rattle.script_steps.specs.declared.operation.Step.TheVariants.{Do, Dispatch}
+use Rattle.script_steps.specs.declared.operation.Step.TheVariants.{Do, Denied, Dispatch}
 use Rattle.script_steps.specs.Packing.{AreWithinLimits, all_operations, operations}
 use Rattle.script_lang.specs.Scripts.{Meaning, ScriptLine, all_lines, block_words_in, count_in, count_of}
 use Rattle.script_lang.specs.Scripts.{line_meaning, lines_from, operations_in, script_faults, steps_from, steps_of}
@@ -27,6 +27,14 @@ module _ (boards : List BoardSpec) (indexes : List RegisterMap) where
   line_operations line lines (Err why) is rest = rw is (omega (arith, rest))
   line_operations line lines (Ok None) is rest = rw is (omega (arith, rest))
   line_operations line lines (Ok (Some Dispatch)) is rest = rw is (omega (arith, rest))
+  line_operations line lines (Ok (Some (Denied rule op))) is rest =
+      let one : count (line ∷ lines) ≡ 1 + count lines = count_more boards indexes operations_in line lines ∙ rw is refl
+      in
+      let steps : steps_in boards indexes (line ∷ lines) ≡ Denied rule op ∷ steps_in boards indexes lines = rw is refl in
+      let same : length (operations (steps_in boards indexes (line ∷ lines)))
+      ≡ length (operations (steps_in boards indexes lines)) =
+      ap (λ (all : List Step). length (operations all)) steps in
+      omega (arith, rest, one, same)
   line_operations line lines (Ok (Some (Do op))) is rest =
       let one : count (line ∷ lines) ≡ 1 + count lines = count_more boards indexes operations_in line lines ∙ rw is refl
       in

@@ -112,6 +112,20 @@ StandsFor bytes session = (document : Members) × IsToml bytes document × IsSes
 abbrev pub HasFirstFault : List ℕ → Fault → Type 0
 HasFirstFault bytes fault = (document : Members) × IsToml bytes document × (slice_get (faults document) 0 ≡ Some fault)
 
+-- A refusal of a document tells the first of these faults, want of memory aside.
+abbrev pub TellsFault : List Fault → SessionRefusal → Type 0
+TellsFault faults (refusal.Document path NotToml) = ⊥
+TellsFault faults (refusal.Document path why) = slice_get faults 0 ≡ Some (in_document path why)
+TellsFault faults (refusal.Table name (At path why)) = slice_get faults 0 ≡ Some (in_table name path why)
+TellsFault faults (refusal.Table name table_refusal.NoMemory) = ⊥
+TellsFault faults refusal.NoMemory = Unit {0}
+
+-- A refusal of bytes says that they are no TOML text, want of memory aside.
+abbrev pub TellsNotToml : List ℕ → SessionRefusal → Type 0
+TellsNotToml bytes (refusal.Document path NotToml) = (path ≡ []) × IsNotToml bytes
+TellsNotToml bytes refusal.NoMemory = Unit {0}
+TellsNotToml bytes _ = ⊥
+
 -- A refusal tells the first fault of the bytes, want of memory aside.
 abbrev pub IsRefusal : List ℕ → SessionRefusal → Type 0
 IsRefusal bytes (refusal.Document path NotToml) = (path ≡ []) × IsNotToml bytes

@@ -5,28 +5,16 @@ use Rattle.std.specs.Option.{option_map_or}
 use Rattle.std.specs.FinMap.{get}
 use Rattle.toml.specs.Data.{Members, get_member}
 use Rattle.address_table.specs.declared.refusal.TableWhy.{TableWhy}
-use Rattle.address_table.specs.declared.refusal.TableRefusal.TheVariants as table_refusal
 use Rattle.node_tree.specs.Maps.{Name, TableMap}
 use Rattle.script_lang.specs.declared.steps.Misfit.{Misfit}
 use Rattle.script_lang.specs.declared.steps.Misfit.TheVariants.{At, NoMemory}
-use Rattle.script_lang.specs.declared.refusal.DocWhy.TheVariants.{NotToml}
-use Rattle.script_lang.specs.declared.refusal.SessionRefusal.{SessionRefusal}
-use Rattle.script_lang.specs.declared.refusal.SessionRefusal.TheVariants as refusal
 use Rattle.script_lang.specs.Walk.{Way}
-use Rattle.script_lang.specs.Document.{Fault, in_document, in_table, IsTableAt}
+use Rattle.script_lang.specs.Document.{Fault, in_table, IsTableAt}
 
 -- a fault tells the first of these places, want of memory aside
 abbrev pub TellsFirst : List Way → Misfit → Type 0
 TellsFirst ways (At way) = slice_get ways 0 ≡ Some way
 TellsFirst ways NoMemory = Unit {0}
-
--- a refusal of a TOML text tells the first of these faults, want of memory aside
-abbrev pub TellsFault : List Fault → SessionRefusal → Type 0
-TellsFault faults (refusal.Document path NotToml) = ⊥
-TellsFault faults (refusal.Document path why) = slice_get faults 0 ≡ Some (in_document path why)
-TellsFault faults (refusal.Table name (table_refusal.At path why)) = slice_get faults 0 ≡ Some (in_table name path why)
-TellsFault faults (refusal.Table name table_refusal.NoMemory) = ⊥
-TellsFault faults refusal.NoMemory = Unit {0}
 
 -- the fault of the table of a name, if it has one
 abbrev pub table_fault_list : Name → Option (List ℕ × TableWhy) → List Fault

@@ -7,7 +7,7 @@ use Rattle.board_node.specs.declared.spec.BoardSpec.{BoardSpec}
 use Rattle.node_tree.specs.Maps.{RegisterMap}
 use Rattle.transaction_codec.specs.Request.{op_count}
 use Rattle.script_steps.specs.declared.operation.Step.{Step}
-use Rattle.script_steps.specs.declared.operation.Step.TheVariants.{Do, Dispatch}
+use Rattle.script_steps.specs.declared.operation.Step.TheVariants.{Do, Denied, Dispatch}
 use Rattle.script_lang.specs.declared.tally.Tally.{Tally}
 use Rattle.script_steps.specs.declared.operation.Verb.{Verb}
 use Rattle.script_steps.specs.declared.operation.Verb.TheVariants.{ReadBlock, WriteBlock}
@@ -44,6 +44,7 @@ abbrev pub operations_in : Option Step → ℕ
 operations_in None = 0
 operations_in (Some Dispatch) = 0
 operations_in (Some (Do op)) = 1
+operations_in (Some (Denied rule op)) = 1
 
 abbrev pub is_block : Verb → Bool
 is_block ReadBlock = true
@@ -55,6 +56,7 @@ abbrev pub block_words_in : Option Step → ℕ
 block_words_in None = 0
 block_words_in (Some Dispatch) = 0
 block_words_in (Some (Do op)) = if is_block op.verb then op_count op.op else 0
+block_words_in (Some (Denied rule op)) = if is_block op.verb then op_count op.op else 0
 
 abbrev pub Meaning : Type 0
 Meaning = Result (Option Step) ScriptWhy

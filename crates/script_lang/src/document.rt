@@ -1,13 +1,13 @@
 //! The whole of a document.
 
-ghost use Rattle.std.specs.Prelude.{◌≡◌, ◌≢◌, List, [], ◌∷◌, Err, IfOk, IfErr, OnOk, MatchResult, map};
+ghost use Rattle.std.specs.Prelude.{◌≡◌, List, [], ◌∷◌, Err, IfOk, IfErr, OnOk, MatchResult, map};
 ghost use Rattle.std.specs.List.{list_any};
 ghost use Rattle.std.specs.Str.{bytes_eq};
 ghost use Rattle.toml.specs.View.{table_view};
 ghost use Rattle.script_lang.specs.Document as spec;
 ghost use Rattle.script_lang.specs.Limits.{IsWithin};
 ghost use Rattle.script_lang.specs.Paths.{path as path_text};
-ghost use Rattle.script_lang.specs.Reading.{TellsFirst, TellsFault};
+ghost use Rattle.script_lang.specs.Reading.{TellsFirst};
 ghost use Rattle.script_lang.specs.Walk.{Way as SpecWay};
 ghost use Rattle.script_lang.specs.declared.refusal.DocWhy.TheVariants as whys;
 ghost use Rattle.script_lang.specs.declared.refusal.SessionRefusal.TheVariants.{NoMemory as no_memory};
@@ -37,17 +37,16 @@ pub fn read_session(alloc: Global, bytes: &[u8]) -> Result<Session, SessionRefus
     // Each number is in its range, so that a session that was read meets what compiling it and running it ask for.
     ensures within { IfOk result IsWithin }
 {
-    match parse(alloc, bytes) {
-        Ok(document) => session(alloc, &document),
+    match parse_document(alloc, bytes) {
+        Ok(document) => read_session_table(alloc, &document),
         Err(refusal) => Err(refusal),
     }
 }
 
-/// The document of a TOML text.
-fn parse(alloc: Global, bytes: &[u8]) -> Result<Table, SessionRefusal>
+/// The document of a TOML text in UTF-8 (profile). The answer is the table that the bytes write, or else `NotToml`.
+pub fn parse_document(alloc: Global, bytes: &[u8]) -> Result<Table, SessionRefusal>
     ensures document { IfOk result (λ document. spec.IsToml bytes.now (table_view document)) }
-    ensures refused { IfErr result (spec.IsRefusal bytes.now) }
-    ensures not_toml { IfErr result (λ refusal. refusal ≢ no_memory → spec.IsNotToml bytes.now) }
+    ensures refused { IfErr result (spec.TellsNotToml bytes.now) }
 {
     match toml::table_from_slice(alloc, bytes) {
         Ok(document) => Ok(document),
@@ -59,6 +58,18 @@ fn parse(alloc: Global, bytes: &[u8]) -> Result<Table, SessionRefusal>
             }
         }
     }
+}
+
+/// Reads a session document that was parsed (profile). The answer is the session that it stands for, or else its first
+/// fault.
+pub fn read_session_table(alloc: Global, document: &Table) -> Result<Session, SessionRefusal>
+    ensures found { IfOk result (spec.IsSession (table_view document.now)) }
+    ensures only { (session : Sess) → spec.IsSession (table_view document.now) session
+        → MatchResult result (λ read. spec.SameSession read session) (λ refusal. refusal ≡ no_memory) }
+    ensures refused { IfErr result (spec.TellsFault (spec.faults (table_view document.now))) }
+    ensures within { IfOk result IsWithin }
+{
+    session(alloc, document)
 }
 
 /// A refusal of the document as a whole.
@@ -74,7 +85,7 @@ fn refused_whole(alloc: Global, why: DocWhy) -> SessionRefusal
 /// The session that a parsed document stands for.
 fn session(alloc: Global, document: &Table) -> Result<Session, SessionRefusal>
     ensures found { IfOk result (spec.IsSession (table_view document.now)) }
-    ensures first { IfErr result (TellsFault (spec.faults (table_view document.now))) }
+    ensures first { IfErr result (spec.TellsFault (spec.faults (table_view document.now))) }
 {
     check_shape(alloc, document)?;
     check_counts(alloc, document)?;
@@ -91,7 +102,7 @@ fn session(alloc: Global, document: &Table) -> Result<Session, SessionRefusal>
 /// The kinds and the rules of all values.
 fn check_shape(alloc: Global, document: &Table) -> Result<(), SessionRefusal>
     ensures none { OnOk result (spec.misfits (table_view document.now) ≡ []) }
-    ensures first { IfErr result (TellsFault (spec.misfits (table_view document.now))) }
+    ensures first { IfErr result (spec.TellsFault (spec.misfits (table_view document.now))) }
 {
     match check_table(alloc, Form::Document, document) {
         Ok(()) => Ok(()),
@@ -101,7 +112,7 @@ fn check_shape(alloc: Global, document: &Table) -> Result<(), SessionRefusal>
 
 fn refused_shape(alloc: Global, misfit: Misfit) -> SessionRefusal
     ensures { (ways : List SpecWay) → TellsFirst ways misfit
-        → TellsFault (map (λ way. spec.in_document (path_text way) whys.Shape) ways) result }
+        → spec.TellsFault (map (λ way. spec.in_document (path_text way) whys.Shape) ways) result }
 {
     match misfit {
         Misfit::At(way) => match way.path(alloc) {
@@ -118,7 +129,7 @@ fn refused_shape(alloc: Global, misfit: Misfit) -> SessionRefusal
 /// How many boards and clients there are.
 fn check_counts(alloc: Global, document: &Table) -> Result<(), SessionRefusal>
     ensures none { OnOk result (spec.size_faults (table_view document.now) ≡ []) }
-    ensures first { IfErr result (TellsFault (spec.size_faults (table_view document.now))) }
+    ensures first { IfErr result (spec.TellsFault (spec.size_faults (table_view document.now))) }
 {
     let boards = items_at(document, "board").len();
     let clients = items_at(document, "client").len();
@@ -137,7 +148,7 @@ fn check_counts(alloc: Global, document: &Table) -> Result<(), SessionRefusal>
 /// No board has the name of an earlier one.
 fn check_names(alloc: Global, boards: &[BoardSpec]) -> Result<(), SessionRefusal>
     ensures none { OnOk result (spec.duplicates [] 0 boards.now ≡ []) }
-    ensures first { IfErr result (TellsFault (spec.duplicates [] 0 boards.now)) }
+    ensures first { IfErr result (spec.TellsFault (spec.duplicates [] 0 boards.now)) }
 {
     for (i, board) in boards.iter().enumerate() {
         if has_name_of(&boards[..i], board) {
@@ -161,7 +172,7 @@ fn has_name_of(boards: &[BoardSpec], named: &BoardSpec) -> bool
 
 /// A refusal of the name of a board.
 fn refused_name(alloc: Global, board: u64) -> SessionRefusal
-    ensures { TellsFault (spec.duplicate_at board ∷ []) result }
+    ensures { spec.TellsFault (spec.duplicate_at board ∷ []) result }
 {
     match format!(in alloc; "board.{board}.name") {
         Ok(path) => SessionRefusal::Document {

@@ -1,9 +1,11 @@
 //! Laws of the definitions, and worked examples of them. These functions do nothing when they run: their clauses are
 //! what is proved.
 
-ghost use Rattle.std.specs.Prelude.{◌≡◌, ℕ, List, [], ◌∷◌, Some, None, codes};
+ghost use Rattle.std.specs.Prelude.{◌≡◌, ◌≢◌, ℕ, List, [], ◌∷◌, Some, None, codes};
 ghost use Rattle.script_lang.specs.Document as spec;
 ghost use Rattle.std.specs.List.{AllByRecursion, AllZip};
+ghost use Rattle.toml.specs.Data.{Members, get_member};
+ghost use Rattle.script_lang.specs.Aside.{without};
 ghost use Rattle.board_node.specs.declared.spec.BoardSpec.{BoardSpec};
 ghost use Rattle.node_tree.specs.Maps.{RegisterMap};
 ghost use Rattle.node_tree.specs.Names.{IsIndexOf};
@@ -24,10 +26,14 @@ ghost use Rattle.script_lang.specs.declared.script_refusal.TheConstants.{MAX_LIN
 ghost use Rattle.script_lang.specs.declared.session.Session.{Session};
 ghost use Rattle.script_lang.specs.declared.steps.PathStep.TheVariants.{Key, Item};
 
-/// A document stands for at most one session.
+/// A document stands for at most one session, and bytes are the text of at most one document.
 pub fn a_document_stands_for_one_session()
-    ensures { (bytes : List ℕ) (s t : Session)
+    ensures document { (document : Members) (s t : Session)
+        → spec.IsSession document s → spec.IsSession document t → spec.SameSession s t }
+    ensures bytes { (bytes : List ℕ) (s t : Session)
         → spec.StandsFor bytes s → spec.StandsFor bytes t → spec.SameSession s t }
+    ensures text { (bytes : List ℕ) (one other : Members)
+        → spec.IsToml bytes one → spec.IsToml bytes other → one ≡ other }
 {}
 
 /// Bytes that stand for a session have no refusal but want of memory.
@@ -46,18 +52,19 @@ pub fn a_first_fault_is_the_only_one()
 
 /// The numbers of a session lie in the ranges of their keys, and its boards and clients within the limits of a session.
 pub fn a_session_keeps_its_limits()
-    ensures { (bytes : List ℕ) (session : Session) → spec.StandsFor bytes session → IsWithin session }
+    ensures { (document : Members) (session : Session) → spec.IsSession document session → IsWithin session }
 {}
 
 /// No two boards of a session have one name.
 pub fn the_boards_of_a_session_have_their_own_names()
-    ensures { (bytes : List ℕ) (session : Session) → spec.StandsFor bytes session → HaveOwnNames session.boards }
+    ensures { (document : Members) (session : Session) → spec.IsSession document session
+        → HaveOwnNames session.boards }
 {}
 
 /// What the scripts of a session mean can be executed: each operation can be packed for any board, its address and its
 /// words have 32 bits, and it is one that its verb asks for.
 pub fn scripts_ask_what_can_be_executed()
-    ensures { (bytes : List ℕ) (session : Session) (indexes : List RegisterMap) → spec.StandsFor bytes session
+    ensures { (document : Members) (session : Session) (indexes : List RegisterMap) → spec.IsSession document session
         → AllByRecursion (λ (b : BoardSpec). KeepsRules session.tables b.table) session.boards
         → AllZip (λ (b : BoardSpec) (index : RegisterMap). IsIndexOf session.tables b.table index)
         session.boards indexes
@@ -66,8 +73,18 @@ pub fn scripts_ask_what_can_be_executed()
 
 /// The words that the ranges of a session's boards name have 32 bits.
 pub fn the_ranges_of_a_session_name_words()
-    ensures { (bytes : List ℕ) (session : Session) → spec.StandsFor bytes session
+    ensures { (document : Members) (session : Session) → spec.IsSession document session
         → AllByRecursion OpensOnWords session.boards }
+{}
+
+/// A document without a key finds every other key as before, and that key no more; a document that does not have the
+/// key is the same without it.
+pub fn a_key_taken_out_leaves_the_others()
+    ensures others { (key other : List ℕ) (document : Members) → other ≢ key
+        → get_member other (without key document) ≡ get_member other document }
+    ensures gone { (key : List ℕ) (document : Members) → get_member key (without key document) ≡ None }
+    ensures unchanged { (key : List ℕ) (document : Members) → get_member key document ≡ None
+        → without key document ≡ document }
 {}
 
 /// The limits of a session.

@@ -1,6 +1,7 @@
 //! Session documents: TOML read into a session of tables, boards and scripts, or the first fault of the document.
 #![tactic(auto)]
 
+mod aside;
 mod boards;
 mod call;
 mod command;
@@ -20,12 +21,14 @@ mod texts;
 mod using;
 mod walk;
 
+pub use aside::take_key;
 pub use board_node::{BoardSpec, Fates, LinkSpec, Ranges};
 pub use compile::compile_scripts;
-pub use document::read_session;
+pub use document::{parse_document, read_session, read_session_table};
 pub use ipb_base::{NoMemory, Text};
 pub use refusal::{DocWhy, MAX_BOARDS, MAX_CLIENTS, SessionRefusal};
 pub use script_refusal::{MAX_LINES, ScriptRefusal, ScriptWhy};
 pub use script_steps::{MAX_BLOCK_WORDS, MAX_OPERATIONS, RegOp, Step, Steps, Verb};
 pub use session::{Boards, Script, Scripts, Session};
+pub use steps::PathStep;
 pub use world_model::Settings;

@@ -12,7 +12,7 @@ use std::marker::Model;
 
 /// One step of the way to a place: into a table by a key, or into an array by a position from 0.
 #[derive(Drop)]
-pub(crate) enum PathStep {
+pub enum PathStep {
     Key(Text),
     Item(u64),
 }

@@ -5,8 +5,8 @@ ghost use Rattle.address_table.specs.declared.refusal.TableWhy.{TableWhy as Why}
 ghost use Rattle.address_table.specs.Limits.{IsFormat};
 ghost use Rattle.address_table.specs.Tables.{IsFault};
 ghost use Rattle.toml.specs.View.{table_view};
-ghost use Rattle.script_lang.specs.Document.{tables_faults};
-ghost use Rattle.script_lang.specs.Reading.{AreTables, TellsFault, table_fault_list};
+ghost use Rattle.script_lang.specs.Document.{TellsFault, tables_faults};
+ghost use Rattle.script_lang.specs.Reading.{AreTables, table_fault_list};
 ghost use Rattle.script_lang.specs.Sessions.{format_of, tables_of};
 
 use crate::fields::{number_at, table_at};

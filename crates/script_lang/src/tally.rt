@@ -39,7 +39,7 @@ fn operations_in(step: &Option<Step>) -> u64
     ensures { result ≡ spec.operations_in step.now }
 {
     match step {
-        Some(Step::Do(_)) => 1,
+        Some(Step::Do(_) | Step::Denied { .. }) => 1,
         Some(Step::Dispatch) | None => 0,
     }
 }
@@ -48,7 +48,7 @@ fn block_words_in(step: &Option<Step>) -> u64
     ensures { result ≡ spec.block_words_in step.now }
 {
     match step {
-        Some(Step::Do(op)) => {
+        Some(Step::Do(op) | Step::Denied { rule: _, op }) => {
             if is_block(op.verb) {
                 word_count(&op.op)
             } else {

@@ -1,1 +1,2 @@
 mod Ruling
+mod Denied

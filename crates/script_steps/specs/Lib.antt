@@ -1,3 +1,4 @@
 pub mod Packing
 pub mod Executable
 pub mod Rulings
+pub mod RuledScripts

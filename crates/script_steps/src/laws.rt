@@ -1,10 +1,31 @@
 //! Laws of the definitions. These functions do nothing when they run: their clauses are what is proved.
 
-ghost use Rattle.std.specs.Prelude.{◌≡◌};
+ghost use Rattle.std.specs.Prelude.{◌≡◌, List, length};
+ghost use Rattle.std.specs.List.{AllByRecursion};
+ghost use Rattle.script_steps.specs.Executable.{AreExecutable};
+ghost use Rattle.script_steps.specs.Packing.{AreWithinLimits, CanBePacked, HaveFewPieces};
+ghost use Rattle.script_steps.specs.RuledScripts.{AreRuled};
+ghost use Rattle.script_steps.specs.Rulings.{ruled};
 ghost use Rattle.script_steps.specs.declared.limits.TheConstants.{MAX_BLOCK_WORDS, MAX_OPERATIONS};
+ghost use Rattle.script_steps.specs.declared.operation.Decision.{Decision};
+ghost use Rattle.script_steps.specs.declared.operation.Step.{Step};
 
 /// How much the scripts of a session may ask.
 pub fn limits_of_scripts()
     ensures operations { MAX_OPERATIONS ≡ 100000 }
     ensures block_words { MAX_BLOCK_WORDS ≡ 1048576 }
+{}
+
+/// Under a policy steps ask for no more than before: where they could be executed and packed, in few pieces and within
+/// the limits of a session, they still can; and there are as many of them.
+pub fn what_is_denied_asks_for_less()
+    ensures executable { (steps : List Step) (decisions : List Decision)
+        → AreExecutable steps → AreExecutable (ruled steps decisions) }
+    ensures packed { (steps : List Step) (decisions : List Decision)
+        → AllByRecursion CanBePacked steps → AllByRecursion CanBePacked (ruled steps decisions) }
+    ensures few { (steps : List Step) (decisions : List Decision)
+        → HaveFewPieces steps → HaveFewPieces (ruled steps decisions) }
+    ensures limits { (scripts now : List (List Step)) → AreRuled scripts now
+        → AreWithinLimits scripts → AreWithinLimits now }
+    ensures count { (steps : List Step) (decisions : List Decision) → length (ruled steps decisions) ≡ length steps }
 {}

@@ -3,3 +3,5 @@ pub mod Told
 pub mod OneAnswer
 pub mod Moved
 pub mod OneText
+pub mod Ruled
+mod Clients

@@ -3,6 +3,7 @@ use Rattle.std.proofs.Common.{List, [], ◌∷◌, Option, Some, None, inl, inr,
 use Rattle.std.proofs.Common.{subst}
 use Rattle.std.specs.List.{AllByRecursion, AllZip}
 use Rattle.std.specs.FinMap.{get}
+use Rattle.access_policy.specs.declared.policy.Rule.{Rule}
 use Rattle.address_table.specs.declared.nodes.Table.{Table}
 use Rattle.board_node.specs.declared.spec.BoardSpec.{BoardSpec}
 use Rattle.node_tree.specs.declared.refusal.CompileRefusal.TheVariants.{At}
@@ -16,7 +17,7 @@ use Rattle.session_input.specs.declared.refusal.Refusal.{Refusal}
 use Rattle.session_input.specs.Below.{TableLaws}
 use Rattle.session_input.specs.Deserved.{IsToldFirst, Compiles, HasIndex, AreCompiled, HaveBuses, AreSteps}
 use Rattle.session_input.specs.Deserved.{TellsCompile}
-use Rattle.session_input.specs.Deserved.{BreaksInRun}
+use Rattle.session_input.specs.Deserved.{BreaksInRun, BreaksInServe}
 use Rattle.session_input.proofs.OneAnswer.{of_table}
 
 found_same : (o p : Option Table) → SameTableAt o p → SameFound o p
@@ -75,29 +76,34 @@ module _ (laws : TableLaws) (s t : Session) (same : SameSession s t) where
   buses_moved : (xs : List RegisterMap) → HaveBuses t xs → HaveBuses s xs
   buses_moved xs c = record { compiled = compiled_moved xs c.compiled; buses = rw same.boards c.buses }
 
-  pub steps_moved : (steps : List (List Step)) → AreSteps t steps → AreSteps s steps
-  steps_moved steps a = record {
+  pub steps_moved : (policy : Option (List Rule)) (steps : List (List Step)) → AreSteps t policy steps
+      → AreSteps s policy steps
+  steps_moved policy steps a = record {
     registers = a.registers;
     boards = buses_moved a.registers a.boards;
     faultless = rw (same.boards, same.scripts) a.faultless;
     meant = rw (same.boards, same.scripts) a.meant;
   }
 
-  pub break_moved : (r : Refusal) → BreaksInRun t r → BreaksInRun s r
-  break_moved r (inl a) =
+  pub break_moved : (policy : Option (List Rule)) (r : Refusal) → BreaksInRun t policy r → BreaksInRun s policy r
+  break_moved policy r (inl a) =
       inl (rw same.boards
       (first_moved (Compiles t.tables) (Compiles s.tables) (λ b. TellsCompile t.tables b.table r)
       (λ b. TellsCompile s.tables b.table r)
       kept_moved (λ b told. told_moved b.table r told) t.boards a))
-  break_moved r (inr (inl b)) =
+  break_moved policy r (inr (inl b)) =
       inr (inl (record {
         indexes = b.indexes;
         compiled = compiled_moved b.indexes b.compiled;
         first = rw same.boards b.first;
       }))
-  break_moved r (inr (inr c)) =
+  break_moved policy r (inr (inr c)) =
       inr (inr (record {
         indexes = c.indexes;
         boards = buses_moved c.indexes c.boards;
         first = rw (same.boards, same.scripts) c.first;
       }))
+
+  pub serve_moved : (policy : Option (List Rule)) (r : Refusal) → BreaksInServe t policy r → BreaksInServe s policy r
+  serve_moved (Some rules) r broken = broken
+  serve_moved None r broken = break_moved None r broken

@@ -2,6 +2,8 @@
 use Rattle.std.proofs.Common.{◌≡◌, ◌⊎◌, ℕ, List, [], ◌∷◌, Option, Some, None, inl, inr, refl, sym}
 use Rattle.std.proofs.Common.{ap, subst, ◌∙◌, slice_get}
 use Rattle.std.specs.List.{AllByRecursion, AllZip}
+use Rattle.access_policy.specs.Decisions.{names_of, ruled_scripts}
+use Rattle.access_policy.specs.declared.policy.Rule.{Rule}
 use Rattle.board_bus.specs.declared.range.BusRefusal.{BusRefusal}
 use Rattle.board_bus.specs.Ranges.{refusal_of}
 use Rattle.board_node.specs.declared.spec.BoardSpec.{BoardSpec}
@@ -14,13 +16,14 @@ use Rattle.script_lang.specs.declared.script_refusal.ScriptWhy.{ScriptWhy}
 use Rattle.script_lang.specs.declared.session.Session.{Session}
 use Rattle.script_lang.specs.Scripts.{LineFault, script_faults, steps_of}
 use Rattle.session_input.specs.declared.refusal.Refusal.{Refusal}
-use Rattle.session_input.specs.declared.refusal.Refusal.TheVariants.{TooLong, Document, Table, Compile, Board, Script}
+use Rattle.session_input.specs.declared.refusal.Refusal.TheVariants.{TooLong, Document, Table, Policy, NoServe}
+use Rattle.session_input.specs.declared.refusal.Refusal.TheVariants.{Compile, Board, Script}
 use Rattle.session_input.specs.Below.{TableLaws}
 use Rattle.session_input.specs.Deserved.{IsToldFirst, ranges_of, Compiles, HasIndex, HasBus, AreCompiled}
 use Rattle.session_input.specs.Deserved.{AreSteps}
 use Rattle.session_input.specs.Deserved.{TellsCompile, TellsBus, TellsLine, BreaksBuses}
 use Rattle.session_input.specs.Deserved.{BreaksScripts}
-use Rattle.session_input.specs.Deserved.{BreaksInRun}
+use Rattle.session_input.specs.Deserved.{BreaksInRun, BreaksInServe}
 
 -- ---- the first board that is not right
 
@@ -60,6 +63,8 @@ of_bus b (Board name why) told = record { why = why; is = ap (λ n. Board n why)
 of_bus b TooLong told = absurd told
 of_bus b (Document path why) told = absurd told
 of_bus b (Table table path why) told = absurd told
+of_bus b (Policy path) told = absurd told
+of_bus b NoServe told = absurd told
 of_bus b (Compile table path why) told = absurd told
 of_bus b (Script client line why) told = absurd told
 
@@ -75,6 +80,8 @@ of_table tables root (Compile name path why) told = record { name = name; path =
 of_table tables root TooLong told = absurd told
 of_table tables root (Document path why) told = absurd told
 of_table tables root (Table table path why) told = absurd told
+of_table tables root (Policy path) told = absurd told
+of_table tables root NoServe told = absurd told
 of_table tables root (Board name why) told = absurd told
 of_table tables root (Script client line why) told = absurd told
 
@@ -90,6 +97,8 @@ of_line faults (Script client line why) told = record { client = client; line = 
 of_line faults TooLong told = absurd told
 of_line faults (Document path why) told = absurd told
 of_line faults (Table table path why) told = absurd told
+of_line faults (Policy path) told = absurd told
+of_line faults NoServe told = absurd told
 of_line faults (Compile table path why) told = absurd told
 of_line faults (Board name why) told = absurd told
 
@@ -158,8 +167,9 @@ module _ (laws : TableLaws) where
     one_indexes : (xs ys : List RegisterMap) → AreCompiled s xs → AreCompiled s ys → xs ≡ ys
     one_indexes xs ys one other = same_indexes s.tables s.boards xs ys one.each_index other.each_index
 
-    not_faulty : (r : Refusal) (steps : List (List Step)) → BreaksScripts s r → AreSteps s steps → ⊥
-    not_faulty r steps c d =
+    not_faulty : (r : Refusal) (policy : Option (List Rule)) (steps : List (List Step)) → BreaksScripts s r
+        → AreSteps s policy steps → ⊥
+    not_faulty r policy steps c d =
         let same = one_indexes c.indexes d.registers c.boards.compiled d.boards.compiled in
         no_line (faults_of c.indexes) r (ap faults_of same ∙ d.faultless) c.first
 
@@ -181,28 +191,37 @@ module _ (laws : TableLaws) where
     apart : (r : Refusal) (b : BoardSpec) → Compiles s.tables b → TellsCompile s.tables b.table r → ⊥
     apart r b kept told = table_apart s.tables b.table r kept told
 
-    pub one_break : (r q : Refusal) → BreaksInRun s r → BreaksInRun s q → r ≡ q
-    one_break r q (inl a) (inl e) =
+    pub one_break : (policy : Option (List Rule)) (r q : Refusal) → BreaksInRun s policy r → BreaksInRun s policy q
+        → r ≡ q
+    one_break policy r q (inl a) (inl e) =
         one_told (Compiles s.tables) (λ b. TellsCompile s.tables b.table r) (λ b. TellsCompile s.tables b.table q)
         (r ≡ q) (apart r) (apart q)
         (λ b. same_table s.tables b.table r q) s.boards a e
-    one_break r q (inl a) (inr later) =
+    one_break policy r q (inl a) (inr later) =
         absurd (all_right (Compiles s.tables) (λ b. TellsCompile s.tables b.table r) (apart r) s.boards
         (later_compiled q later) a)
-    one_break r q (inr later) (inl a) =
+    one_break policy r q (inr later) (inl a) =
         absurd (all_right (Compiles s.tables) (λ b. TellsCompile s.tables b.table q) (apart q) s.boards
         (later_compiled r later) a)
-    one_break r q (inr x) (inr y) = after r q x y
+    one_break policy r q (inr x) (inr y) = after r q x y
 
-    pub runs_unbroken : (r : Refusal) (steps : List (List Step)) → AreSteps s steps → BreaksInRun s r → ⊥
-    runs_unbroken r steps runs (inl a) =
+    pub runs_unbroken : (policy : Option (List Rule)) (r : Refusal) (steps : List (List Step)) → AreSteps s policy steps
+        → BreaksInRun s policy r → ⊥
+    runs_unbroken policy r steps runs (inl a) =
         all_right (Compiles s.tables) (λ b. TellsCompile s.tables b.table r)
         (apart r) s.boards runs.boards.compiled.compile a
-    runs_unbroken r steps runs (inr (inl b)) =
+    runs_unbroken policy r steps runs (inr (inl b)) =
         all_right HasBus (λ board. TellsBus board r) (bus_apart r) s.boards runs.boards.buses b.first
-    runs_unbroken r steps runs (inr (inr c)) = not_faulty r steps c runs
+    runs_unbroken policy r steps runs (inr (inr c)) = not_faulty r policy steps c runs
 
-    pub one_steps : (steps more : List (List Step)) → AreSteps s steps → AreSteps s more → steps ≡ more
-    one_steps steps more one other =
+    pub one_serve_break : (policy : Option (List Rule)) (r q : Refusal) → BreaksInServe s policy r
+        → BreaksInServe s policy q → r ≡ q
+    one_serve_break (Some rules) r q first second = first ∙ sym second
+    one_serve_break None r q first second = one_break None r q first second
+
+    pub one_steps : (policy : Option (List Rule)) (steps more : List (List Step)) → AreSteps s policy steps
+        → AreSteps s policy more → steps ≡ more
+    one_steps policy steps more one other =
         let same = one_indexes one.registers other.registers one.boards.compiled other.boards.compiled in
-        one.meant ∙ (ap (λ xs. steps_of s.boards xs s.scripts) same ∙ sym other.meant)
+        one.meant
+        ∙ (ap (λ xs. ruled_scripts policy (names_of s.boards) (steps_of s.boards xs s.scripts)) same ∙ sym other.meant)

@@ -8,13 +8,14 @@ use Rattle.node_tree.specs.Names.{IsIndexOf}
 use Rattle.node_tree.specs.Refusals.{KeepsRules, IsRefusal}
 use Rattle.node_tree.specs.Same.{SameTables}
 use Rattle.script_lang.specs.declared.session.Session.{Session}
-use Rattle.script_lang.specs.Document.{Fault, HasFirstFault, IsNotToml, SameSession, StandsFor}
+use Rattle.script_lang.specs.Document.{IsSession, IsToml, SameSession}
+use Rattle.toml.specs.Data.{Members}
 
--- a document stands for one session or has one first fault
+-- bytes are the text of one document, which stands for one session
 pub record DocumentLaws : Type 0 where
-  pub one_session : (bytes : List ℕ) (s t : Session) → StandsFor bytes s → StandsFor bytes t → SameSession s t
-  pub one_fault : (bytes : List ℕ) (f g : Fault) → HasFirstFault bytes f → HasFirstFault bytes g → f ≡ g
-  pub of_toml : (bytes : List ℕ) (f : Fault) → HasFirstFault bytes f → ¬ IsNotToml bytes
+  pub one_document : (bytes : List ℕ) (one other : Members) → IsToml bytes one → IsToml bytes other → one ≡ other
+  pub one_session : (document : Members) (s t : Session) → IsSession document s → IsSession document t
+      → SameSession s t
 
 -- tables compile into one index or are refused in one way, and tables of the same nodes alike
 pub record TableLaws : Type 0 where

@@ -3,7 +3,8 @@ use Rattle.std.specs.Prelude.{ℕ, List, [], ◌∷◌, ◌++◌, codes}
 use Rattle.std.specs.List.{flat_map}
 use Rattle.std.specs.Fmt.{decimal}
 use Rattle.session_input.specs.declared.refusal.Refusal.{Refusal}
-use Rattle.session_input.specs.declared.refusal.Refusal.TheVariants.{TooLong, Document, Table, Compile, Board, Script}
+use Rattle.session_input.specs.declared.refusal.Refusal.TheVariants.{TooLong, Document, Table, Policy, NoServe}
+use Rattle.session_input.specs.declared.refusal.Refusal.TheVariants.{Compile, Board, Script}
 use Rattle.session_input.specs.Names.{document_rule, table_rule, compile_rule, bus_rule, script_rule}
 
 -- an empty path is shown as a hyphen
@@ -23,6 +24,8 @@ refusal_line (Document path why) =
 refusal_line (Table table path why) =
     codes "refused: table "
     ++ (table ++ (codes " " ++ (shown (positions path) ++ (codes " " ++ (table_rule why ++ codes "\n")))))
+refusal_line (Policy path) = codes "refused: policy " ++ (shown path ++ (codes " " ++ (codes "Shape" ++ codes "\n")))
+refusal_line NoServe = codes "refused: policy - NoServe\n"
 refusal_line (Compile table path why) =
     codes "refused: compile "
     ++ (table ++ (codes " " ++ (shown path ++ (codes " " ++ (compile_rule why ++ codes "\n")))))

@@ -6,14 +6,13 @@ use node_tree::laws::{
     a_refusal_is_the_only_one, an_index_is_determined_by_tables_and_root,
     tables_that_are_the_same_compile_alike, tables_that_keep_the_rules_are_not_refused,
 };
-use script_lang::laws::{a_document_stands_for_one_session, a_first_fault_is_the_only_one};
+use script_lang::laws::a_document_stands_for_one_session;
 
-/// A document stands for one session or has one first fault.
+/// Bytes are the text of one document, which stands for one session.
 pub(crate) fn document_laws()
     ensures { DocumentLaws }
 {
     a_document_stands_for_one_session();
-    a_first_fault_is_the_only_one();
 }
 
 /// Tables compile into one index or are refused in one way.

@@ -7,13 +7,15 @@ ghost use Rattle.script_lang.specs.Document.{SameSession};
 ghost use Rattle.script_steps.specs.Executable.{AreExecutable};
 ghost use Rattle.script_steps.specs.declared.operation.Step.{Step};
 ghost use Rattle.script_lang.specs.declared.session.Session.{Session};
-ghost use Rattle.session_input.specs.Deserved.{BreaksInCheck, BreaksInRun, Deserves, IsListed, IsRunnable};
+ghost use Rattle.session_input.specs.Deserved.{BreaksInCheck, BreaksInRun, BreaksInServe, Deserves};
+ghost use Rattle.session_input.specs.Deserved.{IsListed, IsRunnable, IsServable};
 ghost use Rattle.session_input.specs.Numbers.{document_bytes};
 ghost use Rattle.session_input.specs.declared.refusal.Refusal.{Refusal};
 ghost use Rattle.session_input.specs.declared.refusal.TheConstants.{MAX_DOCUMENT};
 
 use crate::below::{document_laws, table_laws};
 use script_lang::laws::scripts_ask_what_can_be_executed;
+use script_steps::laws::what_is_denied_asks_for_less;
 
 /// The limit of a document.
 pub fn limits()
@@ -33,6 +35,18 @@ pub fn bytes_have_one_answer_to_run()
     table_laws();
 }
 
+/// Bytes whose boards can be served have one session, node for node; others deserve at most one refusal.
+pub fn bytes_have_one_answer_to_serve()
+    ensures session { (bytes : List ℕ) (s t : Session) → IsServable bytes s → IsServable bytes t → SameSession s t }
+    ensures refusal { (bytes : List ℕ) (r q : Refusal)
+        → Deserves BreaksInServe bytes r → Deserves BreaksInServe bytes q → r ≡ q }
+    ensures not_both { (bytes : List ℕ) (session : Session) (refusal : Refusal)
+        → IsServable bytes session → ¬ Deserves BreaksInServe bytes refusal }
+{
+    document_laws();
+    table_laws();
+}
+
 /// Bytes whose table can be listed have one index of it; others deserve at most one refusal.
 pub fn bytes_have_one_answer_to_check()
     ensures index { (bytes root : List ℕ) (index other : RegisterMap)
@@ -46,11 +60,12 @@ pub fn bytes_have_one_answer_to_check()
     table_laws();
 }
 
-/// What the scripts of a session ask that can be run can be executed: each operation can be packed for any board, its
-/// address and its words have 32 bits, and it is one that its verb asks for.
+/// What the scripts of a session that can be run ask under its policy can be executed: each operation can be packed for
+/// any board, its address and its words have 32 bits, and it is one that its verb asks for.
 pub fn what_can_be_run_can_be_executed()
     ensures { (bytes : List ℕ) (session : Session) (steps : List (List Step))
         → IsRunnable bytes session steps → AllByRecursion AreExecutable steps }
 {
     scripts_ask_what_can_be_executed();
+    what_is_denied_asks_for_less();
 }

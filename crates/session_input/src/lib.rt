@@ -11,5 +11,5 @@ mod reading;
 mod refusal;
 
 pub use ipb_base::{NoMemory, Text};
-pub use reading::{Runnable, read_for_check, read_for_run};
+pub use reading::{Runnable, read_for_check, read_for_run, read_for_serve};
 pub use refusal::{MAX_DOCUMENT, Refusal, Unread};

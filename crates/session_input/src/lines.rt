@@ -23,6 +23,8 @@ impl Refusal {
             Refusal::Table { table, path, why } => {
                 table_line(alloc, table.as_str(), path.as_slice(), table_rule(*why))
             }
+            Refusal::Policy { path } => policy_line(alloc, shown(path.as_str()), "Shape"),
+            Refusal::NoServe => policy_line(alloc, "-", "NoServe"),
             Refusal::Compile { table, path, why } => {
                 let path = shown(path.as_str());
                 compile_line(alloc, table.as_str(), path, compile_rule(*why))
@@ -90,6 +92,13 @@ fn node_line(alloc: Global, table: &str, path: &str, rule: &str) -> Result<Strin
         ++ (codes " " ++ (rule.now ++ codes "\n")))))) }
 {
     Ok(format!(in alloc; "refused: table {table} {path} {rule}\n")?)
+}
+
+fn policy_line(alloc: Global, path: &str, rule: &str) -> Result<String, NoMemory>
+    ensures { IfOk result (λ text. string_bytes text
+        ≡ codes "refused: policy " ++ (path.now ++ (codes " " ++ (rule.now ++ codes "\n")))) }
+{
+    Ok(format!(in alloc; "refused: policy {path} {rule}\n")?)
 }
 
 fn compile_line(alloc: Global, table: &str, path: &str, rule: &str) -> Result<String, NoMemory>

@@ -29,6 +29,11 @@ pub enum Refusal {
         path: Path,
         why: TableWhy,
     },
+    /// The policy is not what it should be. The path leads from its array to the first faulty place; it is empty where the
+    /// array itself is at fault.
+    Policy { path: Text },
+    /// A session with a policy is to be served. A policy binds scripts alone.
+    NoServe,
     /// The tables cannot be compiled. The path is a register's name, or empty where it is the table that is at fault.
     Compile {
         table: Text,

@@ -1,7 +1,7 @@
 use Rattle.std.proofs.Common.{◌≡◌, true, false, take, subst, sym, ◌∙◌}
 use Rattle.std.specs.List.{list_any}
 use Rattle.std.specs.Str.{bytes_eq}
-use Rattle.script_lang.specs.Reading.{TellsFault}
+use Rattle.script_lang.specs.Document.{TellsFault}
 use Rattle.script_lang.proofs.BoardNames.{past_board, first_board}
 use Rattle.script_lang.proofs.document.check_names.Goals as goal
 

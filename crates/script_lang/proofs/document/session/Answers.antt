@@ -1,8 +1,7 @@
 use Rattle.std.proofs.Common.{◌≡◌, [], subst, ◌∙◌}
 use Rattle.toml.specs.View.{table_view}
-use Rattle.script_lang.specs.Document.{duplicates, misfits, size_faults, tables_faults}
+use Rattle.script_lang.specs.Document.{TellsFault, duplicates, misfits, size_faults, tables_faults}
 use Rattle.script_lang.specs.Sessions.{boards_of, format_of, tables_of}
-use Rattle.script_lang.specs.Reading.{TellsFault}
 use Rattle.script_lang.proofs.InOrder.{all_faultless, at_counts, at_names, at_shape, at_tables, handed_on}
 use Rattle.script_lang.proofs.document.session.Goals as goal
 

@@ -3,8 +3,8 @@ use Rattle.std.specs.String.{string_cmp}
 use Rattle.std.proofs.Common.{◌≡◌, ◌∷◌, string_bytes, refl, subst, sym, ◌∙◌}
 use Rattle.address_table.specs.Tables.{table_fault}
 use Rattle.toml.specs.View.{view, table_view, members_view}
-use Rattle.script_lang.specs.Document.{tables_faults}
-use Rattle.script_lang.specs.Reading.{TellsFault, table_fault_list}
+use Rattle.script_lang.specs.Document.{TellsFault, tables_faults}
+use Rattle.script_lang.specs.Reading.{table_fault_list}
 use Rattle.script_lang.proofs.TableLists.{ArePending, names_of, are_pending, ordered_parts, next_pending, first-table}
 use Rattle.script_lang.proofs.TableLists.{past-table}
 use Rattle.script_lang.proofs.tables.each_table.Goals as goal
