@@ -1,4 +1,5 @@
 mod Hex
+pub mod Allowed
 mod LineLemmas
 mod Counts
 mod StatusLemmas

@@ -18,7 +18,8 @@ use Rattle.script_steps.specs.declared.operation.Step.TheVariants.{Do, Denied, D
 use Rattle.script_steps.specs.Rulings.{Asked, asked_in, asked, allowed_in, allowed}
 use Rattle.script_plans.specs.declared.board_run.BoardRun.{BoardRun}
 use Rattle.transcript.specs.declared.line.OpLine.{OpLine}
-use Rattle.script_plans.specs.Plan.{operations, count_on}
+use Rattle.script_plans.specs.Plan.{count_on}
+use Rattle.transcript.proofs.Allowed.{allowed-append}
 use Rattle.transcript.specs.Lines.{client_lines, line_of, lines_behind}
 use Rattle.transcript.specs.Steps.{AreBelow, denied_line, line_on, bumped, IsProgress}
 use Rattle.script_plans.proofs.Covering.{count_by-append}
@@ -33,16 +34,6 @@ bumped_at counts at b within =
     ]
 
 -- ---- allowed operations
-
-pub allowed-append : (asks more : List Asked) → allowed (asks ++ more) ≡ allowed asks ++ allowed more
-allowed-append asks more = filter_map-append allowed_in asks more
-
--- those that a client asks for and that are not denied are its operations
-pub asked_allowed : (steps : List Step) → allowed (asked steps) ≡ operations steps
-asked_allowed [] = refl
-asked_allowed (Do op ∷ steps) = ap (λ (ops : List RegOp). op ∷ ops) (asked_allowed steps)
-asked_allowed (Denied rule op ∷ steps) = asked_allowed steps
-asked_allowed (Dispatch ∷ steps) = asked_allowed steps
 
 few_more : (found : Option ℕ) (op : RegOp) (asks : List Asked) (n : ℕ) → length (allowed asks) ≤ n
     → length (allowed (record { op = op; denied = found } ∷ asks)) ≤ suc n

@@ -30,7 +30,7 @@ use Rattle.script_plans.specs.Runs.{IsPlanned, ArePlanned, HaveOwnNames}
 use Rattle.script_plans.specs.Claims.{HasPiece}
 use Rattle.script_plans.proofs.Covering.{count_by-append, each_has_pieces}
 use Rattle.script_plans.proofs.EachBody.{BodiesHavePieces, each_body}
-use Rattle.transcript.proofs.LineLemmas.{allowed-append, asked_allowed}
+use Rattle.transcript.proofs.Allowed.{allowed-append, asked_allowed}
 
 abbrev IsAtPlace : ℕ → ℕ × ℕ → Type 0
 IsAtPlace place at = at.0 ≡ place
