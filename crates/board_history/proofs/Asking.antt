@@ -19,7 +19,7 @@ use Rattle.mtu_packer.specs.Packing.{requests_from, body_requests, body_words, A
 use Rattle.mtu_packer.specs.Packed.{piece_at, pieces_at, Contents, IsPacked, packed}
 use Rattle.script_steps.specs.declared.operation.RegOp.{RegOp}
 use Rattle.script_steps.specs.declared.operation.Step.{Step}
-use Rattle.script_steps.specs.declared.operation.Step.TheVariants.{Do, Dispatch}
+use Rattle.script_steps.specs.declared.operation.Step.TheVariants.{Do, Denied, Dispatch}
 use Rattle.script_plans.specs.declared.planned.PieceAt.{PieceAt}
 use Rattle.script_plans.specs.Plan.{ClientBodies, no_bodies, moved, begun, dispatches, operations, ops_on, plan}
 use Rattle.script_plans.specs.Plan.{with_dispatch, all_dispatches, count_on}
@@ -222,6 +222,7 @@ ops_dispatched board (Do op ∷ steps) =
     begun_ops board op (dispatches steps)
     ∙ ap (λ (xs : List Op). ops_on board (op ∷ []) ++ xs) (ops_dispatched board steps)
     ∙ sym (one_and_more board op (operations steps))
+ops_dispatched board (Denied rule op ∷ steps) = ops_dispatched board steps
 ops_dispatched board (Dispatch ∷ steps) = ops_dispatched board steps
 
 pub plan_asked : (payload board : ℕ) (steps : List Step) → ArePacked payload board steps

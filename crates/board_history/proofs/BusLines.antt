@@ -1,5 +1,5 @@
 -- Each line shows a result of an allowed kind: where nothing is lost, what the bus answered.
-use Rattle.std.proofs.Common.{◌≡◌, ◌⊎◌, ℕ, zero, suc, ◌+◌, ◌<◌, List, [], ◌∷◌, ◌++◌, map, Some, None, refl, sym, ap}
+use Rattle.std.proofs.Common.{◌≡◌, ◌⊎◌, ℕ, zero, suc, ◌+◌, ◌<◌, List, [], ◌∷◌, ◌++◌, map, Option, Some, None, refl, sym, ap}
 use Rattle.std.proofs.Common.{◌∙◌, subst, inl, inr, arith, append_assoc}
 use Rattle.std.specs.List.{AllByRecursion, slice_get}
 use Rattle.std.specs.Option.{option_map}
@@ -13,22 +13,24 @@ use Rattle.ipb_base.specs.Numbers.{payload_of}
 use Rattle.transaction_codec.specs.declared.request.Op.{Op}
 use Rattle.script_steps.specs.declared.operation.RegOp.{RegOp}
 use Rattle.script_steps.specs.declared.operation.Step.{Step}
+use Rattle.script_steps.specs.Rulings.{Asked, asked, allowed}
 use Rattle.script_plans.specs.declared.planned.PieceAt.{PieceAt}
 use Rattle.script_plans.specs.declared.greeting.Greeting.{Greeting}
 use Rattle.script_plans.specs.declared.greeting.Greeting.TheVariants.{Live, Silent, Down}
 use Rattle.script_plans.specs.declared.board_run.ClientPart.{ClientPart}
 use Rattle.script_plans.specs.declared.board_run.BoardRun.{BoardRun}
 use Rattle.transcript.specs.declared.line.OpResult.{OpResult}
-use Rattle.transcript.specs.declared.line.OpResult.TheVariants.{Unsent, LinkLost}
+use Rattle.transcript.specs.declared.line.OpResult.TheVariants.{Unsent, LinkLost, Denied}
 use Rattle.transcript.specs.declared.line.OpLine.{OpLine}
 use Rattle.lane_record.specs.declared.outcome.Outcome.{Outcome}
 use Rattle.script_plans.specs.Plan.{ClientBodies, operations, ops_on, plan, planned_on, all_dispatches, count_on}
 use Rattle.transcript.specs.Ends.{ends_of, piece_result}
-use Rattle.transcript.specs.Lines.{showing, by_pieces, line_of, lines_behind, lines_from}
+use Rattle.transcript.specs.Lines.{showing, shown_behind, by_pieces, line_of, lines_behind, lines_from}
+use Rattle.transcript.proofs.Allowed.{allowed-append, asked_allowed}
 use Rattle.board_history.specs.Runs.{RunsHere, IsRun, AreRuns, greeting_of, plans_on}
 use Rattle.board_history.specs.Answering.{AskRequests}
 use Rattle.board_history.specs.Lines.{IsBusResult, IsBusLine}
-use Rattle.board_history.proofs.Readiness.{KeepsVerb, KeepVerbs, ArePacked, ArePackedFor, IsReady, AreReady}
+use Rattle.board_history.proofs.Readiness.{KeepsVerb, KeepsUnlessDenied, AskKeeps, KeepVerbs, ArePacked, ArePackedFor, IsReady, AreReady}
 use Rattle.board_history.proofs.Lists.{Both, both_at, both_same, all_at}
 use Rattle.board_history.proofs.Asking.{AreAsked, plan_asked, op_at}
 use Rattle.board_history.proofs.Answering.{IsTold, ToldPart}
@@ -183,21 +185,34 @@ module _ (P : OpResult → Type 0) (bus : AllowsBus P) (fitting : Fitting P) whe
     ]
   ]
 
--- Each line is that of an operation that can be executed, on a board that is there.
+  -- what is shown of an operation that a rule denies is allowed too
+  pub ask_allowed : (scripts : List (List Step)) (run : BoardRun) (client : ℕ) (steps : List Step)
+      (before later : List Asked) (op : RegOp) (denied : Option ℕ) → CanShow P op.board scripts run
+      → slice_get scripts client ≡ Some steps
+      → before ++ record { op = op; denied = denied } ∷ later ≡ asked steps → KeepsUnlessDenied op denied
+      → P (shown_behind run client before op denied).0
+  ask_allowed scripts run client steps before later op None can at asks keeps =
+      let ask : Asked = record { op = op; denied = None } in
+      let ops : allowed before ++ op ∷ allowed later ≡ operations steps =
+      sym (allowed-append before (ask ∷ later)) ∙ (ap allowed asks ∙ asked_allowed steps) in
+      showing_allowed scripts run client steps (allowed before) (allowed later) op can at ops keeps
+  ask_allowed scripts run client steps before later op (Some rule) can at asks keeps = bus (Denied rule) tt
+
+-- Each line is that of an operation that can be executed or is denied, on a board that is there.
 module _ (scripts : List (List Step)) (runs : List BoardRun) (Q : OpLine → Type 0)
-    (look : (client : ℕ) (steps : List Step) (before later : List RegOp) (op : RegOp) (run : BoardRun)
-    → slice_get scripts client ≡ Some steps → before ++ op ∷ later ≡ operations steps → KeepsVerb op
-    → slice_get runs op.board ≡ Some run → Q (line_of client before op run)) where
-  lines_hold : (client : ℕ) (steps : List Step) → slice_get scripts client ≡ Some steps → (before ops : List RegOp)
-      → before ++ ops ≡ operations steps
-      → AllByRecursion KeepsVerb ops → AllByRecursion Q (lines_behind runs client before ops)
+    (look : (client : ℕ) (steps : List Step) (before later : List Asked) (ask : Asked) (run : BoardRun)
+    → slice_get scripts client ≡ Some steps → before ++ ask ∷ later ≡ asked steps → AskKeeps ask
+    → slice_get runs ask.op.board ≡ Some run → Q (line_of client before ask run)) where
+  lines_hold : (client : ℕ) (steps : List Step) → slice_get scripts client ≡ Some steps → (before asks : List Asked)
+      → before ++ asks ≡ asked steps
+      → AllByRecursion AskKeeps asks → AllByRecursion Q (lines_behind runs client before asks)
   lines_hold client steps at before [] same keep = tt
-  lines_hold client steps at before (op ∷ ops) same keep =
-      let later = lines_hold client steps at (before ++ op ∷ []) ops
-      (append_assoc before (op ∷ []) ops ∙ same) keep.1 in
-      elim (slice_get_cases runs op.board).1 [
+  lines_hold client steps at before (ask ∷ asks) same keep =
+      let later = lines_hold client steps at (before ++ ask ∷ []) asks
+      (append_assoc before (ask ∷ []) asks ∙ same) keep.1 in
+      elim (slice_get_cases runs ask.op.board).1 [
         | inl (run, within, there, again) ↦
-            rw there (look client steps before ops op run at same keep.0 there, later)
+            rw there (look client steps before asks ask run at same keep.0 there, later)
         | inr (past, none) ↦ rw none later
       ]
 
@@ -208,7 +223,7 @@ module _ (scripts : List (List Step)) (runs : List BoardRun) (Q : OpLine → Typ
   clients_hold client (steps ∷ rest) at keep =
       let first : client + 0 ≡ client = omega arith in (
         lines_hold client steps
-            (subst (λ (c : ℕ). slice_get scripts c ≡ Some steps) first (at 0 steps refl)) [] (operations steps) refl
+            (subst (λ (c : ℕ). slice_get scripts c ≡ Some steps) first (at 0 steps refl)) [] (asked steps) refl
             keep.0,
         clients_hold (client + 1) rest
             (λ j s h.
@@ -228,8 +243,9 @@ pub session_allowed : (P : OpResult → Type 0) → AllowsBus P → Fitting P �
     → ((k : ℕ) (run : BoardRun) → slice_get runs k ≡ Some run → CanShow P k scripts run)
     → AllByRecursion KeepVerbs scripts → AllByRecursion (AllByRecursion (IsAllowedLine P)) (lines_from runs 0 scripts)
 session_allowed P bus fitting scripts runs look keep = session_holds scripts runs (IsAllowedLine P)
-    (λ client steps before later op run at same keeps there.
-    showing_allowed P bus fitting scripts run client steps before later op (look op.board run there) at same keeps)
+    (λ client steps before later ask run at same keeps there.
+    ask_allowed P bus fitting scripts run client steps before later ask.op ask.denied (look ask.op.board run there) at
+    same keeps)
     keep
 
 pub session_bus : Fitting IsBusResult → Telling → (specs : List BoardSpec) (scripts : List (List Step))

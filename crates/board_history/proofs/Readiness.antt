@@ -1,5 +1,5 @@
 -- Boards that run here, and scripts that can be executed on them: what is planned for them is packed.
-use Rattle.std.proofs.Common.{ℕ, ◌+◌, ◌≤◌, List, [], ◌∷◌, arith}
+use Rattle.std.proofs.Common.{ℕ, ◌+◌, ◌≤◌, List, [], ◌∷◌, Option, Some, None, arith}
 use Rattle.std.specs.List.{AllByRecursion, cons_option}
 use Rattle.ipb_base.specs.Numbers.{payload_of}
 use Rattle.board_bus.proofs.Openings.{opening-words}
@@ -12,10 +12,11 @@ use Rattle.board_node.specs.OpeningWords.{OpensOnWords, LinkNamesWords}
 use Rattle.script_steps.specs.Executable.{FitsVerb, AreExecutable}
 use Rattle.script_steps.specs.declared.operation.RegOp.{RegOp}
 use Rattle.script_steps.specs.declared.operation.Step.{Step}
-use Rattle.script_steps.specs.declared.operation.Step.TheVariants.{Do, Dispatch}
+use Rattle.script_steps.specs.declared.operation.Step.TheVariants.{Do, Denied, Dispatch}
+use Rattle.script_steps.specs.Rulings.{Asked, asked, asked_in}
 use Rattle.script_plans.specs.declared.greeting.Greeting.{Greeting}
 use Rattle.script_plans.specs.declared.greeting.Greeting.TheVariants.{Live, Silent, Down}
-use Rattle.script_plans.specs.Plan.{dispatches, operation_in, operations, ops_on}
+use Rattle.script_plans.specs.Plan.{dispatches, ops_on}
 use Rattle.script_plans.proofs.PackedDispatches.{PacksWords, dispatched, dispatches_packed}
 use Rattle.board_history.specs.Runs.{CanRun, RunsHere, greeting_of, opening_of}
 use Rattle.board_history.specs.Answering.{OpensWithWords}
@@ -23,8 +24,16 @@ use Rattle.board_history.specs.Answering.{OpensWithWords}
 abbrev pub KeepsVerb : RegOp → Type 0
 KeepsVerb op = FitsVerb op.verb op.op
 
+-- so does an operation that no rule denies
+abbrev pub KeepsUnlessDenied : RegOp → Option ℕ → Type 0
+KeepsUnlessDenied op None = KeepsVerb op
+KeepsUnlessDenied op (Some rule) = Unit {0}
+
+abbrev pub AskKeeps : Asked → Type 0
+AskKeeps ask = KeepsUnlessDenied ask.op ask.denied
+
 abbrev pub KeepVerbs : List Step → Type 0
-KeepVerbs steps = AllByRecursion KeepsVerb (operations steps)
+KeepVerbs steps = AllByRecursion AskKeeps (asked steps)
 
 -- the operations of each dispatch of a client on a board are packed for packets of `payload` words
 abbrev pub ArePacked : ℕ → ℕ → List Step → Type 0
@@ -51,14 +60,15 @@ AreReady board (spec ∷ specs) scripts = IsReady spec board scripts × AreReady
 
 -- ---- verbs
 
-one_verb : (step : Step) (ops : List RegOp) → AreExecutable (step ∷ []) → AllByRecursion KeepsVerb ops
-    → AllByRecursion KeepsVerb (cons_option (operation_in step) ops)
-one_verb (Do op) ops can keep = (can.0.verb', keep)
-one_verb Dispatch ops can keep = keep
+one_verb : (step : Step) (asks : List Asked) → AreExecutable (step ∷ []) → AllByRecursion AskKeeps asks
+    → AllByRecursion AskKeeps (cons_option (asked_in step) asks)
+one_verb (Do op) asks can keep = (can.0.verb', keep)
+one_verb (Denied rule op) asks can keep = (tt, keep)
+one_verb Dispatch asks can keep = keep
 
 verbs_kept : (steps : List Step) → AreExecutable steps → KeepVerbs steps
 verbs_kept [] can = tt
-verbs_kept (step ∷ steps) can = one_verb step (operations steps) (can.0, tt) (verbs_kept steps can.1)
+verbs_kept (step ∷ steps) can = one_verb step (asked steps) (can.0, tt) (verbs_kept steps can.1)
 
 pub all_verbs_kept : (scripts : List (List Step)) → AllByRecursion AreExecutable scripts
     → AllByRecursion KeepVerbs scripts

@@ -1,10 +1,11 @@
 -- What a line shows where nothing is lost. Profile.
 use Rattle.transcript.specs.declared.line.OpResult.{OpResult}
 use Rattle.transcript.specs.declared.line.OpResult.TheVariants.{Value, Done, Was, Error, Skipped, TimedOut, Unsent}
-use Rattle.transcript.specs.declared.line.OpResult.TheVariants.{LinkLost, Garbled}
+use Rattle.transcript.specs.declared.line.OpResult.TheVariants.{LinkLost, Garbled, Denied}
 use Rattle.transcript.specs.declared.line.OpLine.{OpLine}
 
--- the board answered: the operation was done, failed by a code of the bus, or stands behind one that did
+-- The board answered: the operation was done, failed by a code of the bus, or stands behind one that did. Or nothing was
+-- asked of it, as a policy denies the operation.
 abbrev pub IsBusResult : OpResult → Type 0
 IsBusResult (Value words) = Unit {0}
 IsBusResult Done = Unit {0}
@@ -15,6 +16,7 @@ IsBusResult (TimedOut rounds) = ⊥
 IsBusResult Unsent = ⊥
 IsBusResult LinkLost = ⊥
 IsBusResult Garbled = ⊥
+IsBusResult (Denied rule) = Unit {0}
 
 abbrev pub IsBusLine : OpLine → Type 0
 IsBusLine line = IsBusResult line.result

@@ -282,6 +282,7 @@ bus_is_ungarbled (result.TimedOut rounds) bus = absurd bus
 bus_is_ungarbled result.Unsent bus = absurd bus
 bus_is_ungarbled result.LinkLost bus = absurd bus
 bus_is_ungarbled result.Garbled bus = absurd bus
+bus_is_ungarbled (result.Denied rule) bus = λ e. absurd cc
 
 any_outcome : (o : Outcome) → MayBe IsNotGarbled o
 any_outcome (Replied place words) body = inl tt

@@ -13,6 +13,7 @@ use Rattle.reply_join.specs.declared.answer.Answer.TheVariants as answer
 use Rattle.reply_join.specs.ByWords.{answers}
 use Rattle.script_steps.specs.declared.operation.RegOp.{RegOp}
 use Rattle.script_steps.specs.declared.operation.Step.{Step}
+use Rattle.script_steps.specs.Rulings.{Asked, allowed}
 use Rattle.script_steps.specs.declared.operation.Verb.{Verb}
 use Rattle.script_steps.specs.declared.operation.Verb.TheVariants as verb
 use Rattle.lane_record.specs.declared.outcome.Outcome.{Outcome}
@@ -25,8 +26,9 @@ use Rattle.script_plans.specs.declared.greeting.Greeting.TheVariants.{Live, Sile
 use Rattle.transcript.specs.declared.line.OpResult.{OpResult}
 use Rattle.transcript.specs.declared.line.OpResult.TheVariants as result
 use Rattle.script_plans.specs.declared.planned.PieceAt.{PieceAt}
+use Rattle.script_plans.specs.Plan.{count_on}
 use Rattle.transcript.specs.Ends.{answered, end_of, ends_of, piece_result, result_in, told_at, told_by, told_of}
-use Rattle.transcript.specs.Lines.{by_pieces, in_part, showing}
+use Rattle.transcript.specs.Lines.{by_pieces, in_part, showing, shown_behind}
 use Rattle.transcript.specs.Results.{first_fault, is_good, shown, values_in, word_before}
 use Rattle.board_history.specs.History.{outcomes_by_client}
 use Rattle.lane_history.specs.Links.{LinkReport}
@@ -145,3 +147,13 @@ rounds_at settings board (spec ∷ specs) scripts (r ∷ runs) (l ∷ links) is 
     (shown_by settings.rounds r r.greeting client k op refl (tells_over settings spec r l r.greeting is.0.as_told))
 rounds_at settings board (spec ∷ specs) scripts (r ∷ runs) (l ∷ links) is (suc at) run there client k op =
     rounds_at settings (board + 1) specs scripts runs links is.1 at run there client k op
+
+-- an operation that a rule denies was not timed out
+pub rounds_of_ask : (settings : Limits) (specs : List BoardSpec) (scripts : List (List Step)) (runs : List BoardRun)
+    (links : List LinkReport) → AreRunsOver settings 0 specs scripts runs links
+    → (run : BoardRun) (client : ℕ) (before : List Asked) (op : RegOp) (denied : Option ℕ)
+    → slice_get runs op.board ≡ Some run
+    → ShowsRounds settings.rounds (shown_behind run client before op denied).0
+rounds_of_ask settings specs scripts runs links is run client before op None there =
+    rounds_at settings 0 specs scripts runs links is op.board run there client (count_on op.board (allowed before)) op
+rounds_of_ask settings specs scripts runs links is run client before op (Some rule) there = tt

@@ -162,7 +162,8 @@ pub fn lines_show_the_rounds_of_the_session()
 {}
 
 /// Where moreover nothing was held and nothing failed, each line is a value, `done`, `was`, a code of the bus or
-/// skipped: none is garbled, timed out, unsent or lost with its link, in whatever order the clients ran.
+/// skipped, or its operation is denied: none is garbled, timed out, unsent or lost with its link, in whatever order the
+/// clients ran.
 pub fn faithful_lines_fail_by_codes_of_the_bus_alone()
     ensures { (settings : Limits) (specs : List BoardSpec) (scripts : List (List Step)) (runs : List BoardRun)
         (links : List LinkReport) → 1 ≤ settings.rounds → AllByRecursion IsFaithful links →

@@ -5,7 +5,7 @@ use Rattle.std.specs.List.{count_by, AllByRecursion, flat_map, fold, range_with_
 use Rattle.std.proofs.lemmas.List.Sums.{sum_by-append}
 use Rattle.script_steps.specs.declared.operation.RegOp.{RegOp}
 use Rattle.script_steps.specs.declared.operation.Step.{Step}
-use Rattle.script_steps.specs.declared.operation.Step.TheVariants.{Do, Dispatch}
+use Rattle.script_steps.specs.declared.operation.Step.TheVariants.{Do, Denied, Dispatch}
 use Rattle.script_plans.specs.Plan.{operations, count_on, ClientBodies, no_bodies, moved, begun, dispatches, ops_on}
 use Rattle.script_plans.specs.Plan.{plan, with_dispatch, all_dispatches}
 use Rattle.std.proofs.lemmas.Bool.{cases_Bool}
@@ -82,6 +82,7 @@ all_counted board (Do op ∷ steps) =
     ∙ (ap (λ n. n + length (flat_map (ops_on board) (dispatches steps))) (counted_one board op)
     ∙ (ap (λ n. count_on board (op ∷ []) + n) (all_counted board steps)
     ∙ sym (count_by-append (λ (o : RegOp). o.board == board) (op ∷ []) (operations steps))))
+all_counted board (Denied rule op ∷ steps) = all_counted board steps
 all_counted board (Dispatch ∷ steps) = all_counted board steps
 
 pub each_has_pieces : (payload board : ℕ) (steps : List Step)

@@ -12,7 +12,7 @@ use Rattle.script_steps.specs.Packing.{all_operations}
 use Rattle.script_steps.specs.Packing as script
 use Rattle.script_steps.specs.declared.operation.RegOp.{RegOp}
 use Rattle.script_steps.specs.declared.operation.Step.{Step}
-use Rattle.script_steps.specs.declared.operation.Step.TheVariants.{Do, Dispatch}
+use Rattle.script_steps.specs.declared.operation.Step.TheVariants.{Do, Denied, Dispatch}
 use Rattle.script_plans.specs.declared.greeting.Greeting.TheVariants.{Live}
 use Rattle.script_plans.specs.Plan.{all_bodies, begun, bodies_in, dispatches, ops_on, plan, planned_on, plans_on}
 use Rattle.script_plans.proofs.DispatchLemmas.{bodies_are}
@@ -54,6 +54,7 @@ module _ (measure : Op → ℕ) (board : ℕ) where
         board_measure steps,
         sum_by-cons measure op.op (script.operations steps),
       )
+  board_measure (Denied rule op ∷ steps) = board_measure steps
   board_measure (Dispatch ∷ steps) =
       omega (
         arith,

@@ -1,4 +1,5 @@
 pub mod Lookups
+mod Denials
 mod SpanLemmas
 mod PlanLemmas
 mod DispatchLemmas

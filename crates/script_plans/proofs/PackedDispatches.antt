@@ -8,7 +8,7 @@ use Rattle.mtu_packer.specs.Packed.{IsPacked, packed}
 use Rattle.script_steps.specs.Executable.{CanBeAsked, AreExecutable}
 use Rattle.script_steps.specs.declared.operation.RegOp.{RegOp}
 use Rattle.script_steps.specs.declared.operation.Step.{Step}
-use Rattle.script_steps.specs.declared.operation.Step.TheVariants.{Do, Dispatch}
+use Rattle.script_steps.specs.declared.operation.Step.TheVariants.{Do, Denied, Dispatch}
 use Rattle.script_plans.specs.Plan.{begun, dispatches, ops_on}
 
 abbrev pub CanAllBeAsked : List RegOp → Type 0
@@ -22,6 +22,7 @@ begun_asked op (d ∷ ds) can all = ((can, all.0), all.1)
 pub dispatched : (steps : List Step) → AreExecutable steps → AllByRecursion CanAllBeAsked (dispatches steps)
 dispatched [] can = (tt, tt)
 dispatched (Do op ∷ steps) can = begun_asked op (dispatches steps) can.0 (dispatched steps can.1)
+dispatched (Denied rule op ∷ steps) can = dispatched steps can.1
 dispatched (Dispatch ∷ steps) can = (tt, dispatched steps can.1)
 
 ops_all : (P : Op → Type 0) (board : ℕ) (ops : List RegOp) → ((op : RegOp) → CanBeAsked op → P op.op)

@@ -17,7 +17,7 @@ use Rattle.script_steps.specs.Packing as script
 use Rattle.mtu_packer.specs.declared.packing.TheConstants.{MIN_PAYLOAD}
 use Rattle.script_steps.specs.declared.operation.RegOp.{RegOp}
 use Rattle.script_steps.specs.declared.operation.Step.{Step}
-use Rattle.script_steps.specs.declared.operation.Step.TheVariants.{Do, Dispatch}
+use Rattle.script_steps.specs.declared.operation.Step.TheVariants.{Do, Denied, Dispatch}
 use Rattle.script_plans.specs.Plan.{ClientBodies, no_bodies, AreSound, IsWithinBody, moved, begun, dispatches, ops_on}
 use Rattle.script_plans.specs.Plan.{with_dispatch}
 use Rattle.script_plans.specs.Steps.{continued, HaveFewBehind, IsPlanning}
@@ -125,6 +125,7 @@ module _ (payload board : ℕ) where
       ≡ continued payload board [] (dispatches steps)
   begins_anew [] = refl
   begins_anew (Do op ∷ steps) = begun_anew op (dispatches steps)
+  begins_anew (Denied rule op ∷ steps) = begins_anew steps
   begins_anew (Dispatch ∷ steps) = refl
 
 module _ (payload board : ℕ) (steps : List Step) (i : ℕ) (all : ClientBodies) (queued : List Op) (step : Step)
@@ -155,6 +156,22 @@ module _ (payload board : ℕ) (steps : List Step) (i : ℕ) (all : ClientBodies
           can_later = can.1;
           few = few;
           few_later = few;
+        }
+
+    -- of what is denied nothing waits
+    pub after_denied : (rule : ℕ) (op : RegOp) → step ≡ Denied rule op → IsPlanning payload board steps (i + 1) all queued
+    after_denied rule op denies =
+        let rest : drop i steps ≡ Denied rule op ∷ drop (i + 1) steps =
+        left ∙ ap (λ s. s ∷ drop (i + 1) steps) denies in
+        let can = rw rest at so_far.can_later in
+        record {
+          planned = rw rest at so_far.planned;
+          sound = so_far.sound;
+          room = so_far.room;
+          can = so_far.can;
+          can_later = can.1;
+          few = subst (HaveFewBehind payload queued) rest so_far.few;
+          few_later = subst (HaveFewBehind payload []) rest so_far.few_later;
         }
 
     pub after_operation : (op : RegOp) → step ≡ Do op

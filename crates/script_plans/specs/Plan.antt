@@ -10,17 +10,18 @@ use Rattle.mtu_packer.specs.declared.packing.TheConstants.{MIN_PAYLOAD, MAX_PAYL
 use Rattle.mtu_packer.specs.Packed.{Contents, FitsPackets, packed}
 use Rattle.script_steps.specs.declared.operation.RegOp.{RegOp}
 use Rattle.script_steps.specs.declared.operation.Step.{Step}
-use Rattle.script_steps.specs.declared.operation.Step.TheVariants.{Do, Dispatch}
+use Rattle.script_steps.specs.declared.operation.Step.TheVariants.{Do, Denied, Dispatch}
 use Rattle.script_plans.specs.declared.greeting.Greeting.{Greeting}
 use Rattle.script_plans.specs.declared.greeting.Greeting.TheVariants.{Live, Silent, Down}
 use Rattle.script_plans.specs.declared.planned.PieceAt.{PieceAt}
 
--- the operation that a step asks for
+-- the operation of a step that is done; one that is denied is none
 abbrev pub operation_in : Step → Option RegOp
 operation_in (Do op) = Some op
+operation_in (Denied rule op) = None
 operation_in Dispatch = None
 
--- the operations of a client, in order
+-- the operations of a client that are not denied, in order
 abbrev pub operations : List Step → List RegOp
 operations steps = filter_map operation_in steps
 
@@ -29,10 +30,11 @@ abbrev pub begun : RegOp → List (List RegOp) → List (List RegOp)
 begun op [] = (op ∷ []) ∷ []
 begun op (dispatch ∷ later) = (op ∷ dispatch) ∷ later
 
--- the operations of each dispatch; the end of a script is one
+-- the operations of each dispatch, without those that are denied; the end of a script is one
 abbrev pub dispatches : List Step → List (List RegOp)
 dispatches [] = [] ∷ []
 dispatches (Do op ∷ steps) = begun op (dispatches steps)
+dispatches (Denied rule op ∷ steps) = dispatches steps
 dispatches (Dispatch ∷ steps) = [] ∷ dispatches steps
 
 -- what operations ask of the bus of one board

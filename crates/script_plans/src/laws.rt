@@ -7,9 +7,12 @@ ghost use Rattle.mtu_packer.specs.Packed.{Contents, deal, words_with_answer};
 ghost use Rattle.mtu_packer.specs.declared.packing.TheConstants.{MIN_PAYLOAD, MAX_PAYLOAD};
 ghost use Rattle.script_steps.specs.Executable.{AreExecutable};
 ghost use Rattle.script_steps.specs.Packing.{all_operations, operations, HaveFewPieces};
+ghost use Rattle.script_steps.specs.Rulings.{permitted, ruled};
+ghost use Rattle.script_steps.specs.declared.operation.Decision.{Decision};
 ghost use Rattle.script_steps.specs.declared.operation.Step.{Step};
+ghost use Rattle.script_plans.specs.declared.greeting.Greeting.{Greeting};
 ghost use Rattle.script_plans.specs.declared.greeting.Greeting.TheVariants.{Live};
-ghost use Rattle.script_plans.specs.Plan.{all_bodies, bodies_in, all_dispatches, plan, plans_on, count_on};
+ghost use Rattle.script_plans.specs.Plan.{all_bodies, bodies_in, all_dispatches, plan, planned_on, plans_on, count_on};
 ghost use Rattle.script_plans.specs.Claims.{IsBefore, Rises, HaveBodies, HasPiece};
 ghost use Rattle.script_plans.specs.Plan as in_order;
 
@@ -49,6 +52,13 @@ pub fn each_body_of_a_plan_has_a_piece()
 {
     each_body_has_a_piece();
 }
+
+/// What is planned of steps under the decisions of a policy is what is planned of the steps without the denied ones: no
+/// transaction of a denied operation is in a body.
+pub fn nothing_is_planned_of_what_is_denied()
+    ensures { (board : ℕ) (told : Greeting) (steps : List Step) (decisions : List Decision) →
+        planned_on board told (ruled steps decisions) ≡ planned_on board told (permitted steps decisions) }
+{}
 
 /// Operations that read and write at most 2^31 words together are cut into few enough pieces for packing.
 pub fn few_words_are_few_pieces()

@@ -152,6 +152,7 @@ fn pack_dispatches(
     for step in steps {
         match step {
             Step::Do(op) => queue(alloc, &mut planning.queued, op, board)?,
+            Step::Denied { .. } => {}
             Step::Dispatch => dispatch(alloc, &mut planning, payload)?,
         }
     }

@@ -1,4 +1,5 @@
 mod Hex
+pub mod Allowed
 mod LineLemmas
 mod Counts
 mod StatusLemmas
@@ -6,6 +7,7 @@ mod Skipping
 mod Reading
 mod Rising
 mod Covering
+mod Denials
 mod Printed
 mod PiecesSoFar
 mod TextSoFar

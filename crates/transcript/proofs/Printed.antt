@@ -5,7 +5,7 @@ use Rattle.std.proofs.Math.Nat.{div-le_self}
 use Rattle.std.specs.Int.Bits.{bit_and}
 use Rattle.std.specs.List.{AllByRecursion, flat_map, slice_get, zip}
 use Rattle.std.specs.Option.{option_map}
-use Rattle.std.specs.Prelude.{option_to_list, unwrap_or}
+use Rattle.std.specs.Prelude.{IfSome, option_to_list, unwrap_or}
 use Rattle.std.proofs.lemmas.Bool.{cases_Bool}
 use Rattle.std.proofs.lemmas.Nat.{and_le_l}
 use Rattle.ipb_base.specs.Word.{IsWord, AreWords}
@@ -23,6 +23,7 @@ use Rattle.script_steps.specs.declared.operation.Verb.{Verb}
 use Rattle.script_steps.specs.declared.operation.Verb.TheVariants.{Read, Write, ReadBlock, WriteBlock, RmwBits, RmwSum}
 use Rattle.script_steps.specs.declared.operation.RegOp.{RegOp}
 use Rattle.script_steps.specs.declared.operation.Step.{Step}
+use Rattle.script_steps.specs.Rulings.{Asked, asked}
 use Rattle.lane_record.specs.declared.outcome.Outcome.{Outcome}
 use Rattle.lane_record.specs.declared.outcome.Outcome.TheVariants as became
 use Rattle.script_plans.specs.declared.greeting.Greeting.{Greeting}
@@ -35,14 +36,15 @@ use Rattle.script_plans.specs.declared.board_run.ClientPart.{ClientPart}
 use Rattle.script_plans.specs.declared.board_run.BoardRun.{BoardRun}
 use Rattle.transcript.specs.declared.line.OpResult.{OpResult}
 use Rattle.transcript.specs.declared.line.OpResult.TheVariants.{Value, Done, Was, Error, Skipped, TimedOut, Unsent}
-use Rattle.transcript.specs.declared.line.OpResult.TheVariants.{LinkLost, Garbled}
-use Rattle.script_plans.specs.Plan.{IsWithinBody, operations}
+use Rattle.transcript.specs.declared.line.OpResult.TheVariants.{LinkLost, Garbled, Denied}
+use Rattle.script_plans.specs.Plan.{IsWithinBody}
 use Rattle.transcript.specs.Ends.{told_by, end_of, ends_of, answered, told_at, result_in, piece_result}
 use Rattle.transcript.specs.Ends.{place_at, place_in, piece_place}
 use Rattle.transcript.specs.Results.{is_good, first_fault, values_in, word_before, shown, op_places}
-use Rattle.transcript.specs.Lines.{Showing, by_pieces, in_part, showing, line_of, lines_behind, client_lines}
+use Rattle.transcript.specs.Lines.{Showing, by_pieces, in_part, showing, shown_behind, line_of, lines_behind}
+use Rattle.transcript.specs.Lines.{client_lines}
 use Rattle.transcript.specs.Claims.{IsByte, IsPrinted, IsPrintedPlace, IsPrintedLine, IsInRange, IsPartInRange}
-use Rattle.transcript.specs.Claims.{IsRunInRange, IsSpaceless}
+use Rattle.transcript.specs.Claims.{CanBeTold, IsRunInRange}
 use Rattle.script_plans.proofs.Lookups.{all_at}
 use Rattle.transcript.proofs.Skipping.{Joins}
 
@@ -201,6 +203,7 @@ values_fit (TimedOut rounds) fits = tt
 values_fit Unsent fits = tt
 values_fit LinkLost fits = tt
 values_fit Garbled fits = tt
+values_fit (Denied rule) fits = tt
 
 all_values_fit : (results : List OpResult) → AllByRecursion IsPrinted results → AreWords (flat_map values_in results)
 all_values_fit [] fits = tt
@@ -249,29 +252,36 @@ module _ (joins : Joins) where
   showing_fits name Silent parts client k op fits = (tt, tt)
   showing_fits name Down parts client k op fits = (tt, tt)
 
-  line_fits : (runs : List BoardRun) (client : ℕ) (before : List RegOp) (op : RegOp) (found : Option BoardRun)
-      → AllByRecursion IsRunInRange runs → IsSpaceless op → length before + 1 < 2 ^ 32 → slice_get runs op.board ≡ found
-      → AllByRecursion IsPrintedLine (option_to_list (option_map (line_of client before op) found))
+  ask_fits : (run : BoardRun) (client : ℕ) (before : List Asked) (op : RegOp) (denied : Option ℕ)
+      → AllByRecursion IsPartInRange run.parts → IfSome denied (λ rule. rule < 2 ^ 32)
+      → ShowingFits (shown_behind run client before op denied)
   unfolding ShowingFits
-  line_fits runs client before op None fits named few at = tt
-  line_fits runs client before op (Some run) fits named few at =
-      let in_range = all_at IsRunInRange runs op.board run at fits in
-      let shows = showing_fits run.name run.greeting run.parts client _ op in_range.parts' in (
-        record { number' = few; board' = in_range.name'; name' = named; result' = shows.0; places' = shows.1 },
+  ask_fits run client before op None fits low = showing_fits run.name run.greeting run.parts client _ op fits
+  ask_fits run client before op (Some rule) fits low = (low, tt)
+
+  line_fits : (runs : List BoardRun) (client : ℕ) (before : List Asked) (ask : Asked) (found : Option BoardRun)
+      → AllByRecursion IsRunInRange runs → CanBeTold ask → length before + 1 < 2 ^ 32
+      → slice_get runs ask.op.board ≡ found
+      → AllByRecursion IsPrintedLine (option_to_list (option_map (line_of client before ask) found))
+  unfolding ShowingFits
+  line_fits runs client before ask None fits can few at = tt
+  line_fits runs client before ask (Some run) fits can few at =
+      let in_range = all_at IsRunInRange runs ask.op.board run at fits in
+      let shows = ask_fits run client before ask.op ask.denied in_range.parts' can.rule' in (
+        record { number' = few; board' = in_range.name'; name' = can.name'; result' = shows.0; places' = shows.1 },
         tt,
       )
 
-  lines_fit : (runs : List BoardRun) (client : ℕ) (before ops : List RegOp) → AllByRecursion IsRunInRange runs
-      → AllByRecursion IsSpaceless ops → length before + length ops < 2 ^ 32
-      → AllByRecursion IsPrintedLine (lines_behind runs client before ops)
-  lines_fit runs client before [] fits named few = tt
-  lines_fit runs client before (op ∷ ops) fits named few =
-      AllByRecursion-append IsPrintedLine _ (lines_behind runs client (before ++ op ∷ []) ops)
-      (line_fits runs client before op (slice_get runs op.board) fits named.0 (omega arith) refl)
-      (lines_fit runs client (before ++ op ∷ []) ops fits named.1 (omega (arith, length-append before (op ∷ []))))
+  lines_fit : (runs : List BoardRun) (client : ℕ) (before asks : List Asked) → AllByRecursion IsRunInRange runs
+      → AllByRecursion CanBeTold asks → length before + length asks < 2 ^ 32
+      → AllByRecursion IsPrintedLine (lines_behind runs client before asks)
+  lines_fit runs client before [] fits can few = tt
+  lines_fit runs client before (ask ∷ asks) fits can few =
+      AllByRecursion-append IsPrintedLine _ (lines_behind runs client (before ++ ask ∷ []) asks)
+      (line_fits runs client before ask (slice_get runs ask.op.board) fits can.0 (omega arith) refl)
+      (lines_fit runs client (before ++ ask ∷ []) asks fits can.1 (omega (arith, length-append before (ask ∷ []))))
 
   pub client_lines_fit : (runs : List BoardRun) (client : ℕ) (steps : List Step) → AllByRecursion IsRunInRange runs
-      → AllByRecursion IsSpaceless (operations steps) → length (operations steps) < 2 ^ 32
+      → AllByRecursion CanBeTold (asked steps) → length (asked steps) < 2 ^ 32
       → AllByRecursion IsPrintedLine (client_lines runs client steps)
-  client_lines_fit runs client steps fits named few = lines_fit runs client [] (operations steps) fits named
-      (omega arith)
+  client_lines_fit runs client steps fits can few = lines_fit runs client [] (asked steps) fits can (omega arith)

@@ -13,7 +13,7 @@ use Rattle.transcript.specs.Lines.{are_good}
 use Rattle.transcript.specs.Text.{line_text, lines_text}
 use Rattle.transcript.specs.Printing.{HasPrinted}
 use Rattle.transcript.specs.Results.{is_good}
-use Rattle.transcript.specs.Steps.{IsProgress, line_on}
+use Rattle.transcript.specs.Steps.{denied_line, IsProgress, line_on}
 
 text_of_both : (xs ys : List OpLine) → lines_text (xs ++ ys) ≡ lines_text xs ++ lines_text ys
 text_of_both [] ys = refl
@@ -62,6 +62,13 @@ pub line_printed : {X Y : Type 0} (r : Result X Y) (old new : Printer) (runs : L
     → OnOk r (HasPrinted old new (line_on client number k op run ∷ []))
     → OnOk r (HasPrinted old new (option_to_list (option_map (line_on client n j op) (slice_get runs op.board))))
 line_printed r old new runs client number k n j op run at same also is = rw at (rw (sym same, sym also) is)
+
+-- the line of one that is denied
+pub denied_printed : {X Y : Type 0} (r : Result X Y) (old new : Printer) (runs : List BoardRun) (number n rule : ℕ)
+    (op : RegOp) (run : BoardRun) → slice_get runs op.board ≡ Some run → number ≡ n
+    → OnOk r (HasPrinted old new (denied_line number op rule run ∷ []))
+    → OnOk r (HasPrinted old new (option_to_list (option_map (denied_line n op rule) (slice_get runs op.board))))
+denied_printed r old new runs number n rule op run at same is = rw at (rw (sym same) is)
 
 all_zero : (n b : ℕ) → get_or (replicate n zero) b zero ≡ zero
 all_zero zero b = refl

@@ -14,9 +14,9 @@ use Rattle.script_steps.specs.declared.operation.Verb.{Verb}
 use Rattle.script_steps.specs.declared.operation.Verb.TheVariants.{Read, Write, ReadBlock, WriteBlock, RmwBits, RmwSum}
 use Rattle.transcript.specs.declared.line.OpResult.{OpResult}
 use Rattle.transcript.specs.declared.line.OpResult.TheVariants.{Value, Done, Was, Error, Skipped, TimedOut, Unsent}
-use Rattle.transcript.specs.declared.line.OpResult.TheVariants.{LinkLost, Garbled}
+use Rattle.transcript.specs.declared.line.OpResult.TheVariants.{LinkLost, Garbled, Denied}
 use Rattle.transcript.specs.declared.line.OpLine.{OpLine}
-use Rattle.transcript.specs.Text.{hex_text, words_text, verb_text, error_text, timeout_text, result_text}
+use Rattle.transcript.specs.Text.{hex_text, words_text, verb_text, denied_text, error_text, timeout_text, result_text}
 use Rattle.transcript.specs.Text.{place_text, more_places, places_text, line_text}
 use Rattle.transcript.specs.Claims.{IsByte, IsPrinted, IsPrintedPlace, IsPrintedLine, is_no_colon, is_no_space}
 
@@ -174,6 +174,18 @@ timeout_cut r u s t fr fu e =
     ∙ (ap (drop 14) e ∙ append_assoc (decimal u) (codes " rounds, execution unknown") t)) in
     (ap TimedOut parts.0, ap (drop 26) parts.1)
 
+denied_cut : (r u : ℕ) (s t : List ℕ) → r < 2 ^ 32 → u < 2 ^ 32 → Tail s → Tail t
+    → denied_text r ++ s ≡ denied_text u ++ t → (Denied r ≡ Denied u) × (s ≡ t)
+denied_cut r u s t fr fu p q e =
+    let parts = decimal_cut r u s t (omega arith) (omega arith) (decimal_stops s p) (decimal_stops t q) (ap (drop 15) e)
+    in
+    (ap Denied parts.0, parts.1)
+
+-- `done` and `denied` differ in the second letter
+done_or_denied : (rule : ℕ) (s t : List ℕ) → codes "done" ++ s ≡ denied_text rule ++ t → ⊥
+done_or_denied rule s t e =
+    let seconds : ◌≡◌ {A = ℕ} 111 101 = ap (λ l. get_or l 1 0) e in omega arith
+
 result_cut : (a b : OpResult) (s t : List ℕ) → IsPrinted a → IsPrinted b → Tail s → Tail t
     → result_text a ++ s ≡ result_text b ++ t → (a ≡ b) × (s ≡ t)
 result_cut (Value ws) (Value vs) s t x y p q e = let c = words_cut ws vs s t x y p q (ap (drop 1) e) in
@@ -187,6 +199,9 @@ result_cut (TimedOut r) (TimedOut u) s t x y p q e = timeout_cut r u s t x y e
 result_cut Unsent Unsent s t x y p q e = (refl, ap (drop 6) e)
 result_cut LinkLost LinkLost s t x y p q e = (refl, ap (drop 9) e)
 result_cut Garbled Garbled s t x y p q e = (refl, ap (drop 7) e)
+result_cut (Denied r) (Denied u) s t x y p q e = denied_cut r u s t x y p q e
+result_cut Done (Denied u) s t x y p q e = absurd (done_or_denied u s t e)
+result_cut (Denied r) Done s t x y p q e = absurd (done_or_denied r t s (sym e))
 result_cut a b s t x y p q e =
     let heads : get_or (result_text a ++ s) 0 0 ≡ get_or (result_text b ++ t) 0 0 = ap (λ l. get_or l 0 0) e in absurd
     (omega arith)

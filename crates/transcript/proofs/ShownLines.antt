@@ -11,6 +11,7 @@ use Rattle.mtu_packer.proofs.AnyLemmas.{any_nowhere, any_here, any_later, any_ca
 use Rattle.mtu_packer.proofs.AnyLemmas.{any_at, at_any}
 use Rattle.script_steps.specs.declared.operation.RegOp.{RegOp}
 use Rattle.script_steps.specs.declared.operation.Step.{Step}
+use Rattle.script_steps.specs.Rulings.{Asked, asked, allowed}
 use Rattle.script_plans.specs.declared.greeting.Greeting.{Greeting}
 use Rattle.script_plans.specs.declared.greeting.Greeting.TheVariants.{Live, Silent, Down}
 use Rattle.lane_record.specs.declared.outcome.Outcome.{Outcome}
@@ -22,13 +23,14 @@ use Rattle.transcript.specs.declared.line.OpLine.{OpLine}
 use Rattle.script_plans.specs.Plan.{ClientBodies, operations, plan, planned_on, all_dispatches, count_on}
 use Rattle.transcript.specs.Ends.{end_of, ends_of, place_at, place_in, piece_place}
 use Rattle.transcript.specs.Results.{op_places}
-use Rattle.transcript.specs.Lines.{by_pieces, in_part, showing, line_of, lines_behind, client_lines}
-use Rattle.transcript.specs.Lines.{lines_from}
+use Rattle.transcript.specs.Lines.{by_pieces, in_part, showing, shown_behind, line_of, lines_behind}
+use Rattle.transcript.specs.Lines.{client_lines, lines_from}
 use Rattle.transcript.specs.Shown.{ShowsPlace, IsShown, EndsAt, HasBodyAt, IsPlaceOn}
 use Rattle.script_plans.specs.Runs.{IsPlanned, ArePlanned, HaveOwnNames}
 use Rattle.script_plans.specs.Claims.{HasPiece}
 use Rattle.script_plans.proofs.Covering.{count_by-append, each_has_pieces}
 use Rattle.script_plans.proofs.EachBody.{BodiesHavePieces, each_body}
+use Rattle.transcript.proofs.Allowed.{allowed-append, asked_allowed}
 
 abbrev IsAtPlace : ℕ → ℕ × ℕ → Type 0
 IsAtPlace place at = at.0 ≡ place
@@ -98,84 +100,109 @@ shown_place run client k op place Down is any = absurd (any_nowhere (IsAtPlace p
 
 -- ---- lines
 
+-- what is shown has no place where a rule denies the operation
+ask_place : (run : BoardRun) (client : ℕ) (before : List Asked) (op : RegOp) (denied : Option ℕ) (place : ℕ)
+    → Any (IsAtPlace place) (shown_behind run client before op denied).1 → IsPlaceOn run place
+ask_place run client before op None place any =
+    shown_place run client (count_on op.board (allowed before)) op place run.greeting refl any
+ask_place run client before op (Some rule) place any = absurd (any_nowhere (IsAtPlace place) any)
+
 module _ (P : OpLine → Type 0) (runs : List BoardRun) (client : ℕ) where
   record Line : Type 0 where
-    before : List RegOp
-    op : RegOp
+    before : List Asked
+    ask : Asked
     run : BoardRun
-    there : slice_get runs op.board ≡ Some run
-    holds : P (line_of client before op run)
+    there : slice_get runs ask.op.board ≡ Some run
+    holds : P (line_of client before ask run)
 
-  one_line : (before : List RegOp) (op : RegOp) (found : Option BoardRun) → slice_get runs op.board ≡ found
-      → Any P (option_to_list (option_map (line_of client before op) found)) → Line
-  one_line before op None at any = absurd (any_nowhere P any)
-  one_line before op (Some run) at any = elim (any_cases P (line_of client before op run) [] any) [
-    | inl here ↦ record { before = before; op = op; run = run; there = at; holds = here }
+  one_line : (before : List Asked) (ask : Asked) (found : Option BoardRun) → slice_get runs ask.op.board ≡ found
+      → Any P (option_to_list (option_map (line_of client before ask) found)) → Line
+  one_line before ask None at any = absurd (any_nowhere P any)
+  one_line before ask (Some run) at any = elim (any_cases P (line_of client before ask run) [] any) [
+    | inl here ↦ record { before = before; ask = ask; run = run; there = at; holds = here }
     | inr none ↦ absurd (any_nowhere P none)
   ]
 
-  line_found : (before ops : List RegOp) → Any P (lines_behind runs client before ops) → Line
+  line_found : (before asks : List Asked) → Any P (lines_behind runs client before asks) → Line
   line_found before [] any = absurd (any_nowhere P any)
-  line_found before (op ∷ ops) any =
-      elim (any_append P (option_to_list (option_map (line_of client before op) (slice_get runs op.board)))
-      (lines_behind runs client (before ++ op ∷ []) ops) any) [
-        | inl here ↦ one_line before op (slice_get runs op.board) refl here
-        | inr later ↦ line_found (before ++ op ∷ []) ops later
+  line_found before (ask ∷ asks) any =
+      elim (any_append P (option_to_list (option_map (line_of client before ask) (slice_get runs ask.op.board)))
+      (lines_behind runs client (before ++ ask ∷ []) asks) any) [
+        | inl here ↦ one_line before ask (slice_get runs ask.op.board) refl here
+        | inr later ↦ line_found (before ++ ask ∷ []) asks later
       ]
 
   module _ (board : ℕ) (run : BoardRun) (there : slice_get runs board ≡ Some run) where
-    -- what holds of the line of operation n, from 0, of those on the board that follow some
+    -- what holds of the line of operation n, from 0, of those on the board that are not denied, and follow some
     abbrev HoldsAt : ℕ → Type 0
-    HoldsAt n = (before : List RegOp) (op : RegOp) → op.board ≡ board → count_on board before ≡ n
-        → P (line_of client before op run)
+    HoldsAt n = (before : List Asked) (op : RegOp) → op.board ≡ board → count_on board (allowed before) ≡ n
+        → P (line_of client before (record { op = op; denied = None }) run)
 
     counted : (op : RegOp) (ops : List RegOp) → count_on board (op ∷ ops) ≡ cond (op.board == board) 1 0 + count_on
         board ops
     counted op ops = sum_by-cons (λ (o : RegOp). cond (o.board == board) 1 0) op ops
 
-    one_more : (before : List RegOp) (op : RegOp) → count_on board (before ++ op ∷ []) ≡ count_on board before + cond
-        (op.board == board) 1 0
-    one_more before op =
-        let both = count_by-append (λ (o : RegOp). o.board == board) before (op ∷ []) in
-        let last = counted op [] in
-        omega arith
+    both_counted : (before : List Asked) (ask : Asked) → count_on board (allowed (before ++ ask ∷ []))
+        ≡ count_on board (allowed before) + count_on board (allowed (ask ∷ []))
+    both_counted before ask =
+        ap (count_on board) (allowed-append before (ask ∷ []))
+        ∙ count_by-append (λ (o : RegOp). o.board == board) (allowed before) (allowed (ask ∷ []))
 
     -- the first of them, or a later one
-    line_there : (before : List RegOp) (op : RegOp) (ops : List RegOp) (k n : ℕ) → op.board ≡ board
-        → count_on board before ≡ n → HoldsAt (n + k)
-        → ((j : ℕ) → k ≡ suc j → Any P (lines_behind runs client (before ++ op ∷ []) ops))
-        → Any P (lines_behind runs client before (op ∷ ops))
-    line_there before op ops zero n same count holds later =
+    line_there : (before : List Asked) (op : RegOp) (asks : List Asked) (k n : ℕ) → op.board ≡ board
+        → count_on board (allowed before) ≡ n → HoldsAt (n + k)
+        → ((j : ℕ) → k ≡ suc j
+        → Any P (lines_behind runs client (before ++ record { op = op; denied = None } ∷ []) asks))
+        → Any P (lines_behind runs client before (record { op = op; denied = None } ∷ asks))
+    line_there before op asks zero n same count holds later =
+        let ask : Asked = record { op = op; denied = None } in
         let at : slice_get runs op.board ≡ Some run = ap (λ b. slice_get runs b) same ∙ there in
-        any_front P (option_to_list (option_map (line_of client before op) (slice_get runs op.board)))
-        (lines_behind runs client (before ++ op ∷ []) ops)
-        (subst (λ (o : Option BoardRun). Any P (option_to_list (option_map (line_of client before op) o))) (sym at)
-        (any_here P (line_of client before op run) [] (holds before op same (omega arith))))
-    line_there before op ops (suc j) n same count holds later =
-        any_back P (option_to_list (option_map (line_of client before op) (slice_get runs op.board)))
-        (lines_behind runs client (before ++ op ∷ []) ops) (later j refl)
+        any_front P (option_to_list (option_map (line_of client before ask) (slice_get runs op.board)))
+        (lines_behind runs client (before ++ ask ∷ []) asks)
+        (subst (λ (o : Option BoardRun). Any P (option_to_list (option_map (line_of client before ask) o))) (sym at)
+        (any_here P (line_of client before ask run) [] (holds before op same (omega arith))))
+    line_there before op asks (suc j) n same count holds later =
+        let ask : Asked = record { op = op; denied = None } in
+        any_back P (option_to_list (option_map (line_of client before ask) (slice_get runs op.board)))
+        (lines_behind runs client (before ++ ask ∷ []) asks) (later j refl)
 
-    line_shown : (before ops : List RegOp) (k n : ℕ) → count_on board before ≡ n → k < count_on board ops
-        → HoldsAt (n + k) → Any P (lines_behind runs client before ops)
-    line_shown before [] k n count within holds = absurd (omega arith)
-    line_shown before (op ∷ ops) k n count within holds =
-        let longer = one_more before op in
-        let all = counted op ops in
+    -- the line of an operation among these that is not denied
+    abbrev IsLater : List Asked → List Asked → Type 0
+    IsLater before asks = (k n : ℕ) → count_on board (allowed before) ≡ n → k < count_on board (allowed asks)
+        → HoldsAt (n + k) → Any P (lines_behind runs client before asks)
+
+    next_shown : (before : List Asked) (op : RegOp) (denied : Option ℕ) (asks : List Asked)
+        → IsLater (before ++ record { op = op; denied = denied } ∷ []) asks
+        → IsLater before (record { op = op; denied = denied } ∷ asks)
+    next_shown before op (Some rule) asks later k n count within holds =
+        let ask : Asked = record { op = op; denied = Some rule } in
+        any_back P (option_to_list (option_map (line_of client before ask) (slice_get runs op.board)))
+        (lines_behind runs client (before ++ ask ∷ []) asks)
+        (later k n (omega (arith, both_counted before ask)) within holds)
+    next_shown before op None asks later k n count within holds =
+        let ask : Asked = record { op = op; denied = None } in
+        let longer = both_counted before ask in
+        let last = counted op [] in
+        let all = counted op (allowed asks) in
         elim (cases_Bool (op.board == board)) [
           | inl here ↦
               let same : op.board ≡ board = grind (arith, nat_tests) in
               let one : cond {A = ℕ} (op.board == board) 1 0 ≡ 1 = ap (λ b. cond {A = ℕ} b 1 0) here in
-              line_there before op ops k n same count holds
+              line_there before op asks k n same count holds
               (λ j is.
               let next : n + k ≡ (n + 1) + j = omega arith in
-              line_shown (before ++ op ∷ []) ops j (n + 1) (omega arith) (omega arith)
-              (subst (λ m. HoldsAt m) next holds))
+              later j (n + 1) (omega arith) (omega arith) (subst (λ m. HoldsAt m) next holds))
           | inr away ↦
               let none : cond {A = ℕ} (op.board == board) 1 0 ≡ 0 = ap (λ b. cond {A = ℕ} b 1 0) away in
-              any_back P (option_to_list (option_map (line_of client before op) (slice_get runs op.board)))
-              (lines_behind runs client (before ++ op ∷ []) ops)
-              (line_shown (before ++ op ∷ []) ops k n (omega arith) (omega arith) holds)
+              any_back P (option_to_list (option_map (line_of client before ask) (slice_get runs op.board)))
+              (lines_behind runs client (before ++ ask ∷ []) asks)
+              (later k n (omega arith) (omega arith) holds)
         ]
+
+    line_shown : (before asks : List Asked) → IsLater before asks
+    line_shown before [] k n count within holds = absurd (omega arith)
+    line_shown before (ask ∷ asks) k n count within holds =
+        next_shown before ask.op ask.denied asks (line_shown (before ++ ask ∷ []) asks) k n count within holds
 
 -- ---- clients
 
@@ -273,13 +300,12 @@ shown_on : (scripts : List (List Step)) (runs : List BoardRun) (board : ℕ) (ru
 shown_on scripts runs board run place own at shown =
     let client = client_found (Any (ShowsPlace run.name place)) runs 0 scripts shown in
     let number = 0 + client.number in
-    let line = line_found (ShowsPlace run.name place) runs number [] (operations client.steps) client.holds in
-    let here = one_position runs own line.op.board board line.run run line.there at line.holds.board' in
+    let line = line_found (ShowsPlace run.name place) runs number [] (asked client.steps) client.holds in
+    let here = one_position runs own line.ask.op.board board line.run run line.there at line.holds.board' in
     let same : line.run ≡ run =
     same_Some line.run run (sym line.there ∙ ap (λ n. slice_get runs n) here ∙ at) in
     subst (λ (r : BoardRun). IsPlaceOn r place) same
-    (shown_place line.run number (count_on line.op.board line.before) line.op place line.run.greeting refl
-    line.holds.shown)
+    (ask_place line.run number line.before line.ask.op line.ask.denied place line.holds.shown)
 
 -- ---- from bodies to lines
 
@@ -312,17 +338,23 @@ module _ (law : BodiesHavePieces) where
       let k = found.0 in
       let count : length part.planned.pieces ≡ count_on board (operations steps) =
       ap (λ (p : ClientBodies). length p.pieces) planned ∙ each_has_pieces payload board steps in
-      let below : k < count_on board (operations steps) =
-      omega (arith, count, slice_get_within part.planned.pieces k found.1 found.2) in
+      let below : k < count_on board (allowed (asked steps)) =
+      omega (
+        arith,
+        count,
+        slice_get_within part.planned.pieces k found.1 found.2,
+        ap (count_on board) (asked_allowed steps),
+      ) in
       let shown = end_op (ends_of part) place j end ended is found.1 found.3 in
       let number : client ≡ 0 + client = omega arith in
       client_shown (Any (ShowsPlace run.name place)) runs 0 scripts client steps script
       (subst (λ n. Any (ShowsPlace run.name place) (client_lines runs n steps)) number
-      (line_shown (ShowsPlace run.name place) runs client board run there [] (operations steps) k 0 refl below
+      (line_shown (ShowsPlace run.name place) runs client board run there [] (asked steps) k 0 refl below
       (λ before op same counted. record {
         board' = refl;
         shown =
-            let same_count : count_on op.board before ≡ k = ap (λ b. count_on b before) same ∙ counted ∙ omega arith in
+            let same_count : count_on op.board (allowed before) ≡ k =
+            ap (λ b. count_on b (allowed before)) same ∙ counted ∙ omega arith in
             rw live (rw at (rw same_count (rw found.2 shown)));
       })))
 

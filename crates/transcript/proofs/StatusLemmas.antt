@@ -5,7 +5,7 @@ use Rattle.std.proofs.lemmas.Bool.{cases_Bool}
 use Rattle.transcript.specs.declared.line.OpLine.{OpLine}
 use Rattle.transcript.specs.declared.line.OpResult.{OpResult}
 use Rattle.transcript.specs.declared.line.OpResult.TheVariants.{Value, Done, Was, Error, Skipped, TimedOut, Unsent}
-use Rattle.transcript.specs.declared.line.OpResult.TheVariants.{LinkLost, Garbled}
+use Rattle.transcript.specs.declared.line.OpResult.TheVariants.{LinkLost, Garbled, Denied}
 use Rattle.transcript.specs.Results.{is_good}
 use Rattle.transcript.specs.Lines.{are_good, all_good, run_status}
 use Rattle.transcript.specs.Claims.{IsDone, IsDoneResult}
@@ -20,6 +20,7 @@ is_done (TimedOut rounds) good = cc
 is_done Unsent good = cc
 is_done LinkLost good = cc
 is_done Garbled good = cc
+is_done (Denied rule) good = cc
 
 is_good_done : (r : OpResult) → IsDoneResult r → is_good r ≡ true
 is_good_done r (inl (words, is)) = ap is_good is

@@ -1,17 +1,17 @@
 -- What the laws say of lines and outcomes.
-use Rattle.std.specs.Prelude.{◌≡◌, ◌≢◌, ◌⊎◌, ℕ, ◌<◌, ◌^◌, ◌==◌, Bool, true, not, List, Some, None, length}
+use Rattle.std.specs.Prelude.{◌≡◌, ◌≢◌, ◌⊎◌, ℕ, ◌<◌, ◌^◌, ◌==◌, Bool, true, not, List, [], Option, Some, None, IfSome, length, map}
 use Rattle.std.specs.List.{AllByRecursion, list_all, slice_get}
 use Rattle.ipb_base.specs.Word.{IsWord, AreWords}
-use Rattle.script_steps.specs.declared.operation.RegOp.{RegOp}
+use Rattle.script_steps.specs.Rulings.{Asked, asked}
 use Rattle.script_steps.specs.declared.operation.Step.{Step}
 use Rattle.script_plans.specs.declared.board_run.BoardRun.{BoardRun}
 use Rattle.script_plans.specs.declared.board_run.ClientPart.{ClientPart}
-use Rattle.script_plans.specs.Plan.{IsWithinBody, operations}
+use Rattle.script_plans.specs.Plan.{IsWithinBody}
 use Rattle.lane_record.specs.declared.outcome.Outcome.{Outcome}
 use Rattle.lane_record.specs.declared.outcome.Outcome.TheVariants as became
 use Rattle.transcript.specs.declared.line.OpResult.{OpResult}
 use Rattle.transcript.specs.declared.line.OpResult.TheVariants.{Value, Done, Was, Error, Skipped, TimedOut, Unsent}
-use Rattle.transcript.specs.declared.line.OpResult.TheVariants.{LinkLost, Garbled}
+use Rattle.transcript.specs.declared.line.OpResult.TheVariants.{LinkLost, Garbled, Denied}
 use Rattle.transcript.specs.declared.line.OpLine.{OpLine}
 use Rattle.transcript.specs.declared.body_end.BodyEnd.{BodyEnd}
 
@@ -45,6 +45,7 @@ IsPrinted (TimedOut rounds) = IsByte rounds
 IsPrinted Unsent = Unit {0}
 IsPrinted LinkLost = Unit {0}
 IsPrinted Garbled = Unit {0}
+IsPrinted (Denied rule) = rule < 2 ^ 32
 
 abbrev pub IsPrintedPlace : ℕ × ℕ → Type 0
 IsPrintedPlace place = (place.0 < 2 ^ 64) × (place.1 < 2 ^ 16)
@@ -77,12 +78,39 @@ HaveOwnPlaces ends =
 
 -- ---- every operation
 
-abbrev pub IsOnBoard : List BoardRun → RegOp → Type 0
-IsOnBoard runs op = op.board < length runs
+abbrev pub IsOnBoard : List BoardRun → Asked → Type 0
+IsOnBoard runs ask = ask.op.board < length runs
 
--- each operation is on a board of the run
+-- each operation, denied or not, is on a board of the run
 abbrev pub AreOnBoards : List BoardRun → List Step → Type 0
-AreOnBoards runs steps = AllByRecursion (IsOnBoard runs) (operations steps)
+AreOnBoards runs steps = AllByRecursion (IsOnBoard runs) (asked steps)
+
+-- ---- denied operations
+
+-- the rule that denied the operation of a result, where one did
+abbrev pub rule_in : OpResult → Option ℕ
+rule_in (Value words) = None
+rule_in Done = None
+rule_in (Was word) = None
+rule_in (Error code after) = None
+rule_in Skipped = None
+rule_in (TimedOut rounds) = None
+rule_in Unsent = None
+rule_in LinkLost = None
+rule_in Garbled = None
+rule_in (Denied rule) = Some rule
+
+-- so line by line
+abbrev pub rules_shown : List OpLine → List (Option ℕ)
+rules_shown lines = map (λ (line : OpLine). rule_in line.result) lines
+
+-- the rule that denies each operation of a client, where one does, operation by operation
+abbrev pub rules_of : List Step → List (Option ℕ)
+rules_of steps = map (λ (ask : Asked). ask.denied) (asked steps)
+
+-- the line of a denied operation shows no place
+abbrev pub HasNoPlaceIfDenied : OpLine → Type 0
+HasNoPlaceIfDenied line = IfSome (rule_in line.result) (λ _. line.places ≡ [])
 
 -- ---- runs whose numbers have the ranges of their fields
 
@@ -103,6 +131,7 @@ pub record IsRunInRange (run : BoardRun) : Type 0 where
   pub name' : list_all is_no_colon run.name ≡ true
   pub parts' : AllByRecursion IsPartInRange run.parts
 
--- the register's name has no space
-abbrev pub IsSpaceless : RegOp → Type 0
-IsSpaceless op = list_all is_no_space op.name ≡ true
+-- The register's name has no space, and the number of the rule that denies the operation has 32 bits.
+pub record CanBeTold (ask : Asked) : Type 0 where
+  pub name' : list_all is_no_space ask.op.name ≡ true
+  pub rule' : IfSome ask.denied (λ rule. rule < 2 ^ 32)

@@ -11,8 +11,10 @@ use Rattle.node_tree.specs.declared.register.Register.{Register}
 use Rattle.node_tree.specs.Maps.{Name}
 use Rattle.script_steps.specs.declared.operation.Verb.{Verb}
 use Rattle.script_steps.specs.declared.operation.Verb.TheVariants as verb
+use Rattle.script_steps.specs.declared.operation.Decision.TheVariants as decision
 use Rattle.script_steps.specs.declared.operation.Step.{Step}
 use Rattle.script_steps.specs.declared.operation.Step.TheVariants.{Do, Dispatch}
+use Rattle.script_steps.specs.Rulings.{ruled, ruled_step}
 use Rattle.lane_record.specs.declared.outcome.Outcome.{Outcome}
 use Rattle.lane_record.specs.declared.outcome.Outcome.TheVariants.{Replied, TimedOut, Unsent, LinkLost}
 use Rattle.script_plans.specs.declared.greeting.Greeting.{Greeting}
@@ -47,6 +49,11 @@ write_top = ask verb.Write (codes "a.top") 0x80000000 (ops.RmwBits 8 0x7fffffff 
 abbrev pub read_top : Step
 read_top = ask verb.Read (codes "a.top") 0x80000000 (ops.Read 8 1)
 
+-- a write between two reads, which this rule denies
+abbrev pub denied_write : ℕ → List Step
+denied_write rule =
+    ruled (read_a ∷ write_a ∷ read_id ∷ []) (decision.Allowed ∷ decision.Denied rule ∷ decision.Allowed ∷ [])
+
 -- the board's part in one client's run
 abbrev pub told : Greeting → List (List Outcome) → List BoardFate
 told greeting outcomes = record { name = codes "b0"; greeting = greeting; outcomes = outcomes ∷ [] } ∷ []
@@ -70,7 +77,8 @@ zeros_read header count = header ∷ replicate count 0
 abbrev pub every_step : List Step
 every_step =
     read_id ∷ write_a ∷ ask verb.RmwSum (codes "a") full_mask (ops.RmwSum 8 1) ∷ read_mem 10 ∷ read_id ∷ Dispatch
-    ∷ read_id ∷ Dispatch ∷ read_id ∷ Dispatch ∷ read_id ∷ Dispatch ∷ read_id ∷ []
+    ∷ read_id ∷ Dispatch ∷ read_id ∷ Dispatch ∷ read_id ∷ Dispatch ∷ read_id
+    ∷ ruled_step write_a (decision.Denied 3) ∷ []
 
 abbrev pub every_outcome : List (List Outcome)
 every_outcome =

@@ -4,6 +4,7 @@ use Rattle.std.specs.Prelude.{slice_get, Option, Some, None, option_to_list, opt
 use Rattle.std.specs.List.{list_all}
 use Rattle.script_steps.specs.declared.operation.RegOp.{RegOp}
 use Rattle.script_steps.specs.declared.operation.Step.{Step}
+use Rattle.script_steps.specs.Rulings.{Asked, asked, allowed}
 use Rattle.lane_record.specs.declared.outcome.Outcome.{Outcome}
 use Rattle.lane_record.specs.declared.outcome.Outcome.TheVariants.{Replied, TimedOut, Unsent, LinkLost}
 use Rattle.lane_record.specs.Outcomes.{is_sent, is_replied, is_timed_out}
@@ -16,7 +17,6 @@ use Rattle.transcript.specs.declared.line.OpResult.TheVariants as result
 use Rattle.transcript.specs.declared.line.OpLine.{OpLine}
 use Rattle.transcript.specs.declared.line.BoardLine.{BoardLine}
 use Rattle.transcript.specs.declared.line.BoardLine.TheVariants as board_lines
-use Rattle.script_plans.specs.Plan.{operations}
 use Rattle.transcript.specs.Ends.{ends_of}
 use Rattle.transcript.specs.Results.{op_result, op_places, is_good}
 use Rattle.script_plans.specs.Plan.{count_on}
@@ -52,21 +52,31 @@ abbrev pub line_with : ℕ → RegOp → List ℕ → Showing → OpLine
 line_with number op name shows =
     record { number = number; verb = op.verb; board = name; name = op.name; result = shows.0; places = shows.1 }
 
--- the line of an operation on a board, behind these operations of its client
-abbrev pub line_of : ℕ → List RegOp → RegOp → BoardRun → OpLine
-line_of client before op run =
-    line_with (length before + 1) op run.name (showing run client (count_on op.board before) op)
+-- nothing of an operation that a rule denies was sent
+abbrev pub denied_by : ℕ → Showing
+denied_by rule = (result.Denied rule, [])
+
+-- An operation behind these of its client is shown so, by the rule that denies it. On its board the operations alone
+-- are counted that no rule denies.
+abbrev pub shown_behind : BoardRun → ℕ → List Asked → RegOp → Option ℕ → Showing
+shown_behind run client before op None = showing run client (count_on op.board (allowed before)) op
+shown_behind run client before op (Some rule) = denied_by rule
+
+-- the line of an operation on a board, behind these operations of its client, denied or not
+abbrev pub line_of : ℕ → List Asked → Asked → BoardRun → OpLine
+line_of client before ask run =
+    line_with (length before + 1) ask.op run.name (shown_behind run client before ask.op ask.denied)
 
 -- the lines of a client's operations, behind others; one on a board that is not there has none
-abbrev pub lines_behind : List BoardRun → ℕ → List RegOp → List RegOp → List OpLine
+abbrev pub lines_behind : List BoardRun → ℕ → List Asked → List Asked → List OpLine
 lines_behind runs client before [] = []
-lines_behind runs client before (op ∷ ops) =
-    option_to_list (option_map (line_of client before op) (slice_get runs op.board))
-    ++ lines_behind runs client (before ++ op ∷ []) ops
+lines_behind runs client before (ask ∷ asks) =
+    option_to_list (option_map (line_of client before ask) (slice_get runs ask.op.board))
+    ++ lines_behind runs client (before ++ ask ∷ []) asks
 
 -- the lines of a client, counted from 0
 abbrev pub client_lines : List BoardRun → ℕ → List Step → List OpLine
-client_lines runs client steps = lines_behind runs client [] (operations steps)
+client_lines runs client steps = lines_behind runs client [] (asked steps)
 
 -- the lines of the clients from a number on
 abbrev pub lines_from : List BoardRun → ℕ → List (List Step) → List (List OpLine)

@@ -9,7 +9,7 @@ use Rattle.script_plans.specs.declared.planned.PieceAt.{PieceAt}
 use Rattle.transcript.specs.declared.body_end.BodyEnd.{BodyEnd}
 use Rattle.transcript.specs.declared.line.OpResult.{OpResult}
 use Rattle.transcript.specs.declared.line.OpResult.TheVariants.{Value, Done, Was, Error, Skipped, TimedOut, Unsent}
-use Rattle.transcript.specs.declared.line.OpResult.TheVariants.{LinkLost, Garbled}
+use Rattle.transcript.specs.declared.line.OpResult.TheVariants.{LinkLost, Garbled, Denied}
 use Rattle.transcript.specs.Ends.{piece_result, piece_place}
 
 -- it was executed without a fault
@@ -23,6 +23,7 @@ is_good (TimedOut rounds) = false
 is_good Unsent = false
 is_good LinkLost = false
 is_good Garbled = false
+is_good (Denied rule) = false
 
 abbrev pub first_fault : List OpResult → Option OpResult
 first_fault [] = None
@@ -38,6 +39,7 @@ values_in (TimedOut rounds) = []
 values_in Unsent = []
 values_in LinkLost = []
 values_in Garbled = []
+values_in (Denied rule) = []
 
 -- the word before a read-modify-write
 abbrev pub word_before : List ℕ → OpResult

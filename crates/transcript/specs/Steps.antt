@@ -5,6 +5,7 @@ use Rattle.std.specs.Prelude.{slice_set, slice_index, Option, Some, None}
 use Rattle.std.specs.Option.{option_map_or}
 use Rattle.script_steps.specs.declared.operation.RegOp.{RegOp}
 use Rattle.script_steps.specs.declared.operation.Step.{Step}
+use Rattle.script_steps.specs.Rulings.{asked, allowed}
 use Rattle.script_steps.specs.declared.operation.Verb.{Verb}
 use Rattle.lane_record.specs.declared.outcome.Outcome.{Outcome}
 use Rattle.transcript.specs.declared.body_end.BodyEnd.{BodyEnd}
@@ -14,11 +15,11 @@ use Rattle.transcript.specs.declared.line.OpResult.TheVariants as result
 use Rattle.transcript.specs.declared.line.OpLine.{OpLine}
 use Rattle.transcript.specs.declared.boards.Kind.{Kind}
 use Rattle.transcript.specs.declared.boards.Kind.TheVariants as kind
-use Rattle.script_plans.specs.Plan.{operations, count_on}
+use Rattle.script_plans.specs.Plan.{count_on}
 use Rattle.transcript.specs.Ends.{ends_of}
 use Rattle.transcript.specs.Results.{is_good}
 use Rattle.lane_record.specs.Outcomes.{is_sent, is_replied, is_timed_out}
-use Rattle.transcript.specs.Lines.{showing, line_with, lines_behind, client_lines, is_lost}
+use Rattle.transcript.specs.Lines.{showing, denied_by, line_with, lines_behind, client_lines, is_lost}
 
 -- what a piece came to, where it failed
 abbrev pub fault_in : OpResult → Option OpResult
@@ -42,6 +43,10 @@ ends_on client run = option_map_or ends_of (slice_get run.parts client) []
 abbrev pub line_on : ℕ → ℕ → ℕ → RegOp → BoardRun → OpLine
 line_on client number k op run = line_with number op run.name (showing run client k op)
 
+-- line `number` of a client, of an operation that this rule denies
+abbrev pub denied_line : ℕ → RegOp → ℕ → BoardRun → OpLine
+denied_line number op rule run = line_with number op run.name (denied_by rule)
+
 -- one more at a place that is there
 abbrev pub bumped : ℕ → List ℕ → List ℕ
 bumped at counts = slice_set counts at (slice_index counts at + 1)
@@ -49,14 +54,14 @@ bumped at counts = slice_set counts at (slice_index counts at + 1)
 abbrev pub AreBelow : ℕ → List ℕ → Type 0
 AreBelow most counts = (b : ℕ) → slice_index counts b ≤ most
 
--- where a client's first `i` steps have these lines, so many operations, and so many on each board
+-- where a client's first `i` steps have these lines, so many operations, and so many on each board that are not denied
 pub record IsProgress (runs : List BoardRun) (client : ℕ) (steps : List Step) (i : ℕ) (made : List OpLine) (number : ℕ)
     (counts : List ℕ) : Type 0 where
-  pub lines : made ++ lines_behind runs client (operations (take i steps)) (operations (drop i steps))
+  pub lines : made ++ lines_behind runs client (asked (take i steps)) (asked (drop i steps))
       ≡ client_lines runs client steps
-  pub operations' : number ≡ length (operations (take i steps))
+  pub operations' : number ≡ length (asked (take i steps))
   pub boards : length counts ≡ length runs
-  pub counts' : (b : ℕ) → b < length runs → slice_index counts b ≡ count_on b (operations (take i steps))
+  pub counts' : (b : ℕ) → b < length runs → slice_index counts b ≡ count_on b (allowed (asked (take i steps)))
 
 abbrev pub is_of : Kind → Outcome → Bool
 is_of kind.Sent outcome = is_sent outcome

@@ -6,7 +6,7 @@ use Rattle.script_steps.specs.declared.operation.Verb.{Verb}
 use Rattle.script_steps.specs.declared.operation.Verb.TheVariants.{Read, Write, ReadBlock, WriteBlock, RmwBits, RmwSum}
 use Rattle.transcript.specs.declared.line.OpResult.{OpResult}
 use Rattle.transcript.specs.declared.line.OpResult.TheVariants.{Value, Done, Was, Error, Skipped, TimedOut, Unsent}
-use Rattle.transcript.specs.declared.line.OpResult.TheVariants.{LinkLost, Garbled}
+use Rattle.transcript.specs.declared.line.OpResult.TheVariants.{LinkLost, Garbled, Denied}
 use Rattle.transcript.specs.declared.line.OpLine.{OpLine}
 use Rattle.transcript.specs.declared.line.BoardLine.{BoardLine}
 use Rattle.transcript.specs.declared.line.BoardLine.TheVariants as board_lines
@@ -38,6 +38,9 @@ error_text code after = codes "error " ++ (decimal code ++ (codes " after " ++ d
 abbrev pub timeout_text : ℕ → List ℕ
 timeout_text rounds = codes "timeout after " ++ (decimal rounds ++ codes " rounds, execution unknown")
 
+abbrev pub denied_text : ℕ → List ℕ
+denied_text rule = codes "denied by rule " ++ decimal rule
+
 abbrev pub result_text : OpResult → List ℕ
 result_text (Value words) = codes "=" ++ words_text words
 result_text Done = codes "done"
@@ -48,6 +51,7 @@ result_text (TimedOut rounds) = timeout_text rounds
 result_text Unsent = codes "unsent"
 result_text LinkLost = codes "link lost"
 result_text Garbled = codes "garbled"
+result_text (Denied rule) = denied_text rule
 
 -- the place of the body, and the number of the transaction in it
 abbrev pub place_text : ℕ × ℕ → List ℕ

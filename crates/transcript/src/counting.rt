@@ -24,6 +24,19 @@ impl Counts {
         })
     }
 
+    /// Counts an operation on no board, as one that is denied is. More than 2^32 - 1 operations are answered by
+    /// `NoMemory`.
+    pub(crate) fn raise_number(&mut self) -> Result<(), NoMemory>
+        ensures number { OnOk result (self.new.number ≡ self.old.number + 1) }
+        ensures counts { OnOk result (self.new.on_boards.items ≡ self.old.on_boards.items) }
+    {
+        let Some(number) = self.number.checked_add(1) else {
+            return Err(NoMemory);
+        };
+        self.number = number;
+        Ok(())
+    }
+
     /// Counts an operation on a board, which may be none that is there, and tells how many there were on it before.
     /// More than 2^32 - 1 operations are answered by `NoMemory`.
     pub(crate) fn add(&mut self, board: usize) -> Result<usize, NoMemory>
@@ -32,10 +45,7 @@ impl Counts {
         ensures number { OnOk result (self.new.number ≡ self.old.number + 1) }
         ensures counts { OnOk result (self.new.on_boards.items ≡ bumped board self.old.on_boards.items) }
     {
-        let Some(number) = self.number.checked_add(1) else {
-            return Err(NoMemory);
-        };
-        self.number = number;
+        self.raise_number()?;
         if board >= self.on_boards.len() {
             return Ok(0);
         }

@@ -23,6 +23,7 @@ ghost use Rattle.transcript.specs.Examples.{
   zeros_read,
   every_step,
   every_outcome,
+  denied_write,
   channel_registers,
   overlapping_registers,
 };
@@ -80,6 +81,20 @@ pub fn a_timeout_that_was_executed()
         ++ codes "2 read b0:a = 0x00000001 @2.1\nboard b0 places 2 replied 1 timeout 1 lost 0\n" }
 {}
 
+/// A write that a policy denies has its number and nothing else: the reads around it are all that the board is asked. It
+/// is denied also where the board does not answer, and by rule 0 where no rule decides.
+pub fn a_denied_write_between_two_reads()
+    ensures text { printed (denied_write 1) live
+        ((Replied 1 (0x20000100 ∷ 0 ∷ 0x20010100 ∷ 0xabcd ∷ []) ∷ []) ∷ [])
+        ≡ codes "client 1\n1 read b0:a = 0x00000000 @1.1\n2 write b0:a denied by rule 1\n"
+        ++ codes "3 read b0:sys.id = 0x0000abcd @1.2\nboard b0 places 1 replied 1 timeout 0 lost 0\n" }
+    ensures status { run_status (transcript (denied_write 1 ∷ [])
+        (told live ((Replied 1 (0x20000100 ∷ 0 ∷ 0x20010100 ∷ 0xabcd ∷ []) ∷ []) ∷ []))).clients ≡ 1 }
+    ensures silent { printed (denied_write 0) Silent []
+        ≡ codes "client 1\n1 read b0:a unsent\n2 write b0:a denied by rule 0\n"
+        ++ codes "3 read b0:sys.id unsent\nboard b0 silent\n" }
+{}
+
 /// A board that does not answer, one whose link fails in the greeting, and one whose link fails later.
 pub fn boards_that_do_not_answer()
     ensures silent { printed (read_id ∷ []) Silent [] ≡ codes "client 1\n1 read b0:sys.id unsent\nboard b0 silent\n" }
@@ -114,7 +129,7 @@ pub fn every_result()
         ++ (codes "5 read b0:sys.id skipped @1.5\n6 read b0:sys.id garbled @2.1\n"
         ++ (codes "7 read b0:sys.id timeout after 2 rounds, execution unknown @3.1\n"
         ++ (codes "8 read b0:sys.id unsent\n9 read b0:sys.id link lost @4.1\n"
-        ++ codes "board b0 places 4 replied 2 timeout 1 lost 1\n")))) }
+        ++ (codes "10 write b0:a denied by rule 3\n" ++ codes "board b0 places 4 replied 2 timeout 1 lost 1\n"))))) }
     ensures status { run_status (transcript (every_step ∷ []) (told live every_outcome)).clients ≡ 1 }
 {}
 

@@ -27,6 +27,8 @@ pub enum OpResult {
     LinkLost,
     /// The reply is none to the body.
     Garbled,
+    /// The rule of this number of an access policy denies it, so nothing of it was sent; 0 where no rule decides.
+    Denied { rule: u32 },
 }
 
 /// The places of an operation's pieces in the order of its board, each with the number of the transaction in its body,

@@ -3,7 +3,7 @@
 ghost use Rattle.std.specs.Prelude.{◌≡◌, ◌+◌, ◌-◌, ◌++◌, ◌^◌, ◌<◌, [], IfOk, OnOk, length, map, option_to_list};
 ghost use Rattle.std.specs.Prelude.{option_map, slice_get, slice_index};
 ghost use Rattle.transcript.specs.Lines as spec;
-ghost use Rattle.transcript.specs.Steps.{ends_on, line_on, bumped, AreBelow};
+ghost use Rattle.transcript.specs.Steps.{ends_on, denied_line, line_on, bumped, AreBelow};
 
 use crate::body_end::{BodyEnd, ends_of};
 use crate::counting::Counts;
@@ -39,6 +39,27 @@ pub(crate) fn all_ends(
     Ok(all)
 }
 
+/// The line of an operation on a board, of which this is told.
+fn line_with(
+    alloc: Global,
+    run: &BoardRun,
+    number: u32,
+    op: &RegOp,
+    shown: Shown,
+) -> Result<OpLine, NoMemory>
+    ensures { IfOk result (λ line. line ≡ spec.line_with number op.now run.now.name shown) }
+{
+    let (result, places) = shown.into_parts();
+    Ok(OpLine {
+        number,
+        verb: op.verb,
+        board: Text::copy_of(alloc, run.name.as_str())?,
+        name: Text::copy_of(alloc, op.name.as_str())?,
+        result,
+        places,
+    })
+}
+
 /// The line of an operation: line `number` of its client, and operation `k`, from 0, of those on its board.
 fn line_on(
     alloc: Global,
@@ -54,15 +75,7 @@ fn line_on(
 {
     let mut shown = Shown::new(alloc);
     shown.tell(run, client, ends, k, op)?;
-    let (result, places) = shown.into_parts();
-    Ok(OpLine {
-        number,
-        verb: op.verb,
-        board: Text::copy_of(alloc, run.name.as_str())?,
-        name: Text::copy_of(alloc, op.name.as_str())?,
-        result,
-        places,
-    })
+    line_with(alloc, run, number, op, shown)
 }
 
 /// The lines of a client so far, and how many operations they are of.
@@ -101,8 +114,33 @@ fn add_line(
     Ok(progress.lines.push(line)?)
 }
 
+/// Adds the line of a client's next operation, which this rule denies. It has the next number and is counted on no
+/// board.
+fn add_denied_line(
+    alloc: Global,
+    runs: &[BoardRun],
+    op: &RegOp,
+    rule: u32,
+    progress: &mut Progress,
+) -> Result<(), NoMemory>
+    ensures number { OnOk result (progress.new.counts.number ≡ progress.old.counts.number + 1) }
+    ensures counts { OnOk result (progress.new.counts.on_boards.items ≡ progress.old.counts.on_boards.items) }
+    ensures lines { let number = progress.old.counts.number + 1 in
+        OnOk result (progress.new.lines.items ≡ progress.old.lines.items
+        ++ option_to_list (option_map (denied_line number op.now rule) (slice_get runs.now op.now.board))) }
+{
+    progress.counts.raise_number()?;
+    let Some(run) = runs.get(op.board as usize) else {
+        return Ok(());
+    };
+    let mut shown = Shown::new(alloc);
+    shown.tell_denied(rule);
+    let line = line_with(alloc, run, progress.counts.number, op, shown)?;
+    Ok(progress.lines.push(line)?)
+}
+
 /// The lines of a client, counted from 0, in the order of its operations: by its steps, and by what became of each
-/// board. Each reply is joined to its body once. More than 2^32 - 1 operations are answered by `NoMemory` too.
+/// board. A denied operation has its number and its line as the others. Each reply is joined to its body once. More than 2^32 - 1 operations are answered by `NoMemory` too.
 pub fn client_lines(
     alloc: Global,
     runs: &[BoardRun],
@@ -117,8 +155,10 @@ pub fn client_lines(
         counts: Counts::new(alloc, runs.len())?,
     };
     for step in steps {
-        if let Step::Do(op) = step {
-            add_line(alloc, runs, client, ends.as_slice(), op, &mut progress)?;
+        match step {
+            Step::Do(op) => add_line(alloc, runs, client, ends.as_slice(), op, &mut progress)?,
+            Step::Denied { rule, op } => add_denied_line(alloc, runs, op, *rule, &mut progress)?,
+            Step::Dispatch => {}
         }
     }
     Ok(progress.lines)

@@ -4,7 +4,7 @@ ghost use Rattle.std.specs.Prelude.{◌≡◌, ◌+◌, ◌++◌, [], ◌∷◌,
 ghost use Rattle.std.specs.Prelude.{◌&&◌, slice_get, slice_index, string_bytes};
 ghost use Rattle.transcript.specs.Lines as spec;
 ghost use Rattle.transcript.specs.Printing.{HasPrinted};
-ghost use Rattle.transcript.specs.Steps.{AreBelow, bumped, ends_on, line_on};
+ghost use Rattle.transcript.specs.Steps.{AreBelow, bumped, denied_line, ends_on, line_on};
 ghost use Rattle.transcript.specs.Text as texts;
 
 use crate::boards::board_lines;
@@ -46,6 +46,18 @@ impl Printer {
         }
     }
 
+    /// Prints the line of an operation on a board, of which what is told now is told.
+    fn print_shown(&mut self, run: &BoardRun, number: u32, op: &RegOp) -> Result<(), NoMemory>
+        ensures { OnOk result (HasPrinted self.old self.new
+            (spec.line_with number op.now run.now.name self.old.shown ∷ [])) }
+    {
+        let board = run.name.as_str();
+        push_asked(&mut self.text, number, op.verb, board, op.name.as_str())?;
+        self.shown.push_onto(&mut self.text)?;
+        self.all_good = self.all_good && self.shown.is_good();
+        Ok(())
+    }
+
     /// Prints the line of an operation: line `number` of its client, and operation `k`, from 0, of those on its board.
     fn print_line(
         &mut self,
@@ -60,11 +72,7 @@ impl Printer {
         ensures { OnOk result (HasPrinted self.old self.new (line_on client number k op.now run.now ∷ [])) }
     {
         self.shown.tell(run, client, ends, k, op)?;
-        let board = run.name.as_str();
-        push_asked(&mut self.text, number, op.verb, board, op.name.as_str())?;
-        self.shown.push_onto(&mut self.text)?;
-        self.all_good = self.all_good && self.shown.is_good();
-        Ok(())
+        self.print_shown(run, number, op)
     }
 
     /// Prints the line of a client's next operation. One on a board that is not there has none.
@@ -93,6 +101,29 @@ impl Printer {
         self.print_line(run, client, ends[board].as_slice(), counts.number, k, op)
     }
 
+    /// Prints the line of a client's next operation, which this rule denies: it has the next number and is counted on
+    /// no board.
+    fn print_denied(
+        &mut self,
+        runs: &[BoardRun],
+        op: &RegOp,
+        rule: u32,
+        counts: &mut Counts,
+    ) -> Result<(), NoMemory>
+        ensures number { OnOk result (counts.new.number ≡ counts.old.number + 1) }
+        ensures counts { OnOk result (counts.new.on_boards.items ≡ counts.old.on_boards.items) }
+        ensures lines { let number = counts.old.number + 1 in
+            OnOk result (HasPrinted self.old self.new
+            (option_to_list (option_map (denied_line number op.now rule) (slice_get runs.now op.now.board)))) }
+    {
+        counts.raise_number()?;
+        let Some(run) = runs.get(op.board as usize) else {
+            return Ok(());
+        };
+        self.shown.tell_denied(rule);
+        self.print_shown(run, counts.number, op)
+    }
+
     /// Prints the lines of a client, counted from 0. Each reply is joined to its body once.
     fn print_client(
         &mut self,
@@ -106,8 +137,10 @@ impl Printer {
         let ends = all_ends(alloc, runs, client)?;
         let mut counts = Counts::new(alloc, runs.len())?;
         for step in steps {
-            if let Step::Do(op) = step {
-                self.print_next(runs, client, ends.as_slice(), op, &mut counts)?;
+            match step {
+                Step::Do(op) => self.print_next(runs, client, ends.as_slice(), op, &mut counts)?,
+                Step::Denied { rule, op } => self.print_denied(runs, op, *rule, &mut counts)?,
+                Step::Dispatch => {}
             }
         }
         Ok(())

@@ -60,6 +60,13 @@ impl Shown {
         self.places.clear();
     }
 
+    /// Tells that this rule denies the operation, so it has no place.
+    pub(crate) fn tell_denied(&mut self, rule: u32)
+        ensures { self.new ≡ spec.denied_by rule }
+    {
+        self.tell_without_place(OpResult::Denied { rule });
+    }
+
     /// Tells what an operation of these pieces came to, and its places.
     fn tell_pieces(
         &mut self,

@@ -73,6 +73,13 @@ fn push_timeout(text: &mut String, rounds: u8) -> Result<(), NoMemory>
     Ok(write!(text, "timeout after {rounds} rounds, execution unknown")?)
 }
 
+/// `denied by rule N`
+fn push_denied(text: &mut String, rule: u32) -> Result<(), NoMemory>
+    ensures { OnOk result (string_bytes text.new ≡ string_bytes text.old ++ spec.denied_text rule) }
+{
+    Ok(write!(text, "denied by rule {rule}")?)
+}
+
 /// What an operation came to.
 pub(crate) fn push_result(text: &mut String, came_to: &OpResult) -> Result<(), NoMemory>
     ensures { OnOk result (string_bytes text.new ≡ string_bytes text.old ++ spec.result_text came_to.now) }
@@ -87,6 +94,7 @@ pub(crate) fn push_result(text: &mut String, came_to: &OpResult) -> Result<(), N
         OpResult::Unsent => Ok(text.push_str("unsent")?),
         OpResult::LinkLost => Ok(text.push_str("link lost")?),
         OpResult::Garbled => Ok(text.push_str("garbled")?),
+        OpResult::Denied { rule } => push_denied(text, *rule),
     }
 }
 

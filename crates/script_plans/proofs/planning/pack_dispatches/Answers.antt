@@ -4,9 +4,9 @@ use Rattle.std.specs.List.{AllByRecursion}
 use Rattle.mtu_packer.specs.Packed.{FitsPackets}
 use Rattle.script_plans.specs.Plan.{AreSound, ClientBodies}
 use Rattle.script_plans.specs.Steps.{IsPlanning, so_far}
-use Rattle.script_plans.proofs.PlanLemmas.{after_dispatch, after_operation, at_start, few_waiting}
+use Rattle.script_plans.proofs.PlanLemmas.{after_denied, after_dispatch, after_operation, at_start, few_waiting}
 use Rattle.script_plans.proofs.planning.pack_dispatches.Goals as goal
-use Rattle.script_plans.proofs.planning.pack_dispatches.Goals.{in-Do+in_ok-queue-in-Do}
+use Rattle.script_plans.proofs.planning.pack_dispatches.Goals.{in-Denied, in-Do+in_ok-queue-in-Do}
 use Rattle.script_plans.proofs.planning.pack_dispatches.Goals.{in-Dispatch+in_ok-dispatch-in-Dispatch}
 
 pub loop-step-init : goal.loop-step-init
@@ -24,6 +24,9 @@ loop-step-preserved c =
           rw w.in_ok-queue-in-Do.ensures
           (after_operation c.args.payload c.args.board c.args.steps.now c.loop-step.step-index _ _ c.step-item.result
           c.loop-step.invariant c.loop-step-test.true c.step-item.is w.in-Do.op w.in-Do.is))
+      | in-Denied w ↦ subst Holds (sym w.planning-is) (
+          after_denied c.args.payload c.args.board c.args.steps.now c.loop-step.step-index _ _ c.step-item.result
+          c.loop-step.invariant c.loop-step-test.true c.step-item.is w.in-Denied.rule w.in-Denied.op w.in-Denied.is)
       | in-Dispatch+in_ok-dispatch-in-Dispatch w ↦ subst Holds (sym w.planning-is) (
           let e = w.in_ok-dispatch-in-Dispatch.ensures in
           rw (e.planned, e.emptied)
