@@ -1,5 +1,5 @@
 -- What laws of the crates below say of documents and of boards: no public clause speaks of it.
-use Rattle.std.specs.Prelude.{◌≡◌, ℕ, List}
+use Rattle.std.specs.Prelude.{◌≡◌, ℕ, List, map}
 use Rattle.std.specs.List.{AllByRecursion, AllZip}
 use Rattle.board_history.specs.Lines.{IsBusLine}
 use Rattle.board_history.specs.Runs.{runs_from}
@@ -26,6 +26,7 @@ use Rattle.session_serve.specs.Serving.{AreServed, HadMemory}
 use Rattle.server_summary.specs.Answers.{AllTellAnswers, HasWrittenAll}
 use Rattle.server_summary.specs.Frames.{HasUnaskedCodes, OfEachBoard, OfEachFrame}
 use Rattle.server_summary.specs.Ruled.{AreCodedByRules}
+use Rattle.transcript.specs.Claims.{HasNoPlaceIfDenied, rules_of, rules_shown}
 use Rattle.transcript.specs.Lines.{transcript_of}
 use Rattle.transcript.specs.Shown.{ShowsAllPlaces}
 use Rattle.session_input.specs.Deserved.{BreaksInRun, BreaksInServe, BreaksInCheck, Deserves, IsRunnable, IsListed}
@@ -57,6 +58,13 @@ pub record RunLaws : Type 0 where
   pub places : (bytes : List ℕ) (session : Session) (steps : List (List Step)) (runs : List BoardRun)
       (links : List LinkReport) → IsRunnable bytes session steps
       → AreRunsOver session.settings 0 session.boards steps runs links → ShowsAllPlaces (transcript_of steps runs)
+  -- they tell what the policy denies
+  pub denied : (bytes : List ℕ) (session : Session) (steps : List (List Step)) (runs : List BoardRun)
+      (links : List LinkReport) → IsRunnable bytes session steps
+      → AreRunsOver session.settings 0 session.boards steps runs links
+      → map rules_shown (transcript_of steps runs).clients ≡ map rules_of steps
+  pub unplaced : (steps : List (List Step)) (runs : List BoardRun)
+      → AllByRecursion (AllByRecursion HasNoPlaceIfDenied) (transcript_of steps runs).clients
   -- none of a board whose link tells is garbled
   pub answered : (bytes : List ℕ) (session : Session) (steps : List (List Step)) (runs : List BoardRun)
       (links : List LinkReport) → IsRunnable bytes session steps

@@ -1,7 +1,8 @@
 -- THE HEADLINE: what `run` promises of the text that it writes with status 0 or 1.
 --
 -- Take any session, any way in which the threads of its clients take turns, and any losses, repeats, delays and changes
--- of order on the links. Each board has one order of packets, those of a client in the order of its script. Of a board
+-- of order on the links. An operation that the policy of the session denies is sent nowhere, and is printed so. Each
+-- board has one order of packets, those of a client in the order of its script. Of a board
 -- whose link tells, as that of every simulated board does: what is printed as the reply to an operation is what a bus
 -- with a single thread answers at the printed places of that order, and each packet that the board executed stands
 -- there once. `timeout` is printed only after as many rounds as the line says, and where the link tells, of a packet
@@ -9,7 +10,7 @@
 --
 -- It is one record, `IsTranscriptOf`, whose parts are these words. Profile.
 --
---   the session                  IsRunnable                              session_input/specs/Deserved
+--   the session, its policy      IsRunnable                              session_input/specs/Deserved
 --   the text                     transcript_of, transcript_text          transcript/specs/Lines, Text
 --   one order on each board      HasOneOrder, ShowsAllPlaces             board_history/specs/Parts,
 --                                                                        transcript/specs/Shown
@@ -23,6 +24,9 @@
 --   lost links, down, silent     IsLostOnlyIfFailed, IsDownRun,          lane_history/specs/Links, Runs
 --                                IsSilentRun                             lane_history/specs/Runs
 --   error and skipped            op_result, told_of                      transcript/specs/Results, Ends
+--   denied                       ruled_scripts, rules_shown, planned_on  access_policy/specs/Decisions,
+--                                                                        transcript/specs/Claims,
+--                                                                        script_plans/specs/Plan
 --   the status                   run_status, IsBusLine                   transcript/specs/Lines,
 --                                                                        board_history/specs/Lines
 --   where nothing was held back  AreWholeRuns, ShowAloneRuns             lane_history/specs/Runs
@@ -30,7 +34,7 @@
 --   at every status              RanSomeOf, below, by AreLeft            session_run/specs/Links
 --
 -- What holds of one board and its link is `IsRunOver` of lane_history/specs/Runs, which has a sentence for each part.
-use Rattle.std.specs.Prelude.{◌≡◌, ℕ, List}
+use Rattle.std.specs.Prelude.{◌≡◌, ℕ, List, map}
 use Rattle.std.specs.List.{AllByRecursion, AllZip}
 use Rattle.lane_history.specs.Links.{LinkReport, IsFaithful}
 use Rattle.board_history.specs.Lines.{IsBusLine}
@@ -41,13 +45,14 @@ use Rattle.script_lang.specs.declared.session.Session.{Session}
 use Rattle.session_input.specs.Deserved.{IsRunnable}
 use Rattle.session_run.specs.Links.{AreLeft}
 use Rattle.script_plans.specs.declared.board_run.BoardRun.{BoardRun}
+use Rattle.transcript.specs.Claims.{HasNoPlaceIfDenied, rules_of, rules_shown}
 use Rattle.transcript.specs.Lines.{transcript_of, run_status}
 use Rattle.transcript.specs.Shown.{ShowsAllPlaces}
 use Rattle.transcript.specs.Text.{transcript_text}
 
 -- Of the bytes of the input, what the links that were given back show, the status and the text:
 pub record IsTranscriptOf (bytes : List ℕ) (links : List LinkReport) (status : ℕ) (text : List ℕ) : Type 0 where
-  -- the bytes stand for a session that can be run, and these are the steps of its scripts
+  -- the bytes stand for a session that can be run, and under its policy these are the steps of its scripts
   pub session : Session
   pub steps : List (List Step)
   pub runnable : IsRunnable bytes session steps
@@ -61,6 +66,10 @@ pub record IsTranscriptOf (bytes : List ℕ) (links : List LinkReport) (status :
   pub spelled : text ≡ transcript_text (transcript_of steps runs)
   -- it shows of each board the places 1, 2, .. up to the number in its line, and no other place
   pub places : ShowsAllPlaces (transcript_of steps runs)
+  -- a line shows a rule exactly where the policy denies its operation, the number of the rule that does, and no place
+  -- then; nothing is planned of such an operation, so nothing of it stands in the order of a board
+  pub denied : map rules_shown (transcript_of steps runs).clients ≡ map rules_of steps
+  pub unplaced : AllByRecursion (AllByRecursion HasNoPlaceIfDenied) (transcript_of steps runs).clients
   -- no line of a board whose link tells is garbled: each reply answers the packet at its place
   pub answered : AllByRecursion (AllByRecursion (IsUngarbledWhereTold runs links)) (transcript_of steps runs).clients
   -- a line that was timed out shows the rounds of the session
@@ -73,7 +82,7 @@ pub record IsTranscriptOf (bytes : List ℕ) (links : List LinkReport) (status :
   pub heard : AllZip RepliesCame (transcript_of steps runs).boards links
   -- the status is 0 exactly where every line of an operation is a value, `done` or `was`
   pub told : status ≡ run_status (transcript_of steps runs).clients
-  -- where no link held anything back and none failed, it is 1 only by codes of the bus
+  -- where no link held anything back and none failed, it is 1 only by codes of the bus and by the policy
   pub codes : AllByRecursion IsFaithful links
       → AllByRecursion (AllByRecursion IsBusLine) (transcript_of steps runs).clients
   -- and there every body was replied to, each board executed all bodies of all

@@ -1,8 +1,8 @@
 -- The exit statuses that a user of the program sees. Profile.
 use Rattle.std.specs.Prelude.{ℕ}
 
--- The text is whole, and all that it tells went well: no operation failed, no registers overlap, and no connection was
--- ended otherwise than by its client, behind a whole frame.
+-- The text is whole, and all that it tells went well: no operation failed or was denied, no registers overlap, and no
+-- connection was ended otherwise than by its client, behind a whole frame.
 abbrev pub done_status : ℕ
 done_status = 0
 

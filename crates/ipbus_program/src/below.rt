@@ -26,8 +26,9 @@ use server_summary::laws::{
 };
 use session_input::laws::{
     bytes_have_one_answer_to_check, bytes_have_one_answer_to_run, bytes_have_one_answer_to_serve,
-    what_can_be_run_can_be_executed,
+    operations_are_on_the_boards_of_their_session, what_can_be_run_can_be_executed,
 };
+use transcript::laws::lines_tell_what_is_denied;
 
 /// Bytes have one answer to a command.
 pub(crate) fn input_laws()
@@ -50,6 +51,8 @@ pub(crate) fn run_laws()
     board_lines_count_replies_that_came();
     faithful_lines_fail_by_codes_of_the_bus_alone();
     what_can_be_run_can_be_executed();
+    operations_are_on_the_boards_of_their_session();
+    lines_tell_what_is_denied();
     the_ranges_of_a_session_name_words();
     a_session_keeps_its_limits();
     faithful_links_answer_all();

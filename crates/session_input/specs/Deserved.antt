@@ -11,6 +11,7 @@ use Rattle.node_tree.specs.declared.refusal.CompileRefusal.TheVariants.{At}
 use Rattle.node_tree.specs.Maps.{Name, TableMap, RegisterMap}
 use Rattle.node_tree.specs.Names.{IsIndexOf}
 use Rattle.node_tree.specs.Refusals.{KeepsRules, IsRefusal}
+use Rattle.script_steps.specs.Rulings.{Asked, asked}
 use Rattle.script_steps.specs.declared.operation.Step.{Step}
 use Rattle.script_lang.specs.declared.refusal.DocWhy.TheVariants.{NotToml}
 use Rattle.script_lang.specs.declared.session.Session.{Session}
@@ -134,7 +135,8 @@ BreaksInRun session policy refusal =
     ⊎ BreaksBuses session refusal
     ⊎ BreaksScripts session refusal
 
--- The same of a session that is to be served. None is that has a policy, since a policy binds scripts alone.
+-- The same of a session that is to be served. A session with a policy is not served, since a policy binds scripts
+-- alone.
 abbrev pub BreaksInServe : Session → Option (List Rule) → Refusal → Type 0
 BreaksInServe session (Some rules) refusal = refusal ≡ NoServe
 BreaksInServe session None refusal = BreaksInRun session None refusal
@@ -181,6 +183,10 @@ pub record BreaksRule (Breaks : Session → Option (List Rule) → Refusal → T
 -- The bytes deserve a refusal: that of the first rule of the document that they break, or else of the command.
 abbrev pub Deserves : (Session → Option (List Rule) → Refusal → Type 0) → List ℕ → Refusal → Type 0
 Deserves Breaks bytes refusal = DeservesUnread bytes refusal ⊎ BreaksRule Breaks bytes refusal
+
+-- each operation of a client, denied or not, is on one of so many boards
+abbrev pub AreOnBoards : ℕ → List Step → Type 0
+AreOnBoards boards steps = AllByRecursion (λ (ask : Asked). ask.op.board < boards) (asked steps)
 
 -- the bytes stand for a session that can be run, by these steps under its policy
 pub record IsRunnable (bytes : List ℕ) (session : Session) (steps : List (List Step)) : Type 0 where

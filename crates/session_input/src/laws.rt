@@ -1,13 +1,13 @@
 //! Laws of the definitions. These functions do nothing when they run: their clauses are what is proved.
 
-ghost use Rattle.std.specs.Prelude.{◌≡◌, ℕ, List};
+ghost use Rattle.std.specs.Prelude.{◌≡◌, ℕ, List, length};
 ghost use Rattle.std.specs.List.{AllByRecursion};
 ghost use Rattle.node_tree.specs.Maps.{RegisterMap};
 ghost use Rattle.script_lang.specs.Document.{SameSession};
 ghost use Rattle.script_steps.specs.Executable.{AreExecutable};
 ghost use Rattle.script_steps.specs.declared.operation.Step.{Step};
 ghost use Rattle.script_lang.specs.declared.session.Session.{Session};
-ghost use Rattle.session_input.specs.Deserved.{BreaksInCheck, BreaksInRun, BreaksInServe, Deserves};
+ghost use Rattle.session_input.specs.Deserved.{AreOnBoards, BreaksInCheck, BreaksInRun, BreaksInServe, Deserves};
 ghost use Rattle.session_input.specs.Deserved.{IsListed, IsRunnable, IsServable};
 ghost use Rattle.session_input.specs.Numbers.{document_bytes};
 ghost use Rattle.session_input.specs.declared.refusal.Refusal.{Refusal};
@@ -59,6 +59,13 @@ pub fn bytes_have_one_answer_to_check()
     document_laws();
     table_laws();
 }
+
+/// Each operation of a session that can be run, denied or not, is on one of its boards.
+#[tactic(auto, using(crate::proofs::OnBoards::on_boards))]
+pub fn operations_are_on_the_boards_of_their_session()
+    ensures { (bytes : List ℕ) (session : Session) (steps : List (List Step))
+        → IsRunnable bytes session steps → AllByRecursion (AreOnBoards (length session.boards)) steps }
+{}
 
 /// What the scripts of a session that can be run ask under its policy can be executed: each operation can be packed for
 /// any board, its address and its words have 32 bits, and it is one that its verb asks for.

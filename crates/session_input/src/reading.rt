@@ -18,6 +18,7 @@ use crate::checking::{check_buses, index_of, indexes_of};
 use crate::refusal::{MAX_DOCUMENT, Refusal, Unread};
 use access_policy::{Policy, PolicyRefusal, read_policy, rule_scripts};
 use address_table::TableRefusal;
+use ipb_base::NoMemory;
 use node_tree::Index;
 use script_lang::{
     ScriptRefusal, Session, SessionRefusal, compile_scripts, parse_document, read_session_table,
@@ -25,7 +26,6 @@ use script_lang::{
 };
 use script_steps::Steps;
 use script_steps::laws::what_is_denied_asks_for_less;
-use ipb_base::NoMemory;
 use std::alloc::Global;
 use toml::{Table, Value};
 

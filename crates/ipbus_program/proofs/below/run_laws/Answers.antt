@@ -1,5 +1,5 @@
 use Rattle.session_input.specs.Deserved.{session_part}
-use Rattle.ipbus_program.proofs.Names.{own_names}
+use Rattle.ipbus_program.proofs.Names.{on_these, own_names, runs_of_boards}
 use Rattle.ipbus_program.proofs.Ready.{all_made}
 use Rattle.ipbus_program.proofs.below.run_laws.Goals as goal
 
@@ -10,6 +10,11 @@ returns c = record {
       (own_names session.settings 0 session.boards steps runs links are
       (c.the_boards_of_a_session_have_their_own_names.ensures (session_part runnable.stands.document) session
       runnable.stands.is_session));
+  denied = λ bytes session steps runs links runnable are.
+      c.lines_tell_what_is_denied.ensures.rules steps runs
+      (on_these session.boards runs (runs_of_boards session.settings 0 session.boards steps runs links are) steps
+      (c.operations_are_on_the_boards_of_their_session.ensures bytes session steps runnable));
+  unplaced = c.lines_tell_what_is_denied.ensures.places;
   answered = λ bytes session steps runs links runnable are.
       let within = c.a_session_keeps_its_limits.ensures (session_part runnable.stands.document) session
       runnable.stands.is_session in
