@@ -1,5 +1,5 @@
 -- The lines of a client, operation by operation.
-use Rattle.std.proofs.Common.{◌≡◌, ℕ, suc, ◌+◌, ◌<◌, ◌≤◌, ◌==◌, cond, length, get_or, take, drop, List, [], ◌∷◌, ◌++◌, refl, sym}
+use Rattle.std.proofs.Common.{◌≡◌, ℕ, suc, ◌+◌, ◌<◌, ◌≤◌, ◌==◌, cond, length, get_or, take, drop, List, [], ◌∷◌, ◌++◌, sym}
 use Rattle.std.proofs.Common.{ap, ◌∙◌, inl, inr, arith, zero-add, append_assoc, append-nil, add-one, drop-cons}
 use Rattle.std.proofs.Common.{length-append, length-set}
 use Rattle.std.specs.List.{slice_get}
@@ -15,7 +15,7 @@ use Rattle.std.proofs.lemmas.Option.{slice_get_cases}
 use Rattle.script_steps.specs.declared.operation.RegOp.{RegOp}
 use Rattle.script_steps.specs.declared.operation.Step.{Step}
 use Rattle.script_steps.specs.declared.operation.Step.TheVariants.{Do, Denied, Dispatch}
-use Rattle.script_steps.specs.Rulings.{Asked, asked_in, asked, allowed_in, allowed}
+use Rattle.script_steps.specs.Rulings.{Asked, asked_in, asked, allowed}
 use Rattle.script_plans.specs.declared.board_run.BoardRun.{BoardRun}
 use Rattle.transcript.specs.declared.line.OpLine.{OpLine}
 use Rattle.script_plans.specs.Plan.{count_on}
