@@ -1,7 +1,7 @@
 """The access policy of a session document: which of its rules decides what a client may do with a register.
 
-Nothing here is taken from the program. `fault_of` tells where a policy breaks a rule of the formats; all else takes one
-that breaks none.
+Nothing here is taken from the program. `fault_of` tells where a policy breaks a rule of the formats, and `is_told`
+whether that was refused; all else takes a policy that breaks none.
 """
 import re
 
@@ -67,6 +67,17 @@ def fault_of(policy):
         if key is not None:
             return f"{place}.{key}" if key else f"{place}"
     return None
+
+
+def is_told(document, text):
+    """Whether what a command printed goes with the policy of a document: it refuses the first fault of that, unless a
+    rule that comes before was broken, and no policy without a fault for its shape."""
+    if text.startswith((b"refused: document ", b"refused: table ")):
+        return True
+    fault = fault_of(document["policy"]) if "policy" in document else None
+    if fault is None:
+        return not re.match(rb"refused: policy .* Shape\n", text)
+    return text == f"refused: policy {fault} Shape\n".encode()
 
 
 def item_matches(item, part):
