@@ -8,7 +8,8 @@ import tomllib
 from concurrent.futures import ThreadPoolExecutor
 
 from model.drawn import drawn_session
-from model.notes import NOTES, is_note_of
+from model.notes import NOTES, denial_notes, is_note_of
+from model.policy import is_told
 from model.replay import Undecided, check_transcript
 from model.session import Session
 from model.told import Wrong
@@ -28,13 +29,16 @@ VALUES = """0 1 -1 16 17 64 65 91 92 255 256 600 9000 9001 65535 65536 4194304 4
 NUMBERS = """0 1 2 15 16 255 256 600 601 700 65536 4294967295 4294967296 0xffffffff 0x100000000 00000000001 -1 +1
 1.0""".split()
 NAMES = """format rounds window tables board client script name table mtu buffers first fates noise ranges base size kind
-init address mask permission mode module nodes id tags description count stride link wait x""".split()
+init address mask permission mode module nodes id tags description count stride link wait policy effect access x""".split()
 TEXTS = """|sim|rw|ro|wo|slow|r|w|read|write|single|block|port|inc|hierarchical|main|group|b0|b1|d|lrd159|x|0|a-b_c|a.b
 |dispatch|read b0:id|read b0:|read :id|read b0|read b0:id 1|read  b0:id|write b0:count|write b0:count 0x100000000|# b0:id
 |b0:id read|readblock b0:mem 0|readblock b0:mem 4194304|writeblock b0:mem|writeblock b0:mem 1 2 3|rmwsum b0:count 1
-|rmwbits b0:count 1|rmwbits b0:count 1 2 3|readblock b0:low.memory 700|rmwsum b0:high.count 4294967295""".replace(
+|rmwbits b0:count 1|rmwbits b0:count 1 2 3|readblock b0:low.memory 700|rmwsum b0:high.count 4294967295|allow|deny|*:**
+|b0:unit[2].*|b0:unit[02].*|*:low.**.count""".replace(
     "\n", ""
 ).split("|")
+PATTERNS = """*:** *:* b0:** b0:id b0:count b0:a b0:a.** *:low.* *:low.count b0:unit[*].** b0:unit[2].* b0:unit[02].* b0:unit[0
+b0:unit[65535].* b0:unit[65536].* b0:unit].* *:low.**.count b0:low..count b0:.count b0:low: :** b0 ** *.* *:*[1]""".split()
 SIGNS = '" \' [ ] [[ ]] { } = , . : # \\ \n \r\n \t \0 \x7f \u00e9 \U0001f4a1'.split(" ")
 
 TRANSCRIPT_LINE = re.compile(
@@ -42,8 +46,14 @@ TRANSCRIPT_LINE = re.compile(
     r"|[0-9]+ (read|write|readblock|writeblock|rmwbits|rmwsum) \S+ "
     r"(=( 0x[0-9a-f]{8})+|done|was 0x[0-9a-f]{8}|error [0-9]+ after [0-9]+|skipped|unsent"
     r"|timeout after [0-9]+ rounds, execution unknown)( @[0-9]+\.[0-9]+(,[0-9]+\.[0-9]+)*)?"
+    r"|[0-9]+ (read|write|readblock|writeblock|rmwbits|rmwsum) \S+ denied by rule [0-9]+"
 )
-REFUSAL = re.compile(rb"refused: (document|table|compile|board|script) [^\n]+ [A-Z][A-Za-z]+\n")
+REFUSAL = re.compile(rb"refused: (document|table|policy|compile|board|script) [^\n]+ [A-Z][A-Za-z]+\n")
+# what is said of denied operations, where no model can read the document
+DENIALS = re.compile(
+    rb"(ipbus: policy rule [0-9]+ denied [0-9]+ operations?: deny [^\n]+\n)*"
+    rb"(ipbus: no rule of the policy allowed [0-9]+ operations?\n)?"
+)
 
 
 def is_toml(data):
@@ -141,6 +151,18 @@ def change_sign(draw, data, others):
     return put_in_place(draw, data, rb"[^0-9A-Za-z_\s]|\n", SIGNS)
 
 
+def add_policy(draw, data, others):
+    """A policy stands in front, of a few rules that may have faults."""
+
+    def rule():
+        effect, access = draw.choice(("allow", "deny", "deny")), draw.choice(("r", "w", "rw", "rw", "wr"))
+        client = draw.choice(("", "", "", ", client = 1", ", client = 64", ", client = 0"))
+        return f'{{ effect = "{effect}", access = "{access}", name = "{draw.choice(PATTERNS)}"{client} }}'
+
+    rules = ", ".join(rule() for _ in range(draw.choice((0, 1, 1, 2, 5))))
+    return f"policy = [ {rules} ]\n".encode() + data
+
+
 def cut(draw, data, others):
     return data[: draw.randrange(len(data) + 1)]
 
@@ -154,7 +176,7 @@ def nest(draw, data, others):
 
 # how often each change is drawn
 CHANGES = {change_value: 8, change_number: 8, change_text: 8, change_name: 4, change_lines: 4, change_sign: 2}
-CHANGES |= {change_bytes: 2, change_bit: 2, cut: 1, nest: 1}
+CHANGES |= {change_bytes: 2, change_bit: 2, add_policy: 2, cut: 1, nest: 1}
 
 
 def changed_document(number, bases):
@@ -167,12 +189,16 @@ def changed_document(number, bases):
     return data.replace(b"udp", b"sim")
 
 
-def replay_faults(data, done):
-    """What the replay finds, where it can read the session."""
+def session_of(data):
+    """The session, where the model can read it: it reads TOML 1.0 alone."""
     try:
-        session = Session(data)
-    except Exception:  # it reads TOML 1.0 alone
-        return []
+        return Session(data)
+    except Exception:
+        return None
+
+
+def replay_faults(session, done):
+    """What the replay finds."""
     try:
         check_transcript(session, done.stdout.decode(), done.returncode)
     except Undecided:
@@ -182,20 +208,38 @@ def replay_faults(data, done):
     return []
 
 
-def faults_of(data, done):
-    """What is wrong in an answer to `run`."""
-    is_refused = done.returncode == 3 and bool(REFUSAL.fullmatch(done.stdout))
-    is_told = is_note_of(done.stdout, done.stderr) if is_refused else done.stderr == NOTES.get(done.returncode)
-    if not is_told or done.returncode not in (0, 1, 3):
+def refusal_faults(data, done):
+    """What is wrong in a refusal."""
+    if not REFUSAL.fullmatch(done.stdout):
+        return [f"refused by {done.stdout!r}"]
+    if not is_note_of(done.stdout, done.stderr):
+        return [f"note {done.stderr!r} beside {done.stdout!r}"]
+    if done.stdout == b"refused: document - NotToml\n" and is_toml(data):
+        return ["TOML is refused as none"]
+    return []
+
+
+def run_faults(data, done):
+    """What is wrong in a run."""
+    session = session_of(data)
+    if session is None:
+        is_noted = DENIALS.fullmatch(done.stderr)
+    else:
+        is_noted = done.stderr == denial_notes(session) + NOTES.get(done.returncode, b"")
+    if not is_noted or done.returncode not in (0, 1):
         return [f"status {done.returncode}, note {done.stderr!r} beside {done.stdout!r}"]
-    if done.returncode == 3:
-        faults = [] if REFUSAL.fullmatch(done.stdout) else [f"refused by {done.stdout!r}"]
-        if done.stdout == b"refused: document - NotToml\n" and is_toml(data):
-            faults.append("TOML is refused as none")
-        return faults
     lines = done.stdout.decode().splitlines()
     strange = [line for line in lines if not TRANSCRIPT_LINE.fullmatch(line)]
-    return [f"the line {line!r}" for line in strange[:1]] or replay_faults(data, done)
+    if strange:
+        return [f"the line {strange[0]!r}"]
+    return replay_faults(session, done) if session else []
+
+
+def faults_of(data, done):
+    """What is wrong in an answer to `run`."""
+    if is_toml(data) and not is_told(tomllib.loads(data.decode()), done.stdout):
+        return [f"{done.stdout[:200]!r} beside the policy"]
+    return refusal_faults(data, done) if done.returncode == 3 else run_faults(data, done)
 
 
 def answer(command, data):

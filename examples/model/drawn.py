@@ -51,6 +51,13 @@ RARE_LINES = [
 ]
 
 
+# patterns of the rules of a policy, behind a board and a colon; and the rules that stand last in one
+PATTERNS = """** {group}.** {group}.* {group}.ctrl {group}.ctrl.* {group}.ctrl.gain {group}.count {group}.memory *.count
+*.ctrl.** *.ctrl.* *.*.on *.memory unit[*].** unit[*].fifo unit[0].* unit[1].** unit.** unit[2].count slow absent
+none""".split()
+LAST_RULES = [("allow", "rw"), ("allow", "rw"), ("allow", "rw"), ("allow", "r"), None]
+
+
 # what befalls the datagrams of boards behind the first one; those of the first one always meet noise
 NETWORKS = ["noise", "fates", "fates", ""]
 
@@ -58,6 +65,8 @@ NETWORKS = ["noise", "fates", "fates", ""]
 class Draw:
     def __init__(self, name):
         self.random = random.Random(name)
+        # that a session has a policy changes nothing else of it
+        self.of_policy = random.Random(f"policy of {name}")
 
     def word(self):
         return f"0x{self.random.getrandbits(self.random.choice([1, 8, 32])):08x}"
@@ -109,16 +118,37 @@ class Draw:
             f'  {{ base = 0x2000, size = 2764 }}, {{ base = 0x8000, size = 1, kind = "slow" }},\n]\n'
         )
 
+    def rule(self, boards, clients):
+        """A rule for some registers, in some rules for one client alone."""
+        draw = self.of_policy
+        board = draw.choice(["*", *boards])
+        pattern = draw.choice(PATTERNS).format(group=draw.choice(GROUPS))
+        effect = draw.choice(["allow", "deny", "deny"])
+        client = f", client = {draw.randint(1, clients + 1)}" if draw.random() < 0.3 else ""
+        return f'{{ effect = "{effect}", access = "{draw.choice(["r", "w", "rw"])}", name = "{board}:{pattern}"{client} }}'
+
+    def policy(self, boards, clients):
+        """A policy for a third of the sessions, whose last rule mostly allows what no other one decides."""
+        draw = self.of_policy
+        if draw.random() >= 1 / 3:
+            return ""
+        rules = [self.rule(boards, clients) for _ in range(draw.choice([0, 1, 2, 4, 10]))]
+        last = draw.choice(LAST_RULES)
+        if last:
+            rules.append(f'{{ effect = "{last[0]}", access = "{last[1]}", name = "*:**" }}')
+        return "policy = [\n" + "".join(f"  {rule},\n" for rule in rules) + "]\n"
+
     def session(self, clients):
         """A session with one of these numbers of clients."""
         boards = [f"b{place}" for place in range(self.random.choice([1, 1, 2, 3]))]
         rounds = self.random.choice([1, 2, 3, 8, 255])
-        text = f"format = 2\nrounds = {rounds}\nwindow = {self.random.randint(1, 16)}\n{REGISTERS}"
-        text += "".join(self.board(board, ["noise"] if board == boards[0] else NETWORKS) for board in boards)
-        for _ in range(self.random.choice(clients)):
+        head = f"format = 2\nrounds = {rounds}\nwindow = {self.random.randint(1, 16)}\n"
+        text = "".join(self.board(board, ["noise"] if board == boards[0] else NETWORKS) for board in boards)
+        count = self.random.choice(clients)
+        for _ in range(count):
             script = [self.line(boards) for _ in range(self.random.choice([2, 10, 30, 60]))]
             text += "[[client]]\nscript = [\n" + "".join(f'  "{line}",\n' for line in script) + "]\n"
-        return text.encode()
+        return f"{head}{self.policy(boards, count)}{REGISTERS}{text}".encode()
 
 
 def drawn_session(number):

@@ -1,6 +1,7 @@
 """What the program says on standard error at its end."""
 import pathlib
 import re
+from collections import Counter
 
 TOP = pathlib.Path(__file__).resolve().parent.parent.parent
 
@@ -44,15 +45,42 @@ def usage_line():
     return (line.replace("\\|", "|") + "\n").encode()
 
 
+CONTROL = re.compile(r"[\x00-\x1f\x7f-\x9f]")
+# so many characters of a text are shown
+MOST_SHOWN = 200
+
+
+def shown(text):
+    """A text as it stands in a line."""
+    cut = text if len(text) <= MOST_SHOWN else text[:MOST_SHOWN] + ".."
+    return CONTROL.sub(lambda found: f"\\u{{{ord(found[0]):x}}}", cut)
+
+
+def denial_notes(session):
+    """What is said at the end of a run of the operations that the policy denied, in front of what is said of the status:
+    for each rule that denied some its text, in the order of the rules, and then how many no rule allowed."""
+    denied = Counter(operation.denied_by for client in session.clients for operation in client.operations)
+    lines = []
+    for rule in session.policy.rules if session.policy else []:
+        if denied[rule.number]:
+            lines.append(f"policy rule {rule.number} denied {operations(denied[rule.number])}: {shown(rule.text)}")
+    if denied[0]:
+        lines.append(f"no rule of the policy allowed {operations(denied[0])}")
+    return "".join(f"ipbus: {line}\n" for line in lines).encode()
+
+
+def operations(count):
+    return f"{count} operation" if count == 1 else f"{count} operations"
+
+
 def sentences():
     """The refusals of `docs/FORMATS.md` and what each means, by the second word and the last one of its line."""
     page = (TOP / "docs" / "FORMATS.md").read_text()
-    rows = re.findall(r"^\| `(document|table|compile|board|script)` \| `(\w+)` \| (.+) \|$", page, re.MULTILINE)
+    rows = re.findall(r"^\| `(document|table|policy|compile|board|script)` \| `(\w+)` \| (.+) \|$", page, re.MULTILINE)
     return {(kind, name): sentence for kind, name, sentence in rows}
 
 
 SENTENCES = sentences()
-CONTROL = re.compile(r"[\x00-\x1f\x7f-\x9f]")
 
 
 def is_note_of(refusal, note):

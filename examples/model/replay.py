@@ -1,6 +1,8 @@
 """Checks a printed transcript against its session document by replay: the bodies of each board are executed by a bus
 with a single thread in the order of the printed places, and each line must show what that bus gave there.
 
+What a policy denies is in no body, and just its lines say that it is denied, each by its rule.
+
 It knows nothing of networks and hubs, and holds for clients in any order, also at once. A body that timed out has a
 place; if a later place was replied to, it was executed, and else nobody can tell, so all places are replayed.
 
@@ -191,8 +193,8 @@ def check_board(session, told):
 
 
 def check_same_but_for_order(session, text, wanted):
-    """Raises `Wrong` where a transcript tells something else than another one of boards that clients use alone. Of a
-    board that several clients share, at once, only what a line is about is compared."""
+    """Raises `Wrong` where a transcript tells something else than another one of boards that clients use alone, or of
+    what is denied. Of a board that several clients share, at once, only what another line is about is compared."""
     lines, wanted_lines = text.splitlines(), wanted.splitlines()
     check(len(lines) == len(wanted_lines), f"{len(lines)} lines in place of {len(wanted_lines)}")
     shared = session.shared_boards()
@@ -201,7 +203,8 @@ def check_same_but_for_order(session, text, wanted):
         if others[0] == "board":
             same = words[:2] == others[:2] if others[1] in shared else line == other
         else:
-            is_shared = others[2:] and others[2].partition(":")[0] in shared
+            is_denied = other.rpartition(" ")[0].endswith(" denied by rule")
+            is_shared = not is_denied and others[2:] and others[2].partition(":")[0] in shared
             same = words == others if is_shared else line == other
         check(same, f"{line[:80]!r} in place of {other[:80]!r}")
 
@@ -211,5 +214,6 @@ def check_transcript(session, text, status):
     told = read_lines(session, text)
     for each in told:
         check_board(session, each)
-    wanted = 0 if all(line.is_good for each in told for line in each.lines) else 1
+    is_denied = any(operation.denied_by is not None for client in session.clients for operation in client.operations)
+    wanted = 1 if is_denied or not all(line.is_good for each in told for line in each.lines) else 0
     check(status == wanted, f"the status is {status} in place of {wanted}")

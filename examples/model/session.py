@@ -6,6 +6,8 @@ import bisect
 import re
 import tomllib
 
+from model.policy import Policy
+
 READ, WRITE, READ_PORT, WRITE_PORT, RMW_BITS, RMW_SUM = range(6)
 WHOLE = 0xFFFFFFFF
 GREATEST_PIECE = 255
@@ -90,10 +92,13 @@ class Request:
 
 class Operation:
     """What one line of a script asks of a board. `pieces` are the body and the position there, from 0, of each of
-    its requests; bodies are those of its client on its board, counted from 0 through all dispatches."""
+    its requests; bodies are those of its client on its board, counted from 0 through all dispatches. `denied_by` is the
+    number of the rule that denies it, 0 where no rule allows it, and None where it is allowed: what is denied is in no
+    body."""
 
-    def __init__(self, number, verb, board, name, register, requests):
+    def __init__(self, number, verb, board, name, register, requests, denied_by):
         self.number = number
+        self.denied_by = denied_by
         self.verb = verb
         self.board = board
         self.name = name
@@ -158,10 +163,13 @@ def pack(operations, payload, bodies):
 
 
 class Client:
-    """The operations of one script in its order. `bodies` and `dispatches` have an item for each board: the bodies
-    that are asked of it, and for each dispatch the numbers of its bodies there."""
+    """The operations of one script in its order, under the policy of the session, if it has one. `bodies` and
+    `dispatches` have an item for each board: the bodies that are asked of it, and for each dispatch the numbers of its
+    bodies there."""
 
-    def __init__(self, script, boards):
+    def __init__(self, script, boards, number, policy):
+        self.number = number
+        self.policy = policy
         self.operations = []
         self.bodies = [[] for _ in boards]
         self.dispatches = [[] for _ in boards]
@@ -180,12 +188,13 @@ class Client:
         board = boards[place]
         found = board.registers[name]
         requests = requests_of(verb, found, [number(text) for text in numbers], board.payload)
-        self.operations.append(Operation(len(self.operations) + 1, verb, place, name, found, requests))
+        denied_by = self.policy.denial(self.number, board_name, name, verb) if self.policy else None
+        self.operations.append(Operation(len(self.operations) + 1, verb, place, name, found, requests, denied_by))
 
     def dispatch(self, boards, operations):
         for place, board in enumerate(boards):
             before = len(self.bodies[place])
-            asked = [operation for operation in operations if operation.board == place]
+            asked = [each for each in operations if each.board == place and each.denied_by is None]
             pack(asked, board.payload, self.bodies[place])
             self.dispatches[place].append(range(before, len(self.bodies[place])))
 
@@ -197,7 +206,14 @@ class Session:
         self.window = number(document.get("window", 16))
         tables = document.get("tables", {})
         self.boards = [Board(table, tables) for table in document.get("board", [])]
-        self.clients = [Client(client["script"], self.boards) for client in document.get("client", [])]
+        self.policy = Policy(document["policy"]) if "policy" in document else None
+        self.scripts = [client["script"] for client in document.get("client", [])]
+        self.plan()
+
+    def plan(self):
+        """Packs what the scripts ask into bodies, by the MTU that each board has now."""
+        scripts = enumerate(self.scripts, 1)
+        self.clients = [Client(script, self.boards, number, self.policy) for number, script in scripts]
 
     def shared_boards(self):
         """The names of boards that several clients use: the order of their packets there is that of the threads."""

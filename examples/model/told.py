@@ -18,12 +18,22 @@ def check(holds, told):
         raise Wrong(told)
 
 
+def begin_of(operation, board):
+    return f"{operation.number} {operation.verb} {board.name}:{operation.name} "
+
+
+def check_denied(text, client, operation, board):
+    """The line of an operation that the policy denies tells the rule, and has no place."""
+    wanted = f"{begin_of(operation, board)}denied by rule {operation.denied_by}"
+    check(text == wanted, f"client {client}: {text[:80]!r} in place of {wanted!r}")
+
+
 class Line:
     """The line of an operation: its result, its places with the positions that it shows there, and the bodies that it
     has pieces in with their positions. Positions count from 1."""
 
     def __init__(self, text, client, operation, board, rounds):
-        begin = f"{operation.number} {operation.verb} {board.name}:{operation.name} "
+        begin = begin_of(operation, board)
         check(text.startswith(begin), f"client {client}: {text!r} does not begin with {begin!r}")
         self.told = f"client {client} line {operation.number}"
         self.client = client
@@ -74,7 +84,8 @@ class BoardTold:
 
 
 def read_lines(session, text):
-    """The lines of a transcript by board."""
+    """The lines of a transcript by board, but for those of operations that the policy denies: these are read, and are
+    no lines of a board."""
     check(text.endswith("\n"), "the text does not end with a line feed")
     lines = text.split("\n")[:-1]
     operations = sum(len(client.operations) for client in session.clients)
@@ -87,6 +98,10 @@ def read_lines(session, text):
         begin = next(rest)
         check(begin == f"client {number}", f"{begin!r} in place of 'client {number}'")
         for operation in client.operations:
-            line = Line(next(rest), number, operation, boards[operation.board], session.rounds)
+            board = boards[operation.board]
+            if operation.denied_by is not None:
+                check_denied(next(rest), number, operation, board)
+                continue
+            line = Line(next(rest), number, operation, board, session.rounds)
             told[operation.board].lines.append(line)
     return told

@@ -21,6 +21,8 @@ def piece_result(outcome, index, rounds):
 
 def result_of(operation, outcomes, rounds):
     """The text of the result, and whether it is a value, `done` or `was`."""
+    if operation.denied_by is not None:
+        return f"denied by rule {operation.denied_by}", False
     words = []
     for body, index in operation.pieces:
         result = piece_result(outcomes[body], index, rounds)
