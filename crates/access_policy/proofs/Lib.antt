@@ -1,0 +1,6 @@
+pub mod Parts
+pub mod Lengths
+pub mod Joined
+pub mod ItemsRead
+pub mod Decided
+pub mod RuledScripts
