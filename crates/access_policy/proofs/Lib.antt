@@ -4,3 +4,4 @@ pub mod Joined
 pub mod ItemsRead
 pub mod Decided
 pub mod RuledScripts
+pub mod RuleFaults

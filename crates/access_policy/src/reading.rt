@@ -8,6 +8,7 @@ ghost use Rattle.script_lang.specs.Walk.{Way, below, here};
 ghost use Rattle.script_lang.specs.declared.steps.PathStep.TheVariants.{Key, Item};
 ghost use Rattle.access_policy.specs.Cutting.{TellsFirst, refusal_of};
 ghost use Rattle.access_policy.specs.Reading as spec;
+ghost use Rattle.access_policy.specs.declared.limits.TheConstants.{MAX_RULES as MAX};
 
 use crate::policy::{Policy, Rule};
 use crate::refusal::PolicyRefusal;
@@ -30,6 +31,16 @@ pub fn read_policy(alloc: Global, value: &Value) -> Result<Policy, PolicyRefusal
     if items.len() > MAX_RULES {
         return Err(refused_whole(alloc));
     }
+    read_rules(alloc, items)
+}
+
+/// The policy of few enough values.
+fn read_rules(alloc: Global, items: &[Value]) -> Result<Policy, PolicyRefusal>
+    requires few { length items.now ≤ MAX }
+    ensures policy { IfOk result (λ policy. policy ≡ tables_in spec.rule_of (map view items.now)) }
+    ensures faultless { OnOk result (spec.rules_faults 0 (map view items.now) ≡ []) }
+    ensures refused { IfErr result (spec.TellsShape (spec.rules_faults 0 (map view items.now))) }
+{
     check_rules(alloc, items)?;
     Ok(Policy::from_vec(rules(alloc, items)?))
 }
