@@ -83,11 +83,15 @@ abbrev pub is_last : List (List ℕ) → Bool
 is_last [] = true
 is_last (part ∷ parts) = false
 
+-- a last `**`
+abbrev pub is_rest : List ℕ → List (List ℕ) → Bool
+is_rest part behind = bytes_eq part (codes "**") && is_last behind
+
 -- the items that parts of a text write, and whether a last `**` stands behind them
 abbrev pub items_in_parts : List (List ℕ) → Option (List ItemPattern × Bool)
 items_in_parts [] = Some ([], false)
 items_in_parts (part ∷ parts) =
-    if bytes_eq part (codes "**") && is_last parts then Some ([], true)
+    if is_rest part parts then Some ([], true)
     else item_in part >>= λ item. option_map (λ more. (item ∷ more.0, more.1)) (items_in_parts parts)
 
 abbrev pub items_in : List ℕ → Option (List ItemPattern × Bool)

@@ -1,7 +1,8 @@
 //! Whether the pattern of a rule matches a board and a register.
 
-ghost use Rattle.std.specs.Prelude.{◌≡◌, ◌==◌, true, false, nat_lt};
+ghost use Rattle.std.specs.Prelude.{◌≡◌, ◌==◌};
 ghost use Rattle.address_table.specs.Rules.{holds_of};
+ghost use Rattle.access_policy.specs.Cutting.{fits};
 ghost use Rattle.access_policy.specs.Names.{items_of};
 ghost use Rattle.access_policy.specs.Patterns as spec;
 
@@ -56,8 +57,7 @@ pub(crate) fn parts_match(patterns: &[ItemPattern], rest: bool, parts: &[NamePar
 
 /// Whether a name of so many ids is as long as so many items and what follows them ask for.
 fn has_length(patterns: usize, rest: bool, parts: usize) -> bool
-    ensures rest { rest ≡ true → result ≡ nat_lt patterns parts }
-    ensures exact { rest ≡ false → result ≡ (patterns == parts) }
+    ensures { result ≡ fits rest patterns parts }
 {
     if rest {
         patterns < parts

@@ -1,6 +1,6 @@
 //! Names cut at their dots and brackets.
 
-ghost use Rattle.std.specs.Prelude.{◌≡◌, ◌<◌, ◌∷◌, option_map, option_copied, IfOk};
+ghost use Rattle.std.specs.Prelude.{◌≡◌, ◌<◌, ◌∷◌, option_map, option_copied, length, IfOk, IfSome};
 ghost use Rattle.std.specs.List.{list_all};
 ghost use Rattle.script_lang.specs.Texts as texts;
 ghost use Rattle.access_policy.specs.Cutting.{parts_left};
@@ -52,7 +52,8 @@ pub(crate) fn cut_at(cut: char, text: &str) -> Option<(&str, &str)>
 
 /// What stands before the first dot, and what stands behind it, if there is one.
 pub(crate) fn first_part(text: &str) -> (&str, Option<&str>)
-    ensures { spec.parts_of text.now ≡ result.0.now ∷ parts_left (option_copied result.1) }
+    ensures parts { spec.parts_of text.now ≡ result.0.now ∷ parts_left (option_copied result.1) }
+    ensures shorter { IfSome result.1 (λ behind. length behind.now < length text.now) }
 {
     match cut_at('.', text) {
         Some((part, behind)) => (part, Some(behind)),

@@ -1,6 +1,7 @@
 //! Patterns as texts write them.
 
-ghost use Rattle.std.specs.Prelude.{◌≡◌, IfOk};
+ghost use Rattle.std.specs.Prelude.{◌≡◌, option_copied, IfOk};
+ghost use Rattle.access_policy.specs.Cutting.{parts_left};
 ghost use Rattle.access_policy.specs.Spelling as spec;
 
 use crate::names::{bracketed, cut_at, first_part, index_in};
@@ -63,6 +64,16 @@ fn item_in(alloc: Global, text: &str) -> Result<Option<ItemPattern>, NoMemory>
     indexed_in(alloc, text)
 }
 
+/// Whether a part with this behind it is a last `**`.
+fn is_rest(part: &str, behind: Option<&str>) -> bool
+    ensures { result ≡ spec.is_rest part.now (parts_left (option_copied behind.entry)) }
+{
+    match behind {
+        None => part == "**",
+        Some(_) => false,
+    }
+}
+
 /// The items that a text writes, and whether a last `**` stands behind them.
 fn items_in(alloc: Global, text: &str) -> Result<Option<(ItemPatterns, bool)>, NoMemory>
     ensures { IfOk result (λ items. items ≡ spec.items_in text.now) }
@@ -71,7 +82,7 @@ fn items_in(alloc: Global, text: &str) -> Result<Option<(ItemPatterns, bool)>, N
     let mut left = Some(text);
     'part: while let Some(text) = left {
         let (part, behind) = first_part(text);
-        if part == "**" && behind.is_none() {
+        if is_rest(part, behind) {
             return Ok(Some((ItemPatterns::from_vec(items), true)));
         }
         let Some(item) = item_in(alloc, part)? else {

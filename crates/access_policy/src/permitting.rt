@@ -70,6 +70,7 @@ pub fn permit(
 
 /// Puts the steps of each client of a session, client 1 first, under a policy (profile). Where there is not enough
 /// memory, the steps of some clients may be under it.
+#[tactic(auto, using(crate::proofs::RuledScripts::ruled_to_the_end))]
 pub fn rule_scripts(
     alloc: Global,
     policy: &Policy,
