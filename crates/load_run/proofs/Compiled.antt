@@ -4,7 +4,7 @@ use Rattle.std.proofs.Common.{subst, arith}
 use Rattle.std.specs.Prelude.{codes}
 use Rattle.std.specs.FinMap.{get}
 use Rattle.std.specs.List.{cons_option}
-use Rattle.address_table.specs.declared.nodes.Node.{Node, out-Node}
+use Rattle.address_table.specs.declared.nodes.Node.{Node}
 use Rattle.address_table.specs.declared.kinds.Mode.TheVariants.{Single}
 use Rattle.ipb_base.specs.Digits.{digit_value}
 use Rattle.node_tree.specs.declared.register.Register.{Register}

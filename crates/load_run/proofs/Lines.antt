@@ -10,6 +10,7 @@ use Rattle.transaction_codec.specs.Request.{request_at}
 use Rattle.transaction_codec.specs.Reply.{reply_at}
 use Rattle.lane_record.specs.declared.outcome.Outcome.{Outcome}
 use Rattle.lane_record.specs.declared.outcome.Outcome.TheVariants.{Replied}
+use Rattle.script_steps.specs.Rulings.{Asked, allowed}
 use Rattle.script_steps.specs.declared.operation.RegOp.{RegOp}
 use Rattle.script_steps.specs.declared.operation.Verb.TheVariants.{RmwSum}
 use Rattle.script_plans.specs.declared.greeting.Greeting.TheVariants.{Live, Silent, Down}
@@ -25,9 +26,10 @@ use Rattle.script_plans.specs.Plan.{count_on}
 use Rattle.transcript.specs.Lines.{client_lines}
 use Rattle.script_plans.specs.Runs.{outcomes_in}
 use Rattle.std.proofs.lemmas.List.Sums.{sum_by-append}
+use Rattle.transcript.proofs.Allowed.{allowed-append}
 use Rattle.load_run.specs.Generated.{operation, steps_behind}
 use Rattle.load_run.specs.Summary.{word_before, words_of_client, words_before}
-use Rattle.load_run.proofs.Plans.{body, payload, whole, bodies_of, pieces_from, ops_behind, operations-are}
+use Rattle.load_run.proofs.Plans.{body, payload, whole, bodies_of, pieces_from, ask, asks_behind, asks-are}
 use Rattle.load_run.proofs.Replies.{reply}
 
 -- ---- one body
@@ -104,42 +106,44 @@ live-shows : (run : BoardRun) (client k : ℕ) (op : RegOp) → run.greeting ≡
 live-shows run client k op live = rw live refl
 
 -- one more operation on the board
-one-more : (before : List RegOp) (b : ℕ) → count_on 0 (before ++ operation b ∷ []) ≡ count_on 0 before + 1
-one-more before b = sum_by-append (λ (o : RegOp). cond (o.board == 0) 1 0) before (operation b ∷ [])
+one-more : (before : List Asked) (b : ℕ) → count_on 0 (allowed (before ++ ask b ∷ [])) ≡ count_on 0 (allowed before) + 1
+one-more before b =
+    ap (count_on 0) (allowed-append before (ask b ∷ []))
+    ∙ sum_by-append (λ (o : RegOp). cond (o.board == 0) 1 0) (allowed before) (operation b ∷ [])
 
 module _ (run : BoardRun) (client : ℕ) (part : ClientPart) (n : ℕ) (live : run.greeting ≡ Live payload)
     (there : slice_get run.parts client ≡ Some part) (is : IsPart part n) where
-  line-word : (before : List RegOp) (b : ℕ) (front : List Outcome) (o : Outcome) (rest : List Outcome)
-      → part.outcomes ≡ front ++ o ∷ rest → count_on 0 before ≡ length front
-      → word_before (line_of client before (operation b) run).result ≡ words_of o
+  line-word : (before : List Asked) (b : ℕ) (front : List Outcome) (o : Outcome) (rest : List Outcome)
+      → part.outcomes ≡ front ++ o ∷ rest → count_on 0 (allowed before) ≡ length front
+      → word_before (line_of client before (ask b) run).result ≡ words_of o
   line-word before b front o rest all count =
       let at : slice_get part.outcomes (length front) ≡ Some o =
       ap (λ (os : List Outcome). slice_get os (length front)) all ∙ in-middle front o rest in
       let size : length part.outcomes ≡ length (front ++ o ∷ rest) = ap length all in
       let within : length front < n = omega (arith, size, length-append front (o ∷ rest), is.outcomes') in
-      ap (λ s. word_before s.0) (live-shows run client (count_on 0 before) (operation b) live)
-      ∙ (ap (λ (p : Option ClientPart). word_before (in_part p (count_on 0 before) (operation b)).0) there
+      ap (λ s. word_before s.0) (live-shows run client (count_on 0 (allowed before)) (operation b) live)
+      ∙ (ap (λ (p : Option ClientPart). word_before (in_part p (count_on 0 (allowed before)) (operation b)).0) there
       ∙ (ap (λ (k : ℕ). word_before (in_part (Some part) k (operation b)).0) count
       ∙ ap word_before (shows part n b (length front) o is within at)))
 
-  lines-words : (before : List RegOp) (b : ℕ) (front rest : List Outcome) → part.outcomes ≡ front ++ rest
-      → count_on 0 before ≡ length front
-      → words_of_client (lines_behind (run ∷ []) client before (ops_behind b (length rest))) ≡ flat_map words_of rest
+  lines-words : (before : List Asked) (b : ℕ) (front rest : List Outcome) → part.outcomes ≡ front ++ rest
+      → count_on 0 (allowed before) ≡ length front
+      → words_of_client (lines_behind (run ∷ []) client before (asks_behind b (length rest))) ≡ flat_map words_of rest
   lines-words before b front [] all count = refl
   lines-words before b front (o ∷ rest) all count =
       let next : part.outcomes ≡ (front ++ o ∷ []) ++ rest = all ∙ sym (append_assoc front (o ∷ []) rest) in
-      let more : count_on 0 (before ++ operation b ∷ []) ≡ length (front ++ o ∷ []) =
+      let more : count_on 0 (allowed (before ++ ask b ∷ [])) ≡ length (front ++ o ∷ []) =
       omega (arith, one-more before b, count, length-append front (o ∷ [])) in
-      ap (λ (ws : List ℕ). ws ++ words_of_client (lines_behind (run ∷ []) client (before ++ operation b ∷ [])
-      (ops_behind (b + 1) (length rest)))) (line-word before b front o rest all count)
+      ap (λ (ws : List ℕ). ws ++ words_of_client (lines_behind (run ∷ []) client (before ++ ask b ∷ [])
+      (asks_behind (b + 1) (length rest)))) (line-word before b front o rest all count)
       ∙ ap (λ (ws : List ℕ). words_of o ++ ws)
-      (lines-words (before ++ operation b ∷ []) (b + 1) (front ++ o ∷ []) rest next more)
+      (lines-words (before ++ ask b ∷ []) (b + 1) (front ++ o ∷ []) rest next more)
 
   pub client-words : words_of_client (client_lines (run ∷ []) client (steps_behind 0 n))
       ≡ flat_map words_of part.outcomes
   client-words =
-      ap (λ (ops : List RegOp). words_of_client (lines_behind (run ∷ []) client [] ops)) (operations-are 0 n)
-      ∙ (ap (λ (m : ℕ). words_of_client (lines_behind (run ∷ []) client [] (ops_behind 0 m))) (sym is.outcomes')
+      ap (λ (asks : List Asked). words_of_client (lines_behind (run ∷ []) client [] asks)) (asks-are 0 n)
+      ∙ (ap (λ (m : ℕ). words_of_client (lines_behind (run ∷ []) client [] (asks_behind 0 m))) (sym is.outcomes')
       ∙ lines-words [] 0 [] part.outcomes refl refl)
 
 -- ---- all clients
@@ -185,20 +189,20 @@ silent-words run silent client k op = rw silent refl
 pub down-words : (run : BoardRun) → run.greeting ≡ Down → NoWords run
 down-words run down client k op = rw down refl
 
-no-client-words : (run : BoardRun) → NoWords run → (client : ℕ) (before : List RegOp) (b n : ℕ)
-    → words_of_client (lines_behind (run ∷ []) client before (ops_behind b n)) ≡ []
+no-client-words : (run : BoardRun) → NoWords run → (client : ℕ) (before : List Asked) (b n : ℕ)
+    → words_of_client (lines_behind (run ∷ []) client before (asks_behind b n)) ≡ []
 no-client-words run none client before b zero = refl
 no-client-words run none client before b (suc n) =
-    ap (λ (ws : List ℕ). ws ++ words_of_client (lines_behind (run ∷ []) client (before ++ operation b ∷ [])
-    (ops_behind (b + 1) n)))
-    (none client (count_on 0 before) (operation b))
-    ∙ no-client-words run none client (before ++ operation b ∷ []) (b + 1) n
+    ap (λ (ws : List ℕ). ws ++ words_of_client (lines_behind (run ∷ []) client (before ++ ask b ∷ [])
+    (asks_behind (b + 1) n)))
+    (none client (count_on 0 (allowed before)) (operation b))
+    ∙ no-client-words run none client (before ++ ask b ∷ []) (b + 1) n
 
 pub no-words : (run : BoardRun) → NoWords run → (client : ℕ) (ns : List ℕ)
     → words_before (lines_from (run ∷ []) client (map (steps_behind 0) ns)) ≡ []
 no-words run none client [] = refl
 no-words run none client (n ∷ ns) =
     ap (λ (ws : List ℕ). ws ++ words_before (lines_from (run ∷ []) (client + 1) (map (steps_behind 0) ns)))
-    (ap (λ (ops : List RegOp). words_of_client (lines_behind (run ∷ []) client [] ops)) (operations-are 0 n)
+    (ap (λ (asks : List Asked). words_of_client (lines_behind (run ∷ []) client [] asks)) (asks-are 0 n)
     ∙ no-client-words run none client [] 0 n)
     ∙ no-words run none (client + 1) ns

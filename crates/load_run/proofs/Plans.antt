@@ -1,11 +1,11 @@
 -- What a generated session asks of its board: one body for each operation, and all are alike.
 use Rattle.std.proofs.Common.{◌≡◌, ℕ, zero, suc, ◌+◌, List, [], ◌∷◌, ◌++◌, length, refl, ap, ◌∙◌, arith, append_assoc}
-use Rattle.std.proofs.Common.{length-append}
+use Rattle.std.proofs.Common.{length-append, None}
 use Rattle.std.specs.List.{fold}
 use Rattle.mtu_packer.specs.Packed.{Contents}
-use Rattle.script_steps.specs.declared.operation.RegOp.{RegOp}
+use Rattle.script_steps.specs.Rulings.{Asked, asked}
 use Rattle.script_plans.specs.declared.planned.PieceAt.{PieceAt}
-use Rattle.script_plans.specs.Plan.{ClientBodies, with_dispatch, plan, operations}
+use Rattle.script_plans.specs.Plan.{ClientBodies, with_dispatch, plan}
 use Rattle.load_run.specs.Generated.{operation, steps_behind}
 
 -- one transaction: an RMW sum of 1 at address 0
@@ -62,13 +62,17 @@ pieces-planned all before (suc n) =
 
 -- ---- the operations of a client
 
-abbrev pub ops_behind : ℕ → ℕ → List RegOp
-ops_behind before zero = []
-ops_behind before (suc n) = operation before ∷ ops_behind (before + 1) n
+-- no rule denies one
+abbrev pub ask : ℕ → Asked
+ask before = record { op = operation before; denied = None }
 
-pub operations-are : (before n : ℕ) → operations (steps_behind before n) ≡ ops_behind before n
-operations-are before zero = refl
-operations-are before (suc n) = ap (λ (ops : List RegOp). operation before ∷ ops) (operations-are (before + 1) n)
+abbrev pub asks_behind : ℕ → ℕ → List Asked
+asks_behind before zero = []
+asks_behind before (suc n) = ask before ∷ asks_behind (before + 1) n
+
+pub asks-are : (before n : ℕ) → asked (steps_behind before n) ≡ asks_behind before n
+asks-are before zero = refl
+asks-are before (suc n) = ap (λ (asks : List Asked). ask before ∷ asks) (asks-are (before + 1) n)
 
 pub bodies-length : (n : ℕ) → length (bodies_of n) ≡ n
 bodies-length zero = refl

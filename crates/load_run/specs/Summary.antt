@@ -5,7 +5,7 @@ use Rattle.std.specs.Fmt.{decimal}
 use Rattle.ipb_base.specs.Numbers.{in_64_bits}
 use Rattle.transcript.specs.declared.line.OpResult.{OpResult}
 use Rattle.transcript.specs.declared.line.OpResult.TheVariants.{Value, Done, Was, Error, Skipped, TimedOut, Unsent}
-use Rattle.transcript.specs.declared.line.OpResult.TheVariants.{LinkLost, Garbled}
+use Rattle.transcript.specs.declared.line.OpResult.TheVariants.{LinkLost, Garbled, Denied}
 use Rattle.transcript.specs.declared.line.OpLine.{OpLine}
 use Rattle.transcript.specs.Lines.{Transcript}
 use Rattle.transcript.specs.Shown.{places_told}
@@ -22,6 +22,7 @@ word_before (TimedOut rounds) = []
 word_before Unsent = []
 word_before LinkLost = []
 word_before Garbled = []
+word_before (Denied rule) = []
 
 -- the words of all lines that show one, client by client
 abbrev pub words_of_client : List OpLine → List ℕ

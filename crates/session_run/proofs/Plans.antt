@@ -9,7 +9,7 @@ use Rattle.std.specs.Prelude.{fold}
 use Rattle.mtu_packer.specs.Packed.{Contents, packed}
 use Rattle.script_steps.specs.declared.operation.RegOp.{RegOp}
 use Rattle.script_steps.specs.declared.operation.Step.{Step}
-use Rattle.script_steps.specs.declared.operation.Step.TheVariants.{Do, Dispatch as dispatch_step}
+use Rattle.script_steps.specs.declared.operation.Step.TheVariants.{Do, Denied, Dispatch as dispatch_step}
 use Rattle.client_threads.specs.Clients.{AreOfClientsFrom, AreRisingFrom, IsPlanFor, bodies_on, counts_on}
 use Rattle.client_threads.specs.declared.plan.Dispatch.{Dispatch}
 use Rattle.client_threads.specs.declared.plan.ClientPlan.{ClientPlan}
@@ -31,16 +31,19 @@ some_dispatches [] = omega arith
 some_dispatches (Do op ∷ steps) =
     let some = some_dispatches steps in
     let same = some_begun op (dispatches steps) some in omega (arith, some, same)
+some_dispatches (Denied rule op ∷ steps) = some_dispatches steps
 some_dispatches (dispatch_step ∷ steps) = omega arith
 
 -- a step more
 pub step_more : (step : Step) (steps : List Step)
     → length (dispatches (step ∷ steps)) ≡ ends_in step + length (dispatches steps)
 step_more (Do op) steps = some_begun op (dispatches steps) (some_dispatches steps) ∙ omega arith
+step_more (Denied rule op) steps = omega arith
 step_more dispatch_step steps = omega arith
 
 pub one_at_most : (step : Step) → ends_in step ≤ 1
 one_at_most (Do op) = omega arith
+one_at_most (Denied rule op) = omega arith
 one_at_most dispatch_step = omega arith
 
 fronts_at : {A : Type 0} (xs : List A) (i : ℕ) (x : A) → i < length xs → x ≡ get_or xs i x

@@ -6,7 +6,7 @@ use Rattle.client_threads.specs.Clients.{OnLanesFrom, counts_on}
 use Rattle.client_threads.specs.declared.plan.Dispatch.{Dispatch}
 use Rattle.client_threads.specs.declared.plan.ClientPlan.{ClientPlan}
 use Rattle.script_steps.specs.declared.operation.Step.{Step}
-use Rattle.script_steps.specs.declared.operation.Step.TheVariants.{Do, Dispatch as EndOfDispatch}
+use Rattle.script_steps.specs.declared.operation.Step.TheVariants.{Do, Denied, Dispatch as EndOfDispatch}
 use Rattle.script_plans.specs.declared.greeting.Greeting.TheVariants.{Live}
 use Rattle.script_plans.specs.Plan.{ClientBodies, plans_on}
 
@@ -35,6 +35,7 @@ AskAllFrom lane plans boards =
 -- how many dispatches a step ends
 abbrev pub ends_in : Step → ℕ
 ends_in (Do op) = 0
+ends_in (Denied rule op) = 0
 ends_in EndOfDispatch = 1
 
 -- how many bodies a client, from 0, has in a dispatch on a board: none where it has no such dispatch

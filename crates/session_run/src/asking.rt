@@ -82,7 +82,7 @@ fn ends_in(step: &Step) -> usize
     ensures { result ≡ spec.ends_in step.now }
 {
     match step {
-        Step::Do(_) => 0,
+        Step::Do(_) | Step::Denied { .. } => 0,
         Step::Dispatch => 1,
     }
 }

@@ -6,7 +6,7 @@ use Rattle.world_model.specs.Settings.{Limits}
 use Rattle.script_steps.specs.declared.operation.Step.{Step}
 use Rattle.lane_history.specs.Links.{IsUntouched}
 use Rattle.lane_history.specs.Runs.{AreRunsOver}
-use Rattle.load_run.specs.Generated.{boards, settings, steps}
+use Rattle.load_run.specs.Generated.{boards, steps}
 use Rattle.load_run.specs.Summary.{all_done, summary_of, summary_text}
 use Rattle.session_run.specs.Links.{AreLeft}
 use Rattle.transcript.specs.Lines.{transcript_of}
