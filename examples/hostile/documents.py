@@ -29,7 +29,8 @@ VALUES = """0 1 -1 16 17 64 65 91 92 255 256 600 9000 9001 65535 65536 4194304 4
 NUMBERS = """0 1 2 15 16 255 256 600 601 700 65536 4294967295 4294967296 0xffffffff 0x100000000 00000000001 -1 +1
 1.0""".split()
 NAMES = """format rounds window tables board client script name table mtu buffers first fates noise ranges base size kind
-init address mask permission mode module nodes id tags description count stride link wait policy effect access x""".split()
+init address mask permission mode module nodes id tags description count stride link wait policy effect access x
+""".split()
 TEXTS = """|sim|rw|ro|wo|slow|r|w|read|write|single|block|port|inc|hierarchical|main|group|b0|b1|d|lrd159|x|0|a-b_c|a.b
 |dispatch|read b0:id|read b0:|read :id|read b0|read b0:id 1|read  b0:id|write b0:count|write b0:count 0x100000000|# b0:id
 |b0:id read|readblock b0:mem 0|readblock b0:mem 4194304|writeblock b0:mem|writeblock b0:mem 1 2 3|rmwsum b0:count 1
@@ -37,8 +38,9 @@ TEXTS = """|sim|rw|ro|wo|slow|r|w|read|write|single|block|port|inc|hierarchical|
 |b0:unit[2].*|b0:unit[02].*|*:low.**.count""".replace(
     "\n", ""
 ).split("|")
-PATTERNS = """*:** *:* b0:** b0:id b0:count b0:a b0:a.** *:low.* *:low.count b0:unit[*].** b0:unit[2].* b0:unit[02].* b0:unit[0
-b0:unit[65535].* b0:unit[65536].* b0:unit].* *:low.**.count b0:low..count b0:.count b0:low: :** b0 ** *.* *:*[1]""".split()
+PATTERNS = """*:** *:* b0:** b0:id b0:count b0:a b0:a.** *:low.* *:low.count b0:unit[*].** b0:unit[2].* b0:unit[02].*
+b0:unit[0 b0:unit[65535].* b0:unit[65536].* b0:unit].* *:low.**.count b0:low..count b0:.count b0:low: :** b0 ** *.*
+*:*[1]""".split()
 SIGNS = '" \' [ ] [[ ]] { } = , . : # \\ \n \r\n \t \0 \x7f \u00e9 \U0001f4a1'.split(" ")
 
 TRANSCRIPT_LINE = re.compile(

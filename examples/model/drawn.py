@@ -125,7 +125,8 @@ class Draw:
         pattern = draw.choice(PATTERNS).format(group=draw.choice(GROUPS))
         effect = draw.choice(["allow", "deny", "deny"])
         client = f", client = {draw.randint(1, clients + 1)}" if draw.random() < 0.3 else ""
-        return f'{{ effect = "{effect}", access = "{draw.choice(["r", "w", "rw"])}", name = "{board}:{pattern}"{client} }}'
+        access = draw.choice(["r", "w", "rw"])
+        return f'{{ effect = "{effect}", access = "{access}", name = "{board}:{pattern}"{client} }}'
 
     def policy(self, boards, clients):
         """A policy for a third of the sessions, whose last rule mostly allows what no other one decides."""

@@ -57,8 +57,8 @@ def shown(text):
 
 
 def denial_notes(session):
-    """What is said at the end of a run of the operations that the policy denied, in front of what is said of the status:
-    for each rule that denied some its text, in the order of the rules, and then how many no rule allowed."""
+    """What is said at the end of a run of the operations that the policy denied, in front of what is said of the
+    status: for each rule that denied some its text, in the order of the rules, and then how many no rule allowed."""
     denied = Counter(operation.denied_by for client in session.clients for operation in client.operations)
     lines = []
     for rule in session.policy.rules if session.policy else []:

@@ -144,6 +144,6 @@ class Policy:
         return self.known[asked]
 
     def denial(self, client, board, name, verb):
-        """The same of an operation: each access that it needs has to be allowed, and that for reading is asked first."""
+        """The same of an operation: each access that it needs has to be allowed, and reading is asked for first."""
         denials = [self.denial_of(client, board, name, access) for access in NEEDS[verb]]
         return next((denial for denial in denials if denial is not None), None)

@@ -4,9 +4,11 @@ import re
 import socket
 
 from model.network import run_session
+from model.notes import denial_notes
 from model.replay import check_transcript
 from model.session import Session
 from model.transcript import transcript
+from net.packets import transactions_of
 from net.peers import ended, free_port, require, rest_of, stop_while_it_waits
 from net.sessions import (
     CALM_WAIT,
@@ -87,6 +89,34 @@ def run_on_two_boards(peers):
 def run_on_small_packets(peers):
     scripts = [script_of(f"b{number}", random.Random(number)) for number in range(2)]
     run_owes(peers, boards_of(2, mtu=92, buffers=3, first=65_530), scripts, CALM_WAIT)
+
+
+POLICY = """policy = [
+  { effect = "deny", access = "rw", name = "*:mem" },
+  { effect = "deny", access = "w", name = "b0:a.**" },
+  { effect = "deny", access = "w", name = "*:count", client = 2 },
+  { effect = "allow", access = "rw", name = "*:**" },
+]
+"""
+# the first address and the one behind the last of what that policy keeps both boards from
+DENIED = 0x100, 0x358
+
+
+def run_under_a_policy(peers):
+    """What is denied reaches no board: the text tells so, and the boards executed nothing at the denied block."""
+    boards = boards_of(2)
+    peers.start_boards(boards)
+    scripts = [script_of(f"b{number}", random.Random(number)) for number in range(2)]
+    done = peers.run(POLICY.encode() + on_network(boards, scripts))
+    session = Session(POLICY.encode() + simulated(boards, scripts))
+    text, status = transcript(session, run_session(session))
+    require((done.text, done.status) == (text, status), f"{done}, wanted {text!r} and status {status}")
+    require(done.note == denial_notes(session).decode(), f"it says {done.note!r}")
+    for board, places in zip(boards, places_told(text)):
+        board.require_executed(places)
+        asked = [each for body in board.executed() for each in transactions_of(body)[0]]
+        reached = [each for each in asked if DENIED[0] <= each.address < DENIED[1]]
+        require(not reached, f"{board.name} executed {reached}")
 
 
 def run_past_forgeries(count):
@@ -178,6 +208,7 @@ def run_that_is_stopped(peers):
 RUNS = {
     "run on two boards": run_on_two_boards,
     "run on boards with small packets": run_on_small_packets,
+    "run under a policy": run_under_a_policy,
     "run past a forged reply": run_past_forgeries(1),
     "run past 100 forged replies": run_past_forgeries(100),
     "run beside a silent board": run_beside_a_silent_board,

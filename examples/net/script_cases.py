@@ -18,6 +18,10 @@ def scripts_of(file):
     return [client["script"] for client in tomllib.loads(file.read_text()).get("client", [])]
 
 
+def has_policy(file):
+    return "policy" in tomllib.loads(file.read_text())
+
+
 def scripts_refused(_peers):
     """Each line of the refused scripts is taken up to the one that the program refuses, which breaks the same rule."""
     tried = 0
@@ -53,12 +57,12 @@ def shown(value):
 
 
 def scripts_served(peers):
-    """The lines of each document of `run/` with one client have, when they are asked of a server, the results that
-    `run` prints."""
+    """The lines of each document of `run/` with one client, and without a policy, have the results that `run` prints
+    when they are asked of a server."""
     tried = 0
     for file in sorted((EXAMPLES / "run").glob("*.toml")):
         scripts = scripts_of(file)
-        if len(scripts) != 1:
+        if len(scripts) != 1 or has_policy(file):
             continue
         hub = peers.serve(file.read_bytes(), 2)
         peers.connect(hub).close()
