@@ -5,3 +5,4 @@ pub mod ItemsRead
 pub mod Decided
 pub mod RuledScripts
 pub mod RuleFaults
+pub mod LeftOver
