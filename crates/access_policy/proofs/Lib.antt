@@ -6,3 +6,5 @@ pub mod Decided
 pub mod RuledScripts
 pub mod RuleFaults
 pub mod LeftOver
+pub mod FirstRule
+pub mod Fronts
