@@ -5,3 +5,6 @@ pub mod ItemsRead
 pub mod Decided
 pub mod RuledScripts
 pub mod RuleFaults
+pub mod LeftOver
+pub mod FirstRule
+pub mod Fronts
