@@ -4,4 +4,4 @@ pub mod OneAnswer
 pub mod Moved
 pub mod OneText
 pub mod Ruled
-mod Clients
+mod Served

@@ -1,0 +1,13 @@
+use Rattle.std.proofs.Common.{sym, ◌∙◌, arith}
+use Rattle.access_policy.proofs.Lengths.{all_matched, wrong_length}
+use Rattle.access_policy.proofs.matching.parts_match.Goals as goal
+
+pub returns-then-not-has_length : goal.returns-then-not-has_length
+returns-then-not-has_length c =
+    sym (wrong_length c.args.patterns.now c.args.rest c.args.parts.now (sym c.has_length.ensures ∙ cc))
+
+pub returns : goal.returns
+returns c =
+    sym (all_matched c.args.patterns.now c.args.rest c.args.parts.now c.loop-i.i (sym c.has_length.ensures ∙ cc)
+    (omega (arith, c.loop-i.auto.i-end, c.loop-i-test.false)))
+    ∙ c.loop-i.invariant

@@ -1,0 +1,18 @@
+use Rattle.std.proofs.Common.{map, ap, ◌∙◌, arith}
+use Rattle.std.proofs.lemmas.List.{take_all}
+use Rattle.access_policy.specs.Candidates.{candidates_from, step_said}
+use Rattle.access_policy.specs.Decisions.{names_of}
+use Rattle.access_policy.proofs.Decided.{all_steps}
+use Rattle.access_policy.proofs.permitting.permit.Goals as goal
+
+pub returns : goal.returns
+returns c =
+    let policy = c.args.policy.now in
+    let steps = c.args.steps.now in
+    c.loop-step.invariant
+    ∙ ap (map (step_said c.in_ok-rules.rules.items))
+    (take_all c.loop-step.step-index steps (omega (arith, c.loop-step-test.false)))
+    ∙ ap (λ rules. map (step_said rules) steps)
+    (c.in_ok-rules.ensures
+    ∙ ap (λ boards. map (candidates_from 1 policy c.args.client) (names_of boards)) c.as_slice.ensures)
+    ∙ all_steps policy c.args.client (names_of c.args.session.now.boards) steps

@@ -1,0 +1,26 @@
+//! Access policies: rules that say which client may read or write which registers, and what they decide.
+#![tactic(auto)]
+
+mod deciding;
+pub mod examples;
+pub mod laws;
+mod limits;
+mod matching;
+mod names;
+mod patterns;
+mod permitting;
+mod policy;
+mod reading;
+mod refusal;
+mod rule_keys;
+mod spelling;
+
+pub use deciding::decide;
+pub use ipb_base::{NoMemory, Text};
+pub use limits::{MAX_INDEX, MAX_RULES};
+pub use permitting::{permit, rule_scripts};
+pub use policy::{BoardPattern, Effect, ItemPattern, ItemPatterns, Pattern, Policy, Rule};
+pub use reading::read_policy;
+pub use refusal::PolicyRefusal;
+pub use script_steps::Decision;
+pub use spelling::rule_text;
