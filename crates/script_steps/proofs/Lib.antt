@@ -1,2 +1,3 @@
 mod Ruling
 mod Denied
+mod StillAsked

@@ -1,11 +1,12 @@
 //! Laws of the definitions. These functions do nothing when they run: their clauses are what is proved.
 
-ghost use Rattle.std.specs.Prelude.{◌≡◌, List, length};
+ghost use Rattle.std.specs.Prelude.{◌≡◌, List, length, map};
 ghost use Rattle.std.specs.List.{AllByRecursion};
 ghost use Rattle.script_steps.specs.Executable.{AreExecutable};
+ghost use Rattle.script_steps.specs.Judging.{judged};
 ghost use Rattle.script_steps.specs.Packing.{AreWithinLimits, CanBePacked, HaveFewPieces};
 ghost use Rattle.script_steps.specs.RuledScripts.{AreRuled};
-ghost use Rattle.script_steps.specs.Rulings.{ruled};
+ghost use Rattle.script_steps.specs.Rulings.{asked, ruled};
 ghost use Rattle.script_steps.specs.declared.limits.TheConstants.{MAX_BLOCK_WORDS, MAX_OPERATIONS};
 ghost use Rattle.script_steps.specs.declared.operation.Decision.{Decision};
 ghost use Rattle.script_steps.specs.declared.operation.Step.{Step};
@@ -28,4 +29,11 @@ pub fn what_is_denied_asks_for_less()
     ensures limits { (scripts now : List (List Step)) → AreRuled scripts now
         → AreWithinLimits scripts → AreWithinLimits now }
     ensures count { (steps : List Step) (decisions : List Decision) → length (ruled steps decisions) ≡ length steps }
+{}
+
+/// Under a policy that judges steps one by one a client asks for the same operations, in the same order. Each is denied
+/// by the rule that the policy names for its step, unless a rule denied it before.
+pub fn what_is_denied_is_still_asked_for()
+    ensures { (judge : Step → Decision) (steps : List Step)
+        → asked (ruled steps (map judge steps)) ≡ map (judged judge) (asked steps) }
 {}

@@ -140,7 +140,8 @@ fn add_denied_line(
 }
 
 /// The lines of a client, counted from 0, in the order of its operations: by its steps, and by what became of each
-/// board. A denied operation has its number and its line as the others. Each reply is joined to its body once. More than 2^32 - 1 operations are answered by `NoMemory` too.
+/// board. A denied operation has its number and its line as the others. Each reply is joined to its body once. More
+/// than 2^32 - 1 operations are answered by `NoMemory` too.
 pub fn client_lines(
     alloc: Global,
     runs: &[BoardRun],
