@@ -1,15 +1,16 @@
 -- Decimal digits without leading zeros and the numbers that they write.
-use Rattle.std.proofs.Common.{◌≡◌, ℕ, ◌+◌, ◌-◌, ◌*◌, ◌^◌, ◌<◌, ◌≤◌, ◌==◌, List, [], ◌∷◌, length, drop, get_or, codes, nat_eq, nat_lt}
-use Rattle.std.proofs.Common.{Bool, true, false, not, ◌&&◌, ◌||◌, cond, Option, Some, None, refl, ap, sym, arith, ◌∙◌, decimal, lit<}
+use Rattle.std.proofs.Common.{◌≡◌, ℕ, ◌+◌, ◌-◌, ◌*◌, ◌^◌, ◌<◌, ◌≤◌, ◌==◌, List, [], ◌∷◌, length, get_or, codes, nat_eq, nat_lt}
+use Rattle.std.proofs.Common.{Bool, true, false, not, ◌&&◌, ◌||◌, cond, Option, Some, None, refl, ap, sym, arith, ◌∙◌, decimal}
 use Rattle.std.specs.Int.{IsInRange}
 use Rattle.std.specs.List.{list_all, starts_with}
 use Rattle.std.proofs.lemmas.Bool.Decides.{nat_tests}
 use Rattle.std.proofs.lemmas.Fmt.{decimal-digits_value, decimal_nonempty, digits_decimal, digits_value-decimal, first_decimal}
-use Rattle.std.proofs.lemmas.Fmt.{length-decimal-le}
+use Rattle.std.proofs.lemmas.Fmt.{decimal_digit, length-decimal-le}
+use Rattle.std.proofs.Common.{◌⊎◌, inl, inr, zero, suc}
 use Rattle.std.proofs.lemmas.Str.Parse.{IsDigitsTest, IsNumeralModel, WeighsDigits, numerals_by_weight}
 use Rattle.ipb_base.specs.Digits.{are_digits, digit_value, digits_in_base, digits_number, is_between, number_in_text}
 use Rattle.ipb_base.specs.Digits.{value_of_digits, word}
-use Rattle.script_lang.specs.Texts.{checked, decimal_between, is_decimal, is_digit}
+use Rattle.script_lang.specs.Texts.{checked, is_decimal, is_digit}
 use Rattle.access_policy.specs.Names.{index_in}
 use Rattle.access_policy.specs.declared.limits.TheConstants.{MAX_INDEX}
 
@@ -87,7 +88,7 @@ digits_of (c ∷ cs) h =
     (both_of (is_digit c && list_all is_digit cs) (not (c == 48) || (length cs == 0)) h).0
 
 leads : (c : ℕ) (cs : List ℕ) → is_decimal (c ∷ cs) ≡ true → c ≡ 48 → length (c ∷ cs) ≡ 1
-leads c cs h zero =
+leads c cs h lead =
     let p = both_of (is_digit c && list_all is_digit cs) (not (c == 48) || (length cs == 0)) h in
     let q = p.1 in
     grind (arith, nat_tests)
@@ -97,9 +98,9 @@ checked_is : (test : ℕ → Bool) (found : Option ℕ) (n : ℕ) → checked te
 checked_is test None n h = cc
 checked_is test (Some m) n h = by_test (test m) h
   where
-  by_test : (b : Bool) → cond b (Some m) None ≡ Some n → Some m ≡ Some n
-  by_test true e = e
-  by_test false e = cc
+    by_test : (b : Bool) → cond b (Some m) None ≡ Some n → Some m ≡ Some n
+    by_test true e = e
+    by_test false e = cc
 
 when : (b : Bool) (found : Option ℕ) (n : ℕ) → cond b found None ≡ Some n → (b ≡ true) × (found ≡ Some n)
 when true found n h = (refl, h)
@@ -122,3 +123,49 @@ index_back (c ∷ cs) n h =
     let value = word_is (value_of_digits 10 text) n based.1 in
     ap decimal (sym value.0)
     ∙ decimal-digits_value own text digits (omega arith) (leads c cs tested.0) (omega (arith, value.1))
+
+-- ---- from a number to its text, and back
+
+same : (m n : ℕ) → (m == n) ≡ true → m ≡ n
+same m n h = grind (arith, nat_tests)
+
+cases_zero : (n : ℕ) → (n ≡ 0) ⊎ (0 < n)
+cases_zero zero = inl refl
+cases_zero (suc n) = inr (omega arith)
+
+begins : (ds : List ℕ) → AreDecimal ds → 0 < length ds → (get_or ds 0 0 ≡ 48 → length ds ≡ 1) → is_decimal ds ≡ true
+begins [] h some lead = absurd (omega arith)
+begins (c ∷ cs) h some lead = rw h (by_lead (c == 48) refl)
+  where
+    by_lead : (b : Bool) → (c == 48) ≡ b → (not (c == 48) || (length cs == 0)) ≡ true
+    by_lead true e = let one = lead (same c 48 e) in rw e (grind (arith, nat_tests))
+    by_lead false e = rw e refl
+
+lead_of : (n : ℕ) → n < 2 ^ 64 → get_or (decimal n) 0 0 ≡ 48 → length (decimal n) ≡ 1
+lead_of n fits h = by_zero (cases_zero n)
+  where
+    by_zero : (n ≡ 0) ⊎ (0 < n) → length (decimal n) ≡ 1
+    by_zero (inl none) = ap (λ m. length (decimal m)) none ∙ ap length (decimal_digit 0 (omega arith))
+    by_zero (inr some) = absurd (omega (arith, first_decimal n some fits, h))
+
+word_small : (n : ℕ) → n < 2 ^ 32 → word n ≡ Some n
+word_small n h = grind (arith, nat_tests)
+
+between : (low high n : ℕ) → low ≤ n → n ≤ high → is_between low high n ≡ true
+between low high n h k = grind (arith, nat_tests)
+
+-- the index that `decimal` writes is read back
+pub index_found : (n : ℕ) → n ≤ MAX_INDEX → index_in (decimal n) ≡ Some n
+index_found n small =
+    let fits : n < 2 ^ 64 = omega (arith, small) in
+    let digits : AreDecimal (decimal n) = digits_decimal own n fits in
+    let some : 0 < length (decimal n) = decimal_nonempty n fits in
+    let few : length (decimal n) ≤ 10 = length-decimal-le 10 n (omega arith) (omega (arith, small)) fits in
+    let number : number_in_text (decimal n) ≡ Some n =
+    plain (decimal n) digits
+    ∙ rw (
+      between 1 10 (length (decimal n)) (omega arith) few,
+      in_base (decimal n) digits,
+      digits_value-decimal own n fits,
+    ) (word_small n (omega (arith, small))) in
+    rw (begins (decimal n) digits some (lead_of n fits), number, between 0 MAX_INDEX n (omega arith) small) refl

@@ -10,3 +10,4 @@ pub mod FirstRule
 pub mod Fronts
 pub mod Decimals
 pub mod Written
+pub mod NamesBack

@@ -1,6 +1,6 @@
 -- A pattern that was read is written as it stood.
-use Rattle.std.proofs.Common.{◌≡◌, ◌⊎◌, inl, inr, ℕ, List, [], ◌∷◌, ◌++◌, map, codes, Bool, true, false, cond, ◌&&◌, ◌==◌, Option, Some, None}
-use Rattle.std.proofs.Common.{option_map, refl, ap, sym, subst, arith, ◌∙◌, append_assoc, bytes_eq, unwrap_or, decimal}
+use Rattle.std.proofs.Common.{◌≡◌, ◌⊎◌, inl, inr, ℕ, List, [], ◌∷◌, ◌++◌, codes, Bool, true, false, cond, ◌&&◌, ◌==◌, Option, Some, None}
+use Rattle.std.proofs.Common.{option_map, refl, ap, sym, arith, ◌∙◌, bytes_eq, unwrap_or}
 use Rattle.std.specs.List.{join_with_byte}
 use Rattle.std.proofs.lemmas.Bool.Decides.{nat_tests}
 use Rattle.std.proofs.lemmas.List.Splits.{join_with_byte-slice_split}
@@ -98,16 +98,16 @@ index_item : (id inside : List ℕ) (item : ItemPattern) → index_pattern id in
 index_item id inside item h = by_star (pick (bytes_eq inside (codes "*")) (Some (AnyIndex id))
     (option_map (Indexed id) (index_in inside)) item h)
   where
-  by_star : ((bytes_eq inside (codes "*") ≡ true) × (Some (AnyIndex id) ≡ Some item))
-      ⊎ ((bytes_eq inside (codes "*") ≡ false) × (option_map (Indexed id) (index_in inside) ≡ Some item))
-      → item_text item ≡ id ++ 91 ∷ (inside ++ 93 ∷ [])
-  by_star (inl h) =
-      ap item_text (sym (same_some (AnyIndex id) item h.1))
-      ∙ ap (λ xs. id ++ 91 ∷ (xs ++ 93 ∷ [])) (sym (same_text inside (codes "*") h.0))
-  by_star (inr h) =
-      let found = mapped (Indexed id) (index_in inside) item h.1 in
-      ap item_text (sym found.2)
-      ∙ ap (λ xs. id ++ 91 ∷ (xs ++ 93 ∷ [])) (index_back inside found.0 found.1)
+    by_star : ((bytes_eq inside (codes "*") ≡ true) × (Some (AnyIndex id) ≡ Some item))
+        ⊎ ((bytes_eq inside (codes "*") ≡ false) × (option_map (Indexed id) (index_in inside) ≡ Some item))
+        → item_text item ≡ id ++ 91 ∷ (inside ++ 93 ∷ [])
+    by_star (inl h) =
+        ap item_text (sym (same_some (AnyIndex id) item h.1))
+        ∙ ap (λ xs. id ++ 91 ∷ (xs ++ 93 ∷ [])) (sym (same_text inside (codes "*") h.0))
+    by_star (inr h) =
+        let found = mapped (Indexed id) (index_in inside) item h.1 in
+        ap item_text (sym found.2)
+        ∙ ap (λ xs. id ++ 91 ∷ (xs ++ 93 ∷ [])) (index_back inside found.0 found.1)
 
 indexed_back : (text : List ℕ) (item : ItemPattern) → indexed_in text ≡ Some item → item_text item ≡ text
 unfolding indexed_in
@@ -120,27 +120,28 @@ item_back : (text : List ℕ) (item : ItemPattern) → item_in text ≡ Some ite
 item_back text item h =
     by_star (pick (bytes_eq text (codes "*")) (Some Any) (cond (is_id text) (Some (Id text)) (indexed_in text)) item h)
   where
-  by_id : ((is_id text ≡ true) × (Some (Id text) ≡ Some item)) ⊎ ((is_id text ≡ false) × (indexed_in text ≡ Some item))
-      → item_text item ≡ text
-  by_id (inl h) = ap item_text (sym (same_some (Id text) item h.1))
-  by_id (inr h) = indexed_back text item h.1
-  by_star : ((bytes_eq text (codes "*") ≡ true) × (Some Any ≡ Some item))
-      ⊎ ((bytes_eq text (codes "*") ≡ false) × (cond (is_id text) (Some (Id text)) (indexed_in text) ≡ Some item))
-      → item_text item ≡ text
-  by_star (inl h) = ap item_text (sym (same_some Any item h.1)) ∙ sym (same_text text (codes "*") h.0)
-  by_star (inr h) = by_id (pick (is_id text) (Some (Id text)) (indexed_in text) item h.1)
+    by_id : ((is_id text ≡ true) × (Some (Id text) ≡ Some item)) ⊎ ((is_id text ≡ false) × (indexed_in text ≡ Some item))
+        → item_text item ≡ text
+    by_id (inl h) = ap item_text (sym (same_some (Id text) item h.1))
+    by_id (inr h) = indexed_back text item h.1
+
+    by_star : ((bytes_eq text (codes "*") ≡ true) × (Some Any ≡ Some item))
+        ⊎ ((bytes_eq text (codes "*") ≡ false) × (cond (is_id text) (Some (Id text)) (indexed_in text) ≡ Some item))
+        → item_text item ≡ text
+    by_star (inl h) = ap item_text (sym (same_some Any item h.1)) ∙ sym (same_text text (codes "*") h.0)
+    by_star (inr h) = by_id (pick (is_id text) (Some (Id text)) (indexed_in text) item h.1)
 
 board_back : (text : List ℕ) (board : BoardPattern) → board_in text ≡ Some board → board_text board ≡ text
 board_back text board h =
     by_star (pick (bytes_eq text (codes "*")) (Some boards.Any) (cond (is_id text) (Some (boards.Named text)) None) board
     h)
   where
-  by_star : ((bytes_eq text (codes "*") ≡ true) × (Some boards.Any ≡ Some board))
-      ⊎ ((bytes_eq text (codes "*") ≡ false) × (cond (is_id text) (Some (boards.Named text)) None ≡ Some board))
-      → board_text board ≡ text
-  by_star (inl h) = ap board_text (sym (same_some boards.Any board h.1)) ∙ sym (same_text text (codes "*") h.0)
-  by_star (inr h) =
-      ap board_text (sym (same_some (boards.Named text) board (when (is_id text) (Some (boards.Named text)) board h.1).1))
+    by_star : ((bytes_eq text (codes "*") ≡ true) × (Some boards.Any ≡ Some board))
+        ⊎ ((bytes_eq text (codes "*") ≡ false) × (cond (is_id text) (Some (boards.Named text)) None ≡ Some board))
+        → board_text board ≡ text
+    by_star (inl h) = ap board_text (sym (same_some boards.Any board h.1)) ∙ sym (same_text text (codes "*") h.0)
+    by_star (inr h) =
+        ap board_text (sym (same_some (boards.Named text) board (when (is_id text) (Some (boards.Named text)) board h.1).1))
 
 both_of : (a b : Bool) → (a && b) ≡ true → (a ≡ true) × (b ≡ true)
 both_of true b h = (refl, h)
@@ -160,24 +161,24 @@ items_back (part ∷ parts) items h =
     by_rest (items_back parts) (pick (is_rest part parts) (Some ([], true))
     (item_in part >>= λ item. option_map (λ more. (item ∷ more.0, more.1)) (items_in_parts parts)) items h)
   where
-  by_rest : ((later : List ItemPattern × Bool) → items_in_parts parts ≡ Some later → item_texts later.0 later.1 ≡ parts)
-      → ((is_rest part parts ≡ true) × (Some ([], true) ≡ Some items))
-      ⊎ ((is_rest part parts ≡ false)
-      × ((item_in part >>= λ item. option_map (λ more. (item ∷ more.0, more.1)) (items_in_parts parts)) ≡ Some items))
-      → item_texts items.0 items.1 ≡ part ∷ parts
-  by_rest back (inl h) =
-      let now : List ItemPattern × Bool = ([], true) in
-      let is : now ≡ items = same_some now items h.1 in
-      let tests = both_of (bytes_eq part (codes "**")) (is_last parts) h.0 in
-      ap (λ x. item_texts x.0 x.1) (sym is)
-      ∙ ap (λ x. x ∷ []) (sym (same_text part (codes "**") tests.0))
-      ∙ ap (λ xs. part ∷ xs) (sym (last_is parts tests.1))
-  by_rest back (inr h) =
-      let first = bound (item_in part) _ items h.1 in
-      let more = mapped _ (items_in_parts parts) items first.2 in
-      ap (λ x. item_texts x.0 x.1) (sym more.2)
-      ∙ ap (λ xs. xs ∷ item_texts more.0.0 more.0.1) (item_back part first.0 first.1)
-      ∙ ap (λ xs. part ∷ xs) (back more.0 more.1)
+    by_rest : ((later : List ItemPattern × Bool) → items_in_parts parts ≡ Some later → item_texts later.0 later.1 ≡ parts)
+        → ((is_rest part parts ≡ true) × (Some ([], true) ≡ Some items))
+        ⊎ ((is_rest part parts ≡ false)
+        × ((item_in part >>= λ item. option_map (λ more. (item ∷ more.0, more.1)) (items_in_parts parts)) ≡ Some items))
+        → item_texts items.0 items.1 ≡ part ∷ parts
+    by_rest back (inl h) =
+        let now : List ItemPattern × Bool = ([], true) in
+        let is : now ≡ items = same_some now items h.1 in
+        let tests = both_of (bytes_eq part (codes "**")) (is_last parts) h.0 in
+        ap (λ x. item_texts x.0 x.1) (sym is)
+        ∙ ap (λ x. x ∷ []) (sym (same_text part (codes "**") tests.0))
+        ∙ ap (λ xs. part ∷ xs) (sym (last_is parts tests.1))
+    by_rest back (inr h) =
+        let first = bound (item_in part) _ items h.1 in
+        let more = mapped _ (items_in_parts parts) items first.2 in
+        ap (λ x. item_texts x.0 x.1) (sym more.2)
+        ∙ ap (λ xs. xs ∷ item_texts more.0.0 more.0.1) (item_back part first.0 first.1)
+        ∙ ap (λ xs. part ∷ xs) (back more.0 more.1)
 
 pub pattern_back : (text : List ℕ) (pattern : Pattern) → pattern_of text ≡ Some pattern → pattern_text pattern ≡ text
 unfolding pattern_of
