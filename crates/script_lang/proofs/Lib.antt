@@ -24,3 +24,4 @@ pub mod SmallNumbers
 pub mod StepsSoFar
 pub mod Registers
 pub mod Executable
+mod OnBoards

@@ -1,7 +1,7 @@
 //! Laws of the definitions, and worked examples of them. These functions do nothing when they run: their clauses are
 //! what is proved.
 
-ghost use Rattle.std.specs.Prelude.{◌≡◌, ◌≢◌, ℕ, List, [], ◌∷◌, Some, None, codes};
+ghost use Rattle.std.specs.Prelude.{◌≡◌, ◌≢◌, ℕ, List, length, [], ◌∷◌, Some, None, codes};
 ghost use Rattle.script_lang.specs.Document as spec;
 ghost use Rattle.std.specs.List.{AllByRecursion, AllZip};
 ghost use Rattle.toml.specs.Data.{Members, get_member};
@@ -14,6 +14,7 @@ ghost use Rattle.board_node.specs.OpeningWords.{OpensOnWords};
 ghost use Rattle.script_steps.specs.Executable.{AreExecutable};
 ghost use Rattle.script_lang.specs.Scripts.{steps_of};
 ghost use Rattle.script_lang.specs.Limits.{IsWithin};
+ghost use Rattle.script_lang.specs.OnBoards.{StepsAreOn};
 ghost use Rattle.script_lang.specs.OwnNames.{HaveOwnNames};
 ghost use Rattle.script_lang.specs.Paths.{path};
 ghost use Rattle.script_lang.specs.Texts.{endpoint};
@@ -69,6 +70,12 @@ pub fn scripts_ask_what_can_be_executed()
         → AllZip (λ (b : BoardSpec) (index : RegisterMap). IsIndexOf session.tables b.table index)
         session.boards indexes
         → AllByRecursion AreExecutable (steps_of session.boards indexes session.scripts) }
+{}
+
+/// Each operation that scripts mean is on one of the boards.
+pub fn scripts_ask_of_boards_that_are_there()
+    ensures { (boards : List BoardSpec) (indexes : List RegisterMap) (scripts : List (List (List ℕ)))
+        → AllByRecursion (StepsAreOn (length boards)) (steps_of boards indexes scripts) }
 {}
 
 /// The words that the ranges of a session's boards name have 32 bits.

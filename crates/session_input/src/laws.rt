@@ -14,7 +14,7 @@ ghost use Rattle.session_input.specs.declared.refusal.Refusal.{Refusal};
 ghost use Rattle.session_input.specs.declared.refusal.TheConstants.{MAX_DOCUMENT};
 
 use crate::below::{document_laws, table_laws};
-use script_lang::laws::scripts_ask_what_can_be_executed;
+use script_lang::laws::{scripts_ask_of_boards_that_are_there, scripts_ask_what_can_be_executed};
 use script_steps::laws::what_is_denied_asks_for_less;
 
 /// The limit of a document.
@@ -61,11 +61,12 @@ pub fn bytes_have_one_answer_to_check()
 }
 
 /// Each operation of a session that can be run, denied or not, is on one of its boards.
-#[tactic(auto, using(crate::proofs::OnBoards::on_boards))]
 pub fn operations_are_on_the_boards_of_their_session()
     ensures { (bytes : List ℕ) (session : Session) (steps : List (List Step))
         → IsRunnable bytes session steps → AllByRecursion (AreOnBoards (length session.boards)) steps }
-{}
+{
+    scripts_ask_of_boards_that_are_there();
+}
 
 /// What the scripts of a session that can be run ask under its policy can be executed: each operation can be packed for
 /// any board, its address and its words have 32 bits, and it is one that its verb asks for.
