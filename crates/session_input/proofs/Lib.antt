@@ -5,3 +5,4 @@ pub mod Moved
 pub mod OneText
 pub mod Ruled
 mod Served
+mod Alone
