@@ -1,7 +1,6 @@
 -- The first rule that speaks of an access decides it.
-use Rattle.std.proofs.Common.{◌≡◌, ℕ, ◌+◌, List, [], ◌∷◌, ◌++◌, Bool, true, false, ◌||◌, cond, length, refl, ap, arith, ◌∙◌}
+use Rattle.std.proofs.Common.{◌≡◌, ℕ, ◌+◌, List, [], ◌∷◌, ◌++◌, Bool, true, false, ◌||◌, length, refl, ap, arith, ◌∙◌}
 use Rattle.std.specs.List.{list_any}
-use Rattle.script_steps.specs.declared.operation.Decision.{Decision}
 use Rattle.script_steps.specs.declared.operation.Decision.TheVariants.{Denied}
 use Rattle.access_policy.specs.Decisions.{decided, said}
 use Rattle.access_policy.specs.declared.policy.Rule.{Rule}

@@ -1,5 +1,5 @@
 -- Texts joined by dots, one after the other.
-use Rattle.std.proofs.Common.{◌≡◌, ℕ, ◌+◌, ◌==◌, List, [], ◌∷◌, ◌++◌, Bool, true, false, length, map, take, drop, get_or, refl, ap, sym}
+use Rattle.std.proofs.Common.{◌≡◌, ℕ, ◌+◌, ◌==◌, List, [], ◌∷◌, ◌++◌, Bool, true, false, length, map, take, get_or, refl, ap, sym}
 use Rattle.std.proofs.Common.{◌∙◌, append_assoc}
 use Rattle.std.proofs.Common.{zero, suc, ◌<◌, codes, arith}
 use Rattle.std.proofs.lemmas.Bool.Decides.{nat_tests}

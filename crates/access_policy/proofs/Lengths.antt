@@ -1,5 +1,5 @@
 -- A name matches items only where it is long enough for them, and no longer unless a rest is asked for.
-use Rattle.std.proofs.Common.{◌≡◌, ℕ, ◌==◌, ◌<◌, ◌≤◌, List, [], ◌∷◌, Bool, true, false, ◌&&◌, length, nat_lt, suc, refl, arith}
+use Rattle.std.proofs.Common.{◌≡◌, ℕ, List, [], ◌∷◌, Bool, true, false, ◌&&◌, length, suc, refl, arith}
 use Rattle.std.proofs.Common.{◌-◌, drop, length-drop, ◌∙◌}
 use Rattle.std.proofs.lemmas.List.{at_drop_all}
 use Rattle.std.proofs.lemmas.Bool.Decides.{nat_tests}

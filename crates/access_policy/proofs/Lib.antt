@@ -8,3 +8,6 @@ pub mod RuleFaults
 pub mod LeftOver
 pub mod FirstRule
 pub mod Fronts
+pub mod Decimals
+pub mod Written
+pub mod NamesBack

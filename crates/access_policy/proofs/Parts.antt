@@ -1,5 +1,5 @@
 -- The parts of a text between dots, one after the other.
-use Rattle.std.proofs.Common.{◌≡◌, ℕ, ◌==◌, List, [], ◌∷◌, ◌++◌, Bool, true, false, cond, Option, Some, None, option_map}
+use Rattle.std.proofs.Common.{◌≡◌, ℕ, ◌==◌, List, [], ◌∷◌, Bool, true, false, cond, Option, Some, None, option_map}
 use Rattle.std.proofs.Common.{◌<◌, length, suc, IfSome, refl, ap, arith, ◌∙◌}
 use Rattle.std.specs.List.{onto_first}
 use Rattle.node_tree.specs.Names.{dot}

@@ -1,5 +1,5 @@
 -- Where no script is left to rule.
-use Rattle.std.proofs.Common.{◌≡◌, ℕ, ◌+◌, ◌≤◌, List, [], ◌∷◌, ◌++◌, length, take, drop, refl, ap, sym, ◌∙◌}
+use Rattle.std.proofs.Common.{◌≡◌, ℕ, ◌+◌, ◌≤◌, List, ◌++◌, length, take, drop, ap, sym, ◌∙◌}
 use Rattle.std.proofs.lemmas.List.{drop_all, take-append-drop}
 use Rattle.script_steps.specs.declared.operation.Step.{Step}
 use Rattle.access_policy.specs.Decisions.{ruled_from}

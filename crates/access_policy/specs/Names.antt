@@ -1,7 +1,7 @@
 -- What a pattern sees of the name of a register: the ids between its dots, each with the index that may stand behind
 -- it. Profile.
 use Rattle.std.specs.Prelude.{◌≡◌, ◌≤◌, ℕ, ◌==◌, true, List, [], ◌∷◌, ◌++◌, map, codes, decimal, Option, Some, None, IfSome}
-use Rattle.std.specs.List.{AllByRecursion, join_with_byte, slice_split}
+use Rattle.std.specs.List.{join_with_byte, slice_split}
 use Rattle.std.specs.Option.{option_map_or, unwrap_or}
 use Rattle.address_table.specs.Rules.{is_id}
 use Rattle.node_tree.specs.Names.{dot}

@@ -1,7 +1,7 @@
 -- What the pattern of a rule matches: a board by its name, and a register by the ids of its name and their indexes, and
 -- never by its address. Profile.
 use Rattle.std.specs.Prelude.{◌≡◌, ◌≤◌, ℕ, ◌==◌, Bool, true, false, not, ◌&&◌, List, [], ◌∷◌, ◌++◌, length}
-use Rattle.std.specs.Prelude.{Option, is_none, is_some}
+use Rattle.std.specs.Prelude.{is_none, is_some}
 use Rattle.std.specs.Bool.{MatchBool}
 use Rattle.std.specs.List.{AllZip}
 use Rattle.std.specs.Str.{bytes_eq}

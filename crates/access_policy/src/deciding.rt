@@ -83,17 +83,12 @@ fn speaks_of(rule: &Rule, access: Access, client: u32, board: &str, name: &str) 
         return false;
     }
     let pattern = &rule.pattern;
-    board_matches(&pattern.board, board) && name_matches(pattern.items.as_slice(), pattern.rest, name)
+    board_matches(&pattern.board, board)
+        && name_matches(pattern.items.as_slice(), pattern.rest, name)
 }
 
 /// What the first rule says that speaks of an access.
-fn decide_access(
-    policy: &Policy,
-    client: u32,
-    board: &str,
-    name: &str,
-    access: Access,
-) -> Decision
+fn decide_access(policy: &Policy, client: u32, board: &str, name: &str, access: Access) -> Decision
     ensures { result ≡ spec.access_decision policy.now client board.now (items_of name.now) access }
 {
     for (i, rule) in policy.as_slice().iter().enumerate() {

@@ -11,10 +11,7 @@ ghost use Rattle.access_policy.specs.declared.policy.Effect.TheVariants.{Allow, 
 ghost use Rattle.access_policy.specs.declared.policy.ItemPattern.TheVariants.{Any, Id, Indexed, AnyIndex};
 
 /// One register may not be written, and all else is allowed: the register may be read.
-#[tactic(auto, unfolding(
-    crate::specs::Spelling::pattern_of, crate::specs::Spelling::indexed_in,
-    crate::specs::Names::bracketed, crate::specs::Names::indexed,
-    ipb_base::specs::Digits::digit_value))]
+#[tactic(auto, unfolding(crate::specs::Spelling::pattern_of, crate::specs::Spelling::indexed_in, crate::specs::Names::bracketed, crate::specs::Names::indexed, ipb_base::specs::Digits::digit_value))]
 pub fn a_register_that_may_not_be_written()
     ensures written { decision one_kept 1 (codes "b0") (codes "a") W ≡ Denied 1 }
     ensures read { decision one_kept 1 (codes "b0") (codes "a") R ≡ Allowed }
@@ -22,10 +19,7 @@ pub fn a_register_that_may_not_be_written()
 {}
 
 /// One branch may be read; of all else no rule speaks.
-#[tactic(auto, unfolding(
-    crate::specs::Spelling::pattern_of, crate::specs::Spelling::indexed_in,
-    crate::specs::Names::bracketed, crate::specs::Names::indexed,
-    ipb_base::specs::Digits::digit_value))]
+#[tactic(auto, unfolding(crate::specs::Spelling::pattern_of, crate::specs::Spelling::indexed_in, crate::specs::Names::bracketed, crate::specs::Names::indexed, ipb_base::specs::Digits::digit_value))]
 pub fn a_branch_that_may_be_read()
     ensures other { decision one_shown 1 (codes "b0") (codes "a") W ≡ Denied 0 }
     ensures read { decision one_shown 1 (codes "b0") (codes "sys.id") R ≡ Allowed }
@@ -39,10 +33,7 @@ pub fn no_rules_deny_everything()
 
 /// A rule for both accesses decides reading and writing, and a read-modify-write needs both: the rule for reading
 /// denies before that for writing.
-#[tactic(auto, unfolding(
-    crate::specs::Spelling::pattern_of, crate::specs::Spelling::indexed_in,
-    crate::specs::Names::bracketed, crate::specs::Names::indexed,
-    ipb_base::specs::Digits::digit_value))]
+#[tactic(auto, unfolding(crate::specs::Spelling::pattern_of, crate::specs::Spelling::indexed_in, crate::specs::Names::bracketed, crate::specs::Names::indexed, ipb_base::specs::Digits::digit_value))]
 pub fn a_read_modify_write_needs_both()
     ensures one_rule { decision (rule Deny Rw (codes "b0:a") ∷ []) 1 (codes "b0") (codes "a") R ≡ Denied 1 }
     ensures writing { decision one_kept 1 (codes "b0") (codes "a") Rw ≡ Denied 1 }
@@ -54,10 +45,7 @@ pub fn a_read_modify_write_needs_both()
 {}
 
 /// A rule for one client says nothing of the others.
-#[tactic(auto, unfolding(
-    crate::specs::Spelling::pattern_of, crate::specs::Spelling::indexed_in,
-    crate::specs::Names::bracketed, crate::specs::Names::indexed,
-    ipb_base::specs::Digits::digit_value))]
+#[tactic(auto, unfolding(crate::specs::Spelling::pattern_of, crate::specs::Spelling::indexed_in, crate::specs::Names::bracketed, crate::specs::Names::indexed, ipb_base::specs::Digits::digit_value))]
 pub fn a_rule_for_one_client()
     ensures its_own { decision (rule_for (Some 2) Allow Rw (codes "*:**") ∷ [])
         2 (codes "b0") (codes "a") W ≡ Allowed }
@@ -66,10 +54,7 @@ pub fn a_rule_for_one_client()
 {}
 
 /// The earlier of two rules decides.
-#[tactic(auto, unfolding(
-    crate::specs::Spelling::pattern_of, crate::specs::Spelling::indexed_in,
-    crate::specs::Names::bracketed, crate::specs::Names::indexed,
-    ipb_base::specs::Digits::digit_value))]
+#[tactic(auto, unfolding(crate::specs::Spelling::pattern_of, crate::specs::Spelling::indexed_in, crate::specs::Names::bracketed, crate::specs::Names::indexed, ipb_base::specs::Digits::digit_value))]
 pub fn the_order_of_rules_decides()
     ensures denied { decision (rule Deny R (codes "b0:*") ∷ rule Allow R (codes "b0:a") ∷ [])
         1 (codes "b0") (codes "a") R ≡ Denied 1 }
@@ -78,30 +63,21 @@ pub fn the_order_of_rules_decides()
 {}
 
 /// A rule for a name says nothing of another name, whichever address that has.
-#[tactic(auto, unfolding(
-    crate::specs::Spelling::pattern_of, crate::specs::Spelling::indexed_in,
-    crate::specs::Names::bracketed, crate::specs::Names::indexed,
-    ipb_base::specs::Digits::digit_value))]
+#[tactic(auto, unfolding(crate::specs::Spelling::pattern_of, crate::specs::Spelling::indexed_in, crate::specs::Names::bracketed, crate::specs::Names::indexed, ipb_base::specs::Digits::digit_value))]
 pub fn names_decide_and_not_addresses()
     ensures { decision (rule Deny Rw (codes "b0:a") ∷ rule Allow Rw (codes "*:**") ∷ [])
         1 (codes "b0") (codes "a_again") W ≡ Allowed }
 {}
 
 /// Each board and each register.
-#[tactic(auto, unfolding(
-    crate::specs::Spelling::pattern_of, crate::specs::Spelling::indexed_in,
-    crate::specs::Names::bracketed, crate::specs::Names::indexed,
-    ipb_base::specs::Digits::digit_value))]
+#[tactic(auto, unfolding(crate::specs::Spelling::pattern_of, crate::specs::Spelling::indexed_in, crate::specs::Names::bracketed, crate::specs::Names::indexed, ipb_base::specs::Digits::digit_value))]
 pub fn everything_is_matched()
     ensures short { text_matches (codes "*:**") (codes "b0") (codes "a") ≡ true }
     ensures long { text_matches (codes "*:**") (codes "b1") (codes "sys.ch[3].gain") ≡ true }
 {}
 
 /// The registers of one board whose names are one id.
-#[tactic(auto, unfolding(
-    crate::specs::Spelling::pattern_of, crate::specs::Spelling::indexed_in,
-    crate::specs::Names::bracketed, crate::specs::Names::indexed,
-    ipb_base::specs::Digits::digit_value))]
+#[tactic(auto, unfolding(crate::specs::Spelling::pattern_of, crate::specs::Spelling::indexed_in, crate::specs::Names::bracketed, crate::specs::Names::indexed, ipb_base::specs::Digits::digit_value))]
 pub fn one_id_is_matched()
     ensures id { text_matches (codes "b0:*") (codes "b0") (codes "a") ≡ true }
     ensures index { text_matches (codes "b0:*") (codes "b0") (codes "ch[3]") ≡ true }
@@ -110,10 +86,7 @@ pub fn one_id_is_matched()
 {}
 
 /// The children of a branch, or all that is below it, but never the branch itself.
-#[tactic(auto, unfolding(
-    crate::specs::Spelling::pattern_of, crate::specs::Spelling::indexed_in,
-    crate::specs::Names::bracketed, crate::specs::Names::indexed,
-    ipb_base::specs::Digits::digit_value))]
+#[tactic(auto, unfolding(crate::specs::Spelling::pattern_of, crate::specs::Spelling::indexed_in, crate::specs::Names::bracketed, crate::specs::Names::indexed, ipb_base::specs::Digits::digit_value))]
 pub fn what_is_below_a_branch_is_matched()
     ensures child { text_matches (codes "b0:sys.*") (codes "b0") (codes "sys.id") ≡ true }
     ensures grandchild { text_matches (codes "b0:sys.*") (codes "b0") (codes "sys.clk.id") ≡ false }
@@ -123,10 +96,7 @@ pub fn what_is_below_a_branch_is_matched()
 {}
 
 /// Indexes are compared as numbers, and an id without one has none.
-#[tactic(auto, unfolding(
-    crate::specs::Spelling::pattern_of, crate::specs::Spelling::indexed_in,
-    crate::specs::Names::bracketed, crate::specs::Names::indexed,
-    ipb_base::specs::Digits::digit_value))]
+#[tactic(auto, unfolding(crate::specs::Spelling::pattern_of, crate::specs::Spelling::indexed_in, crate::specs::Names::bracketed, crate::specs::Names::indexed, ipb_base::specs::Digits::digit_value))]
 pub fn indexes_are_matched()
     ensures this { text_matches (codes "b0:ch[1]") (codes "b0") (codes "ch[1]") ≡ true }
     ensures longer { text_matches (codes "b0:ch[1]") (codes "b0") (codes "ch[12]") ≡ false }
@@ -141,10 +111,7 @@ pub fn indexes_are_matched()
 {}
 
 /// Patterns and what they are read as.
-#[tactic(auto, unfolding(
-    crate::specs::Spelling::pattern_of, crate::specs::Spelling::indexed_in,
-    crate::specs::Names::bracketed, crate::specs::Names::indexed,
-    ipb_base::specs::Digits::digit_value))]
+#[tactic(auto, unfolding(crate::specs::Spelling::pattern_of, crate::specs::Spelling::indexed_in, crate::specs::Names::bracketed, crate::specs::Names::indexed, ipb_base::specs::Digits::digit_value))]
 pub fn patterns_are_read()
     ensures items { pattern_of (codes "b0:ch[3].*.x[*].id") ≡ Some (record {
       board = Named (codes "b0");
@@ -155,10 +122,7 @@ pub fn patterns_are_read()
 {}
 
 /// Texts that are no patterns.
-#[tactic(auto, unfolding(
-    crate::specs::Spelling::pattern_of, crate::specs::Spelling::indexed_in,
-    crate::specs::Names::bracketed, crate::specs::Names::indexed,
-    ipb_base::specs::Digits::digit_value))]
+#[tactic(auto, unfolding(crate::specs::Spelling::pattern_of, crate::specs::Spelling::indexed_in, crate::specs::Names::bracketed, crate::specs::Names::indexed, ipb_base::specs::Digits::digit_value))]
 pub fn texts_that_are_no_patterns()
     ensures colon { pattern_of (codes "b0") ≡ None }
     ensures items { pattern_of (codes "b0:") ≡ None }
@@ -174,10 +138,7 @@ pub fn texts_that_are_no_patterns()
 {}
 
 /// Rules in one line.
-#[tactic(auto, unfolding(
-    crate::specs::Spelling::pattern_of, crate::specs::Spelling::indexed_in,
-    crate::specs::Names::bracketed, crate::specs::Names::indexed,
-    ipb_base::specs::Digits::digit_value))]
+#[tactic(auto, unfolding(crate::specs::Spelling::pattern_of, crate::specs::Spelling::indexed_in, crate::specs::Names::bracketed, crate::specs::Names::indexed, ipb_base::specs::Digits::digit_value))]
 pub fn rules_are_written()
     ensures denied { rule_text (rule Deny W (codes "b0:a")) ≡ codes "deny w b0:a" }
     ensures allowed { rule_text (rule_for (Some 2) Allow Rw (codes "*:**")) ≡ codes "allow rw *:** client 2" }

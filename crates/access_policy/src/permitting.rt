@@ -134,11 +134,7 @@ fn concerns(rule: &Rule, client: u32, board: &str) -> bool
     client_matches(rule.client, client) && board_matches(&rule.pattern.board, board)
 }
 
-fn step_decision(
-    alloc: Global,
-    rules: &[Candidates<'_>],
-    step: &Step,
-) -> Result<Decision, NoMemory>
+fn step_decision(alloc: Global, rules: &[Candidates<'_>], step: &Step) -> Result<Decision, NoMemory>
     ensures { IfOk result (λ decision. decision ≡ of.step_said rules.now step.now) }
 {
     match step {
@@ -148,11 +144,7 @@ fn step_decision(
     }
 }
 
-fn op_decision(
-    alloc: Global,
-    rules: &[Candidates<'_>],
-    op: &RegOp,
-) -> Result<Decision, NoMemory>
+fn op_decision(alloc: Global, rules: &[Candidates<'_>], op: &RegOp) -> Result<Decision, NoMemory>
     ensures { IfOk result (λ decision. decision ≡ of.op_said rules.now op.now) }
 {
     let Some(candidates) = rules.get(op.board as usize) else {

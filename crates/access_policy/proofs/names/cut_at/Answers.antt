@@ -1,4 +1,3 @@
-use Rattle.std.proofs.Common.{arith}
 use Rattle.std.proofs.lemmas.Str.Pattern.{split_once_first}
 use Rattle.script_lang.proofs.Cuts.{cut_as}
 use Rattle.access_policy.proofs.names.cut_at.Goals as goal

@@ -1,4 +1,4 @@
-use Rattle.std.proofs.Common.{◌≡◌, ◌∷◌, sym, ap, ◌∙◌, Some, None, true, false, option_copied, subst}
+use Rattle.std.proofs.Common.{◌≡◌, sym, ap, ◌∙◌, Some, None, true, false, option_copied, subst}
 use Rattle.access_policy.specs.Cutting.{behind, parts_left}
 use Rattle.access_policy.specs.Spelling.{is_rest, item_in, items_in, items_in_parts}
 use Rattle.access_policy.proofs.ItemsRead.{at_item, at_none, at_rest}
@@ -9,7 +9,7 @@ returns-then-is_rest c =
     let part = c.first_part.result.0.now in
     let left = parts_left (option_copied c.first_part.result.1) in
     let here : behind c.part.items.items (items_in_parts (parts_left (Some c.in-Some.text.now)))
-        ≡ items_in c.args.text.now =
+    ≡ items_in c.args.text.now =
     subst (λ left. behind c.part.items.items (items_in_parts (parts_left (option_copied left)))
     ≡ items_in c.args.text.now) c.in-Some.is c.part.invariant in
     ap (λ xs. Some (xs, true)) c.from_vec.ensures
@@ -21,7 +21,7 @@ returns-in_default-2 c =
     let part = c.first_part.result.0.now in
     let left = parts_left (option_copied c.first_part.result.1) in
     let here : behind c.part.items.items (items_in_parts (parts_left (Some c.in-Some.text.now)))
-        ≡ items_in c.args.text.now =
+    ≡ items_in c.args.text.now =
     subst (λ left. behind c.part.items.items (items_in_parts (parts_left (option_copied left)))
     ≡ items_in c.args.text.now) c.in-Some.is c.part.invariant in
     let none : item_in part ≡ None = sym c.in_ok-item.ensures ∙ c.in_default-2.is in
@@ -34,7 +34,7 @@ part-preserved c =
     let part = c.first_part.result.0.now in
     let left = parts_left (option_copied c.first_part.result.1) in
     let here : behind c.part.items.items (items_in_parts (parts_left (Some c.in-Some.text.now)))
-        ≡ items_in c.args.text.now =
+    ≡ items_in c.args.text.now =
     subst (λ left. behind c.part.items.items (items_in_parts (parts_left (option_copied left)))
     ≡ items_in c.args.text.now) c.in-Some.is c.part.invariant in
     let found : item_in part ≡ Some c.in-Some-2.item = sym c.in_ok-item.ensures ∙ c.in-Some-2.is in

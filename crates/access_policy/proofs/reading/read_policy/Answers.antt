@@ -1,6 +1,6 @@
-use Rattle.std.proofs.Common.{◌≡◌, [], map, subst, sym, IfErr, IfOk, OnOk}
+use Rattle.std.proofs.Common.{◌≡◌, [], subst, sym, IfErr, IfOk, OnOk}
 use Rattle.toml.specs.View.{view}
-use Rattle.access_policy.specs.Reading.{TellsShape, policy_faults, rules_faults}
+use Rattle.access_policy.specs.Reading.{TellsShape}
 use Rattle.access_policy.proofs.RuleFaults.{array_rules, few_rules, many_rules}
 use Rattle.access_policy.proofs.reading.read_policy.Goals as goal
 

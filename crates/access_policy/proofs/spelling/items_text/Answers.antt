@@ -1,4 +1,4 @@
-use Rattle.std.proofs.Common.{◌≡◌, ◌==◌, map, take, length, string_bytes, codes, subst, ap, sym, ◌∙◌, arith}
+use Rattle.std.proofs.Common.{◌≡◌, ◌==◌, map, take, string_bytes, codes, ap, sym, ◌∙◌, arith}
 use Rattle.std.proofs.lemmas.List.{take_all}
 use Rattle.std.specs.List.{join_with_byte}
 use Rattle.node_tree.specs.Names.{dot}
@@ -25,7 +25,7 @@ returns c =
     c.loop-i.invariant ∙ ap (λ xs. join_with_byte dot (map item_text xs))
     (take_all c.loop-i.i items (omega (arith, c.loop-i-test.false))) in
     elim c.if-rest.branch [
-      then-rest+in_ok-push_part-2 w ↦ ap string_bytes w.text-is ∙ w.in_ok-push_part-2.ensures
+      | then-rest+in_ok-push_part-2 w ↦ ap string_bytes w.text-is ∙ w.in_ok-push_part-2.ensures
           ∙ ap (λ text. with_part w.is_empty.result text (codes "**")) all
           ∙ ap (λ first. with_part first (join_with_byte dot (map item_text items)) (codes "**")) w.is_empty.ensures
           ∙ rest_behind items
