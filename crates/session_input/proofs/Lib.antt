@@ -6,3 +6,4 @@ pub mod OneText
 pub mod Ruled
 mod Served
 mod OnBoards
+mod Alone

@@ -1,14 +1,14 @@
 //! Laws of the definitions. These functions do nothing when they run: their clauses are what is proved.
 
-ghost use Rattle.std.specs.Prelude.{◌≡◌, ℕ, List, length};
+ghost use Rattle.std.specs.Prelude.{◌≡◌, ◌↔◌, ℕ, List, None, length};
 ghost use Rattle.std.specs.List.{AllByRecursion};
 ghost use Rattle.node_tree.specs.Maps.{RegisterMap};
-ghost use Rattle.script_lang.specs.Document.{SameSession};
+ghost use Rattle.script_lang.specs.Document.{SameSession, StandsFor};
 ghost use Rattle.script_steps.specs.Executable.{AreExecutable};
 ghost use Rattle.script_steps.specs.declared.operation.Step.{Step};
 ghost use Rattle.script_lang.specs.declared.session.Session.{Session};
 ghost use Rattle.session_input.specs.Deserved.{AreOnBoards, BreaksInCheck, BreaksInRun, BreaksInServe, Deserves};
-ghost use Rattle.session_input.specs.Deserved.{IsListed, IsRunnable, IsServable};
+ghost use Rattle.session_input.specs.Deserved.{IsListed, IsRunnable, IsServable, StandsForSession};
 ghost use Rattle.session_input.specs.Numbers.{document_bytes};
 ghost use Rattle.session_input.specs.declared.refusal.Refusal.{Refusal};
 ghost use Rattle.session_input.specs.declared.refusal.TheConstants.{MAX_DOCUMENT};
@@ -59,6 +59,12 @@ pub fn bytes_have_one_answer_to_check()
     document_laws();
     table_laws();
 }
+
+/// Bytes stand for a session without a policy exactly where their whole table stands for it.
+pub fn without_a_policy_the_whole_document_is_read()
+    ensures { (bytes : List ℕ) (session : Session)
+        → StandsForSession bytes session None ↔ StandsFor bytes session }
+{}
 
 /// Each operation of a session that can be run, denied or not, is on one of its boards.
 pub fn operations_are_on_the_boards_of_their_session()
