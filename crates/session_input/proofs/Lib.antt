@@ -4,4 +4,5 @@ pub mod OneAnswer
 pub mod Moved
 pub mod OneText
 pub mod Ruled
-mod Clients
+mod Served
+mod Alone

@@ -192,9 +192,11 @@ module _ (documents : DocumentLaws) where
     pub run_once : (bytes : List ℕ) (s t : Session) (steps more : List (List Step))
         → IsRunnable bytes s steps → IsRunnable bytes t more → SameSession s t × (steps ≡ more)
     run_once bytes s t steps more one other =
-        let same = one_stated bytes s t one.policy other.policy one.stands other.stands in
-        (same.0, one_steps tables s one.policy steps more one.runs
-        (steps_moved tables s t same.0 one.policy more (subst (λ p. AreSteps t p more) (sym same.1) other.runs)))
+        let same = one_stated bytes s t one.policy other.policy one.stands other.stands in (
+          same.0,
+          one_steps tables s one.policy steps more one.runs
+              (steps_moved tables s t same.0 one.policy more (subst (λ p. AreSteps t p more) (sym same.1) other.runs)),
+        )
 
     pub run_refused_once : (bytes : List ℕ) (r q : Refusal) → Deserves BreaksInRun bytes r
         → Deserves BreaksInRun bytes q → r ≡ q

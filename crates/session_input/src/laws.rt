@@ -1,14 +1,14 @@
 //! Laws of the definitions. These functions do nothing when they run: their clauses are what is proved.
 
-ghost use Rattle.std.specs.Prelude.{◌≡◌, ℕ, List};
+ghost use Rattle.std.specs.Prelude.{◌≡◌, ◌↔◌, ℕ, List, None};
 ghost use Rattle.std.specs.List.{AllByRecursion};
 ghost use Rattle.node_tree.specs.Maps.{RegisterMap};
-ghost use Rattle.script_lang.specs.Document.{SameSession};
+ghost use Rattle.script_lang.specs.Document.{SameSession, StandsFor};
 ghost use Rattle.script_steps.specs.Executable.{AreExecutable};
 ghost use Rattle.script_steps.specs.declared.operation.Step.{Step};
 ghost use Rattle.script_lang.specs.declared.session.Session.{Session};
 ghost use Rattle.session_input.specs.Deserved.{BreaksInCheck, BreaksInRun, BreaksInServe, Deserves};
-ghost use Rattle.session_input.specs.Deserved.{IsListed, IsRunnable, IsServable};
+ghost use Rattle.session_input.specs.Deserved.{IsListed, IsRunnable, IsServable, StandsForSession};
 ghost use Rattle.session_input.specs.Numbers.{document_bytes};
 ghost use Rattle.session_input.specs.declared.refusal.Refusal.{Refusal};
 ghost use Rattle.session_input.specs.declared.refusal.TheConstants.{MAX_DOCUMENT};
@@ -59,6 +59,12 @@ pub fn bytes_have_one_answer_to_check()
     document_laws();
     table_laws();
 }
+
+/// Bytes stand for a session without a policy exactly where their whole table stands for it.
+pub fn without_a_policy_the_whole_document_is_read()
+    ensures { (bytes : List ℕ) (session : Session)
+        → StandsForSession bytes session None ↔ StandsFor bytes session }
+{}
 
 /// What the scripts of a session that can be run ask under its policy can be executed: each operation can be packed for
 /// any board, its address and its words have 32 bits, and it is one that its verb asks for.

@@ -18,6 +18,7 @@ use crate::checking::{check_buses, index_of, indexes_of};
 use crate::refusal::{MAX_DOCUMENT, Refusal, Unread};
 use access_policy::{Policy, PolicyRefusal, read_policy, rule_scripts};
 use address_table::TableRefusal;
+use ipb_base::NoMemory;
 use node_tree::Index;
 use script_lang::{
     ScriptRefusal, Session, SessionRefusal, compile_scripts, parse_document, read_session_table,
@@ -25,7 +26,6 @@ use script_lang::{
 };
 use script_steps::Steps;
 use script_steps::laws::what_is_denied_asks_for_less;
-use ipb_base::NoMemory;
 use std::alloc::Global;
 use toml::{Table, Value};
 
@@ -98,14 +98,14 @@ fn read(alloc: Global, bytes: &[u8]) -> Result<Stated, Unread>
         return Err(Unread::Refused(Refusal::TooLong));
     }
     match parse_document(alloc, bytes) {
-        Ok(document) => stated(alloc, document),
+        Ok(document) => read_document(alloc, document),
         Err(refusal) => Err(refused(refusal)),
     }
 }
 
 /// The session that a parsed document stands for, and its policy. The key of the policy is taken out of the table, so
 /// that nothing is copied.
-fn stated(alloc: Global, document: Table) -> Result<Stated, Unread>
+fn read_document(alloc: Global, document: Table) -> Result<Stated, Unread>
     ensures session { IfOk result (λ read. IsSession (spec.session_part (table_view document)) read.session) }
     ensures policy { IfOk result (λ read. spec.HasPolicy (table_view document) read.policy) }
     ensures within { IfOk result (λ read. IsWithin read.session) }
@@ -113,16 +113,16 @@ fn stated(alloc: Global, document: Table) -> Result<Stated, Unread>
 {
     let mut rest = document;
     let policy = take_key(&mut rest, "policy");
-    parts(alloc, &rest, policy.as_ref())
+    read_parts(alloc, &rest, &policy)
 }
 
 /// The session that a table stands for, and the policy that a value beside it stands for.
-fn parts(alloc: Global, table: &Table, value: Option<&Value>) -> Result<Stated, Unread>
+fn read_parts(alloc: Global, table: &Table, value: &Option<Value>) -> Result<Stated, Unread>
     ensures session { IfOk result (λ read. IsSession (table_view table.now) read.session) }
-    ensures policy { IfOk result (λ read. spec.IsPolicyOf (option_map (λ v. view v.now) value) read.policy) }
+    ensures policy { IfOk result (λ read. spec.IsPolicyOf (option_map view value.now) read.policy) }
     ensures within { IfOk result (λ read. IsWithin read.session) }
     ensures refused { IfErr result
-        (spec.Tells (spec.BreaksParts (table_view table.now) (option_map (λ v. view v.now) value))) }
+        (spec.Tells (spec.BreaksParts (table_view table.now) (option_map view value.now))) }
 {
     let session = session_of(alloc, table)?;
     let policy = policy_of(alloc, value)?;
@@ -142,10 +142,10 @@ fn session_of(alloc: Global, table: &Table) -> Result<Session, Unread>
 }
 
 /// The policy that a value stands for, and none where there is no value.
-fn policy_of(alloc: Global, value: Option<&Value>) -> Result<Option<Policy>, Unread>
-    ensures policy { IfOk result (spec.IsPolicyOf (option_map (λ v. view v.now) value)) }
+fn policy_of(alloc: Global, value: &Option<Value>) -> Result<Option<Policy>, Unread>
+    ensures policy { IfOk result (spec.IsPolicyOf (option_map view value.now)) }
     ensures refused { (rest : Members) → faults rest ≡ []
-        → IfErr result (spec.Tells (spec.BreaksParts rest (option_map (λ v. view v.now) value))) }
+        → IfErr result (spec.Tells (spec.BreaksParts rest (option_map view value.now))) }
 {
     let Some(value) = value else {
         return Ok(None);

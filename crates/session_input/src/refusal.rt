@@ -31,7 +31,9 @@ pub enum Refusal {
     },
     /// The policy is not what it should be. The path leads from its array to the first faulty place; it is empty where the
     /// array itself is at fault.
-    Policy { path: Text },
+    Policy {
+        path: Text,
+    },
     /// A session with a policy is to be served. A policy binds scripts alone.
     NoServe,
     /// The tables cannot be compiled. The path is a register's name, or empty where it is the table that is at fault.

@@ -1,8 +1,7 @@
-use Rattle.std.proofs.Common.{◌≡◌, None, ap, sym, subst, ◌∙◌}
+use Rattle.std.proofs.Common.{ap, option_map, sym, ◌∙◌}
 use Rattle.std.specs.Map.{lookup}
 use Rattle.std.specs.BTreeMap.{is_at}
 use Rattle.toml.specs.View.{members_view, view}
-use Rattle.std.proofs.Common.{option_map}
 use Rattle.script_lang.proofs.TakenOut.{is_key, left, seen}
 use Rattle.script_lang.proofs.aside.take_key.Goals as goal
 
