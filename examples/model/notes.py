@@ -30,7 +30,7 @@ UNWRITTEN = {
 }
 
 TRY = "the session document is read from standard input; try: bin/ipbus run < examples/start/first.toml, or --help"
-VERSION = "version 1, for IPbus 2.0 and session documents of formats 1 and 2"
+VERSION = "version 2, for IPbus 2.0 and session documents of formats 1 and 2"
 
 
 def usage_notes(line):

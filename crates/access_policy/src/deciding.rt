@@ -25,7 +25,7 @@ pub fn decide(policy: &Policy, client: u32, board: &str, name: &str, needs: Perm
 }
 
 /// What denies first, of reading and then writing.
-pub(crate) fn both(reading: Decision, writing: Decision) -> Decision
+fn both(reading: Decision, writing: Decision) -> Decision
     ensures { result ≡ spec.both reading writing }
 {
     match reading {

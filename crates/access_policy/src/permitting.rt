@@ -6,7 +6,7 @@ ghost use Rattle.script_lang.specs.declared.refusal.TheConstants.{MAX_CLIENTS};
 ghost use Rattle.access_policy.specs.Candidates as of;
 ghost use Rattle.access_policy.specs.Decisions as spec;
 
-use crate::deciding::{both, client_matches, has_access, needs_of, said};
+use crate::deciding::{client_matches, has_access, needs_of, said};
 use crate::matching::{board_matches, parts_match};
 use crate::names::{NamePart, cut_name};
 use crate::policy::{Access, Policy, Rule};
@@ -162,10 +162,10 @@ fn said_of(rules: &[Candidate<'_>], parts: &[NamePart<'_>], needs: Permission) -
     match needs {
         Permission::R => first_of(rules, parts, Access::Reading),
         Permission::W => first_of(rules, parts, Access::Writing),
-        Permission::Rw => both(
-            first_of(rules, parts, Access::Reading),
-            first_of(rules, parts, Access::Writing),
-        ),
+        Permission::Rw => match first_of(rules, parts, Access::Reading) {
+            Decision::Allowed => first_of(rules, parts, Access::Writing),
+            Decision::Denied { rule } => Decision::Denied { rule },
+        },
     }
 }
 

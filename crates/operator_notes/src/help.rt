@@ -1,7 +1,7 @@
 //! The page of help, and the version.
 
 /// The version of the program, of the protocol and of the documents that it reads.
-pub const VERSION: &str = "version 1, for IPbus 2.0 and session documents of formats 1 and 2";
+pub const VERSION: &str = "version 2, for IPbus 2.0 and session documents of formats 1 and 2";
 
 /// The lines of the page of help: each command with what it does and an example.
 pub const HELP: [&str; 9] = [
