@@ -25,9 +25,11 @@ use Rattle.session_serve.specs.Serving.{AreBack, AreServed, HadMemory}
 use Rattle.hub_session.specs.declared.served.Served.{Served}
 use Rattle.server_summary.specs.Text.{serve_text, serve_status}
 use Rattle.command_words.specs.declared.command.Command.{Command}
+use Rattle.command_words.specs.declared.command.Command.TheVariants.{Check}
 use Rattle.ipbus_program.specs.declared.answer.NoAnswer.{NoAnswer}
 use Rattle.ipbus_program.specs.declared.answer.NoAnswer.TheVariants.{NoMemory, ReadFault, RackFault, DoorFault}
 use Rattle.ipbus_program.specs.declared.answer.Answer.{Answer}
+use Rattle.ipbus_program.specs.Numbers.{refused_status}
 use Rattle.ipbus_program.specs.Outside.{GivenBack}
 use Rattle.ipbus_program.specs.Owed.{AnswersInput, UsedFrom, UsesBoards}
 use Rattle.ipbus_program.specs.Runs.{IsNoServer, Owes, Reads, most_bytes}
@@ -135,3 +137,13 @@ pub record InputLeaves (command : Command) (before now : Option (List ℕ)) (mad
   pub behind : (fault : NoAnswer) → result ≡ Err fault → IsFailure fault → UsedFrom command before now given.links
   pub untouched : result ≡ Err RackFault → AllByRecursion IsUntouched given.links
   pub serves : result ≡ Err DoorFault → ¬ IsNoServer command
+
+-- What it left alone of a rack and of a door, at a refusal, at a fault of the input or of the rack, and by a command
+-- that makes no link or does not serve.
+abbrev pub LeavesAlone : {R D : Type 0} → Command → Result Answer NoAnswer → R → R → D → D → Type 0
+LeavesAlone command result rack rack_now door door_now =
+    IfOk result (λ answer. answer.status ≡ refused_status → (rack_now ≡ rack) × (door_now ≡ door))
+    × (result ≡ Err ReadFault → rack_now ≡ rack)
+    × ((table : List ℕ) → command ≡ Check table → rack_now ≡ rack)
+    × (IsNoServer command → door_now ≡ door)
+    × ((result ≡ Err ReadFault) ⊎ (result ≡ Err RackFault) → door_now ≡ door)

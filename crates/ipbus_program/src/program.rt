@@ -1,6 +1,6 @@
 //! The program's one call: words and an input in, a text and a status out.
 
-ghost use Rattle.std.specs.Prelude.{◌≡◌, ◌≢◌, ◌⊎◌, ◌≤◌, ℕ, List, length, Some, Err, IfOk};
+ghost use Rattle.std.specs.Prelude.{◌≡◌, ◌≢◌, ◌⊎◌, ◌≤◌, ℕ, List, length, Some, Err};
 ghost use Rattle.ipb_base.specs.Faults.{Rose};
 ghost use Rattle.ipb_outside.specs.Told.{TakesCount};
 ghost use Rattle.board_greeting.specs.Links.{Keeps};
@@ -9,7 +9,7 @@ ghost use Rattle.session_input.specs.Deserved.{Deserves};
 ghost use Rattle.session_input.specs.declared.refusal.Refusal.{Refusal as WhyRefused};
 ghost use Rattle.session_serve.specs.Pairs.{GivesBack};
 ghost use Rattle.command_words.specs.declared.command.Command.{Command as Asked};
-ghost use Rattle.command_words.specs.declared.command.Command.TheVariants.{Check, Load};
+ghost use Rattle.command_words.specs.declared.command.Command.TheVariants.{Load};
 ghost use Rattle.ipbus_program.specs.Ended.{AreNoReader, CallsNoDoor, Ended, IsCalm, IsRight, IsTextless, IsWhole};
 ghost use Rattle.ipbus_program.specs.Ended.{MakesNoLink, RefusesWith};
 ghost use Rattle.ipbus_program.specs.Faults.{RisesOnlyAt};
@@ -17,8 +17,8 @@ ghost use Rattle.ipbus_program.specs.Numbers.{usage_status, refused_status, read
 ghost use Rattle.ipbus_program.specs.Numbers.{no_memory_status, rack_fault_status, door_fault_status};
 ghost use Rattle.ipbus_program.specs.Outputs.{Delivers};
 ghost use Rattle.ipbus_program.specs.Owed.{AreCommand, AreNoCommand};
-ghost use Rattle.ipbus_program.specs.Runs.{IsNoServer, Reads, breaks_in, generated_by as generated, most_bytes};
-ghost use Rattle.ipbus_program.specs.Steps.{InputLeaves};
+ghost use Rattle.ipbus_program.specs.Runs.{Reads, breaks_in, generated_by as generated, most_bytes};
+ghost use Rattle.ipbus_program.specs.Steps.{InputLeaves, LeavesAlone};
 
 use crate::answer::{
     Answer, DOOR_FAULT, NO_MEMORY, NoAnswer, RACK_FAULT, READ_FAULT, USAGE, WRITE_FAULT,
@@ -69,12 +69,7 @@ fn answer_input<S: Source, R: Rack, D: Door, T: Threads + Wait + Sync, G: Gate>(
     ensures input_faults { RisesOnlyAt (Err NoAnswer.ReadFault) result (S.faults input.old) (S.faults input.new) }
     ensures rack_faults { RisesOnlyAt (Err NoAnswer.RackFault) result (R.faults rack.old) (R.faults rack.new) }
     ensures door_faults { RisesOnlyAt (Err NoAnswer.DoorFault) result (D.faults door.old) (D.faults door.new) }
-    ensures refused { IfOk result (λ answer. answer.status ≡ refused_status
-        → (rack.new ≡ rack.old) × (door.new ≡ door.old)) }
-    ensures unmade { result ≡ Err NoAnswer.ReadFault → rack.new ≡ rack.old }
-    ensures checked { (table : List ℕ) → command.now ≡ Check table → rack.new ≡ rack.old }
-    ensures shut { IsNoServer command.now → door.new ≡ door.old }
-    ensures not_listened { (result ≡ Err NoAnswer.ReadFault) ⊎ (result ≡ Err NoAnswer.RackFault) → door.new ≡ door.old }
+    ensures alone { LeavesAlone command.now result rack.old rack.new door.old door.new }
     ensures none_out { D.out door.new ≡ D.out door.old }
 {
     match read_all(alloc, input, MAX_DOCUMENT) {
@@ -104,12 +99,7 @@ fn answer_command<S: Source, R: Rack, D: Door, T: Threads + Wait + Sync, G: Gate
     ensures input_faults { RisesOnlyAt (Err NoAnswer.ReadFault) result (S.faults input.old) (S.faults input.new) }
     ensures rack_faults { RisesOnlyAt (Err NoAnswer.RackFault) result (R.faults rack.old) (R.faults rack.new) }
     ensures door_faults { RisesOnlyAt (Err NoAnswer.DoorFault) result (D.faults door.old) (D.faults door.new) }
-    ensures refused { IfOk result (λ answer. answer.status ≡ refused_status
-        → (rack.new ≡ rack.old) × (door.new ≡ door.old)) }
-    ensures unmade { result ≡ Err NoAnswer.ReadFault → rack.new ≡ rack.old }
-    ensures checked { (table : List ℕ) → command.now ≡ Check table → rack.new ≡ rack.old }
-    ensures shut { IsNoServer command.now → door.new ≡ door.old }
-    ensures not_listened { (result ≡ Err NoAnswer.ReadFault) ⊎ (result ≡ Err NoAnswer.RackFault) → door.new ≡ door.old }
+    ensures alone { LeavesAlone command.now result rack.old rack.new door.old door.new }
     ensures none_out { D.out door.new ≡ D.out door.old }
     ensures unread { ¬ Reads command.now → input.new ≡ input.old }
 {

@@ -10,7 +10,8 @@ ghost use Rattle.session_serve.specs.Pairs.{GivesBack};
 ghost use Rattle.command_words.specs.declared.command.Command.TheVariants.{Run, Check, Serve};
 ghost use Rattle.ipbus_program.specs.Faults.{RisesOnlyAt};
 ghost use Rattle.ipbus_program.specs.Runs as spec;
-ghost use Rattle.ipbus_program.specs.Steps.{IsFailure, IsRunFailure, Leaves, MayRun, RunLeaves, no_pairs};
+ghost use Rattle.ipbus_program.specs.Steps.{no_pairs};
+ghost use Rattle.ipbus_program.specs.Steps.{IsFailure, IsRunFailure, Leaves, LeavesAlone, MayRun, RunLeaves};
 ghost use Rattle.ipbus_program.specs.Numbers.{refused_status};
 
 use crate::answer::{Answer, DONE, NOT_ALL_DONE, NoAnswer, REFUSED};
@@ -51,11 +52,7 @@ pub(crate) fn answer_to<R: Rack, D: Door, T: Threads + Wait + Sync, G: Gate>(
         (D.coming door.old) (D.coming door.new) (D.kept door.old) (D.kept door.new)
         (λ came back. Leaves IsFailure NoAnswer.RackFault command.now bytes.now (R.made rack.old) (R.made rack.new)
         result (record { links = links; came = came; back = back }))) }
-    ensures refused { IfOk result (λ answer. answer.status ≡ refused_status
-        → (rack.new ≡ rack.old) × (door.new ≡ door.old)) }
-    ensures checked { (table : List ℕ) → command.now ≡ Check table → rack.new ≡ rack.old }
-    ensures shut { spec.IsNoServer command.now → door.new ≡ door.old }
-    ensures not_listened { result ≡ Err NoAnswer.RackFault → door.new ≡ door.old }
+    ensures alone { LeavesAlone command.now result rack.old rack.new door.old door.new }
     ensures none_out { D.out door.new ≡ D.out door.old }
     ensures serves { result ≡ Err NoAnswer.DoorFault → ¬ spec.IsNoServer command.now }
     ensures not_read_fault { result ≢ Err NoAnswer.ReadFault }

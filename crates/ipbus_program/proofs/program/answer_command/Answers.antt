@@ -1,7 +1,7 @@
-use Rattle.std.proofs.Common.{[], map, refl, sym, ◌∙◌}
+use Rattle.std.proofs.Common.{◌≡◌, ℕ, List, [], map, refl, rules, sym, ◌∙◌}
 use Rattle.session_run.specs.declared.session.RunFault.TheVariants as run
 use Rattle.board_greeting.specs.Boards.{shown_by}
-use Rattle.command_words.specs.declared.command.Command.TheVariants.{Load}
+use Rattle.command_words.specs.declared.command.Command.TheVariants.{Check, Load}
 use Rattle.ipbus_program.specs.declared.answer.NoAnswer.TheVariants.{RackFault}
 use Rattle.ipbus_program.specs.Steps.{InputLeaves, IsFailure, IsRunFailure, no_answer_of, no_pairs}
 use Rattle.ipbus_program.proofs.Leaving.{done_as, failed_as, run_behind, run_no_door, run_no_read, run_rack}
@@ -54,14 +54,15 @@ returns-in_ok-load-in-Some-clause-leaves g c =
           c.in_ok-load-in-Some.field-0 left.2),
     )
 
-pub returns-in_err-load-in-Some-clause-unmade : goal.returns-in_err-load-in-Some-clause-unmade
-returns-in_err-load-in-Some-clause-unmade g c = λ read.
-    absurd (run_no_read c.in_err-load-in-Some.field-0.0 c.from_residual.result c.from_residual.ensures.1 read)
+pub returns-in_err-load-in-Some-clause-alone : goal.returns-in_err-load-in-Some-clause-alone
+returns-in_err-load-in-Some-clause-alone g c =
+    let apart = λ (table : List ℕ) (asked : c.args.command.now ≡ Check table).
+    no_check_loads c.args.command.now c.in-Some.count table (sym c.generated_by.ensures ∙ c.in-Some.is) asked in
+    let no_read = run_no_read c.in_err-load-in-Some.field-0.0 c.from_residual.result c.from_residual.ensures.1 in
+    (search rules, λ read. absurd (no_read read), λ table asked. absurd (apart table asked), λ none. refl, λ failed. refl)
 
-pub returns-in_ok-load-in-Some-clause-checked : goal.returns-in_ok-load-in-Some-clause-checked
-returns-in_ok-load-in-Some-clause-checked g c = λ table asked.
-    absurd (no_check_loads c.args.command.now c.in-Some.count table (sym c.generated_by.ensures ∙ c.in-Some.is) asked)
-
-pub returns-in_err-load-in-Some-clause-checked : goal.returns-in_err-load-in-Some-clause-checked
-returns-in_err-load-in-Some-clause-checked g c = λ table asked.
-    absurd (no_check_loads c.args.command.now c.in-Some.count table (sym c.generated_by.ensures ∙ c.in-Some.is) asked)
+pub returns-in_ok-load-in-Some-clause-alone : goal.returns-in_ok-load-in-Some-clause-alone
+returns-in_ok-load-in-Some-clause-alone g c =
+    let apart = λ (table : List ℕ) (asked : c.args.command.now ≡ Check table).
+    no_check_loads c.args.command.now c.in-Some.count table (sym c.generated_by.ensures ∙ c.in-Some.is) asked in
+    (search rules, λ read. absurd cc, λ table asked. absurd (apart table asked), λ none. refl, λ failed. refl)

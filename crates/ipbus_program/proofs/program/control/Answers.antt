@@ -251,11 +251,11 @@ returns-in-Ok-clause-unmade g c =
     let before = g.S.Source.left c.args.input.now in
     let now = g.S.Source.left c.answer_command.new.input in
     let leaves = c.in-Ok.ensures.leaves.2.4 in
-    unmade_by c.args.words.now c.in-Ok-Some.command are _ c.deliver-in-Ok.result c.in-Ok.ensures.checked
+    unmade_by c.args.words.now c.in-Ok-Some.command are _ c.deliver-in-Ok.result c.in-Ok.ensures.alone.2
     (sessionless c.args.words.now c.in-Ok-Some.command are before now
     (g.R.Rack.made c.args.rack.now) (g.R.Rack.made c.answer_command.new.rack) _ _ _ c.in-Ok.answer
     c.as_slice.result.now c.as_slice.ensures.value _ _ c.deliver-in-Ok.result _
-    (λ refused. (c.in-Ok.ensures.refused refused).0) leaves c.deliver-in-Ok.ensures.delivers)
+    (λ refused. (c.in-Ok.ensures.alone.0 refused).0) leaves c.deliver-in-Ok.ensures.delivers)
 
 pub returns-in-Ok-clause-shut : goal.returns-in-Ok-clause-shut
 returns-in-Ok-clause-shut g c =
@@ -263,11 +263,11 @@ returns-in-Ok-clause-shut g c =
     let before = g.S.Source.left c.args.input.now in
     let now = g.S.Source.left c.answer_command.new.input in
     let leaves = c.in-Ok.ensures.leaves.2.4 in (
-      shut_by c.args.words.now c.in-Ok-Some.command are _ c.deliver-in-Ok.result c.in-Ok.ensures.shut
+      shut_by c.args.words.now c.in-Ok-Some.command are _ c.deliver-in-Ok.result c.in-Ok.ensures.alone.3
           (sessionless c.args.words.now c.in-Ok-Some.command are before now
           (g.R.Rack.made c.args.rack.now) (g.R.Rack.made c.answer_command.new.rack) _ _ _ c.in-Ok.answer
           c.as_slice.result.now c.as_slice.ensures.value _ _ c.deliver-in-Ok.result _
-          (λ refused. (c.in-Ok.ensures.refused refused).1) leaves c.deliver-in-Ok.ensures.delivers)
+          (λ refused. (c.in-Ok.ensures.alone.0 refused).1) leaves c.deliver-in-Ok.ensures.delivers)
           (no_rack_fault c.args.words.now c.in-Ok-Some.command are before now
           (g.R.Rack.made c.args.rack.now) (g.R.Rack.made c.answer_command.new.rack) _ _ _ c.in-Ok.answer
           c.as_slice.result.now c.as_slice.ensures.value _ _ c.deliver-in-Ok.result _ leaves
