@@ -24,6 +24,7 @@ use Rattle.transcript.specs.Text.{transcript_text}
 use Rattle.session_serve.specs.declared.report.ServeFault.{ServeFault}
 use Rattle.session_serve.specs.declared.report.ServeFault.TheVariants as serve
 use Rattle.session_serve.specs.Pairs.{PairReport}
+use Rattle.session_serve.specs.Serving.{AreBack}
 use Rattle.command_words.specs.declared.command.Command.{Command}
 use Rattle.command_words.specs.declared.command.Command.TheVariants.{Run, Serve}
 use Rattle.ipbus_program.specs.declared.answer.Answer.{Answer}
@@ -31,12 +32,13 @@ use Rattle.ipbus_program.specs.Below.{RunLaws, ServeLaws}
 use Rattle.ipbus_program.specs.Headline.{RanSomeOf}
 use Rattle.ipbus_program.specs.Serving.{IsLinkedTo, IsServiceOf}
 use Rattle.ipbus_program.specs.Numbers.{refused_status}
+use Rattle.ipbus_program.specs.Outside.{GivenBack}
 use Rattle.ipbus_program.specs.Runs.{Owes, Reads, breaks_in}
 use Rattle.ipbus_program.specs.declared.answer.NoAnswer.{NoAnswer}
 use Rattle.ipbus_program.specs.declared.answer.NoAnswer.TheVariants.{DoorFault, RackFault, ReadFault}
 use Rattle.ipbus_program.specs.Steps.{IsFailure, no_answer_of, no_answer_served}
 use Rattle.ipbus_program.specs.Steps.{IsRunFailure, IsServeFailure, Leaves, Prints, RunLeaves, ServeLeaves}
-use Rattle.ipbus_program.specs.Steps.{ServesSession}
+use Rattle.ipbus_program.specs.Steps.{ServesSession, no_pairs}
 use Rattle.load_run.proofs.Loads.{Told}
 use Rattle.ipbus_program.proofs.Causes.{zero_or_one}
 
@@ -88,7 +90,7 @@ same_Err why other same = cc
 owed_by : RunLaws → (bytes : List ℕ) (session : Session) (steps : List (List Step)) (links : List LinkReport)
     (result : Result Answer RunFault) → IsRunnable bytes session steps
     → IfOk result (λ answer. Prints session steps links answer.status answer.text.items)
-    → IfOk result (λ answer. Owes Run bytes links answer.status answer.text.items)
+    → IfOk result (λ answer. Owes Run bytes (no_pairs links) answer.status answer.text.items)
 owed_by laws bytes session steps links (Ok answer) runs prints =
     inl (record {
       session = session;
@@ -123,53 +125,56 @@ as_many_came boards client (c ∷ cs) (came ∷ cames) (back ∷ backs) [] is = 
 as_many_came boards client (c ∷ cs) (came ∷ cames) (back ∷ backs) (served ∷ serveds) is =
     ap suc (as_many_came boards (client + 1) cs cames backs serveds is.1)
 
-pub service_of : ServeLaws → (count : ℕ) (bytes : List ℕ) (session : Session)
-    (links : List LinkReport) (came back : List PairReport) (status : ℕ) (text : List ℕ)
-    → IsServable bytes session
-    → ServesSession session count links came back status text → IsServiceOf bytes count links came back status text
-service_of laws count bytes session links came back status text can serves = record {
+pub service_of : ServeLaws → (count : ℕ) (bytes : List ℕ) (session : Session) (given : GivenBack) (status : ℕ)
+    (text : List ℕ) → IsServable bytes session
+    → ServesSession session count given status text
+    → IsServiceOf bytes count given.links given.came given.back status text
+service_of laws count bytes session given status text can serves = record {
   session = session;
   servable = can;
   connections = serves.connections;
   lines = serves.lines;
   spelled = serves.spelled;
-  pairs = as_many_came (states_of serves.served.boards) 1 serves.served.conversations came back serves.connections
-      serves.served.exchanged ∙ serves.all;
+  pairs = as_many_came (states_of serves.served.boards) 1 serves.served.conversations given.came given.back
+      serves.connections serves.served.exchanged ∙ serves.all;
   as_many = serves.all;
   memory = serves.memory;
   served = serves.served;
-  rightly = laws.rightly (session_part can.stands.document) session serves.served.boards links can.stands.is_session serves.served.over_links;
-  frames = laws.frames (session_part can.stands.document) session links came back serves.connections serves.lines
-      serves.served can.stands.is_session;
-  unasked = laws.unasked session.settings session.boards links came back serves.connections serves.lines serves.served;
-  ruled = laws.ruled session.settings session.boards links came back serves.connections serves.lines serves.served;
-  numbers = laws.numbers session.settings session.boards links came back serves.connections serves.lines serves.served
-      serves.memory;
+  rightly = laws.rightly (session_part can.stands.document) session serves.served.boards given.links
+      can.stands.is_session serves.served.over_links;
+  frames = laws.frames (session_part can.stands.document) session given.links given.came given.back serves.connections
+      serves.lines serves.served can.stands.is_session;
+  unasked = laws.unasked session.settings session.boards given.links given.came given.back serves.connections
+      serves.lines serves.served;
+  ruled = laws.ruled session.settings session.boards given.links given.came given.back serves.connections serves.lines
+      serves.served;
+  numbers = laws.numbers session.settings session.boards given.links given.came given.back serves.connections
+      serves.lines serves.served serves.memory;
   status' = serves.told;
 }
 
-service_owed : ServeLaws → (port count : ℕ) (bytes : List ℕ) (session : Session)
-    (links : List LinkReport) (result : Result Answer ServeFault) → IsServable bytes session
-    → IfOk result (λ answer. (came : List PairReport) × (back : List PairReport)
-    × ServesSession session count links came back answer.status answer.text.items)
-    → IfOk result (λ answer. Owes (Serve port count) bytes links answer.status answer.text.items)
-service_owed laws port count bytes session links (Ok answer) can serves =
-    inl (
-      serves.0,
-      serves.1,
-      service_of laws count bytes session links serves.0 serves.1 answer.status
-          answer.text.items can serves.2,
-    )
-service_owed laws port count bytes session links (Err why) can serves = tt
+service_owed : ServeLaws → (port count : ℕ) (bytes : List ℕ) (session : Session) (given : GivenBack)
+    (result : Result Answer ServeFault) → IsServable bytes session
+    → IfOk result (λ answer. ServesSession session count given answer.status answer.text.items)
+    → IfOk result (λ answer. Owes (Serve port count) bytes given answer.status answer.text.items)
+service_owed laws port count bytes session given (Ok answer) can serves =
+    inl (service_of laws count bytes session given answer.status answer.text.items can serves)
+service_owed laws port count bytes session given (Err why) can serves = tt
+
+-- no pair came
+pub none_served : AreBack [] []
+none_served = ([], record { served = []; each = tt })
 
 pub run_leaves : RunLaws → (bytes : List ℕ) (session : Session) (steps : List (List Step)) (made makes : ℕ)
     (result : Result Answer RunFault) (links : List LinkReport) → IsRunnable bytes session steps
-    → RunLeaves session steps made makes result links → Leaves IsRunFailure Rack Run bytes made makes result links
+    → RunLeaves session steps made makes result links
+    → Leaves IsRunFailure Rack Run bytes made makes result (no_pairs links)
 run_leaves laws bytes session steps made makes result links runs leaves =
     let ran : RanSomeOf bytes links =
     record { session = session; steps = steps; runnable = runs; left = leaves.left } in record {
       used = inr ran;
       counted = leaves.counted;
+      back = none_served;
       owed = owed_by laws bytes session steps links result runs leaves.prints;
       behind = λ fault is failed. ran;
       untouched = leaves.untouched;
@@ -177,18 +182,17 @@ run_leaves laws bytes session steps made makes result links runs leaves =
 
 -- ---- a server
 
-pub serve_leaves : ServeLaws → (count port : ℕ) (bytes : List ℕ) (session : Session)
-    (made makes : ℕ) (result : Result Answer ServeFault) (links : List LinkReport) → IsServable bytes session
-    → ServeLeaves session made makes result links
-    → IfOk result (λ answer. (came : List PairReport) × (back : List PairReport)
-    × ServesSession session count links came back answer.status answer.text.items)
-    → Leaves IsServeFailure serve.Rack (Serve port count) bytes made makes result links
-serve_leaves laws count port bytes session made makes result links can leaves serves =
-    let linked : IsLinkedTo bytes links =
+pub serve_leaves : ServeLaws → (count port : ℕ) (bytes : List ℕ) (session : Session) (made makes : ℕ)
+    (result : Result Answer ServeFault) (given : GivenBack) → IsServable bytes session
+    → ServeLeaves session count made makes result given
+    → Leaves IsServeFailure serve.Rack (Serve port count) bytes made makes result given
+serve_leaves laws count port bytes session made makes result given can leaves =
+    let linked : IsLinkedTo bytes given.links =
     record { session = session; servable = can; linked = leaves.linked } in record {
       used = inr linked;
       counted = leaves.counted;
-      owed = service_owed laws port count bytes session links result can serves;
+      back = leaves.back;
+      owed = service_owed laws port count bytes session given result can leaves.serves;
       behind = λ fault is failed. linked;
       untouched = leaves.untouched;
     }
@@ -197,12 +201,13 @@ serve_leaves laws count port bytes session made makes result links can leaves se
 
 module _ {E : Type 0} (Fails : E → Type 0) (rack_failed : E) where
   nothing_used : (command : Command) (bytes : List ℕ) (made : ℕ) (result : Result Answer E)
-      → IfOk result (λ answer. Owes command bytes [] answer.status answer.text.items)
+      → IfOk result (λ answer. Owes command bytes (no_pairs []) answer.status answer.text.items)
       → ((fault : E) → result ≡ Err fault → Fails fault → ⊥)
-      → Leaves Fails rack_failed command bytes made made result []
+      → Leaves Fails rack_failed command bytes made made result (no_pairs [])
   nothing_used command bytes made result owed calm = record {
     used = inl refl;
     counted = omega arith;
+    back = none_served;
     owed = owed;
     behind = λ fault is failed. absurd (calm fault is failed);
     untouched = λ rack. tt;
@@ -211,9 +216,10 @@ module _ {E : Type 0} (Fails : E → Type 0) (rack_failed : E) where
   pub nothing_left : {L : Type 0} (shown : L → LinkReport) (kept : List L) (command : Command) (bytes : List ℕ)
       (made : ℕ)
       (result : Result Answer E)
-      → IfOk result (λ answer. Owes command bytes [] answer.status answer.text.items)
+      → IfOk result (λ answer. Owes command bytes (no_pairs []) answer.status answer.text.items)
       → ((fault : E) → result ≡ Err fault → Fails fault → ⊥)
-      → Told shown kept kept (Leaves Fails rack_failed command bytes made made result)
+      → Told shown kept kept
+      (λ links. Leaves Fails rack_failed command bytes made made result (no_pairs links))
   nothing_left shown kept command bytes made result owed calm =
       ([], sym (append-nil kept), nothing_used command bytes made result owed calm)
 
@@ -226,14 +232,16 @@ module _ {E : Type 0} (Fails : E → Type 0) (rack_failed : E) where
       (made : ℕ)
       (result : Result Answer E) (fault : E)
       → IsErr result → IsErrAnd result (λ why. why ≡ fault) → (Fails fault → ⊥)
-      → Told shown kept kept (Leaves Fails rack_failed command bytes made made result)
+      → Told shown kept kept
+      (λ links. Leaves Fails rack_failed command bytes made made result (no_pairs links))
   failure_left shown kept command bytes made (Ok answer) fault fails is calm = absurd cc
   failure_left shown kept command bytes made (Err why) fault fails is calm =
       nothing_left shown kept command bytes made (Err why) tt
       (λ other same failed. calm (subst Fails (same_error (Err why) fault other is same) failed))
 
   pub error_left : {L : Type 0} (shown : L → LinkReport) (kept : List L) (command : Command) (bytes : List ℕ) (made : ℕ)
-      (why : E) → (Fails why → ⊥) → Told shown kept kept (Leaves Fails rack_failed command bytes made made (Err why))
+      (why : E) → (Fails why → ⊥) → Told shown kept kept
+      (λ links. Leaves Fails rack_failed command bytes made made (Err why) (no_pairs links))
   error_left shown kept command bytes made why calm =
       nothing_left shown kept command bytes made (Err why) tt
       (λ other same failed. calm (subst Fails (sym (same_Err why other same)) failed))
@@ -242,7 +250,8 @@ module _ {E : Type 0} (Fails : E → Type 0) (rack_failed : E) where
       (made : ℕ)
       (answer : Answer) (refusal : Refusal) → Reads command → Deserves (breaks_in command) bytes refusal
       → answer.status ≡ refused_status → answer.text.items ≡ refusal_line refusal
-      → Told shown kept kept (Leaves Fails rack_failed command bytes made made (Ok answer))
+      → Told shown kept kept
+      (λ links. Leaves Fails rack_failed command bytes made made (Ok answer) (no_pairs links))
   refusal_left shown kept command bytes made answer refusal reads deserved status text =
       nothing_left shown kept command bytes made (Ok answer)
       (inr (status, record { reads = reads; refusal = refusal; deserved = deserved; line = text }))
@@ -283,12 +292,13 @@ serve_rack serve.Door is = absurd cc
 serve_rack serve.NoMemory is = absurd cc
 
 module _ {E F : Type 0} (Fails : E → Type 0) (rack : E) (Failed : F → Type 0) (rack_now : F) (command : Command)
-    (bytes : List ℕ) (made makes : ℕ) (links : List LinkReport) where
-  pub done_as : (answer : Answer) → Leaves Fails rack command bytes made makes (Ok answer) links
-      → Leaves Failed rack_now command bytes made makes (Ok answer) links
+    (bytes : List ℕ) (made makes : ℕ) (given : GivenBack) where
+  pub done_as : (answer : Answer) → Leaves Fails rack command bytes made makes (Ok answer) given
+      → Leaves Failed rack_now command bytes made makes (Ok answer) given
   done_as answer leaves = record {
     used = leaves.used;
     counted = leaves.counted;
+    back = leaves.back;
     owed = leaves.owed;
     behind = λ fault is failed. absurd cc;
     untouched = λ is. absurd cc;
@@ -297,12 +307,13 @@ module _ {E F : Type 0} (Fails : E → Type 0) (rack : E) (Failed : F → Type 0
   pub failed_as : (convert : E → F) (fault : E) (result : Result Answer F)
       → (Failed (convert fault) → Fails fault) → (convert fault ≡ rack_now → fault ≡ rack)
       → IsErr result → IsErrAnd result (λ why. why ≡ convert fault)
-      → Leaves Fails rack command bytes made makes (Err fault) links
-      → Leaves Failed rack_now command bytes made makes result links
+      → Leaves Fails rack command bytes made makes (Err fault) given
+      → Leaves Failed rack_now command bytes made makes result given
   failed_as convert fault (Ok answer) behind is_rack fails is leaves = absurd cc
   failed_as convert fault (Err why) behind is_rack fails is leaves = record {
     used = leaves.used;
     counted = leaves.counted;
+    back = leaves.back;
     owed = tt;
     behind = λ other same failed.
         leaves.behind fault refl

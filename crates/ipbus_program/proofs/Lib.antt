@@ -1,5 +1,6 @@
 pub mod Causes
 pub mod Deserved
+pub mod Ending
 pub mod Leaving
 pub mod Names
 pub mod OneAnswer

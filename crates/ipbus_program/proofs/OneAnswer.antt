@@ -13,10 +13,10 @@ use Rattle.transcript.specs.Text.{transcript_text}
 use Rattle.session_input.specs.Lines.{refusal_line}
 use Rattle.command_words.specs.declared.command.Command.{Command}
 use Rattle.command_words.specs.declared.command.Command.TheVariants.{Run, Check, Serve, Load}
-use Rattle.ipbus_program.specs.Owed.{IsNoServer}
+use Rattle.ipbus_program.specs.Outside.{GivenBack}
 use Rattle.ipbus_program.specs.Below.{InputLaws, OwnBoardsLaw}
 use Rattle.ipbus_program.specs.Headline.{IsTranscriptOf}
-use Rattle.ipbus_program.specs.Runs.{IsListingOf, IsDoneOf, Owes, Reads, listing_status}
+use Rattle.ipbus_program.specs.Runs.{IsListingOf, IsDoneOf, IsNoServer, Owes, Reads, listing_status}
 use Rattle.ipbus_program.proofs.Deserved.{one_refusal, done_apart}
 
 abbrev Same : ℕ → ℕ → List ℕ → List ℕ → Type 0
@@ -55,26 +55,26 @@ module _ (laws : InputLaws) (only : OwnBoardsLaw) where
       (one.told ∙ ap listing_status same ∙ sym other.told, one.spelled ∙ ap listing_text same ∙ sym other.spelled)
 
   one_done : (command : Command) → IsNoServer command → Reads command
-      → (bytes : List ℕ) (links others : List LinkReport) (s t : ℕ) (a b : List ℕ)
-      → OfOwnBoards bytes → AllByRecursion IsFaithful links → AllByRecursion IsFaithful others
-      → IsDoneOf command bytes links s a → IsDoneOf command bytes others t b → Same s t a b
-  one_done Run none reads bytes links others s t a b own calm quiet one other =
-      one_transcript bytes links others s t a b own calm quiet one other
-  one_done (Check root) none reads bytes links others s t a b own calm quiet one other =
+      → (bytes : List ℕ) (given others : GivenBack) (s t : ℕ) (a b : List ℕ)
+      → OfOwnBoards bytes → AllByRecursion IsFaithful given.links → AllByRecursion IsFaithful others.links
+      → IsDoneOf command bytes given s a → IsDoneOf command bytes others t b → Same s t a b
+  one_done Run none reads bytes given others s t a b own calm quiet one other =
+      one_transcript bytes given.links others.links s t a b own calm quiet one other
+  one_done (Check root) none reads bytes given others s t a b own calm quiet one other =
       one_listing bytes root s t a b one other
-  one_done (Serve port count) none reads bytes links others s t a b own calm quiet one other = absurd none
-  one_done (Load count) none reads bytes links others s t a b own calm quiet one other = absurd cc
+  one_done (Serve port count) none reads bytes given others s t a b own calm quiet one other = absurd none
+  one_done (Load count) none reads bytes given others s t a b own calm quiet one other = absurd cc
 
   pub one_answer : (command : Command) → IsNoServer command → Reads command
-      → (bytes : List ℕ) (links others : List LinkReport) (s t : ℕ) (a b : List ℕ)
-      → OfOwnBoards bytes → AllByRecursion IsFaithful links → AllByRecursion IsFaithful others
-      → Owes command bytes links s a → Owes command bytes others t b → Same s t a b
-  one_answer command none reads bytes links others s t a b own calm quiet (inl one) (inl other) =
-      one_done command none reads bytes links others s t a b own calm quiet one other
-  one_answer command none reads bytes links others s t a b own calm quiet (inl done) (inr (refused, why)) =
-      absurd (done_apart laws command reads bytes links s a why.refusal done why.deserved)
-  one_answer command none reads bytes links others s t a b own calm quiet (inr (refused, why)) (inl done) =
+      → (bytes : List ℕ) (given others : GivenBack) (s t : ℕ) (a b : List ℕ)
+      → OfOwnBoards bytes → AllByRecursion IsFaithful given.links → AllByRecursion IsFaithful others.links
+      → Owes command bytes given s a → Owes command bytes others t b → Same s t a b
+  one_answer command none reads bytes given others s t a b own calm quiet (inl one) (inl other) =
+      one_done command none reads bytes given others s t a b own calm quiet one other
+  one_answer command none reads bytes given others s t a b own calm quiet (inl done) (inr (refused, why)) =
+      absurd (done_apart laws command reads bytes given s a why.refusal done why.deserved)
+  one_answer command none reads bytes given others s t a b own calm quiet (inr (refused, why)) (inl done) =
       absurd (done_apart laws command reads bytes others t b why.refusal done why.deserved)
-  one_answer command none reads bytes links others s t a b own calm quiet (inr (one, why)) (inr (other, because)) =
+  one_answer command none reads bytes given others s t a b own calm quiet (inr (one, why)) (inr (other, because)) =
       let same = one_refusal laws command reads bytes why.refusal because.refusal why.deserved because.deserved in
       (one ∙ sym other, why.line ∙ ap refusal_line same ∙ sym because.line)

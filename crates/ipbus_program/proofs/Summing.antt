@@ -11,18 +11,19 @@ use Rattle.load_run.specs.Loading.{IsLoadOf, LoadLeaves}
 use Rattle.command_words.specs.declared.command.Command.TheVariants.{Load}
 use Rattle.ipbus_program.specs.declared.answer.Answer.{Answer}
 use Rattle.ipbus_program.specs.Loading.{load_status}
-use Rattle.ipbus_program.specs.Steps.{IsRunFailure, Leaves}
-use Rattle.ipbus_program.proofs.Leaving.{same_Err}
+use Rattle.ipbus_program.specs.Steps.{IsRunFailure, Leaves, no_pairs}
+use Rattle.ipbus_program.proofs.Leaving.{none_served, same_Err}
 
 module _ (count made makes : ℕ) (links : List LinkReport) where
   pub load_stopped : (fault : RunFault) (result : Result Answer RunFault) → IsErr result
       → IsErrAnd result (λ why. why ≡ fault)
       → LoadLeaves IsLoadOf count made makes (Err fault) links
-      → Leaves IsRunFailure Rack (Load count) [] made makes result links
+      → Leaves IsRunFailure Rack (Load count) [] made makes result (no_pairs links)
   load_stopped fault (Ok answer) fails is leaves = absurd cc
   load_stopped fault (Err why) fails is leaves = record {
     used = inr leaves.left;
     counted = leaves.counted;
+    back = none_served;
     owed = tt;
     behind = λ other same failed. leaves.left;
     untouched = λ rack. leaves.untouched (ap Err (sym is ∙ same_Err why Rack rack));
@@ -30,10 +31,12 @@ module _ (count made makes : ℕ) (links : List LinkReport) where
 
   pub load_done : (load : Loaded) (status : ℕ) → status ≡ load_status load.done
       → LoadLeaves IsLoadOf count made makes (Ok load) links
-      → Leaves IsRunFailure Rack (Load count) [] made makes (Ok (record { status = status; text = load.text })) links
+      → Leaves IsRunFailure Rack (Load count) [] made makes (Ok (record { status = status; text = load.text }))
+      (no_pairs links)
   load_done load status told leaves = record {
     used = inr leaves.left;
     counted = leaves.counted;
+    back = none_served;
     owed = inl (record { done = load.done; load = leaves.tells; told = told });
     behind = λ fault is failed. absurd cc;
     untouched = λ rack. absurd cc;

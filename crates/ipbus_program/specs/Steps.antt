@@ -2,6 +2,7 @@
 -- these.
 use Rattle.std.specs.Prelude.{◌≡◌, ◌⊎◌, ℕ, ◌+◌, ◌<◌, ◌≤◌, ◌^◌, List, [], length, Option, Result, Err, IfOk}
 use Rattle.std.specs.List.{AllByRecursion}
+use Rattle.ipb_outside.specs.Told.{TakesAtMost}
 use Rattle.lane_history.specs.Links.{LinkReport, IsUntouched}
 use Rattle.lane_history.specs.Runs.{AreRunsOver}
 use Rattle.script_steps.specs.declared.operation.Step.{Step}
@@ -20,20 +21,18 @@ use Rattle.transcript.specs.Text.{transcript_text}
 use Rattle.session_serve.specs.declared.report.ServeFault.{ServeFault}
 use Rattle.session_serve.specs.declared.report.ServeFault.TheVariants as serve
 use Rattle.session_serve.specs.Boards.{AreLinksTo}
-use Rattle.session_serve.specs.Pairs.{PairReport}
-use Rattle.session_serve.specs.Serving.{AreServed, HadMemory}
+use Rattle.session_serve.specs.Serving.{AreBack, AreServed, HadMemory}
 use Rattle.hub_session.specs.declared.served.Served.{Served}
 use Rattle.server_summary.specs.Text.{serve_text, serve_status}
 use Rattle.command_words.specs.declared.command.Command.{Command}
-use Rattle.command_words.specs.declared.command.Command.TheVariants.{Run, Check, Serve, Load}
+use Rattle.command_words.specs.declared.command.Command.TheVariants.{Check}
 use Rattle.ipbus_program.specs.declared.answer.NoAnswer.{NoAnswer}
 use Rattle.ipbus_program.specs.declared.answer.NoAnswer.TheVariants.{NoMemory, ReadFault, RackFault, DoorFault}
 use Rattle.ipbus_program.specs.declared.answer.Answer.{Answer}
-use Rattle.ipbus_program.specs.Owed.{AnswersInput, IsReadBy}
-use Rattle.ipbus_program.specs.Headline.{RanSomeOf}
-use Rattle.ipbus_program.specs.Loading.{AreLoaded}
-use Rattle.ipbus_program.specs.Serving.{IsLinkedTo}
-use Rattle.ipbus_program.specs.Runs.{Owes}
+use Rattle.ipbus_program.specs.Numbers.{refused_status}
+use Rattle.ipbus_program.specs.Outside.{GivenBack}
+use Rattle.ipbus_program.specs.Owed.{AnswersInput, UsedFrom, UsesBoards}
+use Rattle.ipbus_program.specs.Runs.{IsNoServer, Owes, Reads, most_bytes}
 
 -- what running a session rests on
 pub record MayRun (session : Session) (steps : List (List Step)) : Type 0 where
@@ -67,30 +66,28 @@ pub record MayServe (session : Session) : Type 0 where
   pub few_boards : length session.boards < 2 ^ 32
   pub reached : AllByRecursion CanBeReached session.boards
 
--- what a server left of a rack
-pub record ServeLeaves (session : Session) (made makes : ℕ) (result : Result Answer ServeFault)
-    (links : List LinkReport) : Type 0 where
-  pub linked : AreLinksTo session.boards links
-  pub counted : makes ≡ made + length links
-  pub untouched : result ≡ Err serve.Rack → AllByRecursion IsUntouched links
-
 -- the text of connections and boards that were served
-pub record ServesSession (session : Session) (count : ℕ) (links : List LinkReport) (came back : List PairReport)
-    (status : ℕ) (text : List ℕ) : Type 0 where
+pub record ServesSession (session : Session) (count : ℕ) (given : GivenBack) (status : ℕ) (text : List ℕ) : Type 0 where
   pub connections : List Served
   pub lines : List BoardLine
-  pub served : AreServed session.settings session.boards links came back connections lines
+  pub served : AreServed session.settings session.boards given.links given.came given.back connections lines
   pub all : length connections ≡ count
   pub memory : AllByRecursion HadMemory connections
   pub spelled : text ≡ serve_text connections lines
   pub told : status ≡ serve_status connections
 
--- the boards of a session that these bytes stand for were used, by a command that has boards
-abbrev pub UsesBoards : Command → List ℕ → List LinkReport → Type 0
-UsesBoards Run bytes links = RanSomeOf bytes links
-UsesBoards (Check table) bytes links = ⊥
-UsesBoards (Serve port count) bytes links = IsLinkedTo bytes links
-UsesBoards (Load count) bytes links = AreLoaded count links
+-- What a server left.
+pub record ServeLeaves (session : Session) (count made makes : ℕ) (result : Result Answer ServeFault)
+    (given : GivenBack) : Type 0 where
+  pub linked : AreLinksTo session.boards given.links
+  pub counted : makes ≡ made + length given.links
+  pub back : AreBack given.came given.back
+  pub serves : IfOk result (λ answer. ServesSession session count given answer.status answer.text.items)
+  pub untouched : result ≡ Err serve.Rack → AllByRecursion IsUntouched given.links
+
+-- no connection was let in
+abbrev pub no_pairs : List LinkReport → GivenBack
+no_pairs links = record { links = links; came = []; back = [] }
 
 -- faults that come of boards and connections, so of a document that breaks no rule
 abbrev pub IsRunFailure : RunFault → Type 0
@@ -108,21 +105,15 @@ IsFailure RackFault = Unit {0}
 IsFailure DoorFault = Unit {0}
 IsFailure NoMemory = ⊥
 
--- What a command left of a rack by these bytes. `Fails` says which faults come of boards, and `rack_failed` is that of
--- a rack.
+-- What a command left by these bytes. `Fails` says which faults come of boards, and `rack_failed` is that of a rack.
 pub record Leaves {E : Type 0} (Fails : E → Type 0) (rack_failed : E) (command : Command) (bytes : List ℕ)
-    (made makes : ℕ) (result : Result Answer E) (links : List LinkReport) : Type 0 where
-  pub used : (links ≡ []) ⊎ UsesBoards command bytes links
-  pub counted : makes ≡ made + length links
-  pub owed : IfOk result (λ answer. Owes command bytes links answer.status answer.text.items)
-  pub behind : (fault : E) → result ≡ Err fault → Fails fault → UsesBoards command bytes links
-  pub untouched : result ≡ Err rack_failed → AllByRecursion IsUntouched links
-
--- the same boards, of a session that the input stands for or that was generated
-pub record UsedFrom (command : Command) (before now : Option (List ℕ)) (links : List LinkReport) : Type 0 where
-  pub bytes : List ℕ
-  pub read : IsReadBy command before now bytes
-  pub uses : UsesBoards command bytes links
+    (made makes : ℕ) (result : Result Answer E) (given : GivenBack) : Type 0 where
+  pub used : (given.links ≡ []) ⊎ UsesBoards command bytes given.links
+  pub counted : makes ≡ made + length given.links
+  pub back : AreBack given.came given.back
+  pub owed : IfOk result (λ answer. Owes command bytes given answer.status answer.text.items)
+  pub behind : (fault : E) → result ≡ Err fault → Fails fault → UsesBoards command bytes given.links
+  pub untouched : result ≡ Err rack_failed → AllByRecursion IsUntouched given.links
 
 -- a fault of running and one of serving as the call's
 abbrev pub no_answer_of : RunFault → NoAnswer
@@ -134,11 +125,25 @@ no_answer_served serve.Rack = RackFault
 no_answer_served serve.Door = DoorFault
 no_answer_served serve.NoMemory = NoMemory
 
--- the same by an input
+-- What it left by an input.
 pub record InputLeaves (command : Command) (before now : Option (List ℕ)) (made makes : ℕ)
-    (result : Result Answer NoAnswer) (links : List LinkReport) : Type 0 where
-  pub used : (links ≡ []) ⊎ UsedFrom command before now links
-  pub counted : makes ≡ made + length links
-  pub owed : IfOk result (λ answer. AnswersInput command before now links answer.status answer.text.items)
-  pub behind : (fault : NoAnswer) → result ≡ Err fault → IsFailure fault → UsedFrom command before now links
-  pub untouched : result ≡ Err RackFault → AllByRecursion IsUntouched links
+    (result : Result Answer NoAnswer) (given : GivenBack) : Type 0 where
+  pub used : (given.links ≡ []) ⊎ UsedFrom command before now given.links
+  pub counted : makes ≡ made + length given.links
+  pub back : AreBack given.came given.back
+  pub taken : TakesAtMost (most_bytes command) before now
+  pub owed : IfOk result (λ answer. AnswersInput command before now given answer.status answer.text.items)
+  pub reads : result ≡ Err ReadFault → Reads command
+  pub behind : (fault : NoAnswer) → result ≡ Err fault → IsFailure fault → UsedFrom command before now given.links
+  pub untouched : result ≡ Err RackFault → AllByRecursion IsUntouched given.links
+  pub serves : result ≡ Err DoorFault → ¬ IsNoServer command
+
+-- What it left alone of a rack and of a door, at a refusal, at a fault of the input or of the rack, and by a command
+-- that makes no link or does not serve.
+abbrev pub LeavesAlone : {R D : Type 0} → Command → Result Answer NoAnswer → R → R → D → D → Type 0
+LeavesAlone command result rack rack_now door door_now =
+    IfOk result (λ answer. answer.status ≡ refused_status → (rack_now ≡ rack) × (door_now ≡ door))
+    × (result ≡ Err ReadFault → rack_now ≡ rack)
+    × ((table : List ℕ) → command ≡ Check table → rack_now ≡ rack)
+    × (IsNoServer command → door_now ≡ door)
+    × ((result ≡ Err ReadFault) ⊎ (result ≡ Err RackFault) → door_now ≡ door)

@@ -8,13 +8,13 @@ ghost use Rattle.ipbus_program.specs.Numbers.{read_fault_status, write_fault_sta
 ghost use Rattle.ipbus_program.specs.Numbers.{rack_fault_status, door_fault_status};
 ghost use Rattle.command_words.specs.declared.command.Command.{Command as CommandValue};
 ghost use Rattle.std.specs.List.{AllByRecursion};
-ghost use Rattle.lane_history.specs.Links.{IsFaithful, LinkReport};
+ghost use Rattle.lane_history.specs.Links.{IsFaithful};
 ghost use Rattle.lane_history.specs.Runs.{HaveOwnBoards};
 ghost use Rattle.script_steps.specs.declared.operation.Step.{Step};
 ghost use Rattle.script_lang.specs.declared.session.Session.{Session};
 ghost use Rattle.session_input.specs.Deserved.{IsRunnable};
-ghost use Rattle.ipbus_program.specs.Owed.{IsNoServer};
-ghost use Rattle.ipbus_program.specs.Runs.{Owes, Reads};
+ghost use Rattle.ipbus_program.specs.Outside.{GivenBack};
+ghost use Rattle.ipbus_program.specs.Runs.{IsNoServer, Owes, Reads};
 
 use crate::below::{input_laws, runs_on_own_boards};
 
@@ -35,12 +35,12 @@ pub fn the_numbers_of_the_program()
 /// bytes of a document over links that tell, where nothing was held and nothing failed: so such a session has one
 /// transcript then.
 pub fn one_answer_is_owed()
-    ensures { (command : CommandValue) (bytes : List ℕ) (links others : List LinkReport) (s t : ℕ) (a b : List ℕ) →
+    ensures { (command : CommandValue) (bytes : List ℕ) (given others : GivenBack) (s t : ℕ) (a b : List ℕ) →
         IsNoServer command → Reads command →
         ((session : Session) (steps : List (List Step)) → IsRunnable bytes session steps
         → HaveOwnBoards 0 session.boards steps) →
-        AllByRecursion IsFaithful links → AllByRecursion IsFaithful others →
-        Owes command bytes links s a → Owes command bytes others t b → (s ≡ t) × (a ≡ b) }
+        AllByRecursion IsFaithful given.links → AllByRecursion IsFaithful others.links →
+        Owes command bytes given s a → Owes command bytes others t b → (s ≡ t) × (a ≡ b) }
 {
     input_laws();
     runs_on_own_boards();

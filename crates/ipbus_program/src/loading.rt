@@ -1,13 +1,13 @@
 //! What a load answers.
 
 ghost use Rattle.std.specs.Prelude.{◌≡◌, ◌≢◌, ◌≤◌, [], Err, IfOk};
-ghost use Rattle.ipb_base.specs.Faults.{Rose};
 ghost use Rattle.board_greeting.specs.Links.{Keeps};
 ghost use Rattle.command_words.specs.declared.command.Command.TheVariants.{Load};
 ghost use Rattle.load_run.specs.Generated.{most_operations};
+ghost use Rattle.ipbus_program.specs.Faults.{RisesOnlyAt};
 ghost use Rattle.ipbus_program.specs.Loading as spec;
 ghost use Rattle.ipbus_program.specs.Numbers.{refused_status};
-ghost use Rattle.ipbus_program.specs.Steps.{IsRunFailure, Leaves};
+ghost use Rattle.ipbus_program.specs.Steps.{IsRunFailure, Leaves, no_pairs};
 
 use crate::answer::{Answer, DONE, NOT_ALL_DONE};
 use client_threads::Gate;
@@ -36,11 +36,10 @@ pub(crate) fn load<R: Rack, T: Threads + Wait + Sync, G: Gate>(
 ) -> Result<Answer, RunFault>
     requires { count ≤ most_operations }
     ensures leaves { Keeps R.L.faults R.L.quiets R.L.gots R.L.held R.L.telling (R.kept rack.old) (R.kept rack.new)
-        (Leaves IsRunFailure RunFault.Rack (Load count) [] (R.made rack.old) (R.made rack.new) result) }
+        (λ links. Leaves IsRunFailure RunFault.Rack (Load count) [] (R.made rack.old) (R.made rack.new) result
+        (no_pairs links)) }
     ensures not_refused { IfOk result (λ answer. answer.status ≢ refused_status) }
-    ensures rack_fault { result ≡ Err RunFault.Rack → Rose (R.faults rack.old) (R.faults rack.new) }
-    ensures later { R.faults rack.old ≤ R.faults rack.new }
-    ensures unfaulted { result ≢ Err RunFault.Rack → R.faults rack.new ≡ R.faults rack.old }
+    ensures rack_faults { RisesOnlyAt (Err RunFault.Rack) result (R.faults rack.old) (R.faults rack.new) }
 {
     let load = run_load(rt, alloc, count, rack, gate)?;
     Ok(Answer {

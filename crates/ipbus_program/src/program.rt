@@ -1,33 +1,24 @@
 //! The program's one call: words and an input in, a text and a status out.
 
-ghost use Rattle.std.specs.Prelude.{◌≡◌, ◌≢◌, ◌⊎◌, ◌<◌, ◌≤◌, ◌+◌, ℕ, List, length, Some, Ok, Err, IfOk, OnErr};
-ghost use Rattle.std.specs.List.{AllByRecursion};
+ghost use Rattle.std.specs.Prelude.{◌≡◌, ◌≢◌, ◌⊎◌, ◌≤◌, ℕ, List, length, Some, Err};
 ghost use Rattle.ipb_base.specs.Faults.{Rose};
-ghost use Rattle.ipb_outside.specs.Told.{TakesAtMost, TakesCount};
+ghost use Rattle.ipb_outside.specs.Told.{TakesCount};
 ghost use Rattle.board_greeting.specs.Links.{Keeps};
-ghost use Rattle.lane_history.specs.Links.{IsUntouched};
 ghost use Rattle.load_run.specs.Generated.{most_operations};
-ghost use Rattle.node_tree.specs.Maps.{RegisterMap};
-ghost use Rattle.script_steps.specs.declared.operation.Step.{Step};
-ghost use Rattle.script_lang.specs.declared.session.Session.{Session};
-ghost use Rattle.session_input.specs.Deserved.{Deserves, IsListed, IsRunnable, IsServable};
-ghost use Rattle.session_input.specs.Numbers.{document_bytes};
+ghost use Rattle.session_input.specs.Deserved.{Deserves};
 ghost use Rattle.session_input.specs.declared.refusal.Refusal.{Refusal as WhyRefused};
 ghost use Rattle.session_serve.specs.Pairs.{GivesBack};
-ghost use Rattle.session_serve.specs.Serving.{AreBack};
 ghost use Rattle.command_words.specs.declared.command.Command.{Command as Asked};
-ghost use Rattle.command_words.specs.declared.command.Command.TheVariants.{Run, Check, Serve, Load};
-ghost use Rattle.ipbus_program.specs.Numbers.{done_status, not_all_done_status, usage_status, refused_status};
-ghost use Rattle.ipbus_program.specs.Numbers.{read_fault_status, write_fault_status, no_memory_status};
-ghost use Rattle.ipbus_program.specs.Numbers.{rack_fault_status, door_fault_status};
+ghost use Rattle.command_words.specs.declared.command.Command.TheVariants.{Load};
+ghost use Rattle.ipbus_program.specs.Ended.{AreNoReader, CallsNoDoor, Ended, IsCalm, IsRight, IsTextless, IsWhole};
+ghost use Rattle.ipbus_program.specs.Ended.{MakesNoLink, RefusesWith};
+ghost use Rattle.ipbus_program.specs.Faults.{RisesOnlyAt};
+ghost use Rattle.ipbus_program.specs.Numbers.{usage_status, refused_status, read_fault_status, write_fault_status};
+ghost use Rattle.ipbus_program.specs.Numbers.{no_memory_status, rack_fault_status, door_fault_status};
 ghost use Rattle.ipbus_program.specs.Outputs.{Delivers};
-ghost use Rattle.ipbus_program.specs.Owed.{AreCommand, AreNoCommand, AreNoServer, AreSomeCommand, IsCalmDoor};
-ghost use Rattle.ipbus_program.specs.Owed.{IsDoneStatus};
-ghost use Rattle.ipbus_program.specs.Owed.{IsNoServer, IsStatus, IsWhole, OwesDone, OwesRefusal, OwesService, OwesText};
-ghost use Rattle.ipbus_program.specs.Owed.{OwesServerText, OwesUsage, RefusesWith, ServedSome, UsedNoneOrSome};
-ghost use Rattle.ipbus_program.specs.Owed.{UsedSome, WroteOwed, WroteOwedPart};
-ghost use Rattle.ipbus_program.specs.Runs.{Reads, breaks_in, generated_by as generated};
-ghost use Rattle.ipbus_program.specs.Steps.{InputLeaves};
+ghost use Rattle.ipbus_program.specs.Owed.{AreCommand, AreNoCommand};
+ghost use Rattle.ipbus_program.specs.Runs.{Reads, breaks_in, generated_by as generated, most_bytes};
+ghost use Rattle.ipbus_program.specs.Steps.{InputLeaves, LeavesAlone};
 
 use crate::answer::{
     Answer, DOOR_FAULT, NO_MEMORY, NoAnswer, RACK_FAULT, READ_FAULT, USAGE, WRITE_FAULT,
@@ -71,31 +62,15 @@ fn answer_input<S: Source, R: Rack, D: Door, T: Threads + Wait + Sync, G: Gate>(
 ) -> Result<Answer, NoAnswer>
     requires { Reads command.now }
     ensures leaves { Keeps R.L.faults R.L.quiets R.L.gots R.L.held R.L.telling (R.kept rack.old) (R.kept rack.new)
-        (InputLeaves command.now (S.left input.old) (S.left input.new) (R.made rack.old) (R.made rack.new) result) }
-    ensures serving { (port count : ℕ) → command.now ≡ Serve port count → IfOk result (λ answer.
-        answer.status ≢ refused_status → Keeps R.L.faults R.L.quiets R.L.gots R.L.held R.L.telling (R.kept rack.old)
-        (R.kept rack.new) (λ links. GivesBack D.Incoming.left D.Incoming.faults D.Outgoing.written D.Outgoing.faults
-        D.Outgoing.ended (D.coming door.old) (D.coming door.new) (D.kept door.old) (D.kept door.new) (λ came back.
-        OwesService count (S.left input.old) (S.left input.new) links came back answer.status answer.text.items))) }
-    ensures pairs { GivesBack D.Incoming.left D.Incoming.faults D.Outgoing.written D.Outgoing.faults D.Outgoing.ended
-        (D.coming door.old) (D.coming door.new) (D.kept door.old) (D.kept door.new) AreBack }
-    ensures refused { IfOk result (λ answer. answer.status ≡ refused_status
-        → (rack.new ≡ rack.old) × (door.new ≡ door.old)) }
-    ensures unmade { result ≡ Err NoAnswer.ReadFault → rack.new ≡ rack.old }
-    ensures checked { (table : List ℕ) → command.now ≡ Check table → rack.new ≡ rack.old }
-    ensures shut { IsNoServer command.now → door.new ≡ door.old }
-    ensures serves { result ≡ Err NoAnswer.DoorFault → ¬ IsNoServer command.now }
-    ensures not_listened { (result ≡ Err NoAnswer.ReadFault) ⊎ (result ≡ Err NoAnswer.RackFault) → door.new ≡ door.old }
+        (λ links. GivesBack D.Incoming.left D.Incoming.faults D.Outgoing.written D.Outgoing.faults D.Outgoing.ended
+        (D.coming door.old) (D.coming door.new) (D.kept door.old) (D.kept door.new)
+        (λ came back. InputLeaves command.now (S.left input.old) (S.left input.new) (R.made rack.old) (R.made rack.new)
+        result (record { links = links; came = came; back = back }))) }
+    ensures input_faults { RisesOnlyAt (Err NoAnswer.ReadFault) result (S.faults input.old) (S.faults input.new) }
+    ensures rack_faults { RisesOnlyAt (Err NoAnswer.RackFault) result (R.faults rack.old) (R.faults rack.new) }
+    ensures door_faults { RisesOnlyAt (Err NoAnswer.DoorFault) result (D.faults door.old) (D.faults door.new) }
+    ensures alone { LeavesAlone command.now result rack.old rack.new door.old door.new }
     ensures none_out { D.out door.new ≡ D.out door.old }
-    ensures read_fault { result ≡ Err NoAnswer.ReadFault → Rose (S.faults input.old) (S.faults input.new) }
-    ensures rack_fault { result ≡ Err NoAnswer.RackFault → Rose (R.faults rack.old) (R.faults rack.new) }
-    ensures door_fault { result ≡ Err NoAnswer.DoorFault → Rose (D.faults door.old) (D.faults door.new) }
-    ensures stopped { OnErr result (TakesAtMost (document_bytes + 1) (S.left input.old) (S.left input.new)) }
-    ensures later { (S.faults input.old ≤ S.faults input.new) × (R.faults rack.old ≤ R.faults rack.new) }
-    ensures later_door { D.faults door.old ≤ D.faults door.new }
-    ensures unfaulted { result ≢ Err NoAnswer.ReadFault → S.faults input.new ≡ S.faults input.old }
-    ensures unfaulted_rack { result ≢ Err NoAnswer.RackFault → R.faults rack.new ≡ R.faults rack.old }
-    ensures unfaulted_door { result ≢ Err NoAnswer.DoorFault → D.faults door.new ≡ D.faults door.old }
 {
     match read_all(alloc, input, MAX_DOCUMENT) {
         Ok(bytes) => answer_to(rt, alloc, command, &bytes, rack, door, gate),
@@ -117,33 +92,16 @@ fn answer_command<S: Source, R: Rack, D: Door, T: Threads + Wait + Sync, G: Gate
 ) -> Result<Answer, NoAnswer>
     requires { (count : ℕ) → generated command.now ≡ Some count → count ≤ most_operations }
     ensures leaves { Keeps R.L.faults R.L.quiets R.L.gots R.L.held R.L.telling (R.kept rack.old) (R.kept rack.new)
-        (InputLeaves command.now (S.left input.old) (S.left input.new) (R.made rack.old) (R.made rack.new) result) }
-    ensures serving { (port count : ℕ) → command.now ≡ Serve port count → IfOk result (λ answer.
-        answer.status ≢ refused_status → Keeps R.L.faults R.L.quiets R.L.gots R.L.held R.L.telling (R.kept rack.old)
-        (R.kept rack.new) (λ links. GivesBack D.Incoming.left D.Incoming.faults D.Outgoing.written D.Outgoing.faults
-        D.Outgoing.ended (D.coming door.old) (D.coming door.new) (D.kept door.old) (D.kept door.new) (λ came back.
-        OwesService count (S.left input.old) (S.left input.new) links came back answer.status answer.text.items))) }
-    ensures pairs { GivesBack D.Incoming.left D.Incoming.faults D.Outgoing.written D.Outgoing.faults D.Outgoing.ended
-        (D.coming door.old) (D.coming door.new) (D.kept door.old) (D.kept door.new) AreBack }
-    ensures refused { IfOk result (λ answer. answer.status ≡ refused_status
-        → (rack.new ≡ rack.old) × (door.new ≡ door.old)) }
-    ensures unmade { result ≡ Err NoAnswer.ReadFault → rack.new ≡ rack.old }
-    ensures checked { (table : List ℕ) → command.now ≡ Check table → rack.new ≡ rack.old }
-    ensures shut { IsNoServer command.now → door.new ≡ door.old }
-    ensures serves { result ≡ Err NoAnswer.DoorFault → ¬ IsNoServer command.now }
-    ensures not_listened { (result ≡ Err NoAnswer.ReadFault) ⊎ (result ≡ Err NoAnswer.RackFault) → door.new ≡ door.old }
+        (λ links. GivesBack D.Incoming.left D.Incoming.faults D.Outgoing.written D.Outgoing.faults D.Outgoing.ended
+        (D.coming door.old) (D.coming door.new) (D.kept door.old) (D.kept door.new)
+        (λ came back. InputLeaves command.now (S.left input.old) (S.left input.new) (R.made rack.old) (R.made rack.new)
+        result (record { links = links; came = came; back = back }))) }
+    ensures input_faults { RisesOnlyAt (Err NoAnswer.ReadFault) result (S.faults input.old) (S.faults input.new) }
+    ensures rack_faults { RisesOnlyAt (Err NoAnswer.RackFault) result (R.faults rack.old) (R.faults rack.new) }
+    ensures door_faults { RisesOnlyAt (Err NoAnswer.DoorFault) result (D.faults door.old) (D.faults door.new) }
+    ensures alone { LeavesAlone command.now result rack.old rack.new door.old door.new }
     ensures none_out { D.out door.new ≡ D.out door.old }
-    ensures read_fault { result ≡ Err NoAnswer.ReadFault → Rose (S.faults input.old) (S.faults input.new) }
-    ensures rack_fault { result ≡ Err NoAnswer.RackFault → Rose (R.faults rack.old) (R.faults rack.new) }
-    ensures door_fault { result ≡ Err NoAnswer.DoorFault → Rose (D.faults door.old) (D.faults door.new) }
-    ensures stopped { OnErr result (TakesAtMost (document_bytes + 1) (S.left input.old) (S.left input.new)) }
-    ensures later { (S.faults input.old ≤ S.faults input.new) × (R.faults rack.old ≤ R.faults rack.new) }
-    ensures later_door { D.faults door.old ≤ D.faults door.new }
-    ensures unfaulted { result ≢ Err NoAnswer.ReadFault → S.faults input.new ≡ S.faults input.old }
-    ensures unfaulted_rack { result ≢ Err NoAnswer.RackFault → R.faults rack.new ≡ R.faults rack.old }
-    ensures unfaulted_door { result ≢ Err NoAnswer.DoorFault → D.faults door.new ≡ D.faults door.old }
-    ensures reads { result ≡ Err NoAnswer.ReadFault → Reads command.now }
-    ensures unread { (count : ℕ) → generated command.now ≡ Some count → input.new ≡ input.old }
+    ensures unread { ¬ Reads command.now → input.new ≡ input.old }
 {
     match generated_by(command) {
         None => answer_input(rt, alloc, command, input, rack, door, gate),
@@ -183,85 +141,33 @@ pub fn control<S: Source, O: Sink, R: Rack, D: Door, T: Threads + Wait + Sync, G
     door: &mut D,
     gate: &G,
 ) -> u8
-    // What the command makes of the whole input was written, and nothing else: the transcript of its session over the
-    // links that were given back, whose every line is a value, done or was; or the listing of a table without overlaps;
-    // or the summary of a generated session whose every operation was done; or the lines of connections, whose clients
-    // ended each behind a whole frame, and of their boards.
-    ensures done { result ≡ done_status
-        → Keeps R.L.faults R.L.quiets R.L.gots R.L.held R.L.telling (R.kept rack.old) (R.kept rack.new)
-        (λ links. WroteOwed (OwesDone words.now (S.left input.old) (S.left input.new) links done_status)
-        (O.written out.old) (O.written out.new)) }
-    // The same, where some line tells otherwise.
-    ensures not_all_done { result ≡ not_all_done_status
-        → Keeps R.L.faults R.L.quiets R.L.gots R.L.held R.L.telling (R.kept rack.old) (R.kept rack.new)
-        (λ links. WroteOwed (OwesDone words.now (S.left input.old) (S.left input.new) links not_all_done_status)
-        (O.written out.old) (O.written out.new)) }
-    // Where the words are `serve`, what was written is what its connections did, between the pairs that came and the
-    // pairs that went back, at the boards of the session.
-    ensures serving { (port count : ℕ) → AreCommand words.now (Serve port count) → IsDoneStatus result
-        → Keeps R.L.faults R.L.quiets R.L.gots R.L.held R.L.telling (R.kept rack.old) (R.kept rack.new)
+    // Whatever the status, each link that was made was given back, board by board, and each pair that came was served
+    // and given back, in order. What was written is tied by the status to the words, the input, these links and pairs.
+    ensures ended { Keeps R.L.faults R.L.quiets R.L.gots R.L.held R.L.telling (R.kept rack.old) (R.kept rack.new)
         (λ links. GivesBack D.Incoming.left D.Incoming.faults D.Outgoing.written D.Outgoing.faults D.Outgoing.ended
         (D.coming door.old) (D.coming door.new) (D.kept door.old) (D.kept door.new)
-        (λ came back. WroteOwed (OwesService count (S.left input.old) (S.left input.new) links came back result)
-        (O.written out.old) (O.written out.new))) }
-    // And where the output met a fault, a part of that text was written, or of the line of a refusal.
-    ensures serving_cut { (port count : ℕ) → AreCommand words.now (Serve port count) → result ≡ write_fault_status
-        → Keeps R.L.faults R.L.quiets R.L.gots R.L.held R.L.telling (R.kept rack.old) (R.kept rack.new)
-        (λ links. GivesBack D.Incoming.left D.Incoming.faults D.Outgoing.written D.Outgoing.faults D.Outgoing.ended
-        (D.coming door.old) (D.coming door.new) (D.kept door.old) (D.kept door.new) (λ came back.
-        WroteOwedPart (OwesServerText words.now count (S.left input.old) (S.left input.new) links came back)
-        (O.written out.old) (O.written out.new))) }
-    // The usage line was written, and nothing was read.
-    ensures usage { result ≡ usage_status → WroteOwed
-        (OwesUsage words.now (S.left input.old) (S.left input.new)) (O.written out.old) (O.written out.new) }
-    // The line of the refusal was written, by the first rule that the input breaks.
-    ensures refused { result ≡ refused_status → WroteOwed
-        (OwesRefusal words.now (S.left input.old) (S.left input.new)) (O.written out.old) (O.written out.new) }
-    // The input met a fault, and nothing was written.
-    ensures read_fault { result ≡ read_fault_status → AreSomeCommand words.now
-        × Rose (S.faults input.old) (S.faults input.new)
-        × TakesAtMost (document_bytes + 1) (S.left input.old) (S.left input.new)
-        × (O.written out.new ≡ O.written out.old) }
-    // The output met a fault, and a part of the text that was owed was written.
-    ensures write_fault { result ≡ write_fault_status → Rose (O.faults out.old) (O.faults out.new)
-        × Keeps R.L.faults R.L.quiets R.L.gots R.L.held R.L.telling (R.kept rack.old) (R.kept rack.new)
-        (λ links. WroteOwedPart (OwesText words.now (S.left input.old) (S.left input.new) links) (O.written out.old)
-        (O.written out.new)) }
-    // Memory ran out, and nothing was written.
-    ensures no_memory { result ≡ no_memory_status
-        → TakesAtMost (document_bytes + 1) (S.left input.old) (S.left input.new)
-        × (O.written out.new ≡ O.written out.old) }
-    // A link to a board of a session that can be run could not be made. Nothing was written, and the boards whose links
-    // had been made executed nothing.
-    ensures rack_fault { result ≡ rack_fault_status → Rose (R.faults rack.old) (R.faults rack.new)
-        × (O.written out.new ≡ O.written out.old)
-        × Keeps R.L.faults R.L.quiets R.L.gots R.L.held R.L.telling (R.kept rack.old) (R.kept rack.new)
-        (λ links. UsedSome words.now (S.left input.old) (S.left input.new) links × AllByRecursion IsUntouched links) }
-    // The door failed, at boards of a session that can be served. Nothing was written.
-    ensures door_fault { result ≡ door_fault_status → Rose (D.faults door.old) (D.faults door.new)
-        × (O.written out.new ≡ O.written out.old)
-        × Keeps R.L.faults R.L.quiets R.L.gots R.L.held R.L.telling (R.kept rack.old) (R.kept rack.new)
-        (ServedSome words.now (S.left input.old) (S.left input.new)) }
-    ensures no_other { IsStatus result }
+        (λ came back. Ended words.now (record {
+          left = S.left input.old;
+          left_now = S.left input.new;
+          written = O.written out.old;
+          written_now = O.written out.new;
+          made = R.made rack.old;
+          made_now = R.made rack.new;
+          given_back = record { links = links; came = came; back = back };
+        }) result)) }
 
-    // Whatever the status, each link that was made was given back, once, board by board, and where scripts were run,
-    // what each board executed is a merge of bodies that they ask of it.
-    ensures kept { Keeps R.L.faults R.L.quiets R.L.gots R.L.held R.L.telling (R.kept rack.old) (R.kept rack.new)
-        (UsedNoneOrSome words.now (S.left input.old) (S.left input.new)) }
-    ensures made { Keeps R.L.faults R.L.quiets R.L.gots R.L.held R.L.telling (R.kept rack.old) (R.kept rack.new)
-        (λ links. R.made rack.new ≡ R.made rack.old + length links) }
-    // None was made where nothing was run.
-    ensures none_made { (result ≡ usage_status) ⊎ (result ≡ refused_status) ⊎ (result ≡ read_fault_status)
-        → rack.new ≡ rack.old }
-    ensures checked { (table : List ℕ) → AreCommand words.now (Check table) → rack.new ≡ rack.old }
-    // And each pair that the door let in was served and given back, once, in the order in which it came.
-    ensures pairs { GivesBack D.Incoming.left D.Incoming.faults D.Outgoing.written D.Outgoing.faults D.Outgoing.ended
-        (D.coming door.old) (D.coming door.new) (D.kept door.old) (D.kept door.new) AreBack }
-    ensures none_out { D.out door.new ≡ D.out door.old }
-    // The door was left alone where the words are no command to serve, and where nothing was served.
-    ensures shut { AreNoServer words.now → door.new ≡ door.old }
-    ensures not_listened { (result ≡ usage_status) ⊎ (result ≡ refused_status) ⊎ (result ≡ read_fault_status)
-        ⊎ (result ≡ rack_fault_status) → door.new ≡ door.old }
+    // A fault of the input is told by status 4 alone, one of the output by 5, one of the rack by 7, one of the door by
+    // 8: each comes with a fault of its own, and none is passed over.
+    ensures input_faults { RisesOnlyAt read_fault_status result (S.faults input.old) (S.faults input.new) }
+    ensures output_faults { RisesOnlyAt write_fault_status result (O.faults out.old) (O.faults out.new) }
+    ensures rack_faults { RisesOnlyAt rack_fault_status result (R.faults rack.old) (R.faults rack.new) }
+    ensures door_faults { RisesOnlyAt door_fault_status result (D.faults door.old) (D.faults door.new) }
+
+    // Of any input, output, rack and door, whether they tell what they carry or not: what is left alone.
+    ensures unread { AreNoReader words.now → input.new ≡ input.old }
+    ensures unwritten { (IsTextless result → out.new ≡ out.old) × (O.ended out.new ≡ O.ended out.old) }
+    ensures unmade { MakesNoLink words.now result → rack.new ≡ rack.old }
+    ensures shut { (CallsNoDoor words.now result → door.new ≡ door.old) × (D.out door.new ≡ D.out door.old) }
 
     // Other words get the usage line, or the output met a fault, want of memory aside.
     ensures other_words { AreNoCommand words.now
@@ -272,49 +178,26 @@ pub fn control<S: Source, O: Sink, R: Rack, D: Door, T: Threads + Wait + Sync, G
         → AreCommand words.now command → S.left input.old ≡ Some bytes
         → ((refusal : WhyRefused) → ¬ Deserves (breaks_in command) bytes refusal)
         → ¬ Rose (S.faults input.old) (S.faults input.new) → ¬ Rose (O.faults out.old) (O.faults out.new)
-        → ¬ Rose (R.faults rack.old) (R.faults rack.new)
-        → IsCalmDoor command (D.faults door.old) (D.faults door.new) → IsWhole result }
-    // So it is done whole where it stands for a session that can be run or served, or lists the registers of its table.
-    ensures runnable { (bytes : List ℕ) (session : Session) (steps : List (List Step))
-        → AreCommand words.now Run → S.left input.old ≡ Some bytes → IsRunnable bytes session steps
-        → ¬ Rose (S.faults input.old) (S.faults input.new) → ¬ Rose (O.faults out.old) (O.faults out.new)
-        → ¬ Rose (R.faults rack.old) (R.faults rack.new) → IsWhole result }
-    ensures servable { (port count : ℕ) (bytes : List ℕ) (session : Session)
-        → AreCommand words.now (Serve port count) → S.left input.old ≡ Some bytes → IsServable bytes session
-        → ¬ Rose (S.faults input.old) (S.faults input.new) → ¬ Rose (O.faults out.old) (O.faults out.new)
-        → ¬ Rose (R.faults rack.old) (R.faults rack.new) → ¬ Rose (D.faults door.old) (D.faults door.new)
+        → IsCalm command (R.faults rack.old) (R.faults rack.new) (D.faults door.old) (D.faults door.new)
         → IsWhole result }
-    ensures listed { (bytes table : List ℕ) (registers : RegisterMap)
-        → AreCommand words.now (Check table) → S.left input.old ≡ Some bytes → IsListed bytes table registers
+    // So it is done whole where it stands for a session that can be run or served, or lists the registers of its table.
+    ensures right { (command : Asked) (bytes : List ℕ)
+        → AreCommand words.now command → S.left input.old ≡ Some bytes → IsRight command bytes
         → ¬ Rose (S.faults input.old) (S.faults input.new) → ¬ Rose (O.faults out.old) (O.faults out.new)
+        → IsCalm command (R.faults rack.old) (R.faults rack.new) (D.faults door.old) (D.faults door.new)
         → IsWhole result }
     ensures deserved { (command : Asked) (bytes : List ℕ) (refusal : WhyRefused)
         → AreCommand words.now command → Reads command → S.left input.old ≡ Some bytes
         → Deserves (breaks_in command) bytes refusal
         → ¬ Rose (S.faults input.old) (S.faults input.new) → ¬ Rose (O.faults out.old) (O.faults out.new)
         → RefusesWith refusal result (O.written out.old) (O.written out.new) }
-    // A generated session is done whole, and nothing is read for it.
+    // A generated session is done whole, whatever the input.
     ensures loadable { (count : ℕ) → AreCommand words.now (Load count) → ¬ Rose (O.faults out.old) (O.faults out.new)
         → ¬ Rose (R.faults rack.old) (R.faults rack.new) → IsWhole result }
-    ensures unread_load { (count : ℕ) → AreCommand words.now (Load count) → input.new ≡ input.old }
-    // Of an input that is too long one byte more than fits is taken.
-    ensures too_long { (bytes : List ℕ)
-        → AreSomeCommand words.now → S.left input.old ≡ Some bytes → document_bytes < length bytes
-        → result ≡ refused_status → TakesCount (document_bytes + 1) (S.left input.old) (S.left input.new) }
-
-    // Of any input, output and rack, whether they tell what they carry or not.
-    ensures unread { AreNoCommand words.now → input.new ≡ input.old }
-    ensures unwritten { (result ≡ read_fault_status) ⊎ (result ≡ no_memory_status) ⊎ (result ≡ rack_fault_status)
-        ⊎ (result ≡ door_fault_status) → out.new ≡ out.old }
-    ensures later { (S.faults input.old ≤ S.faults input.new) × (O.faults out.old ≤ O.faults out.new)
-        × (R.faults rack.old ≤ R.faults rack.new) × (D.faults door.old ≤ D.faults door.new) }
-    // Only status 4 raises the input's count of faults, only status 5 the output's, only status 7 the rack's, and only
-    // status 8 the door's.
-    ensures unfaulted_input { result ≢ read_fault_status → S.faults input.new ≡ S.faults input.old }
-    ensures unfaulted_output { result ≢ write_fault_status → O.faults out.new ≡ O.faults out.old }
-    ensures unfaulted_rack { result ≢ rack_fault_status → R.faults rack.new ≡ R.faults rack.old }
-    ensures unfaulted_door { result ≢ door_fault_status → D.faults door.new ≡ D.faults door.old }
-    ensures ended_kept { O.ended out.new ≡ O.ended out.old }
+    // Of an input that is too long as much is taken as the command reads at most.
+    ensures too_long { (command : Asked) (bytes : List ℕ)
+        → AreCommand words.now command → S.left input.old ≡ Some bytes → most_bytes command ≤ length bytes
+        → result ≡ refused_status → TakesCount (most_bytes command) (S.left input.old) (S.left input.new) }
 {
     input_laws();
     a_load_has_a_bound();

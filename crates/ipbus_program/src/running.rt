@@ -1,19 +1,17 @@
 //! What a command makes of the bytes of a document.
 
 ghost use Rattle.std.specs.Prelude.{◌≡◌, ◌≢◌, ◌≤◌, if◌then◌else◌, ℕ, List, [], Err, IfOk};
-ghost use Rattle.ipb_base.specs.Faults.{Rose};
 ghost use Rattle.session_input.specs.Lines.{refusal_line};
 ghost use Rattle.board_greeting.specs.Links.{Keeps};
 ghost use Rattle.transcript.specs.Lines as lines;
 ghost use Rattle.transcript.specs.Listing.{listing_text as listed};
 ghost use Rattle.transcript.specs.Text as texts;
 ghost use Rattle.session_serve.specs.Pairs.{GivesBack};
-ghost use Rattle.session_serve.specs.Serving.{AreBack};
 ghost use Rattle.command_words.specs.declared.command.Command.TheVariants.{Run, Check, Serve};
-ghost use Rattle.ipbus_program.specs.Owed.{IsNoServer};
+ghost use Rattle.ipbus_program.specs.Faults.{RisesOnlyAt};
 ghost use Rattle.ipbus_program.specs.Runs as spec;
-ghost use Rattle.ipbus_program.specs.Serving.{IsServiceOf};
-ghost use Rattle.ipbus_program.specs.Steps.{IsFailure, IsRunFailure, Leaves, MayRun, RunLeaves};
+ghost use Rattle.ipbus_program.specs.Steps.{no_pairs};
+ghost use Rattle.ipbus_program.specs.Steps.{IsFailure, IsRunFailure, Leaves, LeavesAlone, MayRun, RunLeaves};
 ghost use Rattle.ipbus_program.specs.Numbers.{refused_status};
 
 use crate::answer::{Answer, DONE, NOT_ALL_DONE, NoAnswer, REFUSED};
@@ -50,27 +48,16 @@ pub(crate) fn answer_to<R: Rack, D: Door, T: Threads + Wait + Sync, G: Gate>(
 ) -> Result<Answer, NoAnswer>
     requires { spec.Reads command.now }
     ensures leaves { Keeps R.L.faults R.L.quiets R.L.gots R.L.held R.L.telling (R.kept rack.old) (R.kept rack.new)
-        (Leaves IsFailure NoAnswer.RackFault command.now bytes.now (R.made rack.old) (R.made rack.new) result) }
-    ensures serving { (port count : ℕ) → command.now ≡ Serve port count → IfOk result (λ answer.
-        answer.status ≢ refused_status → Keeps R.L.faults R.L.quiets R.L.gots R.L.held R.L.telling (R.kept rack.old)
-        (R.kept rack.new) (λ links. GivesBack D.Incoming.left D.Incoming.faults D.Outgoing.written D.Outgoing.faults
-        D.Outgoing.ended (D.coming door.old) (D.coming door.new) (D.kept door.old) (D.kept door.new)
-        (λ came back. IsServiceOf bytes.now count links came back answer.status answer.text.items))) }
-    ensures pairs { GivesBack D.Incoming.left D.Incoming.faults D.Outgoing.written D.Outgoing.faults D.Outgoing.ended
-        (D.coming door.old) (D.coming door.new) (D.kept door.old) (D.kept door.new) AreBack }
-    ensures refused { IfOk result (λ answer. answer.status ≡ refused_status
-        → (rack.new ≡ rack.old) × (door.new ≡ door.old)) }
-    ensures checked { (table : List ℕ) → command.now ≡ Check table → rack.new ≡ rack.old }
-    ensures shut { IsNoServer command.now → door.new ≡ door.old }
-    ensures not_listened { result ≡ Err NoAnswer.RackFault → door.new ≡ door.old }
+        (λ links. GivesBack D.Incoming.left D.Incoming.faults D.Outgoing.written D.Outgoing.faults D.Outgoing.ended
+        (D.coming door.old) (D.coming door.new) (D.kept door.old) (D.kept door.new)
+        (λ came back. Leaves IsFailure NoAnswer.RackFault command.now bytes.now (R.made rack.old) (R.made rack.new)
+        result (record { links = links; came = came; back = back }))) }
+    ensures alone { LeavesAlone command.now result rack.old rack.new door.old door.new }
     ensures none_out { D.out door.new ≡ D.out door.old }
-    ensures serves { result ≡ Err NoAnswer.DoorFault → ¬ IsNoServer command.now }
+    ensures serves { result ≡ Err NoAnswer.DoorFault → ¬ spec.IsNoServer command.now }
     ensures not_read_fault { result ≢ Err NoAnswer.ReadFault }
-    ensures rack_fault { result ≡ Err NoAnswer.RackFault → Rose (R.faults rack.old) (R.faults rack.new) }
-    ensures door_fault { result ≡ Err NoAnswer.DoorFault → Rose (D.faults door.old) (D.faults door.new) }
-    ensures later { (R.faults rack.old ≤ R.faults rack.new) × (D.faults door.old ≤ D.faults door.new) }
-    ensures unfaulted_rack { result ≢ Err NoAnswer.RackFault → R.faults rack.new ≡ R.faults rack.old }
-    ensures unfaulted_door { result ≢ Err NoAnswer.DoorFault → D.faults door.new ≡ D.faults door.old }
+    ensures rack_faults { RisesOnlyAt (Err NoAnswer.RackFault) result (R.faults rack.old) (R.faults rack.new) }
+    ensures door_faults { RisesOnlyAt (Err NoAnswer.DoorFault) result (D.faults door.old) (D.faults door.new) }
 {
     match command {
         Command::Run => Ok(run(rt, alloc, bytes, rack, gate)?),
@@ -84,7 +71,7 @@ pub(crate) fn answer_to<R: Rack, D: Door, T: Threads + Wait + Sync, G: Gate>(
 
 /// Lists the registers of a table.
 fn check(alloc: Global, bytes: &[u8], table: &str) -> Result<Answer, NoMemory>
-    ensures { IfOk result (λ answer. spec.Owes (Check table.now) bytes.now [] answer.status answer.text.items) }
+    ensures { IfOk result (λ answer. spec.Owes (Check table.now) bytes.now (no_pairs []) answer.status answer.text.items) }
 {
     match read_for_check(alloc, bytes, table) {
         Ok(index) => listing(alloc, &index),
@@ -136,11 +123,10 @@ fn run<R: Rack, T: Threads + Wait + Sync, G: Gate>(
     gate: &G,
 ) -> Result<Answer, RunFault>
     ensures leaves { Keeps R.L.faults R.L.quiets R.L.gots R.L.held R.L.telling (R.kept rack.old) (R.kept rack.new)
-        (Leaves IsRunFailure RunFault.Rack Run bytes.now (R.made rack.old) (R.made rack.new) result) }
+        (λ links. Leaves IsRunFailure RunFault.Rack Run bytes.now (R.made rack.old) (R.made rack.new) result
+        (no_pairs links)) }
     ensures refused { IfOk result (λ answer. answer.status ≡ refused_status → rack.new ≡ rack.old) }
-    ensures rack_fault { result ≡ Err RunFault.Rack → Rose (R.faults rack.old) (R.faults rack.new) }
-    ensures later { R.faults rack.old ≤ R.faults rack.new }
-    ensures unfaulted { result ≢ Err RunFault.Rack → R.faults rack.new ≡ R.faults rack.old }
+    ensures rack_faults { RisesOnlyAt (Err RunFault.Rack) result (R.faults rack.old) (R.faults rack.new) }
 {
     run_laws();
     the_ranges_of_a_session_name_words();
@@ -164,9 +150,7 @@ fn transcript<R: Rack, T: Threads + Wait + Sync, G: Gate>(
     requires { MayRun session.now steps.now }
     ensures leaves { Keeps R.L.faults R.L.quiets R.L.gots R.L.held R.L.telling (R.kept rack.old) (R.kept rack.new)
         (RunLeaves session.now steps.now (R.made rack.old) (R.made rack.new) result) }
-    ensures rack_fault { result ≡ Err RunFault.Rack → Rose (R.faults rack.old) (R.faults rack.new) }
-    ensures later { R.faults rack.old ≤ R.faults rack.new }
-    ensures unfaulted { result ≢ Err RunFault.Rack → R.faults rack.new ≡ R.faults rack.old }
+    ensures rack_faults { RisesOnlyAt (Err RunFault.Rack) result (R.faults rack.old) (R.faults rack.new) }
 {
     let boards = session.boards.as_slice();
     let runs = run_session(rt, alloc, session.settings, boards, steps, rack, gate)?;

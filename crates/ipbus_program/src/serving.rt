@@ -1,15 +1,13 @@
 //! What a server makes of the bytes of a document.
 
 ghost use Rattle.std.specs.Prelude.{◌≡◌, ◌≢◌, ◌≤◌, Err, IfOk};
-ghost use Rattle.ipb_base.specs.Faults.{Rose};
 ghost use Rattle.board_greeting.specs.Links.{Keeps};
 ghost use Rattle.session_serve.specs.Pairs.{GivesBack};
-ghost use Rattle.session_serve.specs.Serving.{AreBack};
 ghost use Rattle.server_summary.specs.Text as texts;
 ghost use Rattle.command_words.specs.declared.command.Command.TheVariants.{Serve};
+ghost use Rattle.ipbus_program.specs.Faults.{RisesOnlyAt};
 ghost use Rattle.ipbus_program.specs.Numbers.{refused_status};
-ghost use Rattle.ipbus_program.specs.Serving.{IsServiceOf};
-ghost use Rattle.ipbus_program.specs.Steps.{IsServeFailure, Leaves, MayServe, ServeLeaves, ServesSession};
+ghost use Rattle.ipbus_program.specs.Steps.{IsServeFailure, Leaves, MayServe, ServeLeaves};
 
 use crate::answer::{Answer, DONE, NOT_ALL_DONE};
 use crate::below::serve_laws;
@@ -38,23 +36,16 @@ pub(crate) fn serve<R: Rack, D: Door, T: Threads + Wait + Sync>(
     door: &mut D,
 ) -> Result<Answer, ServeFault>
     ensures leaves { Keeps R.L.faults R.L.quiets R.L.gots R.L.held R.L.telling (R.kept rack.old) (R.kept rack.new)
-        (Leaves IsServeFailure ServeFault.Rack (Serve port count) bytes.now (R.made rack.old) (R.made rack.new)
-        result) }
-    ensures serving { IfOk result (λ answer. answer.status ≢ refused_status → Keeps R.L.faults R.L.quiets R.L.gots
-        R.L.held R.L.telling (R.kept rack.old) (R.kept rack.new) (λ links. GivesBack D.Incoming.left D.Incoming.faults
-        D.Outgoing.written D.Outgoing.faults D.Outgoing.ended (D.coming door.old) (D.coming door.new) (D.kept door.old)
-        (D.kept door.new) (λ came back. IsServiceOf bytes.now count links came back answer.status answer.text.items))) }
-    ensures pairs { GivesBack D.Incoming.left D.Incoming.faults D.Outgoing.written D.Outgoing.faults D.Outgoing.ended
-        (D.coming door.old) (D.coming door.new) (D.kept door.old) (D.kept door.new) AreBack }
+        (λ links. GivesBack D.Incoming.left D.Incoming.faults D.Outgoing.written D.Outgoing.faults D.Outgoing.ended
+        (D.coming door.old) (D.coming door.new) (D.kept door.old) (D.kept door.new)
+        (λ came back. Leaves IsServeFailure ServeFault.Rack (Serve port count) bytes.now (R.made rack.old)
+        (R.made rack.new) result (record { links = links; came = came; back = back }))) }
     ensures refused { IfOk result (λ answer. answer.status ≡ refused_status
         → (rack.new ≡ rack.old) × (door.new ≡ door.old)) }
     ensures not_listened { result ≡ Err ServeFault.Rack → door.new ≡ door.old }
     ensures none_out { D.out door.new ≡ D.out door.old }
-    ensures rack_fault { result ≡ Err ServeFault.Rack → Rose (R.faults rack.old) (R.faults rack.new) }
-    ensures door_fault { result ≡ Err ServeFault.Door → Rose (D.faults door.old) (D.faults door.new) }
-    ensures later { (R.faults rack.old ≤ R.faults rack.new) × (D.faults door.old ≤ D.faults door.new) }
-    ensures unfaulted_rack { result ≢ Err ServeFault.Rack → R.faults rack.new ≡ R.faults rack.old }
-    ensures unfaulted_door { result ≢ Err ServeFault.Door → D.faults door.new ≡ D.faults door.old }
+    ensures rack_faults { RisesOnlyAt (Err ServeFault.Rack) result (R.faults rack.old) (R.faults rack.new) }
+    ensures door_faults { RisesOnlyAt (Err ServeFault.Door) result (D.faults door.old) (D.faults door.new) }
 {
     serve_laws();
     the_ranges_of_a_session_name_words();
@@ -77,21 +68,14 @@ fn served<R: Rack, D: Door, T: Threads + Wait + Sync>(
 ) -> Result<Answer, ServeFault>
     requires { MayServe session.now }
     ensures leaves { Keeps R.L.faults R.L.quiets R.L.gots R.L.held R.L.telling (R.kept rack.old) (R.kept rack.new)
-        (ServeLeaves session.now (R.made rack.old) (R.made rack.new) result) }
-    ensures serving { IfOk result (λ answer. Keeps R.L.faults R.L.quiets R.L.gots
-        R.L.held R.L.telling (R.kept rack.old) (R.kept rack.new) (λ links. GivesBack D.Incoming.left D.Incoming.faults
-        D.Outgoing.written D.Outgoing.faults D.Outgoing.ended (D.coming door.old) (D.coming door.new) (D.kept door.old)
-        (D.kept door.new)
-        (λ came back. ServesSession session.now count links came back answer.status answer.text.items))) }
-    ensures pairs { GivesBack D.Incoming.left D.Incoming.faults D.Outgoing.written D.Outgoing.faults D.Outgoing.ended
-        (D.coming door.old) (D.coming door.new) (D.kept door.old) (D.kept door.new) AreBack }
+        (λ links. GivesBack D.Incoming.left D.Incoming.faults D.Outgoing.written D.Outgoing.faults D.Outgoing.ended
+        (D.coming door.old) (D.coming door.new) (D.kept door.old) (D.kept door.new)
+        (λ came back. ServeLeaves session.now count (R.made rack.old) (R.made rack.new) result
+        (record { links = links; came = came; back = back }))) }
     ensures not_listened { result ≡ Err ServeFault.Rack → door.new ≡ door.old }
     ensures none_out { D.out door.new ≡ D.out door.old }
-    ensures rack_fault { result ≡ Err ServeFault.Rack → Rose (R.faults rack.old) (R.faults rack.new) }
-    ensures door_fault { result ≡ Err ServeFault.Door → Rose (D.faults door.old) (D.faults door.new) }
-    ensures later { (R.faults rack.old ≤ R.faults rack.new) × (D.faults door.old ≤ D.faults door.new) }
-    ensures unfaulted_rack { result ≢ Err ServeFault.Rack → R.faults rack.new ≡ R.faults rack.old }
-    ensures unfaulted_door { result ≢ Err ServeFault.Door → D.faults door.new ≡ D.faults door.old }
+    ensures rack_faults { RisesOnlyAt (Err ServeFault.Rack) result (R.faults rack.old) (R.faults rack.new) }
+    ensures door_faults { RisesOnlyAt (Err ServeFault.Door) result (D.faults door.old) (D.faults door.new) }
 {
     let boards = session.boards.as_slice();
     let report = serve_session(rt, alloc, session.settings, boards, port, count, rack, door)?;

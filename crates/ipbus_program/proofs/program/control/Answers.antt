@@ -1,529 +1,421 @@
-use Rattle.std.proofs.Common.{string_bytes, Some, ◌∙◌, ◌≡◌, ◌≤◌, ℕ, inl, ⊎_elim, List, [], map, Err, append-nil, ap}
-use Rattle.std.proofs.Common.{refl, sym, subst, arith, rules}
+use Rattle.std.proofs.Common.{string_bytes, Some, Ok, Err, [], ◌∙◌, ◌≤◌, inl, map, length, ap}
+use Rattle.std.proofs.Common.{append-nil, refl, sym, subst, arith, rules}
+use Rattle.ipb_outside.specs.Told.{TakesCount}
 use Rattle.session_input.specs.declared.refusal.Refusal.{Refusal}
 use Rattle.session_input.specs.Deserved.{Deserves}
-use Rattle.command_words.specs.declared.command.Command.TheVariants.{Run, Check, Serve, Load}
-use Rattle.ipbus_program.specs.Numbers.{usage_status, done_status, not_all_done_status, read_fault_status}
-use Rattle.ipbus_program.specs.Numbers.{no_memory_status, rack_fault_status, refused_status, write_fault_status}
-use Rattle.ipbus_program.specs.Numbers.{door_fault_status}
-use Rattle.ipbus_program.specs.declared.answer.NoAnswer.TheVariants.{DoorFault, RackFault}
-use Rattle.ipbus_program.specs.Owed.{AreCommand, AreNoCommand, OwesServerText, OwesService, WroteOwed, WroteOwedPart}
-use Rattle.ipbus_program.specs.Runs.{Reads, breaks_in, generated_by}
-use Rattle.ipbus_program.proofs.Reading.{loads}
-use Rattle.ipbus_program.specs.Steps.{UsedFrom}
-use Rattle.ipbus_program.proofs.Causes.{done_whole, refused_whole, part_written, never, some_status, status_is}
-use Rattle.ipbus_program.proofs.Causes.{used_at_all, done_small, not_refused_text, refusal_cut, served_by, service_cut}
-use Rattle.ipbus_program.proofs.Causes.{service_written, usage_part, used_by}
-use Rattle.ipbus_program.proofs.Deserved.{one_command, accepted_whole, deserved_refused, load_whole, used_undeserved}
-use Rattle.ipbus_program.proofs.Deserved.{taken_of_long}
-use Rattle.ipbus_program.proofs.Services.{none_back, none_together, together_also}
 use Rattle.board_greeting.specs.Boards.{shown_by}
-use Rattle.lane_history.specs.Links.{LinkReport}
-use Rattle.session_serve.specs.Pairs.{PairReport}
+use Rattle.command_words.specs.declared.command.Command.TheVariants.{Load}
+use Rattle.ipbus_program.specs.declared.answer.NoAnswer.TheVariants.{DoorFault, NoMemory, RackFault, ReadFault}
+use Rattle.ipbus_program.specs.Ended.{Ended, IsRight}
+use Rattle.ipbus_program.specs.Numbers.{no_memory_status, rack_fault_status, read_fault_status, refused_status, usage_status}
+use Rattle.ipbus_program.specs.Numbers.{door_fault_status}
+use Rattle.ipbus_program.specs.Owed.{AreCommand, AreNoCommand}
+use Rattle.ipbus_program.specs.Runs.{IsNoServer, Reads, breaks_in, most_bytes}
+use Rattle.ipbus_program.specs.Steps.{InputLeaves}
+use Rattle.ipbus_program.proofs.Causes.{status_is}
+use Rattle.ipbus_program.proofs.Deserved.{accepted_whole, deserved_refused, load_whole, no_failure, no_load_reads}
+use Rattle.ipbus_program.proofs.Deserved.{one_command, right_whole, taken_of_long, used_undeserved}
+use Rattle.ipbus_program.proofs.Ending.{delivered, delivered_stays, failed_with, no_rack_fault, outside}
+use Rattle.ipbus_program.proofs.Ending.{output_rises, sessionless, shut_by, small_answer, unmade_by, unread_ended, usage_ended, written_with}
+use Rattle.ipbus_program.proofs.Reading.{loads}
+use Rattle.ipbus_program.proofs.Services.{therefore, without_pairs}
 use Rattle.ipbus_program.proofs.program.control.Goals as goal
 
-pub returns-in-Ok-None-clause-write_fault : goal.returns-in-Ok-None-clause-write_fault
-returns-in-Ok-None-clause-write_fault g c told =
-    let left = g.S.Source.left c.args.input.now in
+pub returns-in-Ok-None-clause-ended : goal.returns-in-Ok-None-clause-ended
+returns-in-Ok-None-clause-ended g c =
+    let shown = shown_by g.R.L.Link.faults g.R.L.Link.quiets g.R.L.Link.gots g.R.L.Link.held g.R.L.Link.telling in
     let none : AreNoCommand c.args.words.now = search rules in
-    let part = usage_part c.args.words.now left [] _ _ _ _ c.deliver.result none c.as_bytes.ensures.value
-    c.deliver.ensures.delivers told in
-    (part.0, ([], sym (append-nil _), part.1))
-
-pub returns-in-Ok-clause-done : goal.returns-in-Ok-clause-done
-returns-in-Ok-clause-done g c told =
-    let left = c.in-Ok.ensures.leaves in
-    let shown = shown_by g.R.L.Link.faults g.R.L.Link.quiets g.R.L.Link.gots g.R.L.Link.held g.R.L.Link.telling in
-    let links = map shown left.0 in
-    let are : AreCommand c.args.words.now c.in-Ok-Some.command = search rules in (
-      left.0,
-      left.1,
-      done_whole c.args.words.now c.in-Ok-Some.command are (g.S.Source.left c.args.input.now)
-          (g.S.Source.left c.answer_command.new.input) links c.in-Ok.answer.status c.in-Ok.answer.text.items
-          c.as_slice.result.now c.as_slice.ensures.value _ _ _ _ c.deliver-in-Ok.result
-          done_status (omega arith) left.2.owed c.deliver-in-Ok.ensures.delivers told,
+    let left = g.S.Source.left c.args.input.now in
+    let made = g.R.Rack.made c.args.rack.now in
+    without_pairs shown g.D.Incoming.Source.left g.D.Incoming.Source.faults
+    g.D.Outgoing.Sink.written g.D.Outgoing.Sink.faults g.D.Outgoing.Sink.ended
+    _ _ _ _ _ _ refl refl
+    (λ given. Ended c.args.words.now (record {
+      left = left;
+      left_now = left;
+      written = g.O.Sink.written c.args.out.now;
+      written_now = g.O.Sink.written c.deliver.new.out;
+      made = made;
+      made_now = made;
+      given_back = given;
+    })
+    c.deliver.result) (
+      [],
+      sym (append-nil _),
+      usage_ended c.args.words.now left made none c.as_bytes.result.now c.as_bytes.ensures.value
+          _ _ _ _ c.deliver.result c.deliver.ensures.delivers,
     )
 
-pub returns-in-Ok-clause-not_all_done : goal.returns-in-Ok-clause-not_all_done
-returns-in-Ok-clause-not_all_done g c told =
-    let left = c.in-Ok.ensures.leaves in
+pub returns-in-Err-clause-ended : goal.returns-in-Err-clause-ended
+returns-in-Err-clause-ended g c =
     let shown = shown_by g.R.L.Link.faults g.R.L.Link.quiets g.R.L.Link.gots g.R.L.Link.held g.R.L.Link.telling in
-    let links = map shown left.0 in
-    let are : AreCommand c.args.words.now c.in-Ok-Some.command = search rules in (
-      left.0,
-      left.1,
-      done_whole c.args.words.now c.in-Ok-Some.command are (g.S.Source.left c.args.input.now)
-          (g.S.Source.left c.answer_command.new.input) links c.in-Ok.answer.status c.in-Ok.answer.text.items
-          c.as_slice.result.now c.as_slice.ensures.value _ _ _ _ c.deliver-in-Ok.result
-          not_all_done_status (omega arith) left.2.owed c.deliver-in-Ok.ensures.delivers told,
-    )
+    let left = g.S.Source.left c.args.input.now in
+    let made = g.R.Rack.made c.args.rack.now in
+    let written = g.O.Sink.written c.args.out.now in
+    without_pairs shown g.D.Incoming.Source.left g.D.Incoming.Source.faults
+    g.D.Outgoing.Sink.written g.D.Outgoing.Sink.faults g.D.Outgoing.Sink.ended
+    _ _ _ _ _ _ refl refl
+    (λ given. Ended c.args.words.now (record {
+      left = left;
+      left_now = left;
+      written = written;
+      written_now = written;
+      made = made;
+      made_now = made;
+      given_back = given;
+    }) no_memory_status)
+    ([], sym (append-nil _), unread_ended c.args.words.now left made written written)
 
-pub returns-in-Ok-clause-usage : goal.returns-in-Ok-clause-usage
-returns-in-Ok-clause-usage g c told =
-    let left = c.in-Ok.ensures.leaves in
-    let shown = shown_by g.R.L.Link.faults g.R.L.Link.quiets g.R.L.Link.gots g.R.L.Link.held g.R.L.Link.telling in
-    let links = map shown left.0 in
-    let are : AreCommand c.args.words.now c.in-Ok-Some.command = search rules in
-    absurd (never c.args.words.now c.in-Ok-Some.command are (g.S.Source.left c.args.input.now)
-    (g.S.Source.left c.answer_command.new.input) links c.in-Ok.answer.status c.in-Ok.answer.text.items
-    c.as_slice.result.now c.as_slice.ensures.value _ _ _ _ c.deliver-in-Ok.result
-    usage_status left.2.owed c.deliver-in-Ok.ensures.delivers told (omega arith) (λ e. omega arith) (λ e. omega arith))
-
-pub returns-in-Ok-clause-refused : goal.returns-in-Ok-clause-refused
-returns-in-Ok-clause-refused g c =
-    let left = c.in-Ok.ensures.leaves in
-    let shown = shown_by g.R.L.Link.faults g.R.L.Link.quiets g.R.L.Link.gots g.R.L.Link.held g.R.L.Link.telling in
-    let links = map shown left.0 in
-    let are : AreCommand c.args.words.now c.in-Ok-Some.command = search rules in
-    refused_whole c.args.words.now c.in-Ok-Some.command are (g.S.Source.left c.args.input.now)
-    (g.S.Source.left c.answer_command.new.input) links c.in-Ok.answer.status c.in-Ok.answer.text.items
-    c.as_slice.result.now c.as_slice.ensures.value _ _ _ _ c.deliver-in-Ok.result
-    left.2.owed c.deliver-in-Ok.ensures.delivers
-
-pub returns-in-Ok-clause-read_fault : goal.returns-in-Ok-clause-read_fault
-returns-in-Ok-clause-read_fault g c told =
-    let left = c.in-Ok.ensures.leaves in
-    let shown = shown_by g.R.L.Link.faults g.R.L.Link.quiets g.R.L.Link.gots g.R.L.Link.held g.R.L.Link.telling in
-    let links = map shown left.0 in
-    let are : AreCommand c.args.words.now c.in-Ok-Some.command = search rules in
-    absurd (never c.args.words.now c.in-Ok-Some.command are (g.S.Source.left c.args.input.now)
-    (g.S.Source.left c.answer_command.new.input) links c.in-Ok.answer.status c.in-Ok.answer.text.items
-    c.as_slice.result.now c.as_slice.ensures.value _ _ _ _ c.deliver-in-Ok.result
-    read_fault_status left.2.owed c.deliver-in-Ok.ensures.delivers told (omega arith) (λ e. omega arith)
-    (λ e. omega arith))
-
-pub returns-in-Ok-clause-write_fault : goal.returns-in-Ok-clause-write_fault
-returns-in-Ok-clause-write_fault g c told =
-    let left = c.in-Ok.ensures.leaves in
-    let shown = shown_by g.R.L.Link.faults g.R.L.Link.quiets g.R.L.Link.gots g.R.L.Link.held g.R.L.Link.telling in
-    let links = map shown left.0 in
-    let are : AreCommand c.args.words.now c.in-Ok-Some.command = search rules in
-    let part = part_written c.args.words.now c.in-Ok-Some.command are (g.S.Source.left c.args.input.now)
-    (g.S.Source.left c.answer_command.new.input) links c.in-Ok.answer.status c.in-Ok.answer.text.items
-    c.as_slice.result.now c.as_slice.ensures.value _ _ _ _ c.deliver-in-Ok.result
-    left.2.owed c.deliver-in-Ok.ensures.delivers told in
-    (part.0, (left.0, left.1, part.1))
-
-pub returns-in-Ok-clause-no_memory : goal.returns-in-Ok-clause-no_memory
-returns-in-Ok-clause-no_memory g c told =
-    let left = c.in-Ok.ensures.leaves in
-    let shown = shown_by g.R.L.Link.faults g.R.L.Link.quiets g.R.L.Link.gots g.R.L.Link.held g.R.L.Link.telling in
-    let links = map shown left.0 in
-    let are : AreCommand c.args.words.now c.in-Ok-Some.command = search rules in
-    absurd (never c.args.words.now c.in-Ok-Some.command are (g.S.Source.left c.args.input.now)
-    (g.S.Source.left c.answer_command.new.input) links c.in-Ok.answer.status c.in-Ok.answer.text.items
-    c.as_slice.result.now c.as_slice.ensures.value _ _ _ _ c.deliver-in-Ok.result
-    no_memory_status left.2.owed c.deliver-in-Ok.ensures.delivers told (omega arith) (λ e. omega arith)
-    (λ e. omega arith))
-
-pub returns-in-Ok-clause-rack_fault : goal.returns-in-Ok-clause-rack_fault
-returns-in-Ok-clause-rack_fault g c told =
-    let left = c.in-Ok.ensures.leaves in
-    let shown = shown_by g.R.L.Link.faults g.R.L.Link.quiets g.R.L.Link.gots g.R.L.Link.held g.R.L.Link.telling in
-    let links = map shown left.0 in
-    let are : AreCommand c.args.words.now c.in-Ok-Some.command = search rules in
-    absurd (never c.args.words.now c.in-Ok-Some.command are (g.S.Source.left c.args.input.now)
-    (g.S.Source.left c.answer_command.new.input) links c.in-Ok.answer.status c.in-Ok.answer.text.items
-    c.as_slice.result.now c.as_slice.ensures.value _ _ _ _ c.deliver-in-Ok.result
-    rack_fault_status left.2.owed c.deliver-in-Ok.ensures.delivers told (omega arith) (λ e. omega arith)
-    (λ e. omega arith))
-
-pub returns-in-Ok-clause-door_fault : goal.returns-in-Ok-clause-door_fault
-returns-in-Ok-clause-door_fault g c told =
-    let left = c.in-Ok.ensures.leaves in
-    let shown = shown_by g.R.L.Link.faults g.R.L.Link.quiets g.R.L.Link.gots g.R.L.Link.held g.R.L.Link.telling in
-    let links = map shown left.0 in
-    let are : AreCommand c.args.words.now c.in-Ok-Some.command = search rules in
-    absurd (never c.args.words.now c.in-Ok-Some.command are (g.S.Source.left c.args.input.now)
-    (g.S.Source.left c.answer_command.new.input) links c.in-Ok.answer.status c.in-Ok.answer.text.items
-    c.as_slice.result.now c.as_slice.ensures.value _ _ _ _ c.deliver-in-Ok.result
-    door_fault_status left.2.owed c.deliver-in-Ok.ensures.delivers told (omega arith) (λ e. omega arith)
-    (λ e. omega arith))
-
-pub returns-in-Ok-clause-serving : goal.returns-in-Ok-clause-serving
-returns-in-Ok-clause-serving g c port count asked done =
+pub returns-in-Ok-clause-ended : goal.returns-in-Ok-clause-ended
+returns-in-Ok-clause-ended g c =
     let shown = shown_by g.R.L.Link.faults g.R.L.Link.quiets g.R.L.Link.gots g.R.L.Link.held g.R.L.Link.telling in
     let are : AreCommand c.args.words.now c.in-Ok-Some.command = search rules in
-    let same = one_command c.args.words.now c.in-Ok-Some.command (Serve port count) are asked in
     let before = g.S.Source.left c.args.input.now in
     let now = g.S.Source.left c.answer_command.new.input in
-    let status = c.in-Ok.answer.status in
-    let text = c.in-Ok.answer.text.items in
-    together_also shown g.D.Incoming.Source.left g.D.Incoming.Source.faults
+    let made = g.R.Rack.made c.args.rack.now in
+    let makes = g.R.Rack.made c.answer_command.new.rack in
+    let written = g.O.Sink.written c.args.out.now in
+    let written_now = g.O.Sink.written c.deliver-in-Ok.new.out in
+    therefore shown g.D.Incoming.Source.left g.D.Incoming.Source.faults
     g.D.Outgoing.Sink.written g.D.Outgoing.Sink.faults g.D.Outgoing.Sink.ended
     _ _ _ _ _ _
-    (λ links came back. OwesService count before now links came back status text)
-    (λ links came back. WroteOwed (OwesService count before now links came back c.deliver-in-Ok.result) _ _)
-    (λ links came back owes. service_written count before now links came back status text c.as_slice.result.now
-    c.as_slice.ensures.value _ _ _ _ c.deliver-in-Ok.result owes c.deliver-in-Ok.ensures.delivers done)
-    (c.in-Ok.ensures.serving port count same
-    (not_refused_text status c.as_slice.result.now _ _ _ _ c.deliver-in-Ok.result c.deliver-in-Ok.ensures.delivers
-    done))
+    (InputLeaves c.in-Ok-Some.command before now made makes (Ok c.in-Ok.answer))
+    (λ given. Ended c.args.words.now (outside c.args.words.now c.in-Ok-Some.command are before now made makes written
+    written_now given) c.deliver-in-Ok.result)
+    (λ given leaves. delivered c.args.words.now c.in-Ok-Some.command are before now made makes written written_now given
+    c.in-Ok.answer c.as_slice.result.now c.as_slice.ensures.value _ _ c.deliver-in-Ok.result leaves
+    c.deliver-in-Ok.ensures.delivers)
+    c.in-Ok.ensures.leaves
 
-pub returns-in-Ok-clause-serving_cut : goal.returns-in-Ok-clause-serving_cut
-returns-in-Ok-clause-serving_cut g c port count asked told =
+pub returns-in-Err-ReadFault-clause-ended : goal.returns-in-Err-ReadFault-clause-ended
+returns-in-Err-ReadFault-clause-ended g c =
     let shown = shown_by g.R.L.Link.faults g.R.L.Link.quiets g.R.L.Link.gots g.R.L.Link.held g.R.L.Link.telling in
-    let left = c.in-Ok.ensures.leaves in
     let are : AreCommand c.args.words.now c.in-Ok-Some.command = search rules in
-    let same = one_command c.args.words.now c.in-Ok-Some.command (Serve port count) are asked in
     let before = g.S.Source.left c.args.input.now in
     let now = g.S.Source.left c.answer_command.new.input in
-    let status = c.in-Ok.answer.status in
-    let text = c.in-Ok.answer.text.items in
-    let cut = λ (links : List LinkReport) (came back : List PairReport).
-    WroteOwedPart (OwesServerText c.args.words.now count before now links came back) (g.O.Sink.written c.args.out.now)
-    (g.O.Sink.written c.deliver-in-Ok.new.out) in
-    ⊎_elim
-    (λ done.
-    let small = done_small c.in-Ok-Some.command done.bytes (map shown left.0) status text done.done in
-    together_also shown g.D.Incoming.Source.left g.D.Incoming.Source.faults
+    let made = g.R.Rack.made c.args.rack.now in
+    let makes = g.R.Rack.made c.answer_command.new.rack in
+    let written = g.O.Sink.written c.args.out.now in
+    therefore shown g.D.Incoming.Source.left g.D.Incoming.Source.faults
     g.D.Outgoing.Sink.written g.D.Outgoing.Sink.faults g.D.Outgoing.Sink.ended
     _ _ _ _ _ _
-    (λ links came back. OwesService count before now links came back status text) cut
-    (λ links came back owes. service_cut c.args.words.now count before now links came back status text
-    c.as_slice.result.now c.as_slice.ensures.value _ _ _ _ c.deliver-in-Ok.result small owes
-    c.deliver-in-Ok.ensures.delivers told)
-    (c.in-Ok.ensures.serving port count same (λ refused. omega (arith, small, refused))))
-    (λ refused.
-    let kept = c.in-Ok.ensures.refused refused.0 in
-    none_together shown g.D.Incoming.Source.left g.D.Incoming.Source.faults
+    (InputLeaves c.in-Ok-Some.command before now made makes (Err c.in-Err-ReadFault.field-0))
+    (λ given. Ended c.args.words.now (outside c.args.words.now c.in-Ok-Some.command are before now made makes written
+    written given) read_fault_status)
+    (λ given leaves. failed_with c.args.words.now c.in-Ok-Some.command are before now made makes written written given _ ReadFault
+    c.in-Err-ReadFault.field-0-is leaves)
+    c.in-Err-ReadFault.ensures.leaves
+
+pub returns-in-Err-RackFault-clause-ended : goal.returns-in-Err-RackFault-clause-ended
+returns-in-Err-RackFault-clause-ended g c =
+    let shown = shown_by g.R.L.Link.faults g.R.L.Link.quiets g.R.L.Link.gots g.R.L.Link.held g.R.L.Link.telling in
+    let are : AreCommand c.args.words.now c.in-Ok-Some.command = search rules in
+    let before = g.S.Source.left c.args.input.now in
+    let now = g.S.Source.left c.answer_command.new.input in
+    let made = g.R.Rack.made c.args.rack.now in
+    let makes = g.R.Rack.made c.answer_command.new.rack in
+    let written = g.O.Sink.written c.args.out.now in
+    therefore shown g.D.Incoming.Source.left g.D.Incoming.Source.faults
     g.D.Outgoing.Sink.written g.D.Outgoing.Sink.faults g.D.Outgoing.Sink.ended
     _ _ _ _ _ _
-    (ap g.R.Rack.kept kept.0) (ap g.D.Door.coming kept.1) (ap g.D.Door.kept kept.1) cut
-    (refusal_cut c.args.words.now c.in-Ok-Some.command are count before now [] [] [] status text
-    c.as_slice.result.now c.as_slice.ensures.value _ _ _ _ c.deliver-in-Ok.result refused.0 refused.1
-    c.deliver-in-Ok.ensures.delivers told))
-    left.2.owed
+    (InputLeaves c.in-Ok-Some.command before now made makes (Err c.in-Err-RackFault.field-0))
+    (λ given. Ended c.args.words.now (outside c.args.words.now c.in-Ok-Some.command are before now made makes written
+    written given) rack_fault_status)
+    (λ given leaves. failed_with c.args.words.now c.in-Ok-Some.command are before now made makes written written given _ RackFault
+    c.in-Err-RackFault.field-0-is leaves)
+    c.in-Err-RackFault.ensures.leaves
 
-pub returns-in-Err-clause-pairs : goal.returns-in-Err-clause-pairs
-returns-in-Err-clause-pairs g c =
-    none_back g.D.Incoming.Source.left g.D.Incoming.Source.faults
+pub returns-in-Err-DoorFault-clause-ended : goal.returns-in-Err-DoorFault-clause-ended
+returns-in-Err-DoorFault-clause-ended g c =
+    let shown = shown_by g.R.L.Link.faults g.R.L.Link.quiets g.R.L.Link.gots g.R.L.Link.held g.R.L.Link.telling in
+    let are : AreCommand c.args.words.now c.in-Ok-Some.command = search rules in
+    let before = g.S.Source.left c.args.input.now in
+    let now = g.S.Source.left c.answer_command.new.input in
+    let made = g.R.Rack.made c.args.rack.now in
+    let makes = g.R.Rack.made c.answer_command.new.rack in
+    let written = g.O.Sink.written c.args.out.now in
+    therefore shown g.D.Incoming.Source.left g.D.Incoming.Source.faults
     g.D.Outgoing.Sink.written g.D.Outgoing.Sink.faults g.D.Outgoing.Sink.ended
-    (g.D.Door.coming c.args.door.now) (g.D.Door.kept c.args.door.now)
+    _ _ _ _ _ _
+    (InputLeaves c.in-Ok-Some.command before now made makes (Err c.in-Err-DoorFault.field-0))
+    (λ given. Ended c.args.words.now (outside c.args.words.now c.in-Ok-Some.command are before now made makes written
+    written given) door_fault_status)
+    (λ given leaves. failed_with c.args.words.now c.in-Ok-Some.command are before now made makes written written given _ DoorFault
+    c.in-Err-DoorFault.field-0-is leaves)
+    c.in-Err-DoorFault.ensures.leaves
 
-pub returns-in-Err-RackFault-clause-listed : goal.returns-in-Err-RackFault-clause-listed
-returns-in-Err-RackFault-clause-listed g c bytes table registers check told listed calm unfaulted =
-    let left = c.in-Err-RackFault.ensures.leaves in
+pub returns-clause-ended : goal.returns-clause-ended
+returns-clause-ended g c =
     let shown = shown_by g.R.L.Link.faults g.R.L.Link.quiets g.R.L.Link.gots g.R.L.Link.held g.R.L.Link.telling in
     let are : AreCommand c.args.words.now c.in-Ok-Some.command = search rules in
-    let same = one_command c.args.words.now c.in-Ok-Some.command (Check table) are check in
-    let used = left.2.behind RackFault (ap Err c.in-Err-RackFault.field-0-is) tt in
-    absurd (subst (λ command. UsedFrom command (g.S.Source.left c.args.input.now)
-    (g.S.Source.left c.answer_command.new.input) (map shown left.0)) same used).uses
-
-pub returns-in-Ok-None-clause-pairs : goal.returns-in-Ok-None-clause-pairs
-returns-in-Ok-None-clause-pairs g c =
-    none_back g.D.Incoming.Source.left g.D.Incoming.Source.faults
+    let before = g.S.Source.left c.args.input.now in
+    let now = g.S.Source.left c.answer_command.new.input in
+    let made = g.R.Rack.made c.args.rack.now in
+    let makes = g.R.Rack.made c.answer_command.new.rack in
+    let written = g.O.Sink.written c.args.out.now in
+    therefore shown g.D.Incoming.Source.left g.D.Incoming.Source.faults
     g.D.Outgoing.Sink.written g.D.Outgoing.Sink.faults g.D.Outgoing.Sink.ended
-    (g.D.Door.coming c.args.door.now) (g.D.Door.kept c.args.door.now)
+    _ _ _ _ _ _
+    (InputLeaves c.in-Ok-Some.command before now made makes (Err c.in-Err-NoMemory.field-0))
+    (λ given. Ended c.args.words.now (outside c.args.words.now c.in-Ok-Some.command are before now made makes written
+    written given) no_memory_status)
+    (λ given leaves. failed_with c.args.words.now c.in-Ok-Some.command are before now made makes written written given _ NoMemory
+    c.in-Err-NoMemory.field-0-is leaves)
+    c.in-Err-NoMemory.ensures.leaves
 
-pub returns-in-Ok-clause-not_listened : goal.returns-in-Ok-clause-not_listened
-returns-in-Ok-clause-not_listened g c told =
-    let left = c.in-Ok.ensures.leaves in
-    let shown = shown_by g.R.L.Link.faults g.R.L.Link.quiets g.R.L.Link.gots g.R.L.Link.held g.R.L.Link.telling in
-    let links = map shown left.0 in
+pub returns-in-Ok-clause-input_faults : goal.returns-in-Ok-clause-input_faults
+returns-in-Ok-clause-input_faults g c =
+    let before = g.S.Source.left c.args.input.now in
+    let now = g.S.Source.left c.answer_command.new.input in
+    let leaves = c.in-Ok.ensures.leaves.2.4 in
+    let small = small_answer c.in-Ok-Some.command before now _ c.in-Ok.answer.status c.in-Ok.answer.text.items leaves.owed in
+    delivered_stays c.in-Ok.answer.status small c.as_slice.result.now _ _ _ _ c.deliver-in-Ok.result read_fault_status
+    (g.S.Source.faults c.args.input.now) (g.S.Source.faults c.answer_command.new.input) (omega arith) (λ e. omega (arith, e))
+    c.deliver-in-Ok.ensures.delivers (c.in-Ok.ensures.input_faults.2 (λ never. absurd cc))
+
+pub returns-in-Ok-clause-rack_faults : goal.returns-in-Ok-clause-rack_faults
+returns-in-Ok-clause-rack_faults g c =
+    let before = g.S.Source.left c.args.input.now in
+    let now = g.S.Source.left c.answer_command.new.input in
+    let leaves = c.in-Ok.ensures.leaves.2.4 in
+    let small = small_answer c.in-Ok-Some.command before now _ c.in-Ok.answer.status c.in-Ok.answer.text.items leaves.owed in
+    delivered_stays c.in-Ok.answer.status small c.as_slice.result.now _ _ _ _ c.deliver-in-Ok.result rack_fault_status
+    (g.R.Rack.faults c.args.rack.now) (g.R.Rack.faults c.answer_command.new.rack) (omega arith) (λ e. omega (arith, e))
+    c.deliver-in-Ok.ensures.delivers (c.in-Ok.ensures.rack_faults.2 (λ never. absurd cc))
+
+pub returns-in-Ok-clause-door_faults : goal.returns-in-Ok-clause-door_faults
+returns-in-Ok-clause-door_faults g c =
+    let before = g.S.Source.left c.args.input.now in
+    let now = g.S.Source.left c.answer_command.new.input in
+    let leaves = c.in-Ok.ensures.leaves.2.4 in
+    let small = small_answer c.in-Ok-Some.command before now _ c.in-Ok.answer.status c.in-Ok.answer.text.items leaves.owed in
+    delivered_stays c.in-Ok.answer.status small c.as_slice.result.now _ _ _ _ c.deliver-in-Ok.result door_fault_status
+    (g.D.Door.faults c.args.door.now) (g.D.Door.faults c.answer_command.new.door) (omega arith) (λ e. omega (arith, e))
+    c.deliver-in-Ok.ensures.delivers (c.in-Ok.ensures.door_faults.2 (λ never. absurd cc))
+
+pub returns-in-Ok-clause-output_faults : goal.returns-in-Ok-clause-output_faults
+returns-in-Ok-clause-output_faults g c =
+    let before = g.S.Source.left c.args.input.now in
+    let now = g.S.Source.left c.answer_command.new.input in
+    let leaves = c.in-Ok.ensures.leaves.2.4 in
+    let small = small_answer c.in-Ok-Some.command before now _ c.in-Ok.answer.status c.in-Ok.answer.text.items leaves.owed in
+    output_rises c.in-Ok.answer.status small c.as_slice.result.now _ _ _ _ c.deliver-in-Ok.result
+    c.deliver-in-Ok.ensures.delivers c.deliver-in-Ok.ensures.later c.deliver-in-Ok.ensures.unfaulted
+
+pub returns-in-Ok-clause-unread : goal.returns-in-Ok-clause-unread
+returns-in-Ok-clause-unread g c none =
     let are : AreCommand c.args.words.now c.in-Ok-Some.command = search rules in
-    let apart = λ (s : ℕ) (large : 2 ≤ s) (one : s ≡ refused_status → ⊥) (two : s ≡ write_fault_status → ⊥)
-    (is : c.deliver-in-Ok.result ≡ s). never c.args.words.now c.in-Ok-Some.command are
-    (g.S.Source.left c.args.input.now)
-    (g.S.Source.left c.answer_command.new.input) links c.in-Ok.answer.status c.in-Ok.answer.text.items
-    c.as_slice.result.now c.as_slice.ensures.value _ _ _ _ c.deliver-in-Ok.result
-    s left.2.owed c.deliver-in-Ok.ensures.delivers is large one two in
-    ⊎_elim
-    (λ usage. absurd (apart usage_status (omega arith) (λ e. omega arith) (λ e. omega arith) usage))
-    (λ other. ⊎_elim
-    (λ refused. (c.in-Ok.ensures.refused (status_is c.in-Ok.answer.status c.deliver-in-Ok.result refused_status
-    c.as_slice.result.now _ _ _ _ c.deliver-in-Ok.ensures.delivers refused (λ e. omega arith))).1)
-    (λ more. ⊎_elim
-    (λ fault. absurd (apart read_fault_status (omega arith) (λ e. omega arith) (λ e. omega arith) fault))
-    (λ fault. absurd (apart rack_fault_status (omega arith) (λ e. omega arith) (λ e. omega arith) fault))
-    more)
-    other)
-    told
+    c.answer_command.ensures.unread (none c.in-Ok-Some.command are)
 
-pub returns-in-Ok-clause-no_other : goal.returns-in-Ok-clause-no_other
-returns-in-Ok-clause-no_other g c =
-    let left = c.in-Ok.ensures.leaves in
-    let shown = shown_by g.R.L.Link.faults g.R.L.Link.quiets g.R.L.Link.gots g.R.L.Link.held g.R.L.Link.telling in
-    let links = map shown left.0 in
+pub returns-in-Err-ReadFault-clause-unread : goal.returns-in-Err-ReadFault-clause-unread
+returns-in-Err-ReadFault-clause-unread g c none =
     let are : AreCommand c.args.words.now c.in-Ok-Some.command = search rules in
-    some_status c.args.words.now c.in-Ok-Some.command are (g.S.Source.left c.args.input.now)
-    (g.S.Source.left c.answer_command.new.input) links c.in-Ok.answer.status c.in-Ok.answer.text.items
-    c.as_slice.result.now c.as_slice.ensures.value _ _ _ _ c.deliver-in-Ok.result
-    left.2.owed c.deliver-in-Ok.ensures.delivers
+    c.answer_command.ensures.unread (none c.in-Ok-Some.command are)
 
-pub returns-in-Ok-clause-kept : goal.returns-in-Ok-clause-kept
-returns-in-Ok-clause-kept g c =
-    let left = c.in-Ok.ensures.leaves in
-    let shown = shown_by g.R.L.Link.faults g.R.L.Link.quiets g.R.L.Link.gots g.R.L.Link.held g.R.L.Link.telling in
-    let links = map shown left.0 in
-    let are : AreCommand c.args.words.now c.in-Ok-Some.command = search rules in (
-      left.0,
-      left.1,
-      used_at_all c.args.words.now c.in-Ok-Some.command are (g.S.Source.left c.args.input.now)
-          (g.S.Source.left c.answer_command.new.input) links left.2.used,
+pub returns-in-Err-RackFault-clause-unread : goal.returns-in-Err-RackFault-clause-unread
+returns-in-Err-RackFault-clause-unread g c none =
+    let are : AreCommand c.args.words.now c.in-Ok-Some.command = search rules in
+    c.answer_command.ensures.unread (none c.in-Ok-Some.command are)
+
+pub returns-in-Err-DoorFault-clause-unread : goal.returns-in-Err-DoorFault-clause-unread
+returns-in-Err-DoorFault-clause-unread g c none =
+    let are : AreCommand c.args.words.now c.in-Ok-Some.command = search rules in
+    c.answer_command.ensures.unread (none c.in-Ok-Some.command are)
+
+pub returns-clause-unread : goal.returns-clause-unread
+returns-clause-unread g c none =
+    let are : AreCommand c.args.words.now c.in-Ok-Some.command = search rules in
+    c.answer_command.ensures.unread (none c.in-Ok-Some.command are)
+
+pub returns-in-Ok-clause-unwritten : goal.returns-in-Ok-clause-unwritten
+returns-in-Ok-clause-unwritten g c =
+    let before = g.S.Source.left c.args.input.now in
+    let now = g.S.Source.left c.answer_command.new.input in
+    let leaves = c.in-Ok.ensures.leaves.2.4 in
+    let small = small_answer c.in-Ok-Some.command before now _ c.in-Ok.answer.status c.in-Ok.answer.text.items leaves.owed in (
+      written_with c.in-Ok.answer.status small c.as_slice.result.now _ _ _ _ c.deliver-in-Ok.result _
+          c.deliver-in-Ok.ensures.delivers,
+      c.deliver-in-Ok.ensures.ended_kept,
     )
 
-pub returns-in-Ok-clause-none_made : goal.returns-in-Ok-clause-none_made
-returns-in-Ok-clause-none_made g c told =
-    let left = c.in-Ok.ensures.leaves in
-    let shown = shown_by g.R.L.Link.faults g.R.L.Link.quiets g.R.L.Link.gots g.R.L.Link.held g.R.L.Link.telling in
-    let links = map shown left.0 in
+pub returns-in-Ok-None-clause-unwritten : goal.returns-in-Ok-None-clause-unwritten
+returns-in-Ok-None-clause-unwritten g c = (
+  written_with usage_status (omega arith) c.as_bytes.result.now _ _ _ _ c.deliver.result _
+      c.deliver.ensures.delivers,
+  c.deliver.ensures.ended_kept,
+)
+
+pub returns-in-Ok-clause-unmade : goal.returns-in-Ok-clause-unmade
+returns-in-Ok-clause-unmade g c =
     let are : AreCommand c.args.words.now c.in-Ok-Some.command = search rules in
-    ⊎_elim
-    (λ usage. absurd (never c.args.words.now c.in-Ok-Some.command are (g.S.Source.left c.args.input.now)
-    (g.S.Source.left c.answer_command.new.input) links c.in-Ok.answer.status c.in-Ok.answer.text.items
-    c.as_slice.result.now c.as_slice.ensures.value _ _ _ _ c.deliver-in-Ok.result
-    usage_status left.2.owed c.deliver-in-Ok.ensures.delivers usage (omega arith) (λ e. omega arith)
-    (λ e. omega arith)))
-    (λ other. ⊎_elim
-    (λ refused. (c.in-Ok.ensures.refused (status_is c.in-Ok.answer.status c.deliver-in-Ok.result refused_status
-    c.as_slice.result.now _ _ _ _ c.deliver-in-Ok.ensures.delivers refused (λ e. omega arith))).0)
-    (λ fault. absurd (never c.args.words.now c.in-Ok-Some.command are (g.S.Source.left c.args.input.now)
-    (g.S.Source.left c.answer_command.new.input) links c.in-Ok.answer.status c.in-Ok.answer.text.items
-    c.as_slice.result.now c.as_slice.ensures.value _ _ _ _ c.deliver-in-Ok.result
-    read_fault_status left.2.owed c.deliver-in-Ok.ensures.delivers fault (omega arith) (λ e. omega arith)
-    (λ e. omega arith)))
-    other)
-    told
+    let before = g.S.Source.left c.args.input.now in
+    let now = g.S.Source.left c.answer_command.new.input in
+    let leaves = c.in-Ok.ensures.leaves.2.4 in
+    unmade_by c.args.words.now c.in-Ok-Some.command are _ c.deliver-in-Ok.result c.in-Ok.ensures.alone.2
+    (sessionless c.args.words.now c.in-Ok-Some.command are before now
+    (g.R.Rack.made c.args.rack.now) (g.R.Rack.made c.answer_command.new.rack) _ _ _ c.in-Ok.answer
+    c.as_slice.result.now c.as_slice.ensures.value _ _ c.deliver-in-Ok.result _
+    (λ refused. (c.in-Ok.ensures.alone.0 refused).0) leaves c.deliver-in-Ok.ensures.delivers)
+
+pub returns-in-Ok-clause-shut : goal.returns-in-Ok-clause-shut
+returns-in-Ok-clause-shut g c =
+    let are : AreCommand c.args.words.now c.in-Ok-Some.command = search rules in
+    let before = g.S.Source.left c.args.input.now in
+    let now = g.S.Source.left c.answer_command.new.input in
+    let leaves = c.in-Ok.ensures.leaves.2.4 in (
+      shut_by c.args.words.now c.in-Ok-Some.command are _ c.deliver-in-Ok.result c.in-Ok.ensures.alone.3
+          (sessionless c.args.words.now c.in-Ok-Some.command are before now
+          (g.R.Rack.made c.args.rack.now) (g.R.Rack.made c.answer_command.new.rack) _ _ _ c.in-Ok.answer
+          c.as_slice.result.now c.as_slice.ensures.value _ _ c.deliver-in-Ok.result _
+          (λ refused. (c.in-Ok.ensures.alone.0 refused).1) leaves c.deliver-in-Ok.ensures.delivers)
+          (no_rack_fault c.args.words.now c.in-Ok-Some.command are before now
+          (g.R.Rack.made c.args.rack.now) (g.R.Rack.made c.answer_command.new.rack) _ _ _ c.in-Ok.answer
+          c.as_slice.result.now c.as_slice.ensures.value _ _ c.deliver-in-Ok.result _ leaves
+          c.deliver-in-Ok.ensures.delivers),
+      c.in-Ok.ensures.none_out,
+    )
 
 pub returns-in-Ok-clause-unbroken : goal.returns-in-Ok-clause-unbroken
-returns-in-Ok-clause-unbroken g c command bytes asked told unbroken calm unfaulted quiet shut =
-    let left = c.in-Ok.ensures.leaves in
-    let shown = shown_by g.R.L.Link.faults g.R.L.Link.quiets g.R.L.Link.gots g.R.L.Link.held g.R.L.Link.telling in
-    let links = map shown left.0 in
+returns-in-Ok-clause-unbroken g c command bytes asked told unbroken calm unfaulted quiet =
     let are : AreCommand c.args.words.now c.in-Ok-Some.command = search rules in
+    let before = g.S.Source.left c.args.input.now in
+    let now = g.S.Source.left c.answer_command.new.input in
+    let leaves = c.in-Ok.ensures.leaves.2.4 in
     let same = one_command c.args.words.now command c.in-Ok-Some.command asked are in
-    accepted_whole c.input_laws.ensures c.in-Ok-Some.command (g.S.Source.left c.args.input.now)
-    (g.S.Source.left c.answer_command.new.input) bytes told links
-    c.in-Ok.answer.status c.in-Ok.answer.text.items c.as_slice.result.now c.as_slice.ensures.value _ _ _ _
+    accepted_whole c.input_laws.ensures c.in-Ok-Some.command before now bytes told _ c.in-Ok.answer.status c.in-Ok.answer.text.items c.as_slice.result.now c.as_slice.ensures.value _ _ _ _
     c.deliver-in-Ok.result
-    (subst (λ command. (r : Refusal) → Deserves (breaks_in command) bytes r → ⊥) same
-    unbroken)
-    left.2.owed c.deliver-in-Ok.ensures.delivers unfaulted
+    (subst (λ command. (r : Refusal) → Deserves (breaks_in command) bytes r → ⊥) same unbroken)
+    leaves.owed c.deliver-in-Ok.ensures.delivers unfaulted
 
-pub returns-in-Ok-clause-runnable : goal.returns-in-Ok-clause-runnable
-returns-in-Ok-clause-runnable g c bytes session steps run told runs calm unfaulted quiet =
-    let left = c.in-Ok.ensures.leaves in
-    let shown = shown_by g.R.L.Link.faults g.R.L.Link.quiets g.R.L.Link.gots g.R.L.Link.held g.R.L.Link.telling in
-    let links = map shown left.0 in
+pub returns-in-Ok-clause-right : goal.returns-in-Ok-clause-right
+returns-in-Ok-clause-right g c command bytes asked told right calm unfaulted quiet =
     let are : AreCommand c.args.words.now c.in-Ok-Some.command = search rules in
-    let same = one_command c.args.words.now Run c.in-Ok-Some.command run are in
-    accepted_whole c.input_laws.ensures c.in-Ok-Some.command (g.S.Source.left c.args.input.now)
-    (g.S.Source.left c.answer_command.new.input) bytes told links
-    c.in-Ok.answer.status c.in-Ok.answer.text.items c.as_slice.result.now c.as_slice.ensures.value _ _ _ _
+    let before = g.S.Source.left c.args.input.now in
+    let now = g.S.Source.left c.answer_command.new.input in
+    let leaves = c.in-Ok.ensures.leaves.2.4 in
+    let same = one_command c.args.words.now command c.in-Ok-Some.command asked are in
+    right_whole c.input_laws.ensures c.in-Ok-Some.command before now bytes told _ c.in-Ok.answer.status c.in-Ok.answer.text.items c.as_slice.result.now c.as_slice.ensures.value _ _ _ _
     c.deliver-in-Ok.result
-    (subst (λ command. (r : Refusal) → Deserves (breaks_in command) bytes r → ⊥) same
-    (λ r deserved. c.input_laws.ensures.run_apart bytes session steps r runs deserved))
-    left.2.owed c.deliver-in-Ok.ensures.delivers unfaulted
-
-pub returns-in-Ok-clause-servable : goal.returns-in-Ok-clause-servable
-returns-in-Ok-clause-servable g c port count bytes session serve told can calm unfaulted quiet shut =
-    let left = c.in-Ok.ensures.leaves in
-    let shown = shown_by g.R.L.Link.faults g.R.L.Link.quiets g.R.L.Link.gots g.R.L.Link.held g.R.L.Link.telling in
-    let links = map shown left.0 in
-    let are : AreCommand c.args.words.now c.in-Ok-Some.command = search rules in
-    let same = one_command c.args.words.now (Serve port count) c.in-Ok-Some.command serve are in
-    accepted_whole c.input_laws.ensures c.in-Ok-Some.command (g.S.Source.left c.args.input.now)
-    (g.S.Source.left c.answer_command.new.input) bytes told links
-    c.in-Ok.answer.status c.in-Ok.answer.text.items c.as_slice.result.now c.as_slice.ensures.value _ _ _ _
-    c.deliver-in-Ok.result
-    (subst (λ command. (r : Refusal) → Deserves (breaks_in command) bytes r → ⊥) same
-    (λ r deserved. c.input_laws.ensures.serve_apart bytes session r can deserved))
-    left.2.owed c.deliver-in-Ok.ensures.delivers unfaulted
-
-pub returns-in-Ok-clause-listed : goal.returns-in-Ok-clause-listed
-returns-in-Ok-clause-listed g c bytes table registers check told listed calm unfaulted =
-    let left = c.in-Ok.ensures.leaves in
-    let shown = shown_by g.R.L.Link.faults g.R.L.Link.quiets g.R.L.Link.gots g.R.L.Link.held g.R.L.Link.telling in
-    let links = map shown left.0 in
-    let are : AreCommand c.args.words.now c.in-Ok-Some.command = search rules in
-    let same = one_command c.args.words.now (Check table) c.in-Ok-Some.command check are in
-    accepted_whole c.input_laws.ensures c.in-Ok-Some.command (g.S.Source.left c.args.input.now)
-    (g.S.Source.left c.answer_command.new.input) bytes told links
-    c.in-Ok.answer.status c.in-Ok.answer.text.items c.as_slice.result.now c.as_slice.ensures.value _ _ _ _
-    c.deliver-in-Ok.result
-    (subst (λ command. (r : Refusal) → Deserves (breaks_in command) bytes r → ⊥) same
-    (λ r deserved. c.input_laws.ensures.list_apart bytes table registers r listed deserved))
-    left.2.owed c.deliver-in-Ok.ensures.delivers unfaulted
+    (subst (λ command. IsRight command bytes) same right)
+    leaves.owed c.deliver-in-Ok.ensures.delivers unfaulted
 
 pub returns-in-Ok-clause-deserved : goal.returns-in-Ok-clause-deserved
 returns-in-Ok-clause-deserved g c command bytes refusal asked reads told deserved calm unfaulted =
-    let left = c.in-Ok.ensures.leaves in
-    let shown = shown_by g.R.L.Link.faults g.R.L.Link.quiets g.R.L.Link.gots g.R.L.Link.held g.R.L.Link.telling in
-    let links = map shown left.0 in
     let are : AreCommand c.args.words.now c.in-Ok-Some.command = search rules in
+    let before = g.S.Source.left c.args.input.now in
+    let now = g.S.Source.left c.answer_command.new.input in
+    let leaves = c.in-Ok.ensures.leaves.2.4 in
     let same = one_command c.args.words.now command c.in-Ok-Some.command asked are in
-    inl (deserved_refused c.input_laws.ensures c.in-Ok-Some.command (g.S.Source.left c.args.input.now)
-    (g.S.Source.left c.answer_command.new.input) bytes told links
-    c.in-Ok.answer.status c.in-Ok.answer.text.items c.as_slice.result.now c.as_slice.ensures.value _ _ _ _
-    c.deliver-in-Ok.result (subst Reads same reads) refusal
-    (subst (λ command. Deserves (breaks_in command) bytes refusal) same deserved) left.2.owed
+    inl (deserved_refused c.input_laws.ensures c.in-Ok-Some.command before now bytes told _ c.in-Ok.answer.status c.in-Ok.answer.text.items c.as_slice.result.now c.as_slice.ensures.value _ _ _ _
+    c.deliver-in-Ok.result
+    (subst Reads same reads) refusal
+    (subst (λ command. Deserves (breaks_in command) bytes refusal) same deserved) leaves.owed
     c.deliver-in-Ok.ensures.delivers unfaulted)
-
-pub returns-in-Ok-clause-too_long : goal.returns-in-Ok-clause-too_long
-returns-in-Ok-clause-too_long g c bytes some told long refused =
-    let left = c.in-Ok.ensures.leaves in
-    let shown = shown_by g.R.L.Link.faults g.R.L.Link.quiets g.R.L.Link.gots g.R.L.Link.held g.R.L.Link.telling in
-    let links = map shown left.0 in
-    taken_of_long c.input_laws.ensures c.in-Ok-Some.command (g.S.Source.left c.args.input.now)
-    (g.S.Source.left c.answer_command.new.input) bytes told links c.in-Ok.answer.status c.in-Ok.answer.text.items long
-    (status_is c.in-Ok.answer.status c.deliver-in-Ok.result refused_status c.as_slice.result.now _ _ _ _
-    c.deliver-in-Ok.ensures.delivers refused (λ e. omega arith)) left.2.owed
 
 pub returns-in-Ok-clause-loadable : goal.returns-in-Ok-clause-loadable
 returns-in-Ok-clause-loadable g c count asked unfaulted quiet =
-    let left = c.in-Ok.ensures.leaves in
-    let shown = shown_by g.R.L.Link.faults g.R.L.Link.quiets g.R.L.Link.gots g.R.L.Link.held g.R.L.Link.telling in
     let are : AreCommand c.args.words.now c.in-Ok-Some.command = search rules in
+    let before = g.S.Source.left c.args.input.now in
+    let now = g.S.Source.left c.answer_command.new.input in
+    let leaves = c.in-Ok.ensures.leaves.2.4 in
     let same = one_command c.args.words.now c.in-Ok-Some.command (Load count) are asked in
-    load_whole count c.in-Ok-Some.command same (g.S.Source.left c.args.input.now)
-    (g.S.Source.left c.answer_command.new.input) (map shown left.0) c.in-Ok.answer.status c.in-Ok.answer.text.items
-    c.as_slice.result.now _ _ _ _ c.deliver-in-Ok.result left.2.owed c.deliver-in-Ok.ensures.delivers unfaulted
+    load_whole count c.in-Ok-Some.command same before now _ c.in-Ok.answer.status c.in-Ok.answer.text.items
+    c.as_slice.result.now _ _ _ _ c.deliver-in-Ok.result leaves.owed c.deliver-in-Ok.ensures.delivers unfaulted
 
-pub returns-in-Ok-clause-unread_load : goal.returns-in-Ok-clause-unread_load
-returns-in-Ok-clause-unread_load g c count asked =
+pub returns-in-Ok-clause-too_long : goal.returns-in-Ok-clause-too_long
+returns-in-Ok-clause-too_long g c command bytes asked told long refused =
     let are : AreCommand c.args.words.now c.in-Ok-Some.command = search rules in
-    let same = one_command c.args.words.now c.in-Ok-Some.command (Load count) are asked in
-    c.answer_command.ensures.unread count (ap generated_by same)
-
-pub returns-in-Ok-clause-unwritten : goal.returns-in-Ok-clause-unwritten
-returns-in-Ok-clause-unwritten g c told =
-    let left = c.in-Ok.ensures.leaves in
-    let shown = shown_by g.R.L.Link.faults g.R.L.Link.quiets g.R.L.Link.gots g.R.L.Link.held g.R.L.Link.telling in
-    let links = map shown left.0 in
-    let are : AreCommand c.args.words.now c.in-Ok-Some.command = search rules in
-    let apart = λ (s : ℕ) (large : 2 ≤ s) (one : s ≡ refused_status → ⊥) (two : s ≡ write_fault_status → ⊥)
-    (is : c.deliver-in-Ok.result ≡ s). never c.args.words.now c.in-Ok-Some.command are
-    (g.S.Source.left c.args.input.now)
-    (g.S.Source.left c.answer_command.new.input) links c.in-Ok.answer.status c.in-Ok.answer.text.items
-    c.as_slice.result.now c.as_slice.ensures.value _ _ _ _ c.deliver-in-Ok.result
-    s left.2.owed c.deliver-in-Ok.ensures.delivers is large one two in
-    absurd (⊎_elim
-    (apart read_fault_status (omega arith) (λ e. omega arith) (λ e. omega arith))
-    (λ other. ⊎_elim
-    (apart no_memory_status (omega arith) (λ e. omega arith) (λ e. omega arith))
-    (λ more. ⊎_elim
-    (apart rack_fault_status (omega arith) (λ e. omega arith) (λ e. omega arith))
-    (apart door_fault_status (omega arith) (λ e. omega arith) (λ e. omega arith))
-    more)
-    other)
-    told)
-
-pub returns-in-Err-RackFault-clause-kept : goal.returns-in-Err-RackFault-clause-kept
-returns-in-Err-RackFault-clause-kept g c =
-    let left = c.in-Err-RackFault.ensures.leaves in
-    let shown = shown_by g.R.L.Link.faults g.R.L.Link.quiets g.R.L.Link.gots g.R.L.Link.held g.R.L.Link.telling in
-    let are : AreCommand c.args.words.now c.in-Ok-Some.command = search rules in (
-      left.0,
-      left.1,
-      used_at_all c.args.words.now c.in-Ok-Some.command are (g.S.Source.left c.args.input.now)
-          (g.S.Source.left c.answer_command.new.input) (map shown left.0) left.2.used,
-    )
-
-pub returns-in-Err-RackFault-clause-rack_fault : goal.returns-in-Err-RackFault-clause-rack_fault
-returns-in-Err-RackFault-clause-rack_fault g c told =
-    let left = c.in-Err-RackFault.ensures.leaves in
-    let shown = shown_by g.R.L.Link.faults g.R.L.Link.quiets g.R.L.Link.gots g.R.L.Link.held g.R.L.Link.telling in
-    let are : AreCommand c.args.words.now c.in-Ok-Some.command = search rules in (
-      c.in-Err-RackFault.ensures.rack_fault (ap Err c.in-Err-RackFault.field-0-is),
-      refl,
-      (
-        left.0,
-        left.1,
-        (
-          used_by c.args.words.now c.in-Ok-Some.command are (g.S.Source.left c.args.input.now)
-              (g.S.Source.left c.answer_command.new.input) (map shown left.0)
-              (left.2.behind RackFault (ap Err c.in-Err-RackFault.field-0-is) tt),
-          left.2.untouched (ap Err c.in-Err-RackFault.field-0-is),
-        ),
-      ),
-    )
-
-pub returns-in-Err-DoorFault-clause-door_fault : goal.returns-in-Err-DoorFault-clause-door_fault
-returns-in-Err-DoorFault-clause-door_fault g c told =
-    let left = c.in-Err-DoorFault.ensures.leaves in
-    let shown = shown_by g.R.L.Link.faults g.R.L.Link.quiets g.R.L.Link.gots g.R.L.Link.held g.R.L.Link.telling in
-    let are : AreCommand c.args.words.now c.in-Ok-Some.command = search rules in (
-      c.in-Err-DoorFault.ensures.door_fault (ap Err c.in-Err-DoorFault.field-0-is),
-      refl,
-      (
-        left.0,
-        left.1,
-        served_by c.args.words.now c.in-Ok-Some.command are (g.S.Source.left c.args.input.now)
-            (g.S.Source.left c.answer_command.new.input) (map shown left.0)
-            (c.in-Err-DoorFault.ensures.serves (ap Err c.in-Err-DoorFault.field-0-is))
-            (left.2.behind DoorFault (ap Err c.in-Err-DoorFault.field-0-is) tt),
-      ),
-    )
-
-pub returns-in-Err-DoorFault-clause-kept : goal.returns-in-Err-DoorFault-clause-kept
-returns-in-Err-DoorFault-clause-kept g c =
-    let left = c.in-Err-DoorFault.ensures.leaves in
-    let shown = shown_by g.R.L.Link.faults g.R.L.Link.quiets g.R.L.Link.gots g.R.L.Link.held g.R.L.Link.telling in
-    let are : AreCommand c.args.words.now c.in-Ok-Some.command = search rules in (
-      left.0,
-      left.1,
-      used_at_all c.args.words.now c.in-Ok-Some.command are (g.S.Source.left c.args.input.now)
-          (g.S.Source.left c.answer_command.new.input) (map shown left.0) left.2.used,
-    )
-
-pub returns-in-Err-DoorFault-clause-deserved : goal.returns-in-Err-DoorFault-clause-deserved
-returns-in-Err-DoorFault-clause-deserved g c command bytes refusal asked reads told deserved calm unfaulted =
-    let left = c.in-Err-DoorFault.ensures.leaves in
-    let shown = shown_by g.R.L.Link.faults g.R.L.Link.quiets g.R.L.Link.gots g.R.L.Link.held g.R.L.Link.telling in
-    let are : AreCommand c.args.words.now c.in-Ok-Some.command = search rules in
+    let before = g.S.Source.left c.args.input.now in
+    let now = g.S.Source.left c.answer_command.new.input in
+    let leaves = c.in-Ok.ensures.leaves.2.4 in
     let same = one_command c.args.words.now command c.in-Ok-Some.command asked are in
-    absurd (used_undeserved c.input_laws.ensures c.in-Ok-Some.command (g.S.Source.left c.args.input.now)
-    (g.S.Source.left c.answer_command.new.input) bytes told (subst Reads same reads) (map shown left.0) refusal
-    (left.2.behind DoorFault (ap Err c.in-Err-DoorFault.field-0-is) tt)
-    (subst (λ command. Deserves (breaks_in command) bytes refusal) same deserved))
+    subst (λ command. TakesCount (most_bytes command) before now) (sym same)
+    (taken_of_long c.input_laws.ensures c.in-Ok-Some.command before now bytes told _ c.in-Ok.answer.status
+    c.in-Ok.answer.text.items (subst (λ command. most_bytes command ≤ length bytes) same long)
+    (status_is c.in-Ok.answer.status c.deliver-in-Ok.result refused_status c.as_slice.result.now _ _ _ _
+    c.deliver-in-Ok.ensures.delivers refused (λ e. omega (arith, e))) leaves.owed)
+
+pub returns-in-Err-RackFault-clause-unbroken : goal.returns-in-Err-RackFault-clause-unbroken
+returns-in-Err-RackFault-clause-unbroken g c command bytes asked told unbroken calm unfaulted quiet =
+    let are : AreCommand c.args.words.now c.in-Ok-Some.command = search rules in
+    let before = g.S.Source.left c.args.input.now in
+    let now = g.S.Source.left c.answer_command.new.input in
+    let same = one_command c.args.words.now command c.in-Ok-Some.command asked are in
+    absurd ((no_failure command c.in-Ok-Some.command same before now (g.R.Rack.made c.args.rack.now)
+    (g.R.Rack.made c.answer_command.new.rack) _ (g.R.Rack.faults c.args.rack.now)
+    (g.R.Rack.faults c.answer_command.new.rack) (g.D.Door.faults c.args.door.now)
+    (g.D.Door.faults c.answer_command.new.door) (Err c.in-Err-RackFault.field-0) quiet c.in-Err-RackFault.ensures.leaves.2.4
+    c.in-Err-RackFault.ensures.rack_faults c.in-Err-RackFault.ensures.door_faults).0 (ap Err c.in-Err-RackFault.field-0-is))
+
+pub returns-in-Err-RackFault-clause-right : goal.returns-in-Err-RackFault-clause-right
+returns-in-Err-RackFault-clause-right g c command bytes asked told right calm unfaulted quiet =
+    let are : AreCommand c.args.words.now c.in-Ok-Some.command = search rules in
+    let before = g.S.Source.left c.args.input.now in
+    let now = g.S.Source.left c.answer_command.new.input in
+    let same = one_command c.args.words.now command c.in-Ok-Some.command asked are in
+    absurd ((no_failure command c.in-Ok-Some.command same before now (g.R.Rack.made c.args.rack.now)
+    (g.R.Rack.made c.answer_command.new.rack) _ (g.R.Rack.faults c.args.rack.now)
+    (g.R.Rack.faults c.answer_command.new.rack) (g.D.Door.faults c.args.door.now)
+    (g.D.Door.faults c.answer_command.new.door) (Err c.in-Err-RackFault.field-0) quiet c.in-Err-RackFault.ensures.leaves.2.4
+    c.in-Err-RackFault.ensures.rack_faults c.in-Err-RackFault.ensures.door_faults).0 (ap Err c.in-Err-RackFault.field-0-is))
 
 pub returns-in-Err-RackFault-clause-deserved : goal.returns-in-Err-RackFault-clause-deserved
 returns-in-Err-RackFault-clause-deserved g c command bytes refusal asked reads told deserved calm unfaulted =
-    let left = c.in-Err-RackFault.ensures.leaves in
-    let shown = shown_by g.R.L.Link.faults g.R.L.Link.quiets g.R.L.Link.gots g.R.L.Link.held g.R.L.Link.telling in
     let are : AreCommand c.args.words.now c.in-Ok-Some.command = search rules in
+    let before = g.S.Source.left c.args.input.now in
+    let now = g.S.Source.left c.answer_command.new.input in
     let same = one_command c.args.words.now command c.in-Ok-Some.command asked are in
-    absurd (used_undeserved c.input_laws.ensures c.in-Ok-Some.command (g.S.Source.left c.args.input.now)
-    (g.S.Source.left c.answer_command.new.input) bytes told (subst Reads same reads) (map shown left.0) refusal
-    (left.2.behind RackFault (ap Err c.in-Err-RackFault.field-0-is) tt)
+    absurd (used_undeserved c.input_laws.ensures c.in-Ok-Some.command before now bytes told (subst Reads same reads) _
+    refusal (c.in-Err-RackFault.ensures.leaves.2.4.behind RackFault (ap Err c.in-Err-RackFault.field-0-is) tt)
     (subst (λ command. Deserves (breaks_in command) bytes refusal) same deserved))
 
-pub returns-clause-kept : goal.returns-clause-kept
-returns-clause-kept g c =
-    let left = c.in-Err-NoMemory.ensures.leaves in
-    let shown = shown_by g.R.L.Link.faults g.R.L.Link.quiets g.R.L.Link.gots g.R.L.Link.held g.R.L.Link.telling in
-    let are : AreCommand c.args.words.now c.in-Ok-Some.command = search rules in (
-      left.0,
-      left.1,
-      used_at_all c.args.words.now c.in-Ok-Some.command are (g.S.Source.left c.args.input.now)
-          (g.S.Source.left c.answer_command.new.input) (map shown left.0) left.2.used,
-    )
+pub returns-in-Err-DoorFault-clause-unbroken : goal.returns-in-Err-DoorFault-clause-unbroken
+returns-in-Err-DoorFault-clause-unbroken g c command bytes asked told unbroken calm unfaulted quiet =
+    let are : AreCommand c.args.words.now c.in-Ok-Some.command = search rules in
+    let before = g.S.Source.left c.args.input.now in
+    let now = g.S.Source.left c.answer_command.new.input in
+    let same = one_command c.args.words.now command c.in-Ok-Some.command asked are in
+    absurd ((no_failure command c.in-Ok-Some.command same before now (g.R.Rack.made c.args.rack.now)
+    (g.R.Rack.made c.answer_command.new.rack) _ (g.R.Rack.faults c.args.rack.now)
+    (g.R.Rack.faults c.answer_command.new.rack) (g.D.Door.faults c.args.door.now)
+    (g.D.Door.faults c.answer_command.new.door) (Err c.in-Err-DoorFault.field-0) quiet c.in-Err-DoorFault.ensures.leaves.2.4
+    c.in-Err-DoorFault.ensures.rack_faults c.in-Err-DoorFault.ensures.door_faults).1 (ap Err c.in-Err-DoorFault.field-0-is))
 
-pub returns-in-Err-ReadFault-clause-unread_load : goal.returns-in-Err-ReadFault-clause-unread_load
-returns-in-Err-ReadFault-clause-unread_load g c count asked =
+pub returns-in-Err-DoorFault-clause-right : goal.returns-in-Err-DoorFault-clause-right
+returns-in-Err-DoorFault-clause-right g c command bytes asked told right calm unfaulted quiet =
+    let are : AreCommand c.args.words.now c.in-Ok-Some.command = search rules in
+    let before = g.S.Source.left c.args.input.now in
+    let now = g.S.Source.left c.answer_command.new.input in
+    let same = one_command c.args.words.now command c.in-Ok-Some.command asked are in
+    absurd ((no_failure command c.in-Ok-Some.command same before now (g.R.Rack.made c.args.rack.now)
+    (g.R.Rack.made c.answer_command.new.rack) _ (g.R.Rack.faults c.args.rack.now)
+    (g.R.Rack.faults c.answer_command.new.rack) (g.D.Door.faults c.args.door.now)
+    (g.D.Door.faults c.answer_command.new.door) (Err c.in-Err-DoorFault.field-0) quiet c.in-Err-DoorFault.ensures.leaves.2.4
+    c.in-Err-DoorFault.ensures.rack_faults c.in-Err-DoorFault.ensures.door_faults).1 (ap Err c.in-Err-DoorFault.field-0-is))
+
+pub returns-in-Err-DoorFault-clause-deserved : goal.returns-in-Err-DoorFault-clause-deserved
+returns-in-Err-DoorFault-clause-deserved g c command bytes refusal asked reads told deserved calm unfaulted =
+    let are : AreCommand c.args.words.now c.in-Ok-Some.command = search rules in
+    let before = g.S.Source.left c.args.input.now in
+    let now = g.S.Source.left c.answer_command.new.input in
+    let same = one_command c.args.words.now command c.in-Ok-Some.command asked are in
+    absurd (used_undeserved c.input_laws.ensures c.in-Ok-Some.command before now bytes told (subst Reads same reads) _
+    refusal (c.in-Err-DoorFault.ensures.leaves.2.4.behind DoorFault (ap Err c.in-Err-DoorFault.field-0-is) tt)
+    (subst (λ command. Deserves (breaks_in command) bytes refusal) same deserved))
+
+pub returns-in-Err-ReadFault-clause-loadable : goal.returns-in-Err-ReadFault-clause-loadable
+returns-in-Err-ReadFault-clause-loadable g c count asked unfaulted quiet =
     let are : AreCommand c.args.words.now c.in-Ok-Some.command = search rules in
     let same = one_command c.args.words.now c.in-Ok-Some.command (Load count) are asked in
-    c.answer_command.ensures.unread count (ap generated_by same)
+    absurd (no_load_reads count c.in-Ok-Some.command same
+    (c.in-Err-ReadFault.ensures.leaves.2.4.reads (ap Err c.in-Err-ReadFault.field-0-is)))
 
-pub returns-in-Err-RackFault-clause-unread_load : goal.returns-in-Err-RackFault-clause-unread_load
-returns-in-Err-RackFault-clause-unread_load g c count asked =
+pub returns-in-Err-DoorFault-clause-loadable : goal.returns-in-Err-DoorFault-clause-loadable
+returns-in-Err-DoorFault-clause-loadable g c count asked unfaulted quiet =
     let are : AreCommand c.args.words.now c.in-Ok-Some.command = search rules in
     let same = one_command c.args.words.now c.in-Ok-Some.command (Load count) are asked in
-    c.answer_command.ensures.unread count (ap generated_by same)
-
-pub returns-in-Err-DoorFault-clause-unread_load : goal.returns-in-Err-DoorFault-clause-unread_load
-returns-in-Err-DoorFault-clause-unread_load g c count asked =
-    let are : AreCommand c.args.words.now c.in-Ok-Some.command = search rules in
-    let same = one_command c.args.words.now c.in-Ok-Some.command (Load count) are asked in
-    c.answer_command.ensures.unread count (ap generated_by same)
-
-pub returns-clause-unread_load : goal.returns-clause-unread_load
-returns-clause-unread_load g c count asked =
-    let are : AreCommand c.args.words.now c.in-Ok-Some.command = search rules in
-    let same = one_command c.args.words.now c.in-Ok-Some.command (Load count) are asked in
-    c.answer_command.ensures.unread count (ap generated_by same)
+    absurd (c.in-Err-DoorFault.ensures.leaves.2.4.serves (ap Err c.in-Err-DoorFault.field-0-is)
+    (subst IsNoServer (sym same) tt))
 
 pub answer_command-requires-after_bounds : goal.answer_command-requires-after_bounds
 answer_command-requires-after_bounds g c κs bounds = λ count generates.

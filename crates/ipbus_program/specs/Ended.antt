@@ -1,0 +1,131 @@
+-- THE END OF A CALL: what holds of everything outside when the program ends, at every status, and what more by the
+-- status; and which words and inputs end in which. It is one record, `Ended`. Profile.
+use Rattle.std.specs.Prelude.{◌≡◌, ◌⊎◌, ℕ, ◌+◌, List, [], length, Option, String}
+use Rattle.std.specs.declared.alloc.Global.{Global}
+use Rattle.std.specs.List.{AllByRecursion}
+use Rattle.ipb_base.specs.Faults.{Rose}
+use Rattle.ipb_outside.specs.Told.{TakesAtMost}
+use Rattle.lane_history.specs.Links.{IsUntouched}
+use Rattle.node_tree.specs.Maps.{RegisterMap}
+use Rattle.script_steps.specs.declared.operation.Step.{Step}
+use Rattle.script_lang.specs.declared.session.Session.{Session}
+use Rattle.session_input.specs.declared.refusal.Refusal.{Refusal}
+use Rattle.session_input.specs.Deserved.{IsListed, IsRunnable, IsServable}
+use Rattle.session_input.specs.Lines.{refusal_line}
+use Rattle.session_serve.specs.Serving.{AreBack}
+use Rattle.command_words.specs.declared.command.Command.{Command}
+use Rattle.command_words.specs.declared.command.Command.TheVariants.{Run, Check, Serve, Load}
+use Rattle.ipbus_program.specs.Numbers.{done_status, not_all_done_status, usage_status, refused_status}
+use Rattle.ipbus_program.specs.Numbers.{read_fault_status, write_fault_status, no_memory_status, rack_fault_status}
+use Rattle.ipbus_program.specs.Numbers.{door_fault_status}
+use Rattle.ipbus_program.specs.Outside.{Outside}
+use Rattle.ipbus_program.specs.Owed.{AreCommand, OwesDone, OwesRefusal, OwesText, OwesUsage, ServedSome, UsedSome}
+use Rattle.ipbus_program.specs.Owed.{Wrote, WroteOwed, WroteOwedPart}
+use Rattle.ipbus_program.specs.Runs.{Reads, most_bytes}
+
+-- the statuses that there are
+abbrev pub IsStatus : ℕ → Type 0
+IsStatus status =
+    (status ≡ done_status) ⊎ (status ≡ not_all_done_status) ⊎ (status ≡ usage_status) ⊎ (status ≡ refused_status)
+    ⊎ (status ≡ read_fault_status) ⊎ (status ≡ write_fault_status) ⊎ (status ≡ no_memory_status)
+    ⊎ (status ≡ rack_fault_status) ⊎ (status ≡ door_fault_status)
+
+-- those with which the text that the input deserves was written whole
+abbrev pub IsDoneStatus : ℕ → Type 0
+IsDoneStatus status = (status ≡ done_status) ⊎ (status ≡ not_all_done_status)
+
+-- Of the words, the outside and the status:
+pub record Ended (words : List (String Global)) (outside : Outside) (status : ℕ) : Type 0 where
+  -- it is one of these nine
+  pub known : IsStatus status
+  -- the rack was given back each link that it made in this call
+  pub counted : outside.made_now ≡ outside.made + length outside.given_back.links
+  -- they are those of the first boards of a session that the command uses, board by board, and where its scripts were
+  -- run, what each board executed is a merge of bodies that they ask of it; or there are none
+  pub used : (outside.given_back.links ≡ [])
+      ⊎ UsedSome words outside.left outside.left_now outside.given_back.links
+  -- each pair that came was served and went back
+  pub served : AreBack outside.given_back.came outside.given_back.back
+  -- no more was taken of the input than the command reads
+  pub taken : (command : Command) → AreCommand words command
+      → TakesAtMost (most_bytes command) outside.left outside.left_now
+  -- 0 and 1: what the command makes of the whole input over these links and pairs was written, and nothing else
+  pub done : IsDoneStatus status
+      → WroteOwed (OwesDone words outside.left outside.left_now outside.given_back status)
+      outside.written outside.written_now
+  -- 2: the words are no command, and the usage line was written
+  pub usage : status ≡ usage_status
+      → WroteOwed (OwesUsage words outside.left outside.left_now) outside.written outside.written_now
+  -- 3: the line of the first rule that the input breaks was written
+  pub refused : status ≡ refused_status
+      → WroteOwed (OwesRefusal words outside.left outside.left_now) outside.written outside.written_now
+  -- 4: the words are a command that reads
+  pub reads : status ≡ read_fault_status → (command : Command) × AreCommand words command × Reads command
+  -- 5: a part of a text that is owed was written
+  pub cut : status ≡ write_fault_status
+      → WroteOwedPart (OwesText words outside.left outside.left_now outside.given_back)
+      outside.written outside.written_now
+  -- 7: these are links of such a session, and their boards executed nothing
+  pub unreached : status ≡ rack_fault_status
+      → UsedSome words outside.left outside.left_now outside.given_back.links
+      × AllByRecursion IsUntouched outside.given_back.links
+  -- 8: the words are a command to serve, and these are the links of its boards
+  pub unserved : status ≡ door_fault_status
+      → ServedSome words outside.left outside.left_now outside.given_back.links
+
+-- ---- what is left alone
+
+-- the words are no command that reads
+abbrev pub AreNoReader : List (String Global) → Type 0
+AreNoReader words = (command : Command) → AreCommand words command → ¬ Reads command
+
+-- the words are no command to serve
+abbrev pub AreNoServer : List (String Global) → Type 0
+AreNoServer words = (port count : ℕ) → ¬ AreCommand words (Serve port count)
+
+-- the words are a command to list
+abbrev pub AreLister : List (String Global) → Type 0
+AreLister words = (table : List ℕ) × AreCommand words (Check table)
+
+-- the statuses with which nothing was written
+abbrev pub IsTextless : ℕ → Type 0
+IsTextless status =
+    (status ≡ read_fault_status) ⊎ (status ≡ no_memory_status) ⊎ (status ≡ rack_fault_status)
+    ⊎ (status ≡ door_fault_status)
+
+-- those with which no session was come by
+abbrev pub IsSessionless : ℕ → Type 0
+IsSessionless status = (status ≡ usage_status) ⊎ (status ≡ refused_status) ⊎ (status ≡ read_fault_status)
+
+-- no link was made
+abbrev pub MakesNoLink : List (String Global) → ℕ → Type 0
+MakesNoLink words status = AreLister words ⊎ IsSessionless status
+
+-- the door was not called
+abbrev pub CallsNoDoor : List (String Global) → ℕ → Type 0
+CallsNoDoor words status = AreNoServer words ⊎ IsSessionless status ⊎ (status ≡ rack_fault_status)
+
+-- ---- what is owed to a right input
+
+-- the bytes stand for what the command asks; a load asks for none
+abbrev pub IsRight : Command → List ℕ → Type 0
+IsRight Run bytes = (session : Session) × (steps : List (List Step)) × IsRunnable bytes session steps
+IsRight (Check table) bytes = (registers : RegisterMap) × IsListed bytes table registers
+IsRight (Serve port count) bytes = (session : Session) × IsServable bytes session
+IsRight (Load count) bytes = Unit {0}
+
+-- the counts of faults of the rack and of the door did not rise, as far as the command uses them
+abbrev pub IsCalm : Command → ℕ → ℕ → ℕ → ℕ → Type 0
+IsCalm Run rack rack_now door door_now = ¬ Rose rack rack_now
+IsCalm (Check table) rack rack_now door door_now = Unit {0}
+IsCalm (Serve port count) rack rack_now door door_now = (¬ Rose rack rack_now) × (¬ Rose door door_now)
+IsCalm (Load count) rack rack_now door door_now = ¬ Rose rack rack_now
+
+-- the text was written whole with one of the statuses 0 and 1, or memory ran out
+abbrev pub IsWhole : ℕ → Type 0
+IsWhole status = IsDoneStatus status ⊎ (status ≡ no_memory_status)
+
+-- the line of this refusal was written and its status answered, or memory ran out
+abbrev pub RefusesWith : Refusal → ℕ → Option (List ℕ) → Option (List ℕ) → Type 0
+RefusesWith refusal status old new =
+    ((status ≡ refused_status) × Wrote old new (refusal_line refusal)) ⊎ (status ≡ no_memory_status)

@@ -1,0 +1,25 @@
+-- What a call finds outside of the program and what it leaves there, as contracts see it. Profile.
+use Rattle.std.specs.Prelude.{ℕ, List, Option}
+use Rattle.lane_history.specs.Links.{LinkReport}
+use Rattle.session_serve.specs.Pairs.{PairReport}
+
+-- What was given back: what each link of a board shows, in board order, and what each pair of a connection showed when
+-- it came and when it went back, in the order of acceptance.
+pub record GivenBack : Type 0 where
+  pub links : List LinkReport
+  pub came : List PairReport
+  pub back : List PairReport
+
+-- The outside before a call and after it.
+pub record Outside : Type 0 where
+  -- the bytes that the input has left, where it tells them
+  pub left : Option (List ℕ)
+  pub left_now : Option (List ℕ)
+  -- the bytes that the output was given, where it tells them
+  pub written : Option (List ℕ)
+  pub written_now : Option (List ℕ)
+  -- how many links the rack has made
+  pub made : ℕ
+  pub made_now : ℕ
+  -- the links and the pairs that came into the program by this call and went back
+  pub given_back : GivenBack
