@@ -5,6 +5,7 @@ use crate::same::same_items;
 use ipb_base::Text;
 use script_plans::laws::few_words_are_few_pieces;
 use script_plans::{BoardRun, ClientPart, ClientParts, Greeting, plan_on};
+use script_steps::laws::what_is_denied_asks_for_less;
 use script_steps::{Decision, Steps, Verb};
 use std::alloc::Global;
 use std::test::Fail;
@@ -24,6 +25,36 @@ fn a_sum_is_planned(rt: HostRuntime) -> Result<(), Fail> {
     same_items(&rt, body.as_slice(), &[0x2000_015f, 0, 7]);
     same_items(&rt, planned.counts(), &[1usize]);
     assert!(rt; planned.pieces(0).is_some_and(|pieces| pieces.len() == 1));
+    Ok(())
+}
+
+#[test]
+fn a_denied_sum_is_not_planned(rt: HostRuntime) -> Result<(), Fail> {
+    few_words_are_few_pieces();
+    what_is_denied_asks_for_less();
+    let mut step = add(rt.alloc(), 0, 7)?;
+    step.rule(Decision::Denied { rule: 3 });
+    let steps = [step];
+    let planned = plan_on(rt.alloc(), &steps, 0, Greeting::Live { payload: 16 })?;
+    assert!(rt; planned.bodies().is_empty());
+    assert!(rt; planned.pieces(0).is_none());
+    same_items(&rt, planned.counts(), &[0usize]);
+    Ok(())
+}
+
+#[test]
+fn a_denied_write_is_printed_with_its_rule(rt: HostRuntime) -> Result<(), Fail> {
+    let line = OpLine {
+        number: 2,
+        verb: Verb::Write,
+        board: Text::copy_of(rt.alloc(), "b0")?,
+        name: Text::copy_of(rt.alloc(), "a")?,
+        result: OpResult::Denied { rule: u32::MAX },
+        places: LinePlaces::from_vec(Vec::new(rt.alloc())),
+    };
+    let text = line_text(rt.alloc(), &line)?;
+    let wanted = b"2 write b0:a denied by rule 4294967295\n";
+    same_items(&rt, text.as_slice(), wanted.as_slice());
     Ok(())
 }
 
