@@ -1,6 +1,6 @@
 -- A name matches items only where it is long enough for them, and no longer unless a rest is asked for.
-use Rattle.std.proofs.Common.{◌≡◌, ℕ, List, [], ◌∷◌, Bool, true, false, ◌&&◌, length, suc, refl, arith}
-use Rattle.std.proofs.Common.{◌-◌, drop, length-drop, ◌∙◌}
+use Rattle.std.proofs.Common.{◌≡◌, ℕ, List, [], ◌∷◌, Bool, true, false, ◌&&◌, ◌==◌, length, zero, suc, refl, arith}
+use Rattle.std.proofs.Common.{◌-◌, ◌<◌, ◌≤◌, drop, get_or, length-drop, ap, sym, ◌∙◌}
 use Rattle.std.proofs.lemmas.List.{at_drop_all}
 use Rattle.std.proofs.lemmas.Bool.Decides.{nat_tests}
 use Rattle.access_policy.specs.Cutting.{fits}
@@ -45,3 +45,26 @@ all_matched patterns rest items i h is =
     at_drop_all (λ ps. items_match ps rest (drop i items)) patterns i (omega arith)
     ∙ none_left rest (drop i items)
     (fits_left rest (length patterns) (length items) (length (drop i items)) h (omega (arith, length-drop i items)))
+
+pub long_enough : (rest : Bool) (m n : ℕ) → fits rest m n ≡ true → m ≤ n
+long_enough true m n h = grind (arith, nat_tests)
+long_enough false m n h = grind (arith, nat_tests)
+
+here_false : (first second : Bool) → first ≡ false → (first && second) ≡ false
+here_false first second h = rw h refl
+
+-- an item that does not match the id at its place
+pub misfit_at : (patterns : List ItemPattern) (rest : Bool) (items : List NameItem) (i : ℕ) (pattern : ItemPattern)
+    (item : NameItem) → i < length patterns → i < length items → pattern ≡ get_or patterns i pattern
+    → item ≡ get_or items i item → item_matches pattern item ≡ false → items_match patterns rest items ≡ false
+misfit_at [] rest items i pattern item within there is at bad = absurd (omega arith)
+misfit_at (first ∷ patterns) rest [] i pattern item within there is at bad = absurd (omega arith)
+misfit_at (first ∷ patterns) rest (one ∷ items) zero pattern item within there is at bad =
+    here_false (item_matches first one) (items_match patterns rest items)
+    (ap (item_matches first) (sym at) ∙ ap (λ p. item_matches p item) (sym is) ∙ bad)
+misfit_at (first ∷ patterns) rest (one ∷ items) (suc i) pattern item within there is at bad =
+    not_both (item_matches first one) (items_match patterns rest items)
+    (misfit_at patterns rest items i pattern item (omega arith) (omega arith) is at bad)
+
+pub some_items : (n : ℕ) → (n == 0) ≡ false → 0 < n
+some_items n h = grind (arith, nat_tests)

@@ -19,7 +19,7 @@ pub use deciding::decide;
 pub use ipb_base::{NoMemory, Text};
 pub use limits::{MAX_INDEX, MAX_RULES};
 pub use permitting::{permit, rule_scripts};
-pub use policy::{BoardPattern, Effect, ItemPattern, ItemPatterns, Pattern, Policy, Rule};
+pub use policy::{Access, BoardPattern, Effect, ItemPattern, ItemPatterns, Pattern, Policy, Rule};
 pub use reading::read_policy;
 pub use refusal::PolicyRefusal;
 pub use script_steps::Decision;

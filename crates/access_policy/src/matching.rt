@@ -1,6 +1,6 @@
 //! Whether the pattern of a rule matches a board and a register.
 
-ghost use Rattle.std.specs.Prelude.{◌≡◌, ◌==◌};
+ghost use Rattle.std.specs.Prelude.{◌≡◌, ◌==◌, ◌≤◌, Bool, false, length};
 ghost use Rattle.address_table.specs.Rules.{holds_of};
 ghost use Rattle.access_policy.specs.Cutting.{fits};
 ghost use Rattle.access_policy.specs.Names.{items_of};
@@ -47,12 +47,28 @@ pub(crate) fn parts_match(patterns: &[ItemPattern], rest: bool, parts: &[NamePar
     if !has_length(patterns.len(), rest, parts.len()) {
         return false;
     }
+    // Patterns often differ in their last items alone.
+    if !last_matches(patterns, parts) {
+        return false;
+    }
     for i in 0..patterns.len() {
         if !item_matches(&patterns[i], &parts[i]) {
             return false;
         }
     }
     true
+}
+
+/// Whether the last item of a pattern matches the id at its place.
+fn last_matches(patterns: &[ItemPattern], parts: &[NamePart<'_>]) -> bool
+    requires long { length patterns.now ≤ length parts.now }
+    ensures { result ≡ false → (rest : Bool) → spec.items_match patterns.now rest parts.now ≡ false }
+{
+    if patterns.is_empty() {
+        return true;
+    }
+    let last = patterns.len() - 1;
+    item_matches(&patterns[last], &parts[last])
 }
 
 /// Whether a name of so many ids is as long as so many items and what follows them ask for.

@@ -16,7 +16,7 @@ pub enum Effect {
 
 /// One use of a register.
 #[derive(Clone, Copy, PartialEq, Eq)]
-pub(crate) enum Access {
+pub enum Access {
     Reading,
     Writing,
 }
