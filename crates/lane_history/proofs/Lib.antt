@@ -15,6 +15,7 @@ mod Growing
 mod Live
 mod Ungarbled
 pub mod Shown
+mod Alone
 pub mod BoardLines
 mod Lines
 mod Rounds

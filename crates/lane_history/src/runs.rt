@@ -15,9 +15,11 @@ ghost use Rattle.script_plans.specs.declared.board_run.BoardRun.{BoardRun};
 ghost use Rattle.transcript.specs.Lines.{board_line, transcript_of};
 ghost use Rattle.script_plans.specs.Runs.{outcomes_on, HaveOwnNames};
 ghost use Rattle.transcript.specs.Shown.{ShowsAllPlaces};
-ghost use Rattle.board_history.specs.History.{ShowsHistory, dispatches_by_client};
+ghost use Rattle.board_history.specs.History.{ShowsHistory, bodies_by_client, dispatches_by_client, outcomes_by_client};
+ghost use Rattle.board_history.specs.InTurn.{IsUsedByOne};
+ghost use Rattle.board_history.specs.Parts.{AllReplied};
 ghost use Rattle.board_history.specs.GiveUps.{time_outs};
-ghost use Rattle.board_history.specs.Runs.{opening_of, runs_from};
+ghost use Rattle.board_history.specs.Runs.{board_run, opening_of, runs_from};
 ghost use Rattle.board_history.specs.Lines.{IsBusLine};
 ghost use Rattle.board_history.specs.Answering.{AskRequests, OpensWithWords};
 ghost use Rattle.lane_history.specs.Links.{CanBeMade, IsFaithful, LinkReport};
@@ -130,6 +132,18 @@ pub fn clients_with_boards_of_their_own_have_one_run()
 {
     faithful_links_answer_all();
     a_client_alone_has_one_run();
+}
+
+/// What is shown of a live board that one client uses alone is determined also where its link lost, repeated, delayed or
+/// reordered datagrams, if it tells and each body of that client was replied to.
+pub fn a_client_alone_whose_bodies_were_replied_to_has_one_run()
+    ensures { (settings : Limits) (spec : BoardSpec) (board : ℕ) (scripts : List (List Step)) (run : BoardRun)
+        (link : LinkReport) (there : Board) (payload : ℕ) → IsRunOver settings spec board scripts run link →
+        run.greeting ≡ Live payload → link.board ≡ Some there → IsUsedByOne (bodies_by_client run) →
+        AllReplied (outcomes_by_client run) → run ≡ board_run spec board scripts }
+{
+    a_client_alone_is_in_turn();
+    a_session_has_one_run();
 }
 
 /// No line of an operation on a board whose link tells is garbled, whatever the links lose, repeat, delay or reorder,
