@@ -146,10 +146,10 @@ faults_are_bad (x ∷ xs) r is = elim (is_good x) as
       | false ↦ λ bad h. subst (λ y. is_good y ≡ false) (same_Some x r h) bad
     ] refl is
 
-none_bad : (rs : List OpResult) (done : OpResult) (found : Option OpResult) → first_fault rs ≡ found
-    → is_good (unwrap_or found done) ≡ true → first_fault rs ≡ None
-none_bad rs done None is good = is
-none_bad rs done (Some r) is good =
+none_bad : (rs : List OpResult) (otherwise : OpResult) (found : Option OpResult) → first_fault rs ≡ found
+    → is_good (unwrap_or found otherwise) ≡ true → first_fault rs ≡ None
+none_bad rs otherwise None is good = is
+none_bad rs otherwise (Some r) is good =
     let bad = faults_are_bad rs r is in
     let both : true ≡ false = sym good ∙ bad in absurd cc
 
@@ -246,8 +246,9 @@ module _ (law : (payload board : ℕ) (steps : List Step) (body : ℕ)
           slice_get_within part.planned.pieces found.0 found.1 found.2,
           ap (count_on board) (asked_allowed steps),
         ) in
-        let was : WasGood run client found.0 =
-        among runs client board run there [] (asked steps) found.0 0 refl below all in
+        let first : 0 + found.0 ≡ found.0 = omega arith in
+        let was : WasGood run client found.0 = subst (λ n. WasGood run client n) first
+        (among runs client board run there [] (asked steps) found.0 0 refl below all) in
         let good = shown_good run client found.0 payload was.op part found.1 greeted at found.2 was.good in
         told_good (ends_of part) j end ended found.1 (op_good (ends_of part) was.op found.1 good) found.3)
 

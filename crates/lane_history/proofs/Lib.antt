@@ -16,6 +16,7 @@ mod Live
 mod Ungarbled
 pub mod Shown
 mod Alone
+mod GoodLines
 pub mod BoardLines
 mod Lines
 mod Rounds
