@@ -15,6 +15,8 @@ mod Growing
 mod Live
 mod Ungarbled
 pub mod Shown
+mod Alone
+mod GoodLines
 pub mod BoardLines
 mod Lines
 mod Rounds

@@ -201,6 +201,16 @@ ShowAloneRuns board (spec ∷ specs) scripts (run ∷ runs) =
     × ShowAloneRuns (board + 1) specs scripts runs
 ShowAloneRuns board specs scripts runs = ⊥
 
+-- The same of the boards that are live and whose links tell, whatever the links lost.
+abbrev pub ShowAloneRunsWhereTold :
+    ℕ → List BoardSpec → List (List Step) → List BoardRun → List LinkReport → Type 0
+ShowAloneRunsWhereTold board [] scripts [] [] = Unit {0}
+ShowAloneRunsWhereTold board (spec ∷ specs) scripts (run ∷ runs) (link ∷ links) =
+    ((payload : ℕ) → run.greeting ≡ Live payload → is_some link.board ≡ true → IsUsedByOne (bodies_by_client run)
+    → run ≡ board_run spec board scripts)
+    × ShowAloneRunsWhereTold (board + 1) specs scripts runs links
+ShowAloneRunsWhereTold board specs scripts runs links = ⊥
+
 -- no two clients' scripts ask anything of one of these boards, the first of which has this position
 abbrev pub HaveOwnBoards : ℕ → List BoardSpec → List (List Step) → Type 0
 HaveOwnBoards board [] scripts = Unit {0}

@@ -12,17 +12,20 @@ ghost use Rattle.script_steps.specs.declared.operation.Step.{Step};
 ghost use Rattle.lane_record.specs.Outcomes.{is_timed_out};
 ghost use Rattle.script_plans.specs.declared.greeting.Greeting.TheVariants.{Live};
 ghost use Rattle.script_plans.specs.declared.board_run.BoardRun.{BoardRun};
-ghost use Rattle.transcript.specs.Lines.{board_line, transcript_of};
+ghost use Rattle.transcript.specs.Lines.{board_line, run_status, transcript_of};
 ghost use Rattle.script_plans.specs.Runs.{outcomes_on, HaveOwnNames};
 ghost use Rattle.transcript.specs.Shown.{ShowsAllPlaces};
-ghost use Rattle.board_history.specs.History.{ShowsHistory, dispatches_by_client};
+ghost use Rattle.board_history.specs.History.{ShowsHistory, bodies_by_client, dispatches_by_client, outcomes_by_client};
+ghost use Rattle.board_history.specs.InTurn.{IsUsedByOne};
+ghost use Rattle.board_history.specs.Parts.{AllReplied};
 ghost use Rattle.board_history.specs.GiveUps.{time_outs};
-ghost use Rattle.board_history.specs.Runs.{opening_of, runs_from};
+ghost use Rattle.board_history.specs.Runs.{board_run, opening_of, runs_from};
 ghost use Rattle.board_history.specs.Lines.{IsBusLine};
 ghost use Rattle.board_history.specs.Answering.{AskRequests, OpensWithWords};
 ghost use Rattle.lane_history.specs.Links.{CanBeMade, IsFaithful, LinkReport};
 ghost use Rattle.lane_history.specs.Runs.{AllExecutedSome, AreRunsOver, AreWholeRuns, IsRunOver, IsUngarbledWhereTold};
-ghost use Rattle.lane_history.specs.Runs.{HaveOwnBoards, IsLineOfRounds, NoneGarbled, ShowAloneRuns, ShowsScripts};
+ghost use Rattle.lane_history.specs.Runs.{HaveOwnBoards, IsLineOfRounds, NoneGarbled, ShowAloneRuns};
+ghost use Rattle.lane_history.specs.Runs.{ShowAloneRunsWhereTold, ShowsScripts};
 ghost use Rattle.lane_history.specs.Runs.{RepliesCame, TimeOutsWaited};
 
 use board_bus::laws::{a_reply_answers_its_body, words_stay_words};
@@ -33,8 +36,9 @@ use mtu_packer::laws::{operations_of_words_are_packed, packed_bodies_spell_reque
 use reply_join::laws::{
     each_answer_is_that_of_its_request, each_request_has_one_answer, joining_is_a_function,
 };
-use script_plans::laws::bodies_stand_dispatch_by_dispatch;
+use script_plans::laws::{bodies_stand_dispatch_by_dispatch, each_body_of_a_plan_has_a_piece};
 use transaction_codec::laws::one_list_for_words;
+use transcript::laws::the_status_tells_whether_all_was_done;
 
 /// Over a link that tells, what a run shows of a live board is one legal history of it.
 pub fn a_live_board_shows_a_history()
@@ -130,6 +134,40 @@ pub fn clients_with_boards_of_their_own_have_one_run()
 {
     faithful_links_answer_all();
     a_client_alone_has_one_run();
+}
+
+/// What is shown of a live board that one client uses alone is determined also where its link lost, repeated, delayed or
+/// reordered datagrams, if it tells and each body of that client was replied to.
+pub fn a_client_alone_whose_bodies_were_replied_to_has_one_run()
+    ensures { (settings : Limits) (spec : BoardSpec) (board : ℕ) (scripts : List (List Step)) (run : BoardRun)
+        (link : LinkReport) (there : Board) (payload : ℕ) → IsRunOver settings spec board scripts run link →
+        run.greeting ≡ Live payload → link.board ≡ Some there → IsUsedByOne (bodies_by_client run) →
+        AllReplied (outcomes_by_client run) → run ≡ board_run spec board scripts }
+{
+    a_client_alone_is_in_turn();
+    a_session_has_one_run();
+}
+
+/// Where every line of a session is a value, `done` or `was`, each body of each client was replied to, whatever the links
+/// lost, repeated, delayed or reordered.
+pub fn where_all_was_done_each_body_was_replied_to()
+    ensures { (settings : Limits) (specs : List BoardSpec) (scripts : List (List Step)) (runs : List BoardRun)
+        (links : List LinkReport) → AreRunsOver settings 0 specs scripts runs links →
+        run_status (transcript_of scripts runs).clients ≡ 0 →
+        AllByRecursion (λ run. AllReplied (outcomes_by_client run)) runs }
+{
+    the_status_tells_whether_all_was_done();
+    each_body_of_a_plan_has_a_piece();
+}
+
+/// So what is shown of a live board that one client uses alone, over a link that tells, is determined then.
+pub fn where_all_was_done_a_client_alone_has_one_run()
+    ensures { (settings : Limits) (specs : List BoardSpec) (scripts : List (List Step)) (runs : List BoardRun)
+        (links : List LinkReport) → AreRunsOver settings 0 specs scripts runs links →
+        run_status (transcript_of scripts runs).clients ≡ 0 → ShowAloneRunsWhereTold 0 specs scripts runs links }
+{
+    where_all_was_done_each_body_was_replied_to();
+    a_client_alone_whose_bodies_were_replied_to_has_one_run();
 }
 
 /// No line of an operation on a board whose link tells is garbled, whatever the links lose, repeat, delay or reorder,
