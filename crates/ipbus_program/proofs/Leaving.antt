@@ -110,6 +110,7 @@ owed_by laws bytes session steps links (Ok answer) runs prints =
       codes = laws.codes bytes session steps prints.runs links runs prints.boards;
       whole = laws.whole bytes session steps prints.runs links runs prints.boards;
       alone = laws.alone bytes session steps prints.runs links runs prints.boards;
+      settled = λ zero. laws.settled session steps prints.runs links prints.boards (sym prints.told ∙ zero);
     })
 owed_by laws bytes session steps links (Err why) runs prints = tt
 

@@ -5,7 +5,7 @@ use Rattle.board_history.specs.Lines.{IsBusLine}
 use Rattle.board_history.specs.Runs.{runs_from}
 use Rattle.lane_history.specs.Links.{IsFaithful, LinkReport}
 use Rattle.lane_history.specs.Runs.{AreRunsOver, AreWholeRuns, HaveOwnBoards, IsLineOfRounds, IsUngarbledWhereTold}
-use Rattle.lane_history.specs.Runs.{RepliesCame, ShowAloneRuns, TimeOutsWaited}
+use Rattle.lane_history.specs.Runs.{RepliesCame, ShowAloneRuns, ShowAloneRunsWhereTold, TimeOutsWaited}
 use Rattle.node_tree.specs.Maps.{RegisterMap}
 use Rattle.script_steps.specs.declared.operation.Step.{Step}
 use Rattle.script_lang.specs.declared.session.Session.{Session}
@@ -27,7 +27,7 @@ use Rattle.server_summary.specs.Answers.{AllTellAnswers, HasWrittenAll}
 use Rattle.server_summary.specs.Frames.{HasUnaskedCodes, OfEachBoard, OfEachFrame}
 use Rattle.server_summary.specs.Ruled.{AreCodedByRules}
 use Rattle.transcript.specs.Claims.{HasNoPlaceIfDenied, rules_of, rules_shown}
-use Rattle.transcript.specs.Lines.{transcript_of}
+use Rattle.transcript.specs.Lines.{run_status, transcript_of}
 use Rattle.transcript.specs.Shown.{ShowsAllPlaces}
 use Rattle.session_input.specs.Deserved.{BreaksInRun, BreaksInServe, BreaksInCheck, Deserves, IsRunnable, IsListed}
 use Rattle.session_input.specs.Deserved.{IsServable}
@@ -97,6 +97,10 @@ pub record RunLaws : Type 0 where
       (links : List LinkReport) → IsRunnable bytes session steps
       → AreRunsOver session.settings 0 session.boards steps runs links → AllByRecursion IsFaithful links
       → ShowAloneRuns 0 session.boards steps runs
+  -- and so it has over links that tell, where all was done
+  pub settled : (session : Session) (steps : List (List Step)) (runs : List BoardRun) (links : List LinkReport)
+      → AreRunsOver session.settings 0 session.boards steps runs links
+      → run_status (transcript_of steps runs).clients ≡ 0 → ShowAloneRunsWhereTold 0 session.boards steps runs links
 
 -- over faithful links clients that have boards of their own make no other run than this
 abbrev pub OwnBoardsLaw : Type 0

@@ -30,6 +30,7 @@
 --   the status                   run_status, IsBusLine                   transcript/specs/Lines,
 --                                                                        board_history/specs/Lines
 --   where nothing was held back  AreWholeRuns, ShowAloneRuns             lane_history/specs/Runs
+--   where all was done           ShowAloneRunsWhereTold                  lane_history/specs/Runs
 --   over any link, told or not   HoldsOverAnyLink                        lane_history/specs/Runs
 --   at every status              RanSomeOf, below, by AreLeft            session_run/specs/Links
 --
@@ -39,7 +40,7 @@ use Rattle.std.specs.List.{AllByRecursion, AllZip}
 use Rattle.lane_history.specs.Links.{LinkReport, IsFaithful}
 use Rattle.board_history.specs.Lines.{IsBusLine}
 use Rattle.lane_history.specs.Runs.{AreRunsOver, AreWholeRuns, IsLineOfRounds, IsUngarbledWhereTold}
-use Rattle.lane_history.specs.Runs.{RepliesCame, ShowAloneRuns, TimeOutsWaited}
+use Rattle.lane_history.specs.Runs.{RepliesCame, ShowAloneRuns, ShowAloneRunsWhereTold, TimeOutsWaited}
 use Rattle.script_steps.specs.declared.operation.Step.{Step}
 use Rattle.script_lang.specs.declared.session.Session.{Session}
 use Rattle.session_input.specs.Deserved.{IsRunnable}
@@ -89,6 +90,8 @@ pub record IsTranscriptOf (bytes : List ℕ) (links : List LinkReport) (status :
   -- clients, and a board that one client uses alone shows what the bus gives to that client
   pub whole : AllByRecursion IsFaithful links → AreWholeRuns session.boards runs links
   pub alone : AllByRecursion IsFaithful links → ShowAloneRuns 0 session.boards steps runs
+  -- at status 0 such a board, where its link tells, shows that whatever the link lost, repeated, delayed or reordered
+  pub settled : status ≡ 0 → ShowAloneRunsWhereTold 0 session.boards steps runs links
 
 -- At every status: the bytes stand for a session that can be run, and the links are those of its first boards, in
 -- order, each given back once; what each board executed is a merge of bodies that the scripts ask of it, some of each

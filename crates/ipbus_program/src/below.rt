@@ -13,6 +13,7 @@ use lane_history::runs::{
     board_lines_waited_for_their_time_outs, clients_with_boards_of_their_own_have_one_run,
     faithful_lines_fail_by_codes_of_the_bus_alone, faithful_links_answer_all,
     lines_show_the_order_of_each_board, lines_show_the_rounds_of_the_session, no_line_is_garbled,
+    where_all_was_done_a_client_alone_has_one_run,
 };
 use script_lang::laws::{
     a_session_keeps_its_limits, the_boards_of_a_session_have_their_own_names,
@@ -57,6 +58,7 @@ pub(crate) fn run_laws()
     a_session_keeps_its_limits();
     faithful_links_answer_all();
     a_client_alone_has_one_run();
+    where_all_was_done_a_client_alone_has_one_run();
 }
 
 /// Clients that have boards of their own make no other run over faithful links.

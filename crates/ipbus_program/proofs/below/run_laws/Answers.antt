@@ -50,4 +50,6 @@ returns c = record {
       c.a_client_alone_has_one_run.ensures session.settings 0 session.boards steps runs links
       (c.a_session_keeps_its_limits.ensures (session_part runnable.stands.document) session
       runnable.stands.is_session).settings.some_rounds calm are;
+  settled = λ session steps runs links are zero.
+      c.where_all_was_done_a_client_alone_has_one_run.ensures session.settings session.boards steps runs links are zero;
 }
