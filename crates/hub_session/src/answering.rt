@@ -1,7 +1,7 @@
 //! The reply frame to one request frame.
 
 ghost use Rattle.std.specs.Prelude.{◌≡◌, ◌++◌, length, IfOk, IfSome, OnOk, OnErr, Some};
-ghost use Rattle.std.specs.List.{AllByRecursion};
+ghost use Rattle.std.specs.List.{AllByRecursion, slice_get};
 ghost use Rattle.packet_codec.specs.Packet.{IsPacket};
 ghost use Rattle.lane_record.specs.Outcomes.{IsShort};
 ghost use Rattle.hub_multiplexer.specs.Seats.{IsSeatOf};
@@ -193,6 +193,13 @@ fn answer_packet<R: Wait, L: Link + Send>(
     append_reply(out, board, order, id, state, got)
 }
 
+/// How the board at a position stands, if there is one.
+fn state_at(map: &[BoardState], board: u32) -> Option<BoardState>
+    ensures { result ≡ slice_get map.now board }
+{
+    map.get(board as usize).copied()
+}
+
 /// Appends the reply frame to a request frame, after the hub was asked where the frame has a body for a lane. After
 /// `NoMemory` a part of it may stand there.
 pub(crate) fn answer_frame<R: Wait, L: Link + Send>(
@@ -215,7 +222,7 @@ pub(crate) fn answer_frame<R: Wait, L: Link + Send>(
     let board = frame.board;
     match read_control(*out.allocator(), frame.packet.as_slice())? {
         Some(packet) => {
-            let state = boards.map.get(board as usize).copied();
+            let state = state_at(boards.map, board);
             answer_packet(rt, boards.hub, seat, board, state, packet, out)
         }
         None => append_code(out, board, BAD_PACKET),

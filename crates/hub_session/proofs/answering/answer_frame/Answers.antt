@@ -12,20 +12,21 @@ use Rattle.hub_session.specs.Inside.{StandsOf}
 use Rattle.hub_session.proofs.Results.{on_err_follows, on_ok_follows}
 use Rattle.hub_session.proofs.answering.answer_frame.Goals as goal
 
-answered_by : (map : List BoardState) (frame : RequestFrame) (packet : Packet) (state : Option BoardState)
-    (old new : SeatState) (before after : List ℕ) → control_packet frame.packet ≡ Some packet
+answered_by : (map : List BoardState) (frame : RequestFrame) (board : ℕ) (packet : Packet) (state : Option BoardState)
+    (old new : SeatState) (before after : List ℕ) → board ≡ frame.board → control_packet frame.packet ≡ Some packet
     → state ≡ slice_get map frame.board
     → ((got : Got) × ExchangesFor (request_in (Some packet) state) got old new
-    × (after ≡ before ++ reply_bytes (reply_of_packet frame.board (Some packet) state got)))
+    × (after ≡ before ++ reply_bytes (reply_of_packet board (Some packet) state got)))
     → ((got : Got) × Exchanges map (record { frame = frame; got = got }) old new
     × (after ≡ before ++ answer map frame got))
-answered_by map frame packet state old new before after read is a = (
+answered_by map frame board packet state old new before after at read is a = (
   a.0,
   subst (λ (s : Option BoardState). ExchangesFor (request_in (control_packet frame.packet) s) a.0 old new) is
       (subst (λ (p : Option Packet). ExchangesFor (request_in p state) a.0 old new) (sym read) a.1),
-  a.2 ∙ (ap (λ (p : Option Packet). before ++ reply_bytes (reply_of_packet frame.board p state a.0)) (sym read)
+  a.2 ∙ (ap (λ (b : ℕ). before ++ reply_bytes (reply_of_packet b (Some packet) state a.0)) at
+      ∙ (ap (λ (p : Option Packet). before ++ reply_bytes (reply_of_packet frame.board p state a.0)) (sym read)
       ∙ ap (λ (s : Option BoardState). before
-      ++ reply_bytes (reply_of_packet frame.board (control_packet frame.packet) s a.0)) is),
+      ++ reply_bytes (reply_of_packet frame.board (control_packet frame.packet) s a.0)) is)),
 )
 
 stands_by : (map : List BoardState) (frame : RequestFrame) (packet : Packet) (state : Option BoardState)
@@ -43,16 +44,17 @@ returns-in-Some-clause-answered g c =
     let map = c.args.boards.now.map.now in
     let frame = c.args.frame.now in
     let read : control_packet frame.packet ≡ Some c.in-Some.packet = search rules in
-    let is : c.copied-state.result ≡ slice_get map frame.board = search rules in
+    let is : c.state_at-state.result ≡ slice_get map frame.board = search rules in
+    let at : c.frame.inside.board ≡ frame.board = search rules in
     on_ok_follows c.answer_packet.result c.answer_packet.ensures.answered
-    (answered_by map frame c.in-Some.packet c.copied-state.result c.args.seat.now c.answer_packet.new.seat
-    c.args.out.now.items c.answer_packet.new.out.items read is)
+    (answered_by map frame c.frame.inside.board c.in-Some.packet c.state_at-state.result c.args.seat.now c.answer_packet.new.seat
+    c.args.out.now.items c.answer_packet.new.out.items at read is)
 
 pub returns-in-Some-clause-stands : goal.returns-in-Some-clause-stands
 returns-in-Some-clause-stands g c =
     let map = c.args.boards.now.map.now in
     let frame = c.args.frame.now in
     let read : control_packet frame.packet ≡ Some c.in-Some.packet = search rules in
-    let is : c.copied-state.result ≡ slice_get map frame.board = search rules in
+    let is : c.state_at-state.result ≡ slice_get map frame.board = search rules in
     on_err_follows c.answer_packet.result c.answer_packet.ensures.reached
-    (stands_by map frame c.in-Some.packet c.copied-state.result c.args.seat.now c.answer_packet.new.seat read is)
+    (stands_by map frame c.in-Some.packet c.state_at-state.result c.args.seat.now c.answer_packet.new.seat read is)
