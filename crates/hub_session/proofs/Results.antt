@@ -17,3 +17,8 @@ at_only_error Q only (Err e) p is f = subst Q (sym is) (f p)
 pub on_err_follows : {T E P Q : Type 0} (r : Result T E) → OnErr r P → (P → Q) → OnErr r Q
 on_err_follows (Ok x) p f = tt
 on_err_follows (Err e) p f = f p
+
+-- what follows from what holds of an error
+pub if_err_follows : {T E : Type 0} (P Q : E → Type 0) (r : Result T E) → IfErr r P → ((e : E) → P e → Q e) → IfErr r Q
+if_err_follows P Q (Ok x) p f = tt
+if_err_follows P Q (Err e) p f = f e p

@@ -194,7 +194,7 @@ fn answer_packet<R: Wait, L: Link + Send>(
 }
 
 /// How the board at a position stands, if there is one.
-fn state_at(map: &[BoardState], board: u32) -> Option<BoardState>
+pub(crate) fn state_at(map: &[BoardState], board: u32) -> Option<BoardState>
     ensures { result ≡ slice_get map.now board }
 {
     map.get(board as usize).copied()

@@ -84,13 +84,13 @@ pub(crate) fn write_replies<O: Sink>(
     progress: &mut Progress,
 ) -> Result<(), SessionEnd>
     ensures held { progress.new.framer ≡ progress.old.framer }
-    ensures goes_on { OnOk result ((map : List BoardState) (seat : SeatState) (left : Option (List ℕ)) → GoesOn map
-        (standing seat left (O.written sink.old) progress.old.framer progress.old)
-        (standing seat left (O.written sink.new) progress.new.framer progress.new)) }
+    ensures goes_on { OnOk result ((map : List BoardState) (seat : SeatState) (left : Option (List ℕ))
+        (held : List ℕ) → GoesOn map (standing seat left (O.written sink.old) held progress.old)
+        (standing seat left (O.written sink.new) held progress.new)) }
     ensures waits { OnOk result (NoneWaits progress.new) }
-    ensures ends { OnErr result ((map : List BoardState) (seat : SeatState) (left : Option (List ℕ)) → ComesToEnd map
-        (standing seat left (O.written sink.old) progress.old.framer progress.old)
-        (standing seat left (O.written sink.new) progress.new.framer progress.new) SessionEnd.WriteFault) }
+    ensures ends { OnErr result ((map : List BoardState) (seat : SeatState) (left : Option (List ℕ))
+        (held : List ℕ) → ComesToEnd map (standing seat left (O.written sink.old) held progress.old)
+        (standing seat left (O.written sink.new) held progress.new) SessionEnd.WriteFault) }
     ensures only { IfErr result (λ end. end ≡ SessionEnd.WriteFault) }
     ensures faults { CountsFaults (result ≡ Err SessionEnd.WriteFault) (O.faults sink.old) (O.faults sink.new) }
 {

@@ -13,7 +13,8 @@ ghost use Rattle.hub_session.specs.Serving.{IsByInput, IsEndAt, IsLaneBelow, IsS
 ghost use Rattle.hub_session.specs.Inside.{ComesToEnd, CountsFaults, GoesOn, HasAnswered, IsAtInputEnd, IsSameSeat};
 ghost use Rattle.hub_session.specs.Inside.{IsSettled, NoneWaits, StandsOf, standing};
 
-use crate::answering::answer_frame;
+use crate::answering::{answer_frame, state_at};
+use crate::asking::may_wait;
 use crate::boards::Boards;
 use crate::progress::{Progress, Replies, write_replies};
 use crate::served::{Served, SessionEnd};
@@ -53,8 +54,34 @@ fn push_answer<R: Wait, L: Link + Send>(
     Ok(())
 }
 
+/// Writes the replies that wait, where the answer to a frame may have to wait for a board.
+fn write_before_waiting<L: Link + Send, O: Sink>(
+    boards: &Boards<L>,
+    sink: &mut O,
+    progress: &mut Progress,
+    frame: &Frame,
+) -> Result<(), SessionEnd>
+    requires lanes { AllByRecursion (IsLaneBelow (length boards.now.hub.now.turns)) boards.now.map.now }
+    ensures held { progress.new.framer ≡ progress.old.framer }
+    ensures goes_on { OnOk result ((map : List StateOfBoard) (seat : SeatState) (left : Option (List ℕ))
+        (held : List ℕ) → GoesOn map (standing seat left (O.written sink.old) held progress.old)
+        (standing seat left (O.written sink.new) held progress.new)) }
+    ensures ends { OnErr result ((map : List StateOfBoard) (seat : SeatState) (left : Option (List ℕ))
+        (held : List ℕ) → ComesToEnd map (standing seat left (O.written sink.old) held progress.old)
+        (standing seat left (O.written sink.new) held progress.new) SessionEnd.WriteFault) }
+    ensures only { IfErr result (λ end. end ≡ SessionEnd.WriteFault) }
+    ensures faults { CountsFaults (result ≡ Err SessionEnd.WriteFault) (O.faults sink.old) (O.faults sink.new) }
+{
+    let state = state_at(boards.map, frame.board);
+    if may_wait(boards.hub, state) {
+        write_replies(sink, progress)
+    } else {
+        Ok(())
+    }
+}
+
 /// Answers one frame, and writes the replies where they have become many bytes.
-fn answer_next<R: Wait, L: Link + Send, O: Sink>(
+fn answer_one<R: Wait, L: Link + Send, O: Sink>(
     rt: &R,
     boards: &Boards<L>,
     seat: &mut Seat,
@@ -87,6 +114,37 @@ fn answer_next<R: Wait, L: Link + Send, O: Sink>(
         }
         Err(NoMemory) => Err(SessionEnd::NoMemory),
     }
+}
+
+/// Answers one frame, behind the replies that wait: none of them waits for a board.
+fn answer_next<R: Wait, L: Link + Send, O: Sink>(
+    rt: &R,
+    boards: &Boards<L>,
+    seat: &mut Seat,
+    sink: &mut O,
+    progress: &mut Progress,
+    frame: &Frame,
+) -> Result<(), SessionEnd>
+    requires lanes { AllByRecursion (IsLaneBelow (length boards.now.hub.now.turns)) boards.now.map.now }
+    requires seat { IsSeatOf boards.now.hub.now seat.old }
+    requires settled { AllByRecursion IsSettled seat.old.knows }
+    requires frame { IsFrame frame.now }
+    ensures same { IsSameSeat seat.old seat.new }
+    ensures settled { result ≢ Err SessionEnd.NoMemory → AllByRecursion IsSettled seat.new.knows }
+    ensures held { progress.new.framer ≡ progress.old.framer }
+    ensures goes_on { OnOk result ((left : Option (List ℕ)) → GoesOn boards.now.map.now
+        (standing seat.old left (O.written sink.old) (frame_bytes frame.now ++ progress.old.framer) progress.old)
+        (standing seat.new left (O.written sink.new) progress.new.framer progress.new)) }
+    ensures ends { IfErr result (λ end. (left : Option (List ℕ)) → ComesToEnd boards.now.map.now
+        (standing seat.old left (O.written sink.old) (frame_bytes frame.now ++ progress.old.framer) progress.old)
+        (standing seat.new left (O.written sink.new) progress.new.framer progress.new) end) }
+    ensures not_read { result ≢ Err SessionEnd.ReadFault }
+    ensures faults { CountsFaults (result ≡ Err SessionEnd.WriteFault) (O.faults sink.old) (O.faults sink.new) }
+{
+    if let Err(end) = write_before_waiting(boards, sink, progress, frame) {
+        return Err(end);
+    }
+    answer_one(rt, boards, seat, sink, progress, frame)
 }
 
 /// Answers the frames that are whole, in order, and writes all answers.
