@@ -116,7 +116,7 @@ fn answer_one<R: Wait, L: Link + Send, O: Sink>(
     }
 }
 
-/// Answers one frame, behind the replies that wait: none of them waits for a board.
+/// Answers one frame. Where that may have to wait for a board, the replies that are there are written before.
 fn answer_next<R: Wait, L: Link + Send, O: Sink>(
     rt: &R,
     boards: &Boards<L>,
@@ -275,11 +275,11 @@ fn serve_pieces<R: Wait, L: Link + Send, S: Source, O: Sink>(
 
 /// Serves the connection of a client under a seat of the hub: it answers each request frame that comes from the source
 /// by one reply frame to the sink, in order (profile). The answers to the frames that came whole in what was read are
-/// written together, before it reads again. `map` says how the board at each position stands. The seat made no call yet,
-/// and its client has no entry on any lane. It reads to the end of the input, or to a length field out of range, unless
-/// a fault or want of memory ends it before; its last call on the sink is `end`. After want of memory the source, the
-/// sink and the seat stand as the calls on them left them. A frame for a lane on which planning was closed before is
-/// answered as that of a full lane.
+/// written together, before it reads again, and before it waits for a board whose link has what waits. `map` says how
+/// the board at each position stands. The seat made no call yet, and its client has no entry on any lane. It reads to the
+/// end of the input, or to a length field out of range, unless a fault or want of memory ends it before; its last call
+/// on the sink is `end`. After want of memory the source, the sink and the seat stand as the calls on them left them. A
+/// frame for a lane on which planning was closed before is answered as that of a full lane.
 pub fn serve_one<L: Link + Send, S: Source, O: Sink, R: Wait>(
     rt: &R,
     alloc: Global,
