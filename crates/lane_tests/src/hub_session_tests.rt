@@ -184,7 +184,12 @@ fn frames_of_one_read_are_answered_by_one_write(rt: HostRuntime) -> Result<(), F
     for (piece, take, write, wanted) in [
         (40, 48, 2, (2, SessionEnd::Closed, Written::AnswerTwice)),
         (20, 48, 2, (1, SessionEnd::WriteFault, Written::Answer)),
-        (40, 5, 6, (1, SessionEnd::WriteFault, Written::AnswerAndAByte)),
+        (
+            40,
+            5,
+            6,
+            (1, SessionEnd::WriteFault, Written::AnswerAndAByte),
+        ),
     ] {
         let served = serve(&rt, rt.alloc(), Input::ReadTwice, piece, take, 0, write)?;
         assert!(rt; served == wanted);
