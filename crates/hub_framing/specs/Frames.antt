@@ -83,3 +83,8 @@ pub record IsReplyFrame (frame : ReplyFrame) : Type 0 where
 abbrev pub reply_bytes : ReplyFrame → List ℕ
 reply_bytes frame = word_bytes (length frame.packet + 8)
     ++ (word_bytes frame.board ++ (to_be_bytes w16 frame.code ++ (0 ∷ 0 ∷ frame.packet)))
+
+-- what stands before the packet in a reply frame whose packet has so many bytes
+abbrev pub reply_head : ℕ → ℕ → ℕ → List ℕ
+reply_head board code count =
+    word_bytes (count + 8) ++ (word_bytes board ++ (to_be_bytes w16 code ++ (0 ∷ 0 ∷ [])))

@@ -11,4 +11,4 @@ mod reply;
 pub use frame::{Frame, MAX_FRAME_LENGTH, MAX_PACKET_BYTES, MIN_FRAME_LENGTH};
 pub use framer::{FrameRefusal, Framer};
 pub use ipb_base::NoMemory;
-pub use reply::write_frame;
+pub use reply::{append_reply_head, write_frame};

@@ -106,6 +106,14 @@ impl<L: Link + Send> Hub<L> {
         self.turns.len()
     }
 
+    /// Whether the link of a board has what waits beside its lane: then a call that waits for something of the board may
+    /// sleep until a datagram comes. It never waits.
+    pub fn has_waiter(&self, board: usize) -> bool
+        requires { board < length self.now.turns }
+    {
+        self.bells[board].waiter().is_some()
+    }
+
     /// Asks the seat's next planned body on a board, by one exchange. It never waits. `Busy` where another held the
     /// lane at that exchange. Want of memory adds nothing.
     #[tactic(auto, using(crate::proofs::Boards::idle_at))]

@@ -2,6 +2,8 @@ mod Seats
 mod Passes
 mod Packets
 mod Entries
+mod Results
+mod Waiting
 mod Connections
 mod Told
 mod Replies

@@ -37,7 +37,7 @@ pub record IsUnused (k : Knowledge) : Type 0 where
   pub no_call : k.mine ≡ []
   pub no_entry : own_items k ≡ []
 
--- ---- a frame whose answer was not written whole
+-- ---- a frame whose answer was not made
 
 -- How far it came on its lane: the record was seen again and the body was not planned; it was planned; it was planned
 -- and asked; or the hub came to something for the frame.
@@ -100,9 +100,9 @@ actions_left boards lane seq (Some u) = actions_for lane seq (request_of boards 
 
 -- ---- one lane
 
--- What the seat did on a lane: of each frame that was answered and whose body was submitted there, the Plan, the Ask
--- and the Took with what the answer tells, in order, the numbers from 0; then what stands of a frame that was not
--- answered. Nothing else of what the pass knows changed, but what it has seen and how often it found the lane taken.
+-- What the seat did on a lane: of each frame that has an answer and whose body was submitted there, the Plan, the Ask
+-- and the Took with what the answer tells, in order, the numbers from 0; then what stands of a frame that has none.
+-- Nothing else of what the pass knows changed, but what it has seen and how often it found the lane taken.
 pub record HasServedOn (boards : List BoardState) (lane : ℕ) (answered : List Exchange) (unanswered : Option Unanswered)
     (k after : Knowledge) : Type 0 where
   pub rest_same : after ≡ record k { seen = after.seen; mine = after.mine; vain = after.vain }
@@ -148,17 +148,18 @@ IsInputAt left ends.ReadFault = ⊤
 IsInputAt left ends.WriteFault = ⊤
 IsInputAt left ends.NoMemory = ⊤
 
--- What was written behind the answers, and of which frame: at a fault of writing a proper prefix of the answer to the
--- next frame, and else nothing. After want of memory there may be a frame that was begun.
-abbrev pub IsPartAt : List BoardState → Option Unanswered → List ℕ → SessionEnd → Type 0
-IsPartAt boards unanswered part ends.WriteFault = (frame : RequestFrame) × (got : Got)
-    × (unanswered ≡ Some (record { frame = frame; reached = Exchanged got }))
-    × IsProperPrefix part (answer boards frame got)
-IsPartAt boards unanswered part ends.NoMemory = part ≡ []
-IsPartAt boards unanswered part ends.Closed = (unanswered ≡ None) × (part ≡ [])
-IsPartAt boards unanswered part ends.CutFrame = (unanswered ≡ None) × (part ≡ [])
-IsPartAt boards unanswered part ends.BadFrame = (unanswered ≡ None) × (part ≡ [])
-IsPartAt boards unanswered part ends.ReadFault = (unanswered ≡ None) × (part ≡ [])
+-- What was written behind the answers that were written whole, and which frames are behind those of these answers. At a
+-- fault of writing it is a proper prefix of the next answer, and no frame is there without an answer. After want of
+-- memory it is nothing: answers that wait to be written are not, and there may be a frame that was begun. At every other
+-- end it is nothing, and all answers were written.
+abbrev pub IsPartAt : List BoardState → List Exchange → Option Unanswered → List ℕ → SessionEnd → Type 0
+IsPartAt boards unwritten unanswered part ends.WriteFault = (unanswered ≡ None) × (next : Exchange)
+    × (later : List Exchange) × (unwritten ≡ next ∷ later) × IsProperPrefix part (answer boards next.frame next.got)
+IsPartAt boards unwritten unanswered part ends.NoMemory = part ≡ []
+IsPartAt boards unwritten unanswered part ends.Closed = (unanswered ≡ None) × (unwritten ≡ []) × (part ≡ [])
+IsPartAt boards unwritten unanswered part ends.CutFrame = (unanswered ≡ None) × (unwritten ≡ []) × (part ≡ [])
+IsPartAt boards unwritten unanswered part ends.BadFrame = (unanswered ≡ None) × (unwritten ≡ []) × (part ≡ [])
+IsPartAt boards unwritten unanswered part ends.ReadFault = (unanswered ≡ None) × (unwritten ≡ []) × (part ≡ [])
 
 -- What serving a connection did, to the bytes that its source has left, to those that its sink was given, and to what
 -- the seat knows. What is not told stays so.
@@ -167,31 +168,33 @@ pub record IsServed (boards : List BoardState) (old new : SeatState) (left_befor
   -- the bytes that were read
   pub bytes : List ℕ
   pub taken : left_before ≡ prepend_known bytes left_after
-  -- They begin with the frames that were answered, in order, and then with one that was not, if there is one.
+  -- They begin with the frames whose answers were written whole, in order; then come those whose answers were not, and
+  -- then one without an answer, if there is one.
   pub answered : List Exchange
+  pub unwritten : List Exchange
   pub unanswered : Option Unanswered
   pub rest : List ℕ
-  pub frames : bytes ≡ frames_bytes (frames_of answered ++ frame_left unanswered) ++ rest
-  pub each_frame : AllByRecursion IsFrame (frames_of answered ++ frame_left unanswered)
+  pub frames : bytes ≡ frames_bytes (frames_of (answered ++ unwritten) ++ frame_left unanswered) ++ rest
+  pub each_frame : AllByRecursion IsFrame (frames_of (answered ++ unwritten) ++ frame_left unanswered)
   -- All frames that were read are answered, unless a fault of writing or want of memory came before.
   pub all_frames : AnswersAll served.end → IsFrameStream bytes (frames_of answered) rest
-  -- the number of frames that were answered, in 64 bits, where it stands still at its end
+  -- the number of answers that were written whole, in 64 bits, where it stands still at its end
   pub counted : served.frames ≡ in_64_bits (length answered)
   -- The answers were written in order; behind them a part of the next one at a fault of writing alone.
   pub part : List ℕ
   pub written : written_after ≡ append_known written_before (answers boards answered ++ part)
-  pub part_of : IsPartAt boards unanswered part served.end
+  pub part_of : IsPartAt boards unwritten unanswered part served.end
   -- The hub was asked for each body that a frame has for a lane, and nothing else changed what the seat knows. A
   -- body was refused by the rules of planning, on the record as the seat saw it then.
-  pub exchanges : AllByRecursion (IsExchange boards) answered
+  pub exchanges : AllByRecursion (IsExchange boards) (answered ++ unwritten)
   pub between : SeatState
-  pub exchanged : ExchangesAll boards answered old between
+  pub exchanged : ExchangesAll boards (answered ++ unwritten) old between
   pub reached : Reaches boards unanswered between new
   -- the seat knows as many lanes as before
   pub known : length new.knows ≡ length old.knows
   -- the seat's entries on each lane
   pub on_lanes : (lane : ℕ) (k after : Knowledge) → slice_get old.knows lane ≡ Some k
-      → slice_get new.knows lane ≡ Some after → HasServedOn boards lane answered unanswered k after
+      → slice_get new.knows lane ≡ Some after → HasServedOn boards lane (answered ++ unwritten) unanswered k after
   -- why it ended
   pub ended_at : IsEndAt rest served.end
   pub input : IsInputAt left_after served.end

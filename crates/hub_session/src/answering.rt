@@ -1,7 +1,7 @@
 //! The reply frame to one request frame.
 
-ghost use Rattle.std.specs.Prelude.{◌≡◌, length, IfOk, IfSome, OnOk, OnErr, Some};
-ghost use Rattle.std.specs.List.{AllByRecursion};
+ghost use Rattle.std.specs.Prelude.{◌≡◌, ◌++◌, length, IfOk, IfSome, OnOk, OnErr, Some};
+ghost use Rattle.std.specs.List.{AllByRecursion, slice_get};
 ghost use Rattle.packet_codec.specs.Packet.{IsPacket};
 ghost use Rattle.lane_record.specs.Outcomes.{IsShort};
 ghost use Rattle.hub_multiplexer.specs.Seats.{IsSeatOf};
@@ -15,16 +15,17 @@ ghost use Rattle.hub_session.specs.Serving.{IsLaneBelow, Reached, ReachesFor};
 ghost use Rattle.hub_session.specs.Inside.{IsSameSeat, IsSettled, IsShortGot, StandsOf};
 
 use crate::asking::ask_board;
+use crate::boards::Boards;
 use crate::codes::{
     BAD_PACKET, BODY_TOO_LONG, LINK_LOST, NO_BOARD, OVERFULL, REPLIED, REPLY_TOO_LONG, TIMED_OUT,
     UNSENT,
 };
 use crate::got::Got;
-use hub_framing::{Frame, write_frame};
+use hub_framing::{Frame, append_reply_head};
 use hub_lane::{BoardState, PlanRefusal};
-use hub_multiplexer::{Hub, Link, NoMemory, Outcome, Seat, Words};
+use hub_multiplexer::{Hub, Link, NoMemory, Outcome, Seat};
 use packet_codec::laws::reading_is_the_grammar;
-use packet_codec::{BadPacket, Order, Packet, PacketKind, read_packet, write_packet};
+use packet_codec::{BadPacket, Head, Order, Packet, PacketKind, append_packet, read_packet};
 use std::alloc::Global;
 use std::sync::Wait;
 
@@ -56,56 +57,55 @@ fn if_control(packet: Packet) -> Option<Packet>
     }
 }
 
-/// A reply frame without a packet.
-fn write_code(alloc: Global, board: u32, code: u16) -> Result<Vec<u8>, NoMemory>
-    ensures { IfOk result (λ bytes. bytes.items ≡ reply_bytes (code_alone board code)) }
+/// Appends a reply frame without a packet.
+fn append_code(out: &mut Vec<u8>, board: u32, code: u16) -> Result<(), NoMemory>
+    ensures { OnOk result (out.new.items ≡ out.old.items ++ reply_bytes (code_alone board code)) }
 {
-    write_frame(alloc, board, code, &[])
+    append_reply_head(out, board, code, 0)
 }
 
-/// The reply frame with the words of a board's reply.
-fn write_replied(
-    alloc: Global,
+/// Appends the reply frame with the words of a board's reply.
+fn append_replied(
+    out: &mut Vec<u8>,
     board: u32,
     order: Order,
     id: u16,
-    words: Words,
-) -> Result<Vec<u8>, NoMemory>
-    requires { IsShort (Outcome.Replied 0 words) }
-    ensures { IfOk result (λ bytes. bytes.items
-        ≡ reply_bytes (reply_of_outcome board order id (Outcome.Replied 0 words))) }
+    words: &[u32],
+) -> Result<(), NoMemory>
+    requires { IsShort (Outcome.Replied 0 words.now) }
+    ensures { OnOk result (out.new.items ≡ out.old.items
+        ++ reply_bytes (reply_of_outcome board order id (Outcome.Replied 0 words.now))) }
 {
-    let packet = write_packet(
-        alloc,
-        &Packet {
-            order,
-            id,
-            kind: PacketKind::Control,
-            body: words,
-        },
-    )?;
-    write_frame(alloc, board, REPLIED, packet.as_slice())
+    append_reply_head(out, board, REPLIED, 4 + 4 * words.len())?;
+    let head = Head {
+        order,
+        id,
+        kind: PacketKind::Control,
+    };
+    append_packet(out, head, words)
 }
 
-/// The reply frame to what became of a body.
-fn write_outcome(
-    alloc: Global,
+/// Appends the reply frame to what became of a body.
+fn append_outcome(
+    out: &mut Vec<u8>,
     board: u32,
     order: Order,
     id: u16,
     outcome: Outcome,
-) -> Result<Vec<u8>, NoMemory>
+) -> Result<(), NoMemory>
     requires { IsShort outcome }
-    ensures { IfOk result (λ bytes. bytes.items ≡ reply_bytes (reply_of_outcome board order id outcome)) }
+    ensures { OnOk result (out.new.items ≡ out.old.items ++ reply_bytes (reply_of_outcome board order id outcome)) }
 {
     match outcome {
-        Outcome::Replied { place: _, words } => write_replied(alloc, board, order, id, words),
+        Outcome::Replied { place: _, words } => {
+            append_replied(out, board, order, id, words.as_slice())
+        }
         Outcome::TimedOut {
             place: _,
             rounds: _,
-        } => write_code(alloc, board, TIMED_OUT),
-        Outcome::Unsent => write_code(alloc, board, UNSENT),
-        Outcome::LinkLost { place: _ } => write_code(alloc, board, LINK_LOST),
+        } => append_code(out, board, TIMED_OUT),
+        Outcome::Unsent => append_code(out, board, UNSENT),
+        Outcome::LinkLost { place: _ } => append_code(out, board, LINK_LOST),
     }
 }
 
@@ -122,62 +122,63 @@ fn refusal_code(why: PlanRefusal) -> u16
     }
 }
 
-/// The reply frame for a board with a lane.
-fn write_got(
-    alloc: Global,
+/// Appends the reply frame for a board with a lane.
+fn append_got(
+    out: &mut Vec<u8>,
     board: u32,
     order: Order,
     id: u16,
     got: Got,
-) -> Result<Vec<u8>, NoMemory>
+) -> Result<(), NoMemory>
     requires { IsShortGot got }
-    ensures { IfOk result (λ bytes. bytes.items ≡ reply_bytes (reply_of_lane board order id got)) }
+    ensures { OnOk result (out.new.items ≡ out.old.items ++ reply_bytes (reply_of_lane board order id got)) }
 {
     match got {
-        Got::NotAsked => write_code(alloc, board, UNSENT),
-        Got::Refused(why) => write_code(alloc, board, refusal_code(why)),
-        Got::Came(outcome) => write_outcome(alloc, board, order, id, outcome),
+        Got::NotAsked => append_code(out, board, UNSENT),
+        Got::Refused(why) => append_code(out, board, refusal_code(why)),
+        Got::Came(outcome) => append_outcome(out, board, order, id, outcome),
     }
 }
 
-/// The reply frame to a control packet with this byte order and identifier.
-fn write_reply(
-    alloc: Global,
+/// Appends the reply frame to a control packet with this byte order and identifier.
+fn append_reply(
+    out: &mut Vec<u8>,
     board: u32,
     order: Order,
     id: u16,
     state: Option<BoardState>,
     got: Got,
-) -> Result<Vec<u8>, NoMemory>
+) -> Result<(), NoMemory>
     requires { IsShortGot got }
-    ensures { IfOk result (λ bytes. bytes.items ≡ reply_bytes (reply_of_board board order id state got)) }
+    ensures { OnOk result (out.new.items ≡ out.old.items ++ reply_bytes (reply_of_board board order id state got)) }
 {
     match state {
-        None => write_code(alloc, board, NO_BOARD),
-        Some(BoardState::Silent) => write_code(alloc, board, UNSENT),
-        Some(BoardState::Down) => write_code(alloc, board, LINK_LOST),
-        Some(BoardState::Lane(_lane)) => write_got(alloc, board, order, id, got),
+        None => append_code(out, board, NO_BOARD),
+        Some(BoardState::Silent) => append_code(out, board, UNSENT),
+        Some(BoardState::Down) => append_code(out, board, LINK_LOST),
+        Some(BoardState::Lane(_lane)) => append_got(out, board, order, id, got),
     }
 }
 
-/// The reply frame to a control packet for a board that stands so, after the hub was asked where the board has a lane.
+/// Appends the reply frame to a control packet for a board that stands so, after the hub was asked where the board has a
+/// lane.
 fn answer_packet<R: Wait, L: Link + Send>(
     rt: &R,
-    alloc: Global,
     hub: &Hub<L>,
     seat: &mut Seat,
     board: u32,
     state: Option<BoardState>,
     packet: Packet,
-) -> Result<Vec<u8>, NoMemory>
+    out: &mut Vec<u8>,
+) -> Result<(), NoMemory>
     requires lane { IfSome state (IsLaneBelow (length hub.now.turns)) }
     requires seat { IsSeatOf hub.now seat.old }
     requires settled { AllByRecursion IsSettled seat.old.knows }
     requires packet { IsPacket packet }
     ensures same { IsSameSeat seat.old seat.new }
-    ensures answered { IfOk result (λ bytes. (got : GotValue)
+    ensures answered { OnOk result ((got : GotValue)
         × ExchangesFor (request_in (Some packet) state) got seat.old seat.new
-        × (bytes.items ≡ reply_bytes (reply_of_packet board (Some packet) state got))) }
+        × (out.new.items ≡ out.old.items ++ reply_bytes (reply_of_packet board (Some packet) state got))) }
     ensures settled { OnOk result (AllByRecursion IsSettled seat.new.knows) }
     ensures reached { OnErr result ((reached : Reached)
         × ReachesFor (request_in (Some packet) state) reached seat.old seat.new) }
@@ -189,34 +190,41 @@ fn answer_packet<R: Wait, L: Link + Send>(
         body,
     } = packet;
     let got = ask_board(rt, hub, seat, state, body)?;
-    write_reply(alloc, board, order, id, state, got)
+    append_reply(out, board, order, id, state, got)
 }
 
-/// The reply frame to a request frame, after the hub was asked where the frame has a body for a lane.
+/// How the board at a position stands, if there is one.
+pub(crate) fn state_at(map: &[BoardState], board: u32) -> Option<BoardState>
+    ensures { result ≡ slice_get map.now board }
+{
+    map.get(board as usize).copied()
+}
+
+/// Appends the reply frame to a request frame, after the hub was asked where the frame has a body for a lane. After
+/// `NoMemory` a part of it may stand there.
 pub(crate) fn answer_frame<R: Wait, L: Link + Send>(
     rt: &R,
-    alloc: Global,
-    hub: &Hub<L>,
-    map: &[BoardState],
+    boards: &Boards<L>,
     seat: &mut Seat,
     frame: &Frame,
-) -> Result<Vec<u8>, NoMemory>
-    requires lanes { AllByRecursion (IsLaneBelow (length hub.now.turns)) map.now }
-    requires seat { IsSeatOf hub.now seat.old }
+    out: &mut Vec<u8>,
+) -> Result<(), NoMemory>
+    requires lanes { AllByRecursion (IsLaneBelow (length boards.now.hub.now.turns)) boards.now.map.now }
+    requires seat { IsSeatOf boards.now.hub.now seat.old }
     requires settled { AllByRecursion IsSettled seat.old.knows }
     ensures same { IsSameSeat seat.old seat.new }
-    ensures answered { IfOk result (λ bytes. (got : GotValue)
-        × Exchanges map.now (record { frame = frame.now; got = got }) seat.old seat.new
-        × (bytes.items ≡ answer map.now frame.now got)) }
+    ensures answered { OnOk result ((got : GotValue)
+        × Exchanges boards.now.map.now (record { frame = frame.now; got = got }) seat.old seat.new
+        × (out.new.items ≡ out.old.items ++ answer boards.now.map.now frame.now got)) }
     ensures settled { OnOk result (AllByRecursion IsSettled seat.new.knows) }
-    ensures stands { OnErr result (StandsOf map.now frame.now seat.old seat.new) }
+    ensures stands { OnErr result (StandsOf boards.now.map.now frame.now seat.old seat.new) }
 {
     let board = frame.board;
-    match read_control(alloc, frame.packet.as_slice())? {
+    match read_control(*out.allocator(), frame.packet.as_slice())? {
         Some(packet) => {
-            let state = map.get(board as usize).copied();
-            answer_packet(rt, alloc, hub, seat, board, state, packet)
+            let state = state_at(boards.map, board);
+            answer_packet(rt, boards.hub, seat, board, state, packet, out)
         }
-        None => write_code(alloc, board, BAD_PACKET),
+        None => append_code(out, board, BAD_PACKET),
     }
 }

@@ -93,3 +93,15 @@ pub(crate) fn ask_board<R: Wait, L: Link + Send>(
         None => Ok(Got::NotAsked),
     }
 }
+
+/// Whether what becomes of a body for a board may have to be waited for, since its link has what waits.
+pub(crate) fn may_wait<L: Link + Send>(hub: &Hub<L>, board: Option<BoardState>) -> bool
+    requires lane { IfSome board (IsLaneBelow (length hub.now.turns)) }
+{
+    match board {
+        Some(BoardState::Lane(lane)) => hub.has_waiter(lane as usize),
+        Some(BoardState::Silent) => false,
+        Some(BoardState::Down) => false,
+        None => false,
+    }
+}

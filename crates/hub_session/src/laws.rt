@@ -1,6 +1,6 @@
 //! Laws of the definitions. These functions do nothing when they run: their clauses are what is proved.
 
-ghost use Rattle.std.specs.Prelude.{◌≡◌, ℕ, ◌+◌, List, [], length, Option, Some};
+ghost use Rattle.std.specs.Prelude.{◌≡◌, ℕ, ◌+◌, List, [], ◌++◌, length, Option, Some};
 ghost use Rattle.std.specs.List.{slice_get};
 ghost use Rattle.turn_pass.specs.Pass.{Knowledge};
 ghost use Rattle.hub_lane.specs.declared.answers.BoardState.{BoardState};
@@ -44,19 +44,20 @@ pub fn a_new_seat_is_unused()
 
 /// What the hub came to for each body of a connection was decided on a record of its lane that begins the record which
 /// the seat has seen there at last. Of the client's Plans that record has those of its bodies before, and no more. So
-/// it is of the frames that were answered, and of the one whose answer was not written whole.
+/// it is of the frames that have an answer, written or not, and of the one whose answer was not made.
 pub fn each_body_was_decided_on_a_record_that_the_seat_saw()
     ensures answered { (boards : List BoardState) (old new : SeatState) (left_before left_after : Option (List ℕ))
         (written_before written_after : Option (List ℕ)) (served : Served)
         (s : IsServed boards old new left_before left_after written_before written_after served)
         (lane : ℕ) (k after : Knowledge) → slice_get old.knows lane ≡ Some k → slice_get new.knows lane ≡ Some after
-        → AreFramesDecidedIn after.seen k.number (planned_by k) boards lane s.answered }
+        → AreFramesDecidedIn after.seen k.number (planned_by k) boards lane
+        (s.answered ++ s.unwritten) }
     ensures unanswered { (boards : List BoardState) (old new : SeatState) (left_before left_after : Option (List ℕ))
         (written_before written_after : Option (List ℕ)) (served : Served)
         (s : IsServed boards old new left_before left_after written_before written_after served)
         (lane : ℕ) (k after : Knowledge) → slice_get old.knows lane ≡ Some k → slice_get new.knows lane ≡ Some after
         → (frame : RequestFrame) (got : Got) → s.unanswered ≡ Some (record { frame = frame; reached = Exchanged got })
         → IsFrameDecidedIn after.seen k.number
-        (planned_by k + length (submissions_on boards lane s.answered)) boards lane
+        (planned_by k + length (submissions_on boards lane (s.answered ++ s.unwritten))) boards lane
         (record { frame = frame; got = got }) }
 {}

@@ -1,13 +1,15 @@
 //! A connection of a client, served under one seat of a hub: its request frames are answered one by one, as they
-//! came.
+//! came, and the answers to frames that came together are written together.
 #![tactic(auto)]
 
 mod answering;
 mod asking;
+mod boards;
 mod codes;
 pub mod examples;
 mod got;
 pub mod laws;
+mod progress;
 mod served;
 mod session;
 

@@ -31,9 +31,12 @@ const ANSWERS_OF_7_AND_0: [u8; 36] = *b"\0\0\0\x08\0\0\0\x07\0\x05\0\0\
 const READ_AND_A_BAD_LENGTH: [u8; 27] =
     *b"\0\0\0\x10\0\0\0\0\x20\0\0\xf0\x20\0\x01\x0f\0\0\0\x04\0\0\0\x03abc";
 
-/// The frame to board 0 twice.
+/// The frame to board 0 twice, and its answers.
 const READ_TWICE: [u8; 40] = *b"\0\0\0\x10\0\0\0\0\x20\0\0\xf0\x20\0\x01\x0f\0\0\0\x04\
     \0\0\0\x10\0\0\0\0\x20\0\0\xf0\x20\0\x01\x0f\0\0\0\x04";
+
+const ANSWER_TWICE: [u8; 48] = *b"\0\0\0\x14\0\0\0\0\0\0\0\0\x20\0\0\xf0\x20\0\x01\0\0\0\xab\xcd\
+    \0\0\0\x14\0\0\0\0\0\0\0\0\x20\0\0\xf0\x20\0\x01\0\0\0\xab\xcd";
 
 /// A hub of one board over a link that loses nothing, and its first seat.
 fn hub_and_seat(alloc: Global) -> Result<(Hub<SimLink>, Seat), Fail>
@@ -78,6 +81,8 @@ enum Written {
     Nothing,
     Answer,
     FiveBytesOfIt,
+    AnswerAndAByte,
+    AnswerTwice,
     AnswersOf7And0,
     Other,
 }
@@ -89,6 +94,10 @@ fn what_was_written(bytes: &[u8]) -> Written {
         Written::Answer
     } else if bytes == &ANSWER[..5] {
         Written::FiveBytesOfIt
+    } else if bytes == &ANSWER_TWICE[..25] {
+        Written::AnswerAndAByte
+    } else if bytes == ANSWER_TWICE.as_slice() {
+        Written::AnswerTwice
     } else if bytes == ANSWERS_OF_7_AND_0.as_slice() {
         Written::AnswersOf7And0
     } else {
@@ -109,21 +118,23 @@ fn served<R: Wait>(
     Ok((served.frames, served.end, what_was_written(sink.bytes())))
 }
 
-/// Serves a connection whose input comes in pieces of so many bytes, and whose read and write with these numbers fail:
-/// none, where a number is 0.
+/// Serves a connection whose input comes in pieces of so many bytes, whose sink takes so many at once, and whose read
+/// and write with these numbers fail: none, where a number is 0.
 fn serve<R: Wait>(
     rt: &R,
     alloc: Global,
     input: Input,
     piece: usize,
+    take: usize,
     read: u64,
     write: u64,
 ) -> Result<(u64, SessionEnd, Written), Fail>
-    requires { 1 ≤ piece }
+    requires piece { 1 ≤ piece }
+    requires take { 1 ≤ take }
 {
     let bytes = bytes_of(input).to_vec(alloc)?;
     let source = MemSource::new(bytes, piece, [read].to_vec(alloc)?);
-    let sink = MemSink::new(alloc, 5, [write].to_vec(alloc)?)?;
+    let sink = MemSink::new(alloc, take, [write].to_vec(alloc)?)?;
     served(rt, alloc, source, sink)
 }
 
@@ -147,7 +158,7 @@ fn frames_are_answered(rt: HostRuntime) -> Result<(), Fail> {
         ),
     ] {
         for piece in 1..41 {
-            let served = serve(&rt, rt.alloc(), input, piece, 0, 0)?;
+            let served = serve(&rt, rt.alloc(), input, piece, 5, 0, 0)?;
             assert!(rt; served == (frames, end, written));
         }
     }
@@ -160,8 +171,21 @@ fn faults_end_a_connection(rt: HostRuntime) -> Result<(), Fail> {
         (2, 0, (1, SessionEnd::ReadFault, Written::Answer)),
         (0, 2, (0, SessionEnd::WriteFault, Written::FiveBytesOfIt)),
     ] {
-        let served = serve(&rt, rt.alloc(), Input::ReadTwice, 20, read, write)?;
+        let served = serve(&rt, rt.alloc(), Input::ReadTwice, 20, 5, read, write)?;
         assert!(rt; served == wanted);
     }
+    Ok(())
+}
+
+/// Two frames that come with one read are answered by one write, so a second write never comes; where each comes with a
+/// read of its own, it does. A write that is cut short behind the first answer counts that one.
+#[test]
+fn frames_of_one_read_are_answered_by_one_write(rt: HostRuntime) -> Result<(), Fail> {
+    let together = serve(&rt, rt.alloc(), Input::ReadTwice, 40, 48, 0, 2)?;
+    assert!(rt; together == (2, SessionEnd::Closed, Written::AnswerTwice));
+    let apart = serve(&rt, rt.alloc(), Input::ReadTwice, 20, 48, 0, 2)?;
+    assert!(rt; apart == (1, SessionEnd::WriteFault, Written::Answer));
+    let cut_short = serve(&rt, rt.alloc(), Input::ReadTwice, 40, 5, 0, 6)?;
+    assert!(rt; cut_short == (1, SessionEnd::WriteFault, Written::AnswerAndAByte));
     Ok(())
 }

@@ -1,6 +1,6 @@
 -- The line of a board tells the numbers of its answers.
 use Rattle.std.proofs.Common.{◌≡◌, ℕ, suc, ◌+◌, Bool, List, [], ◌∷◌, map, Option, Some, count_by}
-use Rattle.std.proofs.Common.{refl, sym, ap, ap₂, ◌∙◌, subst, cond, arith}
+use Rattle.std.proofs.Common.{refl, sym, ap, ap₂, ◌∙◌, subst, cond, arith, ◌++◌, append-nil}
 use Rattle.std.specs.List.{AllByRecursion, flat_map, slice_get}
 use Rattle.std.proofs.lemmas.List.Sums.{sum_by-append}
 use Rattle.board_node.specs.declared.spec.BoardSpec.{BoardSpec}
@@ -19,7 +19,7 @@ use Rattle.hub_session.specs.Exchanges.{Exchange, submissions_on}
 use Rattle.client_history.specs.Boards.{ServedBoard, run_of}
 use Rattle.client_history.specs.Connections.{outcomes_of}
 use Rattle.session_serve.specs.Boards.{lines_of, states_of}
-use Rattle.session_serve.specs.Connections.{Conversation, and_then, exchanges_of, submissions_to}
+use Rattle.session_serve.specs.Connections.{Conversation, exchanges_of, submissions_to}
 use Rattle.server_summary.specs.Answers.{AllTellAnswers, TellsAnswers, answers_by, has_code_at}
 use Rattle.server_summary.proofs.Asked.{AreAsked}
 use Rattle.server_summary.proofs.AtLane.{coded_are}
@@ -63,7 +63,8 @@ module _ (law : LineLaw) (boards : List ServedBoard) (conversations : List Conve
     one_counted c all asked =
         of_submissions (submissions_on states lane (exchanges_of c))
         ∙ sym (coded_are states position lane here alone code kind is (exchanges_of c) asked)
-        ∙ ap (λ (o : Option Exchange). count_by (has_code_at code position states) (and_then c.answered o)) all
+        ∙ ap (count_by (has_code_at code position states))
+        (ap (λ (es : List Exchange). c.answered ++ es) all ∙ append-nil c.answered)
 
     all_counted : (cs : List Conversation) → AllByRecursion IsAllAnswered cs → AllByRecursion (AreAsked states) cs
         → count_by kind (flat_map outcomes_of (map (submissions_to states (stands.Lane lane)) cs))

@@ -1,5 +1,5 @@
 -- Connections at three boards, worked by hand: one that is live, one that was silent, one whose link was down. Profile.
-use Rattle.std.specs.Prelude.{ℕ, List, [], ◌∷◌, Some, None}
+use Rattle.std.specs.Prelude.{ℕ, List, [], ◌∷◌, None}
 use Rattle.world_model.specs.Settings.{Limits}
 use Rattle.lane_record.specs.declared.outcome.Outcome.TheVariants.{TimedOut}
 use Rattle.board_history.specs.Examples.{read_body, reads_at}
@@ -34,22 +34,22 @@ refused = read_of 0 (Refused TooLong)
 -- Connection 2 reads that of each board.
 abbrev pub first_connection : Conversation
 first_connection =
-    record { answered = read_at 1 7 ∷ []; cut_off = Some given_up }
+    record { answered = read_at 1 7 ∷ []; cut_off = given_up ∷ [] }
 
 abbrev pub second_connection : Conversation
 second_connection =
-    record { answered = read_at 2 7 ∷ read_of 1 NotAsked ∷ read_of 2 NotAsked ∷ []; cut_off = None }
+    record { answered = read_at 2 7 ∷ read_of 1 NotAsked ∷ read_of 2 NotAsked ∷ []; cut_off = [] }
 
 abbrev pub two_connections : List Conversation
 two_connections = first_connection ∷ second_connection ∷ []
 
 -- one connection whose frames have places that do not rise
 abbrev pub turned_round : List Conversation
-turned_round = record { answered = read_at 2 7 ∷ read_at 1 7 ∷ []; cut_off = None } ∷ []
+turned_round = record { answered = read_at 2 7 ∷ read_at 1 7 ∷ []; cut_off = [] } ∷ []
 
 -- one connection whose only frame this is
 abbrev pub only : Exchange → List Conversation
-only e = record { answered = e ∷ []; cut_off = None } ∷ []
+only e = record { answered = e ∷ []; cut_off = [] } ∷ []
 
 -- a write of 5 to the register
 abbrev pub write_body : List ℕ

@@ -1,11 +1,10 @@
 -- Lanes that came back from the hub at which connections were served.
 use Rattle.std.proofs.Common.{◌≡◌, ◌∙◌, ℕ, ◌+◌, List, [], ◌∷◌, ◌++◌, map, length, Some, None, Option, refl, sym, ap}
 use Rattle.std.proofs.Common.{subst, suc}
-use Rattle.std.proofs.Common.{Bool, true, false, ◌==◌, zero, arith, append-nil, length-append, inl, inr}
-use Rattle.std.specs.Prelude.{◌⊎◌, ◌≢◌, if◌then◌else◌, option_map}
-use Rattle.std.specs.List.{AllByRecursion, AllZip, cons_option, filter_map, slice_get}
+use Rattle.std.proofs.Common.{zero, arith, append-nil, length-append}
+use Rattle.std.specs.Prelude.{◌≢◌}
+use Rattle.std.specs.List.{AllByRecursion, AllZip, filter_map, slice_get}
 use Rattle.std.proofs.lemmas.List.{length-map}
-use Rattle.std.proofs.lemmas.List.Elements.{filter_map-append}
 use Rattle.std.proofs.lemmas.Option.{none-some, same_Some}
 use Rattle.ipb_base.specs.Lists.{IsPrefix}
 use Rattle.ipb_base.specs.Numbers.{payload_of}
@@ -15,7 +14,7 @@ use Rattle.world_core.specs.Telling.{Telling}
 use Rattle.world_model.specs.Settings.{Limits}
 use Rattle.lane_record.specs.declared.item.Item.{Item}
 use Rattle.lane_record.specs.Coding.{Head, item_from, record_of}
-use Rattle.lane_record.specs.Dispatches.{NumberedAction, numbered_action}
+use Rattle.lane_record.specs.Dispatches.{numbered_action}
 use Rattle.lane_record.specs.Items.{numbers, plan_in}
 use Rattle.lane_record.specs.Submissions.{Submission, submissions_from}
 use Rattle.hub_lane.specs.Lanes.{BoardStatus, LaneState, opening_of}
@@ -30,20 +29,16 @@ use Rattle.client_threads.specs.Jobs.{made_more}
 use Rattle.client_threads.specs.Running.{AtEach}
 use Rattle.board_history.proofs.Lists.{all_at}
 use Rattle.client_history.specs.Clients.{came_with}
-use Rattle.hub_session.specs.declared.got.Got.{Got}
-use Rattle.hub_session.specs.declared.got.Got.TheVariants.{NotAsked, Refused, Came}
 use Rattle.hub_session.specs.declared.served.Served.{Served}
 use Rattle.hub_session.specs.declared.served.SessionEnd.{SessionEnd}
 use Rattle.hub_session.specs.declared.served.SessionEnd.TheVariants as ends
-use Rattle.hub_session.specs.Decisions.{AreFramesDecidedIn, IsFrameDecidedIn}
-use Rattle.hub_session.specs.Exchanges.{Exchange, LaneRequest, request_of, submission_in, submissions_on}
-use Rattle.hub_framing.specs.Frames.{RequestFrame}
-use Rattle.hub_session.specs.Serving.{IsUnused, Reached, Looked, PlannedOnly, AskedToo, Exchanged, IsPartAt, Unanswered}
-use Rattle.hub_session.specs.Serving.{actions_for, actions_left}
+use Rattle.hub_session.specs.Decisions.{AreFramesDecidedIn}
+use Rattle.hub_session.specs.Exchanges.{Exchange, submissions_on}
+use Rattle.hub_session.specs.Serving.{IsUnused, IsPartAt, Unanswered, actions_left}
 use Rattle.client_history.specs.Connections.{AllSubmitted, SubmittedAll}
 use Rattle.client_history.specs.Planned.{KeepLimits}
 use Rattle.board_greeting.specs.Boards.{HasNoEntry, head_shown}
-use Rattle.session_serve.specs.Connections.{Conversation, HaveExchanged, and_then, exchanges_of, left_unanswered}
+use Rattle.session_serve.specs.Connections.{Conversation, HaveExchanged, exchanges_of}
 use Rattle.session_serve.specs.Hubs.{AllBack, AreServedAt, HasServedAll, KeepsHead, served_of, pairs_of, seats_of}
 use Rattle.session_serve.specs.Hubs.{IsServedLane, submitted_on}
 use Rattle.session_serve.specs.Pairs.{PairReport}
@@ -54,8 +49,8 @@ use Rattle.session_serve.specs.Serving.{HadMemory}
 use Rattle.session_serve.specs.declared.connection.Done.{Done}
 use Rattle.session_serve.proofs.EachDone.{each_long}
 use Rattle.session_serve.proofs.Lists.{there, zip_long}
-use Rattle.session_serve.proofs.Rules.{AnsweredLaw, AreDecidedFrom, FirstLaw, LimitsLaw, PlannedLaw, UnansweredLaw}
-use Rattle.session_serve.proofs.Rules.{all_by_rules, all_filled_before, all_planned_last, decided_later, decided_push}
+use Rattle.session_serve.proofs.Rules.{AnsweredLaw, AreDecidedFrom, FirstLaw, LimitsLaw, PlannedLaw}
+use Rattle.session_serve.proofs.Rules.{all_by_rules, all_filled_before, all_planned_last, decided_later}
 
 -- ---- before
 
@@ -221,90 +216,31 @@ heads_of {L} {I} {O} {shows} {boards} law tells olds news seats m end' opened b 
 
 -- ---- what each connection submitted
 
-abbrev cut_by : RequestFrame → Reached → Option Exchange
-cut_by frame Looked = None
-cut_by frame PlannedOnly = None
-cut_by frame AskedToo = None
-cut_by frame (Exchanged got) = Some (record { frame = frame; got = got })
+settled : (boards : List BoardState) (unwritten : List Exchange) (u : Option Unanswered) (part : List ℕ)
+    (end' : SessionEnd) → IsPartAt boards unwritten u part end' → end' ≢ ends.NoMemory → u ≡ None
+settled boards unwritten u part ends.WriteFault is memory = is.0
+settled boards unwritten u part ends.NoMemory is memory = absurd (memory refl)
+settled boards unwritten u part ends.Closed is memory = is.0
+settled boards unwritten u part ends.CutFrame is memory = is.0
+settled boards unwritten u part ends.BadFrame is memory = is.0
+settled boards unwritten u part ends.ReadFault is memory = is.0
 
-abbrev cut_off_in : Option Unanswered → Option Exchange
-cut_off_in None = None
-cut_off_in (Some u) = cut_by u.frame u.reached
-
--- a frame that was left at the end has been exchanged
-abbrev Settled : Option Unanswered → Type 0
-Settled u = (u ≡ None) ⊎ ((one : Exchange) × (u ≡ Some (left_unanswered one)))
-
-settled : (boards : List BoardState) (u : Option Unanswered) (part : List ℕ) (end' : SessionEnd)
-    → IsPartAt boards u part end' → end' ≢ ends.NoMemory → Settled u
-settled boards u part ends.WriteFault is memory = inr (record { frame = is.0; got = is.1 }, is.2)
-settled boards u part ends.NoMemory is memory = absurd (memory refl)
-settled boards u part ends.Closed is memory = inl is.0
-settled boards u part ends.CutFrame is memory = inl is.0
-settled boards u part ends.BadFrame is memory = inl is.0
-settled boards u part ends.ReadFault is memory = inl is.0
-
-cut_back : (u : Option Unanswered) → Settled u → u ≡ option_map left_unanswered (cut_off_in u)
-cut_back u (inl none) = subst (λ (v : Option Unanswered). v ≡ option_map left_unanswered (cut_off_in v)) (sym none) refl
-cut_back u (inr one) =
-    subst (λ (v : Option Unanswered). v ≡ option_map left_unanswered (cut_off_in v)) (sym one.1) refl
-
-from_append : (n : ℕ) (xs ys : List Submission)
-    → submissions_from n (xs ++ ys) ≡ submissions_from n xs ++ submissions_from (n + length xs) ys
-from_append n [] ys = ap (λ k. submissions_from k ys) (omega arith)
-from_append n (x ∷ xs) ys =
-    ap (λ (l : List NumberedAction). submissions_from n (x ∷ []) ++ l) (from_append (n + 1) xs ys
-    ∙ ap (λ k. submissions_from (n + 1) xs ++ submissions_from k ys) (omega arith))
-
-by_lane : (n : ℕ) (b : Bool) (s : Submission) → (if b then submissions_from n (s ∷ []) else [])
-    ≡ submissions_from n (cons_option (if b then Some s else None) [])
-by_lane n true s = refl
-by_lane n false s = refl
-
-abbrev nothing_here : List NumberedAction
-nothing_here = []
-
-nothing_by : (b : Bool) → (if b then nothing_here else nothing_here) ≡ []
-nothing_by true = refl
-nothing_by false = refl
-
-one_left : (lane n : ℕ) (request : Option LaneRequest) (got : Got)
-    → actions_for lane n request (Exchanged got) ≡ submissions_from n (cons_option (submission_in lane request got) [])
-one_left lane n None got = refl
-one_left lane n (Some request) NotAsked = nothing_by (request.lane == lane)
-one_left lane n (Some request) (Refused why) = nothing_by (request.lane == lane)
-one_left lane n (Some request) (Came outcome) =
-    by_lane n (request.lane == lane) (record { body = request.body; outcome = outcome })
-
-all_actions : (boards : List BoardState) (lane : ℕ) (answered : List Exchange) (u : Option Unanswered) → Settled u
+all_actions : (boards : List BoardState) (lane : ℕ) (answered : List Exchange) (u : Option Unanswered) → u ≡ None
     → submissions_from 0 (submissions_on boards lane answered)
     ++ actions_left boards lane (length (submissions_on boards lane answered)) u
-    ≡ submissions_from 0 (submissions_on boards lane (and_then answered (cut_off_in u)))
-all_actions boards lane answered u (inl none) =
+    ≡ submissions_from 0 (submissions_on boards lane answered)
+all_actions boards lane answered u none =
     subst (λ (v : Option Unanswered). submissions_from 0 (submissions_on boards lane answered)
     ++ actions_left boards lane (length (submissions_on boards lane answered)) v
-    ≡ submissions_from 0 (submissions_on boards lane (and_then answered (cut_off_in v)))) (sym none)
+    ≡ submissions_from 0 (submissions_on boards lane answered)) (sym none)
     (append-nil (submissions_from 0 (submissions_on boards lane answered)))
-all_actions boards lane answered u (inr one) =
-    let done = submissions_on boards lane answered in
-    let e = one.0 in
-    subst (λ (v : Option Unanswered). submissions_from 0 done ++ actions_left boards lane (length done) v
-    ≡ submissions_from 0 (submissions_on boards lane (and_then answered (cut_off_in v)))) (sym one.1)
-    (ap (λ (l : List NumberedAction). submissions_from 0 done ++ l) (one_left lane (length done)
-    (request_of boards e.frame) e.got)
-    ∙ (ap (λ k. submissions_from 0 done ++ submissions_from k (cons_option (submission_in lane (request_of boards
-    e.frame)
-    e.got) [])) (omega arith)
-    ∙ (sym (from_append 0 done (cons_option (submission_in lane (request_of boards e.frame) e.got) []))
-    ∙ ap (submissions_from 0) (sym (filter_map-append
-    (λ (x : Exchange). submission_in lane (request_of boards x.frame) x.got) answered (e ∷ []))))))
 
 submitted_all : (turns : List TurnId) (boards : List BoardState) (client lane : ℕ) (before after : SeatState)
     (came back : PairReport) (served : Served) (pass : Joined) → IsFresh turns before → before.client ≡ client
-    → (d : IsDone boards before after came back served) → Settled d.under.as_served.unanswered
+    → (d : IsDone boards before after came back served) → d.under.as_served.unanswered ≡ None
     → ((k : Knowledge) × (slice_get after.knows lane ≡ Some k) × (pass ≡ kept_of k))
-    → SubmittedAll client (submissions_on boards lane (and_then d.under.as_served.answered
-    (cut_off_in d.under.as_served.unanswered))) pass
+    → SubmittedAll client (submissions_on boards lane (d.under.as_served.answered
+    ++ d.under.as_served.unwritten)) pass
 submitted_all turns boards client lane before after came back served pass fresh is d all at =
     let s = d.under.as_served in
     let k = at.0 in
@@ -316,7 +252,7 @@ submitted_all turns boards client lane before after came back served pass fresh 
       number = ap (λ (j : Joined). j.number) at.2 ∙ (ap (λ (z : Knowledge). z.number) on.rest_same
           ∙ (all_at (λ (z : Knowledge). z.number ≡ before.client) before.knows lane was.0 fresh.numbers was.1 ∙ is));
       actions = ap (λ (j : Joined). map numbered_action (filter_map item_from j.mine)) at.2
-          ∙ (on.actions ∙ all_actions boards lane s.answered s.unanswered all);
+          ∙ (on.actions ∙ all_actions boards lane (s.answered ++ s.unwritten) s.unanswered all);
     }
 
 none_submitted : (lane client : ℕ) (passes : List Joined) → ArePassesOn lane [] passes → AllSubmitted client [] passes
@@ -338,34 +274,21 @@ some_submitted lane client one others seat seats (p ∷ passes) are first later 
 none_before : (k : Knowledge) → IsUnused k → planned_by k ≡ 0
 none_before k unused = λ i. length (numbers plan_in k.number (unused.no_entry i))
 
-talk_decided : AnsweredLaw → UnansweredLaw → (turns : List TurnId) (boards : List BoardState) (client lane : ℕ)
+talk_decided : AnsweredLaw → (turns : List TurnId) (boards : List BoardState) (client lane : ℕ)
     (before after : SeatState) (came back : PairReport) (served : Served) → IsFresh turns before
-    → before.client ≡ client → (d : IsDone boards before after came back served)
-    → Settled d.under.as_served.unanswered → (k : Knowledge) → slice_get after.knows lane ≡ Some k
-    → AreFramesDecidedIn k.seen client 0 boards lane (and_then d.under.as_served.answered
-    (cut_off_in d.under.as_served.unanswered))
-talk_decided answered unanswered turns boards client lane before after came back served fresh is d all k at =
+    → before.client ≡ client → (d : IsDone boards before after came back served) → (k : Knowledge)
+    → slice_get after.knows lane ≡ Some k
+    → AreFramesDecidedIn k.seen client 0 boards lane (d.under.as_served.answered ++ d.under.as_served.unwritten)
+talk_decided answered turns boards client lane before after came back served fresh is d k at =
     let s = d.under.as_served in
+    let all = s.answered ++ s.unwritten in
     let was = there after.knows before.knows lane k (sym s.known) at in
     let number : was.0.number ≡ client =
     all_at (λ (z : Knowledge). z.number ≡ before.client) before.knows lane was.0 fresh.numbers was.1 ∙ is in
     let none = none_before was.0 (all_at IsUnused before.knows lane was.0 fresh.unused was.1) in
-    let front = subst (λ c. AreFramesDecidedIn k.seen c 0 boards lane s.answered) number
-    (subst (λ n. AreFramesDecidedIn k.seen was.0.number n boards lane s.answered) none
-    (answered boards before after came.left back.left came.written back.written served s lane was.0 k was.1 at)) in
-    elim all [
-      | inl nothing ↦ subst (λ (u : Option Unanswered). AreFramesDecidedIn k.seen client 0 boards lane
-          (and_then s.answered (cut_off_in u))) (sym nothing) front
-      | inr one ↦
-          let many = length (submissions_on boards lane s.answered) in
-          let last = subst (λ c. IsFrameDecidedIn k.seen c (0 + many) boards lane one.0) number
-          (subst (λ n. IsFrameDecidedIn k.seen was.0.number (n + many) boards lane one.0) none
-          (unanswered boards before after came.left back.left came.written back.written served s lane was.0 k
-          was.1 at one.0.frame one.0.got one.1)) in
-          subst (λ (u : Option Unanswered). AreFramesDecidedIn k.seen client 0 boards lane
-          (and_then s.answered (cut_off_in u))) (sym one.1)
-          (decided_push k.seen client 0 boards lane s.answered one.0 front last)
-    ]
+    subst (λ c. AreFramesDecidedIn k.seen c 0 boards lane all) number
+    (subst (λ n. AreFramesDecidedIn k.seen was.0.number n boards lane all) none
+    (answered boards before after came.left back.left came.written back.written served s lane was.0 k was.1 at))
 
 some_decided : (client lane : ℕ) (opening final : Record) (one : Conversation) (others : List Conversation)
     (boards : List BoardState) (seat : SeatState) (seats : List SeatState) (passes : List Joined)
@@ -395,35 +318,36 @@ pub record Conversed {I O : Type 0} (shows : I × O → PairReport) (boards : Li
       → ArePassesOn lane (seats_of dones) passes → AllByRecursion (Stands opening final) passes
       → AreDecidedFrom final client boards lane conversations
 
-pub conversed : {I O : Type 0} → AnsweredLaw → UnansweredLaw → (shows : I × O → PairReport)
+pub conversed : {I O : Type 0} → AnsweredLaw → (shows : I × O → PairReport)
     (boards : List BoardState) (turns : List TurnId) (client : ℕ) (befores : List SeatState) (came : List (I × O))
     (dones : List (Done I O))
     → EachDone shows boards befores came dones → AllByRecursion (IsFresh turns) befores → AreOfClientsFrom client
     befores
     → AllByRecursion HadMemory (served_of dones) → Conversed shows boards client came dones
-conversed answered unanswered shows boards turns client [] [] [] each fresh of memory = record {
+conversed answered shows boards turns client [] [] [] each fresh of memory = record {
   conversations = [];
   exchanged = tt;
   submitted = λ lane passes are. none_submitted lane client passes are;
   decided = λ lane passes opening final are stand. tt;
 }
-conversed answered unanswered shows boards turns client [] [] (d ∷ dones) each fresh of memory = absurd each
-conversed answered unanswered shows boards turns client [] (c ∷ came) dones each fresh of memory = absurd each
-conversed answered unanswered shows boards turns client (b ∷ befores) [] dones each fresh of memory = absurd each
-conversed answered unanswered shows boards turns client (b ∷ befores) (c ∷ came) [] each fresh of memory = absurd each
-conversed answered unanswered shows boards turns client (b ∷ befores) (c ∷ came) (d ∷ dones) each fresh of memory =
+conversed answered shows boards turns client [] [] (d ∷ dones) each fresh of memory = absurd each
+conversed answered shows boards turns client [] (c ∷ came) dones each fresh of memory = absurd each
+conversed answered shows boards turns client (b ∷ befores) [] dones each fresh of memory = absurd each
+conversed answered shows boards turns client (b ∷ befores) (c ∷ came) [] each fresh of memory = absurd each
+conversed answered shows boards turns client (b ∷ befores) (c ∷ came) (d ∷ dones) each fresh of memory =
     let s = each.0.under.as_served in
-    let all = settled boards s.unanswered s.part d.served.end s.part_of memory.0 in
+    let all = settled boards s.unwritten s.unanswered s.part d.served.end s.part_of memory.0 in
     let rest =
-    conversed answered unanswered shows boards turns (client + 1) befores came dones each.1 fresh.1 of.1 memory.1 in
-    let one : Conversation = record { answered = s.answered; cut_off = cut_off_in s.unanswered } in
+    conversed answered shows boards turns (client + 1) befores came dones each.1 fresh.1 of.1 memory.1 in
+    let one : Conversation = record { answered = s.answered; cut_off = s.unwritten } in
     record {
       conversations = one ∷ rest.conversations;
       exchanged = (
         record {
           was_served = record { before = b; after = d.seat; client' = of.0; under = each.0.under };
           answered' = refl;
-          cut_off' = cut_back s.unanswered all;
+          cut_off' = refl;
+          none_else = all;
         },
         rest.exchanged,
       );
@@ -435,8 +359,8 @@ conversed answered unanswered shows boards turns client (b ∷ befores) (c ∷ c
           (rest.submitted lane);
       decided = λ lane passes opening final are stand. some_decided client lane opening final one rest.conversations
           boards d.seat (seats_of dones) passes are stand
-          (λ k at. talk_decided answered unanswered turns boards client lane b d.seat (shows c)
-          (shows (d.src, d.sink)) d.served fresh.0 of.0 each.0 all k at)
+          (λ k at. talk_decided answered turns boards client lane b d.seat (shows c)
+          (shows (d.src, d.sink)) d.served fresh.0 of.0 each.0 k at)
           (λ later are' stand'. rest.decided lane later opening final are' stand');
     }
 
@@ -547,7 +471,7 @@ lane_served law planned first limits tells boards lane seats others no_others co
       limits' = lane_keeps_limits limits tells boards lane conversations old new served on;
     }
 
-pub served_at : {L I O : Type 0} → BackLaw → AnsweredLaw → UnansweredLaw → PlannedLaw → FirstLaw → LimitsLaw
+pub served_at : {L I O : Type 0} → BackLaw → AnsweredLaw → PlannedLaw → FirstLaw → LimitsLaw
     → (tells : L → Option Telling) (shows : I × O → PairReport) (boards : List BoardState)
     (turns : List TurnId) (olds news : List (LaneState L)) (seats : List SeatState) (m end' : MasterState)
     (coming coming_now kept kept_now : Option (List (I × O))) (served : List Served)
@@ -557,7 +481,7 @@ pub served_at : {L I O : Type 0} → BackLaw → AnsweredLaw → UnansweredLaw �
     served)
     → AllByRecursion HadMemory served
     → AreServedAt tells boards olds news (map shows h.all_back.came) (map shows (pairs_of h.all_back.dones)) served
-served_at {L} {I} {O} law answered unanswered planned first limits tells shows boards turns olds news seats m end'
+served_at {L} {I} {O} law answered planned first limits tells shows boards turns olds news seats m end'
     coming coming_now
     kept kept_now served opened unused ended h memory =
     let b = h.all_back in
@@ -565,7 +489,7 @@ served_at {L} {I} {O} law answered unanswered planned first limits tells shows b
     (sym h.no_others) ∙ b.all) in
     let fresh = subst (AllByRecursion (IsFresh turns)) (sym all) b.fresh in
     let of = subst (AreOfClientsFrom 1) (sym all) b.clients in
-    let talked = conversed answered unanswered shows boards turns 1 b.befores b.came b.dones b.each fresh of
+    let talked = conversed answered shows boards turns 1 b.befores b.came b.dones b.each fresh of
     (subst (AllByRecursion HadMemory) h.lines memory) in
     let many : length (seats_of b.dones ++ b.others) ≡ length seats =
     ap (λ (l : List SeatState). length (seats_of b.dones ++ l)) h.no_others

@@ -28,7 +28,6 @@ use Rattle.hub_lane.specs.declared.answers.BoardState.{BoardState}
 use Rattle.hub_multiplexer.specs.Ends.{Ends}
 use Rattle.hub_multiplexer.specs.OwnItems.{planned_by}
 use Rattle.hub_multiplexer.specs.Seats.{SeatState}
-use Rattle.hub_framing.specs.Frames.{RequestFrame}
 use Rattle.client_history.specs.Clients.{came_with}
 use Rattle.hub_session.specs.declared.got.Got.{Got}
 use Rattle.hub_session.specs.declared.got.Got.TheVariants.{NotAsked, Refused, Came}
@@ -36,7 +35,7 @@ use Rattle.hub_session.specs.declared.served.Served.{Served}
 use Rattle.hub_session.specs.Decisions.{AreFramesDecidedIn, IsDecidedBehind, IsFrameDecidedIn, WasDecidedIn}
 use Rattle.hub_session.specs.Decisions.{plan_behind}
 use Rattle.hub_session.specs.Exchanges.{Exchange, LaneRequest, request_of, submission_in, submissions_on}
-use Rattle.hub_session.specs.Serving.{Exchanged, IsServed}
+use Rattle.hub_session.specs.Serving.{IsServed}
 use Rattle.client_history.specs.Connections.{WereServedOn}
 use Rattle.client_history.specs.Planned.{HaveFilledLane, IsAmongSubmitted, KeepLimits, WasPlannedLast, WerePlannedLast}
 use Rattle.session_serve.specs.Connections.{Conversation, exchanges_of}
@@ -50,16 +49,7 @@ AnsweredLaw = (boards : List BoardState) (old new : SeatState) (left_before left
     (written_before written_after : Option (List ℕ)) (served : Served)
     (s : IsServed boards old new left_before left_after written_before written_after served)
     (lane : ℕ) (k after : Knowledge) → slice_get old.knows lane ≡ Some k → slice_get new.knows lane ≡ Some after
-    → AreFramesDecidedIn after.seen k.number (planned_by k) boards lane s.answered
-
-abbrev pub UnansweredLaw : Type 0
-UnansweredLaw = (boards : List BoardState) (old new : SeatState) (left_before left_after : Option (List ℕ))
-    (written_before written_after : Option (List ℕ)) (served : Served)
-    (s : IsServed boards old new left_before left_after written_before written_after served)
-    (lane : ℕ) (k after : Knowledge) → slice_get old.knows lane ≡ Some k → slice_get new.knows lane ≡ Some after
-    → (frame : RequestFrame) (got : Got) → s.unanswered ≡ Some (record { frame = frame; reached = Exchanged got })
-    → IsFrameDecidedIn after.seen k.number (planned_by k + length (submissions_on boards lane s.answered)) boards lane
-    (record { frame = frame; got = got })
+    → AreFramesDecidedIn after.seen k.number (planned_by k) boards lane (s.answered ++ s.unwritten)
 
 abbrev pub PlannedLaw : Type 0
 PlannedLaw = (connections : List (List Submission)) (head head_now : Head) (items front : List Item)
@@ -103,19 +93,6 @@ more_before boards on n e es =
     (λ (x : Exchange). submission_in on (request_of boards x.frame) x.got) (e ∷ []) es) in
     let both = length-append (submissions_on boards on (e ∷ [])) (submissions_on boards on es) in
     omega (arith, all, both)
-
--- one frame more
-pub decided_push : (r : Record) (client before : ℕ) (boards : List BoardState) (on : ℕ) (es : List Exchange)
-    (one : Exchange) → AreFramesDecidedIn r client before boards on es
-    → IsFrameDecidedIn r client (before + length (submissions_on boards on es)) boards on one
-    → AreFramesDecidedIn r client before boards on (es ++ one ∷ [])
-decided_push r client before boards on [] one all last =
-    (subst (λ n. IsFrameDecidedIn r client n boards on one) (omega arith) last, tt)
-decided_push r client before boards on (e ∷ es) one all last = (
-  all.0,
-  decided_push r client (before + length (submissions_on boards on (e ∷ []))) boards on es one all.1
-      (subst (λ n. IsFrameDecidedIn r client n boards on one) (more_before boards on before e es) last),
-)
 
 -- ---- the rules
 

@@ -1,5 +1,5 @@
 -- What the connections of a door exchanged with the boards. Profile.
-use Rattle.std.specs.Prelude.{◌≡◌, ◌≢◌, ℕ, ◌+◌, true, List, [], ◌∷◌, ◌++◌, Option, Some, None, option_map}
+use Rattle.std.specs.Prelude.{◌≡◌, ◌≢◌, ℕ, ◌+◌, true, List, [], ◌∷◌, ◌++◌, None}
 use Rattle.ipb_base.specs.Faults.{Rose}
 use Rattle.lane_record.specs.Submissions.{Submission}
 use Rattle.hub_lane.specs.declared.answers.BoardState.{BoardState}
@@ -8,26 +8,18 @@ use Rattle.hub_multiplexer.specs.Seats.{SeatState}
 use Rattle.hub_session.specs.declared.served.Served.{Served}
 use Rattle.hub_session.specs.declared.served.SessionEnd.TheVariants as ends
 use Rattle.hub_session.specs.Exchanges.{Exchange, submissions_on}
-use Rattle.hub_session.specs.Serving.{Exchanged, IsServed, Unanswered}
+use Rattle.hub_session.specs.Serving.{IsServed}
 use Rattle.session_serve.specs.Pairs.{PairReport}
 
--- The exchanges of a connection: those that were answered, in order, and then perhaps one whose answer was not written
--- whole.
+-- The exchanges of a connection: those whose answers were written whole, in order, and then those whose answers were
+-- not.
 pub record Conversation : Type 0 where
   pub answered : List Exchange
-  pub cut_off : Option Exchange
-
-abbrev pub and_then : List Exchange → Option Exchange → List Exchange
-and_then exchanges None = exchanges
-and_then exchanges (Some one) = exchanges ++ one ∷ []
+  pub cut_off : List Exchange
 
 -- all of them, in order
 abbrev pub exchanges_of : Conversation → List Exchange
-exchanges_of c = and_then c.answered c.cut_off
-
--- one whose answer was not written whole
-abbrev pub left_unanswered : Exchange → Unanswered
-left_unanswered one = record { frame = one.frame; reached = Exchanged one.got }
+exchanges_of c = c.answered ++ c.cut_off
 
 -- The faults of a connection: it ended with one of reading only where its source met it, and with one of writing only
 -- where its sink met it; no other count rose.
@@ -60,7 +52,8 @@ pub record HasExchanged (boards : List BoardState) (client : ℕ) (conversation 
     (served : Served) : Type 0 where
   pub was_served : WasServed boards client came back served
   pub answered' : was_served.under.as_served.answered ≡ conversation.answered
-  pub cut_off' : was_served.under.as_served.unanswered ≡ option_map left_unanswered conversation.cut_off
+  pub cut_off' : was_served.under.as_served.unwritten ≡ conversation.cut_off
+  pub none_else : was_served.under.as_served.unanswered ≡ None
 
 -- so of each connection, in order, the first of which has this number
 abbrev pub WereServed : List BoardState → ℕ → List PairReport → List PairReport → List Served → Type 0

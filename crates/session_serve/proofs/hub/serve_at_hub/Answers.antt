@@ -58,7 +58,6 @@ returns-in-Ok-clause-served g c =
       h.all_back.went,
       served_at c.a_lane_comes_back_with_its_record.ensures
           c.each_body_was_decided_on_a_record_that_the_seat_saw.ensures.answered
-          c.each_body_was_decided_on_a_record_that_the_seat_saw.ensures.unanswered
           c.connections_of_a_hub_plan_what_they_submit.ensures
           c.a_connection_plans_its_first_bodies_first.ensures c.connections_of_a_hub_keep_the_limits.ensures
           g.L.Link.telling shows c.args.states.now turns c.args.lanes.items c.finish.result.items is.0.0 m end'
