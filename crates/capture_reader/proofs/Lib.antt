@@ -1,0 +1,4 @@
+pub mod Words
+pub mod Many
+pub mod Pairs
+pub mod Lines

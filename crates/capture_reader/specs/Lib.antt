@@ -1,0 +1,4 @@
+pub mod CaptureText
+pub mod Faults
+pub mod Fronts
+pub mod Reading

@@ -1,0 +1,16 @@
+//! Captures of one board's traffic, as a hub sends and receives it: their text and their description, both ways, and
+//! what a capture proves that the board has executed.
+#![tactic(auto)]
+
+mod capture;
+mod front;
+mod hex;
+mod reading;
+mod refusal;
+mod writing;
+
+pub use capture::{Bytes, Capture, Caught, Items, MAX_DATAGRAM};
+pub use ipb_base::NoMemory;
+pub use packet_ids::Id;
+pub use refusal::{CaptureRefusal, CaptureWhy};
+pub use writing::write_capture;
