@@ -2,3 +2,6 @@ pub mod Words
 pub mod Many
 pub mod Pairs
 pub mod Lines
+pub mod Numbers
+pub mod ItemLines
+pub mod FirstLine

@@ -5,6 +5,7 @@
 mod capture;
 mod front;
 mod hex;
+mod number;
 mod reading;
 mod refusal;
 mod writing;
@@ -12,5 +13,6 @@ mod writing;
 pub use capture::{Bytes, Capture, Caught, Items, MAX_DATAGRAM};
 pub use ipb_base::NoMemory;
 pub use packet_ids::Id;
+pub use reading::read_capture;
 pub use refusal::{CaptureRefusal, CaptureWhy};
 pub use writing::write_capture;
