@@ -27,7 +27,7 @@ pub(crate) fn byte_text(byte: u8) -> [u8; 2]
 }
 
 /// Appends two digits for each byte.
-fn push_hex(out: &mut Vec<u8>, bytes: &[u8]) -> Result<(), NoMemory>
+pub(crate) fn push_hex(out: &mut Vec<u8>, bytes: &[u8]) -> Result<(), NoMemory>
     ensures { OnOk result (out.new.items ≡ out.old.items ++ spec.hex_text bytes.now) }
 {
     for byte in bytes {

@@ -5,7 +5,9 @@
 mod capture;
 mod front;
 mod hex;
+mod texts;
 mod number;
+mod executed;
 mod reading;
 mod refusal;
 mod writing;
@@ -13,6 +15,7 @@ mod writing;
 pub use capture::{Bytes, Capture, Caught, Items, MAX_DATAGRAM};
 pub use ipb_base::NoMemory;
 pub use packet_ids::Id;
+pub use executed::proved;
 pub use reading::read_capture;
 pub use refusal::{CaptureRefusal, CaptureWhy};
 pub use writing::write_capture;
