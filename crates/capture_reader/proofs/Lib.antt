@@ -5,3 +5,4 @@ pub mod Lines
 pub mod Numbers
 pub mod ItemLines
 pub mod FirstLine
+pub mod Places

@@ -73,6 +73,8 @@ fn shown_by_status(first: Id, sent: u64, bytes: &[u8]) -> u64
     let Ok(status) = read_status_reply(bytes) else {
         return 0;
     };
+    // Its range is known once it is asked for.
+    let _next = status.next.get();
     last_place(first, sent + 1, status.next).saturating_sub(1)
 }
 
