@@ -6,3 +6,4 @@ pub mod Numbers
 pub mod ItemLines
 pub mod FirstLine
 pub mod Places
+pub mod RowLaws

@@ -1,6 +1,6 @@
 //! Describing a capture.
 
-ghost use Rattle.std.specs.Prelude.{◌≡◌, ◌++◌, true, false, IfOk, OnOk, codes};
+ghost use Rattle.std.specs.Prelude.{◌≡◌, ◌<◌, ◌^◌, ◌++◌, true, false, IfOk, OnOk, codes};
 ghost use Rattle.std.specs.Bool.{Decides};
 ghost use Rattle.capture_reader.specs.CaptureText.{AreItems, first_text};
 ghost use Rattle.capture_reader.specs.Rows.{raw_text, row_text, StatusRequest, Resend, Requests, Replies};
@@ -87,7 +87,8 @@ fn push_status_row(out: &mut Vec<u8>, status: &Status) -> Result<(), NoMemory>
 
 /// Appends a request to send a reply again.
 fn push_resend_row(out: &mut Vec<u8>, id: u16) -> Result<(), NoMemory>
-    ensures { OnOk result (out.new.items ≡ out.old.items ++ row_text (Resend id)) }
+    ensures fits { id < 2 ^ 16 }
+    ensures appended { OnOk result (out.new.items ≡ out.old.items ++ row_text (Resend id)) }
 {
     out.extend_from_slice(b"> resend ")?;
     push_number(out, u64::from(id))?;
