@@ -7,3 +7,5 @@ pub mod ItemLines
 pub mod FirstLine
 pub mod Places
 pub mod RowLaws
+pub mod WordLines
+pub mod LineLaws

@@ -1,6 +1,6 @@
 -- How the code reads what stands at the front of a text, and the text behind it. The private functions speak of it and
 -- no public clause does.
-use Rattle.std.specs.Prelude.{◌≡◌, ℕ, zero, suc, ◌==◌, if◌then◌else◌, List, [], ◌∷◌, length, Option, Some, None}
+use Rattle.std.specs.Prelude.{◌≡◌, ℕ, zero, suc, ◌==◌, nat_lt, if◌then◌else◌, List, [], ◌∷◌, length, Option, Some, None}
 use Rattle.std.specs.Prelude.{Result, Ok, Err}
 use Rattle.capture_reader.specs.declared.refusal.Unread.{Unread}
 use Rattle.capture_reader.specs.declared.refusal.Unread.TheVariants.{Other, NoMemory}
@@ -22,6 +22,11 @@ with_rest None rest = None
 abbrev pub with_text : {A : Type 0} → A → Option (List ℕ) → Front A
 with_text a (Some rest) = Some (a, rest)
 with_text a None = None
+
+-- what was read, if it was taken off the text
+abbrev pub shorter : {A : Type 0} → List ℕ → Front A → Front A
+shorter text None = None
+shorter text (Some read) = if nat_lt (length read.1) (length text) then Some read else None
 
 -- the text behind a word, where the text begins with it
 abbrev pub behind : List ℕ → List ℕ → Option (List ℕ)

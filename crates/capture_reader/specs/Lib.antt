@@ -6,3 +6,4 @@ pub mod Description
 pub mod Describing
 pub mod Fronts
 pub mod Reading
+pub mod Parsing

@@ -20,7 +20,8 @@ use status_packet::{Status, read_resend, read_status_reply, write_status_reply, 
 use std::alloc::Global;
 use transaction_codec::{BadWords, Reply, Request, read_replies, read_requests};
 
-fn same_bytes(left: &[u8], right: &[u8]) -> bool
+/// Whether bytes are the same.
+pub(crate) fn same_bytes(left: &[u8], right: &[u8]) -> bool
     ensures { Decides result (left.now ≡ right.now) }
 {
     left == right

@@ -81,7 +81,7 @@ fn pair(high: u8, low: u8) -> Option<u8>
 
 /// The byte whose digits stand at the front.
 #[tactic(auto, unfolding(crate::specs::Reading::pair_at))]
-fn first_pair(text: &[u8]) -> Option<(u8, &[u8])>
+pub(crate) fn first_pair(text: &[u8]) -> Option<(u8, &[u8])>
     ensures { Finds (λ read. (read.0, read.1.now)) result (pair_at text.now) }
 {
     let [high, low, rest @ ..] = text else {

@@ -77,6 +77,26 @@ impl<T: Drop> From<AllocFailed<T>> for CaptureRefusal {
     }
 }
 
+/// Why a text is not read as a description.
+#[derive(Clone, Copy, Debug, PartialEq, Eq)]
+pub enum UndescribeRefusal {
+    /// No capture has this description.
+    NotDescription,
+    /// Memory ran out.
+    NoMemory,
+}
+
+impl fmt::Display for UndescribeRefusal {
+    fn fmt<W: fmt::Write>(&self, f: &mut fmt::Formatter<W>) -> fmt::Result {
+        f.write_str(match self {
+            UndescribeRefusal::NotDescription => "the text is no description of a capture",
+            UndescribeRefusal::NoMemory => "out of memory",
+        })
+    }
+}
+
+impl Error for UndescribeRefusal {}
+
 /// Why nothing was read at the front of a text.
 #[derive(Clone, Copy, Debug, PartialEq, Eq)]
 pub(crate) enum Unread {
