@@ -9,3 +9,6 @@ pub mod Places
 pub mod RowLaws
 pub mod WordLines
 pub mod LineLaws
+pub mod RowReading
+pub mod Datagrams
+pub mod OneText

@@ -1,6 +1,6 @@
 -- The line of a datagram is read again, and what is read is such a line.
 use Rattle.std.proofs.Common.{◌≡◌, ◌≢◌, ℕ, ◌/◌, ◌^◌, ◌<◌, ◌≤◌, List, [], ◌∷◌, ◌++◌, length, Option, Some, None, Bool}
-use Rattle.std.proofs.Common.{true, false, refl, sym, ap, ◌∙◌, subst, arith, append_assoc, codes, nat_eq, nat_lt, cond}
+use Rattle.std.proofs.Common.{true, false, refl, sym, ap, ◌∙◌, subst, arith, append_assoc, codes, nat_eq, nat_lt, cond, get_or, suc}
 use Rattle.std.specs.List.{AllByRecursion, flat_map}
 use Rattle.std.proofs.lemmas.Bool.Decides.{nat_tests}
 use Rattle.packet_codec.specs.Packet.{AreBytes, IsByte}
@@ -94,3 +94,7 @@ item_found text rest item e =
     ∙ (ap (λ (t : List ℕ). direction_text sent.0.0 ++ t) (line.1 ∙ ap (λ (t : List ℕ). bytes_text bytes.0.0 ++ 10 ∷ t) parts.1)
     ∙ (sym (item_line (record { sent = sent.0.0; bytes = bytes.0.0 }) rest)
     ∙ ap (λ (i : Caught). item_text i ++ rest) parts.0)))
+
+pub bytes_fit : (bytes : List ℕ) → ((i : ℕ) → get_or bytes i 0 < 2 ^ 8) → AreBytes bytes
+bytes_fit [] fit = tt
+bytes_fit (byte ∷ bytes) fit = (fit 0, bytes_fit bytes (λ i. fit (suc i)))

@@ -1,9 +1,9 @@
 //! Reading a description.
 
-ghost use Rattle.std.specs.Prelude.{◌≡◌, ◌≤◌, length, Err, IfOk, IfSome, MatchResult};
-ghost use Rattle.packet_codec.specs.Packet.{packet_bytes, packet_with};
+ghost use Rattle.std.specs.Prelude.{◌≡◌, ◌≤◌, nat_le, length, Err, IfOk, IfSome, MatchResult};
+ghost use Rattle.packet_codec.specs.Packet.{AreBytes, packet_bytes, packet_with};
 ghost use Rattle.capture_reader.specs.declared.capture.Capture.{Capture as CaptureValue};
-ghost use Rattle.capture_reader.specs.CaptureText.{AreItems, IsCapture};
+ghost use Rattle.capture_reader.specs.CaptureText.{IsItem, AreItems, IsCapture};
 ghost use Rattle.capture_reader.specs.Description.{IsDescription};
 ghost use Rattle.capture_reader.specs.Fronts.{Finds, Gives, all_of};
 ghost use Rattle.capture_reader.specs.Reading.{bytes_read, item_read};
@@ -175,17 +175,25 @@ fn read_said(alloc: Global, sent: bool, text: &[u8]) -> Result<FirstBytes<'_>, U
     Err(Unread::Other)
 }
 
+/// Whether a datagram can have these bytes.
+fn is_short(bytes: &[u8]) -> bool
+    ensures bytes { AreBytes bytes.now }
+    ensures short { result ≡ nat_le (length bytes.now) MAX_DATAGRAM }
+{
+    bytes.len() <= MAX_DATAGRAM
+}
+
 /// Reads a datagram.
 #[tactic(auto, unfolding(crate::specs::Parsing::datagram_of))]
 fn read_datagram(alloc: Global, text: &[u8]) -> Result<FirstItem<'_>, Unread>
-    ensures item { IfOk result (λ first. length first.item.bytes ≤ MAX_DATAGRAM) }
+    ensures item { IfOk result (λ first. IsItem first.item) }
     ensures read { Gives item_read result (spec.datagram_of text.now) }
 {
     let Some((sent, rest)) = read_direction(text) else {
         return Err(Unread::Other);
     };
     let first = read_said(alloc, sent, rest)?;
-    if first.bytes.as_slice().len() > MAX_DATAGRAM {
+    if !is_short(first.bytes.as_slice()) {
         return Err(Unread::Other);
     }
     Ok(FirstItem {
@@ -199,7 +207,7 @@ fn read_datagram(alloc: Global, text: &[u8]) -> Result<FirstItem<'_>, Unread>
 
 /// Reads a datagram; `None` where something else stands there.
 fn next_datagram(alloc: Global, text: &[u8]) -> Result<Option<FirstItem<'_>>, NoMemory>
-    ensures item { IfOk result (λ found. IfSome found (λ first. length first.item.bytes ≤ MAX_DATAGRAM)) }
+    ensures item { IfOk result (λ found. IfSome found (λ first. IsItem first.item)) }
     ensures read { IfOk result (λ found. Finds item_read found (datagram_at text.now)) }
 {
     match read_datagram(alloc, text) {
