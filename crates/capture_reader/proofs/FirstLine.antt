@@ -69,7 +69,7 @@ pub no_capture : (text : List ℕ) (capture : Capture) → first_at text ≡ Non
 no_capture text capture none is e = no_first text none capture.first (items_text capture.items) is.first e
 
 -- a faulty line is no line of a capture
-good_line : (why : CaptureWhy) (item : Caught) (rest : List ℕ) → IsItem item
+pub good_line : (why : CaptureWhy) (item : Caught) (rest : List ℕ) → IsItem item
     → BreaksItemLine why (item_text item ++ rest) → ⊥
 good_line First item rest is breaks = breaks
 good_line Form item rest is breaks = breaks.none item rest is.bytes refl
@@ -142,3 +142,9 @@ only_one text rest first items e are is capture good same =
     let list = one_list items capture.items are good.items (sym (parts.1 ∙ is)) in
     ap (λ (f : ℕ). record { first = f; items = items }) (sym parts.0)
     ∙ ap (λ (xs : List Caught). record { first = capture.first; items = xs }) list
+
+pub same_text : (one other : Capture) → IsCapture one → IsCapture other → capture_text one ≡ capture_text other
+    → one ≡ other
+same_text one other is of e =
+    only_one (capture_text one) (items_text one.items) one.first one.items
+    (first_again one.first (items_text one.items) is.first) is.items refl other of e

@@ -12,3 +12,4 @@ pub mod LineLaws
 pub mod RowReading
 pub mod Datagrams
 pub mod OneText
+pub mod OneFault

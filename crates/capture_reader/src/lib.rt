@@ -5,6 +5,7 @@
 mod capture;
 mod front;
 mod hex;
+pub mod laws;
 mod texts;
 mod undescribing;
 mod describing;
