@@ -6,8 +6,10 @@ use Rattle.capture_reader.specs.declared.capture.Caught.{Caught}
 use Rattle.capture_reader.specs.declared.capture.Capture.{Capture}
 use Rattle.capture_reader.specs.declared.refusal.CaptureWhy.{CaptureWhy}
 use Rattle.capture_reader.specs.declared.refusal.CaptureWhy.TheVariants.{First, Form, Long}
+use Rattle.capture_reader.specs.declared.refusal.CaptureRefusal.{CaptureRefusal}
+use Rattle.capture_reader.specs.declared.refusal.CaptureRefusal.TheVariants.{At, NoMemory}
 use Rattle.capture_reader.specs.CaptureText.{item_text, items_text, first_text, capture_text, AreItems, IsCapture}
-use Rattle.capture_reader.specs.Faults.{BreaksItemLine, IsLaterFault, IsFirstFault, NoFirstLine}
+use Rattle.capture_reader.specs.Faults.{BreaksItemLine, IsLaterFault, IsFirstFault, NoFirstLine, IsCaptureFault}
 use Rattle.capture_reader.specs.Reading.{first_at}
 use Rattle.capture_reader.proofs.FirstLine.{first_again, no_fault, good_line}
 use Rattle.capture_reader.proofs.ItemLines.{same_front, some_line, one_list}
@@ -86,3 +88,14 @@ one text line line' why why' (inl (l, w, n)) (inl (l', w', n')) = (l ∙ sym l',
 one text line line' why why' (inl (l, w, n)) (inr fault) = absurd (no_first_line text line' why' n fault)
 one text line line' why why' (inr fault) (inl (l, w, n)) = absurd (no_first_line text line why n fault)
 one text line line' why why' (inr is) (inr of) = later text line line' why why' is of
+
+pub refused_by : (text : List ℕ) (refusal : CaptureRefusal) → IsCaptureFault text refusal → (line : ℕ) (why : CaptureWhy)
+    → IsFirstFault text line why → (refusal ≡ At line why) ⊎ (refusal ≡ NoMemory)
+refused_by text NoMemory is line why fault = inr refl
+refused_by text (At line' why') is line why fault =
+    let same = one text line' line why' why is fault in inl (rw (same.0, same.1) refl)
+
+pub no_fault_read : (text : List ℕ) (capture : Capture) → IsCapture capture × (text ≡ capture_text capture) → (line : ℕ)
+    (why : CaptureWhy) → IsFirstFault text line why → ⊥
+no_fault_read text capture read line why fault =
+    none capture line why read.0 (subst (λ (t : List ℕ). IsFirstFault t line why) read.1 fault)

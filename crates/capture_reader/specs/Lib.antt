@@ -3,6 +3,7 @@ pub mod Faults
 pub mod Proved
 pub mod Rows
 pub mod Description
+pub mod Examples
 pub mod Describing
 pub mod Fronts
 pub mod Reading

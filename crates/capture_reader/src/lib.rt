@@ -3,6 +3,7 @@
 #![tactic(auto)]
 
 mod capture;
+pub mod examples;
 mod front;
 mod hex;
 pub mod laws;

@@ -1,9 +1,10 @@
 //! Reading the text of a capture.
 
-ghost use Rattle.std.specs.Prelude.{◌≡◌, ◌≢◌, ◌++◌, [], IfOk, IfErr, MatchResult};
+ghost use Rattle.std.specs.Prelude.{◌≡◌, ◌≢◌, ◌++◌, ℕ, [], IfOk, IfErr, MatchResult};
 ghost use Rattle.capture_reader.specs.declared.capture.Capture.{Capture as CaptureValue};
+ghost use Rattle.capture_reader.specs.declared.refusal.CaptureWhy.{CaptureWhy as Rule};
 ghost use Rattle.capture_reader.specs.CaptureText.{item_text, items_text, capture_text, IsItem, AreItems, IsCapture};
-ghost use Rattle.capture_reader.specs.Faults.{IsCaptureFault};
+ghost use Rattle.capture_reader.specs.Faults.{IsCaptureFault, IsFirstFault, IsRefusedBy};
 ghost use Rattle.capture_reader.specs.Fronts.{Finds, Gives};
 ghost use Rattle.capture_reader.specs.Reading.{direction_at, item_at, item_read, IsItemFault, IsItemsFault};
 ghost use Rattle.capture_reader.specs.Reading.{id_of, first_in, first_at};
@@ -138,6 +139,9 @@ pub fn read_capture(alloc: Global, text: &[u8]) -> Result<Capture, CaptureRefusa
     ensures only { (capture : CaptureValue) → IsCapture capture → text.now ≡ capture_text capture
         → MatchResult result (λ read. read ≡ capture) (λ refusal. refusal ≡ CaptureRefusal.NoMemory) }
     ensures refused { IfErr result (IsCaptureFault text.now) }
+    // So a text with a fault is refused, by its first one.
+    ensures faulty { (line : ℕ) (why : Rule) → IsFirstFault text.now line why
+        → IsRefusedBy result (CaptureRefusal.At line why) }
 {
     let (first, rest) = match read_first(alloc, text) {
         Ok(read) => read,

@@ -1,6 +1,7 @@
 use Rattle.std.proofs.Common.{inl, refl, sym, ap, subst, ◌∙◌}
 use Rattle.capture_reader.specs.CaptureText.{AreItems, items_text}
 use Rattle.capture_reader.proofs.FirstLine.{no_first, no_capture, no_items_fault, items_fault, whole, only_one}
+use Rattle.capture_reader.proofs.OneFault.{refused_by, no_fault_read}
 use Rattle.capture_reader.proofs.reading.read_capture.Goals as goal
 
 pub returns-in-Err-Other-clause-only : goal.returns-in-Err-Other-clause-only
@@ -32,3 +33,13 @@ pub returns-in-Err-clause-refused : goal.returns-in-Err-clause-refused
 returns-in-Err-clause-refused c =
     items_fault c.args.text.now c.in-Ok.read.1.now c.in-Ok.read.0 c.in-Err.refusal c.in-Ok.ensures
     c.in-Err.ensures.refused
+
+pub returns-in-Err-Other-clause-faulty : goal.returns-in-Err-Other-clause-faulty
+returns-in-Err-Other-clause-faulty c = refused_by c.args.text.now _ (returns-in-Err-Other-clause-refused c)
+
+pub returns-in-Ok-read_items-clause-faulty : goal.returns-in-Ok-read_items-clause-faulty
+returns-in-Ok-read_items-clause-faulty c =
+    no_fault_read c.args.text.now _ (returns-in-Ok-read_items-clause-found c)
+
+pub returns-in-Err-clause-faulty : goal.returns-in-Err-clause-faulty
+returns-in-Err-clause-faulty c = refused_by c.args.text.now _ (returns-in-Err-clause-refused c)
