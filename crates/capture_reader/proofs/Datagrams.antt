@@ -1,18 +1,15 @@
 -- The texts of datagrams are read again.
-use Rattle.std.proofs.Common.{◌≡◌, ◌⊎◌, ℕ, ◌+◌, ◌<◌, ◌≤◌, ◌^◌, List, [], ◌∷◌, ◌++◌, length, Option, Some, None, refl, sym, ap}
-use Rattle.std.proofs.Common.{◌∙◌, inl, inr, arith, append_assoc, codes, Bool, true, false, nat_lt, nat_le, length-append}
-use Rattle.std.proofs.Common.{map, subst}
-use Rattle.std.specs.List.{AllByRecursion, flat_map}
+use Rattle.std.proofs.Common.{◌≡◌, ℕ, ◌<◌, ◌^◌, List, [], ◌∷◌, ◌++◌, length, Some, None, refl, sym, ap}
+use Rattle.std.proofs.Common.{◌∙◌, inl, inr, arith, append_assoc, codes, Bool, true, false, length-append}
+use Rattle.std.proofs.Common.{map}
+use Rattle.std.specs.List.{flat_map}
 use Rattle.std.specs.Fmt.{decimal}
-use Rattle.transaction_codec.specs.declared.request.Request.{Request}
-use Rattle.transaction_codec.specs.declared.reply.Reply.{Reply}
 use Rattle.transaction_codec.specs.Request.{request_words, requests_words}
 use Rattle.transaction_codec.specs.Reply.{reply_words, replies_words}
-use Rattle.packet_ids.specs.Identifier.{IsIdentifier}
 use Rattle.packet_codec.specs.declared.packet.TheConstants.{MAX_BODY_WORDS}
 use Rattle.packet_codec.specs.declared.packet.Order.{Order}
 use Rattle.packet_codec.specs.declared.packet.Order.TheVariants.{Big, Little}
-use Rattle.packet_codec.specs.Packet.{AreBytes, IsPacket, packet_bytes}
+use Rattle.packet_codec.specs.Packet.{IsPacket, packet_bytes}
 use Rattle.status_packet.specs.Packets.{status_request, status_reply, resend_request}
 use Rattle.capture_reader.specs.declared.capture.Caught.{Caught}
 use Rattle.capture_reader.specs.CaptureText.{bytes_text, direction_text, IsItem, AreItems}
@@ -20,9 +17,9 @@ use Rattle.capture_reader.specs.Rows.{Row, StatusRequest, Status, Resend, Reques
 use Rattle.capture_reader.specs.Rows.{said_text, control_text, control_packet, order_text, request_text, reply_text, IsOfRow}
 use Rattle.capture_reader.specs.Rows.{raw_text, IsTextOf}
 use Rattle.capture_reader.specs.Description.{AreTextsOf, proved_text}
-use Rattle.capture_reader.specs.Fronts.{Front, behind, shorter, all_of, in_front, ◌>>=◌}
-use Rattle.capture_reader.specs.Reading.{bytes_at, direction_at}
-use Rattle.capture_reader.specs.Parsing.{line_at, body_of, order_at, packet_with, id_at, control_at, resend_at, status_at}
+use Rattle.capture_reader.specs.Fronts.{behind, shorter, all_of, in_front}
+use Rattle.capture_reader.specs.Reading.{direction_at}
+use Rattle.capture_reader.specs.Parsing.{line_at, body_of, order_at, id_at, control_at, resend_at, status_at}
 use Rattle.capture_reader.specs.Parsing.{count_at, status_request_at, first_of, said_at, caught_with, datagram_of, datagram_at}
 use Rattle.capture_reader.proofs.Lines.{bytes_again, direction_again}
 use Rattle.capture_reader.proofs.LineLaws.{shorter_is, shorter_again}
@@ -56,8 +53,13 @@ control_again : (sent : Bool) (order : Order) (id : ℕ) (lines rest body : List
 unfolding control_at
 control_again sent order id lines rest body read e is packet =
     let more = order_text order ++ 10 ∷ (lines ++ rest) in
-    rw (id_again id 32 more packet.id (omega arith), order_again order (lines ++ rest), e, is,
-    is_at_most (length body) MAX_BODY_WORDS packet.length) refl
+    rw (
+      id_again id 32 more packet.id (omega arith),
+      order_again order (lines ++ rest),
+      e,
+      is,
+      is_at_most (length body) MAX_BODY_WORDS packet.length,
+    ) refl
 
 -- ---- what a row says
 
@@ -76,9 +78,12 @@ numbers_again : (mtu buffers next : ℕ) (rest : List ℕ) → mtu < 2 ^ 32 → 
 unfolding status_at count_at
 numbers_again mtu buffers next rest m b n =
     let last = decimal next ++ 10 ∷ rest in
-    rw (number_again mtu 32 (decimal buffers ++ 32 ∷ last) m (omega arith),
-    number_again buffers 32 last b (omega arith), number_again next 10 rest (omega arith) (omega arith),
-    is_less next (2 ^ 16) n) refl
+    rw (
+      number_again mtu 32 (decimal buffers ++ 32 ∷ last) m (omega arith),
+      number_again buffers 32 last b (omega arith),
+      number_again next 10 rest (omega arith) (omega arith),
+      is_less next (2 ^ 16) n,
+    ) refl
 
 resend_again : (id : ℕ) (rest : List ℕ) → id < 2 ^ 16
     → resend_at (decimal id ++ 10 ∷ rest) ≡ Some (packet_bytes (resend_request id), rest)

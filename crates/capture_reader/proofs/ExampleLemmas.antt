@@ -1,22 +1,20 @@
 -- Proofs of the worked examples.
-use Rattle.std.proofs.Common.{◌≡◌, ◌≢◌, ◌⊎◌, ℕ, ◌+◌, ◌<◌, ◌≤◌, ◌^◌, List, [], ◌∷◌, ◌++◌, length, refl, sym, ap, ◌∙◌, inl, inr}
+use Rattle.std.proofs.Common.{◌≡◌, ℕ, ◌<◌, ◌≤◌, ◌^◌, List, [], ◌∷◌, refl, inl, inr}
 use Rattle.std.proofs.Common.{arith, codes, Bool, true, false, ◌&&◌, nat_lt, replicate}
 use Rattle.std.specs.List.{list_all}
 use Rattle.ipb_base.specs.Word.{AreWords, big_endian}
 use Rattle.transaction_codec.specs.declared.request.Op.TheVariants.{Read}
 use Rattle.std.specs.Fmt.{digits}
 use Rattle.std.proofs.lemmas.Bool.Decides.{nat_tests}
-use Rattle.packet_ids.specs.Identifier.{IsIdentifier, identifier_at}
 use Rattle.packet_codec.specs.declared.packet.Order.{Order}
 use Rattle.packet_codec.specs.declared.packet.Order.TheVariants.{Big, Little}
 use Rattle.packet_codec.specs.declared.packet.PacketKind.TheVariants as kinds
-use Rattle.packet_codec.specs.Packet.{IsPacket, packet_bytes, packet_words, in_order}
+use Rattle.packet_codec.specs.Packet.{in_order}
 use Rattle.packet_codec.specs.Reading.{packet_of, start_of}
 use Rattle.capture_reader.specs.declared.capture.Caught.{Caught}
-use Rattle.capture_reader.specs.Proved.{Proves, ProvesByReply, ProvesByStatus, HasProof, sent_after, IsProved}
-use Rattle.capture_reader.specs.Rows.{Row, StatusRequest, Status, Resend, Requests, Replies, IsOfRow, row_packet, row_text}
-use Rattle.capture_reader.specs.Rows.{IsTextOf}
-use Rattle.capture_reader.specs.Description.{AreTextsOf, IsDescription}
+use Rattle.capture_reader.specs.Proved.{Proves, HasProof, sent_after, IsProved}
+use Rattle.capture_reader.specs.Rows.{Row, StatusRequest, Status, Requests, Replies, IsOfRow, row_packet}
+use Rattle.capture_reader.specs.Description.{IsDescription}
 use Rattle.capture_reader.specs.Examples.{one_read, one_empty, sent, received}
 
 all_parts : (a b : Bool) → (a && b) ≡ true → (a ≡ true) × (b ≡ true)
@@ -88,21 +86,27 @@ up_to_one other (inl here) = omega (arith, at_most 0 request other here)
 up_to_one other (inr (inl here)) = omega (arith, none_before, at_most (sent_after 1 0 request) status other here)
 up_to_one other (inr (inr (inl here))) = let e = here.0 in absurd (cc)
 up_to_one other (inr (inr (inr (inl here)))) =
-    omega (arith, one_before,
-    at_most (sent_after 1 (sent_after 1 (sent_after 1 0 request) status) asked) answered other here)
+    omega (
+      arith,
+      one_before,
+      at_most (sent_after 1 (sent_after 1 (sent_after 1 0 request) status) asked) answered other here,
+    )
 up_to_one other (inr (inr (inr (inr none)))) = absurd none
 
 reply_shows : HasProof 1 0 one_read.items 1
 unfolding request status asked answered packet_of start_of
 reply_shows =
-    inr (inr (inr (inl (refl, inl (record {
-      head = record { order = Big; id = 1; kind = kinds.Control };
-      spelled = refl;
-      control = refl;
-      from_one = omega arith;
-      was_sent = omega arith;
-      identifier = refl;
-    })))))
+    inr (inr (inr (inl (
+      refl,
+      inl (record {
+        head = record { order = Big; id = 1; kind = kinds.Control };
+        spelled = refl;
+        control = refl;
+        from_one = omega arith;
+        was_sent = omega arith;
+        identifier = refl;
+      }),
+    ))))
 
 pub read_proves : IsProved one_read 1
 read_proves = record { greatest = up_to_one; shown = inr reply_shows }
@@ -154,11 +158,31 @@ unfolding digits request status asked answered
 read_described = record {
   datagrams = codes "> status request\n< status 1500 16 1\n> control 1 big\n  0 read 0x00000004 1\n< control 1 big\n  0 read 0 1 0x0000abcd\n";
   place = 1;
-  said = (_, _, inl (StatusRequest, request_row, refl),
-      (_, _, inl (Status 1500 16 1, status_row, refl),
-      (_, _, inl (Requests Big 1 (record { tid = 0; op = Read 4 1 } ∷ []), asked_row, refl),
-      (_, _, inl (Replies Big 1 (record { tid = 0; kind = 0; count = 1; code = 0; values = 0xabcd ∷ [] } ∷ []), answered_row, refl),
-      refl, refl), refl), refl), refl);
+  said = (
+    _,
+    _,
+    inl (StatusRequest, request_row, refl),
+    (
+      _,
+      _,
+      inl (Status 1500 16 1, status_row, refl),
+      (
+        _,
+        _,
+        inl (Requests Big 1 (record { tid = 0; op = Read 4 1 } ∷ []), asked_row, refl),
+        (
+          _,
+          _,
+          inl (Replies Big 1 (record { tid = 0; kind = 0; count = 1; code = 0; values = 0xabcd ∷ [] } ∷ []), answered_row, refl),
+          refl,
+          refl,
+        ),
+        refl,
+      ),
+      refl,
+    ),
+    refl,
+  );
   proved = read_proves;
   whole = refl;
 }

@@ -1,10 +1,9 @@
 -- The first line of a capture, and its lines together.
-use Rattle.std.proofs.Common.{◌≡◌, ◌≢◌, ℕ, ◌+◌, ◌<◌, ◌≤◌, ◌^◌, List, [], ◌∷◌, ◌++◌, length, Option, Some, None, refl, sym, ap}
-use Rattle.std.proofs.Common.{◌∙◌, inl, inr, arith, append_assoc, Bool, true, false, codes, cond, subst}
+use Rattle.std.proofs.Common.{◌≡◌, ℕ, ◌<◌, ◌^◌, List, [], ◌∷◌, ◌++◌, length, Some, None, refl, sym, ap}
+use Rattle.std.proofs.Common.{◌∙◌, inr, arith, append_assoc, codes, subst}
 use Rattle.std.specs.Fmt.{decimal}
 use Rattle.std.proofs.lemmas.Bool.Decides.{nat_tests}
 use Rattle.packet_ids.specs.Identifier.{IsIdentifier}
-use Rattle.packet_ids.specs.declared.places.TheConstants.{IDENTIFIERS}
 use Rattle.capture_reader.specs.declared.capture.Caught.{Caught}
 use Rattle.capture_reader.specs.declared.capture.Capture.{Capture}
 use Rattle.capture_reader.specs.declared.refusal.CaptureWhy.{CaptureWhy}
@@ -13,9 +12,8 @@ use Rattle.capture_reader.specs.declared.refusal.CaptureRefusal.{CaptureRefusal}
 use Rattle.capture_reader.specs.declared.refusal.CaptureRefusal.TheVariants.{At, NoMemory}
 use Rattle.capture_reader.specs.CaptureText.{item_text, items_text, first_text, capture_text, IsItem, AreItems, IsCapture}
 use Rattle.capture_reader.specs.Faults.{NoFirstLine, BreaksItemLine, IsCaptureFault}
-use Rattle.capture_reader.specs.Fronts.{Front, behind, with_text, ◌>>=◌}
-use Rattle.capture_reader.specs.Reading.{is_between, number_at, id_of, first_in, first_at, item_at, IsItemsFault}
-use Rattle.capture_reader.proofs.Lines.{item_again}
+use Rattle.capture_reader.specs.Fronts.{behind, with_text}
+use Rattle.capture_reader.specs.Reading.{number_at, id_of, first_in, first_at, IsItemsFault}
 use Rattle.capture_reader.proofs.ItemLines.{some_line, same_front, one_list}
 use Rattle.capture_reader.proofs.Many.{bound, parts_of, texted}
 use Rattle.capture_reader.proofs.Numbers.{number_again}
@@ -56,9 +54,10 @@ pub first_found : (text rest : List ℕ) (first : ℕ) → first_at text ≡ Som
 unfolding first_at
 first_found text rest first e =
     let one = bound (first_in text) _ (first, rest) e in
-    let parts = texted one.0 first (behind (first_text one.0) text) rest one.2 in
-    (subst IsIdentifier parts.0 (in_found text one.0 one.1),
-    behind_found (first_text one.0) text rest parts.1 ∙ ap (λ (f : ℕ). first_text f ++ rest) parts.0)
+    let parts = texted one.0 first (behind (first_text one.0) text) rest one.2 in (
+      subst IsIdentifier parts.0 (in_found text one.0 one.1),
+      behind_found (first_text one.0) text rest parts.1 ∙ ap (λ (f : ℕ). first_text f ++ rest) parts.0,
+    )
 
 pub no_first : (text : List ℕ) → first_at text ≡ None → NoFirstLine text
 no_first text none first rest is e =

@@ -1,14 +1,10 @@
 -- Lines of requests and replies are read again.
-use Rattle.std.proofs.Common.{◌≡◌, ◌⊎◌, ℕ, ◌+◌, ◌-◌, ◌<◌, ◌≤◌, ◌^◌, List, [], ◌∷◌, ◌++◌, length, Option, Some, None, refl, sym, ap}
-use Rattle.std.proofs.Common.{◌∙◌, inl, inr, arith, append_assoc, codes, drop, Bool, true, false, cond, nat_lt, length-append, subst}
-use Rattle.std.specs.List.{AllByRecursion, flat_map}
-use Rattle.std.specs.Fmt.{decimal}
+use Rattle.std.proofs.Common.{◌≡◌, ℕ, ◌<◌, List, [], ◌∷◌, ◌++◌, length, Some, None, refl, sym, ap}
+use Rattle.std.proofs.Common.{◌∙◌, arith, append_assoc, Bool, true, false, cond, nat_lt}
 use Rattle.std.proofs.lemmas.Bool.Decides.{nat_tests}
-use Rattle.std.proofs.lemmas.List.Concat.{flat_map-append}
-use Rattle.ipb_base.specs.Word.{AreWords}
-use Rattle.capture_reader.specs.Fronts.{Front, behind, shorter, all_of, in_front, ◌>>=◌}
+use Rattle.capture_reader.specs.Fronts.{Front, shorter, all_of}
 use Rattle.capture_reader.specs.Parsing.{line_of, line_at, body_of}
-use Rattle.capture_reader.proofs.Many.{Shortens, bound, parts_of, rest_of, all_step}
+use Rattle.capture_reader.proofs.Many.{Shortens, rest_of, all_step}
 
 -- what is kept only where it is shorter
 kept_by : {A : Type 0} (b : Bool) (read : A × List ℕ) (a : A) (rest : List ℕ)

@@ -1,14 +1,13 @@
 -- The line of a datagram is read again, and what is read is such a line.
-use Rattle.std.proofs.Common.{◌≡◌, ◌≢◌, ℕ, ◌/◌, ◌^◌, ◌<◌, ◌≤◌, List, [], ◌∷◌, ◌++◌, length, Option, Some, None, Bool}
-use Rattle.std.proofs.Common.{true, false, refl, sym, ap, ◌∙◌, subst, arith, append_assoc, codes, nat_eq, nat_lt, cond, get_or, suc}
-use Rattle.std.specs.List.{AllByRecursion, flat_map}
+use Rattle.std.proofs.Common.{◌≡◌, ℕ, ◌/◌, ◌^◌, ◌<◌, List, [], ◌∷◌, ◌++◌, Option, Some, None, Bool}
+use Rattle.std.proofs.Common.{true, false, refl, sym, ap, ◌∙◌, subst, arith, append_assoc, codes, nat_eq, get_or, suc}
 use Rattle.std.proofs.lemmas.Bool.Decides.{nat_tests}
-use Rattle.packet_codec.specs.Packet.{AreBytes, IsByte}
+use Rattle.packet_codec.specs.Packet.{AreBytes}
 use Rattle.capture_reader.specs.declared.capture.Caught.{Caught}
 use Rattle.capture_reader.specs.CaptureText.{hex_digit, hex_text, bytes_text, direction_text, item_text}
-use Rattle.capture_reader.specs.Fronts.{Front, with_text, behind, all_of, ◌>>=◌}
+use Rattle.capture_reader.specs.Fronts.{behind, all_of}
 use Rattle.capture_reader.specs.Reading.{pair_at, pairs_line, bytes_by, bytes_at, direction_by, direction_at, item_at}
-use Rattle.capture_reader.proofs.Words.{behind_again, behind_found}
+use Rattle.capture_reader.proofs.Words.{behind_found}
 use Rattle.capture_reader.proofs.Many.{bound, parts_of, texted}
 use Rattle.capture_reader.proofs.Pairs.{pairs_again, pairs_found, feed_stops}
 
@@ -30,16 +29,19 @@ line_by : (text : List ℕ) (read : List ℕ × List ℕ) (bytes rest : List ℕ
 line_by text ([], after) bytes rest are is e = absurd cc
 line_by text (byte ∷ more, after) bytes rest are is e =
     let parts = texted (byte ∷ more) bytes (behind (codes "\n") after) rest e in
-    let feed = behind_found (codes "\n") after rest parts.1 in
-    (subst AreBytes parts.0 are,
-    is ∙ (ap (λ (t : List ℕ). hex_text (byte ∷ more) ++ t) feed ∙ ap (λ (bs : List ℕ). bytes_text bs ++ 10 ∷ rest) parts.0))
+    let feed = behind_found (codes "\n") after rest parts.1 in (
+      subst AreBytes parts.0 are,
+      is ∙ (ap (λ (t : List ℕ). hex_text (byte ∷ more) ++ t) feed ∙ ap (λ (bs : List ℕ). bytes_text bs ++ 10 ∷ rest) parts.0),
+    )
 
 bytes_found_by : (text : List ℕ) (r : Option (List ℕ)) (bytes rest : List ℕ) → behind (codes "-\n") text ≡ r
     → bytes_by r text ≡ Some (bytes, rest) → AreBytes bytes × (text ≡ bytes_text bytes ++ 10 ∷ rest)
 bytes_found_by text (Some after) bytes rest is e =
-    let parts = parts_of [] bytes after rest e in
-    (subst AreBytes parts.0 tt, behind_found (codes "-\n") text after is
-    ∙ (ap (λ (t : List ℕ). 45 ∷ 10 ∷ t) parts.1 ∙ ap (λ (bs : List ℕ). bytes_text bs ++ 10 ∷ rest) parts.0))
+    let parts = parts_of [] bytes after rest e in (
+      subst AreBytes parts.0 tt,
+      behind_found (codes "-\n") text after is
+          ∙ (ap (λ (t : List ℕ). 45 ∷ 10 ∷ t) parts.1 ∙ ap (λ (bs : List ℕ). bytes_text bs ++ 10 ∷ rest) parts.0),
+    )
 bytes_found_by text None bytes rest is e =
     let found = pairs_found text in line_by text (all_of pair_at text) bytes rest found.0 found.1 e
 
@@ -78,8 +80,11 @@ item_line item rest =
 pub item_again : (item : Caught) (rest : List ℕ) → AreBytes item.bytes → item_at (item_text item ++ rest) ≡ Some (item, rest)
 unfolding item_at
 item_again item rest are =
-    rw (item_line item rest, direction_again item.sent (bytes_text item.bytes ++ 10 ∷ rest),
-    bytes_again item.bytes rest are) refl
+    rw (
+      item_line item rest,
+      direction_again item.sent (bytes_text item.bytes ++ 10 ∷ rest),
+      bytes_again item.bytes rest are,
+    ) refl
 
 pub item_found : (text rest : List ℕ) (item : Caught) → item_at text ≡ Some (item, rest)
     → AreBytes item.bytes × (text ≡ item_text item ++ rest)
@@ -88,12 +93,13 @@ item_found text rest item e =
     let sent = bound (direction_at text) _ (item, rest) e in
     let bytes = bound (bytes_at sent.0.1) _ (item, rest) sent.2 in
     let line = bytes_found sent.0.1 bytes.0.0 bytes.0.1 bytes.1 in
-    let parts = parts_of (record { sent = sent.0.0; bytes = bytes.0.0 }) item bytes.0.1 rest bytes.2 in
-    (subst (λ (i : Caught). AreBytes i.bytes) parts.0 line.0,
-    direction_found text sent.0.0 sent.0.1 sent.1
-    ∙ (ap (λ (t : List ℕ). direction_text sent.0.0 ++ t) (line.1 ∙ ap (λ (t : List ℕ). bytes_text bytes.0.0 ++ 10 ∷ t) parts.1)
-    ∙ (sym (item_line (record { sent = sent.0.0; bytes = bytes.0.0 }) rest)
-    ∙ ap (λ (i : Caught). item_text i ++ rest) parts.0)))
+    let parts = parts_of (record { sent = sent.0.0; bytes = bytes.0.0 }) item bytes.0.1 rest bytes.2 in (
+      subst (λ (i : Caught). AreBytes i.bytes) parts.0 line.0,
+      direction_found text sent.0.0 sent.0.1 sent.1
+          ∙ (ap (λ (t : List ℕ). direction_text sent.0.0 ++ t) (line.1 ∙ ap (λ (t : List ℕ). bytes_text bytes.0.0 ++ 10 ∷ t) parts.1)
+          ∙ (sym (item_line (record { sent = sent.0.0; bytes = bytes.0.0 }) rest)
+          ∙ ap (λ (i : Caught). item_text i ++ rest) parts.0)),
+    )
 
 pub bytes_fit : (bytes : List ℕ) → ((i : ℕ) → get_or bytes i 0 < 2 ^ 8) → AreBytes bytes
 bytes_fit [] fit = tt

@@ -99,10 +99,11 @@ module _ {A : Type 0} (at : List ℕ → Front A) (short : Shortens at) (spell :
   found_by found m text None e later = (tt, refl)
   found_by found m text (Some (a, rest)) e later =
       let here = found text rest a e in
-      let more = later rest in
-      ((here.0, more.0),
-      here.1 ∙ (ap (λ (t : List ℕ). spell a ++ t) more.1
-      ∙ sym (append_assoc (spell a) (flat_map spell (many at m rest).0) (many at m rest).1)))
+      let more = later rest in (
+        (here.0, more.0),
+        here.1 ∙ (ap (λ (t : List ℕ). spell a ++ t) more.1
+            ∙ sym (append_assoc (spell a) (flat_map spell (many at m rest).0) (many at m rest).1)),
+      )
 
   many_found : ((text rest : List ℕ) (a : A) → at text ≡ Some (a, rest) → Is a × (text ≡ spell a ++ rest)) → (m : ℕ)
       (text : List ℕ) → Spelled text (many at m text)

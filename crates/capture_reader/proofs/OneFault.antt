@@ -1,6 +1,6 @@
 -- A text that is no capture has one first fault.
-use Rattle.std.proofs.Common.{◌≡◌, ◌≢◌, ◌⊎◌, ℕ, ◌+◌, ◌<◌, ◌≤◌, List, [], ◌∷◌, ◌++◌, length, refl, sym, ap, ◌∙◌, inl, inr, arith}
-use Rattle.std.proofs.Common.{append_assoc, append-nil, subst}
+use Rattle.std.proofs.Common.{◌≡◌, ◌≢◌, ◌⊎◌, ℕ, List, [], ◌∷◌, ◌++◌, length, refl, sym, ap, ◌∙◌, inl, inr, arith}
+use Rattle.std.proofs.Common.{append_assoc, subst}
 use Rattle.packet_ids.specs.Identifier.{IsIdentifier}
 use Rattle.capture_reader.specs.declared.capture.Caught.{Caught}
 use Rattle.capture_reader.specs.declared.capture.Capture.{Capture}
@@ -12,7 +12,7 @@ use Rattle.capture_reader.specs.CaptureText.{item_text, items_text, first_text, 
 use Rattle.capture_reader.specs.Faults.{BreaksItemLine, IsLaterFault, IsFirstFault, NoFirstLine, IsCaptureFault}
 use Rattle.capture_reader.specs.Reading.{first_at}
 use Rattle.capture_reader.proofs.FirstLine.{first_again, no_fault, good_line}
-use Rattle.capture_reader.proofs.ItemLines.{same_front, some_line, one_list}
+use Rattle.capture_reader.proofs.ItemLines.{same_front}
 use Rattle.capture_reader.proofs.Many.{parts_of}
 
 -- what follows the first line
@@ -74,9 +74,10 @@ later text line line' why why' is of =
     (items_text of.before.items ++ of.rest) is.ranges.first of.ranges.first
     (sym (later_parts text line why is) ∙ later_parts text line' why' of) in
     let same = same_lines is.before.items of.before.items is.rest of.rest why why' is.ranges.items of.ranges.items parts.1
-    is.rule of.rule in
-    (omega (arith, is.counted, of.counted, same.0),
-    one_rule why why' is.rest is.rule (subst (BreaksItemLine why') (sym same.1) of.rule))
+    is.rule of.rule in (
+      omega (arith, is.counted, of.counted, same.0),
+      one_rule why why' is.rest is.rule (subst (BreaksItemLine why') (sym same.1) of.rule),
+    )
 
 no_first_line : (text : List ℕ) (line : ℕ) (why : CaptureWhy) → NoFirstLine text → IsLaterFault text line why → ⊥
 no_first_line text line why no_line fault =

@@ -1,25 +1,20 @@
 -- A capture has one description, and a description is of one capture.
-use Rattle.std.proofs.Common.{◌≡◌, ◌⊎◌, ℕ, ◌+◌, ◌*◌, ◌<◌, ◌≤◌, ◌^◌, List, [], ◌∷◌, ◌++◌, length, Option, Some, None, refl, sym, ap}
-use Rattle.std.proofs.Common.{◌∙◌, inl, inr, arith, append_assoc, codes, Bool, true, false, get_or, subst}
-use Rattle.std.specs.List.{AllByRecursion}
-use Rattle.transaction_codec.specs.declared.request.Request.{Request}
-use Rattle.transaction_codec.specs.declared.reply.Reply.{Reply}
+use Rattle.std.proofs.Common.{◌≡◌, ◌⊎◌, ℕ, ◌≤◌, List, [], ◌∷◌, ◌++◌, Some, None, refl, sym, ap}
+use Rattle.std.proofs.Common.{◌∙◌, inl, inr, arith, Bool, true, false, get_or}
 use Rattle.transaction_codec.specs.Request.{request_words, IsRequest, BreaksRequest, request_at}
 use Rattle.transaction_codec.specs.Reply.{reply_words, IsReply, BreaksReply, reply_at}
 use Rattle.transaction_codec.proofs.Lists.{one_list}
 use Rattle.transaction_codec.proofs.Formats.{requests_format, replies_format}
-use Rattle.packet_codec.specs.declared.packet.Order.{Order}
 use Rattle.packet_codec.specs.declared.packet.PacketKind.{PacketKind}
 use Rattle.packet_codec.specs.declared.packet.PacketKind.TheVariants as kinds
 use Rattle.packet_codec.specs.declared.packet.Packet.{Packet}
-use Rattle.packet_codec.specs.Packet.{AreBytes}
 use Rattle.packet_codec.proofs.PacketLemmas.{one_packet}
 use Rattle.capture_reader.specs.declared.capture.Caught.{Caught}
 use Rattle.capture_reader.specs.declared.capture.Capture.{Capture}
-use Rattle.capture_reader.specs.CaptureText.{first_text, IsItem, AreItems, IsCapture}
+use Rattle.capture_reader.specs.CaptureText.{first_text, IsCapture}
 use Rattle.capture_reader.specs.Proved.{IsProved, HasProof}
 use Rattle.capture_reader.specs.Rows.{Row, StatusRequest, Status, Resend, Requests, Replies, row_sent, row_packet, row_text}
-use Rattle.capture_reader.specs.Rows.{IsOfRow, raw_text, IsTextOf}
+use Rattle.capture_reader.specs.Rows.{IsOfRow, IsTextOf}
 use Rattle.capture_reader.specs.Description.{AreTextsOf, IsDescription, proved_text}
 use Rattle.capture_reader.specs.Fronts.{all_of}
 use Rattle.capture_reader.specs.Reading.{first_at}

@@ -1,12 +1,10 @@
 -- Pairs of digits at the front of a text.
 use Rattle.std.proofs.Common.{◌≡◌, ℕ, ◌+◌, ◌*◌, ◌/◌, ◌%◌, ◌^◌, ◌<◌, List, [], ◌∷◌, ◌++◌, length, Option, Some, None}
-use Rattle.std.proofs.Common.{refl, sym, ap, ◌∙◌, inl, inr, Bool, true, false, ◌&&◌, nat_lt, cond, arith, nat_eq, get_or}
-use Rattle.std.specs.List.{AllByRecursion, flat_map}
-use Rattle.std.proofs.lemmas.Bool.{cases_Bool}
+use Rattle.std.proofs.Common.{refl, sym, ap, ◌∙◌, ◌&&◌, nat_lt, cond, arith}
 use Rattle.std.proofs.lemmas.Bool.Decides.{nat_tests}
 use Rattle.packet_codec.specs.Packet.{AreBytes, IsByte}
 use Rattle.capture_reader.specs.CaptureText.{hex_digit, byte_text, hex_text}
-use Rattle.capture_reader.specs.Fronts.{Front, with_rest, all_of}
+use Rattle.capture_reader.specs.Fronts.{with_rest, all_of}
 use Rattle.capture_reader.specs.Reading.{digit_of, pair, pair_at}
 use Rattle.capture_reader.proofs.Many.{Shortens, rest_of, parts_of, all_again, all_found}
 
@@ -47,9 +45,11 @@ unfolding pair
 pair_found high low byte e =
     let is = found_with (digit_of high) (digit_of low) byte e in
     let front : byte / 16 ≡ digit_of high = omega (arith, is.0, is.1, is.2) in
-    let back : byte % 16 ≡ digit_of low = omega (arith, is.0, is.1, is.2) in
-    (omega (arith, is.0, is.1, is.2), sym (digit_found high is.0) ∙ ap hex_digit (sym front),
-    sym (digit_found low is.1) ∙ ap hex_digit (sym back))
+    let back : byte % 16 ≡ digit_of low = omega (arith, is.0, is.1, is.2) in (
+      omega (arith, is.0, is.1, is.2),
+      sym (digit_found high is.0) ∙ ap hex_digit (sym front),
+      sym (digit_found low is.1) ∙ ap hex_digit (sym back),
+    )
 
 pub pair_read_again : (byte : ℕ) (rest : List ℕ) → IsByte byte → pair_at (byte_text byte ++ rest) ≡ Some (byte, rest)
 unfolding pair_at

@@ -1,15 +1,13 @@
 -- Which row a packet is of, and which packets no row is of.
-use Rattle.std.proofs.Common.{◌≡◌, ◌≢◌, ℕ, ◌+◌, ◌<◌, ◌≤◌, ◌^◌, List, [], ◌∷◌, ◌++◌, length, drop, get_or, Result, Ok, Err, Option}
-use Rattle.std.proofs.Common.{Some, None, refl, sym, ap, ◌∙◌, inl, inr, arith, subst, Bool, true, false, append_assoc, append-nil}
-use Rattle.std.specs.Prelude.{OnOk, IsOkAnd, MatchResult}
-use Rattle.std.specs.List.{AllByRecursion}
+use Rattle.std.proofs.Common.{◌≡◌, ◌≢◌, ℕ, ◌+◌, ◌<◌, ◌≤◌, ◌^◌, List, [], ◌∷◌, ◌++◌, length, drop, get_or, Result, Ok, Err}
+use Rattle.std.proofs.Common.{refl, sym, ap, ◌∙◌, inl, inr, arith, subst, Bool, true, false, append_assoc, append-nil}
+use Rattle.std.specs.Prelude.{OnOk}
 use Rattle.std.proofs.lemmas.List.{at_drop_more, at_drop_all}
 use Rattle.transaction_codec.specs.declared.request.Request.{Request}
 use Rattle.transaction_codec.specs.declared.reply.Reply.{Reply}
 use Rattle.transaction_codec.specs.Request.{AreRequests, requests_words}
 use Rattle.transaction_codec.specs.Reply.{AreReplies, replies_words}
 use Rattle.packet_ids.specs.Identifier.{IsIdentifier}
-use Rattle.packet_codec.specs.declared.packet.Order.{Order}
 use Rattle.packet_codec.specs.declared.packet.PacketKind.{PacketKind}
 use Rattle.packet_codec.specs.declared.packet.PacketKind.TheVariants as kinds
 use Rattle.packet_codec.specs.declared.packet.Packet.{Packet}
@@ -17,10 +15,9 @@ use Rattle.packet_codec.specs.Packet.{IsPacket, packet_bytes}
 use Rattle.packet_codec.proofs.PacketLemmas.{one_packet}
 use Rattle.status_packet.specs.Range.{IsMtu, IsBufferCount}
 use Rattle.status_packet.specs.Packets.{status_request, status_reply, resend_request}
-use Rattle.status_packet.specs.StatusBytes.{IsStatusReply}
 use Rattle.capture_reader.specs.declared.capture.Caught.{Caught}
-use Rattle.capture_reader.specs.Rows.{Row, StatusRequest, Status, Resend, Requests, Replies, row_sent, row_packet, row_text}
-use Rattle.capture_reader.specs.Rows.{control_packet, IsOfRow, raw_text, IsTextOf}
+use Rattle.capture_reader.specs.Rows.{Row, StatusRequest, Status, Resend, Requests, Replies, row_packet, row_text}
+use Rattle.capture_reader.specs.Rows.{control_packet, IsOfRow, raw_text}
 use Rattle.capture_reader.specs.Description.{AreTextsOf}
 use Rattle.capture_reader.specs.Describing.{Appends, AppendsAll, IsOfPacket}
 
@@ -160,9 +157,11 @@ one_text_more items item i old out new within at before (text, is, e) rest are =
     let here : drop i items ≡ item ∷ drop (i + 1) items =
     at_drop_more (λ (xs : List Caught). xs) items i item within ∙ ap (λ (x : Caught). x ∷ drop (i + 1) items) (sym at) in
     let more = before (text ++ rest)
-    (subst (λ (xs : List Caught). AreTextsOf xs (text ++ rest)) (sym here) (text, rest, is, are, refl)) in
-    (more.0, more.1,
-    ap (λ (xs : List ℕ). xs ++ rest) e ∙ (append_assoc out text rest ∙ more.2))
+    (subst (λ (xs : List Caught). AreTextsOf xs (text ++ rest)) (sym here) (text, rest, is, are, refl)) in (
+      more.0,
+      more.1,
+      ap (λ (xs : List ℕ). xs ++ rest) e ∙ (append_assoc out text rest ∙ more.2),
+    )
 
 pub all_texts : (items : List Caught) (i : ℕ) (old out : List ℕ) → length items ≤ i
     → ((rest : List ℕ) → AreTextsOf (drop i items) rest → AppendsAll items old (out ++ rest))

@@ -1,8 +1,8 @@
 -- Lines of requests and replies are read again.
-use Rattle.std.proofs.Common.{◌≡◌, ◌⊎◌, ℕ, zero, suc, ◌+◌, ◌-◌, ◌<◌, ◌≤◌, ◌^◌, List, [], ◌∷◌, ◌++◌, length, Option, Some, None}
-use Rattle.std.proofs.Common.{refl, sym, ap, ◌∙◌, inl, inr, arith, append_assoc, codes, Bool, true, false, nat_lt, nat_le}
-use Rattle.std.proofs.Common.{length-append, map, subst, drop}
-use Rattle.std.specs.List.{AllByRecursion, flat_map}
+use Rattle.std.proofs.Common.{◌≡◌, ℕ, zero, suc, ◌-◌, ◌<◌, ◌≤◌, ◌^◌, List, [], ◌∷◌, ◌++◌, length, Some, None}
+use Rattle.std.proofs.Common.{refl, ap, ◌∙◌, inl, inr, arith, append_assoc, codes, Bool, true, false, nat_lt, nat_le}
+use Rattle.std.proofs.Common.{length-append, map, drop}
+use Rattle.std.specs.List.{flat_map}
 use Rattle.std.specs.Fmt.{decimal}
 use Rattle.std.proofs.lemmas.Bool.Decides.{nat_tests}
 use Rattle.ipb_base.specs.Word.{AreWords}
@@ -12,14 +12,14 @@ use Rattle.transaction_codec.specs.declared.request.Request.{Request}
 use Rattle.transaction_codec.specs.declared.reply.Reply.{Reply}
 use Rattle.transaction_codec.specs.declared.info_code.TheConstants.{REQUEST}
 use Rattle.transaction_codec.specs.Header.{header}
-use Rattle.transaction_codec.specs.Request.{op_kind, op_count, op_words, request_words, requests_words, IsRequest, AreRequests}
-use Rattle.transaction_codec.specs.Reply.{reply_words, replies_words, HasForm, Carries, IsBusFault, IsReply, AreReplies}
+use Rattle.transaction_codec.specs.Request.{op_kind, op_count, op_words, request_words, IsRequest, AreRequests}
+use Rattle.transaction_codec.specs.Reply.{reply_words, HasForm, Carries, IsReply, AreReplies}
 use Rattle.capture_reader.specs.Rows.{verb_text, line_start, words_text, asked_text, request_text, reply_text}
 use Rattle.capture_reader.specs.Fronts.{Front, behind, shorter, all_of, in_front, ◌>>=◌}
 use Rattle.capture_reader.specs.Reading.{number_at}
 use Rattle.capture_reader.specs.Parsing.{word_at, count_at, verb_at, start_at, asked_at, line_with, request_line_at}
-use Rattle.capture_reader.specs.Parsing.{reply_line_at, line_of, line_at, body_of}
-use Rattle.capture_reader.proofs.Many.{Shortens, all_step, all_stop}
+use Rattle.capture_reader.specs.Parsing.{reply_line_at, line_at, body_of}
+use Rattle.capture_reader.proofs.Many.{all_step, all_stop}
 use Rattle.capture_reader.proofs.Numbers.{number_again}
 use Rattle.capture_reader.proofs.WordLines.{words_again, feed_is_no_word, count_is_no_word}
 use Rattle.capture_reader.proofs.LineLaws.{shorter_again, lines_shorten}
@@ -162,9 +162,14 @@ fields_again : (tid kind code count : ℕ) (values rest : List ℕ) → tid < 2 
 unfolding reply_line_at count_at
 fields_again tid kind code count values rest fits k c few are =
     let counts = decimal count ++ (words_text values ++ 10 ∷ rest) in
-    rw (start_again tid kind (decimal code ++ 32 ∷ counts) fits k, number_again code 32 counts (omega arith) (omega arith),
-    count_before count values rest few, words_again values (10 ∷ rest) are (feed_is_no_word rest),
-    is_less count (2 ^ 8) few, is_less code (2 ^ 4) c) refl
+    rw (
+      start_again tid kind (decimal code ++ 32 ∷ counts) fits k,
+      number_again code 32 counts (omega arith) (omega arith),
+      count_before count values rest few,
+      words_again values (10 ∷ rest) are (feed_is_no_word rest),
+      is_less count (2 ^ 8) few,
+      is_less code (2 ^ 4) c,
+    ) refl
 
 reply_again : (reply : Reply) (rest : List ℕ) → IsReply reply
     → reply_line_at (reply_text reply ++ rest) ≡ Some (reply_words reply, rest)

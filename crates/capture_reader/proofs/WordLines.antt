@@ -1,13 +1,12 @@
 -- Words in the lines of a description.
-use Rattle.std.proofs.Common.{◌≡◌, ℕ, ◌+◌, ◌<◌, ◌≤◌, ◌^◌, List, [], ◌∷◌, ◌++◌, length, Option, Some, None, refl, sym, ap, ◌∙◌}
-use Rattle.std.proofs.Common.{arith, append_assoc, codes, drop, ◌/◌, ◌%◌}
+use Rattle.std.proofs.Common.{◌≡◌, ℕ, ◌<◌, ◌^◌, List, [], ◌∷◌, ◌++◌, length, Some, None, refl, sym, ap, ◌∙◌}
+use Rattle.std.proofs.Common.{arith, codes, drop, ◌/◌, ◌%◌}
 use Rattle.std.specs.Fmt.{decimal}
-use Rattle.std.specs.List.{AllByRecursion, flat_map}
-use Rattle.std.specs.Int.{w32, to_be_bytes, from_be_bytes}
+use Rattle.std.specs.Int.{w32, from_be_bytes}
 use Rattle.std.proofs.lemmas.Nat.{from_be_bytes-to_be_bytes_4}
-use Rattle.ipb_base.specs.Word.{IsWord, AreWords, word_bytes}
+use Rattle.ipb_base.specs.Word.{IsWord, AreWords}
 use Rattle.packet_codec.specs.Packet.{IsByte}
-use Rattle.capture_reader.specs.CaptureText.{byte_text, hex_text}
+use Rattle.capture_reader.specs.CaptureText.{byte_text}
 use Rattle.capture_reader.specs.Rows.{word_text, words_text}
 use Rattle.capture_reader.specs.Fronts.{Front, behind, all_of, ◌>>=◌}
 use Rattle.capture_reader.specs.Reading.{pair_at, number_at}
@@ -20,6 +19,9 @@ use Rattle.capture_reader.proofs.Numbers.{number_again}
 shorter_behind : (text rest : List ℕ) → behind (codes " 0x") text ≡ Some rest → length rest < length text
 shorter_behind text rest e = let is = behind_found (codes " 0x") text rest e in rw is (omega arith)
 
+same_length : (xs ys : List ℕ) → xs ≡ ys → length xs ≡ length ys
+same_length xs ys e = ap length e
+
 pub words_shorten : Shortens word_at
 unfolding word_at
 words_shorten text rest w e =
@@ -29,8 +31,15 @@ words_shorten text rest w e =
     let c = bound (pair_at b.0.1) _ (w, rest) b.2 in
     let d = bound (pair_at c.0.1) _ (w, rest) c.2 in
     let last = parts_of _ w d.0.1 rest d.2 in
-    omega (arith, shorter_behind text x.0 x.1, pairs_shorten x.0 a.0.1 a.0.0 a.1, pairs_shorten a.0.1 b.0.1 b.0.0 b.1,
-    pairs_shorten b.0.1 c.0.1 c.0.0 c.1, pairs_shorten c.0.1 d.0.1 d.0.0 d.1, ap length last.1)
+    omega (
+      arith,
+      shorter_behind text x.0 x.1,
+      pairs_shorten x.0 a.0.1 a.0.0 a.1,
+      pairs_shorten a.0.1 b.0.1 b.0.0 b.1,
+      pairs_shorten b.0.1 c.0.1 c.0.0 c.1,
+      pairs_shorten c.0.1 d.0.1 d.0.0 d.1,
+      same_length d.0.1 rest last.1,
+    )
 
 abbrev four_at : List ℕ → Front ℕ
 four_at text = do
@@ -44,10 +53,12 @@ four_again : (a b c d : ℕ) (rest : List ℕ) → IsByte a → IsByte b → IsB
     → four_at (byte_text a ++ (byte_text b ++ (byte_text c ++ (byte_text d ++ rest))))
     ≡ Some (from_be_bytes w32 (a ∷ b ∷ c ∷ d ∷ []), rest)
 four_again a b c d rest fa fb fc fd =
-    rw (pair_read_again a (byte_text b ++ (byte_text c ++ (byte_text d ++ rest))) fa,
-    pair_read_again b (byte_text c ++ (byte_text d ++ rest)) fb,
-    pair_read_again c (byte_text d ++ rest) fc,
-    pair_read_again d rest fd) refl
+    rw (
+      pair_read_again a (byte_text b ++ (byte_text c ++ (byte_text d ++ rest))) fa,
+      pair_read_again b (byte_text c ++ (byte_text d ++ rest)) fb,
+      pair_read_again c (byte_text d ++ rest) fc,
+      pair_read_again d rest fd,
+    ) refl
 
 -- a word is read again
 pub word_again : (word : ℕ) (rest : List ℕ) → IsWord word

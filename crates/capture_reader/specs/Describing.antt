@@ -1,7 +1,6 @@
 -- How the code appends descriptions. The private functions speak of it and no public clause does.
 use Rattle.std.specs.Prelude.{◌≡◌, ◌⊎◌, ℕ, ◌≤◌, List, ◌++◌}
 use Rattle.packet_ids.specs.Identifier.{identifier_at}
-use Rattle.packet_codec.specs.declared.packet.PacketKind.{PacketKind}
 use Rattle.packet_codec.specs.declared.packet.Packet.{Packet}
 use Rattle.packet_codec.specs.Packet.{IsPacket, packet_bytes}
 use Rattle.capture_reader.specs.declared.capture.Caught.{Caught}

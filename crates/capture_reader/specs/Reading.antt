@@ -1,5 +1,5 @@
 -- How the code reads the lines of a capture. The private functions speak of it and no public clause does.
-use Rattle.std.specs.Prelude.{◌≡◌, ℕ, ◌+◌, ◌-◌, ◌*◌, ◌^◌, ◌&&◌, nat_le, nat_lt, if◌then◌else◌, Bool, true, false, List}
+use Rattle.std.specs.Prelude.{◌≡◌, ℕ, ◌+◌, ◌-◌, ◌*◌, ◌&&◌, nat_le, nat_lt, if◌then◌else◌, Bool, true, false, List}
 use Rattle.std.specs.Prelude.{[], ◌∷◌, ◌++◌, length, codes, Option, Some, None}
 use Rattle.ipb_base.specs.Digits.{word}
 use Rattle.packet_ids.specs.declared.places.TheConstants.{IDENTIFIERS}

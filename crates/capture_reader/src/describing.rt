@@ -16,7 +16,9 @@ use crate::writing::{direction_text, first_line};
 use ipb_base::NoMemory;
 use packet_codec::{BadPacket, Order, Packet, PacketKind, read_packet};
 use status_packet::laws::{each_is_a_packet, what_is_written_is_known};
-use status_packet::{Status, read_resend, read_status_reply, write_status_reply, write_status_request};
+use status_packet::{
+    Status, read_resend, read_status_reply, write_status_reply, write_status_request,
+};
 use std::alloc::Global;
 use transaction_codec::{BadWords, Reply, Request, read_replies, read_requests};
 
@@ -142,7 +144,6 @@ fn push_sent_status(out: &mut Vec<u8>, item: &Caught, packet: &Packet) -> Result
     ensures { OnOk result (Appends item.now out.old.items out.new.items) }
 {
     each_is_a_packet();
-    let _kind = packet.kind;
     if same_bytes(item.bytes.as_slice(), &write_status_request()) {
         push_status_request_row(out)
     } else {
@@ -159,7 +160,6 @@ fn push_received_status(out: &mut Vec<u8>, item: &Caught, packet: &Packet) -> Re
 {
     each_is_a_packet();
     what_is_written_is_known();
-    let _kind = packet.kind;
     let Ok(status) = read_status_reply(item.bytes.as_slice()) else {
         return push_raw(out, item);
     };
@@ -178,7 +178,6 @@ fn push_resend(out: &mut Vec<u8>, item: &Caught, packet: &Packet) -> Result<(), 
     requires kind { packet.now.kind ≡ PacketKind.Resend }
     ensures { OnOk result (Appends item.now out.old.items out.new.items) }
 {
-    let _kind = packet.kind;
     if !item.sent {
         return push_raw(out, item);
     }

@@ -3,25 +3,25 @@
 #![tactic(auto)]
 
 mod capture;
+mod describing;
 pub mod examples;
+mod executed;
 mod front;
 mod hex;
 pub mod laws;
-mod texts;
-mod undescribing;
-mod describing;
 mod number;
 mod parsing;
-mod executed;
 mod reading;
 mod refusal;
+mod texts;
+mod undescribing;
 mod writing;
 
 pub use capture::{Bytes, Capture, Caught, Items, MAX_DATAGRAM};
-pub use ipb_base::NoMemory;
-pub use packet_ids::Id;
 pub use describing::describe;
 pub use executed::proved;
+pub use ipb_base::NoMemory;
+pub use packet_ids::Id;
 pub use reading::read_capture;
 pub use refusal::{CaptureRefusal, CaptureWhy, UndescribeRefusal};
 pub use undescribing::undescribe;

@@ -16,9 +16,7 @@ use packet_codec::Order;
 use std::alloc::Global;
 use transaction_codec::header;
 use transaction_codec::info_code::REQUEST;
-use transaction_codec::transaction_type::{
-    READ, READ_PORT, RMW_BITS, RMW_SUM, WRITE, WRITE_PORT,
-};
+use transaction_codec::transaction_type::{READ, READ_PORT, RMW_BITS, RMW_SUM, WRITE, WRITE_PORT};
 
 /// The words of a line, and the text behind the line.
 #[derive(Drop)]

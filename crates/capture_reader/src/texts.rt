@@ -75,7 +75,11 @@ fn push_op_words(out: &mut Vec<u8>, op: &Op) -> Result<(), NoMemory>
     ensures { OnOk result (out.new.items ≡ out.old.items ++ spec.words_text (op_words op.now)) }
 {
     match op {
-        Op::Read { base, count: _ } | Op::ReadPort { base, count: _ } => push_block(out, *base, &[]),
+        Op::Read { base, count: _ } | Op::ReadPort { base, count: _ } => push_block(
+            out,
+            *base,
+            &[],
+        ),
         Op::Write { base, words } | Op::WritePort { base, words } => {
             push_block(out, *base, words.as_slice())
         }

@@ -1,4 +1,4 @@
-use Rattle.std.proofs.Common.{◌≡◌, ap, sym, ◌∙◌}
+use Rattle.std.proofs.Common.{ap, sym, ◌∙◌}
 use Rattle.transaction_codec.specs.Reply.{replies_words}
 use Rattle.capture_reader.specs.Rows.{Replies}
 use Rattle.capture_reader.proofs.RowLaws.{on_row, on_raw, replies_row, no_replies}

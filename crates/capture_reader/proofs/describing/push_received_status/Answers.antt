@@ -1,4 +1,4 @@
-use Rattle.std.proofs.Common.{◌≡◌, List, ℕ, refl, sym, ap, subst, ◌∙◌}
+use Rattle.std.proofs.Common.{◌≡◌, List, ℕ, refl, sym, subst, ◌∙◌}
 use Rattle.packet_codec.specs.Packet.{packet_bytes}
 use Rattle.status_packet.specs.Packets.{status_reply}
 use Rattle.status_packet.specs.StatusBytes.{IsStatusReply}

@@ -1,4 +1,4 @@
-use Rattle.std.proofs.Common.{◌≡◌, refl, sym, ap, ◌∙◌}
+use Rattle.std.proofs.Common.{refl, sym, ◌∙◌}
 use Rattle.capture_reader.specs.Rows.{Resend}
 use Rattle.capture_reader.proofs.RowLaws.{on_raw, on_row, no_resend, resend_row}
 use Rattle.capture_reader.proofs.describing.push_resend.Goals as goal

@@ -1,4 +1,4 @@
-use Rattle.std.proofs.Common.{◌≡◌, ap, sym, ◌∙◌}
+use Rattle.std.proofs.Common.{ap, sym, ◌∙◌}
 use Rattle.transaction_codec.specs.Request.{requests_words}
 use Rattle.capture_reader.specs.Rows.{Requests}
 use Rattle.capture_reader.proofs.RowLaws.{on_row, on_raw, requests_row, no_requests}

@@ -1,6 +1,5 @@
-use Rattle.std.proofs.Common.{◌≡◌, sym, ap, ◌∙◌}
-use Rattle.capture_reader.specs.Rows.{StatusRequest}
-use Rattle.capture_reader.proofs.RowLaws.{on_raw, on_row, no_status_request, status_request_row}
+use Rattle.std.proofs.Common.{sym, ◌∙◌}
+use Rattle.capture_reader.proofs.RowLaws.{on_raw, no_status_request}
 use Rattle.capture_reader.proofs.describing.push_sent_status.Goals as goal
 
 pub returns-else-same_bytes : goal.returns-else-same_bytes

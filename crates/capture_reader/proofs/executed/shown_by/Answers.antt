@@ -1,4 +1,4 @@
-use Rattle.std.proofs.Common.{◌≡◌, List, ℕ, arith, subst}
+use Rattle.std.proofs.Common.{List, ℕ, arith, subst}
 use Rattle.capture_reader.specs.Proved.{ProvesByReply, ProvesByStatus}
 use Rattle.capture_reader.specs.Describing.{IsGreatest}
 use Rattle.capture_reader.proofs.Places.{both_greatest}

@@ -1,4 +1,4 @@
-use Rattle.std.proofs.Common.{◌≡◌, ◌++◌, List, ℕ, ap, sym, ◌∙◌}
+use Rattle.std.proofs.Common.{◌++◌, List, ℕ, ap, sym, ◌∙◌}
 use Rattle.capture_reader.specs.Fronts.{all_of}
 use Rattle.capture_reader.specs.Reading.{pair_at}
 use Rattle.capture_reader.proofs.Many.{all_step, one_more}

@@ -1,7 +1,5 @@
-use Rattle.std.proofs.Common.{◌≡◌, ℕ, List, Some, None, sym, ap, ◌∙◌}
-use Rattle.capture_reader.specs.Fronts.{◌>>=◌}
-use Rattle.capture_reader.specs.Reading.{number_from}
-use Rattle.capture_reader.proofs.Numbers.{digits_shorten, number_step, number_stop, past_digits, next_digit}
+use Rattle.std.proofs.Common.{sym, ◌∙◌}
+use Rattle.capture_reader.proofs.Numbers.{digits_shorten, number_stop, past_digits, next_digit}
 use Rattle.capture_reader.proofs.number.read_number.Goals as goal
 
 pub returns-in_err-value : goal.returns-in_err-value

@@ -1,5 +1,4 @@
-use Rattle.std.proofs.Common.{◌≡◌, ◌++◌, ◌∷◌, List, ℕ, ap, sym, ◌∙◌}
-use Rattle.capture_reader.specs.Fronts.{all_of}
+use Rattle.std.proofs.Common.{◌++◌, ◌∷◌, List, ℕ, ap, sym, ◌∙◌}
 use Rattle.capture_reader.specs.Parsing.{line_at}
 use Rattle.capture_reader.proofs.Many.{all_step}
 use Rattle.capture_reader.proofs.LineLaws.{lines_shorten, lines_more}

@@ -1,5 +1,4 @@
 use Rattle.std.proofs.Common.{◌≡◌, ◌++◌, drop}
-use Rattle.std.specs.List.{flat_map}
 use Rattle.capture_reader.specs.Rows as spec
 use Rattle.capture_reader.proofs.texts.push_words.Given as goal
 

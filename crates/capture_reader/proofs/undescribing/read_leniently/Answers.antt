@@ -1,4 +1,4 @@
-use Rattle.std.proofs.Common.{◌≡◌, List, ap, sym, ◌∙◌}
+use Rattle.std.proofs.Common.{◌∙◌}
 use Rattle.capture_reader.proofs.OneText.{no_description, read_again}
 use Rattle.capture_reader.proofs.undescribing.read_leniently.Goals as goal
 

@@ -1,4 +1,4 @@
-use Rattle.std.proofs.Common.{◌≡◌, List, ℕ, ap, sym, subst, ◌∙◌}
+use Rattle.std.proofs.Common.{sym, subst, ◌∙◌}
 use Rattle.capture_reader.specs.declared.capture.Capture.{Capture}
 use Rattle.capture_reader.specs.Description.{IsDescription}
 use Rattle.capture_reader.proofs.OneText.{one_description}
