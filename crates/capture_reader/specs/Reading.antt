@@ -1,7 +1,7 @@
 -- How the code reads the lines of a capture. The private functions speak of it and no public clause does.
-use Rattle.std.specs.Prelude.{◌≡◌, ℕ, ◌+◌, ◌-◌, ◌*◌, ◌&&◌, nat_le, nat_lt, if◌then◌else◌, Bool, true, false, List}
+use Rattle.std.specs.Prelude.{◌≡◌, ℕ, ◌+◌, ◌-◌, ◌*◌, ◌&&◌, nat_lt, if◌then◌else◌, Bool, true, false, List}
 use Rattle.std.specs.Prelude.{[], ◌∷◌, ◌++◌, length, codes, Option, Some, None}
-use Rattle.ipb_base.specs.Digits.{word}
+use Rattle.ipb_base.specs.Digits.{is_between, word}
 use Rattle.packet_ids.specs.declared.places.TheConstants.{IDENTIFIERS}
 use Rattle.capture_reader.specs.declared.capture.Caught.{Caught}
 use Rattle.capture_reader.specs.declared.refusal.CaptureWhy.{CaptureWhy}
@@ -12,9 +12,6 @@ use Rattle.capture_reader.specs.declared.reading.FirstItem.{FirstItem}
 use Rattle.capture_reader.specs.CaptureText.{items_text, first_text, AreItems}
 use Rattle.capture_reader.specs.Faults.{BreaksItemLine}
 use Rattle.capture_reader.specs.Fronts.{Front, with_rest, with_text, behind, all_of, ◌>>=◌}
-
-abbrev pub is_between : ℕ → ℕ → ℕ → Bool
-is_between low high n = nat_le low n && nat_le n high
 
 -- the value of a lower-case hexadecimal digit; 16 for every other byte
 unfoldable pub digit_of : ℕ → ℕ
