@@ -1,0 +1,10 @@
+pub mod CaptureText
+pub mod Faults
+pub mod Proved
+pub mod Rows
+pub mod Description
+pub mod Examples
+pub mod Describing
+pub mod Fronts
+pub mod Reading
+pub mod Parsing

@@ -1,0 +1,140 @@
+//! Bytes as pairs of hexadecimal digits.
+
+ghost use Rattle.std.specs.Prelude.{◌≡◌, ◌<◌, ◌≤◌, ◌++◌, OnOk, IfOk, length};
+ghost use Rattle.capture_reader.specs.CaptureText as spec;
+ghost use Rattle.capture_reader.specs.Fronts.{Finds, Gives, all_of};
+ghost use Rattle.capture_reader.specs.Reading.{digit_of, pair, pair_at, bytes_at, bytes_read};
+
+use crate::capture::Bytes;
+use crate::front::behind;
+use crate::refusal::Unread;
+use ipb_base::NoMemory;
+use std::alloc::Global;
+
+/// The digit of a number below 16, lower case.
+pub(crate) fn hex_digit(n: u8) -> u8
+    requires { n < 16 }
+    ensures { result ≡ spec.hex_digit n }
+{
+    if n < 10 { b'0' + n } else { b'a' - 10 + n }
+}
+
+/// The two digits of a byte.
+pub(crate) fn byte_text(byte: u8) -> [u8; 2]
+    ensures { result ≡ spec.byte_text byte }
+{
+    [hex_digit(byte / 16), hex_digit(byte % 16)]
+}
+
+/// Appends two digits for each byte.
+pub(crate) fn push_hex(out: &mut Vec<u8>, bytes: &[u8]) -> Result<(), NoMemory>
+    ensures { OnOk result (out.new.items ≡ out.old.items ++ spec.hex_text bytes.now) }
+{
+    for byte in bytes {
+        out.extend_from_slice(&byte_text(*byte))?;
+    }
+    Ok(())
+}
+
+/// Appends two digits for each byte, or a hyphen where there is none.
+pub(crate) fn push_bytes(out: &mut Vec<u8>, bytes: &[u8]) -> Result<(), NoMemory>
+    ensures { OnOk result (out.new.items ≡ out.old.items ++ spec.bytes_text bytes.now) }
+{
+    if bytes.is_empty() {
+        return Ok(out.push(b'-')?);
+    }
+    push_hex(out, bytes)
+}
+
+/// The bytes of a line, and the text behind the line.
+#[derive(Drop)]
+pub(crate) struct FirstBytes<'a> {
+    pub(crate) bytes: Bytes,
+    pub(crate) rest: &'a [u8],
+}
+
+/// The value of a lower-case digit; 16 for every other byte.
+#[tactic(auto, unfolding(crate::specs::Reading::digit_of))]
+fn digit_of(byte: u8) -> u8
+    ensures { result ≡ digit_of byte }
+{
+    match byte {
+        b'0'..=b'9' => byte - b'0',
+        b'a'..=b'f' => byte - b'a' + 10,
+        _ => 16,
+    }
+}
+
+/// The byte of two digits.
+#[tactic(auto, unfolding(crate::specs::Reading::pair, crate::specs::Reading::digit_of))]
+fn pair(high: u8, low: u8) -> Option<u8>
+    ensures { result ≡ pair high low }
+{
+    let high = digit_of(high);
+    let low = digit_of(low);
+    if high < 16 && low < 16 {
+        Some(16 * high + low)
+    } else {
+        None
+    }
+}
+
+/// The byte whose digits stand at the front.
+#[tactic(auto, unfolding(crate::specs::Reading::pair_at))]
+pub(crate) fn first_pair(text: &[u8]) -> Option<(u8, &[u8])>
+    ensures { Finds (λ read. (read.0, read.1.now)) result (pair_at text.now) }
+{
+    let [high, low, rest @ ..] = text else {
+        return None;
+    };
+    match pair(*high, *low) {
+        Some(byte) => Some((byte, rest)),
+        None => None,
+    }
+}
+
+/// Appends the bytes whose digits stand at the front, and answers the text behind them.
+fn read_pairs<'a>(out: &mut Vec<u8>, text: &'a [u8]) -> Result<&'a [u8], NoMemory>
+    ensures bytes { OnOk result (out.new.items ≡ out.old.items ++ (all_of pair_at text.now).0) }
+    ensures rest { IfOk result (λ rest. rest.now ≡ (all_of pair_at text.now).1) }
+{
+    let mut rest = text;
+    'pairs: while let Some((byte, more)) = first_pair(rest) {
+        out.push(byte)?;
+        rest = more;
+    }
+    Ok(rest)
+}
+
+/// How many bytes the line at the front has at most: what its digits take room for.
+fn room_of(text: &[u8]) -> usize
+    ensures { result ≤ length text.now }
+{
+    text.iter().position(|byte| *byte == b'\n').unwrap_or(0) / 2
+}
+
+/// Reads the bytes of a line up to its end.
+#[tactic(auto, unfolding(crate::specs::Reading::bytes_at))]
+pub(crate) fn read_bytes(alloc: Global, text: &[u8]) -> Result<FirstBytes<'_>, Unread>
+    ensures { Gives bytes_read result (bytes_at text.now) }
+{
+    let mut bytes = Vec::new(alloc);
+    if let Some(rest) = behind(b"-\n", text) {
+        return Ok(FirstBytes {
+            bytes: Bytes::from_vec(bytes),
+            rest,
+        });
+    }
+    bytes.reserve_exact(room_of(text))?;
+    let rest = read_pairs(&mut bytes, text)?;
+    if bytes.is_empty() {
+        return Err(Unread::Other);
+    }
+    match behind(b"\n", rest) {
+        Some(rest) => Ok(FirstBytes {
+            bytes: Bytes::from_vec(bytes),
+            rest,
+        }),
+        None => Err(Unread::Other),
+    }
+}
