@@ -15,16 +15,19 @@ use Rattle.config_store.specs.Kept.{is_rw_word}
 abbrev pub is_before : Name → Name → Bool
 is_before name other = is_lt (slice_cmp nat_cmp name other)
 
+-- while the place is looked for: those before the first place are before the name, and those from the second on are not
+pub record IsSplitAt (es : List (Name × Register)) (name : Name) (low high : ℕ) : Type 0 where
+  pub before : (k : ℕ) (e : Name × Register) → k < low → slice_get es k ≡ Some e → is_before e.0 name ≡ true
+  pub after : (k : ℕ) (e : Name × Register) → high ≤ k → slice_get es k ≡ Some e → is_before e.0 name ≡ false
+
 -- the names at the places before this one are before a name, and the others are not
-pub record IsFirstFrom (es : List (Name × Register)) (name : Name) (place : ℕ) : Type 0 where
-  pub before : (k : ℕ) (e : Name × Register) → k < place → slice_get es k ≡ Some e → is_before e.0 name ≡ true
-  pub after : (k : ℕ) (e : Name × Register) → place ≤ k → slice_get es k ≡ Some e → is_before e.0 name ≡ false
+abbrev pub IsFirstFrom : List (Name × Register) → Name → ℕ → Type 0
+IsFirstFrom es name place = IsSplitAt es name place place
 
 -- each is one word, and no name is another's up to a dot
 pub record AreWords (es : List (Name × Register)) : Type 0 where
   pub each : (e : Name × Register) → Contains es e → is_rw_word e.1 ≡ true
   pub apart : (a b : Name × Register) → Contains es a → Contains es b → is_dotted_prefix a.0 b.0 ≡ false
-  pub masks : (e : Name × Register) → Contains es e → e.1.mask < 2 ^ 32
 
 -- the register has this address and shares a bit with the mask
 abbrev pub takes_bit : ℕ → ℕ → Name × Register → Bool
@@ -36,8 +39,8 @@ taken_at masks address = unwrap_or (get nat_cmp masks address) 0
 
 -- at each address the bits are taken that registers there have
 abbrev pub AreTaken : BTreeMap ℕ ℕ → List (Name × Register) → Type 0
-AreTaken masks es = (address mask : ℕ) → mask < 2 ^ 32
-    → not (bit_and (taken_at masks address) mask == 0) ≡ list_any (takes_bit address mask) es
+AreTaken masks es =
+    (address mask : ℕ) → not (bit_and (taken_at masks address) mask == 0) ≡ list_any (takes_bit address mask) es
 
 -- the same after a register took its bits
 abbrev pub taken_with : BTreeMap ℕ ℕ → Register → ℕ → ℕ
