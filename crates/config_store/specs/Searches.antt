@@ -2,7 +2,7 @@
 use Rattle.std.specs.Prelude.{◌≡◌, ℕ, ◌<◌, ◌≤◌, ◌^◌, Bool, true, false, not, ◌&&◌, ◌==◌, List, bit_and, bit_or, Some}
 use Rattle.std.specs.Prelude.{if◌then◌else◌}
 use Rattle.std.specs.Prelude.{unwrap_or}
-use Rattle.std.specs.List.{Contains, list_any, slice_get}
+use Rattle.std.specs.List.{list_any, slice_get}
 use Rattle.std.specs.Ordering.{nat_cmp, is_lt}
 use Rattle.std.specs.Cmp.Lexicographic.{slice_cmp}
 use Rattle.std.specs.BTreeMap.{BTreeMap, get}
@@ -26,8 +26,9 @@ IsFirstFrom es name place = IsSplitAt es name place place
 
 -- each is one word, and no name is another's up to a dot
 pub record AreWords (es : List (Name × Register)) : Type 0 where
-  pub each : (e : Name × Register) → Contains es e → is_rw_word e.1 ≡ true
-  pub apart : (a b : Name × Register) → Contains es a → Contains es b → is_dotted_prefix a.0 b.0 ≡ false
+  pub each : (i : ℕ) (e : Name × Register) → slice_get es i ≡ Some e → is_rw_word e.1 ≡ true
+  pub apart : (i j : ℕ) (a b : Name × Register) → slice_get es i ≡ Some a → slice_get es j ≡ Some b
+      → is_dotted_prefix a.0 b.0 ≡ false
 
 -- the register has this address and shares a bit with the mask
 abbrev pub takes_bit : ℕ → ℕ → Name × Register → Bool

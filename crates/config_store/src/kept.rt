@@ -1,7 +1,6 @@
 //! The kept registers of a table.
 
-ghost use Rattle.std.specs.Prelude.{◌≡◌, ◌≤◌, IfOk};
-ghost use Rattle.std.specs.List.{starts_with};
+ghost use Rattle.std.specs.Prelude.{◌≡◌, ◌≤◌, ◌++◌, codes, IfOk, string_bytes};
 ghost use Rattle.std.specs.FinMap as map;
 ghost use Rattle.config_store.specs.Kept as spec;
 ghost use Rattle.config_store.specs.Searches.{IsFirstFrom, AreWords, is_before};
@@ -46,17 +45,24 @@ fn first_from(index: &Index, name: &str) -> usize
     low
 }
 
+/// A name and a dot.
+fn dotted(alloc: Global, name: &str) -> Result<String, NoMemory>
+    ensures { IfOk result (λ text. string_bytes text ≡ name.now ++ codes ".") }
+{
+    Ok(format!(in alloc; "{name}.")?)
+}
+
 /// Whether another name of the table begins with this one and a dot. Such names follow one another.
 fn has_below(alloc: Global, index: &Index, name: &str) -> Result<bool, NoMemory>
     ensures { IfOk result (λ found. found ≡ spec.has_below (map.entries index.now) name.now) }
 {
-    let dotted = format!(in alloc; "{name}.")?;
-    let place = first_from(index, dotted.as_str());
+    let front = dotted(alloc, name)?;
+    let place = first_from(index, front.as_str());
     if place >= index.len() {
         return Ok(false);
     }
     let (there, _register) = index.at(place);
-    Ok(there.as_bytes().starts_with(dotted.as_bytes()))
+    Ok(there.as_bytes().starts_with(front.as_bytes()))
 }
 
 /// Whether a register of a table is kept.

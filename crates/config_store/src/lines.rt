@@ -82,11 +82,7 @@ fn push_all(lines: &mut Vec<Text>, others: Vec<Text>) -> Result<(), NoMemory>
 }
 
 /// The lines that read the kept registers of all boards.
-fn reads(
-    alloc: Global,
-    boards: &[BoardSpec],
-    indexes: &[Index],
-) -> Result<Vec<Text>, StoreRefusal>
+fn reads(alloc: Global, boards: &[BoardSpec], indexes: &[Index]) -> Result<Vec<Text>, StoreRefusal>
     requires { length indexes.now ≡ length boards.now }
     ensures lines { IfOk result (λ lines. lines.items
         ≡ spec.save_lines (kept.kept_of (kept.indexed boards.now indexes.now))) }

@@ -43,11 +43,7 @@ fn take(masks: &mut Masks, register: &Register) -> Result<(), NoMemory>
 }
 
 /// Refuses kept registers of a board of which one overlaps another before it.
-pub(crate) fn check_overlaps(
-    alloc: Global,
-    board: &str,
-    kept: &[Entry],
-) -> Result<(), StoreRefusal>
+pub(crate) fn check_overlaps(alloc: Global, board: &str, kept: &[Entry]) -> Result<(), StoreRefusal>
     requires { AreWords kept.now }
     ensures none { OnOk result (overlapping_names [] kept.now ≡ []) }
     ensures first { IfErr result
