@@ -1,5 +1,5 @@
 -- The first of some faults, in lists that are put together.
-use Rattle.std.proofs.Common.{◌≡◌, List, [], ◌∷◌, ◌++◌, Result, Ok, Err, Some, slice_get, map, subst, sym}
+use Rattle.std.proofs.Common.{◌≡◌, List, [], ◌∷◌, ◌++◌, Result, Ok, Err, subst, sym}
 use Rattle.std.specs.Result.{IfErr, IsErrAnd}
 use Rattle.node_tree.specs.Named.{Name}
 use Rattle.config_store.specs.declared.refusal.StoreWhy.{StoreWhy}

@@ -1,12 +1,11 @@
 -- What is known of kept registers.
-use Rattle.std.proofs.Common.{◌≡◌, ℕ, List, [], ◌∷◌, ◌++◌, Bool, true, false, not, ◌&&◌, Some, slice_get, refl, sym, ap, ◌∙◌}
-use Rattle.std.specs.FinMap.{entries}
-use Rattle.std.specs.List.{filter, list_any}
+use Rattle.std.proofs.Common.{◌≡◌, Bool, true, false, not, refl, sym}
+use Rattle.std.specs.List.{filter}
 use Rattle.std.proofs.lemmas.Bool.{and_parts}
-use Rattle.node_tree.specs.Maps.{Name, RegisterMap}
+use Rattle.node_tree.specs.Maps.{Name}
 use Rattle.node_tree.specs.Overlaps.{is_dotted_prefix}
 use Rattle.node_tree.specs.declared.register.Register.{Register}
-use Rattle.config_store.specs.Kept.{has_below, is_kept, is_rw_word, kept}
+use Rattle.config_store.specs.Kept.{has_below, is_kept, is_rw_word}
 use Rattle.config_store.specs.Searches.{AreWords}
 use Rattle.config_store.proofs.NameSearch.{Registers}
 use Rattle.config_store.proofs.Places.{filter_has, none_has}
@@ -15,7 +14,7 @@ not_true : (b : Bool) → not b ≡ true → b ≡ false
 not_true true h = sym h
 not_true false h = refl
 
-kept_parts : (es : Registers) (e : Name × Register) → is_kept es e ≡ true
+pub kept_parts : (es : Registers) (e : Name × Register) → is_kept es e ≡ true
     → (is_rw_word e.1 ≡ true) × (has_below es e.0 ≡ false)
 kept_parts es e h =
     let (word, lowest) = and_parts (is_rw_word e.1) (not (has_below es e.0)) h in

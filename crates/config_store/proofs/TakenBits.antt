@@ -1,11 +1,11 @@
 -- The bits of words that registers take.
-use Rattle.std.proofs.Common.{◌≡◌, ℕ, ◌+◌, ◌<◌, ◌≤◌, List, [], ◌∷◌, ◌++◌, length, get_or, take, drop, Bool, true, false, not}
-use Rattle.std.proofs.Common.{◌&&◌, ◌||◌, ◌==◌, cond, nat_lt, nat_eq, min, max, bit_and, bit_or, Some, slice_get, refl, ap}
-use Rattle.std.proofs.Common.{sym, ◌∙◌, subst, arith, map}
+use Rattle.std.proofs.Common.{◌≡◌, ◌≢◌, ℕ, ◌+◌, ◌<◌, List, [], ◌∷◌, ◌++◌, length, get_or, take, drop, Bool, true, false, not}
+use Rattle.std.proofs.Common.{◌&&◌, ◌||◌, ◌==◌, cond, nat_lt, min, max, bit_and, bit_or, Some, slice_get, refl, ap}
+use Rattle.std.proofs.Common.{sym, ◌∙◌, arith, map}
 use Rattle.std.specs.BTreeMap.{BTreeMap}
 use Rattle.std.specs.Int.{bit_at}
 use Rattle.std.specs.List.{list_any}
-use Rattle.std.proofs.lemmas.Bool.{and_parts, false≢true}
+use Rattle.std.proofs.lemmas.Bool.{and_from, and_parts, false≢true}
 use Rattle.std.proofs.lemmas.Bool.Decides.{nat_tests}
 use Rattle.std.proofs.lemmas.List.{take_more}
 use Rattle.std.proofs.lemmas.List.Folds.{list_any_more}
@@ -13,13 +13,13 @@ use Rattle.std.proofs.lemmas.Nat.Bits.{bit_at_and, bit_at_or, bit_at-zero, same_
 use Rattle.std.proofs.lemmas.Option.{slice_get_read}
 use Rattle.address_table.specs.declared.kinds.Mode.{Mode}
 use Rattle.address_table.specs.declared.kinds.Mode.TheVariants.{Single, Block, Port, Hierarchical}
-use Rattle.node_tree.specs.Maps.{Name}
+use Rattle.node_tree.specs.Maps.{Name, RegisterMap}
 use Rattle.node_tree.specs.Overlaps.{is_dotted_prefix, overlap, share_a_bit}
 use Rattle.node_tree.specs.declared.register.Register.{Register}
 use Rattle.config_store.specs.declared.refusal.StoreWhy.TheVariants.{Overlap}
 use Rattle.config_store.specs.declared.refusal.StoreRefusal.{StoreRefusal}
-use Rattle.config_store.specs.Kept.{is_single, is_rw_word, is_rw}
-use Rattle.config_store.specs.Overlaps.{overlapping_name, overlapping_names}
+use Rattle.config_store.specs.Kept.{is_single, is_rw_word, is_rw, IsKept}
+use Rattle.config_store.specs.Overlaps.{overlapping_names}
 use Rattle.config_store.specs.Refusals.{IsAt, TellsFirst}
 use Rattle.config_store.specs.Searches.{AreTaken, AreWords, Takes, taken_at, takes_bit}
 use Rattle.config_store.specs.States.{StoreFault}
@@ -158,3 +158,40 @@ pub first_name : (board : Name) (names rest : List Name) (name : Name) (r : Stor
     → TellsFirst (map {A = Name} {B = StoreFault} (λ n. (board, n, Overlap)) names) r
 first_name board names rest name r is told =
     rw is (tells board name Overlap (map {A = Name} {B = StoreFault} (λ n. (board, n, Overlap)) rest) r told)
+
+-- ---- kept registers
+
+kept_overlap : (index : RegisterMap) (name other : Name) (r s : Register) → IsKept index name r → IsKept index other s
+    → overlap (name, r) (other, s) ≡ takes_bit s.address s.mask (name, r)
+kept_overlap index name other r s one also =
+    let word : is_rw_word r ≡ true = rw (one.one_word, one.both_ways) refl in
+    let too : is_rw_word s ≡ true = rw (also.one_word, also.both_ways) refl in
+    overlap_of_words (name, r) (other, s) word too (one.lowest other s also.found) (also.lowest name r one.found)
+
+pub overlap_shares : (index : RegisterMap) (name other : Name) (r s : Register) → IsKept index name r
+    → IsKept index other s → overlap (name, r) (other, s) ≡ true
+    → (r.address ≡ s.address) × (bit_and r.mask s.mask ≢ 0)
+overlap_shares index name other r s one also is =
+    let (same, some) = and_parts (r.address == s.address) (not (bit_and r.mask s.mask == 0))
+    (sym (kept_overlap index name other r s one also) ∙ is) in
+    (equal r.address s.address same, not_none (bit_and r.mask s.mask) some)
+  where
+    equal : (x y : ℕ) → (x == y) ≡ true → x ≡ y
+    equal x y h = grind (arith, nat_tests)
+
+    not_none : (x : ℕ) → not (x == 0) ≡ true → x ≢ 0
+    not_none x h e = false≢true (ap (λ n. not (n == 0)) (sym e) ∙ h)
+
+pub shares_overlap : (index : RegisterMap) (name other : Name) (r s : Register) → IsKept index name r
+    → IsKept index other s → r.address ≡ s.address → bit_and r.mask s.mask ≢ 0
+    → overlap (name, r) (other, s) ≡ true
+shares_overlap index name other r s one also same some =
+    kept_overlap index name other r s one also
+    ∙ and_from (r.address == s.address) (not (bit_and r.mask s.mask == 0)) (equal r.address s.address same)
+    (not_none (bit_and r.mask s.mask) some)
+  where
+    equal : (x y : ℕ) → x ≡ y → (x == y) ≡ true
+    equal x y h = grind (arith, nat_tests)
+
+    not_none : (x : ℕ) → x ≢ 0 → not (x == 0) ≡ true
+    not_none x h = grind (arith, nat_tests, h)

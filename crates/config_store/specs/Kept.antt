@@ -1,6 +1,6 @@
 -- Which registers are the configuration of a board: those that are one word, are read and written, and are not parted
 -- into registers below them. Profile; uHAL for names, permissions and modes.
-use Rattle.std.specs.Prelude.{◌≡◌, ℕ, List, map, Bool, true, false, not, ◌&&◌, Some}
+use Rattle.std.specs.Prelude.{◌≡◌, List, map, Bool, true, false, not, ◌&&◌, Some}
 use Rattle.std.specs.List.{filter, flat_map, list_any, zip}
 use Rattle.std.specs.FinMap.{get, entries}
 use Rattle.address_table.specs.declared.kinds.Mode.{Mode}

@@ -6,3 +6,5 @@ pub mod Refusals
 pub mod Lines
 pub mod Text
 pub mod Searches
+pub mod Puts
+pub mod Examples

@@ -1,7 +1,7 @@
 -- The lines of the script that reads a configuration, and of the one that writes values before. Profile.
-use Rattle.std.specs.Prelude.{ℕ, List, [], ◌∷◌, ◌++◌, map, codes}
+use Rattle.std.specs.Prelude.{ℕ, List, ◌∷◌, ◌++◌, map, codes}
+use Rattle.std.specs.Fmt.{decimal}
 use Rattle.node_tree.specs.Maps.{Name}
-use Rattle.transcript.specs.Text.{word_text}
 use Rattle.config_store.specs.declared.state.StateEntry.{StateEntry}
 use Rattle.config_store.specs.Kept.{KeptRegister}
 
@@ -13,7 +13,7 @@ abbrev pub read_text : Name → Name → List ℕ
 read_text board name = codes "read " ++ place_text board name
 
 abbrev pub write_text : Name → Name → ℕ → List ℕ
-write_text board name value = codes "write " ++ (place_text board name ++ (codes " " ++ word_text value))
+write_text board name value = codes "write " ++ (place_text board name ++ (codes " " ++ decimal value))
 
 abbrev pub read_line : KeptRegister → List ℕ
 read_line kept = read_text kept.board kept.name

@@ -1,6 +1,6 @@
 -- Why the configuration of the boards of a session is not saved or applied, rule by rule. Profile.
 use Rattle.std.specs.Prelude.{◌≡◌, ℕ, nat_le, List, [], ◌∷◌, ◌++◌, length, map, Option, Some, None, option_map}
-use Rattle.std.specs.Prelude.{option_and_then, if◌then◌else◌}
+use Rattle.std.specs.Prelude.{if◌then◌else◌}
 use Rattle.std.specs.List.{filter_map, flat_map, slice_get}
 use Rattle.std.specs.FinMap.{get, entries}
 use Rattle.std.specs.Str.{bytes_eq}

@@ -1,5 +1,5 @@
 -- What the searches among the registers of a table keep. No public clause speaks of it. Profile.
-use Rattle.std.specs.Prelude.{◌≡◌, ℕ, ◌<◌, ◌≤◌, ◌^◌, Bool, true, false, not, ◌&&◌, ◌==◌, List, bit_and, bit_or, Some}
+use Rattle.std.specs.Prelude.{◌≡◌, ℕ, ◌<◌, ◌≤◌, Bool, true, false, not, ◌&&◌, ◌==◌, List, bit_and, bit_or, Some}
 use Rattle.std.specs.Prelude.{if◌then◌else◌}
 use Rattle.std.specs.Prelude.{unwrap_or}
 use Rattle.std.specs.List.{list_any, slice_get}
@@ -7,7 +7,7 @@ use Rattle.std.specs.Ordering.{nat_cmp, is_lt}
 use Rattle.std.specs.Cmp.Lexicographic.{slice_cmp}
 use Rattle.std.specs.BTreeMap.{BTreeMap, get}
 use Rattle.node_tree.specs.Maps.{Name}
-use Rattle.node_tree.specs.Overlaps.{is_dotted_prefix, share_a_bit}
+use Rattle.node_tree.specs.Overlaps.{is_dotted_prefix}
 use Rattle.node_tree.specs.declared.register.Register.{Register}
 use Rattle.config_store.specs.Kept.{is_rw_word}
 

@@ -6,7 +6,9 @@
 #![tactic(auto)]
 
 mod checking;
+pub mod examples;
 mod kept;
+pub mod laws;
 mod limits;
 mod lines;
 mod overlapping;

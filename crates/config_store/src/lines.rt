@@ -17,7 +17,6 @@ use ipb_base::{NoMemory, Text};
 use node_tree::Index;
 use script_lang::Session;
 use std::alloc::Global;
-use transcript::push_word;
 
 /// The script that saves the configuration of a session's boards (profile), with an index for each board: a line that
 /// reads each kept register, board by board in the order of the document, and in byte order of the names.
@@ -152,7 +151,7 @@ fn write(alloc: Global, entry: &StateEntry) -> Result<Text, NoMemory>
 {
     let board = entry.board.as_str();
     let name = entry.name.as_str();
-    let mut line = format!(in alloc; "write {board}:{name} ")?;
-    push_word(&mut line, entry.value)?;
+    let value = entry.value;
+    let line = format!(in alloc; "write {board}:{name} {value}")?;
     Ok(Text::from_string(line))
 }

@@ -1,9 +1,7 @@
-use Rattle.std.proofs.Common.{◌≡◌, ◌<◌, ◌+◌, ◌∷◌, ◌∙◌, length, get_or, drop, false, arith, sym}
+use Rattle.std.proofs.Common.{◌≡◌, ◌<◌, length, false, arith}
 use Rattle.std.specs.FinMap.{empty}
 use Rattle.std.specs.Str.{bytes_eq}
 use Rattle.std.proofs.lemmas.List.{drop_more}
-use Rattle.config_store.specs.Kept.{indexed}
-use Rattle.config_store.specs.Refusals as spec
 use Rattle.config_store.proofs.Places.{drop_read}
 use Rattle.config_store.proofs.checking.index_of.Goals as goal
 

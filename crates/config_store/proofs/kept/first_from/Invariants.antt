@@ -1,4 +1,4 @@
-use Rattle.std.proofs.Common.{◌-◌, ◌≡◌, ◌≤◌}
+use Rattle.std.proofs.Common.{◌-◌, ◌≤◌}
 use Rattle.std.specs.FinMap as map
 use Rattle.config_store.specs.Searches.{IsSplitAt}
 use Rattle.config_store.proofs.kept.first_from.Given as goal

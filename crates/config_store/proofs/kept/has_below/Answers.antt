@@ -1,4 +1,4 @@
-use Rattle.std.proofs.Common.{◌≡◌, ◌≤◌, ◌++◌, ◌∙◌, codes, length, arith, ap, sym, subst}
+use Rattle.std.proofs.Common.{◌≡◌, ◌++◌, ◌∙◌, codes, arith, subst}
 use Rattle.std.specs.FinMap as map
 use Rattle.config_store.specs.Searches.{IsFirstFrom}
 use Rattle.config_store.proofs.NameSearch.{none_below, some_below}

@@ -1,4 +1,4 @@
-use Rattle.std.proofs.Common.{◌≡◌, ◌≤◌, ◌+◌, ◌++◌, ◌∷◌, ◌∙◌, [], length, drop, arith, ap, sym, subst, append_assoc, append-nil, true, false}
+use Rattle.std.proofs.Common.{◌≤◌, ◌++◌, ◌∙◌, length, arith, ap, sym, subst, append-nil}
 use Rattle.std.proofs.Math.ListN.{drop_of_length-le}
 use Rattle.std.specs.FinMap as map
 use Rattle.std.specs.List.{filter}

@@ -1,4 +1,4 @@
-use Rattle.std.proofs.Common.{◌≡◌, ◌∷◌, ◌∙◌, [], map, sym, subst}
+use Rattle.std.proofs.Common.{◌≡◌, ◌∙◌, [], map}
 use Rattle.node_tree.specs.Maps.{Name}
 use Rattle.config_store.specs.declared.refusal.StoreWhy.TheVariants.{Overlap}
 use Rattle.config_store.specs.Kept as kept

@@ -1,5 +1,4 @@
-use Rattle.std.proofs.Common.{◌≡◌, ◌∷◌, string_bytes, subst}
-use Rattle.std.specs.Result.{IfErr}
+use Rattle.std.proofs.Common.{string_bytes, subst}
 use Rattle.toml.specs.View.{view, members_view, table_view}
 use Rattle.config_store.specs.Refusals.{TellsFirst}
 use Rattle.config_store.specs.States as spec
