@@ -6,3 +6,5 @@ pub mod TakenBits
 pub mod KeptMeaning
 pub mod Puts
 pub mod SmallTables
+pub mod LineWords
+pub mod LineMeanings

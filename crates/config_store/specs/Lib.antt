@@ -8,3 +8,4 @@ pub mod Text
 pub mod Searches
 pub mod Puts
 pub mod Examples
+pub mod Meanings

@@ -1,12 +1,18 @@
 //! Laws of the definitions. These functions do nothing when they run: their clauses are what is proved.
 
-ghost use Rattle.std.specs.Prelude.{◌≡◌, ◌≢◌, ◌↔◌, ℕ, ◌<◌, ◌^◌, ◌∷◌, ◌++◌, List, true, bit_and};
-ghost use Rattle.std.specs.List.{Contains};
+ghost use Rattle.std.specs.Prelude.{◌≡◌, ◌≢◌, ◌↔◌, ℕ, ◌<◌, ◌^◌, ◌∷◌, ◌++◌, List, true, bit_and, codes, Ok, Some};
+ghost use Rattle.std.specs.List.{Contains, slice_get};
+ghost use Rattle.board_node.specs.declared.spec.BoardSpec.{BoardSpec};
 ghost use Rattle.masked_fields.specs.Field.{field};
 ghost use Rattle.node_tree.specs.Maps.{Name, RegisterMap};
 ghost use Rattle.node_tree.specs.Overlaps.{overlap};
 ghost use Rattle.node_tree.specs.declared.register.Register.{Register as Reg};
-ghost use Rattle.config_store.specs.Kept.{IsKept, kept};
+ghost use Rattle.script_lang.specs.Operations.{fits_mask, meaning};
+ghost use Rattle.script_lang.specs.OwnNames.{HaveOwnNames};
+ghost use Rattle.script_steps.specs.declared.operation.Step.TheVariants.{Do, Dispatch};
+ghost use Rattle.config_store.specs.Kept.{IndexedBoard, IsKept, indexed, kept};
+ghost use Rattle.config_store.specs.Lines.{read_text, write_text};
+ghost use Rattle.config_store.specs.Meanings.{IsBoardWord, IsOneWord, read_of, write_of};
 ghost use Rattle.config_store.specs.Puts.{AreApartFrom, CanAllBePut, CanBePut, put_all};
 
 /// The kept registers of a table are those of its registers that are one word, are read and written, and have no other
@@ -32,4 +38,22 @@ pub fn values_under_masks_that_are_apart_stay_apart()
     ensures own { (word : ℕ) (before after : List (ℕ × ℕ)) (put : ℕ × ℕ) → word < 2 ^ 32
         → CanAllBePut before → CanBePut put → AreApartFrom put.0 after
         → field (put_all word (before ++ put ∷ after)) put.0 ≡ put.1 }
+{}
+
+/// Where each name is one word of a line, the line that reads a kept register asks for its word, the line that writes a
+/// value puts it into the register's field, and the line between them is a dispatch.
+pub fn lines_mean_what_they_say()
+    ensures read { (boards : List BoardSpec) (indexes : List RegisterMap) (i line : ℕ) (b : IndexedBoard) (name : Name)
+        (r : Reg)
+        → HaveOwnNames boards → slice_get (indexed boards indexes) i ≡ Some b → IsBoardWord b.0.name → IsOneWord name
+        → IsKept b.1 name r
+        → meaning boards indexes line (read_text b.0.name name) ≡ Ok (Some (Do (read_of line i name r))) }
+    ensures write { (boards : List BoardSpec) (indexes : List RegisterMap) (i line : ℕ) (b : IndexedBoard) (name : Name)
+        (r : Reg) (value : ℕ)
+        → HaveOwnNames boards → slice_get (indexed boards indexes) i ≡ Some b → IsBoardWord b.0.name → IsOneWord name
+        → IsKept b.1 name r → value < 2 ^ 32 → fits_mask r.mask value ≡ true
+        → meaning boards indexes line (write_text b.0.name name value)
+        ≡ Ok (Some (Do (write_of line i name r value))) }
+    ensures between { (boards : List BoardSpec) (indexes : List RegisterMap) (line : ℕ)
+        → meaning boards indexes line (codes "dispatch") ≡ Ok (Some Dispatch) }
 {}
