@@ -1,5 +1,5 @@
 -- What it is to be kept.
-use Rattle.std.proofs.Common.{◌≡◌, ℕ, zero, suc, ◌<◌, List, [], ◌∷◌, length, get_or, Bool, true, false, not, ◌&&◌, cond}
+use Rattle.std.proofs.Common.{◌≡◌, ℕ, zero, suc, [], ◌∷◌, length, Bool, true, false, not, cond}
 use Rattle.std.proofs.Common.{Some, slice_get, refl, sym, ap, ◌∙◌, subst}
 use Rattle.std.specs.FinMap.{entries, get}
 use Rattle.std.specs.List.{AllByRecursion, Contains, filter, list_any}
@@ -73,23 +73,34 @@ contains_place es e (k, within, here) = (k, slice_get_read es (length es) k e re
 place_contains : (es : Registers) (e : Name × Register) (k : ℕ) → slice_get es k ≡ Some e → Contains es e
 place_contains es e k at = (k, slice_get_within es k e at, get_or_from_slice_get es k e e at)
 
-pub is_kept_so : (index : RegisterMap) (name : Name) (r : Register) → Contains (kept index) (name, r)
-    → IsKept index name r
-unfolding HasPlace
-is_kept_so index name r there =
-    let es = entries index in
-    let (k, at) = contains_place (kept index) (name, r) there in
-    let (passes, (m, place)) = filter_has (is_kept es) es k (name, r) at in
-    let (word, lowest) = kept_parts es (name, r) passes in
+-- a register that is there and passes the test is kept
+pub kept_is : (index : RegisterMap) (name : Name) (r : Register) → get index name ≡ Some r
+    → is_kept (entries index) (name, r) ≡ true → IsKept index name r
+kept_is index name r found passes =
+    let (word, lowest) = kept_parts (entries index) (name, r) passes in
     let (one, other) = and_parts (is_single r.mode) (is_rw r.permission) word in
     record {
-      found = get-at index m name r place;
+      found = found;
       one_word = single r.mode one;
       both_ways = both_ways r.permission other;
       lowest = λ longer below is.
           let (i, stands) = place_of index longer below is in
-          none_has (λ x. is_dotted_prefix name x.0) es i (longer, below) lowest stands;
+          none_has (λ x. is_dotted_prefix name x.0) (entries index) i (longer, below) lowest stands;
     }
+
+-- what stands among the kept registers
+pub is_kept_at : (index : RegisterMap) (k : ℕ) (name : Name) (r : Register) → slice_get (kept index) k ≡ Some (name, r)
+    → IsKept index name r
+is_kept_at index k name r at =
+    let (passes, (m, place)) = filter_has (is_kept (entries index)) (entries index) k (name, r) at in
+    kept_is index name r (get-at index m name r place) passes
+
+pub is_kept_so : (index : RegisterMap) (name : Name) (r : Register) → Contains (kept index) (name, r)
+    → IsKept index name r
+unfolding HasPlace
+is_kept_so index name r there =
+    let (k, at) = contains_place (kept index) (name, r) there in
+    is_kept_at index k name r at
 
 pub kept_so : (index : RegisterMap) (name : Name) (r : Register) → IsKept index name r → is_kept (entries index) (name, r)
     ≡ true

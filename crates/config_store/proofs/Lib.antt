@@ -8,3 +8,5 @@ pub mod Puts
 pub mod SmallTables
 pub mod LineWords
 pub mod LineMeanings
+pub mod NoFaults
+pub mod KeptLines

@@ -1,11 +1,8 @@
 -- What the lines of a configuration's script mean.
-use Rattle.std.proofs.Common.{◌≡◌, ◌≢◌, ℕ, zero, suc, ◌+◌, ◌<◌, ◌≤◌, ◌^◌, List, [], ◌∷◌, ◌++◌, length, get_or, Bool, true, false}
-use Rattle.std.proofs.Common.{not, ◌||◌, ◌&&◌, nat_le, codes, Option, Some, None, Ok, slice_get, refl, sym, ap, ◌∙◌, subst, arith}
+use Rattle.std.proofs.Common.{◌≡◌, ◌≢◌, ℕ, zero, suc, ◌+◌, ◌<◌, ◌^◌, List, [], ◌∷◌, length, get_or, Bool, true, false}
+use Rattle.std.proofs.Common.{◌||◌, nat_le, codes, Some, Ok, slice_get, refl, sym, ap, ◌∙◌, subst, arith}
 use Rattle.std.specs.Fmt.{decimal}
-use Rattle.std.specs.FinMap.{get}
-use Rattle.std.specs.List.{zip}
 use Rattle.std.specs.Str.{bytes_eq}
-use Rattle.std.proofs.lemmas.Bool.{and_parts, and_from, false≢true}
 use Rattle.std.proofs.lemmas.Bool.Decides.{nat_tests}
 use Rattle.std.proofs.lemmas.Option.{slice_get_within, get_or_from_slice_get}
 use Rattle.std.proofs.lemmas.Slice.Eq.{bytes_eq-Decides}
@@ -13,10 +10,9 @@ use Rattle.board_node.specs.declared.spec.BoardSpec.{BoardSpec}
 use Rattle.node_tree.specs.Maps.{Name, RegisterMap}
 use Rattle.node_tree.specs.declared.register.Register.{Register}
 use Rattle.script_lang.specs.Lines.{words, command_of}
-use Rattle.script_lang.specs.Operations.{board_from, meaning, use_of, fits_mask, step_of}
+use Rattle.script_lang.specs.Operations.{board_from, meaning, fits_mask, step_of}
 use Rattle.script_lang.specs.OwnNames.{HaveOwnNames}
-use Rattle.script_steps.specs.declared.operation.Step.TheVariants.{Do, Dispatch}
-use Rattle.script_steps.specs.declared.operation.Verb.TheVariants as verb
+use Rattle.script_steps.specs.declared.operation.Step.TheVariants.{Do}
 use Rattle.config_store.specs.Kept.{IndexedBoard, indexed, IsKept}
 use Rattle.config_store.specs.Lines.{place_text, read_text, write_text}
 use Rattle.config_store.specs.Meanings.{IsBoardWord, IsOneWord, read_of, write_of}

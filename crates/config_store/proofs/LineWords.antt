@@ -1,18 +1,18 @@
 -- Lines whose words are parted by single spaces.
-use Rattle.std.proofs.Common.{◌≡◌, ℕ, zero, suc, ◌+◌, ◌*◌, ◌-◌, ◌^◌, ◌<◌, ◌≤◌, List, [], ◌∷◌, ◌++◌, length, get_or, Bool, true, false}
-use Rattle.std.proofs.Common.{not, ◌||◌, ◌&&◌, ◌==◌, nat_lt, nat_eq, codes, Option, Some, None, option_map, refl, sym, ap, ◌∙◌, arith}
+use Rattle.std.proofs.Common.{◌≡◌, ℕ, suc, ◌+◌, ◌*◌, ◌^◌, ◌<◌, ◌≤◌, List, [], ◌∷◌, ◌++◌, length, Bool, true, false}
+use Rattle.std.proofs.Common.{not, ◌&&◌, ◌==◌, nat_lt, nat_eq, codes, Some, refl, sym, ◌∙◌, arith}
 use Rattle.std.specs.Char.{digit_value}
 use Rattle.std.specs.Fmt.{decimal}
-use Rattle.std.specs.List.{list_all, filter, starts_with}
+use Rattle.std.specs.List.{list_all, starts_with}
 use Rattle.std.specs.Str.Parse.{AllDigits, digits_value, digits_value_after}
 use Rattle.std.proofs.Math.Nat.{pow-succ'}
-use Rattle.std.proofs.lemmas.Bool.{and_parts, and_from, false≢true}
+use Rattle.std.proofs.lemmas.Bool.{and_parts, and_from}
 use Rattle.std.proofs.lemmas.Bool.Decides.{nat_tests}
 use Rattle.std.proofs.lemmas.Fmt.{decimal_is_IsNumeral, length-decimal-le}
 use Rattle.ipb_base.specs.Digits as ours
-use Rattle.script_lang.specs.Lines.{is_blank, is_word, pieces, with_first, words}
+use Rattle.script_lang.specs.Lines.{is_blank, is_word, pieces}
 use Rattle.script_lang.specs.Texts.{cut_at}
-use Rattle.config_store.specs.Meanings.{is_no_colon, is_word_byte, IsBoardWord, IsOneWord}
+use Rattle.config_store.specs.Meanings.{is_no_colon, is_word_byte, IsOneWord}
 
 -- a byte of a word is no blank
 no_blank : (byte : ℕ) → is_word_byte byte ≡ true → is_blank byte ≡ false

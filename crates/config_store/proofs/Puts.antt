@@ -1,11 +1,11 @@
 -- Values that are put under masks.
-use Rattle.std.proofs.Common.{◌≡◌, ℕ, ◌+◌, ◌-◌, ◌<◌, ◌≤◌, ◌^◌, List, [], ◌∷◌, ◌++◌, min, max, bit_and, bit_or, refl, sym, ap}
+use Rattle.std.proofs.Common.{◌≡◌, ℕ, ◌<◌, ◌^◌, List, [], ◌∷◌, ◌++◌, bit_and, bit_or, refl, sym, ap}
 use Rattle.std.proofs.Common.{◌∙◌, arith}
 use Rattle.std.specs.Int.{bit_at, bit_not, w32}
-use Rattle.std.proofs.lemmas.Nat.Bits.{bit_at_and, bit_at_or, bit_at_not, bit_at-lt, bit_at-zero, bit_at_above}
-use Rattle.std.proofs.lemmas.Nat.Bits.{same_from_bits_below, same_from_bits}
+use Rattle.std.proofs.lemmas.Nat.Bits.{bit_at_and, bit_at_or, bit_at_not, bit_at-lt, bit_at-zero}
+use Rattle.std.proofs.lemmas.Nat.Bits.{same_from_bits_below}
 use Rattle.std.proofs.lemmas.Nat.{and_le_r}
-use Rattle.masked_fields.specs.Field.{field, FitsMask, put_field, shift, shifted}
+use Rattle.masked_fields.specs.Field.{field, FitsMask, put_field, shifted}
 use Rattle.masked_fields.proofs.FieldValues.{field-put_field}
 use Rattle.masked_fields.proofs.Masks.{joined, joined_word}
 use Rattle.config_store.specs.Puts.{AreApartFrom, CanAllBePut, CanBePut, put_all}

@@ -1,8 +1,7 @@
 -- The tables of the worked examples, as lists.
-use Rattle.std.proofs.Common.{◌≡◌, ◌∷◌, [], Option, refl, codes}
+use Rattle.std.proofs.Common.{◌≡◌}
 use Rattle.std.specs.FinMap.{entries, entries-from_sorted, get, get-from_sorted, find}
 use Rattle.node_tree.specs.Maps.{Name}
-use Rattle.node_tree.specs.declared.register.Register.{Register}
 use Rattle.node_tree.proofs.NamedLemmas.{by_bytes}
 use Rattle.config_store.specs.Examples.{dashed_entries, dashed_table, overlapping_entries, overlapping_table}
 use Rattle.config_store.specs.Examples.{small_entries, small_table}

@@ -1,6 +1,6 @@
 -- What the lines of a configuration's script mean, where each name is one word of a line. Profile; uHAL for the
 -- operations.
-use Rattle.std.specs.Prelude.{◌≡◌, ℕ, ◌<◌, ◌^◌, Bool, true, not, ◌||◌, ◌==◌, List, [], ◌∷◌, Some}
+use Rattle.std.specs.Prelude.{◌≡◌, ℕ, ◌<◌, ◌^◌, Bool, true, not, ◌==◌, List, [], ◌∷◌, Some}
 use Rattle.std.specs.List.{list_all, slice_get}
 use Rattle.std.specs.FinMap.{get}
 use Rattle.node_tree.specs.Maps.{Name}

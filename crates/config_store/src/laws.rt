@@ -1,7 +1,8 @@
 //! Laws of the definitions. These functions do nothing when they run: their clauses are what is proved.
 
-ghost use Rattle.std.specs.Prelude.{◌≡◌, ◌≢◌, ◌↔◌, ℕ, ◌<◌, ◌^◌, ◌∷◌, ◌++◌, List, true, bit_and, codes, Ok, Some};
-ghost use Rattle.std.specs.List.{Contains, slice_get};
+ghost use Rattle.std.specs.Prelude.{◌≡◌, ◌≢◌, ◌↔◌, ℕ, ◌<◌, ◌≤◌, ◌^◌, [], ◌∷◌, ◌++◌, List, length, true};
+ghost use Rattle.std.specs.Prelude.{bit_and, codes, Ok, Some};
+ghost use Rattle.std.specs.List.{AllByRecursion, Contains, slice_get};
 ghost use Rattle.board_node.specs.declared.spec.BoardSpec.{BoardSpec};
 ghost use Rattle.masked_fields.specs.Field.{field};
 ghost use Rattle.node_tree.specs.Maps.{Name, RegisterMap};
@@ -10,9 +11,13 @@ ghost use Rattle.node_tree.specs.declared.register.Register.{Register as Reg};
 ghost use Rattle.script_lang.specs.Operations.{fits_mask, meaning};
 ghost use Rattle.script_lang.specs.OwnNames.{HaveOwnNames};
 ghost use Rattle.script_steps.specs.declared.operation.Step.TheVariants.{Do, Dispatch};
-ghost use Rattle.config_store.specs.Kept.{IndexedBoard, IsKept, indexed, kept};
-ghost use Rattle.config_store.specs.Lines.{read_text, write_text};
-ghost use Rattle.config_store.specs.Meanings.{IsBoardWord, IsOneWord, read_of, write_of};
+ghost use Rattle.script_lang.specs.Scripts.{script_faults};
+ghost use Rattle.config_store.specs.declared.state.StateEntry.{StateEntry as EntryValue};
+ghost use Rattle.config_store.specs.Kept.{IndexedBoard, IsKept, indexed, kept, kept_of};
+ghost use Rattle.config_store.specs.Limits.{most_kept};
+ghost use Rattle.config_store.specs.Lines.{apply_lines, read_text, save_lines, write_text};
+ghost use Rattle.config_store.specs.Meanings.{HasWord, HaveWordNames, IsBoardWord, IsOneWord, read_of, write_of};
+ghost use Rattle.config_store.specs.Refusals.{applying_faults, keeping_faults};
 ghost use Rattle.config_store.specs.Puts.{AreApartFrom, CanAllBePut, CanBePut, put_all};
 
 /// The kept registers of a table are those of its registers that are one word, are read and written, and have no other
@@ -56,4 +61,18 @@ pub fn lines_mean_what_they_say()
         ≡ Ok (Some (Do (write_of line i name r value))) }
     ensures between { (boards : List BoardSpec) (indexes : List RegisterMap) (line : ℕ)
         → meaning boards indexes line (codes "dispatch") ≡ Ok (Some Dispatch) }
+{}
+
+/// Where no rule is broken, compiling the script that saves, and the one that applies no more values than registers may
+/// be kept, finds no fault.
+pub fn the_scripts_have_no_fault()
+    ensures save { (boards : List BoardSpec) (indexes : List RegisterMap)
+        → HaveOwnNames boards → HaveWordNames (indexed boards indexes)
+        → keeping_faults (indexed boards indexes) ≡ []
+        → script_faults boards indexes (save_lines (kept_of (indexed boards indexes)) ∷ []) ≡ [] }
+    ensures apply { (boards : List BoardSpec) (indexes : List RegisterMap) (entries : List EntryValue)
+        → HaveOwnNames boards → HaveWordNames (indexed boards indexes)
+        → applying_faults (indexed boards indexes) entries ≡ []
+        → length entries ≤ most_kept → AllByRecursion HasWord entries
+        → script_faults boards indexes (apply_lines entries (kept_of (indexed boards indexes)) ∷ []) ≡ [] }
 {}
