@@ -97,14 +97,14 @@ kept_of_has boards k register at =
 
 -- ---- values that may be written
 
-record MayBeWritten (boards : List IndexedBoard) (entry : StateEntry) : Type 0 where
-  board : IndexedBoard
-  place : ℕ
-  there : slice_get boards place ≡ Some board
-  called : board.0.name ≡ entry.board
-  register : Register
-  is : IsKept board.1 entry.name register
-  fits : fits_mask register.mask entry.value ≡ true
+pub record MayBeWritten (boards : List IndexedBoard) (entry : StateEntry) : Type 0 where
+  pub board : IndexedBoard
+  pub place : ℕ
+  pub there : slice_get boards place ≡ Some board
+  pub called : board.0.name ≡ entry.board
+  pub register : Register
+  pub is : IsKept board.1 entry.name register
+  pub fits : fits_mask register.mask entry.value ≡ true
 
 record IsIndexAt (name : Name) (boards : List IndexedBoard) (index : RegisterMap) : Type 0 where
   board : IndexedBoard
@@ -136,7 +136,7 @@ two_kept true true h = (refl, refl)
 two_kept true false h = let bad : ⊥ = cc in absurd bad
 two_kept false b h = let bad : ⊥ = cc in absurd bad
 
-entry_written : (boards : List IndexedBoard) (entry : StateEntry) → entry_why boards entry ≡ None
+pub entry_written : (boards : List IndexedBoard) (entry : StateEntry) → entry_why boards entry ≡ None
     → MayBeWritten boards entry
 entry_written boards entry none = by_index (index_of entry.board boards) refl none
   where
@@ -161,7 +161,7 @@ entry_written boards entry none = by_index (index_of entry.board boards) refl no
     by_index (Some index) is why =
         by_register index (index_has entry.board boards index is) (get index entry.name) refl why
 
-entries_written : (boards : List IndexedBoard) (es : List StateEntry) → entry_faults boards es ≡ []
+pub entries_written : (boards : List IndexedBoard) (es : List StateEntry) → entry_faults boards es ≡ []
     → (k : ℕ) (e : StateEntry) → slice_get es k ≡ Some e → entry_why boards e ≡ None
 entries_written boards [] none k e at = let bad : ⊥ = cc in absurd bad
 entries_written boards (x ∷ es) none k e at = by_why (entry_why boards x) refl none k at
@@ -182,7 +182,7 @@ all_at [] all k e at = let bad : ⊥ = cc in absurd bad
 all_at (x ∷ es) all zero e at = let same : x ≡ e = cc in subst HasWord same all.0
 all_at (x ∷ es) all (suc k) e at = all_at es all.1 k e at
 
-no_more : {X : Type 0} (xs ys : List X) → xs ++ ys ≡ [] → (xs ≡ []) × (ys ≡ [])
+pub no_more : {X : Type 0} (xs ys : List X) → xs ++ ys ≡ [] → (xs ≡ []) × (ys ≡ [])
 no_more [] ys h = (refl, h)
 no_more (x ∷ xs) ys h = let bad : ⊥ = cc in absurd bad
 
@@ -228,7 +228,7 @@ module _ (boards : List BoardSpec) (indexes : List RegisterMap) (own : HaveOwnNa
         word = refl;
       })
 
-  few : keeping_faults (indexed boards indexes) ≡ [] → length (kept_of (indexed boards indexes)) ≤ most_kept
+  pub few : keeping_faults (indexed boards indexes) ≡ [] → length (kept_of (indexed boards indexes)) ≤ most_kept
   few none = few_kept (length (kept_of (indexed boards indexes)))
       (no_more (flat_map overlap_faults (indexed boards indexes)) _ none).1
 

@@ -113,10 +113,14 @@ kept_so index name r is =
     false≢true (sym (is.lowest e.0 e.1 (get-at index k e.0 e.1 at)) ∙ begins)) in
     and_from (is_rw_word r) (not (has_below es name)) word (ap not none)
 
-pub so_is_kept : (index : RegisterMap) (name : Name) (r : Register) → IsKept index name r → Contains (kept index) (name, r)
+-- where a kept register stands among those that are
+pub kept_place : (index : RegisterMap) (name : Name) (r : Register) → IsKept index name r
+    → (m : ℕ) × (slice_get (kept index) m ≡ Some (name, r))
 unfolding HasPlace
-so_is_kept index name r is =
-    let es = entries index in
+kept_place index name r is =
     let (k, at) = place_of index name r is.found in
-    let (m, there) = filter_keeps (is_kept es) es k (name, r) at (kept_so index name r is) in
-    place_contains (kept index) (name, r) m there
+    filter_keeps (is_kept (entries index)) (entries index) k (name, r) at (kept_so index name r is)
+
+pub so_is_kept : (index : RegisterMap) (name : Name) (r : Register) → IsKept index name r → Contains (kept index) (name, r)
+so_is_kept index name r is =
+    let (m, there) = kept_place index name r is in place_contains (kept index) (name, r) m there

@@ -10,3 +10,5 @@ pub mod LineWords
 pub mod LineMeanings
 pub mod NoFaults
 pub mod KeptLines
+pub mod InOrder
+pub mod FewValues

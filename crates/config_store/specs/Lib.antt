@@ -9,3 +9,4 @@ pub mod Searches
 pub mod Puts
 pub mod Examples
 pub mod Meanings
+pub mod Order

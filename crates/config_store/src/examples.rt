@@ -1,9 +1,9 @@
 //! Configurations worked by hand. These functions do nothing when they run: their clauses are what is proved, by
 //! computing the definitions.
 
-ghost use Rattle.std.specs.Prelude.{◌≡◌, [], ◌∷◌, codes, map};
+ghost use Rattle.std.specs.Prelude.{◌≡◌, [], ◌∷◌, Some, codes, map, pos};
 ghost use Rattle.toml.specs.Data.{table, member, no_members, integer, string};
-ghost use Rattle.std.specs.Prelude.{pos};
+ghost use Rattle.toml.specs.Parse.{parse_document};
 ghost use Rattle.transcript.specs.declared.line.OpResult.TheVariants.{Value, TimedOut};
 ghost use Rattle.config_store.specs.declared.refusal.StoreWhy.TheVariants.{
   Shape,
@@ -83,4 +83,14 @@ pub fn values_of_a_document()
     ensures no_table { shape_faults (table (member (codes "b0") (integer (pos 1)) no_members))
         ≡ (codes "b0", [], Shape) ∷ [] }
     ensures no_tables { shape_faults (string (codes "b0")) ≡ ([], [], Shape) ∷ [] }
+{}
+
+/// The texts are TOML: a value is a key with its dots and a number, a comment is nothing, and a board without a value is
+/// an empty table.
+pub fn texts_are_read_back()
+    ensures value { parse_document (codes "[state.b0]\n\"a.top\" = 0x00000001\n")
+        ≡ Some (member (codes "state") (table (member (codes "b0") (table
+        (member (codes "a.top") (integer (pos 1)) no_members)) no_members)) no_members) }
+    ensures comment { parse_document (codes "[state.b0]\n# \"a.top\" timeout after 2 rounds, execution unknown\n")
+        ≡ Some (member (codes "state") (table (member (codes "b0") (table no_members) no_members)) no_members) }
 {}

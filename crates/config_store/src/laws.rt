@@ -1,6 +1,6 @@
 //! Laws of the definitions. These functions do nothing when they run: their clauses are what is proved.
 
-ghost use Rattle.std.specs.Prelude.{◌≡◌, ◌≢◌, ◌↔◌, ℕ, ◌<◌, ◌≤◌, ◌^◌, [], ◌∷◌, ◌++◌, List, length, true};
+ghost use Rattle.std.specs.Prelude.{◌≡◌, ◌≢◌, ◌↔◌, ℕ, ◌<◌, ◌^◌, [], ◌∷◌, ◌++◌, List, true};
 ghost use Rattle.std.specs.Prelude.{bit_and, codes, Ok, Some};
 ghost use Rattle.std.specs.List.{AllByRecursion, Contains, slice_get};
 ghost use Rattle.board_node.specs.declared.spec.BoardSpec.{BoardSpec};
@@ -14,10 +14,10 @@ ghost use Rattle.script_steps.specs.declared.operation.Step.TheVariants.{Do, Dis
 ghost use Rattle.script_lang.specs.Scripts.{script_faults};
 ghost use Rattle.config_store.specs.declared.state.StateEntry.{StateEntry as EntryValue};
 ghost use Rattle.config_store.specs.Kept.{IndexedBoard, IsKept, indexed, kept, kept_of};
-ghost use Rattle.config_store.specs.Limits.{most_kept};
 ghost use Rattle.config_store.specs.Lines.{apply_lines, read_text, save_lines, write_text};
 ghost use Rattle.config_store.specs.Meanings.{HasWord, HaveWordNames, IsBoardWord, IsOneWord, read_of, write_of};
 ghost use Rattle.config_store.specs.Refusals.{applying_faults, keeping_faults};
+ghost use Rattle.config_store.specs.Order.{AreInOrder};
 ghost use Rattle.config_store.specs.Puts.{AreApartFrom, CanAllBePut, CanBePut, put_all};
 
 /// The kept registers of a table are those of its registers that are one word, are read and written, and have no other
@@ -63,8 +63,7 @@ pub fn lines_mean_what_they_say()
         → meaning boards indexes line (codes "dispatch") ≡ Ok (Some Dispatch) }
 {}
 
-/// Where no rule is broken, compiling the script that saves, and the one that applies no more values than registers may
-/// be kept, finds no fault.
+/// Where no rule is broken, compiling the script that saves, and the one that applies values in order, finds no fault.
 pub fn the_scripts_have_no_fault()
     ensures save { (boards : List BoardSpec) (indexes : List RegisterMap)
         → HaveOwnNames boards → HaveWordNames (indexed boards indexes)
@@ -73,6 +72,6 @@ pub fn the_scripts_have_no_fault()
     ensures apply { (boards : List BoardSpec) (indexes : List RegisterMap) (entries : List EntryValue)
         → HaveOwnNames boards → HaveWordNames (indexed boards indexes)
         → applying_faults (indexed boards indexes) entries ≡ []
-        → length entries ≤ most_kept → AllByRecursion HasWord entries
+        → AreInOrder entries → AllByRecursion HasWord entries
         → script_faults boards indexes (apply_lines entries (kept_of (indexed boards indexes)) ∷ []) ≡ [] }
 {}

@@ -20,7 +20,7 @@ mod text;
 pub use ipb_base::{NoMemory, Text};
 pub use limits::MAX_KEPT;
 pub use lines::{apply_lines, save_lines};
-pub use reading::read_state;
+pub use reading::{missing_state, read_state};
 pub use refusal::{StoreRefusal, StoreWhy};
 pub use state::{State, StateEntry};
 pub use text::state_text;

@@ -4,6 +4,9 @@ ghost use Rattle.std.specs.Prelude.{◌≡◌, ◌++◌, [], IfOk, OnOk, IfErr, 
 ghost use Rattle.std.specs.Option.{option_map_or};
 ghost use Rattle.toml.specs.Data.{as_table};
 ghost use Rattle.toml.specs.View.{view, table_view};
+ghost use Rattle.config_store.specs.declared.refusal.StoreRefusal.TheVariants.{At};
+ghost use Rattle.config_store.specs.declared.refusal.StoreWhy.TheVariants.{Shape};
+ghost use Rattle.config_store.specs.Order.{AreInOrder};
 ghost use Rattle.config_store.specs.Refusals.{TellsFirst};
 ghost use Rattle.config_store.specs.States as spec;
 
@@ -19,6 +22,7 @@ use toml::{Table, Value};
 /// table or no number.
 pub fn read_state(alloc: Global, value: &Value) -> Result<State, StoreRefusal>
     ensures read { IfOk result (λ state. state ≡ spec.state_entries (view value.now)) }
+    ensures ordered { IfOk result AreInOrder }
     ensures accepted { OnOk result (spec.shape_faults (view value.now) ≡ []) }
     ensures refused { IfErr result (TellsFirst (spec.shape_faults (view value.now))) }
 {
@@ -30,6 +34,17 @@ pub fn read_state(alloc: Global, value: &Value) -> Result<State, StoreRefusal>
     Ok(State::from_vec(entries))
 }
 
+/// The refusal of a document that has no state (profile). It takes no memory.
+pub fn missing_state(alloc: Global) -> StoreRefusal
+    ensures { result ≡ At [] [] Shape }
+{
+    StoreRefusal::At {
+        board: Text::from_string(String::new(alloc)),
+        name: Text::from_string(String::new(alloc)),
+        why: StoreWhy::Shape,
+    }
+}
+
 /// The values for the registers of all boards.
 fn push_boards(
     alloc: Global,
@@ -38,6 +53,7 @@ fn push_boards(
 ) -> Result<(), StoreRefusal>
     ensures read { OnOk result (entries.new.items
         ≡ entries.old.items ++ spec.boards_entries (table_view boards.now)) }
+    ensures ordered { OnOk result (AreInOrder (spec.boards_entries (table_view boards.now))) }
     ensures none { OnOk result (spec.board_faults (table_view boards.now) ≡ []) }
     ensures first { IfErr result (TellsFirst (spec.board_faults (table_view boards.now))) }
 {
@@ -56,6 +72,7 @@ fn push_board(
 ) -> Result<(), StoreRefusal>
     ensures read { OnOk result (entries.new.items
         ≡ entries.old.items ++ spec.table_entries board.now (view value.now)) }
+    ensures ordered { OnOk result (AreInOrder (spec.table_entries board.now (view value.now))) }
     ensures none { OnOk result (spec.table_faults board.now (view value.now) ≡ []) }
     ensures first { IfErr result (TellsFirst (spec.table_faults board.now (view value.now))) }
 {
@@ -73,6 +90,7 @@ fn push_registers(
 ) -> Result<(), StoreRefusal>
     ensures read { OnOk result (entries.new.items
         ≡ entries.old.items ++ spec.board_entries board.now (table_view registers.now)) }
+    ensures ordered { OnOk result (AreInOrder (spec.board_entries board.now (table_view registers.now))) }
     ensures none { OnOk result (spec.number_faults board.now (table_view registers.now) ≡ []) }
     ensures first { IfErr result (TellsFirst (spec.number_faults board.now (table_view registers.now))) }
 {
