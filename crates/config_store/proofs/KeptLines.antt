@@ -74,14 +74,14 @@ map_has f (x ∷ xs) (suc k) y at =
 
 -- ---- kept registers
 
-record IsKeptOf (boards : List IndexedBoard) (register : KeptRegister) : Type 0 where
-  board : IndexedBoard
-  place : ℕ
-  there : slice_get boards place ≡ Some board
-  called : board.0.name ≡ register.board
-  is : IsKept board.1 register.name register.register
+pub record IsKeptOf (boards : List IndexedBoard) (register : KeptRegister) : Type 0 where
+  pub board : IndexedBoard
+  pub place : ℕ
+  pub there : slice_get boards place ≡ Some board
+  pub called : board.0.name ≡ register.board
+  pub is : IsKept board.1 register.name register.register
 
-kept_of_has : (boards : List IndexedBoard) (k : ℕ) (register : KeptRegister) → slice_get (kept_of boards) k ≡ Some register
+pub kept_of_has : (boards : List IndexedBoard) (k : ℕ) (register : KeptRegister) → slice_get (kept_of boards) k ≡ Some register
     → IsKeptOf boards register
 kept_of_has boards k register at =
     let found = flat_map_has kept_on boards k register at in
@@ -176,7 +176,7 @@ entries_written boards (x ∷ es) none k e at = by_why (entry_why boards x) refl
     by_why None is none zero at later = let same : x ≡ e = cc in subst (λ y. entry_why boards y ≡ None) same is
     by_why None is none (suc m) at later = later m none at
 
-all_at : (es : List StateEntry) → AllByRecursion HasWord es → (k : ℕ) (e : StateEntry) → slice_get es k ≡ Some e
+pub all_at : (es : List StateEntry) → AllByRecursion HasWord es → (k : ℕ) (e : StateEntry) → slice_get es k ≡ Some e
     → HasWord e
 all_at [] all k e at = let bad : ⊥ = cc in absurd bad
 all_at (x ∷ es) all zero e at = let same : x ≡ e = cc in subst HasWord same all.0

@@ -12,3 +12,6 @@ pub mod NoFaults
 pub mod KeptLines
 pub mod InOrder
 pub mod FewValues
+pub mod Steps
+pub mod OverlapNames
+pub mod WordNames

@@ -111,7 +111,7 @@ module _ (boards : List BoardSpec) (indexes : List RegisterMap) where
       (omega (arith, fine.operations 1)) (omega arith) in
       ap (faults_after boards indexes []) (append-nil all) ∙ none_after [] all means within
 
-  lines_append : (n : ℕ) (xs ys : List (List ℕ))
+  pub lines_append : (n : ℕ) (xs ys : List (List ℕ))
       → lines_from 1 n (xs ++ ys) ≡ lines_from 1 n xs ++ lines_from 1 (n + length xs) ys
   lines_append n [] ys = let e : n + 0 ≡ n = omega arith in ap (λ m. lines_from 1 m ys) (sym e)
   lines_append n (x ∷ xs) ys =

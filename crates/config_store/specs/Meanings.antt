@@ -9,9 +9,11 @@ use Rattle.transaction_codec.specs.declared.request.Op.TheVariants as ops
 use Rattle.script_lang.specs.Lines.{is_blank}
 use Rattle.script_lang.specs.Operations.{write_op}
 use Rattle.script_steps.specs.declared.operation.RegOp.{RegOp}
+use Rattle.script_steps.specs.declared.operation.Step.{Step}
+use Rattle.script_steps.specs.declared.operation.Step.TheVariants.{Do}
 use Rattle.script_steps.specs.declared.operation.Verb.TheVariants as verb
 use Rattle.config_store.specs.declared.state.StateEntry.{StateEntry}
-use Rattle.config_store.specs.Kept.{IndexedBoard}
+use Rattle.config_store.specs.Kept.{IndexedBoard, KeptRegister}
 
 abbrev pub is_word_byte : ℕ → Bool
 is_word_byte byte = not (is_blank byte)
@@ -46,3 +48,25 @@ write_of line board name r value =
 -- the value has 32 bits
 abbrev pub HasWord : StateEntry → Type 0
 HasWord entry = entry.value < 2 ^ 32
+
+-- ---- steps
+
+-- a step reads a kept register on the board of its name
+pub record Reads (boards : List IndexedBoard) (register : KeptRegister) (step : Step) : Type 0 where
+  pub line : ℕ
+  pub place : ℕ
+  pub board : IndexedBoard
+  pub there : slice_get boards place ≡ Some board
+  pub called : board.0.name ≡ register.board
+  pub is : step ≡ Do (read_of line place register.name register.register)
+
+-- a step writes a value to the register of its name on the board of its name
+pub record Writes (boards : List IndexedBoard) (entry : StateEntry) (step : Step) : Type 0 where
+  pub line : ℕ
+  pub place : ℕ
+  pub board : IndexedBoard
+  pub register : Register
+  pub there : slice_get boards place ≡ Some board
+  pub called : board.0.name ≡ entry.board
+  pub found : get board.1 entry.name ≡ Some register
+  pub is : step ≡ Do (write_of line place entry.name register entry.value)

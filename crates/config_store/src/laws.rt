@@ -2,21 +2,35 @@
 
 ghost use Rattle.std.specs.Prelude.{◌≡◌, ◌≢◌, ◌↔◌, ℕ, ◌<◌, ◌^◌, [], ◌∷◌, ◌++◌, List, true};
 ghost use Rattle.std.specs.Prelude.{bit_and, codes, Ok, Some};
-ghost use Rattle.std.specs.List.{AllByRecursion, Contains, slice_get};
+ghost use Rattle.std.specs.List.{AllByRecursion, AllZip, Contains, filter_map, slice_get};
 ghost use Rattle.board_node.specs.declared.spec.BoardSpec.{BoardSpec};
 ghost use Rattle.masked_fields.specs.Field.{field};
-ghost use Rattle.node_tree.specs.Maps.{Name, RegisterMap};
-ghost use Rattle.node_tree.specs.Overlaps.{overlap};
+ghost use Rattle.std.specs.FinMap.{get};
+ghost use Rattle.address_table.specs.Rules.{is_id};
+ghost use Rattle.node_tree.specs.Maps.{AreValidTables, Name, RegisterMap, TableMap};
+ghost use Rattle.node_tree.specs.Names.{IsIndexOf};
+ghost use Rattle.node_tree.specs.Overlaps.{overlap, overlapping};
 ghost use Rattle.node_tree.specs.declared.register.Register.{Register as Reg};
 ghost use Rattle.script_lang.specs.Operations.{fits_mask, meaning};
 ghost use Rattle.script_lang.specs.OwnNames.{HaveOwnNames};
 ghost use Rattle.script_steps.specs.declared.operation.Step.TheVariants.{Do, Dispatch};
-ghost use Rattle.script_lang.specs.Scripts.{script_faults};
+ghost use Rattle.script_lang.specs.Scripts.{script_faults, steps_from};
+ghost use Rattle.script_steps.specs.declared.operation.Step.{Step};
 ghost use Rattle.config_store.specs.declared.state.StateEntry.{StateEntry as EntryValue};
 ghost use Rattle.config_store.specs.Kept.{IndexedBoard, IsKept, indexed, kept, kept_of};
 ghost use Rattle.config_store.specs.Lines.{apply_lines, read_text, save_lines, write_text};
-ghost use Rattle.config_store.specs.Meanings.{HasWord, HaveWordNames, IsBoardWord, IsOneWord, read_of, write_of};
-ghost use Rattle.config_store.specs.Refusals.{applying_faults, keeping_faults};
+ghost use Rattle.config_store.specs.Meanings.{
+  HasWord,
+  HaveWordNames,
+  IsBoardWord,
+  IsOneWord,
+  Reads,
+  Writes,
+  read_of,
+  write_of,
+};
+ghost use Rattle.config_store.specs.Overlaps.{name_of, overlapping_names};
+ghost use Rattle.config_store.specs.Refusals.{applying_faults, entry_faults, keeping_faults};
 ghost use Rattle.config_store.specs.Order.{AreInOrder};
 ghost use Rattle.config_store.specs.Puts.{AreApartFrom, CanAllBePut, CanBePut, put_all};
 
@@ -74,4 +88,32 @@ pub fn the_scripts_have_no_fault()
         → applying_faults (indexed boards indexes) entries ≡ []
         → AreInOrder entries → AllByRecursion HasWord entries
         → script_faults boards indexes (apply_lines entries (kept_of (indexed boards indexes)) ∷ []) ≡ [] }
+{}
+
+/// Where no rule is broken, the script that saves reads each kept register, and the one that applies writes each value,
+/// awaits the writes, and then reads each kept register, all in their order.
+pub fn the_scripts_write_and_read()
+    ensures save { (boards : List BoardSpec) (indexes : List RegisterMap)
+        → HaveOwnNames boards → HaveWordNames (indexed boards indexes)
+        → AllZip (Reads (indexed boards indexes)) (kept_of (indexed boards indexes))
+        (steps_from boards indexes 1 (save_lines (kept_of (indexed boards indexes)))) }
+    ensures apply { (boards : List BoardSpec) (indexes : List RegisterMap) (entries : List EntryValue)
+        → HaveOwnNames boards → HaveWordNames (indexed boards indexes)
+        → entry_faults (indexed boards indexes) entries ≡ [] → AllByRecursion HasWord entries
+        → (writes : List Step) × (reads : List Step) × AllZip (Writes (indexed boards indexes)) entries writes
+        × AllZip (Reads (indexed boards indexes)) (kept_of (indexed boards indexes)) reads
+        × (steps_from boards indexes 1 (apply_lines entries (kept_of (indexed boards indexes)))
+        ≡ writes ++ Dispatch ∷ reads) }
+{}
+
+/// The names that overlap earlier ones are those of the second registers of the pairs that a listing shows.
+pub fn overlapping_names_are_those_of_pairs()
+    ensures { (es : List (Name × Reg)) → filter_map (name_of es) (overlapping [] es) ≡ overlapping_names [] es }
+{}
+
+/// The names of the registers of a table are words of a line, and an id is the name of a board before a colon.
+pub fn names_are_words_of_lines()
+    ensures registers { (tables : TableMap) (root : Name) (index : RegisterMap) (name : Name) (r : Reg)
+        → AreValidTables tables → IsIndexOf tables root index → get index name ≡ Some r → IsOneWord name }
+    ensures boards { (name : Name) → is_id name ≡ true → IsBoardWord name }
 {}
