@@ -1,7 +1,7 @@
-//! Tests of the lower crates: packets, transactions, the bus, tables, documents, scripts and policies, the outside and
-//! frames. What
-//! their clauses cannot say is run here: that each call succeeds where memory is there, what is printed, and that the
-//! clauses mean the numbers of worked examples. The documents under `examples` show what is read and what is refused.
+//! Tests of the lower crates: packets, transactions, the bus, tables, documents, scripts, policies, captures and
+//! configurations, the outside and frames. What their clauses cannot say is run here: that each call succeeds where
+//! memory is there, what is printed, and that the clauses mean the numbers of worked examples. The documents under
+//! `examples` show what is read and what is refused.
 #![tactic(auto)]
 
 #[cfg(test)]
@@ -10,6 +10,8 @@ mod access_policy_tests;
 mod address_table_tests;
 #[cfg(test)]
 mod board_bus_tests;
+#[cfg(test)]
+mod capture_reader_tests;
 #[cfg(test)]
 mod config_store_tests;
 #[cfg(test)]
