@@ -18,14 +18,14 @@ abbrev pub board_matches : BoardPattern → List ℕ → Bool
 board_matches boards.Any board = true
 board_matches (boards.Named name) board = bytes_eq name board
 
--- `*`: an id with or without an index; `id`: this id without one; `id[n]`: with this one; `id[*]`: with any
+-- `*`: any id, indexed or not; `id`: this id without an index; `id[n]`: with this one; `id[*]`: with any
 abbrev pub item_matches : ItemPattern → NameItem → Bool
 item_matches Any item = true
 item_matches (Id id) item = bytes_eq id item.id && is_none item.index
 item_matches (Indexed id index) item = bytes_eq id item.id && holds_of (λ i. i == index) item.index
 item_matches (AnyIndex id) item = bytes_eq id item.id && is_some item.index
 
--- item by item; where a last `**` stands behind them, one or more ids follow
+-- item by item; where `**` stands behind them, at least one further id follows
 abbrev pub items_match : List ItemPattern → Bool → List NameItem → Bool
 items_match [] rest [] = not rest
 items_match [] rest (item ∷ items) = rest

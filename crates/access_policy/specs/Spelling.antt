@@ -97,7 +97,7 @@ items_in_parts (part ∷ parts) =
 abbrev pub items_in : List ℕ → Option (List ItemPattern × Bool)
 items_in text = items_in_parts (parts_of text)
 
--- the pattern that a text writes: a board, a colon, and items joined by dots
+-- the pattern that a text writes: what its first `:` cuts off is the board, and `.` parts the items
 unfoldable pub pattern_of : List ℕ → Option Pattern
 pattern_of text = do
   parts ← cut_at 58 text

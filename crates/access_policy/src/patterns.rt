@@ -94,7 +94,7 @@ fn items_in(alloc: Global, text: &str) -> Result<Option<(ItemPatterns, bool)>, N
     Ok(Some((ItemPatterns::from_vec(items), false)))
 }
 
-/// The pattern that a text writes: a board, a colon, and items joined by dots.
+/// The pattern that a text writes: what its first `:` cuts off is the board, and `.` parts the items.
 #[tactic(auto, unfolding(crate::specs::Spelling::pattern_of))]
 pub(crate) fn pattern_in(alloc: Global, text: &str) -> Result<Option<Pattern>, NoMemory>
     ensures { IfOk result (λ pattern. pattern ≡ spec.pattern_of text.now) }

@@ -33,7 +33,7 @@ pub enum BoardPattern {
 /// What an item of a pattern matches in the name of a register.
 #[derive(Drop)]
 pub enum ItemPattern {
-    /// `*`: one id, with or without an index.
+    /// `*`: any id, whether it has an index or not.
     Any,
     /// `id`: this id without an index.
     Id(Text),
@@ -74,12 +74,12 @@ impl ItemPatterns {
     }
 }
 
-/// The registers of which a rule speaks: a board, a colon, and items joined by dots.
+/// The registers of which a rule speaks, such as `b0:ctrl.*`.
 #[derive(Drop)]
 pub struct Pattern {
     pub board: BoardPattern,
     pub items: ItemPatterns,
-    /// Whether a last `**` stands behind the items: one or more ids.
+    /// Whether `**` stands behind the items: any further ids, at least one.
     pub rest: bool,
 }
 

@@ -69,7 +69,7 @@ fn item_text(alloc: Global, item: &ItemPattern) -> Result<String, NoMemory>
     }
 }
 
-/// Adds a pattern: a board, a colon, and items joined by dots.
+/// Adds a pattern as it is written: `b0:ctrl.*`.
 fn push_pattern(alloc: Global, text: &mut String, pattern: &Pattern) -> Result<(), NoMemory>
     ensures { OnOk result (string_bytes text.new ≡ string_bytes text.old ++ spec.pattern_text pattern.now) }
 {
@@ -80,7 +80,7 @@ fn push_pattern(alloc: Global, text: &mut String, pattern: &Pattern) -> Result<(
     Ok(())
 }
 
-/// Items joined by dots, and `**` behind them where the rest of a name may be anything.
+/// The items with `.` between them, and `**` behind the last where the rest of a name may be anything.
 fn items_text(alloc: Global, items: &[ItemPattern], rest: bool) -> Result<String, NoMemory>
     ensures { IfOk result (λ text. string_bytes text ≡ join_with_byte dot (spec.item_texts items.now rest)) }
 {
