@@ -176,8 +176,7 @@ told_good ends body end at (p ∷ ps) none any =
     let both = both_good (piece_result ends p) (map (piece_result ends) ps) none in
     elim (any_cases (λ (q : PieceAt). q.body ≡ body) p ps any) [
       | inl same ↦
-          let there : slice_get ends p.body ≡ Some end = ap (λ n. slice_get ends n) same ∙ at in
-          (
+          let there : slice_get ends p.body ≡ Some end = ap (λ n. slice_get ends n) same ∙ at in (
             p.index,
             subst (λ (o : Option BodyEnd). is_good (result_in o p.index) ≡ true) there both.first,
           )
