@@ -11,6 +11,8 @@ mod address_table_tests;
 #[cfg(test)]
 mod board_bus_tests;
 #[cfg(test)]
+mod config_store_tests;
+#[cfg(test)]
 mod documents;
 #[cfg(test)]
 mod ipb_base_tests;

@@ -30,4 +30,4 @@ pub use lines::{client_lines, lines_of_clients};
 pub use listing::listing_text;
 pub use printing::{PrintedRuns, print_runs};
 pub use status::all_good;
-pub use text::{line_text, push_boards, transcript_text};
+pub use text::{line_text, push_boards, push_result, push_word, transcript_text};

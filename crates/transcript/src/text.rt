@@ -9,8 +9,8 @@ use ipb_base::NoMemory;
 use script_steps::Verb;
 use std::alloc::Global;
 
-/// Puts a word behind a text: `0x` and eight lower-case hexadecimal digits.
-pub(crate) fn push_word(text: &mut String, word: u32) -> Result<(), NoMemory>
+/// Puts a word behind a text: `0x` and eight lower-case hexadecimal digits (profile).
+pub fn push_word(text: &mut String, word: u32) -> Result<(), NoMemory>
     ensures { OnOk result (string_bytes text.new ≡ string_bytes text.old ++ spec.word_text word) }
 {
     Ok(write!(text, "0x{word:08x}")?)
@@ -80,8 +80,8 @@ fn push_denied(text: &mut String, rule: u32) -> Result<(), NoMemory>
     Ok(write!(text, "denied by rule {rule}")?)
 }
 
-/// What an operation came to.
-pub(crate) fn push_result(text: &mut String, came_to: &OpResult) -> Result<(), NoMemory>
+/// Puts what an operation came to behind a text (profile).
+pub fn push_result(text: &mut String, came_to: &OpResult) -> Result<(), NoMemory>
     ensures { OnOk result (string_bytes text.new ≡ string_bytes text.old ++ spec.result_text came_to.now) }
 {
     match came_to {

@@ -1,0 +1,17 @@
+pub mod Faults
+pub mod Places
+pub mod NameSearch
+pub mod KeptLemmas
+pub mod TakenBits
+pub mod KeptMeaning
+pub mod Puts
+pub mod SmallTables
+pub mod LineWords
+pub mod LineMeanings
+pub mod NoFaults
+pub mod KeptLines
+pub mod InOrder
+pub mod FewValues
+pub mod Steps
+pub mod OverlapNames
+pub mod WordNames

@@ -1,0 +1,12 @@
+pub mod Limits
+pub mod Kept
+pub mod Overlaps
+pub mod States
+pub mod Refusals
+pub mod Lines
+pub mod Text
+pub mod Searches
+pub mod Puts
+pub mod Examples
+pub mod Meanings
+pub mod Order
