@@ -1,1 +1,3 @@
 mod BusReads
+mod PlanReads
+mod LineReads

@@ -10,7 +10,7 @@ use Rattle.script_steps.specs.declared.operation.RegOp.{RegOp}
 use Rattle.script_steps.specs.declared.operation.Step.{Step}
 use Rattle.script_steps.specs.declared.operation.Step.TheVariants as step
 use Rattle.script_steps.specs.declared.operation.Verb.TheVariants as verb
-use Rattle.script_plans.specs.Plan.{operations}
+use Rattle.script_steps.specs.Rulings.{Asked, asked}
 use Rattle.transcript.specs.declared.line.OpLine.{OpLine}
 use Rattle.transcript.specs.declared.line.OpResult.TheVariants.{Value}
 use Rattle.board_history.specs.Runs.{opening_of}
@@ -56,10 +56,10 @@ ReadSingleWords steps = AllByRecursion ReadsOneWord steps
 pub record ShowsOpeningWord (specs : List BoardSpec) (steps : List Step) (line : OpLine) : Type 0 where
   pub place : ℕ
   pub number' : line.number ≡ place + 1
-  pub op : RegOp
-  pub asked' : slice_get (operations steps) place ≡ Some op
+  pub ask : Asked
+  pub asked' : slice_get (asked steps) place ≡ Some ask
   pub spec : BoardSpec
-  pub on : slice_get specs op.board ≡ Some spec
+  pub on : slice_get specs ask.op.board ≡ Some spec
   pub word : ℕ
-  pub opened : read_word (opening_of spec.link) (base_of op.op) ≡ Ok word
-  pub shown : line.result ≡ Value (field word op.mask ∷ [])
+  pub opened : read_word (opening_of spec.link) (base_of ask.op.op) ≡ Ok word
+  pub shown : line.result ≡ Value (field word ask.op.mask ∷ [])
