@@ -1,3 +1,4 @@
 mod BusReads
 mod PlanReads
 mod LineReads
+mod SavedLines

@@ -5,3 +5,4 @@
 #![tactic(auto)]
 
 pub mod reads;
+pub mod saving;
