@@ -2,3 +2,4 @@ mod BusReads
 mod PlanReads
 mod LineReads
 mod SavedLines
+mod BusWrites

@@ -6,3 +6,4 @@
 
 pub mod reads;
 pub mod saving;
+pub mod writes;

@@ -1,0 +1,25 @@
+//! Laws of single writes to registers. These functions do nothing when they run: their clauses are what is proved.
+
+ghost use Rattle.std.specs.Prelude.{◌≡◌, ◌⊎◌, ℕ, ◌<◌, ◌^◌, ◌∷◌, [], None, Ok};
+ghost use Rattle.masked_fields.specs.Field.{FitsMask, put_field};
+ghost use Rattle.board_bus.specs.Cells.{CellMap, read_word};
+ghost use Rattle.board_bus.specs.Transactions.{outcome};
+ghost use Rattle.node_tree.specs.declared.register.Register.{Register as Reg};
+ghost use Rattle.script_lang.specs.Operations.{write_op};
+
+use board_bus::laws::a_written_word_is_read;
+use masked_fields::laws::the_full_mask_is_the_word;
+
+/// A value that is written to a register, where the write was done, is put into the field of the word that was there,
+/// and the word at every other address is read as before, whether the write was done or not.
+pub fn a_write_puts_its_field()
+    ensures here { (cells : CellMap) (r : Reg) (value word : ℕ) → r.mask < 2 ^ 32 → FitsMask r.mask value →
+        value < 2 ^ 32 → word < 2 ^ 32 → read_word cells r.address ≡ Ok word →
+        (outcome cells (write_op r (value ∷ []))).fault ≡ None →
+        read_word (outcome cells (write_op r (value ∷ []))).cells r.address ≡ Ok (put_field word r.mask value) }
+    ensures elsewhere { (cells : CellMap) (r : Reg) (value other : ℕ) → (other < r.address) ⊎ (r.address < other) →
+        read_word (outcome cells (write_op r (value ∷ []))).cells other ≡ read_word cells other }
+{
+    a_written_word_is_read();
+    the_full_mask_is_the_word();
+}
