@@ -3,3 +3,4 @@ mod PlanReads
 mod LineReads
 mod SavedLines
 mod BusWrites
+mod AllWrites

@@ -1,14 +1,17 @@
 //! Laws of single writes to registers. These functions do nothing when they run: their clauses are what is proved.
 
-ghost use Rattle.std.specs.Prelude.{◌≡◌, ◌⊎◌, ℕ, ◌<◌, ◌^◌, ◌∷◌, [], None, Ok};
+ghost use Rattle.std.specs.Prelude.{◌≡◌, ◌⊎◌, ℕ, ◌<◌, ◌^◌, ◌∷◌, [], List, None, Ok};
+ghost use Rattle.std.specs.List.{AllByRecursion};
 ghost use Rattle.masked_fields.specs.Field.{FitsMask, put_field};
 ghost use Rattle.board_bus.specs.Cells.{CellMap, read_word};
 ghost use Rattle.board_bus.specs.Transactions.{outcome};
 ghost use Rattle.node_tree.specs.declared.register.Register.{Register as Reg};
 ghost use Rattle.script_lang.specs.Operations.{write_op};
+ghost use Rattle.config_store.specs.Puts.{put_all};
+ghost use Rattle.config_laws.specs.Writes.{AreDone, CanBeWritten, ValueFor, after_writes, puts_at};
 
 use board_bus::laws::a_written_word_is_read;
-use masked_fields::laws::the_full_mask_is_the_word;
+use masked_fields::laws::{a_field_gives_back_what_was_put, the_full_mask_is_the_word};
 
 /// A value that is written to a register, where the write was done, is put into the field of the word that was there,
 /// and the word at every other address is read as before, whether the write was done or not.
@@ -22,4 +25,15 @@ pub fn a_write_puts_its_field()
 {
     a_written_word_is_read();
     the_full_mask_is_the_word();
+}
+
+/// After values were written to registers one after another, and each write was done, the word at an address is the one
+/// that was there, with the values of the writes to this address put under their masks, in order.
+pub fn writes_put_their_fields()
+    ensures { (cells : CellMap) (writes : List ValueFor) (address word : ℕ) → AllByRecursion CanBeWritten writes →
+        AreDone cells writes → word < 2 ^ 32 → read_word cells address ≡ Ok word →
+        read_word (after_writes cells writes) address ≡ Ok (put_all word (puts_at address writes)) }
+{
+    a_write_puts_its_field();
+    a_field_gives_back_what_was_put();
 }
