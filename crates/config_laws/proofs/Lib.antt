@@ -4,3 +4,4 @@ mod LineReads
 mod SavedLines
 mod BusWrites
 mod AllWrites
+mod Fields
