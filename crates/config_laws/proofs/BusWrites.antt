@@ -1,13 +1,12 @@
 -- One write of a value to a register.
-use Rattle.std.proofs.Common.{◌≡◌, ◌⊎◌, ℕ, ◌<◌, ◌^◌, Bool, true, false, ◌==◌, List, [], ◌∷◌, None, Some, Result, Ok, Err}
+use Rattle.std.proofs.Common.{◌≡◌, ◌⊎◌, ℕ, ◌<◌, ◌^◌, true, false, [], ◌∷◌, None, Result, Ok, Err}
 use Rattle.std.proofs.Common.{refl, sym, ap, ◌∙◌, subst, if◌then◌else◌}
-use Rattle.std.specs.Prelude.{IsOk, bit_and, bit_or, slice_index}
+use Rattle.std.specs.Prelude.{IsOk}
 use Rattle.std.specs.Int.{w32, bit_not}
 use Rattle.std.proofs.lemmas.Bool.{eqb-true}
 use Rattle.masked_fields.specs.Field.{FitsMask, put_field, shifted}
 use Rattle.masked_fields.proofs.Masks.{joined}
-use Rattle.transaction_codec.specs.declared.request.Op.{Op}
-use Rattle.transaction_codec.specs.declared.request.Op.TheVariants.{Write, RmwBits}
+use Rattle.transaction_codec.specs.declared.request.Op.TheVariants.{Write}
 use Rattle.board_bus.specs.declared.fault.BusFault.{BusFault}
 use Rattle.board_bus.specs.Cells.{CellMap, read_word, write_word}
 use Rattle.board_bus.specs.Transactions.{◌>>=◌, Modified, Writing, masked, modify, of_modifying, of_writing, outcome}

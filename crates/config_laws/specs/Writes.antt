@@ -1,6 +1,5 @@
 -- Values that are written to registers one after another, on one bus. Profile; uHAL for masked writes.
 use Rattle.std.specs.Prelude.{◌≡◌, ℕ, ◌<◌, ◌^◌, ◌==◌, if◌then◌else◌, List, [], ◌∷◌, None}
-use Rattle.std.specs.List.{AllByRecursion}
 use Rattle.masked_fields.specs.Field.{FitsMask}
 use Rattle.board_bus.specs.Cells.{CellMap}
 use Rattle.board_bus.specs.Transactions.{Outcome, outcome}

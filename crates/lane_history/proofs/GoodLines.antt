@@ -1,5 +1,5 @@
 -- Where all lines of a run are good, each body was replied to.
-use Rattle.std.proofs.Common.{◌≡◌, ℕ, zero, suc, ◌+◌, ◌<◌, ◌==◌, cond, Bool, true, false, List, [], ◌∷◌, ◌++◌, length}
+use Rattle.std.proofs.Common.{◌≡◌, ℕ, zero, suc, ◌+◌, ◌<◌, ◌==◌, cond, true, false, List, [], ◌∷◌, ◌++◌, length}
 use Rattle.std.proofs.Common.{map, Option, Some, None, option_to_list, refl, sym, ap, subst, ◌∙◌, inl, inr, arith}
 use Rattle.std.proofs.Common.{if◌then◌else◌}
 use Rattle.std.specs.Prelude.{unwrap_or}
@@ -33,7 +33,7 @@ use Rattle.transcript.specs.Results.{first_fault, is_good, op_result, shown, val
 use Rattle.transcript.specs.Lines.{showing, line_of, lines_behind, client_lines, lines_from}
 use Rattle.transcript.proofs.Allowed.{allowed-append, asked_allowed}
 use Rattle.board_history.specs.Parts.{IsReplied, AllReplied}
-use Rattle.board_history.specs.History.{IsOrdered, bodies_by_client, outcomes_by_client}
+use Rattle.board_history.specs.History.{IsOrdered, outcomes_by_client}
 
 abbrev pub IsGood : OpLine → Type 0
 IsGood line = is_good line.result ≡ true
