@@ -1,0 +1,7 @@
+mod BusReads
+mod PlanReads
+mod LineReads
+mod SavedLines
+mod BusWrites
+mod AllWrites
+mod Fields
