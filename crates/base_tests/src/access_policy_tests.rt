@@ -9,7 +9,7 @@ use address_table::Permission;
 use ipb_base::NoMemory;
 use node_tree::compile;
 use script_lang::{
-    Session, SessionRefusal, compile_scripts, parse_document, read_session_table, take_key,
+    Session, compile_scripts, parse_document, read_session_table, take_key,
 };
 use script_steps::{Step, Steps};
 use std::alloc::Global;
@@ -84,11 +84,14 @@ fn a_faulty_rule_is_told_by_its_path(rt: HostRuntime) -> Result<(), Fail> {
     Ok(())
 }
 
-/// The session of a document whose policy was taken out.
-fn session_of(alloc: Global, document: &str) -> Result<Session, SessionRefusal> {
+/// The session of a document whose policy was taken out, and what its scripts mean.
+fn compiled(alloc: Global, document: &str) -> Result<(Session, Vec<Steps>), Fail> {
     let mut document = parse_document(alloc, document.as_bytes())?;
     take_key(&mut document, "policy");
-    read_session_table(alloc, &document)
+    let session = read_session_table(alloc, &document)?;
+    let index = compile(alloc, &session.tables, "front")?;
+    let steps = compile_scripts(alloc, &session, &[index])?;
+    Ok((session, steps))
 }
 
 /// The rules that deny the steps of a client, none where a step is done.
@@ -103,17 +106,10 @@ fn rules_in(alloc: Global, steps: &[Step]) -> Result<Vec<Option<u32>>, NoMemory>
     Ok(rules)
 }
 
-/// What the scripts of a document mean.
-fn steps_of(alloc: Global, session: &Session) -> Result<Vec<Steps>, Fail> {
-    let index = compile(alloc, &session.tables, "front")?;
-    Ok(compile_scripts(alloc, session, &[index])?)
-}
-
 #[test]
 fn scripts_are_put_under_a_policy(rt: HostRuntime) -> Result<(), Fail> {
     let policy = policy_in(rt.alloc(), GUARDED)?;
-    let session = session_of(rt.alloc(), GUARDED)?;
-    let mut scripts = steps_of(rt.alloc(), &session)?;
+    let (session, mut scripts) = compiled(rt.alloc(), GUARDED)?;
     let [first] = scripts.as_slice() else {
         return Err("not one script")?;
     };
