@@ -8,9 +8,7 @@ use access_policy::{
 use address_table::Permission;
 use ipb_base::NoMemory;
 use node_tree::compile;
-use script_lang::{
-    Session, compile_scripts, parse_document, read_session_table, take_key,
-};
+use script_lang::{Session, compile_scripts, parse_document, read_session_table, take_key};
 use script_steps::{Step, Steps};
 use std::alloc::Global;
 use std::test::Fail;
