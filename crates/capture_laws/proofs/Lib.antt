@@ -1,0 +1,6 @@
+pub mod Walks
+pub mod Shown
+pub mod Sends
+pub mod Spelled
+pub mod Runs
+pub mod Lanes

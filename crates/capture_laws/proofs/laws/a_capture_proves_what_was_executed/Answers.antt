@@ -1,0 +1,31 @@
+use Rattle.std.proofs.Common.{ℕ, ◌≤◌, List, length, arith, inl, inr, ◌⊎◌, ◌≡◌}
+use Rattle.world_model.specs.Board.{Board, executed}
+use Rattle.world_model.specs.World.{World, start}
+use Rattle.world_model.specs.declared.offered.Fate.TheVariants.{Replied}
+use Rattle.world_model.proofs.Lists.{all_get}
+use Rattle.capture_reader.specs.Proved.{HasProof}
+use Rattle.capture_laws.specs.Captures.{items_of}
+use Rattle.capture_laws.proofs.Runs.{IsProvedFate, shows_run}
+use Rattle.capture_laws.proofs.laws.a_capture_proves_what_was_executed.Goals as goal
+
+pub returns-clause-sent : goal.returns-clause-sent
+returns-clause-sent c = λ window rounds board air moves w is can ran.
+    (shows_run c.laws_below.ensures window rounds board air moves w is can ran).bodies
+
+pub returns-clause-replied : goal.returns-clause-replied
+returns-clause-replied c = λ window rounds board air moves w proved tag place words is can ran p out.
+    let items = items_of 0 (start window rounds board air) moves in
+    let s = shows_run c.laws_below.ensures window rounds board air moves w is can ran in
+    p.greatest place (all_get (IsProvedFate board.first items) w.fates out.number (tag, Replied place words) s.told
+    out.there)
+
+by_proof : (proved most : ℕ) (Shown : ℕ → Type 0) → ((place : ℕ) → Shown place → place ≤ most)
+    → (proved ≡ 0) ⊎ Shown proved → proved ≤ most
+by_proof proved most Shown all (inl none) = omega arith
+by_proof proved most Shown all (inr shown) = all proved shown
+
+pub returns-clause-executed : goal.returns-clause-executed
+returns-clause-executed c = λ window rounds board air moves w proved is can ran p.
+    let items = items_of 0 (start window rounds board air) moves in
+    let s = shows_run c.laws_below.ensures window rounds board air moves w is can ran in
+    by_proof proved (length (executed w.board)) (HasProof board.first 0 items) s.shown p.shown
