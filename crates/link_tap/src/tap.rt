@@ -97,10 +97,10 @@ impl<L: Link> TapLink<L> {
         ensures gots { L.gots self.new.link ≡ L.gots self.old.link }
         ensures held { L.held self.old.link ≤ L.held self.new.link }
     {
-        let item = copied(self.alloc, true, bytes)?;
+        let sent = copied(self.alloc, true, bytes)?;
         self.caught.reserve(1)?;
         self.link.send(bytes)?;
-        self.caught.push_reserved(item);
+        self.caught.push_reserved(sent);
         Ok(())
     }
 

@@ -38,9 +38,9 @@ pub struct Runnable {
 
 /// A session, and its policy where the document has one.
 #[derive(Drop)]
-struct Stated {
-    session: Session,
-    policy: Option<Policy>,
+pub(crate) struct Stated {
+    pub(crate) session: Session,
+    pub(crate) policy: Option<Policy>,
 }
 
 /// Reads a document to run it (profile): the session that the bytes stand for and the steps of its scripts under its
@@ -88,7 +88,7 @@ pub fn read_for_check(alloc: Global, bytes: &[u8], table: &str) -> Result<Index,
 }
 
 /// The session that bytes stand for, and its policy.
-fn read(alloc: Global, bytes: &[u8]) -> Result<Stated, Unread>
+pub(crate) fn read(alloc: Global, bytes: &[u8]) -> Result<Stated, Unread>
     ensures fits { OnOk result (length bytes.now ≤ document_bytes) }
     ensures stands { IfOk result (λ read. spec.StandsForSession bytes.now read.session read.policy) }
     ensures within { IfOk result (λ read. IsWithin read.session) }
@@ -177,7 +177,7 @@ fn refused(refusal: SessionRefusal) -> Unread
 }
 
 /// The steps of a session that can be run, under a policy where there is one.
-fn ruled_steps(
+pub(crate) fn ruled_steps(
     alloc: Global,
     session: &Session,
     policy: Option<Policy>,
