@@ -1,13 +1,22 @@
 //! Datagrams put aside.
 
-ghost use Rattle.std.specs.Prelude.{◌≡◌, ◌≤◌, [], length, IfOk};
-ghost use Rattle.std.specs.Vec.{vec_capacity};
+ghost use Rattle.std.specs.Prelude.{◌≡◌, ◌≤◌, ◌+◌, [], length, IfOk, OnOk};
+ghost use Rattle.std.specs.Vec.{vec_capacity, vec_len};
 ghost use Rattle.link_tap.specs.Traffic.{received_item};
 
 use capture_reader::{Bytes, Caught};
 use ipb_base::NoMemory;
 use std::alloc::Global;
 use std::mem;
+
+/// Takes room for so many items more.
+pub(crate) fn take_room<T>(items: &mut Vec<T>, more: usize) -> Result<(), NoMemory>
+    ensures same { items.new.items ≡ items.old.items }
+    ensures room { OnOk result (vec_len items.old + more ≤ vec_capacity items.new) }
+{
+    items.reserve(more)?;
+    Ok(())
+}
 
 /// A datagram, in memory of its own.
 pub(crate) fn copied(alloc: Global, sent: bool, bytes: &[u8]) -> Result<Caught, NoMemory>

@@ -5,7 +5,7 @@ ghost use Rattle.ipb_base.specs.Faults.{Rose};
 ghost use Rattle.world_core.specs.Telling.{gots_after, IfTelling, IsCarried, IsSent, quiets_after, Receives};
 ghost use Rattle.link_tap.specs.Traffic.{HasCaught, IsUnused, caught_after, sent_item};
 
-use crate::keeping::{copied, received};
+use crate::keeping::{copied, received, take_room};
 use capture_reader::{Capture, Caught, Id, Items};
 use std::alloc::Global;
 use std::marker::Model;
@@ -98,7 +98,7 @@ impl<L: Link> TapLink<L> {
         ensures held { L.held self.old.link ≤ L.held self.new.link }
     {
         let sent = copied(self.alloc, true, bytes)?;
-        self.caught.reserve(1)?;
+        take_room(&mut self.caught, 1)?;
         self.link.send(bytes)?;
         self.caught.push_reserved(sent);
         Ok(())
@@ -121,8 +121,8 @@ impl<L: Link> TapLink<L> {
         a_receive_goes_step_by_step();
         a_link_forgets_nothing();
         into.clear();
-        self.spare.reserve(MAX_DATAGRAM)?;
-        self.caught.reserve(1)?;
+        take_room(&mut self.spare, MAX_DATAGRAM)?;
+        take_room(&mut self.caught, 1)?;
         let came = self.link.receive(into)?;
         if came == Received::Got {
             let item = received(self.alloc, &mut self.spare, into.as_slice());

@@ -107,7 +107,7 @@ fn recorded<R: Rack, T: Threads + Wait + Sync, G: Gate>(
     let board = &boards[0];
     let first = first_of(&board.link);
     let taps = Taps::new(alloc)?;
-    let room = Vec::with_capacity(alloc, 1)?;
+    let room = room_for_one(alloc)?;
     let greeted = greet_tapped(alloc, session.settings, board, rack)?;
     let (tap, runs) = run_tapped(
         rt,
@@ -134,6 +134,14 @@ fn first_of(link: &LinkSpec) -> Id
         LinkSpec::Sim { first, .. } => *first,
         LinkSpec::Udp { .. } => unreachable!(),
     }
+}
+
+/// Room for one item.
+fn room_for_one<T>(alloc: Global) -> Result<Vec<T>, NoMemory>
+    ensures empty { IfOk result (λ room. room.items ≡ []) }
+    ensures room { IfOk result (λ room. 1 ≤ vec_capacity room) }
+{
+    Ok(Vec::with_capacity(alloc, 1)?)
 }
 
 /// Makes the link of a board and greets it over a tap.

@@ -32,7 +32,7 @@ impl<L: Link> Model for Taps<L> {
         (length taps.kept.items ≤ taps.made) × (taps.made ≤ vec_capacity taps.kept) };
 }
 
-impl<L: Link> Taps<L> {
+impl<L: Link + Drop> Taps<L> {
     /// A rack with room for one tap.
     pub(crate) fn new(alloc: Global) -> Result<Taps<L>, NoMemory>
         ensures { IfOk result (λ taps. taps ≡ record { kept = []; made = 1; faults = 0 }) }
