@@ -1,5 +1,5 @@
 -- What a tap has caught agrees with what its link tells, through every call.
-use Rattle.std.proofs.Common.{◌≡◌, ◌∙◌, ℕ, ◌+◌, Bool, true, false, List, [], ◌∷◌, ◌++◌, map, Option, Some, None}
+use Rattle.std.proofs.Common.{◌≡◌, ◌∙◌, ℕ, ◌+◌, ◌≤◌, length, Bool, true, false, List, [], ◌∷◌, ◌++◌, map, Option, Some, None}
 use Rattle.std.proofs.Common.{Result, Ok, Err, refl, ap, sym, subst, if◌then◌else◌, inl, inr}
 use Rattle.std.specs.Prelude.{IfSome}
 use Rattle.std.specs.List.{AllByRecursion, slice_get}
@@ -19,10 +19,12 @@ use Rattle.world_core.specs.declared.link.LinkFault.TheVariants.{Failed, NoMemor
 use Rattle.world_core.specs.declared.link.Received.{Received}
 use Rattle.world_core.specs.declared.link.Received.TheVariants.{Got, Quiet}
 use Rattle.world_core.specs.Airs.{birth_after}
-use Rattle.world_core.specs.Telling.{IfTelling, IsSent, Receives, Telling}
+use Rattle.world_core.specs.Telling.{IfTelling, IsCarried, IsSent, Receives, Telling}
+use Rattle.packet_codec.specs.Packet.{AreBytes}
 use Rattle.capture_reader.specs.declared.capture.Caught.{Caught}
+use Rattle.capture_reader.specs.CaptureText.{AreItems, IsItem}
 use Rattle.link_tap.specs.Traffic.{sent_in, received_in, for_board, carried, sent_item, received_item, caught_after}
-use Rattle.link_tap.specs.Traffic.{AreForHubAt, ByKind, WereAlive, IsNextAlive, behind_next, IsTrafficOf, IsUnused}
+use Rattle.link_tap.specs.Traffic.{AreForHubAt, ByKind, WereAlive, IsNextAlive, behind_next, IsTrafficOf, IsUnused, HasCaught}
 use Rattle.link_tap.proofs.Lists.{for_board-append, one_more_for_board, one_more_sent, none_received}
 use Rattle.link_tap.proofs.Lists.{one_more_received, none_sent, there_in_more, one_more_there}
 
@@ -112,30 +114,30 @@ one_heard old new (Some datagram) e =
     let after = heard_on old datagram.bytes in
     let answer = answered (first_sends old) (hear old.board datagram.bytes).answer in
     let same : after ≡ new = found_both (goes_to ToBoard datagram.direction) (is_alive (first_sends old) datagram)
-        after new e in
+    after new e in
     ap (λ (t : Told). for_board t.air) (sym same)
     ∙ (for_board-append old.air answer
     ∙ (ap (λ more. for_board old.air ++ more)
-        (answer_for_hub (first_sends old) (hear old.board datagram.bytes).answer)
+    (answer_for_hub (first_sends old) (hear old.board datagram.bytes).answer)
     ∙ append-nil (for_board old.air)))
 
 -- one step, and those behind it
 pub record Goes (step : Option Told) (later : Told → Option Told) (new : Told) : Type 0 where
   pub between : Told
   pub stepped : step ≡ Some between
-  pub then : later between ≡ Some new
+  pub goes_on : later between ≡ Some new
 
 goes : (step : Option Told) (later : Told → Option Told) (new : Told) → then_told step later ≡ Some new
     → Goes step later new
 goes None later new e = absurd (cc)
-goes (Some between) later new e = record { between = between; stepped = refl; then = e }
+goes (Some between) later new e = record { between = between; stepped = refl; goes_on = e }
 
 all_heard : (places : List ℕ) (old new : Told) → hears_all old places ≡ Some new
     → for_board new.air ≡ for_board old.air
 all_heard [] old new e = let same : old ≡ new = cc in ap (λ (t : Told). for_board t.air) (sym same)
 all_heard (place ∷ places) old new e =
     let g = goes (heard_by old (slice_get old.air place)) (λ after. hears_all after places) new e in
-    all_heard places g.between new g.then ∙ one_heard old g.between (slice_get old.air place) g.stepped
+    all_heard places g.between new g.goes_on ∙ one_heard old g.between (slice_get old.air place) g.stepped
 
 -- ---- the calls
 
@@ -159,7 +161,7 @@ traffic_sent : (old new : Telling) (items : List Caught) (bytes : List ℕ) → 
     → new.told ≡ sent_on old.told bytes → new.handed ≡ old.handed → IsTrafficOf new (items ++ sent_item bytes ∷ [])
 traffic_sent old new items bytes is told handed =
     let birth = birth_after old.told.board.first (first_sends old.told) bytes in
-    let one = record { direction = ToBoard; bytes = bytes; birth = birth } in
+    let one : Datagram = record { direction = ToBoard; bytes = bytes; birth = birth } in
     record {
       sent = rw told (one_more_sent items bytes
           ∙ (ap (λ front. front ++ bytes ∷ []) is.sent ∙ sym (one_more_for_board old.told.air bytes birth)));
@@ -200,10 +202,10 @@ traffic_got : (t : Telling) (items : List Caught) (bytes : List ℕ) (place : �
     → t.handed ≡ before ++ place ∷ [] → IsHandedAt t.told bytes place
     → IsTrafficOf (record t { handed = before }) items → IsTrafficOf t (items ++ received_item bytes ∷ [])
 traffic_got t items bytes place before handed at is =
-    let one = record { direction = ToHub; bytes = bytes; birth = at.birth } in
+    let one : Datagram = record { direction = ToHub; bytes = bytes; birth = at.birth } in
     let first = t.told.board.first in
     let count : first_sends t.told ≡ counted first 0 (sent_in items) =
-        count_of_air first 0 t.told.air ∙ ap (counted first 0) (sym is.sent) in
+    count_of_air first 0 t.told.air ∙ ap (counted first 0) (sym is.sent) in
     record {
       sent = none_sent items bytes ∙ is.sent;
       heard = is.heard ++ one ∷ [];
@@ -249,3 +251,48 @@ receive_keeps air board result bytes before now None (Some new) items is receive
 receive_keeps air board result bytes before now (Some old) None items is received = absurd received
 receive_keeps air board result bytes before now (Some old) (Some new) items is received =
     traffic_received air board result bytes before now old new items is received
+
+-- ---- with the lengths of the datagrams
+
+pub caught_sent : (bytes : List ℕ) (before now : ℕ) (old new : Option Telling) (items more : List Caught)
+    → HasCaught old items → IfTelling old new (IsSent bytes before now) → AreBytes bytes → length bytes ≤ 9000
+    → more ≡ items ++ sent_item bytes ∷ [] → HasCaught new more
+caught_sent bytes before now old new items more is sent fits short e = subst (HasCaught new) (sym e) (record {
+  short = AllByRecursion-append IsItem items (sent_item bytes ∷ []) is.short
+      (record { bytes = fits; length = short }, tt);
+  traffic = send_keeps bytes before now old new items is.traffic sent;
+})
+
+are_items : (result : Result Received LinkFault) (bytes : List ℕ) → IsCarried result bytes
+    → (result ≡ Ok Got → AreBytes bytes) → AreItems (caught_after result bytes)
+are_items (Ok Got) bytes short fits = (record { bytes = fits refl; length = short }, tt)
+are_items (Ok Quiet) bytes short fits = tt
+are_items (Err fault) bytes short fits = tt
+
+pub caught_received : KeepsAir → KeepsBoard → (result : Result Received LinkFault) (bytes : List ℕ) (before now : ℕ)
+    (old new : Option Telling) (items more : List Caught) → HasCaught old items
+    → IfTelling old new (Receives result bytes before now) → IsCarried result bytes
+    → (result ≡ Ok Got → AreBytes bytes) → more ≡ items ++ caught_after result bytes → HasCaught new more
+caught_received air board result bytes before now old new items more is received short fits e =
+    subst (HasCaught new) (sym e) (record {
+      short = AllByRecursion-append IsItem items (caught_after result bytes) is.short (are_items result bytes short fits);
+      traffic = receive_keeps air board result bytes before now old new items is.traffic received;
+    })
+
+pub got_more : (result : Result Received LinkFault) (bytes : List ℕ) (items more : List Caught) → result ≡ Ok Got
+    → more ≡ items ++ received_item bytes ∷ [] → more ≡ items ++ caught_after result bytes
+got_more result bytes items more is e = rw is e
+
+pub quiet_more : (result : Result Received LinkFault) (bytes : List ℕ) (items more : List Caught) → result ≡ Ok Quiet
+    → more ≡ items → more ≡ items ++ caught_after result bytes
+quiet_more result bytes items more is e = rw is (e ∙ sym (append-nil items))
+
+pub failed_more : (result : Result Received LinkFault) (fault : LinkFault) (bytes : List ℕ) (items more : List Caught)
+    → result ≡ Err fault → more ≡ items → more ≡ items ++ caught_after result bytes
+failed_more result fault bytes items more is e = rw is (e ∙ sym (append-nil items))
+
+pub not_got : (result : Result Received LinkFault) (fault : LinkFault) → result ≡ Err fault → result ≡ Ok Got → ⊥
+not_got result fault failed got = cc
+
+pub quiet_is_no_got : (result : Result Received LinkFault) → result ≡ Ok Quiet → result ≡ Ok Got → ⊥
+quiet_is_no_got result quiet got = cc

@@ -2,6 +2,7 @@
 
 ghost use Rattle.std.specs.Prelude.{◌≡◌, ◌≤◌, ◌+◌, [], length, IfOk, OnOk};
 ghost use Rattle.std.specs.Vec.{vec_capacity, vec_len};
+ghost use Rattle.packet_codec.specs.Packet.{AreBytes};
 ghost use Rattle.link_tap.specs.Traffic.{received_item};
 
 use capture_reader::{Bytes, Caught};
@@ -36,6 +37,7 @@ pub(crate) fn received(alloc: Global, spare: &mut Vec<u8>, bytes: &[u8]) -> Caug
     requires empty { spare.old.items ≡ [] }
     requires room { length bytes.now ≤ vec_capacity spare.old }
     ensures item { result ≡ received_item bytes.now }
+    ensures bytes { AreBytes bytes.now }
     ensures empty { spare.new.items ≡ [] }
 {
     match copied(alloc, false, bytes) {

@@ -123,12 +123,14 @@ impl<L: Link> TapLink<L> {
         into.clear();
         take_room(&mut self.spare, MAX_DATAGRAM)?;
         take_room(&mut self.caught, 1)?;
-        let came = self.link.receive(into)?;
-        if came == Received::Got {
-            let item = received(self.alloc, &mut self.spare, into.as_slice());
-            self.caught.push_reserved(item);
+        match self.link.receive(into)? {
+            Received::Got => {
+                let item = received(self.alloc, &mut self.spare, into.as_slice());
+                self.caught.push_reserved(item);
+                Ok(Received::Got)
+            }
+            Received::Quiet => Ok(Received::Quiet),
         }
-        Ok(came)
     }
 }
 
