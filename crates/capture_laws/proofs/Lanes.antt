@@ -2,7 +2,8 @@
 -- a run.
 use Rattle.std.proofs.Common.{◌≡◌, ◌∙◌, ◌⊎◌, ℕ, zero, suc, ◌+◌, ◌-◌, ◌<◌, ◌≤◌, ◌==◌, ◌&&◌, Bool, true, false, List, [], ◌∷◌}
 use Rattle.std.proofs.Common.{◌++◌, length, map, Option, Some, None, Result, Ok, Err, refl, ap, sym, subst, inl, inr, arith}
-use Rattle.std.proofs.Common.{if◌then◌else◌}
+use Rattle.std.proofs.Common.{append_assoc, if◌then◌else◌}
+use Rattle.std.specs.Prelude.{IfSome}
 use Rattle.std.proofs.lemmas.Bool.{leb-true}
 use Rattle.std.proofs.lemmas.List.{append-nil, length-map, length-append, map-append}
 use Rattle.std.specs.List.{AllByRecursion, slice_get}
@@ -24,17 +25,15 @@ use Rattle.world_model.specs.Messages.{ToBoard, StatusRequest, ResendRequest, pa
 use Rattle.world_model.specs.Messages.{to_hub}
 use Rattle.world_model.specs.Board.{Board, executed, replies}
 use Rattle.world_model.specs.Hub.{Hub}
-use Rattle.world_model.specs.Sends.{Next, next_send, pending}
+use Rattle.world_model.specs.Sends.{Next, bytes_to_send, next_send, pending}
 use Rattle.world_model.specs.Air.{LIFETIME, is_alive}
 use Rattle.world_model.specs.World.{World, flush, flush_on, go_on, sent_into, start, with_hub}
-use Rattle.world_model.specs.Links.{Told, first_sends, is_first_message, is_first_send, together}
+use Rattle.world_model.specs.Links.{IsJoined, Told, first_sends, is_first_message, is_first_send, together}
 use Rattle.world_model.specs.Settings.{Limits}
 use Rattle.world_model.specs.Facts.{IsDatagram, IsGreeting, IsGreetingOf, IsSaid, IsSaidToHub, IsSound, bodies_of}
 use Rattle.world_model.specs.Facts.{offered_body}
 use Rattle.world_model.specs.Lanes.{caught_up}
-use Rattle.world_model.specs.Below.{Below}
-use Rattle.world_model.proofs.Boards.{replies_length}
-use Rattle.world_model.proofs.Kept.{flush_grew}
+use Rattle.world_model.proofs.Flushing.{flush_keeps}
 use Rattle.world_model.proofs.Lists.{all_get, either}
 use Rattle.reliable_engine.specs.Answers.{hub_next}
 use Rattle.world_core.specs.Airs.{birth_after}
@@ -53,7 +52,8 @@ use Rattle.capture_laws.proofs.Walks.{bodies_append, count_append, count_from}
 use Rattle.capture_laws.proofs.Shown.{shows_executed}
 use Rattle.capture_laws.proofs.Spelled.{IsBigTold, IsSpelled, IsSpelledTo}
 use Rattle.capture_laws.proofs.Sends.{IsNew, IsOld, IsSendOr, send_is}
-use Rattle.capture_laws.proofs.Runs.{Shows, shows_run}
+use Rattle.capture_laws.proofs.Joint.{Laws}
+use Rattle.capture_laws.proofs.Runs.{Shows, sent_joined, shows_run, told_of}
 
 -- ---- the two counts of first sends
 
@@ -147,8 +147,7 @@ strip first sent (item ∷ items) =
 no_body : (first sent : ℕ) (bytes : List ℕ) → to_board bytes ≡ Some StatusRequest
     → (sent_after first sent (sent_item bytes) ≡ sent) × (new_body first sent (sent_item bytes) ≡ [])
 no_body first sent bytes e =
-    let flag = same_flag first sent bytes (subst IsBigTold (sym e) tt) ∙ ap (is_first_message first sent) e in
-    (
+    let flag = same_flag first sent bytes (subst IsBigTold (sym e) tt) ∙ ap (is_first_message first sent) e in (
       ap (λ (b : Bool). if b then sent + 1 else sent) flag,
       ap (λ (b : Bool). if b then body_in (packet_of bytes) else []) flag,
     )
@@ -222,7 +221,7 @@ ShowExecuted first all answers sent heard items =
     → AllByRecursion IsBigSend (sent_in items) → WereAlive first sent heard items
     → (place : ℕ) → HasProof first sent items place → place ≤ length answers
 
-module _ (below : Below) where
+module _ (laws : Laws) where
   one_shows : (first : ℕ) (all answers : List (List ℕ)) (sent : ℕ) (heard : List Datagram) (item : Caught)
       (items : List Caught) (kind : Bool) → IsIdentifier first → item.sent ≡ kind
       → ((from : ℕ) (later : List Datagram) → ShowExecuted first all answers from later items)
@@ -234,7 +233,7 @@ module _ (below : Below) where
       let b = rw e at big in
       let a = rw e at alive in
       let next : sent_after first sent item ≡ birth_after first sent item.bytes =
-          rw e (same_next first sent item.bytes b.0) in
+      rw e (same_next first sent item.bytes b.0) in
       more (sent_after first sent item) heard s from fits.1 b.1
       (subst (λ (k : ℕ). WereAlive first k heard items) (sym next) a) place later
   one_shows first all answers sent [] item items false is e more same from fits big alive place p =
@@ -245,9 +244,9 @@ module _ (below : Below) where
       let bytes : item.bytes ≡ datagram.bytes = cc in
       let there = from.0 in
       let said : IsSaidToHub first answers datagram.birth (to_hub datagram.bytes) =
-          subst (λ (x : Direction). IsSaid first all answers datagram.birth x datagram.bytes) there.for_hub
-          there.datagram'.said in
-      shows_executed below first sent datagram.birth place answers item is fits.0.bytes (leb-true _ _ a.0)
+      subst (λ (x : Direction). IsSaid first all answers datagram.birth x datagram.bytes) there.for_hub
+      there.datagram'.said in
+      shows_executed laws first sent datagram.birth place answers item is fits.0.bytes (leb-true _ _ a.0)
       (subst (λ (b : List ℕ). IsSaidToHub first answers datagram.birth (to_hub b)) (sym bytes) said) one.1
   one_shows first all answers sent (datagram ∷ heard) item items false is e more same from fits big alive place
       (inr later) =
@@ -267,15 +266,48 @@ module _ (below : Below) where
 
   -- ---- a lane
 
-  flush_keeps : (later : Next → World) (w : World) (r : Option Next) → ((n : Next) → (later n).board ≡ w.board)
-      → (flush_on r later w).board ≡ w.board
-  flush_keeps later w None same = refl
-  flush_keeps later w (Some n) same = same n
+  -- what sends leave: the board, the air so far and the bodies so far
+  record Grew (old new : World) : Type 0 where
+    joined : IsJoined new.hub (told_of new)
+    board : new.board ≡ old.board
+    air : IsPrefix {T = Datagram} old.air new.air
+    sent : IsPrefix (bodies_of old.hub.sent) (bodies_of new.hub.sent)
 
-  flush_board : (most : ℕ) (w : World) → (flush most w).board ≡ w.board
-  flush_board zero w = refl
-  flush_board (suc most) w = flush_keeps (λ next. flush most (sent_into w next)) w (next_send w.hub)
-      (λ n. flush_board most (sent_into w n))
+  prefix_then : {A : Type 0} (xs ys zs : List A) → IsPrefix xs ys → IsPrefix ys zs → IsPrefix xs zs
+  prefix_then {A} xs ys zs one two =
+      (one.0 ++ two.0, two.1 ∙ (ap (λ (front : List A). front ++ two.0) one.1 ∙ append_assoc xs one.0 two.0))
+
+  more_sent : (h : Hub) (n : Next) → IsOld laws.below h n ⊎ IsNew laws.below h n
+      → IsPrefix (bodies_of h.sent) (bodies_of n.hub.sent)
+  more_sent h n (inl old) = ([], ap bodies_of old.sent ∙ sym (append-nil (bodies_of h.sent)))
+  more_sent h n (inr new) = (
+    new.offered.body ∷ [],
+    ap bodies_of new.sent ∙ map-append offered_body h.sent (new.offered ∷ []),
+  )
+
+  grew_by : (old w : World) (r : Option Next) → Grew old w → IsSendOr laws.below w.hub r → next_send w.hub ≡ r
+      → IfSome r (λ (n : Next). Grew old (sent_into w n))
+  grew_by old w None g is e = tt
+  grew_by old w (Some n) g is e =
+      let bytes = bytes_to_send n.hub n.send in
+      let one : Datagram = record { direction = goes.ToBoard; bytes = bytes; birth = length n.hub.sent } in
+      record {
+        joined = sent_joined laws w n g.joined e;
+        board = g.board;
+        air = prefix_then old.air w.air (w.air ++ one ∷ []) g.air (one ∷ [], refl);
+        sent = prefix_then (bodies_of old.hub.sent) (bodies_of w.hub.sent) (bodies_of n.hub.sent) g.sent
+            (more_sent w.hub n is.effect);
+      }
+
+  grew : (w : World) → IsJoined w.hub (told_of w) → (most : ℕ) → Grew w (flush most w)
+  grew w is most = flush_keeps (Grew w)
+      (λ v g. grew_by w v (next_send v.hub) g (send_is laws.below v.hub (told_of v) g.joined.sound) refl) most w
+      (record {
+        joined = is;
+        board = refl;
+        air = ([], sym (append-nil w.air));
+        sent = ([], sym (append-nil (bodies_of w.hub.sent)));
+      })
 
   -- the air and the sends of a lane are those of a run
   pub record IsOfRun (hub : Hub) (told : Told) : Type 0 where
@@ -290,15 +322,15 @@ module _ (below : Below) where
       let state = r.reached.state.state in
       let begin = start limits.window limits.rounds r.board r.air in
       let new = caught_up w in
-      let s = shows_run below limits.window limits.rounds r.board r.air state.moves new r.begins state.sendable
-          state.ran in
-      let g = flush_grew (pending hub) w in
+      let s = shows_run laws limits.window limits.rounds r.board r.air state.moves new r.begins state.sendable
+      state.ran in
+      let g = grew w joined (pending hub) in
       let items = items_of 0 begin state.moves in
-      let board : new.board ≡ t.told.board = flush_board (pending hub) w in
+      let board : new.board ≡ t.told.board = g.board in
       let first : r.board.first ≡ t.told.board.first =
-          sym s.same_first ∙ (s.sound.node.same_first ∙ ap (λ (b : Board). b.first) board) in
+      sym s.same_first ∙ (s.joined.sound.node.same_first ∙ ap (λ (b : Board). b.first) board) in
       let air : new.air ≡ t.told.air ++ g.air.0 = g.air.1 in
-      let sent : new.hub.sent ≡ hub.sent ++ g.sent.0 = g.sent.1 in
+      let sent : bodies_of new.hub.sent ≡ bodies_of hub.sent ++ g.sent.0 = g.sent.1 in
       let spelled = front_of_all IsSpelled t.told.air g.air.0 (subst (AllByRecursion IsSpelled) air s.spelled) in
       let big = big_sends t.told.air spelled in
       let f = t.told.board.first in
@@ -306,15 +338,15 @@ module _ (below : Below) where
       let more = for_board g.air.0 in
       let bodies : List (List ℕ) → List (List ℕ) = λ sends. bodies_from f 0 (map sent_item sends) in
       let run : bodies_from f 0 items ≡ bodies_of new.hub.sent =
-          subst (λ (k : ℕ). bodies_from k 0 items ≡ bodies_of new.hub.sent) first s.bodies in
-      let whole : bodies (here ++ more) ≡ bodies_of hub.sent ++ bodies_of g.sent.0 =
-          ap bodies (sym (for_board-append t.told.air g.air.0) ∙ (ap for_board (sym air) ∙ s.sends))
-          ∙ (greeting_none r.board f r.air (sent_in items) r.begins.greetings
-          ∙ (sym (strip f 0 items) ∙ (run ∙ (ap bodies_of sent ∙ map-append offered_body hub.sent g.sent.0)))) in
+      subst (λ (k : ℕ). bodies_from k 0 items ≡ bodies_of new.hub.sent) first s.bodies in
+      let whole : bodies (here ++ more) ≡ bodies_of hub.sent ++ g.sent.0 =
+      ap bodies (sym (for_board-append t.told.air g.air.0) ∙ (ap for_board (sym air) ∙ s.sends))
+      ∙ (greeting_none r.board f r.air (sent_in items) r.begins.greetings
+      ∙ (sym (strip f 0 items) ∙ (run ∙ sent))) in
       let count = count_from f 0 (map sent_item here) in
       let split : bodies (here ++ more) ≡ bodies here ++ bodies_from f count (map sent_item more) =
-          ap (bodies_from f 0) (map-append sent_item here more)
-          ∙ bodies_append f 0 (map sent_item here) (map sent_item more) in
+      ap (bodies_from f 0) (map-append sent_item here more)
+      ∙ bodies_append f 0 (map sent_item here) (map sent_item more) in
       let counted_here = same_count f 0 here big in
       let long : length (bodies here) ≡ length (bodies_of hub.sent) = omega (
         arith,
@@ -327,7 +359,7 @@ module _ (below : Below) where
       record {
         big = big;
         bodies = same_fronts (bodies here) (bodies_of hub.sent) (bodies_from f count (map sent_item more))
-            (bodies_of g.sent.0) long (sym split ∙ whole);
+            g.sent.0 long (sym split ∙ whole);
       }
 
   -- ---- its capture
@@ -347,9 +379,9 @@ module _ (below : Below) where
       let f = t.told.board.first in
       let is = subst IsIdentifier sound.node.same_first sound.node.identifier in
       let said = subst (λ (k : ℕ). AllByRecursion (IsDatagram k (bodies_of hub.sent) (replies t.told.board)) t.told.air)
-          sound.node.same_first sound.said in
+      sound.node.same_first sound.said in
       let heard = all_heard f (bodies_of hub.sent) (replies t.told.board) t.told.air t.handed traffic.heard said
-          traffic.handed in
+      traffic.handed in
       let big = subst (AllByRecursion IsBigSend) (sym traffic.sent) o.big in
       record {
         bodies = strip f 0 items
@@ -357,24 +389,16 @@ module _ (below : Below) where
         executed' = sound.log.front;
         shown = λ fits place p.
             let within = all_show f (bodies_of hub.sent) (replies t.told.board) 0 traffic.heard items is
-                traffic.received heard fits big traffic.alive place p in
-            omega (arith, replies_length below t.told.board);
+            traffic.received heard fits big traffic.alive place p in
+            omega (arith, laws.below.bodies.one_each t.told.board.opening (executed t.told.board));
       }
 
   -- ---- also where it has stopped
 
-  more_sent : (w : World) (n : Next) → IsOld below w n ⊎ IsNew below w n
-      → IsPrefix (bodies_of w.hub.sent) (bodies_of n.hub.sent)
-  more_sent w n (inl old) = ([], ap bodies_of old.sent ∙ sym (append-nil (bodies_of w.hub.sent)))
-  more_sent w n (inr new) = (
-    new.offered.body ∷ [],
-    ap bodies_of new.sent ∙ map-append offered_body w.hub.sent (new.offered ∷ []),
-  )
-
-  after_next : (w : World) (r : Option Next) → IsSendOr below w r
-      → IsPrefix (bodies_of w.hub.sent) (bodies_of (hub_next w.hub r).sent)
-  after_next w None is = ([], sym (append-nil (bodies_of w.hub.sent)))
-  after_next w (Some n) is = more_sent w n is.effect
+  after_next : (h : Hub) (r : Option Next) → IsSendOr laws.below h r
+      → IsPrefix (bodies_of h.sent) (bodies_of (hub_next h r).sent)
+  after_next h None is = ([], sym (append-nil (bodies_of h.sent)))
+  after_next h (Some n) is = more_sent h n is.effect
 
   refused_sends : (before hub : Hub) (told : Told) → IsSound (together before told)
       → (hub ≡ before) ⊎ (hub ≡ hub_next before (next_send before))
@@ -382,7 +406,7 @@ module _ (below : Below) where
   refused_sends before hub told sound (inl same) =
       ([], ap (λ (h : Hub). bodies_of h.sent) same ∙ sym (append-nil (bodies_of before.sent)))
   refused_sends before hub told sound (inr next) =
-      let a = after_next (together before told) (next_send before) (send_is below (together before told) sound) in
+      let a = after_next before (next_send before) (send_is laws.below before told sound) in
       (a.0, ap (λ (h : Hub). bodies_of h.sent) next ∙ a.1)
 
   pub record CaptureShows (hub : Hub) (t : Telling) (items : List Caught) : Type 0 where

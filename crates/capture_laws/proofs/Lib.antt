@@ -1,3 +1,4 @@
+pub mod Joint
 pub mod Walks
 pub mod Shown
 pub mod Sends

@@ -1,5 +1,5 @@
 -- What a capture shows through a run: every move keeps it.
-use Rattle.std.proofs.Common.{◌≡◌, ◌∙◌, ◌⊎◌, ℕ, zero, suc, ◌+◌, ◌-◌, ◌<◌, ◌≤◌, Bool, true, false, List, [], ◌∷◌, ◌++◌}
+use Rattle.std.proofs.Common.{◌≡◌, ◌∙◌, ◌⊎◌, ℕ, zero, suc, ◌+◌, ◌-◌, ◌<◌, ◌≤◌, Bool, true, false, if◌then◌else◌, List, [], ◌∷◌, ◌++◌}
 use Rattle.std.proofs.Common.{length, map, drop, Option, Some, None, Result, Ok, Err, refl, ap, sym, subst, inl, inr, arith}
 use Rattle.std.proofs.Common.{append_assoc}
 use Rattle.std.specs.Prelude.{IfOk, min, nat_lt}
@@ -33,14 +33,12 @@ use Rattle.world_model.specs.World.{World, answered, board_hears, flush, flush_o
 use Rattle.world_model.specs.World.{sent_into, start, step, taken, when_taken, with_hub}
 use Rattle.world_model.specs.Facts.{IsSaid, IsSaidToHub, IsSound, IsStart, bodies_of, offered_body}
 use Rattle.world_model.specs.History.{IsMove}
-use Rattle.world_model.specs.Below.{Below}
-use Rattle.world_model.proofs.Boards.{replies_length}
-use Rattle.world_model.proofs.Hubs.{IsFound, IsFoundOr, IsSendSound, all_inserted, all_timed_out, all_unsent, offer_holds}
-use Rattle.world_model.proofs.Hubs.{open_found, quiet_holds, send_holds}
-use Rattle.world_model.proofs.Kept.{message_logs, message_sent, quiet_sent}
+use Rattle.world_model.specs.Links.{IsHanded, IsHandedAt, IsHeard, IsJoined, Told, birth_of, first_sends, first_sends_from}
+use Rattle.world_model.specs.Links.{heard_by, heard_on, hears_all, is_first_send, sent_on, then_told, together}
+use Rattle.world_model.proofs.Hubs.{IsFound, IsFoundOr, all_inserted, all_timed_out, all_unsent, open_found}
 use Rattle.world_model.proofs.Lists.{all_get, either}
 use Rattle.world_model.proofs.Places.{has_below, has_from}
-use Rattle.world_model.proofs.Worlds.{IsTaken, board_goes_on, goes_on, hub_heard, same_way, start_holds}
+use Rattle.capture_laws.proofs.Joint.{Laws}
 use Rattle.capture_reader.specs.declared.capture.Caught.{Caught}
 use Rattle.capture_reader.specs.Proved.{HasProof, Proves, sent_after}
 use Rattle.link_tap.specs.Traffic.{for_board, received_item, sent_in, sent_item}
@@ -58,9 +56,13 @@ IsProvedFate first items (tag, Replied place words) = HasProof first 0 items pla
 IsProvedFate first items (tag, TimedOut place rounds) = Unit {0}
 IsProvedFate first items (tag, Unsent) = Unit {0}
 
+-- the board and the air, as a link tells them
+abbrev pub told_of : World → Told
+told_of w = record { board = w.board; air = w.air }
+
 -- what the datagrams so far show of a world that began with a greeting in the air
 pub record Shows (first : ℕ) (greeting : List Datagram) (w : World) (items : List Caught) : Type 0 where
-  pub sound : IsSound w
+  pub joined : IsJoined w.hub (told_of w)
   pub same_first : w.hub.first ≡ first
   pub count : count_from first 0 items ≡ length w.hub.sent
   pub bodies : bodies_from first 0 items ≡ bodies_of w.hub.sent
@@ -107,7 +109,48 @@ shown_still first place most items bytes shown (inl before) = shown place before
 shown_still first place most items bytes shown (inr now) =
     absurd (no_proof_sent first (count_from first 0 items) place bytes now)
 
-module _ (below : Below) where
+count_last : (first count : ℕ) (air : List Datagram) (d : Datagram) → first_sends_from first count (air ++ d ∷ [])
+    ≡ (if is_first_send first (first_sends_from first count air) d.direction d.bytes
+    then first_sends_from first count air + 1 else first_sends_from first count air)
+count_last first count [] d = refl
+count_last first count (x ∷ air) d =
+    count_last first (if is_first_send first count x.direction x.bytes then count + 1 else count) air d
+
+same_way : (hearer direction : Direction) → goes_to hearer direction ≡ true → direction ≡ hearer
+same_way goes.ToBoard goes.ToBoard e = refl
+same_way goes.ToBoard goes.ToHub e = absurd (cc)
+same_way goes.ToHub goes.ToBoard e = absurd (cc)
+same_way goes.ToHub goes.ToHub e = refl
+
+settle_sent : (h : Hub) (words : List ℕ) (r : Option OpenPlace) → (settle h words r).sent ≡ h.sent
+settle_sent h words None = refl
+settle_sent h words (Some o) = refl
+
+recovered_sent : (h : Hub) (r : Option ℕ) → (recovered h r).sent ≡ h.sent
+recovered_sent h None = refl
+recovered_sent h (Some e) = refl
+
+message_sent : (h : Hub) (m : Option ToHub) → (take_message h m).sent ≡ h.sent
+message_sent h None = refl
+message_sent h (Some (StatusReply mtu buffers next)) = either
+    (λ (x : Hub). x.sent ≡ h.sent) (nat_lt 0 h.status_requests) _ _ (λ _. recovered_sent h (told_place h next))
+    (λ _. refl)
+message_sent h (Some (Reply id words)) = settle_sent h words (open_with h.first id h.open_places)
+
+quiet_sent : (h : Hub) → (hear_quiet h).sent ≡ h.sent
+quiet_sent h = either (λ (x : Hub). x.sent ≡ h.sent) (nat_lt h.status_requests h.rounds) (want_status h) (give_up h)
+    (λ _. refl) (λ _. refl)
+
+module _ (laws : Laws) where
+  replies_length : (b : Board) → length (replies b) ≡ length (executed b)
+  replies_length b = laws.below.bodies.one_each b.opening (executed b)
+
+  all_out : (h : Hub) (told : Told) (fates : List (ℕ × Fate)) → IsJoined h told → h.fates ≡ fates
+      → IsJoined (record h { fates = [] }) told
+  all_out h told [] is e = subst (λ (fs : List (ℕ × Fate)). IsJoined (record h { fates = fs }) told) e is
+  all_out h told (fate ∷ fates) is e =
+      all_out (record h { fates = fates }) told fates (laws.handed_out h told fate fates is e) refl
+
   -- ---- a send
 
   record Counts (first : ℕ) (n : Next) (items : List Caught) (bytes : List ℕ) : Type 0 where
@@ -115,13 +158,13 @@ module _ (below : Below) where
     bodies : bodies_from first 0 (items ++ sent_item bytes ∷ []) ≡ bodies_of n.hub.sent
 
   counts : (first : ℕ) (greeting : List Datagram) (w : World) (items : List Caught) (n : Next)
-      → Shows first greeting w items → IsSend below w n → IsOld below w n ⊎ IsNew below w n
+      → Shows first greeting w items → IsSend laws.below w.hub n → IsOld laws.below w.hub n ⊎ IsNew laws.below w.hub n
       → Counts first n items (bytes_to_send n.hub n.send)
   counts first greeting w items n s is (inl old) =
       let sent = length w.hub.sent in
       let packet = packet_to_send n.hub n.send in
       let item = sent_item (packet_bytes packet) in
-      let add = adds_nothing below first sent packet is.packet (rw (sym s.same_first) old.flag) in
+      let add = adds_nothing laws.below first sent packet is.packet (rw (sym s.same_first) old.flag) in
       record {
         count = count_more first sent items item s.count ∙ (add.count ∙ ap (λ (o : List Offered). length o) (sym old.sent));
         bodies = bodies_more first sent items item s.count
@@ -132,9 +175,9 @@ module _ (below : Below) where
       let sent = length w.hub.sent in
       let packet = packet_to_send n.hub n.send in
       let item = sent_item (packet_bytes packet) in
-      let add = adds_one below first sent packet is.packet (rw (sym s.same_first) new.flag) in
+      let add = adds_one laws.below first sent packet is.packet (rw (sym s.same_first) new.flag) in
       let longer : length n.hub.sent ≡ sent + 1 =
-          ap (λ (o : List Offered). length o) new.sent ∙ length-append w.hub.sent (new.offered ∷ []) in
+      ap (λ (o : List Offered). length o) new.sent ∙ length-append w.hub.sent (new.offered ∷ []) in
       record {
         count = count_more first sent items item s.count ∙ (add.count ∙ sym longer);
         bodies = bodies_more first sent items item s.count
@@ -144,17 +187,30 @@ module _ (below : Below) where
             ∙ (sym (map-append offered_body w.hub.sent (new.offered ∷ [])) ∙ ap bodies_of (sym new.sent)))));
       }
 
+  pub sent_joined : (w : World) (n : Next) → IsJoined w.hub (told_of w) → next_send w.hub ≡ Some n
+      → IsJoined n.hub (told_of (sent_into w n))
+  sent_joined w n is e =
+      let told = told_of w in
+      let bytes = bytes_to_send n.hub n.send in
+      let j = laws.sent w.hub told n is e in
+      let one : Datagram = record { direction = goes.ToBoard; bytes = bytes; birth = birth_of told bytes } in
+      let birth : birth_of told bytes ≡ length n.hub.sent = sym (count_last w.board.first 0 w.air one) ∙ j.counts in
+      subst (λ (b : ℕ). IsJoined n.hub (record {
+        board = w.board;
+        air = w.air ++ record { direction = goes.ToBoard; bytes = bytes; birth = b } ∷ [];
+      })) birth j
+
   sent_shows : (first : ℕ) (greeting : List Datagram) (w : World) (items : List Caught) (n : Next)
-      → Shows first greeting w items → IsSend below w n → IsSound (sent_into w n)
+      → Shows first greeting w items → IsSend laws.below w.hub n → next_send w.hub ≡ Some n
       → Shows first greeting (sent_into w n) (items ++ sent_item (bytes_to_send n.hub n.send) ∷ [])
-  sent_shows first greeting w items n s is sound =
+  sent_shows first greeting w items n s is e =
       let bytes = bytes_to_send n.hub n.send in
       let item = sent_item bytes in
       let birth = length n.hub.sent in
-      let one = record { direction = goes.ToBoard; bytes = bytes; birth = birth } in
+      let one : Datagram = record { direction = goes.ToBoard; bytes = bytes; birth = birth } in
       let c = counts first greeting w items n s is is.effect in
       record {
-        sound = sound;
+        joined = sent_joined w n s.joined e;
         same_first = is.first ∙ s.same_first;
         count = c.count;
         bodies = c.bodies;
@@ -164,7 +220,7 @@ module _ (below : Below) where
         waiting = subst (AllByRecursion (IsProvedFate first (items ++ item ∷ []))) (sym is.kept)
             (all_proved first items (item ∷ []) w.hub.fates s.waiting);
         spelled = AllByRecursion-append IsSpelled w.air (one ∷ []) s.spelled
-            (packet_spelled below (packet_to_send n.hub n.send) is.packet is.big, tt);
+            (packet_spelled laws.below (packet_to_send n.hub n.send) is.packet is.big, tt);
         sends = one_more_for_board w.air bytes birth
             ∙ (ap (λ (front : List (List ℕ)). front ++ bytes ∷ []) s.sends
             ∙ (append_assoc (for_board greeting) (sent_in items) (bytes ∷ [])
@@ -179,16 +235,16 @@ module _ (below : Below) where
     pub shows : Shows first greeting new (items ++ map sent_item (for_board more))
 
   flush_by : (first : ℕ) (greeting : List Datagram) (later : Next → World) (w : World) (items : List Caught)
-      (r : Option Next) → Shows first greeting w items → IsSendOr below w r → IsSendSound below w r
+      (r : Option Next) → Shows first greeting w items → IsSendOr laws.below w.hub r → next_send w.hub ≡ r
       → ((n : Next) → Shows first greeting (sent_into w n) (items ++ sent_item (bytes_to_send n.hub n.send) ∷ [])
       → Flushed first greeting (sent_into w n) (items ++ sent_item (bytes_to_send n.hub n.send) ∷ []) (later n))
       → Flushed first greeting w items (flush_on r later w)
-  flush_by first greeting later w items None s is sound more =
+  flush_by first greeting later w items None s is e more =
       record { more = []; air = sym (append-nil w.air); shows = rw append-nil s }
-  flush_by first greeting later w items (Some n) s is sound more =
+  flush_by first greeting later w items (Some n) s is e more =
       let bytes = bytes_to_send n.hub n.send in
-      let one = record { direction = goes.ToBoard; bytes = bytes; birth = length n.hub.sent } in
-      let f = more n (sent_shows first greeting w items n s is sound) in
+      let one : Datagram = record { direction = goes.ToBoard; bytes = bytes; birth = length n.hub.sent } in
+      let f = more n (sent_shows first greeting w items n s is e) in
       record {
         more = one ∷ f.more;
         air = f.air ∙ append_assoc w.air (one ∷ []) f.more;
@@ -202,7 +258,7 @@ module _ (below : Below) where
       record { more = []; air = sym (append-nil w.air); shows = rw append-nil s }
   flush_shows first greeting (suc most) w items s =
       flush_by first greeting (λ next. flush most (sent_into w next)) w items (next_send w.hub) s
-      (send_is below w s.sound) (send_holds below w s.sound)
+      (send_is laws.below w.hub (told_of w) s.joined.sound) refl
       (λ n t. flush_shows first greeting most (sent_into w n) (items ++ sent_item (bytes_to_send n.hub n.send) ∷ []) t)
 
   go_on_shows : (first : ℕ) (greeting : List Datagram) (w : World) (h : Hub) (items : List Caught)
@@ -214,7 +270,7 @@ module _ (below : Below) where
         more = f.more;
         air = f.air;
         shows = record {
-          sound = goes_on below w h s.sound;
+          joined = all_out new.hub (told_of new) new.hub.fates f.shows.joined refl;
           same_first = f.shows.same_first;
           count = f.shows.count;
           bodies = f.shows.bodies;
@@ -229,10 +285,10 @@ module _ (below : Below) where
   -- ---- the hub's events
 
   with_shows : (first : ℕ) (greeting : List Datagram) (w : World) (h : Hub) (items : List Caught)
-      → Shows first greeting w items → IsSound (with_hub w h) → h.first ≡ w.hub.first → h.sent ≡ w.hub.sent
+      → Shows first greeting w items → IsJoined h (told_of w) → h.first ≡ w.hub.first → h.sent ≡ w.hub.sent
       → AllByRecursion (IsProvedFate first items) h.fates → Shows first greeting (with_hub w h) items
-  with_shows first greeting w h items s sound same sent waiting = record {
-    sound = sound;
+  with_shows first greeting w h items s joined same sent waiting = record {
+    joined = joined;
     same_first = same ∙ s.same_first;
     count = s.count ∙ ap (λ (o : List Offered). length o) (sym sent);
     bodies = s.bodies ∙ ap bodies_of (sym sent);
@@ -250,14 +306,14 @@ module _ (below : Below) where
   quiet_shows : (first : ℕ) (greeting : List Datagram) (w : World) (items : List Caught)
       → Shows first greeting w items → Shows first greeting (with_hub w (hear_quiet w.hub)) items
   quiet_shows first greeting w items s =
-      with_shows first greeting w (hear_quiet w.hub) items s (quiet_holds below w s.sound) (quiet_first w.hub)
+      with_shows first greeting w (hear_quiet w.hub) items s (laws.quiet w.hub (told_of w) s.joined) (quiet_first w.hub)
       (quiet_sent w.hub)
       (either (λ (x : Hub). AllByRecursion (IsProvedFate first items) x.fates)
       (nat_lt w.hub.status_requests w.hub.rounds) (want_status w.hub) (give_up w.hub)
       (λ _. s.waiting)
       (λ _. AllByRecursion-append _ _ _ (all_timed_out (IsProvedFate first items)
       (least (places w.hub.open_places) (length w.hub.sent + 1)) w.hub.rounds w.hub.sent w.hub.open_places
-      w.hub.fates (λ place one within. tt) s.sound.hub.from_one s.sound.hub.rising s.waiting)
+      w.hub.fates (λ place one within. tt) s.joined.sound.hub.from_one s.joined.sound.hub.rising s.waiting)
       (all_unsent (IsProvedFate first items) w.hub.queue (λ tag. tt))))
 
   -- ---- the hub hears
@@ -283,7 +339,7 @@ module _ (below : Below) where
   -- the reply of an open place proves it
   settled_waits : (first : ℕ) (greeting : List Datagram) (w : World) (items : List Caught) (bytes words : List ℕ)
       (id : ℕ) (r : Option OpenPlace) → Shows first greeting w items → AreBytes bytes
-      → to_hub bytes ≡ Some (Reply id words) → IsFoundOr below w.hub.first id w.hub.open_places r
+      → to_hub bytes ≡ Some (Reply id words) → IsFoundOr laws.below w.hub.first id w.hub.open_places r
       → AllByRecursion (IsProvedFate first (items ++ received_item bytes ∷ [])) (settle w.hub words r).fates
   settled_waits first greeting w items bytes words id None s fits says found =
       all_proved first items (received_item bytes ∷ []) w.hub.fates s.waiting
@@ -292,16 +348,16 @@ module _ (below : Below) where
       let ps = places w.hub.open_places in
       let sent = length w.hub.sent in
       let count = count_from first 0 items in
-      let from = has_from o.place (least ps (sent + 1)) (sent + 1) ps s.sound.hub.rising found.there in
-      let under = has_below o.place (least ps (sent + 1)) (sent + 1) ps s.sound.hub.rising found.there in
+      let from = has_from o.place (least ps (sent + 1)) (sent + 1) ps s.joined.sound.hub.rising found.there in
+      let under = has_below o.place (least ps (sent + 1)) (sent + 1) ps s.joined.sound.hub.rising found.there in
       let all = all_proved first items (item ∷ []) w.hub.fates s.waiting in
       let P = IsProvedFate first (items ++ item ∷ []) in
       let tag = tag_of (at_place w.hub.sent o.place) in
       let named = subst (λ (f : ℕ). identifier_at f o.place ≡ id) s.same_first found.named in
-      let shows = proves_its_place below first count o.place id words bytes fits says
-          (omega (arith, s.sound.hub.from_one)) (omega (arith, s.count)) named in
+      let shows = proves_its_place laws first count o.place id words bytes fits says
+      (omega (arith, s.joined.sound.hub.from_one)) (omega (arith, s.count)) named in
       let new : P (tag, Replied o.place words) =
-          proof_behind first 0 items (item ∷ []) o.place (inl (refl, inl shows)) in
+      proof_behind first 0 items (item ∷ []) o.place (inl (refl, inl shows)) in
       either (AllByRecursion P) o.waited _ _
       (λ _. all_inserted P o.place (tag, Replied o.place words) w.hub.fates new all) (λ _. all)
 
@@ -317,36 +373,67 @@ module _ (below : Below) where
       (λ _. subst P (sym (recovered_fates w.hub (told_place w.hub next))) all) (λ _. all)
   message_waits first greeting w items bytes (Some (Reply id words)) s fits says =
       settled_waits first greeting w items bytes words id (open_with w.hub.first id w.hub.open_places) s fits says
-      (open_found below w.hub.first id w.hub.open_places)
+      (open_found laws.below w.hub.first id w.hub.open_places)
 
-  shown_now : (first : ℕ) (greeting : List Datagram) (w : World) (items : List Caught) (bytes : List ℕ) (place : ℕ)
-      → Shows first greeting w items → AreBytes bytes → IsTaken below w goes.ToHub bytes
+  -- a datagram of the air that is for the hub, and alive
+  record IsTaken (w : World) (k : ℕ) (bytes : List ℕ) : Type 0 where
+    birth : ℕ
+    alive : length w.hub.sent - birth ≤ LIFETIME
+    said : IsSaidToHub w.hub.first (replies w.board) birth (to_hub bytes)
+    handed : IsHanded (told_of w) bytes
+
+  taken_there : (w : World) (k : ℕ) (d : Datagram) → IsJoined w.hub (told_of w) → slice_get w.air k ≡ Some d
+      → goes_to goes.ToHub d.direction ≡ true → is_alive (length w.hub.sent) d ≡ true → IsTaken w k d.bytes
+  taken_there w k d is e way alive =
+      let fact = all_get _ w.air k d is.sound.said e in
+      let hub = same_way goes.ToHub d.direction way in
+      let one : Datagram = record { direction = goes.ToHub; bytes = d.bytes; birth = d.birth } in
+      let there : slice_get w.air k ≡ Some one =
+      e ∙ ap (λ (x : Direction). let c : Datagram = record { direction = x; bytes = d.bytes; birth = d.birth } in
+      Some c) hub in
+      record {
+        birth = d.birth;
+        alive = leb-true _ _ alive;
+        said = subst (λ (x : Direction). IsSaid w.hub.first (bodies_of w.hub.sent)
+            (replies w.board) d.birth x d.bytes) hub fact.said;
+        handed = record {
+          place = k;
+          at = record {
+            birth = d.birth;
+            there = there;
+            alive = subst (λ (n : ℕ). is_alive n one ≡ true) (sym is.counts) alive;
+          };
+        };
+      }
+
+  shown_now : (first : ℕ) (greeting : List Datagram) (w : World) (items : List Caught) (bytes : List ℕ) (place k : ℕ)
+      → Shows first greeting w items → AreBytes bytes → IsTaken w k bytes
       → HasProof first 0 items place ⊎ HasProof first (count_from first 0 items) (received_item bytes ∷ []) place
       → place ≤ length (executed w.board)
-  shown_now first greeting w items bytes place s fits t (inl before) = s.shown place before
-  shown_now first greeting w items bytes place s fits t (inr (inr none)) = absurd none
-  shown_now first greeting w items bytes place s fits t (inr (inl one)) =
+  shown_now first greeting w items bytes place k s fits t (inl before) = s.shown place before
+  shown_now first greeting w items bytes place k s fits t (inr (inr none)) = absurd none
+  shown_now first greeting w items bytes place k s fits t (inr (inl one)) =
       let said : IsSaidToHub first (replies w.board) t.birth (to_hub bytes) =
-          subst (λ (f : ℕ). IsSaidToHub f (replies w.board) t.birth (to_hub bytes)) s.same_first t.said in
-      let is = subst IsIdentifier s.same_first s.sound.node.identifier in
-      let within = shows_executed below first (count_from first 0 items) t.birth place (replies w.board)
-          (received_item bytes) is fits (omega (arith, t.alive, s.count)) said one.1 in
-      omega (arith, replies_length below w.board)
+      subst (λ (f : ℕ). IsSaidToHub f (replies w.board) t.birth (to_hub bytes)) s.same_first t.said in
+      let is = subst IsIdentifier s.same_first s.joined.sound.node.identifier in
+      let within = shows_executed laws first (count_from first 0 items) t.birth place (replies w.board)
+      (received_item bytes) is fits (omega (arith, t.alive, s.count)) said one.1 in
+      omega (arith, replies_length w.board)
 
-  heard_shows : (first : ℕ) (greeting : List Datagram) (w : World) (items : List Caught) (bytes : List ℕ)
-      → Shows first greeting w items → AreBytes bytes → IsTaken below w goes.ToHub bytes
+  heard_shows : (first : ℕ) (greeting : List Datagram) (w : World) (items : List Caught) (bytes : List ℕ) (k : ℕ)
+      → Shows first greeting w items → AreBytes bytes → IsTaken w k bytes
       → Shows first greeting (with_hub w (take_message w.hub (to_hub bytes))) (items ++ received_item bytes ∷ [])
-  heard_shows first greeting w items bytes s fits t =
+  heard_shows first greeting w items bytes k s fits t =
       let item = received_item bytes in
       let sent = length w.hub.sent in
       let same = message_sent w.hub (to_hub bytes) in
       record {
-        sound = hub_heard below w bytes s.sound t;
+        joined = laws.handed w.hub (told_of w) bytes s.joined t.handed;
         same_first = message_first w.hub (to_hub bytes) ∙ s.same_first;
         count = count_more first sent items item s.count ∙ ap (λ (o : List Offered). length o) (sym same);
         bodies = bodies_more first sent items item s.count
             ∙ (append-nil (bodies_from first 0 items) ∙ (s.bodies ∙ ap bodies_of (sym same)));
-        shown = λ place p. shown_now first greeting w items bytes place s fits t
+        shown = λ place p. shown_now first greeting w items bytes place k s fits t
             (proof_in first 0 items (item ∷ []) place p);
         told = all_proved first items (item ∷ []) w.fates s.told;
         waiting = message_waits first greeting w items bytes (to_hub bytes) s fits refl;
@@ -357,30 +444,61 @@ module _ (below : Below) where
 
   -- ---- the board hears
 
-  longer_log : (b : Board) (bytes : List ℕ) → length (executed b) ≤ length (executed (hear b bytes).board)
-  longer_log b bytes =
-      let more = message_logs b (to_board bytes) in
-      let new = (hear b bytes).board.log in
-      omega (arith, length-map b.log body_of, length-map new body_of, ap (λ (l : List LogEntry). length l) more.1,
-      length-append b.log more.0)
+  heard_there : (told : Told) (r : Option Datagram) (d : Datagram) → r ≡ Some d
+      → goes_to goes.ToBoard d.direction ≡ true → is_alive (first_sends told) d ≡ true
+      → heard_by told r ≡ Some (heard_on told d.bytes)
+  heard_there told r d e way alive =
+      ap (heard_by told) e
+      ∙ (ap (λ (b : Bool). if b then (if is_alive (first_sends told) d then Some (heard_on told d.bytes) else None)
+      else None) way
+      ∙ ap (λ (b : Bool). if b then Some (heard_on told d.bytes) else None) alive)
+
+  is_heard : (w : World) (k : ℕ) (d : Datagram) → IsJoined w.hub (told_of w) → slice_get w.air k ≡ Some d
+      → goes_to goes.ToBoard d.direction ≡ true → is_alive (length w.hub.sent) d ≡ true
+      → IsHeard (told_of w) (heard_on (told_of w) d.bytes)
+  is_heard w k d is e way alive =
+      let told = told_of w in
+      record {
+        places = k ∷ [];
+        heard = ap (λ (r : Option Told). then_told r (λ after. hears_all after []))
+            (heard_there told (slice_get w.air k) d e way
+            (subst (λ (n : ℕ). is_alive n d ≡ true) (sym is.counts) alive));
+      }
+
+  longer_log : (old new : Told) → IsHeard old new → length (executed old.board) ≤ length (executed new.board)
+  longer_log old new is =
+      let more = laws.log old new is in
+      let long = ap (λ (l : List LogEntry). length l) more.1 in
+      omega (
+        arith,
+        length-map old.board.log body_of,
+        length-map new.board.log body_of,
+        long,
+        length-append old.board.log more.0,
+      )
 
   board_shows : (first : ℕ) (greeting : List Datagram) (w : World) (items : List Caught) (bytes : List ℕ)
-      → Shows first greeting w items → IsTaken below w goes.ToBoard bytes
+      → Shows first greeting w items → IsHeard (told_of w) (heard_on (told_of w) bytes)
       → Flushed first greeting w items (board_hears w bytes)
-  board_shows first greeting w items bytes s t =
+  board_shows first greeting w items bytes s is =
+      let told = told_of w in
       let answer = answered (length w.hub.sent) (hear w.board bytes).answer in
       let none = answer_for_hub (length w.hub.sent) (hear w.board bytes).answer in
+      let longer = longer_log told (heard_on told bytes) is in
       let same : items ++ map sent_item (for_board answer) ≡ items =
-          ap (λ (b : List (List ℕ)). items ++ map sent_item b) none ∙ append-nil items in
+      ap (λ (b : List (List ℕ)). items ++ map sent_item b) none ∙ append-nil items in
       record {
         more = answer;
         air = refl;
         shows = subst (Shows first greeting (board_hears w bytes)) (sym same) (record {
-          sound = board_goes_on below w bytes s.sound t;
+          joined = subst (λ (n : ℕ). IsJoined w.hub (record {
+            board = (hear w.board bytes).board;
+            air = w.air ++ answered n (hear w.board bytes).answer;
+          })) s.joined.counts (laws.heard w.hub told (heard_on told bytes) s.joined is);
           same_first = s.same_first;
           count = s.count;
           bodies = s.bodies;
-          shown = λ place p. let before = s.shown place p in omega (arith, longer_log w.board bytes);
+          shown = λ place p. let before = s.shown place p in omega (arith, longer, before);
           told = s.told;
           waiting = s.waiting;
           spelled = AllByRecursion-append IsSpelled w.air answer s.spelled
@@ -392,18 +510,6 @@ module _ (below : Below) where
 
   -- ---- moves
 
-  taken_there : (w : World) (hearer : Direction) (k : ℕ) (d : Datagram) → IsSound w → slice_get w.air k ≡ Some d
-      → goes_to hearer d.direction ≡ true → is_alive (length w.hub.sent) d ≡ true → IsTaken below w hearer d.bytes
-  taken_there w hearer k d is e way alive =
-      let fact = all_get _ w.air k d is.said e in
-      record {
-        birth = d.birth;
-        born = fact.born;
-        alive = leb-true _ _ alive;
-        said = subst (λ (x : Direction). IsSaid w.hub.first (bodies_of w.hub.sent)
-            (replies w.board) d.birth x d.bytes) (same_way below hearer d.direction way) fact.said;
-      }
-
   hub_moved : (first : ℕ) (greeting : List Datagram) (at : ℕ) (w : World) (items : List Caught) (k : ℕ)
       (r : Option Datagram) → Shows first greeting w items → slice_get w.air k ≡ r
       → IfOk (when_taken (taken at (length w.hub.sent) goes.ToHub r) (hub_hears w))
@@ -411,15 +517,15 @@ module _ (below : Below) where
   hub_moved first greeting at w items k None s e = tt
   hub_moved first greeting at w items k (Some d) s e =
       let P : Result (List ℕ) WorldEnd → Type 0 =
-          λ r. IfOk (when_taken r (hub_hears w)) (Flushed first greeting w (items ++ received_item d.bytes ∷ [])) in
+      λ r. IfOk (when_taken r (hub_hears w)) (Flushed first greeting w (items ++ received_item d.bytes ∷ [])) in
       either P (goes_to goes.ToHub d.direction) _ _
       (λ way. either P (is_alive (length w.hub.sent) d) _ _
       (λ alive.
       let fits : AreBytes d.bytes = subst (λ (x : Direction). IsSpelledTo x d.bytes)
-          (same_way below goes.ToHub d.direction way) (all_get IsSpelled w.air k d s.spelled e) in
-      let t = taken_there w goes.ToHub k d s.sound e way alive in
+      (same_way goes.ToHub d.direction way) (all_get IsSpelled w.air k d s.spelled e) in
+      let t = taken_there w k d s.joined e way alive in
       go_on_shows first greeting w (take_message w.hub (to_hub d.bytes)) (items ++ received_item d.bytes ∷ [])
-      (heard_shows first greeting w items d.bytes s fits t))
+      (heard_shows first greeting w items d.bytes k s fits t))
       (λ _. tt))
       (λ _. tt)
 
@@ -430,10 +536,10 @@ module _ (below : Below) where
   board_moved first greeting at w items k None s e = tt
   board_moved first greeting at w items k (Some d) s e =
       let P : Result (List ℕ) WorldEnd → Type 0 =
-          λ r. IfOk (when_taken r (board_hears w)) (Flushed first greeting w items) in
+      λ r. IfOk (when_taken r (board_hears w)) (Flushed first greeting w items) in
       either P (goes_to goes.ToBoard d.direction) _ _
       (λ way. either P (is_alive (length w.hub.sent) d) _ _
-      (λ alive. board_shows first greeting w items d.bytes s (taken_there w goes.ToBoard k d s.sound e way alive))
+      (λ alive. board_shows first greeting w items d.bytes s (is_heard w k d s.joined e way alive))
       (λ _. tt))
       (λ _. tt)
 
@@ -441,9 +547,9 @@ module _ (below : Below) where
       → IsMove m → Shows first greeting w items
       → IfOk (step at w m) (Flushed first greeting w (items ++ heard_in w m))
   step_flushed first greeting at w (Offer tag body) items can s =
-      let o = record { tag = tag; body = body } in
+      let o : Offered = record { tag = tag; body = body } in
       rw append-nil (go_on_shows first greeting w (offer w.hub o) items
-      (with_shows first greeting w (offer w.hub o) items s (offer_holds below w o can s.sound) refl refl s.waiting))
+      (with_shows first greeting w (offer w.hub o) items s (laws.offered w.hub (told_of w) o s.joined can) refl refl s.waiting))
   step_flushed first greeting at w Quiet items can s =
       rw append-nil (either (λ (r : Result World WorldEnd). IfOk r (Flushed first greeting w items))
       (is_waiting w.hub) _ _
@@ -459,7 +565,7 @@ module _ (below : Below) where
       → Shows first greeting new (items ++ (heard ++ sent_since w new))
   shows_since first greeting w items heard new f =
       let same : drop (length w.air) new.air ≡ f.more =
-          ap (λ (a : List Datagram). drop (length w.air) a) f.air ∙ drop-append_seam w.air f.more in
+      ap (λ (a : List Datagram). drop (length w.air) a) f.air ∙ drop-append_seam w.air f.more in
       subst (Shows first greeting new)
       (append_assoc items heard (map sent_item (for_board f.more))
       ∙ ap (λ (a : List Datagram). items ++ (heard ++ map sent_item (for_board a))) (sym same)) f.shows
@@ -502,7 +608,7 @@ module _ (below : Below) where
   start_shows : (window rounds : ℕ) (board : Board) (air : List Datagram) → IsStart window board air
       → Shows board.first air (start window rounds board air) []
   start_shows window rounds board air is = record {
-    sound = start_holds below window rounds board air is;
+    joined = laws.begins window rounds board air is;
     same_first = refl;
     count = refl;
     bodies = refl;

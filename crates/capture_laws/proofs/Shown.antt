@@ -14,12 +14,11 @@ use Rattle.world_model.specs.Messages.{Reply, StatusReply, control_packet, packe
 use Rattle.world_model.specs.Air.{LIFETIME}
 use Rattle.world_model.specs.Places.{at_place}
 use Rattle.world_model.specs.Facts.{IsReplyOf, IsSaidToHub, IsToldOf}
-use Rattle.world_model.specs.Below.{Below}
-use Rattle.world_model.proofs.Grammar.{reply_found, status_known}
 use Rattle.world_model.proofs.Lists.{at_from_one, at_within}
 use Rattle.world_model.proofs.Places.{one_place}
 use Rattle.capture_reader.specs.declared.capture.Caught.{Caught}
 use Rattle.capture_reader.specs.Proved.{Proves, ProvesByReply, ProvesByStatus}
+use Rattle.capture_laws.proofs.Joint.{Laws}
 
 -- ---- what a control packet says to a hub
 
@@ -34,8 +33,7 @@ reply_by (Err fault) head e control = absurd (cc)
 reply_by (Ok packet) head e control =
     let same : head_of packet ≡ head = cc in
     let kind : packet.kind ≡ Control = ap (λ (h : Head). h.kind) same ∙ control in
-    let id : packet.id ≡ head.id = ap (λ (h : Head). h.id) same in
-    (
+    let id : packet.id ≡ head.id = ap (λ (h : Head). h.id) same in (
       packet.body,
       ap (λ (k : PacketKind). said_to_hub k packet.id packet.body) kind
           ∙ ap (λ (i : ℕ). Some (Reply i packet.body)) id,
@@ -60,7 +58,7 @@ not_later first sent birth place other near is one from within alive recent few 
       | inr fine ↦ omega arith
     ]
 
-module _ (below : Below) where
+module _ (laws : Laws) where
   -- a reply with this identifier is that of a place
   by_reply : (first sent birth place : ℕ) (answers : List (List ℕ)) (bytes : List ℕ) → IsIdentifier first
       → sent - birth ≤ LIFETIME → IsSaidToHub first answers birth (to_hub bytes)
@@ -68,11 +66,11 @@ module _ (below : Below) where
   by_reply first sent birth place answers bytes is alive said p =
       let reply = says_reply bytes p.head p.spelled p.control in
       let of_place : IsReplyOf first answers birth p.head.id reply.words =
-          subst (IsSaidToHub first answers birth) reply.says said in
+      subst (IsSaidToHub first answers birth) reply.says said in
       let within = at_within answers of_place.place reply.words of_place.at in
       let one = at_from_one answers of_place.place reply.words of_place.at in
       let under = not_later first sent birth place of_place.place 80 is p.from_one one (omega (arith, p.was_sent)) alive
-          (omega (arith, of_place.recent)) (omega arith) (p.identifier ∙ of_place.identifier) in
+      (omega (arith, of_place.recent)) (omega arith) (p.identifier ∙ of_place.identifier) in
       omega arith
 
   -- a status reply tells the place behind those that were executed, or an earlier one
@@ -80,13 +78,13 @@ module _ (below : Below) where
       → AreBytes bytes → sent - birth ≤ LIFETIME → IsSaidToHub first answers birth (to_hub bytes)
       → ProvesByStatus first sent bytes place → place ≤ length answers
   by_status first sent birth place answers bytes is fits alive said p =
-      let says = status_known below bytes p.mtu p.buffers p.next fits p.mtu_range p.buffer_range
-          p.identifier_range p.told in
+      let says = (laws.says_status bytes p.mtu p.buffers p.next fits).1
+      (p.mtu_range, p.buffer_range, p.identifier_range, p.told) in
       let of_place : IsToldOf first (length answers) birth p.next =
-          subst (IsSaidToHub first answers birth) says said in
+      subst (IsSaidToHub first answers birth) says said in
       let under = not_later first sent birth (place + 1) of_place.place 16 is (omega arith) of_place.from_one
-          (omega (arith, p.was_sent)) alive (omega (arith, of_place.recent)) (omega arith)
-          (p.identifier ∙ of_place.identifier) in
+      (omega (arith, p.was_sent)) alive (omega (arith, of_place.recent)) (omega arith)
+      (p.identifier ∙ of_place.identifier) in
       omega (arith, of_place.up_to_next)
 
   pub shows_executed : (first sent birth place : ℕ) (answers : List (List ℕ)) (item : Caught) → IsIdentifier first
@@ -104,12 +102,12 @@ module _ (below : Below) where
       → to_hub bytes ≡ Some (Reply id words) → 1 ≤ place → place ≤ sent → identifier_at first place ≡ id
       → ProvesByReply first sent bytes place
   proves_its_place first sent place id words bytes fits says one within named =
-      let found = reply_found below bytes id words fits says in
+      let found = (laws.says_reply bytes id words fits).0 says in
       let packet = control_packet found.0 id words in
       record {
         head = head_of packet;
         spelled = ap (λ (b : List ℕ). head_read (packet_of b)) found.2
-            ∙ ap head_read (below.packets.again packet found.1);
+            ∙ ap head_read (laws.below.packets.again packet found.1);
         control = refl;
         from_one = one;
         was_sent = within;

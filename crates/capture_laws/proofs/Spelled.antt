@@ -1,6 +1,6 @@
 -- The datagrams of the air of a run: those for the hub are bytes, and the control packets for the board are big-endian.
 use Rattle.std.proofs.Common.{◌≡◌, ◌∙◌, ℕ, zero, suc, ◌<◌, ◌^◌, Bool, true, false, cond, ◌==◌, List, [], ◌∷◌, ◌++◌}
-use Rattle.std.proofs.Common.{length, Option, Some, None, refl, ap, sym, subst, arith}
+use Rattle.std.proofs.Common.{length, Option, Some, None, Ok, refl, ap, sym, subst, arith}
 use Rattle.std.specs.List.{AllByRecursion, flat_map}
 use Rattle.std.specs.Int.{byte_at, bytes_high_first, bytes_low_first}
 use Rattle.ipb_base.proofs.AllLemmas.{AllByRecursion-append}
@@ -14,13 +14,14 @@ use Rattle.status_packet.specs.Packets.{status_reply}
 use Rattle.world_model.specs.declared.datagram.Datagram.{Datagram}
 use Rattle.world_model.specs.declared.datagram.Direction.{Direction}
 use Rattle.world_model.specs.declared.datagram.Direction.TheVariants as goes
-use Rattle.world_model.specs.Messages.{ToBoard, StatusRequest, ResendRequest, ControlPacket, said_to_board, to_board}
+use Rattle.world_model.specs.Messages.{ToBoard, StatusRequest, ResendRequest, ControlPacket, control_packet, packet_to_board, said_to_board, to_board}
+use Rattle.board_bus.specs.Bodies.{run_body}
+use Rattle.world_model.specs.Board.{present_bus}
 use Rattle.world_model.specs.Board.{Board, Hearing, expected, hear, hear_message, held, is_too_long, send_again, with_id}
 use Rattle.world_model.specs.World.{answered}
 use Rattle.world_model.specs.Facts.{IsGreeting, IsGreetingOf}
 use Rattle.world_model.specs.Below.{Below}
 use Rattle.world_model.proofs.Lists.{either}
-use Rattle.world_model.proofs.Readings.{board_reads}
 
 abbrev pub IsBigTold : Option ToBoard → Type 0
 IsBigTold None = Unit {0}
@@ -78,8 +79,8 @@ message_bytes board (Some StatusRequest) =
 message_bytes board (Some (ResendRequest id)) = again_bytes board (with_id id (held board))
 message_bytes board (Some (ControlPacket order id body)) =
     either AnswersBytes (is_too_long board body) _ _ (λ _. tt)
-    (λ _. either AnswersBytes (id == 0) _ _ (λ _. (packet_is _, tt))
-    (λ _. either AnswersBytes (id == expected board) _ _ (λ _. (packet_is _, tt)) (λ _. tt)))
+    (λ _. either AnswersBytes (id == 0) _ _ (λ _. (packet_is (control_packet order id (run_body (present_bus board) body).reply), tt))
+    (λ _. either AnswersBytes (id == expected board) _ _ (λ _. (packet_is (control_packet order id (run_body (present_bus board) body).reply), tt)) (λ _. tt)))
 
 same_answer : (birth : ℕ) (answer : Option (List ℕ)) → AllByRecursion IsSpelled (answered 0 answer)
     → AllByRecursion IsSpelled (answered birth answer)
@@ -109,7 +110,11 @@ big_by packet Status big = either IsBigTold _ (Some StatusRequest) None (λ _. t
 big_by packet Resend big = either IsBigTold _ (Some (ResendRequest packet.id)) None (λ _. tt) (λ _. tt)
 
 module _ (below : Below) where
+  board_reads : (packet : Packet) → IsPacket packet → to_board (packet_bytes packet) ≡ packet_to_board (Ok packet)
+  unfolding to_board
+  board_reads packet is = ap packet_to_board (below.packets.again packet is)
+
   pub packet_spelled : (packet : Packet) → IsPacket packet → packet.order ≡ Big
       → IsBigTold (to_board (packet_bytes packet))
   packet_spelled packet is big =
-      subst IsBigTold (sym (board_reads below packet is)) (big_by packet packet.kind big)
+      subst IsBigTold (sym (board_reads packet is)) (big_by packet packet.kind big)

@@ -22,6 +22,10 @@ ghost use Rattle.link_tap.specs.Traffic.{IsTrafficOf};
 ghost use Rattle.capture_laws.specs.Captures.{bodies_in, capture_of};
 
 use crate::below::laws_below;
+use world_model::laws::links::{
+    a_greeting_joins, a_link_forgets_nothing, each_event_keeps_them_joined,
+};
+use world_model::laws::reading::what_a_hub_reads;
 
 /// In any run, whatever the moves: the packets that the capture of the hub shows as sent for the first time are those of
 /// the hub, in order; it proves each place whose fate is Replied; and it proves no place that was not executed.
@@ -42,6 +46,10 @@ pub fn a_capture_proves_what_was_executed()
         → proved ≤ length (executed w.board) }
 {
     laws_below();
+    a_greeting_joins();
+    each_event_keeps_them_joined();
+    a_link_forgets_nothing();
+    what_a_hub_reads();
 }
 
 /// The same of a lane over a tap of a link that tells, at the exit of every call, also where the lane has stopped: what
@@ -60,4 +68,8 @@ pub fn a_capture_of_a_lane_proves_what_was_executed()
         → proved ≤ length (executed t.told.board) }
 {
     laws_below();
+    a_greeting_joins();
+    each_event_keeps_them_joined();
+    a_link_forgets_nothing();
+    what_a_hub_reads();
 }
