@@ -12,6 +12,6 @@ mod recording;
 mod refusal;
 
 pub use ipb_base::{NoMemory, Text};
-pub use recording::read_for_record;
 pub use reading::{Runnable, read_for_check, read_for_run, read_for_serve};
+pub use recording::read_for_record;
 pub use refusal::{MAX_DOCUMENT, Refusal, Unread};

@@ -12,6 +12,7 @@ use crate::reading::{Runnable, Stated, read, ruled_steps};
 use crate::refusal::{Refusal, Unread};
 use board_node::{BoardSpec, LinkSpec};
 use ipb_base::Text;
+use script_lang::Session;
 use std::alloc::Global;
 
 /// Reads a document to record the traffic of its board (profile): the session that the bytes stand for, of one simulated
@@ -27,16 +28,17 @@ pub fn read_for_record(alloc: Global, bytes: &[u8]) -> Result<Runnable, Unread>
     ensures short { IfOk result (λ read. AllByRecursion (λ steps. length steps ≤ MAX_LINES) read.steps.items) }
 {
     let Stated { session, policy } = read(alloc, bytes)?;
-    check_boards(alloc, session.boards.as_slice())?;
+    check_boards(alloc, &session)?;
     let steps = ruled_steps(alloc, &session, policy)?;
     Ok(Runnable { session, steps })
 }
 
 /// Whether a session has one board, which is simulated.
-fn check_boards(alloc: Global, boards: &[BoardSpec]) -> Result<(), Unread>
-    ensures one { OnOk result (spec.IsOneSimulated boards.now) }
-    ensures refused { IfErr result (Tells (spec.TellsNotOne boards.now)) }
+fn check_boards(alloc: Global, session: &Session) -> Result<(), Unread>
+    ensures one { OnOk result (spec.IsOneSimulated session.now.boards) }
+    ensures refused { IfErr result (Tells (spec.TellsNotOne session.now.boards)) }
 {
+    let boards = session.boards.as_slice();
     if boards.len() != 1 {
         return Err(Unread::Refused(Refusal::OneBoard));
     }

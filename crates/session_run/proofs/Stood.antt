@@ -150,9 +150,8 @@ module _ (law : BeginsLaw) (same : UntouchedLaw) {L : Type 0} (faults quiets got
   greeted_stood before (spec ∷ specs) (b ∷ boards) is are =
       let link = link_of b in
       let there : slice_get all (length before) ≡ Some spec =
-          subst (λ (s : List BoardSpec). slice_get s (length before) ≡ Some spec) (sym is)
-          (get_seam before specs spec) in
-      (
+      subst (λ (s : List BoardSpec). slice_get s (length before) ≡ Some spec) (sym is)
+      (get_seam before specs spec) in (
         has_stood settings all spec (length before) scripts (tells link) there
             (idle_asked law same (faults link) (quiets link) (gots link) (held link) settings spec (length before)
             scripts (tells link) are.0.untouched are.0.begins),
