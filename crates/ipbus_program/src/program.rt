@@ -22,9 +22,7 @@ ghost use Rattle.ipbus_program.specs.Steps.{InputLeaves, LeavesAlone};
 use crate::answering::{answer_to, limit_of, terms_are_terms, too_long};
 use crate::no_answer::NoAnswer;
 use client_threads::Gate;
-use command_terms::{
-    Answer, DOOR_FAULT, NO_MEMORY, RACK_FAULT, READ_FAULT, USAGE, WRITE_FAULT,
-};
+use command_terms::{Answer, DOOR_FAULT, NO_MEMORY, RACK_FAULT, READ_FAULT, USAGE, WRITE_FAULT};
 use command_words::laws::a_load_has_a_bound;
 use command_words::{Command, USAGE_LINE, command_of};
 use ipb_base::NoMemory;

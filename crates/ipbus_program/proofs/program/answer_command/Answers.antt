@@ -1,4 +1,4 @@
-use Rattle.std.proofs.Common.{[], refl, sym, ◌∙◌}
+use Rattle.std.proofs.Common.{[], sym, ◌∙◌}
 use Rattle.board_greeting.specs.Boards.{shown_by}
 use Rattle.command_terms.specs.Leaving.{Leaves}
 use Rattle.command_terms.proofs.Pairs.{therefore}

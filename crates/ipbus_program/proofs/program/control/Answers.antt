@@ -8,7 +8,7 @@ use Rattle.command_terms.specs.Terms.{most_bytes}
 use Rattle.command_terms.proofs.Pairs.{therefore, without_pairs}
 use Rattle.ipbus_program.specs.Commands.{terms_of}
 use Rattle.ipbus_program.specs.declared.no_answer.NoAnswer.TheVariants.{DoorFault, NoMemory, RackFault, ReadFault}
-use Rattle.ipbus_program.specs.Ended.{Ended, IsCalm}
+use Rattle.ipbus_program.specs.Ended.{Ended}
 use Rattle.ipbus_program.specs.Owed.{AreCommand, AreNoCommand, HasInput}
 use Rattle.ipbus_program.specs.Steps.{InputLeaves}
 use Rattle.ipbus_program.proofs.Causes.{status_is}
