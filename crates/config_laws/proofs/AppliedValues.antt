@@ -94,10 +94,10 @@ module _ (own_shows : OwnShows) (others_stay : OthersStay) (here : WrittenHere) 
     (shows : ShowTurns specs [] (asked writes) lines) where
   module _ (r : KeptRegister) (step : Step) (is : IsRead (indexed specs indexes) r step) (word : ℕ)
       (read : read_word (bus_behind is.board.0.link is.place (asked writes)) r.register.address ≡ Ok word) where
-    cells : CellMap
+    abbrev cells : CellMap
     cells = opening_of is.board.0.link
 
-    vs : List ValueFor
+    abbrev vs : List ValueFor
     vs = written_on (indexed specs indexes) is.place state writes given
 
     on : slice_get specs is.place ≡ Some is.board.0
@@ -168,8 +168,8 @@ module _ (own_shows : OwnShows) (others_stay : OthersStay) (here : WrittenHere) 
 
     register_shown : IsShown specs state r word
     register_shown = elim (written_or_left law specs indexes own fields is.place is.board is.there
-    (none_overlaps (indexed specs indexes) is.place is.board none is.there) r is.called is.kept' state writes given
-    values) [
+        (none_overlaps (indexed specs indexes) is.place is.board none is.there) r is.called is.kept' state writes given
+        values) [
       | inl it ↦ given_value it
       | inr it ↦ opening_value it
     ]
@@ -194,7 +194,7 @@ pub applied_text : OwnShows → OthersStay → WrittenHere → Elsewhere → Ove
     → (lines : List OpLine) → ShowTurns specs [] (asked (writes ++ Dispatch ∷ reads)) lines
     → (shown : List StateEntry) × AreApplied specs state kept shown × (state_text specs lines ≡ saved_text specs shown)
 applied_text own_shows others_stay here elsewhere law specs indexes own fields none words state values kept writes reads
-given are lines turns =
+  given are lines turns =
     let parts = parted specs [] (asked writes) (asked reads) lines
     (subst (λ (asks : List Asked). ShowTurns specs [] asks lines) (asked_both writes reads) turns) in
     let it = reads_shown own_shows others_stay here elsewhere law specs indexes own fields none words state values writes

@@ -2,7 +2,7 @@
 use Rattle.std.proofs.Common.{◌≡◌, ℕ, zero, suc, ◌+◌, ◌<◌, ◌==◌, Bool, true, false, List, [], ◌∷◌, ◌++◌, length, map}
 use Rattle.std.proofs.Common.{Option, Some, None, inl, inr, refl, sym, ap, ◌∙◌, subst, arith, length-append}
 use Rattle.std.specs.Prelude.{unwrap_or}
-use Rattle.std.specs.List.{AllByRecursion, flat_map, range_with_len, slice_get}
+use Rattle.std.specs.List.{AllByRecursion, flat_map, range_with_len, slice_get, zip}
 use Rattle.std.specs.Option.{option_map}
 use Rattle.std.proofs.lemmas.List.{length-map}
 use Rattle.std.proofs.lemmas.List.FromFn.{length-range_with_len}
@@ -88,10 +88,7 @@ module _ (success : Successes) (failure : Failures) (only : OneAnswer) (answerin
 
     ends_are : ends_of (part_alone cells planned) ≡ ends 1 cells laid.parts
     ends_are =
-        ap (λ (bodies : List (List ℕ)). ends_of (record {
-          planned = record planned { bodies = bodies };
-          outcomes = outcomes_from 1 cells bodies;
-        })) laid.bodies'
+        ap (λ (bodies : List (List ℕ)). map end_of (zip bodies (outcomes_from 1 cells bodies))) laid.bodies'
 
     -- what the operation of a number came to
     piece_at_place : (k : ℕ) (asked : RegOp) (p : PieceAt) → slice_get places k ≡ Some p

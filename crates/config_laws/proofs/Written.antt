@@ -191,7 +191,6 @@ module _ (law : OverlapInABit) (specs : List BoardSpec) (indexes : List Register
       let found : get b.1 r.name ≡ Some is.register =
       subst (λ name. get b.1 name ≡ Some is.register) same (on_this e step is place).found in
       let register : is.register ≡ r.register = same_Some is.register r.register (sym found ∙ is_kept.found) in
-      let one : IndexedBoard = is.board in
       let board_same : is.board ≡ b =
       same_Some is.board b (sym is.there ∙ (ap (slice_get (indexed specs indexes)) place ∙ at)) in
       record {

@@ -16,8 +16,8 @@ use Rattle.config_laws.proofs.Whole.{all_shown}
 use Rattle.config_laws.proofs.applying.an_applied_text_is_that_of_given_and_opening_values.Goals as goal
 
 pub returns : goal.returns
-returns c = λ settings specs indexes steps runs links state are own names fields none order values is tell made words can
-status.
+returns c = λ settings specs indexes steps runs links state are own names fields.
+    λ none order values is tell made words can status.
     let boards = indexed specs indexes in
     let kept = kept_of boards in
     let parts = no_more (keeping_faults boards) (entry_faults boards state) none in
