@@ -1,11 +1,11 @@
 -- The boards of a session have names that are words of a line, and registers whose fields can be read and written.
 use Rattle.std.proofs.Common.{◌≡◌, ℕ, zero, suc, Bool, true, false, if◌then◌else◌, List, [], ◌∷◌, ◌++◌, codes, Option, Some}
-use Rattle.std.proofs.Common.{None, refl, ap, sym, subst, arith}
+use Rattle.std.proofs.Common.{None, refl, ap, subst, arith}
 use Rattle.std.specs.List.{AllByRecursion, AllZip, slice_get, zip}
 use Rattle.std.specs.Option.{unwrap_or}
 use Rattle.std.specs.FinMap.{get}
 use Rattle.std.proofs.lemmas.Option.{same_Some}
-use Rattle.toml.specs.Data.{Data, Items, array, Members, get_member, as_str}
+use Rattle.toml.specs.Data.{Data, array, Members, get_member, as_str}
 use Rattle.address_table.specs.Rules.{has_key, holds_of, is_id}
 use Rattle.address_table.specs.Tables.{IsTable}
 use Rattle.address_table.specs.Valid.{IsValid}
@@ -25,7 +25,7 @@ use Rattle.script_lang.specs.declared.session.Session.{Session}
 use Rattle.script_lang.proofs.Kept.{each_table, items_kept, kept_value, mapped_none, no_fault, parts_none}
 use Rattle.script_lang.proofs.Registers.{AreSoundRegisters, IsSoundRegister, session_registers}
 use Rattle.board_history.proofs.Lists.{all_at}
-use Rattle.config_store.specs.Kept.{IndexedBoard, indexed}
+use Rattle.config_store.specs.Kept.{indexed}
 use Rattle.config_store.specs.Meanings.{HaveWordNames, IsBoardWord, IsOneWord}
 use Rattle.config_laws.specs.Fields.{HasField, HaveFields}
 use Rattle.config_laws.proofs.SavedLines.{first_of}
