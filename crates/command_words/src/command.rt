@@ -9,7 +9,8 @@ use ipb_base::{NoMemory, Text, number_in_text};
 use std::alloc::Global;
 
 /// The line for words that are no command.
-pub const USAGE_LINE: &str = "usage: ipbus run | check TABLE | serve PORT COUNT | load COUNT | describe | undescribe\n";
+pub const USAGE_LINE: &str =
+    "usage: ipbus run | check TABLE | serve PORT COUNT | load COUNT | describe | undescribe\n";
 
 /// What the words of a command line ask for (profile).
 #[derive(Drop)]
