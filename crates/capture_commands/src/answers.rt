@@ -23,7 +23,7 @@ pub fn describe_answer(alloc: Global, bytes: &[u8]) -> Result<Answer, NoMemory>
 {
     match read_for_describe(alloc, bytes) {
         Ok(capture) => Ok(done(describe(alloc, &capture)?)),
-        Err(Unread::Refused(refusal)) => refused(alloc, &refusal),
+        Err(Unread::Refused(refusal)) => refused_text(alloc, &refusal),
         Err(Unread::NoMemory) => Err(NoMemory),
     }
 }
@@ -36,7 +36,7 @@ pub fn undescribe_answer(alloc: Global, bytes: &[u8]) -> Result<Answer, NoMemory
 {
     match read_for_undescribe(alloc, bytes) {
         Ok(capture) => Ok(done(write_capture(alloc, &capture)?)),
-        Err(Unread::Refused(refusal)) => refused(alloc, &refusal),
+        Err(Unread::Refused(refusal)) => refused_text(alloc, &refusal),
         Err(Unread::NoMemory) => Err(NoMemory),
     }
 }
@@ -49,8 +49,8 @@ fn done(text: Vec<u8>) -> Answer
     Answer { status: DONE, text }
 }
 
-/// The answer with the line of a refusal.
-fn refused(alloc: Global, refusal: &TextRefusal) -> Result<Answer, NoMemory>
+/// The answer to a text that is refused (profile): the line of the refusal, and `REFUSED`.
+pub fn refused_text(alloc: Global, refusal: &TextRefusal) -> Result<Answer, NoMemory>
     ensures status { IfOk result (λ answer. answer.status ≡ refused_status) }
     ensures text { IfOk result (λ answer. answer.text.items ≡ refusal_line refusal.now) }
 {

@@ -9,7 +9,7 @@ mod lines;
 mod reading;
 mod refusal;
 
-pub use answers::{describe_answer, undescribe_answer};
+pub use answers::{describe_answer, refused_text, undescribe_answer};
 pub use capture_reader::{Capture, CaptureWhy};
 pub use command_terms::Answer;
 pub use ipb_base::NoMemory;

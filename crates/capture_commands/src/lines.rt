@@ -15,7 +15,10 @@ impl TextRefusal {
         ensures { IfOk result (λ text. string_bytes text ≡ spec.refusal_line self.now) }
     {
         match self {
-            TextRefusal::LongCapture => Ok(String::from_str(alloc, "refused: capture - TooLong\n")?),
+            TextRefusal::LongCapture => Ok(String::from_str(
+                alloc,
+                "refused: capture - TooLong\n",
+            )?),
             TextRefusal::Capture { line, why } => capture_line(alloc, *line, capture_rule(*why)),
             TextRefusal::LongDescription => {
                 Ok(String::from_str(alloc, "refused: description - TooLong\n")?)
