@@ -1,5 +1,5 @@
-"""Cases of captures: what `describe` and `undescribe` answer to the files of this folder, to texts that are drawn and to
-the longest ones, which the second program answers too; and what `from_dump` and `timeline` make of theirs."""
+"""Cases of captures: what `describe` and `undescribe` answer to the files of this folder, to texts that are drawn and
+to the longest ones, which the second program answers too; and what `from_dump` and `timeline` make of theirs."""
 import itertools
 import pathlib
 import subprocess
@@ -8,7 +8,9 @@ from xml.dom import minidom
 
 from captures.dumps import COOKED, COOKED_2, ETHERNET, IP_ALONE, LOOP, NULL
 from captures.taps import HEADERS, dump_of, internet, udp
-from model.captures import MOST_BYTES, Capture, Caught, Refused, describe, description, read_capture, undescribe, write_capture
+from model.captures import MOST_BYTES, Capture, Caught, Refused, description, read_capture, write_capture
+from model.captures import describe as describe_text
+from model.captures import undescribe as undescribe_text
 from model.drawn_captures import drawn_capture, drawn_description, long_capture
 from model.notes import NOTES, is_note_of, usage_line
 from model.recorded import recorded
@@ -18,6 +20,8 @@ from net.packets import Status, control_packet, request, resend_request, status_
 HERE = pathlib.Path(__file__).resolve().parent
 DRAWN = 300
 SECONDS = 120
+# so many characters of what differs are shown
+MOST_SHOWN = 500
 ONE_READ = HERE / "one_read.capture"
 LOSSY_RUN = HERE / "lossy_run.toml"
 
@@ -26,7 +30,11 @@ def faults_of(done, text, status=0):
     """What is wrong where the program owes this text and this status."""
     given = {"text": done.stdout, "status": done.returncode}
     wanted = {"text": text, "status": status}
-    faults = [f"{what} {given[what]!r}"[:500] + f", wanted {wanted[what]!r}"[:500] for what in wanted if given[what] != wanted[what]]
+    faults = [
+        f"{what} {given[what]!r}"[:MOST_SHOWN] + f", wanted {wanted[what]!r}"[:MOST_SHOWN]
+        for what in wanted
+        if given[what] != wanted[what]
+    ]
     is_said = is_note_of(text, done.stderr) if status == 3 else done.stderr == NOTES[status]
     return faults + ([] if is_said else [f"it says {done.stderr!r}"])
 
@@ -34,7 +42,7 @@ def faults_of(done, text, status=0):
 def owed(command, text):
     """What the second program answers: a text and a status."""
     try:
-        return {"describe": describe, "undescribe": undescribe}[command](text), 0
+        return {"describe": describe_text, "undescribe": undescribe_text}[command](text), 0
     except Refused as line:
         return str(line).encode(), 3
 
@@ -45,15 +53,15 @@ def of_files(answer):
         text, described = file.read_bytes(), file.with_suffix(".description").read_bytes()
         yield f"describe {file.stem}", faults_of(answer(["describe"], text), described)
         yield f"undescribe {file.stem}", faults_of(answer(["undescribe"], described), text)
-        faults = [] if (owed("describe", text), owed("undescribe", described)) == ((described, 0), (text, 0)) else ["it differs"]
-        yield f"reference for {file.stem}", faults
+        is_same = owed("describe", text) == (described, 0) and owed("undescribe", described) == (text, 0)
+        yield f"reference for {file.stem}", [] if is_same else ["it differs"]
     for file in sorted(HERE.glob("refused/*.refused")):
         line = file.read_bytes()
         for suffix, command in ((".capture", "describe"), (".description", "undescribe")):
-            text = file.with_suffix(suffix)
-            if text.exists():
-                yield f"{command} {file.stem}", faults_of(answer([command], text.read_bytes()), line, 3)
-                yield f"reference for {file.stem}", [] if owed(command, text.read_bytes()) == (line, 3) else ["it differs"]
+            if file.with_suffix(suffix).exists():
+                text = file.with_suffix(suffix).read_bytes()
+                yield f"{command} {file.stem}", faults_of(answer([command], text), line, 3)
+                yield f"reference for {file.stem}", [] if owed(command, text) == (line, 3) else ["it differs"]
 
 
 def of_drawn(answer):
@@ -87,8 +95,6 @@ def of_the_longest(answer):
     yield "describe one byte more", faults_of(answer(["describe"], text + b"\n"), long, 3)
     long = b"refused: description - TooLong\n"
     yield "undescribe one byte more", faults_of(answer(["undescribe"], text + b"\n"), long, 3)
-    yield "no input to describe", faults_of(answer(["describe"], b""), b"refused: capture 1 First\n", 3)
-    yield "no input to undescribe", faults_of(answer(["undescribe"], b""), b"refused: description - NotDescription\n", 3)
 
 
 # ---- scripts
@@ -147,7 +153,8 @@ def of_dumps():
         dump = dump_of(kind, frames_between(HUB, EXCHANGE, kind), order, magic)
         yield made(f"of {name} {order} {magic:x}", dump)
     frames = list(frames_between(HUB, EXCHANGE))
-    yield made("beside other packets", dump_of(ETHERNET, [*NOISE, *frames_between(HUB, EXCHANGE, board=OTHER), *frames]))
+    others = frames_between(HUB, EXCHANGE, board=OTHER)
+    yield made("beside other packets", dump_of(ETHERNET, [*NOISE, *others, *frames]))
     tagged = [frame[:12] + bytes.fromhex("81000005") + frame[12:] for frame in frames]
     yield made("with tags", dump_of(ETHERNET, tagged))
     yield made("padded", dump_of(ETHERNET, [frame + bytes(6) for frame in frames]))

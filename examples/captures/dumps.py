@@ -40,7 +40,7 @@ def order_of(data):
         if len(data) >= FILE_HEADER and struct.unpack(f"{order}I", data[:4])[0] in MAGICS:
             return order
     if data[:4] == NEXT_GENERATION.to_bytes(4, "big"):
-        raise BadDump("this is a dump in the format pcapng; `editcap -F pcap OLD NEW` or `tcpdump -r OLD -w NEW` makes one of it")
+        raise BadDump("this is a dump in the format pcapng; `editcap -F pcap OLD NEW` makes one in pcap of it")
     raise BadDump("this is no packet dump in the format pcap")
 
 

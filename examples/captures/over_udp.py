@@ -1,5 +1,5 @@
-"""Cases of captures of runs on boards on UDP ports of 127.0.0.1: what went between hub and board is dumped, and the dump
-made a capture, which shows what the board executed."""
+"""Cases of captures of runs on boards on UDP ports of 127.0.0.1: what went between hub and board is dumped, and the
+dump made a capture, which shows what the board executed."""
 import pathlib
 import random
 import re
@@ -42,8 +42,8 @@ def bodies_of(capture):
 
 
 def require_capture(peers, board, dump, port, places):
-    """The dump is a capture of the board behind this port. The program describes it as the second program does, and reads
-    its description back; all that was sent was proved to be executed, and was."""
+    """The dump is a capture of the board behind this port. The program describes it as the second program does, and
+    reads its description back; all that was sent was proved to be executed, and was."""
     file = pathlib.Path(peers.folder.name) / "board.pcap"
     file.write_bytes(dump)
     text = require_done([sys.executable, HERE / "from_dump", file, f"{HOST}:{port}", "--first", board.first])
@@ -76,7 +76,8 @@ def capture_by_a_relay(seed=None, **dumped):
         tap = Tap(board.port)
         peers.open.append(tap)
         board.port = tap.port
-        done = peers.run(on_network([board], [script_of("b0", random.Random(1))], CALM_WAIT if seed is None else LATE_WAIT))
+        wait = CALM_WAIT if seed is None else LATE_WAIT
+        done = peers.run(on_network([board], [script_of("b0", random.Random(1))], wait))
         tap.close()
         require_capture(peers, board, tap.dump(**dumped), tap.port, places_of(done))
 

@@ -1,5 +1,5 @@
-"""Captures of the datagrams between a hub and one board, from `docs/FORMATS.md` and `docs/PROTOCOL.md` alone: their text,
-their description, and up to which place they show that the board has executed. Texts are bytes.
+"""Captures of the datagrams between a hub and one board, from `docs/FORMATS.md` and `docs/PROTOCOL.md` alone: their
+text, their description, and up to which place they show that the board has executed. Texts are bytes.
 """
 import re
 from collections import namedtuple
@@ -16,7 +16,7 @@ from net.packets import (
     WRITE,
     WRITE_PORT,
     WRITES,
-    bytes_of,
+    Status,
     control_packet,
     length_of,
     read_control,
@@ -28,14 +28,20 @@ from net.packets import (
     transaction_header,
     transactions_of,
 )
-from net.packets import Status
 
 # the most bytes of a text, and of a datagram
 MOST_BYTES = 134_217_728
 LONGEST = 9000
 
 RMWS = (RMW_BITS, RMW_SUM)
-VERBS = {READ: "read", WRITE: "write", READ_PORT: "readport", WRITE_PORT: "writeport", RMW_BITS: "rmwbits", RMW_SUM: "rmwsum"}
+VERBS = {
+    READ: "read",
+    WRITE: "write",
+    READ_PORT: "readport",
+    WRITE_PORT: "writeport",
+    RMW_BITS: "rmwbits",
+    RMW_SUM: "rmwsum",
+}
 KINDS = {verb: kind for kind, verb in VERBS.items()}
 
 # a datagram: whether the hub sent it, and its bytes
@@ -145,8 +151,8 @@ def reply_line(each):
 
 
 def control_lines(is_sent, packet):
-    """The lines of a control packet behind its direction, or None where its body has something else than requests, if the
-    hub sent it, or than replies."""
+    """The lines of a control packet behind its direction, or None where its body has something else than requests, if
+    the hub sent it, or than replies."""
     order = "little" if packet.is_little else "big"
     head = f"control {packet.identifier} {order}\n"
     if is_sent:
@@ -157,7 +163,7 @@ def control_lines(is_sent, packet):
 
 
 def said(item):
-    """What a datagram says, behind its direction: the lines of the first packet that has exactly its bytes, or those."""
+    """What a datagram says, behind its direction: the lines of the packet that has exactly its bytes, or those."""
     is_sent, data = item
     if is_sent and data == status_request():
         return "status request\n"
@@ -284,7 +290,8 @@ def datagram_in(is_sent, line, more):
     if line == "status request":
         return status_request()
     if kind == "status" and len(rest) == 3:
-        return status_reply(Status(number_in(rest[0], 9000), number_in(rest[1], 64), number_in(rest[2], LAST_IDENTIFIER)))
+        mtu, buffers, expected = (number_in(*each) for each in zip(rest, (9000, 64, LAST_IDENTIFIER)))
+        return status_reply(Status(mtu, buffers, expected))
     raise NoDescription(line)
 
 

@@ -4,7 +4,6 @@ import random
 
 from model.captures import Capture, Caught, description, identifier_at, write_capture
 from net.packets import (
-    READS,
     RMW_BITS,
     RMW_SUM,
     WRITES,
@@ -121,7 +120,8 @@ class Drawn:
         """A control packet of so many words, the most that one has or some more, whose body is requests of no words."""
         words = self.draw.choice([2242, 2243, 2244, 2245])
         body = [each for _ in range(words // 2 - 1) for each in request(0, 0, 0, 0)] if is_sent else []
-        return control_packet(self.identifier(is_sent), body + [transaction_header(1, 0, 0, 1)] * (words - 1 - len(body)))
+        body += [transaction_header(1, 0, 0, 1)] * (words - 1 - len(body))
+        return control_packet(self.identifier(is_sent), body)
 
     def item(self):
         is_sent = self.draw.randrange(2) == 0
@@ -178,8 +178,8 @@ def long_capture(number):
     """The text of a capture with a datagram of the most bytes, or of one more."""
     draw, capture = drawn(number)
     data = draw.randbytes(9000 + number % 2)
-    at = draw.randrange(len(capture.items) + 1)
-    return write_capture(capture._replace(items=[*capture.items[:at], Caught(draw.randrange(2) == 0, data), *capture.items[at:]]))
+    capture.items.insert(draw.randrange(len(capture.items) + 1), Caught(draw.randrange(2) == 0, data))
+    return write_capture(capture)
 
 
 def drawn_description(number):

@@ -1,4 +1,5 @@
-"""What the hub of a session sends to its one board and receives from it, as a capture, by the second program's network."""
+"""What the hub of a session sends to its one board and receives from it, as a capture, by the network of the second
+program."""
 from model.captures import Capture, Caught
 from model.network import run_board
 from net.packets import (

@@ -17,8 +17,8 @@ HUB, BOARD, RIGHT, TOP, STEP = 300, 720, 890, 84, 26
 # how far the squares of a window are apart, how wide each is, and how many are drawn
 APART, SQUARE, MOST_SQUARES = 9, 7, 16
 
-# a row of the picture: the line of the capture, whether the hub sent it, what is said and in which color, the places from
-# the lowest open one to the last, each with whether it is open, and what is known of the board
+# a row of the picture: the line of the capture, whether the hub sent it, what is said and in which color, the places
+# from the lowest open one to the last, each with whether it is open, and what is known of the board
 Row = namedtuple("Row", "line is_sent text color window told")
 
 
@@ -148,7 +148,8 @@ def timeline(capture, first_line=FIRST_LINE, last_line=None):
     """The picture of the datagrams of these lines, all of them where nothing is said. There may be at most `MOST`."""
     rows = [row for row in rows_of(capture) if first_line <= row.line <= (last_line or row.line)]
     if len(rows) > MOST:
-        raise ValueError(f"these are {len(rows)} datagrams, and a page has at most {MOST}: choose lines by --from and --to")
+        said = f"these are {len(rows)} datagrams, and a page has at most {MOST}"
+        raise ValueError(f"{said}: choose lines by --from and --to")
     sent = sum(item.is_sent for item in capture.items)
     counts = f"{len(capture.items)} datagrams: {sent} sent, {len(capture.items) - sent} received"
     title = f"{counts}; place 1 has the identifier {capture.first}; proved {proved(capture)}"
