@@ -241,7 +241,7 @@ module _ (words : List (String Global)) (command : Command) (laws : AreTerms (te
       reads = λ told. absurd (omega (arith, told));
       cut = λ told. absurd (omega (arith, told));
       unreached = λ told. absurd (omega (arith, told));
-      unserved = λ told. (command, are, (leaves.serves refl, leaves.behind DoorFault refl tt));
+      unserved = λ told. (command, are, leaves.serves refl, leaves.behind DoorFault refl tt);
     }
     failed NoMemory leaves = record {
       known = inr (inr (inr (inr (inr (inr (inl refl))))));

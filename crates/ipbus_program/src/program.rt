@@ -59,6 +59,7 @@ fn answer_input<S: Source, R: Rack, D: Door, T: Threads + Wait + Sync, G: Gate>(
     ensures alone { LeavesAlone (terms_of command.now) result rack.old rack.new door.old door.new }
     ensures none_out { D.out door.new ≡ D.out door.old }
 {
+    terms_are_terms();
     match read_all(alloc, input, limit) {
         Ok(bytes) => answer_to(rt, alloc, command, &bytes, rack, door, gate),
         Err(ReadEnd::TooLong) => Ok(too_long(alloc, command)?),
@@ -90,6 +91,7 @@ fn answer_command<S: Source, R: Rack, D: Door, T: Threads + Wait + Sync, G: Gate
     ensures none_out { D.out door.new ≡ D.out door.old }
     ensures unread { (terms_of command.now).limit ≡ None → input.new ≡ input.old }
 {
+    terms_are_terms();
     match limit_of(command) {
         Some(limit) => answer_input(rt, alloc, command, limit, input, rack, door, gate),
         None => answer_to(rt, alloc, command, &[], rack, door, gate),
