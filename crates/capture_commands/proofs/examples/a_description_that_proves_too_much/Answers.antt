@@ -1,7 +1,7 @@
 use Rattle.std.proofs.Common.{refl, arith}
 use Rattle.std.specs.Fmt.{digits}
 use Rattle.capture_commands.specs.declared.refusal.TextRefusal.TheVariants.{NotDescription}
-use Rattle.capture_commands.proofs.Examples.{no_second_place}
+use Rattle.capture_commands.proofs.ReadLemmas.{no_second_place}
 use Rattle.capture_commands.proofs.examples.a_description_that_proves_too_much.Goals as goal
 
 pub returns : goal.returns

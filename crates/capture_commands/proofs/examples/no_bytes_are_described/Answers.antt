@@ -1,7 +1,7 @@
 use Rattle.std.proofs.Common.{refl, arith}
 use Rattle.std.specs.Fmt.{digits}
 use Rattle.capture_reader.specs.Examples.{one_empty}
-use Rattle.capture_commands.proofs.Examples.{empty_is}
+use Rattle.capture_commands.proofs.ReadLemmas.{empty_is}
 use Rattle.capture_commands.proofs.examples.no_bytes_are_described.Goals as goal
 
 pub returns-clause-described : goal.returns-clause-described

@@ -1,4 +1,4 @@
-use Rattle.std.proofs.Common.{inl, refl, arith, subst, ◌<◌, length}
+use Rattle.std.proofs.Common.{inl, refl, subst, ◌<◌, length}
 use Rattle.capture_commands.specs.Texts.{DeservesAsCapture}
 use Rattle.capture_commands.specs.declared.refusal.TextRefusal.TheVariants.{LongCapture}
 use Rattle.capture_commands.proofs.OneAnswer.{capture_unrefused, one_as_capture, one_line, same_limit}

@@ -1,6 +1,6 @@
 -- What the worked examples rest on.
 use Rattle.std.proofs.Common.{◌≡◌, ℕ, ◌<◌, ◌≤◌, ◌^◌, Bool, true, false, ◌&&◌, nat_lt, List, [], ◌∷◌, ◌++◌, length, codes}
-use Rattle.std.proofs.Common.{refl, sym, ap, subst, ◌∙◌, arith}
+use Rattle.std.proofs.Common.{refl, sym, ap, subst, ◌∙◌, arith, get_or}
 use Rattle.std.proofs.lemmas.Bool.Decides.{nat_tests}
 use Rattle.std.proofs.lemmas.List.{append_cancel_left, append_cancel_right}
 use Rattle.std.specs.Fmt.{digits}
@@ -89,7 +89,8 @@ datagrams_are is place =
 
 apart : proved_text 1 ≡ proved_text 2 → ⊥
 unfolding digits
-apart e = cc
+apart e =
+    let digit : 49 ≡ 50 = ap (λ (text : List ℕ). get_or text 7 0) e in omega (arith, digit)
 
 -- no capture proves the place 2 by the datagrams of a read
 pub no_second_place : IsProved one_read 1 → IsDescription one_read (read_text 1) → (capture : Capture)
