@@ -115,8 +115,8 @@ fn deliver<O: Sink>(out: &mut O, text: &[u8], status: u8) -> u8
 /// writes the transcript. `serve PORT COUNT` reads one, makes a link for each of its boards, lets so many connections
 /// in by the door, serves each in a thread of its own, gives each pair and each link back and writes a line for each
 /// connection and each board. `check TABLE` reads one and lists the registers of that table. `load COUNT` reads
-/// nothing: it runs the generated session of so many operations and writes its summary. Other words are answered by the
-/// usage line. The text of an answer is handed to the output once. The result is the status: `DONE`, `NOT_ALL_DONE`,
+/// nothing: it runs the generated session of so many operations and writes its summary. `describe` reads the text of a
+/// capture and writes its description, and `undescribe` the other way round. Other words are answered by the usage line. The text of an answer is handed to the output once. The result is the status: `DONE`, `NOT_ALL_DONE`,
 /// `USAGE`, `REFUSED`, `READ_FAULT`, `WRITE_FAULT`, `NO_MEMORY`, `RACK_FAULT` or `DOOR_FAULT`.
 pub fn control<S: Source, O: Sink, R: Rack, D: Door, T: Threads + Wait + Sync, G: Gate>(
     rt: &T,

@@ -156,3 +156,55 @@ returns-in_ok-answer_load-in-Load-clause-leaves g c =
           (done_as IsRunFailure run.Rack IsFailure RackFault _ c.args.bytes.now made makes
           (no_pairs (map shown left.0)) answer left.2),
     )
+
+pub returns-in_err-describe_answer-in-Describe-clause-leaves : goal.returns-in_err-describe_answer-in-Describe-clause-leaves
+returns-in_err-describe_answer-in-Describe-clause-leaves g c =
+    let shown = shown_by g.R.L.Link.faults g.R.L.Link.quiets g.R.L.Link.gots g.R.L.Link.held g.R.L.Link.telling in
+    let made = g.R.Rack.made c.args.rack.now in
+    without_pairs shown g.D.Incoming.Source.left g.D.Incoming.Source.faults
+    g.D.Outgoing.Sink.written g.D.Outgoing.Sink.faults g.D.Outgoing.Sink.ended
+    _ _ _ _ _ _ refl refl
+    (Leaves IsFailure RackFault (terms_of c.args.command.now) c.args.bytes.now made made _)
+    (failure_left IsFailure RackFault shown _ (terms_of c.args.command.now) c.args.bytes.now _ _ NoMemory
+    c.from_residual-in_err-describe_answer-in-Describe.ensures.0 c.from_residual-in_err-describe_answer-in-Describe.ensures.1
+    (λ failed. failed))
+
+pub returns-in_ok-describe_answer-in-Describe-clause-leaves : goal.returns-in_ok-describe_answer-in-Describe-clause-leaves
+returns-in_ok-describe_answer-in-Describe-clause-leaves g c =
+    let shown = shown_by g.R.L.Link.faults g.R.L.Link.quiets g.R.L.Link.gots g.R.L.Link.held g.R.L.Link.telling in
+    let made = g.R.Rack.made c.args.rack.now in
+    let answer = c.in_ok-describe_answer-in-Describe.field-0 in
+    without_pairs shown g.D.Incoming.Source.left g.D.Incoming.Source.faults
+    g.D.Outgoing.Sink.written g.D.Outgoing.Sink.faults g.D.Outgoing.Sink.ended
+    _ _ _ _ _ _ refl refl
+    (Leaves IsFailure RackFault (terms_of c.args.command.now) c.args.bytes.now made made _)
+    (nothing_left IsFailure RackFault shown _ (terms_of c.args.command.now) c.args.bytes.now _ _
+    (subst (λ command. Owes (terms_of command) c.args.bytes.now (no_pairs []) answer.status answer.text.items)
+    (sym c.in-Describe.is) c.in_ok-describe_answer-in-Describe.ensures.owed)
+    (λ fault never. absurd cc))
+
+pub returns-in_err-undescribe_answer-in-Undescribe-clause-leaves : goal.returns-in_err-undescribe_answer-in-Undescribe-clause-leaves
+returns-in_err-undescribe_answer-in-Undescribe-clause-leaves g c =
+    let shown = shown_by g.R.L.Link.faults g.R.L.Link.quiets g.R.L.Link.gots g.R.L.Link.held g.R.L.Link.telling in
+    let made = g.R.Rack.made c.args.rack.now in
+    without_pairs shown g.D.Incoming.Source.left g.D.Incoming.Source.faults
+    g.D.Outgoing.Sink.written g.D.Outgoing.Sink.faults g.D.Outgoing.Sink.ended
+    _ _ _ _ _ _ refl refl
+    (Leaves IsFailure RackFault (terms_of c.args.command.now) c.args.bytes.now made made _)
+    (failure_left IsFailure RackFault shown _ (terms_of c.args.command.now) c.args.bytes.now _ _ NoMemory
+    c.from_residual-in_err-undescribe_answer-in-Undescribe.ensures.0 c.from_residual-in_err-undescribe_answer-in-Undescribe.ensures.1
+    (λ failed. failed))
+
+pub returns-in_ok-undescribe_answer-in-Undescribe-clause-leaves : goal.returns-in_ok-undescribe_answer-in-Undescribe-clause-leaves
+returns-in_ok-undescribe_answer-in-Undescribe-clause-leaves g c =
+    let shown = shown_by g.R.L.Link.faults g.R.L.Link.quiets g.R.L.Link.gots g.R.L.Link.held g.R.L.Link.telling in
+    let made = g.R.Rack.made c.args.rack.now in
+    let answer = c.in_ok-undescribe_answer-in-Undescribe.field-0 in
+    without_pairs shown g.D.Incoming.Source.left g.D.Incoming.Source.faults
+    g.D.Outgoing.Sink.written g.D.Outgoing.Sink.faults g.D.Outgoing.Sink.ended
+    _ _ _ _ _ _ refl refl
+    (Leaves IsFailure RackFault (terms_of c.args.command.now) c.args.bytes.now made made _)
+    (nothing_left IsFailure RackFault shown _ (terms_of c.args.command.now) c.args.bytes.now _ _
+    (subst (λ command. Owes (terms_of command) c.args.bytes.now (no_pairs []) answer.status answer.text.items)
+    (sym c.in-Undescribe.is) c.in_ok-undescribe_answer-in-Undescribe.ensures.owed)
+    (λ fault never. absurd cc))
