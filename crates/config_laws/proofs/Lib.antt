@@ -23,3 +23,6 @@ mod AppliedLines
 mod AppliedValues
 mod AppliedScript
 mod Whole
+mod TextWords
+mod TextNodes
+mod TextRead

@@ -7,6 +7,7 @@
 
 pub mod applying;
 pub mod permitted;
+pub mod reading_back;
 pub mod reads;
 pub mod saving;
 pub mod sessions;
