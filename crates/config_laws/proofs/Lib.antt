@@ -26,3 +26,5 @@ mod Whole
 mod TextWords
 mod TextNodes
 mod TextRead
+mod TextNames
+mod TextApart

@@ -221,7 +221,7 @@ none_there : (entries : List StateEntry) → AllByRecursion (λ (e : StateEntry)
 none_there [] = tt
 none_there (e ∷ entries) = (refl, none_there entries)
 
-abbrev BoardsApart : List BoardSpec → Type 0
+abbrev pub BoardsApart : List BoardSpec → Type 0
 BoardsApart [] = Unit {0}
 BoardsApart (s ∷ specs) = AllByRecursion (λ (o : BoardSpec). s.name ≢ o.name) specs × BoardsApart specs
 
@@ -385,7 +385,7 @@ own_each s specs own (o ∷ some) among =
       own_each s specs own some (λ k x there. among (suc k) x there),
     )
 
-boards_apart : (specs : List BoardSpec) → HaveOwnNames specs → BoardsApart specs
+pub boards_apart : (specs : List BoardSpec) → HaveOwnNames specs → BoardsApart specs
 boards_apart [] own = tt
 boards_apart (s ∷ specs) own = (
   own_each s specs own specs (λ k o at. (k, at)),

@@ -37,7 +37,7 @@ word_digit c is = grind (arith, nat_tests)
 no_underscore : (c : ℕ) → is_digit c 16 ≡ true → not (c == 95) ≡ true
 no_underscore c is = grind (arith, nat_tests)
 
-pass_each : (p q : ℕ → Bool) → ((c : ℕ) → p c ≡ true → q c ≡ true) → (text : List ℕ) → list_all p text ≡ true
+pub pass_each : (p q : ℕ → Bool) → ((c : ℕ) → p c ≡ true → q c ≡ true) → (text : List ℕ) → list_all p text ≡ true
     → list_all q text ≡ true
 pass_each p q leads [] all = refl
 pass_each p q leads (c ∷ text) all =
