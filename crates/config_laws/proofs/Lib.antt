@@ -28,3 +28,4 @@ mod TextNodes
 mod TextRead
 mod TextNames
 mod TextApart
+mod SavedWords

@@ -1,11 +1,9 @@
 -- The kept registers of a session's boards have names of their own, so that a text of their values is read back.
-use Rattle.std.proofs.Common.{◌≡◌, ◌≢◌, ℕ, zero, suc, ◌+◌, ◌<◌, ◌≤◌, ◌^◌, ◌/◌, Bool, true, false, List, [], ◌∷◌, ◌++◌, length, map}
-use Rattle.std.proofs.Common.{Some, Less, Equal, T, inl, inr, refl, sym, ap, ◌∙◌, subst, arith, bit_and}
+use Rattle.std.proofs.Common.{◌≡◌, ◌≢◌, ℕ, zero, suc, ◌+◌, ◌<◌, Bool, List, [], ◌∷◌, ◌++◌, map}
+use Rattle.std.proofs.Common.{Some, Less, Equal, T, inl, inr, refl, sym, ap, ◌∙◌, subst, arith}
 use Rattle.std.specs.FinMap.{entries, entries_sorted, is_sorted}
-use Rattle.std.specs.List.{AllByRecursion, AllZip, filter, flat_map, slice_get}
+use Rattle.std.specs.List.{AllByRecursion, AllZip, filter, slice_get}
 use Rattle.std.proofs.lemmas.Bool.{cases_Bool}
-use Rattle.std.proofs.lemmas.Nat.{and_le_l}
-use Rattle.std.proofs.lemmas.Option.{same_Some}
 use Rattle.ipb_base.proofs.AllLemmas.{AllByRecursion-append}
 use Rattle.toml.specs.Data.{Members}
 use Rattle.board_node.specs.declared.spec.BoardSpec.{BoardSpec}
@@ -18,9 +16,8 @@ use Rattle.script_lang.specs.Document.{IsSession}
 use Rattle.script_lang.specs.Limits.{IsWithin}
 use Rattle.script_lang.specs.OwnNames.{HaveOwnNames}
 use Rattle.script_lang.specs.declared.session.Session.{Session}
-use Rattle.board_history.proofs.Lists.{all_at}
 use Rattle.config_store.specs.declared.state.StateEntry.{StateEntry}
-use Rattle.config_store.specs.Kept.{IndexedBoard, KeptRegister, indexed, is_kept, kept, kept_of, kept_on, kept_register}
+use Rattle.config_store.specs.Kept.{KeptRegister, indexed, is_kept, kept, kept_of, kept_register}
 use Rattle.config_store.specs.Meanings.{HasWord}
 use Rattle.config_store.proofs.InOrder.{same_name}
 use Rattle.config_store.proofs.KeptLines.{IsKeptOf, kept_of_has}

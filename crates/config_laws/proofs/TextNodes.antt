@@ -1,20 +1,18 @@
 -- The tables that the lines of a text of values define, and the values in them.
 use Rattle.std.proofs.Common.{◌≡◌, ◌≢◌, ℕ, zero, suc, ◌+◌, ◌<◌, ◌^◌, Bool, true, false, cond, pos, List, [], ◌∷◌, ◌++◌, length}
-use Rattle.std.proofs.Common.{map, codes, Option, Some, None, option_and_then, Less, Equal, Greater, Ordering, nat_cmp, nat_lt}
-use Rattle.std.proofs.Common.{inl, inr, refl, sym, ap, ◌∙◌, subst, arith, get_or}
+use Rattle.std.proofs.Common.{map, codes, Some, None, option_and_then, Less, Equal, Greater, Ordering, nat_cmp, nat_lt}
+use Rattle.std.proofs.Common.{inl, inr, refl, sym, ap, ◌∙◌, subst, arith}
 use Rattle.std.specs.Cmp.Lexicographic.{slice_cmp}
 use Rattle.std.specs.List.{AllByRecursion, Contains, filter, flat_map, slice_get}
 use Rattle.std.specs.Ordering.{is_eq, match_ordering}
-use Rattle.std.specs.Option.{option_map, option_to_list}
-use Rattle.std.specs.Str.{bytes_eq}
 use Rattle.std.proofs.lemmas.Bool.{cases_Bool}
 use Rattle.std.proofs.lemmas.Bool.Decides.{nat_tests}
 use Rattle.std.proofs.lemmas.Option.{get_or_from_slice_get, same_Some, slice_get_within}
 use Rattle.std.proofs.lemmas.Slice.Eq.{bytes_eq-Decides}
 use Rattle.world_model.proofs.Lists.{get_front}
-use Rattle.toml.specs.Data.{Data, integer, table, Members, member, same_key}
-use Rattle.toml.specs.Tables.{Definition, Expression, Node, Nodes, along_dots, along_header, at_key, close, close_node}
-use Rattle.toml.specs.Tables.{define, get_node, header, implicit, insert, key_value, new_node, no_nodes, node, open_table}
+use Rattle.toml.specs.Data.{integer, same_key}
+use Rattle.toml.specs.Tables.{Expression, Node, Nodes, along_dots, along_header, at_key, close, close_node}
+use Rattle.toml.specs.Tables.{define, get_node, header, implicit, insert, key_value, no_nodes, node, open_table}
 use Rattle.toml.specs.Tables.{replace, std_table, value}
 use Rattle.toml.proofs.NodeLaws.{get_node-insert, get_node-replace}
 use Rattle.toml.proofs.ReadLines.{run}

@@ -1,13 +1,13 @@
 -- A text of values is read as the tables that its lines define.
-use Rattle.std.proofs.Common.{◌≡◌, ℕ, suc, ◌+◌, ◌-◌, ◌<◌, ◌==◌, true, false, List, [], ◌∷◌, ◌++◌, length, map, Option, Some, None}
-use Rattle.std.proofs.Common.{option_and_then, refl, sym, ap, ◌∙◌, subst, arith, append_assoc, append-nil}
-use Rattle.std.specs.List.{AllByRecursion, Contains, filter, flat_map}
+use Rattle.std.proofs.Common.{◌≡◌, ℕ, suc, ◌-◌, ◌<◌, ◌==◌, true, false, List, [], ◌∷◌, ◌++◌, length, map, Option, Some, None}
+use Rattle.std.proofs.Common.{option_and_then, refl, sym, ap, ◌∙◌, subst, arith, append_assoc}
+use Rattle.std.specs.List.{AllByRecursion, filter, flat_map}
 use Rattle.std.proofs.lemmas.Bool.{cases_Bool}
 use Rattle.std.proofs.lemmas.Bool.Decides.{nat_tests}
 use Rattle.std.proofs.Common.{inl, inr}
 use Rattle.toml_parser.specs.Lexical.{first, skip_blank}
 use Rattle.toml_parser.proofs.LexicalLemmas.{skip_from-nil}
-use Rattle.toml.specs.Data.{Data, Members, member, no_members, table}
+use Rattle.toml.specs.Data.{Data, member, no_members, table}
 use Rattle.toml.specs.Parse.{line, lines, parse_document, skip_bom}
 use Rattle.toml.specs.Tables.{Document, Expression, close, define, no_nodes}
 use Rattle.toml.proofs.Blanks.{skip_newline, skip_within}

@@ -1,5 +1,5 @@
 -- The words of a text of values, as TOML reads them: headers, names in quotes and hexadecimal numbers.
-use Rattle.std.proofs.Common.{◌≡◌, ℕ, zero, suc, ◌+◌, ◌-◌, ◌<◌, ◌≤◌, ◌^◌, Bool, true, false, not, ◌&&◌, ◌||◌, ◌==◌, pos, List, [], ◌∷◌}
+use Rattle.std.proofs.Common.{◌≡◌, ℕ, zero, suc, ◌-◌, ◌<◌, ◌^◌, Bool, true, false, not, ◌==◌, pos, List, [], ◌∷◌}
 use Rattle.std.proofs.Common.{◌++◌, length, replicate, codes, Some, None, refl, ap, ◌∙◌, arith, append_assoc}
 use Rattle.std.proofs.Common.{length-append}
 use Rattle.std.specs.Char.{is_digit}
@@ -9,14 +9,14 @@ use Rattle.std.specs.Str.Parse.{AllDigits, digits_value}
 use Rattle.std.proofs.lemmas.Bool.{and_from, and_parts}
 use Rattle.std.proofs.lemmas.Bool.Decides.{nat_tests}
 use Rattle.std.proofs.lemmas.Fmt.{digits_is_IsNumeral}
-use Rattle.toml_parser.specs.Lexical.{first, is_word, is_ws, skip_blank, skip_ws}
-use Rattle.toml_parser.specs.Numbers.{number, plain_number, prefixed_integer, unquoted, word_value}
-use Rattle.toml_parser.specs.Strings.{body, is_plain, key_after, one_line, simple_key, special, starts_string}
+use Rattle.toml_parser.specs.Lexical.{first, is_word, is_ws, skip_ws}
+use Rattle.toml_parser.specs.Numbers.{number, plain_number, prefixed_integer, word_value}
+use Rattle.toml_parser.specs.Strings.{body, key_after, one_line, simple_key, special}
 use Rattle.toml_parser.specs.declared.scalar.Scalar.TheVariants.{Integer}
 use Rattle.toml_parser.proofs.LexicalLemmas.{skip_ws_none, skip_ws_space}
 use Rattle.toml_parser.proofs.NumbersLemmas.{filter_none, underscores_fit_none}
 use Rattle.toml_parser.proofs.StringsLemmas.{body_plain, body_special, key_after_turn}
-use Rattle.toml_writer.specs.Text.{dotted_text, key_text, path_text}
+use Rattle.toml_writer.specs.Text.{key_text}
 use Rattle.toml_writer.proofs.Scalars.{EndsWord, unquoted-word}
 use Rattle.toml.specs.Data.{integer}
 use Rattle.toml.specs.Parse.{atom, ends_line, expression, key_equals, line, read_map, scalar_data, val}
@@ -24,7 +24,7 @@ use Rattle.toml.specs.Tables.{key_value, std_table}
 use Rattle.toml.proofs.Blanks.{skip_start}
 use Rattle.toml.proofs.ReadLines.{Turn, line_turn}
 use Rattle.toml.proofs.Turns.{keyval_ok, val_atom}
-use Rattle.transcript.specs.Text.{hex_text, word_text}
+use Rattle.transcript.specs.Text.{hex_text}
 use Rattle.node_tree.specs.Maps.{Name}
 use Rattle.config_store.specs.Text.{heading, value_text}
 use Rattle.config_laws.specs.ReadBack.{IsBareKey, is_quotable}
