@@ -29,3 +29,4 @@ mod TextRead
 mod TextNames
 mod TextApart
 mod SavedWords
+mod OneValue

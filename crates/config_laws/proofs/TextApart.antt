@@ -23,7 +23,7 @@ use Rattle.config_store.proofs.InOrder.{same_name}
 use Rattle.config_store.proofs.KeptLines.{IsKeptOf, kept_of_has}
 use Rattle.config_store.proofs.NameSearch.{Registers}
 use Rattle.config_laws.specs.Applied.{AreFor, IsFor}
-use Rattle.config_laws.specs.ReadBack.{AreApart, CanBeReadBack, CanBeSpelled, IsApartFrom, IsOnBoard}
+use Rattle.config_laws.specs.ReadBack.{AreApart, CanBeReadBack, CanBeSpelled, IsApartFrom, IsOfSomeBoard}
 use Rattle.config_laws.proofs.SavedLines.{first_of}
 use Rattle.config_laws.proofs.SessionBoards.{valid_tables, zip_at}
 use Rattle.config_laws.proofs.TextNames.{IsQuotable, boards_bare, register_quotable}
@@ -171,7 +171,7 @@ module _ (specs : List BoardSpec) (indexes : List RegisterMap)
   entries_spelled : (rs : List KeptRegister) (es : List StateEntry)
       → ((k : ℕ) (r : KeptRegister) → slice_get rs k ≡ Some r → IsKeptOf (indexed specs indexes) r) → AreFor rs es
       → AllByRecursion HasWord es
-      → AllByRecursion CanBeSpelled es × AllByRecursion (IsOnBoard specs) es
+      → AllByRecursion CanBeSpelled es × AllByRecursion (IsOfSomeBoard specs) es
   entries_spelled [] [] each are words = (tt, tt)
   entries_spelled [] (o ∷ es) each are words = absurd are
   entries_spelled (r ∷ rs) [] each are words = absurd are

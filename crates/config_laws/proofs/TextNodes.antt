@@ -23,7 +23,7 @@ use Rattle.script_lang.specs.OwnNames.{HaveOwnNames}
 use Rattle.board_history.proofs.Lists.{all_at, get_back}
 use Rattle.config_store.specs.declared.state.StateEntry.{StateEntry}
 use Rattle.config_store.specs.States.{board_entries, boards_entries, entry_of, number_entries, table_entries}
-use Rattle.config_laws.specs.ReadBack.{AreApart, CanBeSpelled, IsApartFrom, IsOnBoard}
+use Rattle.config_laws.specs.ReadBack.{AreApart, CanBeSpelled, IsApartFrom, IsOfSomeBoard}
 use Rattle.config_laws.specs.Saved.{is_on}
 use Rattle.config_laws.proofs.AppliedValues.{contains}
 use Rattle.config_laws.proofs.Whole.{at_place}
@@ -348,7 +348,7 @@ filter_at P board (x ∷ entries) all k e at on =
 each_found : (specs : List BoardSpec) (entries : List StateEntry) (nodes : Nodes)
     → AllByRecursion (HasValues entries nodes) specs → (some : List StateEntry)
     → ((k : ℕ) (e : StateEntry) → slice_get some k ≡ Some e → (j : ℕ) × (slice_get entries j ≡ Some e))
-    → AllByRecursion CanBeSpelled some → AllByRecursion (IsOnBoard specs) some
+    → AllByRecursion CanBeSpelled some → AllByRecursion (IsOfSomeBoard specs) some
     → AllByRecursion (λ (e : StateEntry). Contains (boards_entries (close nodes)) e) some
 each_found specs entries nodes has [] among spelled on = tt
 each_found specs entries nodes has (e ∷ some) among spelled on =
@@ -395,7 +395,7 @@ no_boards [] = tt
 no_boards (s ∷ specs) = (refl, no_boards specs)
 
 pub all_defined : (specs : List BoardSpec) (entries : List StateEntry) → 0 < length specs → HaveOwnNames specs
-    → AreApart entries → AllByRecursion CanBeSpelled entries → AllByRecursion (IsOnBoard specs) entries
+    → AreApart entries → AllByRecursion CanBeSpelled entries → AllByRecursion (IsOfSomeBoard specs) entries
     → IsDefined specs entries
 all_defined [] entries some own apart spelled on = absurd (omega (arith, some))
 all_defined (s ∷ specs) entries some own apart spelled on =

@@ -32,7 +32,7 @@ AreApart [] = Unit {0}
 AreApart (entry ∷ entries) = AllByRecursion (IsApartFrom entry) entries × AreApart entries
 
 -- the value is of one of these boards
-pub record IsOnBoard (specs : List BoardSpec) (entry : StateEntry) : Type 0 where
+pub record IsOfSomeBoard (specs : List BoardSpec) (entry : StateEntry) : Type 0 where
   pub place : ℕ
   pub spec : BoardSpec
   pub there : slice_get specs place ≡ Some spec
@@ -45,4 +45,4 @@ pub record CanBeReadBack (specs : List BoardSpec) (entries : List StateEntry) : 
   pub boards : AllByRecursion (λ (spec : BoardSpec). IsBareKey spec.name) specs
   pub spelled : AllByRecursion CanBeSpelled entries
   pub apart : AreApart entries
-  pub on : AllByRecursion (IsOnBoard specs) entries
+  pub on : AllByRecursion (IsOfSomeBoard specs) entries

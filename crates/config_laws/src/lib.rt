@@ -6,6 +6,7 @@
 #![tactic(auto)]
 
 pub mod applying;
+pub mod examples;
 pub mod permitted;
 pub mod reading_back;
 pub mod reads;
