@@ -1,0 +1,5 @@
+pub mod Words
+pub mod Values
+pub mod Executable
+pub mod Asked
+pub mod OneAnswer
