@@ -9,7 +9,7 @@ use ipb_base::{NoMemory, Text, number_in_text};
 use std::alloc::Global;
 
 /// The line for words that are no command.
-pub const USAGE_LINE: &str = "usage: ipbus run | check TABLE | serve PORT COUNT | load COUNT\n";
+pub const USAGE_LINE: &str = "usage: ipbus run | check TABLE | serve PORT COUNT | load COUNT | describe | undescribe\n";
 
 /// What the words of a command line ask for (profile).
 #[derive(Drop)]
@@ -23,6 +23,10 @@ pub enum Command {
     Serve { port: u16, count: u32 },
     /// `load COUNT`: a generated session of so many operations is run, 1 to 100,000 of them.
     Load { count: u32 },
+    /// `describe`: the description of a capture is written.
+    Describe,
+    /// `undescribe`: the text of the capture that has a description is written.
+    Undescribe,
 }
 
 /// The command that words are, if they are one. A word that begins with a hyphen is in none: there are no options, and
@@ -57,6 +61,8 @@ fn alone(name: &str) -> Option<Command>
 {
     match name {
         "run" => Some(Command::Run),
+        "describe" => Some(Command::Describe),
+        "undescribe" => Some(Command::Undescribe),
         _ => None,
     }
 }
