@@ -1,33 +1,26 @@
 -- An input that tells its bytes is answered as they deserve.
 use Rattle.std.proofs.Common.{◌≡◌, ℕ, ◌+◌, ◌<◌, ◌≤◌, ◌⊎◌, inl, inr, ⊎_elim, List, ◌++◌, length, Option, Some, None, sym}
-use Rattle.std.proofs.Common.{Result, Err}
-use Rattle.std.proofs.Common.{ap, subst, ◌∙◌}
+use Rattle.std.proofs.Common.{Bool, true, false, Result, Err}
+use Rattle.std.proofs.Common.{refl, ap, subst, ◌∙◌}
 use Rattle.std.proofs.Common.{arith, length-append, append-nil, String, Global}
 use Rattle.std.specs.Io.KnownBytes.{prepend_known, append_known, IsAtEnd}
 use Rattle.std.proofs.lemmas.Option.{none-some, same_Some}
 use Rattle.ipb_base.specs.Faults.{Rose}
 use Rattle.ipb_outside.specs.Told.{TakesCount}
 use Rattle.lane_history.specs.Links.{LinkReport}
-use Rattle.session_input.specs.declared.refusal.Refusal.{Refusal}
-use Rattle.session_input.specs.declared.refusal.Refusal.TheVariants.{TooLong}
-use Rattle.session_input.specs.Deserved.{Deserves}
-use Rattle.session_input.specs.Lines.{refusal_line}
-use Rattle.session_input.specs.Numbers.{document_bytes}
 use Rattle.command_words.specs.declared.command.Command.{Command}
-use Rattle.command_words.specs.declared.command.Command.TheVariants.{Run, Check, Serve, Load}
-use Rattle.ipbus_program.specs.Below.{InputLaws}
-use Rattle.ipbus_program.specs.declared.answer.Answer.{Answer}
-use Rattle.ipbus_program.specs.declared.answer.NoAnswer.{NoAnswer}
-use Rattle.ipbus_program.specs.declared.answer.NoAnswer.TheVariants.{DoorFault, RackFault}
-use Rattle.ipbus_program.specs.Numbers.{refused_status}
+use Rattle.command_terms.specs.Faults.{RisesOnlyAt}
+use Rattle.command_terms.specs.Numbers.{refused_status}
+use Rattle.command_terms.specs.Outside.{GivenBack}
+use Rattle.command_terms.specs.Terms.{AreTerms, Reads, Terms, most_bytes}
+use Rattle.ipbus_program.specs.declared.no_answer.NoAnswer.{NoAnswer}
+use Rattle.ipbus_program.specs.declared.no_answer.NoAnswer.TheVariants.{DoorFault, RackFault, ReadFault}
+use Rattle.ipbus_program.specs.Ended.{IsCalm, IsWhole}
 use Rattle.ipbus_program.specs.Outputs.{Delivers}
-use Rattle.ipbus_program.specs.Ended.{IsCalm, IsRight, IsWhole}
-use Rattle.ipbus_program.specs.Faults.{RisesOnlyAt}
-use Rattle.ipbus_program.specs.Outside.{GivenBack}
-use Rattle.ipbus_program.specs.Owed.{AreCommand, IsDone, IsRefused, AnswersInput, UsedFrom, UsesBoards, Wrote}
-use Rattle.ipbus_program.specs.Runs.{IsDoneOf, Reads, breaks_in, most_bytes}
+use Rattle.ipbus_program.specs.Owed.{AreCommand, AnswersInput, HasInput, IsDone, IsReadBy, IsRefused, UsedFrom, Wrote}
 use Rattle.ipbus_program.specs.Steps.{InputLeaves}
-use Rattle.ipbus_program.proofs.Causes.{done_small, most_of, small_is, to_end}
+use Rattle.command_terms.specs.declared.answer.Answer.{Answer}
+use Rattle.ipbus_program.proofs.Causes.{done_small, most_is, small_is}
 
 -- words are one command
 pub one_command : (words : List (String Global)) (c d : Command) → AreCommand words c → AreCommand words d → c ≡ d
@@ -51,178 +44,143 @@ told_read before (Some rest) bytes read told all at_end =
     sym (append-nil read) ∙ ap (λ more. read ++ more) (sym at_end) ∙ same_Some (read ++ rest) bytes (sym all ∙ told)
 
 -- an answer that is no refusal was written whole, where the output met no fault
-whole : (command : Command) (before now : Option (List ℕ)) (given : GivenBack) (status : ℕ) (text handed : List ℕ)
-    (old new : Option (List ℕ)) (met meets result : ℕ) → (IsRefused command before now text → ⊥)
-    → AnswersInput command before now given status text → Delivers status handed old new met meets result
+whole : (terms : Terms) → AreTerms terms → (before now : Option (List ℕ)) (given : GivenBack) (status : ℕ) (text handed : List ℕ)
+    (old new : Option (List ℕ)) (met meets result : ℕ) → (IsRefused terms before now text → ⊥)
+    → AnswersInput terms before now given status text → Delivers status handed old new met meets result
     → ¬ Rose met meets → IsWhole result
-whole command before now given status text handed old new met meets result unrefused answers (inr (is, (rose, part)))
+whole terms laws before now given status text handed old new met meets result unrefused answers (inr (is, (rose, part)))
     calm = absurd (calm rose)
-whole command before now given status text handed old new met meets result unrefused (inl done) (inl (is, wrote)) calm =
-    let small = done_small command done.bytes given status text done.done in
+whole terms laws before now given status text handed old new met meets result unrefused (inl done) (inl (is, wrote)) calm =
+    let small = done_small terms laws done.bytes given status text done.done in
     inl (⊎_elim (λ zero. inl (is ∙ zero)) (λ one. inr (is ∙ one)) (small_is status small))
-whole command before now given status text handed old new met meets result unrefused (inr (refused, why))
+whole terms laws before now given status text handed old new met meets result unrefused (inr (refused, why))
     (inl (is, wrote)) calm = absurd (unrefused why)
 
-pub no_load_reads : (count : ℕ) (command : Command) → command ≡ Load count → Reads command → ⊥
-no_load_reads count Run is reads = absurd cc
-no_load_reads count (Check table) is reads = absurd cc
-no_load_reads count (Serve port more) is reads = absurd cc
-no_load_reads count (Load more) is reads = absurd cc
+-- ---- what is refused
 
-module _ (laws : InputLaws) where
-  pub one_refusal : (command : Command) → Reads command → (bytes : List ℕ) (r q : Refusal)
-      → Deserves (breaks_in command) bytes r
-      → Deserves (breaks_in command) bytes q → r ≡ q
-  one_refusal Run reads bytes r q one other = laws.one_run_refusal bytes r q one other
-  one_refusal (Check table) reads bytes r q one other = laws.one_list_refusal bytes table r q one other
-  one_refusal (Serve port count) reads bytes r q one other = laws.one_serve_refusal bytes r q one other
-  one_refusal (Load count) reads bytes r q one other = absurd cc
+module _ (terms : Terms) (laws : AreTerms terms) where
+  -- a command that refuses reads its input
+  refuses_reads : (limit : Option ℕ) → terms.limit ≡ limit → (bytes line : List ℕ) → terms.Refuses bytes line
+      → Reads terms
+  refuses_reads None is bytes line refused = absurd (laws.unrefused is bytes line refused)
+  refuses_reads (Some limit) is bytes line refused = (limit, is)
 
-  pub done_apart : (command : Command) → Reads command
-      → (bytes : List ℕ) (given : GivenBack) (status : ℕ) (text : List ℕ) (r : Refusal)
-      → IsDoneOf command bytes given status text → Deserves (breaks_in command) bytes r → ⊥
-  done_apart Run reads bytes given status text r done deserved =
-      laws.run_apart bytes done.session done.steps r done.runnable deserved
-  done_apart (Check table) reads bytes given status text r done deserved = laws.list_apart bytes table done.registers r
-      done.listed deserved
-  done_apart (Serve port count) reads bytes given status text r done deserved =
-      laws.serve_apart bytes done.session r done.servable deserved
-  done_apart (Load count) reads bytes given status text r done deserved = absurd cc
+  pub reads_of : (bytes line : List ℕ) → terms.Refuses bytes line → Reads terms
+  reads_of bytes line refused = refuses_reads terms.limit refl bytes line refused
 
-  -- a right input deserves no refusal
-  right_unrefused : (command : Command) (bytes : List ℕ) → IsRight command bytes → (r : Refusal) → Reads command
-      → Deserves (breaks_in command) bytes r → ⊥
-  right_unrefused Run bytes right r reads deserved = laws.run_apart bytes right.0 right.1 r right.2 deserved
-  right_unrefused (Check table) bytes right r reads deserved = laws.list_apart bytes table right.0 r right.1 deserved
-  right_unrefused (Serve port count) bytes right r reads deserved =
-      laws.serve_apart bytes right.0 r right.1 deserved
-  right_unrefused (Load count) bytes right r reads deserved = absurd cc
-
-  -- a session whose boards were used deserves no refusal
-  used_apart : (command : Command) → Reads command → (bytes : List ℕ) (links : List LinkReport) (r : Refusal)
-      → UsesBoards command bytes links → Deserves (breaks_in command) bytes r → ⊥
-  used_apart Run reads bytes links r uses deserved = laws.run_apart bytes uses.session uses.steps r uses.runnable
-      deserved
-  used_apart (Check table) reads bytes links r uses deserved = uses
-  used_apart (Serve port count) reads bytes links r uses deserved =
-      laws.serve_apart bytes uses.session r uses.servable deserved
-  used_apart (Load count) reads bytes links r uses deserved = absurd cc
-
-  -- what is refused of bytes that were read is what all bytes deserve
-  module _ (command : Command) (before now : Option (List ℕ)) (bytes : List ℕ) (told : before ≡ Some bytes) where
-    by_stop : (text : List ℕ) (refused : IsRefused command before now text)
-        → IsAtEnd now ⊎ (length refused.bytes ≡ most_bytes command)
-        → (Deserves (breaks_in command) bytes refused.refused.refusal)
+  module _ (limit : ℕ) (is : terms.limit ≡ Some limit) (before now : Option (List ℕ)) (bytes : List ℕ)
+      (told : before ≡ Some bytes) where
+    -- what is refused of bytes that were read is what all bytes deserve
+    by_stop : (text : List ℕ) (refused : IsRefused terms before now text)
+        → IsAtEnd now ⊎ (length refused.bytes ≡ most_bytes terms) → terms.Refuses bytes text
     by_stop text refused (inl at_end) =
-        subst (λ bs. Deserves (breaks_in command) bs refused.refused.refusal)
-        (told_read before now bytes refused.bytes told refused.read.taken at_end) refused.refused.deserved
+        subst (λ bs. terms.Refuses bs text) (told_read before now bytes refused.bytes told refused.read.taken at_end)
+        refused.refused
     by_stop text refused (inr count) =
         let fewer = told_taken before now bytes refused.bytes told refused.read.taken in
-        let most = most_of command refused.refused.reads in
-        let long : document_bytes < length refused.bytes = omega (arith, count, most) in
-        let longer : document_bytes < length bytes = omega (arith, long, fewer) in
-        let same : refused.refused.refusal ≡ TooLong =
-        one_refusal command refused.refused.reads refused.bytes refused.refused.refusal TooLong refused.refused.deserved
-        (inl long) in
-        subst (λ r. Deserves (breaks_in command) bytes r) (sym same) (inl longer)
+        let most = most_is terms limit is in
+        let long : limit < length refused.bytes = omega (arith, count, most) in
+        let longer : limit < length bytes = omega (arith, long, fewer) in
+        let same : text ≡ terms.long_line =
+        laws.one_line refused.bytes text terms.long_line refused.refused (laws.long limit refused.bytes is long) in
+        subst (terms.Refuses bytes) (sym same) (laws.long limit bytes is longer)
 
-    refused_deserves : (text : List ℕ) (refused : IsRefused command before now text)
-        → Deserves (breaks_in command) bytes refused.refused.refusal
+    refused_deserves : (text : List ℕ) → IsRefused terms before now text → terms.Refuses bytes text
     refused_deserves text refused = by_stop text refused refused.read.stopped
 
-    done_told : Reads command → (given : GivenBack) (status : ℕ) (text : List ℕ)
-        → IsDone command before now given status text
-        → IsDoneOf command bytes given status text
-    done_told reads given status text done =
-        let read = to_end command reads before now done.bytes done.read in
-        subst (λ bs. IsDoneOf command bs given status text)
-        (told_read before now bytes done.bytes told read.all read.at_end) done.done
+    -- what was read to its end are all bytes
+    pub all_read : (read : List ℕ) → IsReadBy terms.limit before now read → read ≡ bytes
+    all_read read to_end =
+        let all = subst (λ l. IsReadBy l before now read) is to_end in
+        told_read before now bytes read told all.all all.at_end
+
+    done_told : (given : GivenBack) (status : ℕ) (text : List ℕ) → IsDone terms before now given status text
+        → terms.Done bytes given status text
+    done_told given status text done =
+        subst (λ bs. terms.Done bs given status text) (all_read done.bytes done.read) done.done
 
     -- of an input that is longer than that as much was taken as is read at most
-    taken_by : (text : List ℕ) → most_bytes command ≤ length bytes → (why : IsRefused command before now text)
-        → IsAtEnd now ⊎ (length why.bytes ≡ most_bytes command) → TakesCount (most_bytes command) before now
+    taken_by : (text : List ℕ) → most_bytes terms ≤ length bytes → (why : IsRefused terms before now text)
+        → IsAtEnd now ⊎ (length why.bytes ≡ most_bytes terms) → TakesCount (most_bytes terms) before now
     taken_by text long why (inr count) = (why.bytes, count, why.read.taken)
     taken_by text long why (inl at_end) =
         let all = told_read before now bytes why.bytes told why.read.taken at_end in
         let most = why.read.no_more in
-        let longer : most_bytes command ≤ length why.bytes =
-        subst (λ bs. most_bytes command ≤ length bs) (sym all) long in
+        let longer : most_bytes terms ≤ length why.bytes =
+        subst (λ bs. most_bytes terms ≤ length bs) (sym all) long in
         (why.bytes, omega (arith, most, longer), why.read.taken)
 
-    pub taken_of_long : (given : GivenBack) (status : ℕ) (text : List ℕ) → most_bytes command ≤ length bytes
-        → status ≡ refused_status → AnswersInput command before now given status text
-        → TakesCount (most_bytes command) before now
-    taken_of_long given status text long is (inl done) =
-        let small = done_small command done.bytes given status text done.done in absurd (omega (arith, is, small))
-    taken_of_long given status text long is (inr (refused, why)) = taken_by text long why why.read.stopped
+    pub taken_of_long : (given : GivenBack) (status : ℕ) (text : List ℕ) → most_bytes terms ≤ length bytes
+        → status ≡ refused_status → AnswersInput terms before now given status text
+        → TakesCount (most_bytes terms) before now
+    taken_of_long given status text long refused (inl done) =
+        let small = done_small terms laws done.bytes given status text done.done in
+        absurd (omega (arith, refused, small))
+    taken_of_long given status text long refused (inr (told_so, why)) = taken_by text long why why.read.stopped
 
-    -- so of a session whose boards were used
-    pub used_undeserved : Reads command → (links : List LinkReport) (r : Refusal) → UsedFrom command before now links
-        → Deserves (breaks_in command) bytes r → ⊥
-    used_undeserved reads links r used deserved =
-        let read = to_end command reads before now used.bytes used.read in
-        let same = told_read before now bytes used.bytes told read.all read.at_end in
-        used_apart command reads bytes links r (subst (λ bs. UsesBoards command bs links) same used.uses) deserved
+    -- bytes for which boards were used deserve no refusal
+    pub used_undeserved : (links : List LinkReport) (line : List ℕ) → UsedFrom terms before now links
+        → terms.Refuses bytes line → ⊥
+    used_undeserved links line used refused =
+        laws.uses_apart bytes line links (subst (λ bs. terms.Uses bs links) (all_read used.bytes used.read) used.uses)
+        refused
 
-    module _ (given : GivenBack) (status : ℕ) (text handed : List ℕ) (same : handed ≡ text)
-        (old new : Option (List ℕ))
-        (met meets result : ℕ) where
-      pub accepted_whole : ((r : Refusal) → Deserves (breaks_in command) bytes r → ⊥)
-          → AnswersInput command before now given status text
-          → Delivers status handed old new met meets result → ¬ Rose met meets → IsWhole result
-      accepted_whole unbroken answers delivers calm =
-          whole command before now given status text handed old new met meets result
-          (λ why. unbroken why.refused.refusal (refused_deserves text why)) answers delivers calm
+    pub deserved_refused : (given : GivenBack) (status : ℕ) (text handed : List ℕ) → handed ≡ text
+        → (old new : Option (List ℕ)) (met meets result : ℕ) (line : List ℕ) → terms.Refuses bytes line
+        → AnswersInput terms before now given status text
+        → Delivers status handed old new met meets result → ¬ Rose met meets
+        → (result ≡ refused_status) × Wrote old new line
+    deserved_refused given status text handed same old new met meets result line deserved answers
+        (inr (fault, (rose, part))) calm = absurd (calm rose)
+    deserved_refused given status text handed same old new met meets result line deserved (inl done)
+        (inl (as, wrote)) calm =
+        absurd (laws.done_apart bytes line given status text (done_told given status text done) deserved)
+    deserved_refused given status text handed same old new met meets result line deserved (inr (refused, why))
+        (inl (as, wrote)) calm =
+        let one = laws.one_line bytes text line (refused_deserves text why) deserved in
+        (as ∙ refused, wrote ∙ ap (append_known old) (same ∙ one))
 
-      pub right_whole : IsRight command bytes → AnswersInput command before now given status text
-          → Delivers status handed old new met meets result → ¬ Rose met meets → IsWhole result
-      right_whole right answers delivers calm =
-          whole command before now given status text handed old new met meets result
-          (λ why. right_unrefused command bytes right why.refused.refusal why.refused.reads
-          (refused_deserves text why)) answers delivers calm
+  -- bytes that deserve no refusal are done whole
+  unrefused_by : (limit : Option ℕ) → terms.limit ≡ limit → (before now : Option (List ℕ)) (bytes : List ℕ)
+      → HasInput limit before bytes → ((line : List ℕ) → terms.Refuses bytes line → ⊥) → (text : List ℕ)
+      → IsRefused terms before now text → ⊥
+  unrefused_by None is before now bytes has unbroken text refused =
+      laws.unrefused is refused.bytes text refused.refused
+  unrefused_by (Some limit) is before now bytes has unbroken text refused =
+      unbroken text (refused_deserves limit is before now bytes has text refused)
 
-      pub deserved_refused : Reads command → (r : Refusal) → Deserves (breaks_in command) bytes r
-          → AnswersInput command before now given status text
-          → Delivers status handed old new met meets result → ¬ Rose met meets
-          → (result ≡ refused_status) × Wrote old new (refusal_line r)
-      deserved_refused reads r deserved answers (inr (is, (rose, part))) calm = absurd (calm rose)
-      deserved_refused reads r deserved (inl done) (inl (is, wrote)) calm =
-          absurd (done_apart command reads bytes given status text r (done_told reads given status text done) deserved)
-      deserved_refused reads r deserved (inr (refused, why)) (inl (is, wrote)) calm =
-          let one = one_refusal command reads bytes why.refused.refusal r (refused_deserves text why) deserved in
-          (is ∙ refused, wrote ∙ ap (append_known old) (same ∙ why.refused.line ∙ ap refusal_line one))
-
--- a load is done whole
-pub load_whole : (count : ℕ) (command : Command) → command ≡ Load count → (before now : Option (List ℕ))
-    (given : GivenBack) (status : ℕ) (text handed : List ℕ) (old new : Option (List ℕ)) (met meets result : ℕ)
-    → AnswersInput command before now given status text → Delivers status handed old new met meets result
-    → ¬ Rose met meets → IsWhole result
-load_whole count command is before now given status text handed old new met meets result answers delivers calm =
-    whole command before now given status text handed old new met meets result
-    (λ why. no_load_reads count command is why.refused.reads) answers delivers calm
+  pub accepted_whole : (before now : Option (List ℕ)) (bytes : List ℕ) → HasInput terms.limit before bytes
+      → ((line : List ℕ) → terms.Refuses bytes line → ⊥)
+      → (given : GivenBack) (status : ℕ) (text handed : List ℕ) (old new : Option (List ℕ)) (met meets result : ℕ)
+      → AnswersInput terms before now given status text
+      → Delivers status handed old new met meets result → ¬ Rose met meets → IsWhole result
+  accepted_whole before now bytes has unbroken given status text handed old new met meets result answers delivers calm =
+      whole terms laws before now given status text handed old new met meets result
+      (unrefused_by terms.limit refl before now bytes has unbroken text) answers delivers calm
 
 -- ---- where there is no answer
 
--- nothing of what the command uses failed
-calm_call : (command : Command) (left left_now : Option (List ℕ)) (made makes : ℕ) (given : GivenBack)
-    (rack rack_now door door_now : ℕ) (result : Result Answer NoAnswer) → IsCalm command rack rack_now door door_now
-    → InputLeaves command left left_now made makes result given
-    → (result ≡ Err RackFault → Rose rack rack_now) → (result ≡ Err DoorFault → Rose door door_now)
-    → (result ≡ Err RackFault → ⊥) × (result ≡ Err DoorFault → ⊥)
-calm_call Run left left_now made makes given rack rack_now door door_now result calm leaves racks doors =
-    (λ is. calm (racks is), λ is. leaves.serves is tt)
-calm_call (Check table) left left_now made makes given rack rack_now door door_now result calm leaves racks doors =
-    (λ is. (leaves.behind RackFault is tt).uses, λ is. leaves.serves is tt)
-calm_call (Serve port count) left left_now made makes given rack rack_now door door_now result calm leaves racks
-    doors = (λ is. calm.0 (racks is), λ is. calm.1 (doors is))
-calm_call (Load count) left left_now made makes given rack rack_now door door_now result calm leaves racks doors =
-    (λ is. calm (racks is), λ is. leaves.serves is tt)
+no_rack : (makes : Bool) (terms : Terms) → AreTerms terms → terms.makes_links ≡ makes
+    → (left left_now : Option (List ℕ)) (links : List LinkReport) (rack rack_now : ℕ)
+    → (terms.makes_links ≡ true → ¬ Rose rack rack_now) → UsedFrom terms left left_now links → Rose rack rack_now → ⊥
+no_rack true terms laws is left left_now links rack rack_now calm used rose = calm is rose
+no_rack false terms laws is left left_now links rack rack_now calm used rose =
+    laws.unlinked is used.bytes links used.uses
 
-pub no_failure : (asked command : Command) → asked ≡ command → (left left_now : Option (List ℕ)) (made makes : ℕ)
-    (given : GivenBack) (rack rack_now door door_now : ℕ) (result : Result Answer NoAnswer)
-    → IsCalm asked rack rack_now door door_now → InputLeaves command left left_now made makes result given
-    → RisesOnlyAt (Err RackFault) result rack rack_now → RisesOnlyAt (Err DoorFault) result door door_now
-    → (result ≡ Err RackFault → ⊥) × (result ≡ Err DoorFault → ⊥)
-no_failure asked command same left left_now made makes given rack rack_now door door_now result calm leaves racks doors =
-    calm_call command left left_now made makes given rack rack_now door door_now result
-    (subst (λ c. IsCalm c rack rack_now door door_now) same calm) leaves racks.0 doors.0
+-- nothing of what the command uses failed
+pub no_failure : (terms : Terms) → AreTerms terms → (left left_now : Option (List ℕ)) (made makes : ℕ)
+    (given : GivenBack) (input input_now rack rack_now door door_now : ℕ) (result : Result Answer NoAnswer)
+    → IsCalm terms input input_now rack rack_now door door_now
+    → InputLeaves terms left left_now made makes result given
+    → RisesOnlyAt (Err ReadFault) result input input_now → RisesOnlyAt (Err RackFault) result rack rack_now
+    → RisesOnlyAt (Err DoorFault) result door door_now
+    → (result ≡ Err ReadFault → ⊥) × (result ≡ Err RackFault → ⊥) × (result ≡ Err DoorFault → ⊥)
+no_failure terms laws left left_now made makes given input input_now rack rack_now door door_now result calm leaves
+    inputs racks doors = (
+      λ is. calm.0 (leaves.reads is) (inputs.0 is),
+      (
+        λ is. no_rack terms.makes_links terms laws refl left left_now given.links rack rack_now calm.1.0
+            (leaves.behind RackFault is tt) (racks.0 is),
+        λ is. calm.1.1 (leaves.serves is) (doors.0 is),
+      ),
+    )

@@ -1,27 +1,29 @@
 -- How a call ends, put together from what its command answered and what was written of it.
-use Rattle.std.proofs.Common.{◌≡◌, ◌≢◌, ◌⊎◌, inl, inr, ℕ, ◌≤◌, List, [], Option, Some}
+use Rattle.std.proofs.Common.{◌≡◌, ◌≢◌, ◌⊎◌, inl, inr, ℕ, ◌≤◌, List, [], Option, Some, false, true}
 use Rattle.std.proofs.Common.{Ok, Err, String, Global, refl, sym, ap, ◌∙◌, subst, arith}
 use Rattle.std.proofs.KnownBytes.{prepend_known-nil}
 use Rattle.ipb_outside.specs.Told.{AppendsPart, TakesAtMost}
 use Rattle.command_words.specs.declared.command.Command.{Command}
-use Rattle.command_words.specs.declared.command.Command.TheVariants.{Run, Check, Serve, Load}
 use Rattle.command_words.specs.Commands.{usage_text}
-use Rattle.ipbus_program.specs.declared.answer.Answer.{Answer}
-use Rattle.ipbus_program.specs.declared.answer.NoAnswer.{NoAnswer}
-use Rattle.ipbus_program.specs.declared.answer.NoAnswer.TheVariants.{NoMemory, ReadFault, RackFault, DoorFault}
-use Rattle.ipbus_program.specs.Ended.{AreNoServer, CallsNoDoor, Ended, IsSessionless, IsTextless, MakesNoLink}
-use Rattle.ipbus_program.specs.Faults.{RisesOnlyAt}
-use Rattle.ipbus_program.specs.Numbers.{usage_status, refused_status, read_fault_status, write_fault_status}
-use Rattle.ipbus_program.specs.Numbers.{no_memory_status, rack_fault_status, door_fault_status}
+use Rattle.command_terms.specs.declared.answer.Answer.{Answer}
+use Rattle.command_terms.specs.Faults.{RisesOnlyAt}
+use Rattle.command_terms.specs.Numbers.{usage_status, refused_status, read_fault_status, write_fault_status}
+use Rattle.command_terms.specs.Numbers.{no_memory_status, rack_fault_status, door_fault_status}
+use Rattle.command_terms.specs.Outside.{GivenBack, no_pairs}
+use Rattle.command_terms.specs.Terms.{AreTerms, Terms, most_bytes}
+use Rattle.command_terms.proofs.Leaving.{none_served}
+use Rattle.ipbus_program.specs.declared.no_answer.NoAnswer.{NoAnswer}
+use Rattle.ipbus_program.specs.declared.no_answer.NoAnswer.TheVariants.{NoMemory, ReadFault, RackFault, DoorFault}
+use Rattle.ipbus_program.specs.Commands.{terms_of}
+use Rattle.ipbus_program.specs.Ended.{AreNoLinker, AreNoServer, CallsNoDoor, Ended, IsSessionless, IsTextless}
+use Rattle.ipbus_program.specs.Ended.{MakesNoLink}
 use Rattle.ipbus_program.specs.Outputs.{Delivers}
-use Rattle.ipbus_program.specs.Outside.{GivenBack, Outside}
+use Rattle.ipbus_program.specs.Outside.{Outside}
 use Rattle.ipbus_program.specs.Owed.{AnswersInput, AreCommand, AreNoCommand, ServedSome, UsedFrom, UsedSome, Wrote}
-use Rattle.ipbus_program.specs.Runs.{IsNoServer, most_bytes}
-use Rattle.ipbus_program.specs.Steps.{InputLeaves, no_pairs}
+use Rattle.ipbus_program.specs.Steps.{InputLeaves}
 use Rattle.ipbus_program.proofs.Causes.{done_small, done_small_status, done_whole, part_written, refused_whole}
 use Rattle.ipbus_program.proofs.Causes.{never, some_status, status_is}
 use Rattle.ipbus_program.proofs.Deserved.{one_command}
-use Rattle.ipbus_program.proofs.Leaving.{none_served}
 
 -- ---- statuses
 
@@ -33,11 +35,11 @@ status_of DoorFault = door_fault_status
 status_of NoMemory = no_memory_status
 
 -- an answer has a status up to 3
-pub small_answer : (command : Command) (before now : Option (List ℕ)) (given : GivenBack) (status : ℕ) (text : List ℕ)
-    → AnswersInput command before now given status text → status ≤ 3
-small_answer command before now given status text (inl done) =
-    let small = done_small command done.bytes given status text done.done in omega (arith, small)
-small_answer command before now given status text (inr (refused, why)) = omega (arith, refused)
+pub small_answer : (terms : Terms) → AreTerms terms → (before now : Option (List ℕ)) (given : GivenBack) (status : ℕ) (text : List ℕ)
+    → AnswersInput terms before now given status text → status ≤ 3
+small_answer terms laws before now given status text (inl done) =
+    let small = done_small terms laws done.bytes given status text done.done in omega (arith, small)
+small_answer terms laws before now given status text (inr (refused, why)) = omega (arith, refused)
 
 has_text : (status result : ℕ) → result ≡ status → status ≤ 3 → IsTextless result → ⊥
 has_text status result is small (inl fault) = omega (arith, is, small, fault)
@@ -92,7 +94,7 @@ module _ (words : List (String Global)) (left : Option (List ℕ)) (made : ℕ) 
     given_back = no_pairs [];
   }
 
-  none_taken : (command : Command) → TakesAtMost (most_bytes command) left left
+  none_taken : (command : Command) → TakesAtMost (most_bytes (terms_of command)) left left
   none_taken command = ([], omega arith, sym (prepend_known-nil left))
 
   pub usage_ended : AreNoCommand words → (handed : List ℕ) → handed ≡ usage_text
@@ -155,24 +157,18 @@ module _ (words : List (String Global)) (left : Option (List ℕ)) (made : ℕ) 
 
 -- ---- the words are this command
 
-module _ (words : List (String Global)) (command : Command) (are : AreCommand words command) where
-  no_server : AreNoServer words → (other : Command) → other ≡ command → IsNoServer other
-  no_server none Run same = tt
-  no_server none (Check table) same = tt
-  no_server none (Serve port count) same = absurd (none port count (are ∙ ap Some (sym same)))
-  no_server none (Load count) same = tt
-
-  -- no link is made by a command to list, and where no session was come by
-  pub unmade_by : (P : Type 0) (status : ℕ) → ((table : List ℕ) → command ≡ Check table → P)
+module _ (words : List (String Global)) (command : Command) (laws : AreTerms (terms_of command))
+    (are : AreCommand words command) where
+  -- no link is made by a command that makes none, and where no session was come by
+  pub unmade_by : (P : Type 0) (status : ℕ) → ((terms_of command).makes_links ≡ false → P)
       → (IsSessionless status → P) → MakesNoLink words status → P
-  unmade_by P status checked sessionless (inl lister) =
-      checked lister.0 (one_command words command (Check lister.0) are lister.1)
-  unmade_by P status checked sessionless (inr none) = sessionless none
+  unmade_by P status unlinked sessionless (inl none) = unlinked (none command are)
+  unmade_by P status unlinked sessionless (inr none) = sessionless none
 
-  -- nor is the door called by one that does not serve
-  pub shut_by : (P : Type 0) (status : ℕ) → (IsNoServer command → P) → (IsSessionless status → P)
+  -- nor is the door called by one that lets nobody in
+  pub shut_by : (P : Type 0) (status : ℕ) → ((terms_of command).lets_in ≡ false → P) → (IsSessionless status → P)
       → (status ≡ rack_fault_status → P) → CallsNoDoor words status → P
-  shut_by P status shut sessionless unreached (inl none) = shut (no_server none command refl)
+  shut_by P status shut sessionless unreached (inl none) = shut (none command are)
   shut_by P status shut sessionless unreached (inr (inl none)) = sessionless none
   shut_by P status shut sessionless unreached (inr (inr fault)) = unreached fault
 
@@ -189,28 +185,21 @@ module _ (words : List (String Global)) (command : Command) (are : AreCommand wo
       given_back = given;
     }
 
-    some : UsedFrom command left left_now given.links → UsedSome words left left_now given.links
+    some : UsedFrom (terms_of command) left left_now given.links → UsedSome words left left_now given.links
     some used = (command, are, used)
 
-    none_or_some : (given.links ≡ []) ⊎ UsedFrom command left left_now given.links
+    none_or_some : (given.links ≡ []) ⊎ UsedFrom (terms_of command) left left_now given.links
         → (given.links ≡ []) ⊎ UsedSome words left left_now given.links
     none_or_some (inl none) = inl none
     none_or_some (inr used) = inr (some used)
 
-    some_served : (other : Command) → other ≡ command → ¬ IsNoServer other → UsedFrom other left left_now given.links
-        → ServedSome words left left_now given.links
-    some_served Run same serves used = absurd (serves tt)
-    some_served (Check table) same serves used = absurd (serves tt)
-    some_served (Serve port count) same serves used = (port, count, are ∙ ap Some (sym same), used)
-    some_served (Load count) same serves used = absurd (serves tt)
-
-    taken_by : TakesAtMost (most_bytes command) left left_now → (other : Command) → AreCommand words other
-        → TakesAtMost (most_bytes other) left left_now
+    taken_by : TakesAtMost (most_bytes (terms_of command)) left left_now → (other : Command) → AreCommand words other
+        → TakesAtMost (most_bytes (terms_of other)) left left_now
     taken_by took other asked =
-        subst (λ c. TakesAtMost (most_bytes c) left left_now) (one_command words command other are asked) took
+        subst (λ c. TakesAtMost (most_bytes (terms_of c)) left left_now) (one_command words command other are asked) took
 
     -- there is no answer
-    pub failed : (why : NoAnswer) → InputLeaves command left left_now made made_now (Err why) given
+    pub failed : (why : NoAnswer) → InputLeaves (terms_of command) left left_now made made_now (Err why) given
         → Ended words outside (status_of why)
     failed ReadFault leaves = record {
       known = inr (inr (inr (inr (inl refl))));
@@ -252,7 +241,7 @@ module _ (words : List (String Global)) (command : Command) (are : AreCommand wo
       reads = λ told. absurd (omega (arith, told));
       cut = λ told. absurd (omega (arith, told));
       unreached = λ told. absurd (omega (arith, told));
-      unserved = λ told. some_served command refl (leaves.serves refl) (leaves.behind DoorFault refl tt);
+      unserved = λ told. (command, are, (leaves.serves refl, leaves.behind DoorFault refl tt));
     }
     failed NoMemory leaves = record {
       known = inr (inr (inr (inr (inr (inr (inl refl))))));
@@ -270,33 +259,33 @@ module _ (words : List (String Global)) (command : Command) (are : AreCommand wo
     }
 
     pub failed_with : (why other : NoAnswer) → why ≡ other
-        → InputLeaves command left left_now made made_now (Err why) given → Ended words outside (status_of other)
+        → InputLeaves (terms_of command) left left_now made made_now (Err why) given → Ended words outside (status_of other)
     failed_with why other is leaves = subst (λ w. Ended words outside (status_of w)) is (failed why leaves)
 
     module _ (answer : Answer) (handed : List ℕ) (same : handed ≡ answer.text.items) (met meets result : ℕ) where
       -- there is one, and it was handed to the output
-      pub delivered : InputLeaves command left left_now made made_now (Ok answer) given
+      pub delivered : InputLeaves (terms_of command) left left_now made made_now (Ok answer) given
           → Delivers answer.status handed written written_now met meets result → Ended words outside result
       delivered leaves delivers =
           let apart = λ (s : ℕ) (told : result ≡ s) (large : 2 ≤ s) (one : s ≡ refused_status → ⊥)
-          (two : s ≡ write_fault_status → ⊥). never words command are left left_now given answer.status
+          (two : s ≡ write_fault_status → ⊥). never words command laws are left left_now given answer.status
           answer.text.items handed same written written_now met meets result s leaves.owed delivers told large one two
           in record {
-            known = some_status words command are left left_now given answer.status answer.text.items handed same
+            known = some_status words command laws are left left_now given answer.status answer.text.items handed same
                 written written_now met meets result leaves.owed delivers;
             counted = leaves.counted;
             used = none_or_some leaves.used;
             served = leaves.back;
             taken = taken_by leaves.taken;
-            done = λ done. done_whole words command are left left_now given answer.status answer.text.items handed same
+            done = λ done. done_whole words command laws are left left_now given answer.status answer.text.items handed same
                 written written_now met meets result result (done_small_status result done) leaves.owed delivers refl;
             usage = λ told. absurd (apart usage_status told (omega arith) (λ e. omega (arith, e))
                 (λ e. omega (arith, e)));
-            refused = refused_whole words command are left left_now given answer.status answer.text.items handed same
+            refused = refused_whole words command laws are left left_now given answer.status answer.text.items handed same
                 written written_now met meets result leaves.owed delivers;
             reads = λ told. absurd (apart read_fault_status told (omega arith) (λ e. omega (arith, e))
                 (λ e. omega (arith, e)));
-            cut = part_written words command are left left_now given answer.status answer.text.items handed same
+            cut = part_written words command laws are left left_now given answer.status answer.text.items handed same
                 written written_now met meets result leaves.owed delivers;
             unreached = λ told. absurd (apart rack_fault_status told (omega arith) (λ e. omega (arith, e))
                 (λ e. omega (arith, e)));
@@ -306,23 +295,23 @@ module _ (words : List (String Global)) (command : Command) (are : AreCommand wo
 
       -- where no session was come by it is a refusal
       pub sessionless : (P : Type 0) → (answer.status ≡ refused_status → P)
-          → InputLeaves command left left_now made made_now (Ok answer) given
+          → InputLeaves (terms_of command) left left_now made made_now (Ok answer) given
           → Delivers answer.status handed written written_now met meets result → IsSessionless result → P
       sessionless P refused leaves delivers (inl told) =
-          absurd (never words command are left left_now given answer.status answer.text.items handed same written
+          absurd (never words command laws are left left_now given answer.status answer.text.items handed same written
           written_now met meets result usage_status leaves.owed delivers told (omega arith) (λ e. omega (arith, e))
           (λ e. omega (arith, e)))
       sessionless P refused leaves delivers (inr (inl told)) =
           refused (status_is answer.status result refused_status handed written written_now met meets delivers told
           (λ e. omega (arith, e)))
       sessionless P refused leaves delivers (inr (inr told)) =
-          absurd (never words command are left left_now given answer.status answer.text.items handed same written
+          absurd (never words command laws are left left_now given answer.status answer.text.items handed same written
           written_now met meets result read_fault_status leaves.owed delivers told (omega arith)
           (λ e. omega (arith, e)) (λ e. omega (arith, e)))
 
-      pub no_rack_fault : (P : Type 0) → InputLeaves command left left_now made made_now (Ok answer) given
+      pub no_rack_fault : (P : Type 0) → InputLeaves (terms_of command) left left_now made made_now (Ok answer) given
           → Delivers answer.status handed written written_now met meets result → result ≡ rack_fault_status → P
       no_rack_fault P leaves delivers told =
-          absurd (never words command are left left_now given answer.status answer.text.items handed same written
+          absurd (never words command laws are left left_now given answer.status answer.text.items handed same written
           written_now met meets result rack_fault_status leaves.owed delivers told (omega arith)
           (λ e. omega (arith, e)) (λ e. omega (arith, e)))

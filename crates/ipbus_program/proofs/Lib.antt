@@ -1,12 +1,5 @@
 pub mod Causes
 pub mod Deserved
 pub mod Ending
-pub mod Leaving
-pub mod Names
-pub mod OneAnswer
 pub mod Reading
-pub mod Ready
-pub mod Refusing
-pub mod Services
-pub mod Summing
-pub mod ServeStatus
+pub mod Faults

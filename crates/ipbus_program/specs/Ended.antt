@@ -1,27 +1,21 @@
 -- THE END OF A CALL: what holds of everything outside when the program ends, at every status, and what more by the
 -- status; and which words and inputs end in which. It is one record, `Ended`. Profile.
-use Rattle.std.specs.Prelude.{◌≡◌, ◌⊎◌, ℕ, ◌+◌, List, [], length, Option, String}
+use Rattle.std.specs.Prelude.{◌≡◌, ◌⊎◌, ℕ, ◌+◌, List, [], length, Option, None, true, false, String}
 use Rattle.std.specs.declared.alloc.Global.{Global}
 use Rattle.std.specs.List.{AllByRecursion}
 use Rattle.ipb_base.specs.Faults.{Rose}
 use Rattle.ipb_outside.specs.Told.{TakesAtMost}
 use Rattle.lane_history.specs.Links.{IsUntouched}
-use Rattle.node_tree.specs.Maps.{RegisterMap}
-use Rattle.script_steps.specs.declared.operation.Step.{Step}
-use Rattle.script_lang.specs.declared.session.Session.{Session}
-use Rattle.session_input.specs.declared.refusal.Refusal.{Refusal}
-use Rattle.session_input.specs.Deserved.{IsListed, IsRunnable, IsServable}
-use Rattle.session_input.specs.Lines.{refusal_line}
 use Rattle.session_serve.specs.Serving.{AreBack}
 use Rattle.command_words.specs.declared.command.Command.{Command}
-use Rattle.command_words.specs.declared.command.Command.TheVariants.{Run, Check, Serve, Load}
-use Rattle.ipbus_program.specs.Numbers.{done_status, not_all_done_status, usage_status, refused_status}
-use Rattle.ipbus_program.specs.Numbers.{read_fault_status, write_fault_status, no_memory_status, rack_fault_status}
-use Rattle.ipbus_program.specs.Numbers.{door_fault_status}
+use Rattle.command_terms.specs.Numbers.{IsDoneStatus, done_status, not_all_done_status, usage_status, refused_status}
+use Rattle.command_terms.specs.Numbers.{read_fault_status, write_fault_status, no_memory_status, rack_fault_status}
+use Rattle.command_terms.specs.Numbers.{door_fault_status}
+use Rattle.command_terms.specs.Terms.{Reads, Terms, most_bytes}
+use Rattle.ipbus_program.specs.Commands.{terms_of}
 use Rattle.ipbus_program.specs.Outside.{Outside}
 use Rattle.ipbus_program.specs.Owed.{AreCommand, OwesDone, OwesRefusal, OwesText, OwesUsage, ServedSome, UsedSome}
 use Rattle.ipbus_program.specs.Owed.{Wrote, WroteOwed, WroteOwedPart}
-use Rattle.ipbus_program.specs.Runs.{Reads, most_bytes}
 
 -- the statuses that there are
 abbrev pub IsStatus : ℕ → Type 0
@@ -29,10 +23,6 @@ IsStatus status =
     (status ≡ done_status) ⊎ (status ≡ not_all_done_status) ⊎ (status ≡ usage_status) ⊎ (status ≡ refused_status)
     ⊎ (status ≡ read_fault_status) ⊎ (status ≡ write_fault_status) ⊎ (status ≡ no_memory_status)
     ⊎ (status ≡ rack_fault_status) ⊎ (status ≡ door_fault_status)
-
--- those with which the text that the input deserves was written whole
-abbrev pub IsDoneStatus : ℕ → Type 0
-IsDoneStatus status = (status ≡ done_status) ⊎ (status ≡ not_all_done_status)
 
 -- Of the words, the outside and the status:
 pub record Ended (words : List (String Global)) (outside : Outside) (status : ℕ) : Type 0 where
@@ -48,7 +38,7 @@ pub record Ended (words : List (String Global)) (outside : Outside) (status : �
   pub served : AreBack outside.given_back.came outside.given_back.back
   -- no more was taken of the input than the command reads
   pub taken : (command : Command) → AreCommand words command
-      → TakesAtMost (most_bytes command) outside.left outside.left_now
+      → TakesAtMost (most_bytes (terms_of command)) outside.left outside.left_now
   -- 0 and 1: what the command makes of the whole input over these links and pairs was written, and nothing else
   pub done : IsDoneStatus status
       → WroteOwed (OwesDone words outside.left outside.left_now outside.given_back status)
@@ -60,7 +50,7 @@ pub record Ended (words : List (String Global)) (outside : Outside) (status : �
   pub refused : status ≡ refused_status
       → WroteOwed (OwesRefusal words outside.left outside.left_now) outside.written outside.written_now
   -- 4: the words are a command that reads
-  pub reads : status ≡ read_fault_status → (command : Command) × AreCommand words command × Reads command
+  pub reads : status ≡ read_fault_status → (command : Command) × AreCommand words command × Reads (terms_of command)
   -- 5: a part of a text that is owed was written
   pub cut : status ≡ write_fault_status
       → WroteOwedPart (OwesText words outside.left outside.left_now outside.given_back)
@@ -69,23 +59,23 @@ pub record Ended (words : List (String Global)) (outside : Outside) (status : �
   pub unreached : status ≡ rack_fault_status
       → UsedSome words outside.left outside.left_now outside.given_back.links
       × AllByRecursion IsUntouched outside.given_back.links
-  -- 8: the words are a command to serve, and these are the links of its boards
+  -- 8: the words are a command that lets clients in, and these are the links of its boards
   pub unserved : status ≡ door_fault_status
       → ServedSome words outside.left outside.left_now outside.given_back.links
 
 -- ---- what is left alone
 
--- the words are no command that reads
+-- the words are no command that reads its input
 abbrev pub AreNoReader : List (String Global) → Type 0
-AreNoReader words = (command : Command) → AreCommand words command → ¬ Reads command
+AreNoReader words = (command : Command) → AreCommand words command → (terms_of command).limit ≡ None
 
--- the words are no command to serve
+-- none that lets clients in
 abbrev pub AreNoServer : List (String Global) → Type 0
-AreNoServer words = (port count : ℕ) → ¬ AreCommand words (Serve port count)
+AreNoServer words = (command : Command) → AreCommand words command → (terms_of command).lets_in ≡ false
 
--- the words are a command to list
-abbrev pub AreLister : List (String Global) → Type 0
-AreLister words = (table : List ℕ) × AreCommand words (Check table)
+-- none that makes links
+abbrev pub AreNoLinker : List (String Global) → Type 0
+AreNoLinker words = (command : Command) → AreCommand words command → (terms_of command).makes_links ≡ false
 
 -- the statuses with which nothing was written
 abbrev pub IsTextless : ℕ → Type 0
@@ -99,7 +89,7 @@ IsSessionless status = (status ≡ usage_status) ⊎ (status ≡ refused_status)
 
 -- no link was made
 abbrev pub MakesNoLink : List (String Global) → ℕ → Type 0
-MakesNoLink words status = AreLister words ⊎ IsSessionless status
+MakesNoLink words status = AreNoLinker words ⊎ IsSessionless status
 
 -- the door was not called
 abbrev pub CallsNoDoor : List (String Global) → ℕ → Type 0
@@ -107,25 +97,16 @@ CallsNoDoor words status = AreNoServer words ⊎ IsSessionless status ⊎ (statu
 
 -- ---- what is owed to a right input
 
--- the bytes stand for what the command asks; a load asks for none
-abbrev pub IsRight : Command → List ℕ → Type 0
-IsRight Run bytes = (session : Session) × (steps : List (List Step)) × IsRunnable bytes session steps
-IsRight (Check table) bytes = (registers : RegisterMap) × IsListed bytes table registers
-IsRight (Serve port count) bytes = (session : Session) × IsServable bytes session
-IsRight (Load count) bytes = Unit {0}
-
--- the counts of faults of the rack and of the door did not rise, as far as the command uses them
-abbrev pub IsCalm : Command → ℕ → ℕ → ℕ → ℕ → Type 0
-IsCalm Run rack rack_now door door_now = ¬ Rose rack rack_now
-IsCalm (Check table) rack rack_now door door_now = Unit {0}
-IsCalm (Serve port count) rack rack_now door door_now = (¬ Rose rack rack_now) × (¬ Rose door door_now)
-IsCalm (Load count) rack rack_now door door_now = ¬ Rose rack rack_now
+-- the counts of faults of the input, the rack and the door did not rise, as far as the command uses them
+abbrev pub IsCalm : Terms → ℕ → ℕ → ℕ → ℕ → ℕ → ℕ → Type 0
+IsCalm terms input input_now rack rack_now door door_now =
+    (Reads terms → ¬ Rose input input_now) × (terms.makes_links ≡ true → ¬ Rose rack rack_now)
+    × (terms.lets_in ≡ true → ¬ Rose door door_now)
 
 -- the text was written whole with one of the statuses 0 and 1, or memory ran out
 abbrev pub IsWhole : ℕ → Type 0
 IsWhole status = IsDoneStatus status ⊎ (status ≡ no_memory_status)
 
--- the line of this refusal was written and its status answered, or memory ran out
-abbrev pub RefusesWith : Refusal → ℕ → Option (List ℕ) → Option (List ℕ) → Type 0
-RefusesWith refusal status old new =
-    ((status ≡ refused_status) × Wrote old new (refusal_line refusal)) ⊎ (status ≡ no_memory_status)
+-- this line of a refusal was written and its status answered, or memory ran out
+abbrev pub RefusesWith : List ℕ → ℕ → Option (List ℕ) → Option (List ℕ) → Type 0
+RefusesWith line status old new = ((status ≡ refused_status) × Wrote old new line) ⊎ (status ≡ no_memory_status)

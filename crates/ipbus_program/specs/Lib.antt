@@ -1,13 +1,6 @@
-pub mod Numbers
-pub mod Headline
-pub mod Serving
-pub mod Loading
+pub mod Commands
 pub mod Outside
-pub mod Runs
 pub mod Owed
 pub mod Ended
-pub mod Faults
 pub mod Outputs
-pub mod Below
 pub mod Steps
-pub mod Examples

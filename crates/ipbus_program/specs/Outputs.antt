@@ -2,7 +2,7 @@
 use Rattle.std.specs.Prelude.{◌≡◌, ◌⊎◌, ℕ, List, Option}
 use Rattle.ipb_base.specs.Faults.{Rose}
 use Rattle.ipb_outside.specs.Told.{AppendsPart}
-use Rattle.ipbus_program.specs.Numbers.{write_fault_status}
+use Rattle.command_terms.specs.Numbers.{write_fault_status}
 use Rattle.ipbus_program.specs.Owed.{Wrote}
 
 -- The text was written whole and its status answered, or the output met a fault, a part of the text was written, and

@@ -1,14 +1,6 @@
 -- What a call finds outside of the program and what it leaves there, as contracts see it. Profile.
 use Rattle.std.specs.Prelude.{ℕ, List, Option}
-use Rattle.lane_history.specs.Links.{LinkReport}
-use Rattle.session_serve.specs.Pairs.{PairReport}
-
--- What was given back: what each link of a board shows, in board order, and what each pair of a connection showed when
--- it came and when it went back, in the order of acceptance.
-pub record GivenBack : Type 0 where
-  pub links : List LinkReport
-  pub came : List PairReport
-  pub back : List PairReport
+use Rattle.command_terms.specs.Outside.{GivenBack}
 
 -- The outside before a call and after it.
 pub record Outside : Type 0 where

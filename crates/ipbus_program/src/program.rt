@@ -1,80 +1,67 @@
 //! The program's one call: words and an input in, a text and a status out.
 
-ghost use Rattle.std.specs.Prelude.{◌≡◌, ◌≢◌, ◌⊎◌, ◌≤◌, ℕ, List, length, Some, Err};
+ghost use Rattle.std.specs.Prelude.{◌≡◌, ◌≢◌, ◌⊎◌, ◌≤◌, ℕ, List, length, Some, None, Err};
 ghost use Rattle.ipb_base.specs.Faults.{Rose};
 ghost use Rattle.ipb_outside.specs.Told.{TakesCount};
 ghost use Rattle.board_greeting.specs.Links.{Keeps};
-ghost use Rattle.load_run.specs.Generated.{most_operations};
-ghost use Rattle.session_input.specs.Deserved.{Deserves};
-ghost use Rattle.session_input.specs.declared.refusal.Refusal.{Refusal as WhyRefused};
 ghost use Rattle.session_serve.specs.Pairs.{GivesBack};
 ghost use Rattle.command_words.specs.declared.command.Command.{Command as Asked};
 ghost use Rattle.command_words.specs.declared.command.Command.TheVariants.{Load};
-ghost use Rattle.ipbus_program.specs.Ended.{AreNoReader, CallsNoDoor, Ended, IsCalm, IsRight, IsTextless, IsWhole};
-ghost use Rattle.ipbus_program.specs.Ended.{MakesNoLink, RefusesWith};
-ghost use Rattle.ipbus_program.specs.Faults.{RisesOnlyAt};
-ghost use Rattle.ipbus_program.specs.Numbers.{usage_status, refused_status, read_fault_status, write_fault_status};
-ghost use Rattle.ipbus_program.specs.Numbers.{no_memory_status, rack_fault_status, door_fault_status};
+ghost use Rattle.load_run.specs.Generated.{most_operations};
+ghost use Rattle.command_terms.specs.Faults.{RisesOnlyAt};
+ghost use Rattle.command_terms.specs.Numbers.{usage_status, refused_status, read_fault_status, write_fault_status};
+ghost use Rattle.command_terms.specs.Numbers.{no_memory_status, rack_fault_status, door_fault_status};
+ghost use Rattle.command_terms.specs.Terms.{most_bytes};
+ghost use Rattle.ipbus_program.specs.Commands.{terms_of};
+ghost use Rattle.ipbus_program.specs.Ended.{AreNoReader, CallsNoDoor, Ended, IsCalm, IsTextless, IsWhole, MakesNoLink};
+ghost use Rattle.ipbus_program.specs.Ended.{RefusesWith};
 ghost use Rattle.ipbus_program.specs.Outputs.{Delivers};
-ghost use Rattle.ipbus_program.specs.Owed.{AreCommand, AreNoCommand};
-ghost use Rattle.ipbus_program.specs.Runs.{Reads, breaks_in, generated_by as generated, most_bytes};
+ghost use Rattle.ipbus_program.specs.Owed.{AreCommand, AreNoCommand, HasInput};
 ghost use Rattle.ipbus_program.specs.Steps.{InputLeaves, LeavesAlone};
 
-use crate::answer::{
-    Answer, DOOR_FAULT, NO_MEMORY, NoAnswer, RACK_FAULT, READ_FAULT, USAGE, WRITE_FAULT,
-};
-use crate::below::input_laws;
-use crate::loading::load;
-use crate::running::{answer_to, refused};
+use crate::answering::{answer_to, limit_of, terms_are_terms, too_long};
+use crate::no_answer::NoAnswer;
 use client_threads::Gate;
+use command_terms::{
+    Answer, DOOR_FAULT, NO_MEMORY, RACK_FAULT, READ_FAULT, USAGE, WRITE_FAULT,
+};
 use command_words::laws::a_load_has_a_bound;
 use command_words::{Command, USAGE_LINE, command_of};
 use ipb_base::NoMemory;
 use ipb_outside::{Door, ReadEnd, Sink, Source, read_all, write_whole};
 use lossy_network::Rack;
-use session_input::{MAX_DOCUMENT, Refusal};
 use std::alloc::Global;
 use std::marker::Sync;
 use std::sync::Wait;
 use std::thread::Threads;
 
-/// How many operations a command generates, where it generates a session and reads none.
-fn generated_by(command: &Command) -> Option<u32>
-    ensures { result ≡ generated command.now }
-{
-    match command {
-        Command::Run => None,
-        Command::Check { table: _ } => None,
-        Command::Serve { port: _, count: _ } => None,
-        Command::Load { count } => Some(*count),
-    }
-}
-
-/// What a command that reads answers to an input.
+/// What a command that reads so many bytes at most answers to an input.
 fn answer_input<S: Source, R: Rack, D: Door, T: Threads + Wait + Sync, G: Gate>(
     rt: &T,
     alloc: Global,
     command: &Command,
+    limit: usize,
     input: &mut S,
     rack: &mut R,
     door: &mut D,
     gate: &G,
 ) -> Result<Answer, NoAnswer>
-    requires { Reads command.now }
+    requires reads { (terms_of command.now).limit ≡ Some limit }
+    requires bound { (count : ℕ) → command.now ≡ Load count → count ≤ most_operations }
     ensures leaves { Keeps R.L.faults R.L.quiets R.L.gots R.L.held R.L.telling (R.kept rack.old) (R.kept rack.new)
         (λ links. GivesBack D.Incoming.left D.Incoming.faults D.Outgoing.written D.Outgoing.faults D.Outgoing.ended
         (D.coming door.old) (D.coming door.new) (D.kept door.old) (D.kept door.new)
-        (λ came back. InputLeaves command.now (S.left input.old) (S.left input.new) (R.made rack.old) (R.made rack.new)
-        result (record { links = links; came = came; back = back }))) }
+        (λ came back. InputLeaves (terms_of command.now) (S.left input.old) (S.left input.new) (R.made rack.old)
+        (R.made rack.new) result (record { links = links; came = came; back = back }))) }
     ensures input_faults { RisesOnlyAt (Err NoAnswer.ReadFault) result (S.faults input.old) (S.faults input.new) }
     ensures rack_faults { RisesOnlyAt (Err NoAnswer.RackFault) result (R.faults rack.old) (R.faults rack.new) }
     ensures door_faults { RisesOnlyAt (Err NoAnswer.DoorFault) result (D.faults door.old) (D.faults door.new) }
-    ensures alone { LeavesAlone command.now result rack.old rack.new door.old door.new }
+    ensures alone { LeavesAlone (terms_of command.now) result rack.old rack.new door.old door.new }
     ensures none_out { D.out door.new ≡ D.out door.old }
 {
-    match read_all(alloc, input, MAX_DOCUMENT) {
+    match read_all(alloc, input, limit) {
         Ok(bytes) => answer_to(rt, alloc, command, &bytes, rack, door, gate),
-        Err(ReadEnd::TooLong) => Ok(refused(alloc, &Refusal::TooLong)?),
+        Err(ReadEnd::TooLong) => Ok(too_long(alloc, command)?),
         Err(ReadEnd::Failed) => Err(NoAnswer::ReadFault),
         Err(ReadEnd::NoMemory) => Err(NoAnswer::NoMemory),
     }
@@ -90,22 +77,22 @@ fn answer_command<S: Source, R: Rack, D: Door, T: Threads + Wait + Sync, G: Gate
     door: &mut D,
     gate: &G,
 ) -> Result<Answer, NoAnswer>
-    requires { (count : ℕ) → generated command.now ≡ Some count → count ≤ most_operations }
+    requires { (count : ℕ) → command.now ≡ Load count → count ≤ most_operations }
     ensures leaves { Keeps R.L.faults R.L.quiets R.L.gots R.L.held R.L.telling (R.kept rack.old) (R.kept rack.new)
         (λ links. GivesBack D.Incoming.left D.Incoming.faults D.Outgoing.written D.Outgoing.faults D.Outgoing.ended
         (D.coming door.old) (D.coming door.new) (D.kept door.old) (D.kept door.new)
-        (λ came back. InputLeaves command.now (S.left input.old) (S.left input.new) (R.made rack.old) (R.made rack.new)
-        result (record { links = links; came = came; back = back }))) }
+        (λ came back. InputLeaves (terms_of command.now) (S.left input.old) (S.left input.new) (R.made rack.old)
+        (R.made rack.new) result (record { links = links; came = came; back = back }))) }
     ensures input_faults { RisesOnlyAt (Err NoAnswer.ReadFault) result (S.faults input.old) (S.faults input.new) }
     ensures rack_faults { RisesOnlyAt (Err NoAnswer.RackFault) result (R.faults rack.old) (R.faults rack.new) }
     ensures door_faults { RisesOnlyAt (Err NoAnswer.DoorFault) result (D.faults door.old) (D.faults door.new) }
-    ensures alone { LeavesAlone command.now result rack.old rack.new door.old door.new }
+    ensures alone { LeavesAlone (terms_of command.now) result rack.old rack.new door.old door.new }
     ensures none_out { D.out door.new ≡ D.out door.old }
-    ensures unread { ¬ Reads command.now → input.new ≡ input.old }
+    ensures unread { (terms_of command.now).limit ≡ None → input.new ≡ input.old }
 {
-    match generated_by(command) {
-        None => answer_input(rt, alloc, command, input, rack, door, gate),
-        Some(count) => Ok(load(rt, alloc, count, rack, gate)?),
+    match limit_of(command) {
+        Some(limit) => answer_input(rt, alloc, command, limit, input, rack, door, gate),
+        None => answer_to(rt, alloc, command, &[], rack, door, gate),
     }
 }
 
@@ -172,34 +159,31 @@ pub fn control<S: Source, O: Sink, R: Rack, D: Door, T: Threads + Wait + Sync, G
     // Other words get the usage line, or the output met a fault, want of memory aside.
     ensures other_words { AreNoCommand words.now
         → (result ≡ usage_status) ⊎ (result ≡ write_fault_status) ⊎ (result ≡ no_memory_status) }
-    // Of an input that tells its bytes, where no count of faults rose: a document that breaks no rule of the command is
-    // done whole, and any other is refused as it deserves, want of memory aside.
+    // Of an input that tells its bytes, where no count of faults rose: bytes that break no rule of the command are
+    // done whole, as those are that stand for what it asks, and any other are refused as they deserve, want of memory
+    // aside. A command that reads no input is done whole, whatever the input.
     ensures unbroken { (command : Asked) (bytes : List ℕ)
-        → AreCommand words.now command → S.left input.old ≡ Some bytes
-        → ((refusal : WhyRefused) → ¬ Deserves (breaks_in command) bytes refusal)
-        → ¬ Rose (S.faults input.old) (S.faults input.new) → ¬ Rose (O.faults out.old) (O.faults out.new)
-        → IsCalm command (R.faults rack.old) (R.faults rack.new) (D.faults door.old) (D.faults door.new)
+        → AreCommand words.now command → HasInput (terms_of command).limit (S.left input.old) bytes
+        → ((line : List ℕ) → ¬ (terms_of command).Refuses bytes line) → ¬ Rose (O.faults out.old) (O.faults out.new)
+        → IsCalm (terms_of command) (S.faults input.old) (S.faults input.new) (R.faults rack.old) (R.faults rack.new)
+        (D.faults door.old) (D.faults door.new)
         → IsWhole result }
-    // So it is done whole where it stands for a session that can be run or served, or lists the registers of its table.
     ensures right { (command : Asked) (bytes : List ℕ)
-        → AreCommand words.now command → S.left input.old ≡ Some bytes → IsRight command bytes
-        → ¬ Rose (S.faults input.old) (S.faults input.new) → ¬ Rose (O.faults out.old) (O.faults out.new)
-        → IsCalm command (R.faults rack.old) (R.faults rack.new) (D.faults door.old) (D.faults door.new)
+        → AreCommand words.now command → HasInput (terms_of command).limit (S.left input.old) bytes
+        → (terms_of command).Right bytes → ¬ Rose (O.faults out.old) (O.faults out.new)
+        → IsCalm (terms_of command) (S.faults input.old) (S.faults input.new) (R.faults rack.old) (R.faults rack.new)
+        (D.faults door.old) (D.faults door.new)
         → IsWhole result }
-    ensures deserved { (command : Asked) (bytes : List ℕ) (refusal : WhyRefused)
-        → AreCommand words.now command → Reads command → S.left input.old ≡ Some bytes
-        → Deserves (breaks_in command) bytes refusal
+    ensures deserved { (command : Asked) (bytes line : List ℕ)
+        → AreCommand words.now command → S.left input.old ≡ Some bytes → (terms_of command).Refuses bytes line
         → ¬ Rose (S.faults input.old) (S.faults input.new) → ¬ Rose (O.faults out.old) (O.faults out.new)
-        → RefusesWith refusal result (O.written out.old) (O.written out.new) }
-    // A generated session is done whole, whatever the input.
-    ensures loadable { (count : ℕ) → AreCommand words.now (Load count) → ¬ Rose (O.faults out.old) (O.faults out.new)
-        → ¬ Rose (R.faults rack.old) (R.faults rack.new) → IsWhole result }
+        → RefusesWith line result (O.written out.old) (O.written out.new) }
     // Of an input that is too long as much is taken as the command reads at most.
     ensures too_long { (command : Asked) (bytes : List ℕ)
-        → AreCommand words.now command → S.left input.old ≡ Some bytes → most_bytes command ≤ length bytes
-        → result ≡ refused_status → TakesCount (most_bytes command) (S.left input.old) (S.left input.new) }
+        → AreCommand words.now command → S.left input.old ≡ Some bytes → most_bytes (terms_of command) ≤ length bytes
+        → result ≡ refused_status → TakesCount (most_bytes (terms_of command)) (S.left input.old) (S.left input.new) }
 {
-    input_laws();
+    terms_are_terms();
     a_load_has_a_bound();
     let command = match command_of(alloc, words) {
         Ok(Some(command)) => command,

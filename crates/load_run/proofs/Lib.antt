@@ -10,3 +10,4 @@ mod Totals
 mod Words
 mod Runs
 mod Compiled
+mod Answered

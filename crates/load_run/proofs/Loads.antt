@@ -1,7 +1,6 @@
 -- What a load leaves, put together from what its steps say.
 use Rattle.std.proofs.Common.{◌≡◌, ◌≤◌, ℕ, ◌+◌, Bool, List, [], ◌∷◌, ◌++◌, length, map, Result, Ok, Err, IfOk}
 use Rattle.std.proofs.Common.{sym, ap, ◌∙◌, subst, append-nil, arith}
-use Rattle.std.proofs.lemmas.List.{append_cancel_left}
 use Rattle.std.specs.List.{AllByRecursion}
 use Rattle.std.specs.Result.{IsErr, IsErrAnd}
 use Rattle.board_node.specs.declared.spec.BoardSpec.{BoardSpec}
@@ -12,21 +11,13 @@ use Rattle.board_node.specs.OpeningWords.{OpensOnWords}
 use Rattle.script_plans.specs.declared.board_run.BoardRun.{BoardRun}
 use Rattle.script_plans.specs.Runs.{HaveOwnNames}
 use Rattle.lane_history.specs.Links.{CanBeMade, IsUntouched, LinkReport}
+use Rattle.command_terms.proofs.Leaving.{Told}
 use Rattle.load_run.specs.Generated.{boards, most_operations, steps}
 use Rattle.session_run.specs.Links.{AreLeft, CanBeReached}
 use Rattle.session_run.specs.declared.session.RunFault.{RunFault}
 use Rattle.session_run.specs.declared.session.RunFault.TheVariants.{NoMemory, Rack}
 use Rattle.load_run.specs.declared.run.Load.{Load}
 use Rattle.load_run.specs.Loading.{IsLoadOf, LoadLaw, LoadLeaves, PrintsLoad}
-
--- what is said of the links that were given back, by what each shows
-abbrev pub Told : {L : Type 0} → (L → LinkReport) → List L → List L → (List LinkReport → Type 0) → Type 0
-Told {L} shown old new holds = (links : List L) × (new ≡ old ++ links) × holds (map shown links)
-
-pub at_links : {L : Type 0} (shown : L → LinkReport) (old new links : List L) → new ≡ old ++ links
-    → (holds : List LinkReport → Type 0) → Told shown old new holds → holds (map shown links)
-at_links shown old new links grown holds told =
-    subst (λ found. holds (map shown found)) (append_cancel_left old told.0 links (sym told.1 ∙ grown)) told.2
 
 -- one board has a name of its own
 pub one_name : (runs : List BoardRun) (run : BoardRun) → runs ≡ run ∷ [] → HaveOwnNames runs
@@ -36,9 +27,6 @@ one_name runs run one i j d less within =
 failure : Result Load RunFault → RunFault
 failure (Ok load) = NoMemory
 failure (Err fault) = fault
-
-pub no_memory_is_no_rack : (fault : RunFault) → fault ≡ NoMemory → fault ≡ Rack → ⊥
-no_memory_is_no_rack fault is rack = cc
 
 module _ (Tells : ℕ → List LinkReport → Bool → List ℕ → Type 0) (count made makes : ℕ) where
   pub load_failed : (result : Result Load RunFault) (fault : RunFault) (links : List LinkReport)

@@ -1,4 +1,5 @@
 pub mod Loading
+pub mod Terms
 pub mod Generated
 pub mod Summary
 pub mod Claims

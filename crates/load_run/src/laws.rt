@@ -13,6 +13,7 @@ ghost use Rattle.script_lang.specs.declared.script_refusal.TheConstants.{MAX_LIN
 ghost use Rattle.script_plans.specs.declared.board_run.BoardRun.{BoardRun};
 ghost use Rattle.transcript.specs.Lines.{transcript_of};
 ghost use Rattle.board_history.specs.Runs.{CanRun};
+ghost use Rattle.command_terms.specs.Terms.{AreTerms};
 ghost use Rattle.lane_history.specs.Links.{LinkReport};
 ghost use Rattle.lane_history.specs.Runs.{AreRunsOver};
 ghost use Rattle.load_run.specs.declared.session.TheConstants.{MAX_COUNT};
@@ -20,6 +21,7 @@ ghost use Rattle.load_run.specs.Claims.{HasEachBelow, TellsRuns, sum_below};
 ghost use Rattle.load_run.specs.Generated.{boards, most_operations, settings, shares, steps};
 ghost use Rattle.load_run.specs.ScriptLines.{HasCountAlone, scripts, table_name};
 ghost use Rattle.load_run.specs.Summary.{all_done, summary_of, words_before};
+ghost use Rattle.load_run.specs.Terms.{load_terms};
 
 use board_history::laws::the_first_sends_are_the_order;
 use script_plans::laws::few_words_are_few_pieces;
@@ -100,3 +102,8 @@ pub fn no_more_are_done_than_asked_for()
 {
     the_first_sends_are_the_order();
 }
+
+/// What `load` owes are the terms of a command.
+pub fn the_terms_of_load()
+    ensures { (count : ℕ) → AreTerms (load_terms count) }
+{}

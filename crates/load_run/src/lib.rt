@@ -6,11 +6,13 @@
 
 pub mod examples;
 pub mod laws;
+pub mod answer;
 mod run;
 mod run_laws;
 mod session;
 mod summary;
 
+pub use answer::answer_load;
 pub use client_threads::Gate;
 pub use ipb_base::NoMemory;
 pub use run::{Load, run_load};

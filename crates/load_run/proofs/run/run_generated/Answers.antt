@@ -11,7 +11,8 @@ use Rattle.load_run.specs.Summary.{all_done, summary_of, summary_text}
 use Rattle.session_run.specs.Links.{AreLeft}
 use Rattle.transcript.specs.Lines.{transcript_of}
 use Rattle.load_run.specs.Loading.{PrintsLoad}
-use Rattle.load_run.proofs.Loads.{at_links, load_failed, load_told, no_memory_is_no_rack}
+use Rattle.command_terms.proofs.Leaving.{at_links, no_memory_is_no_rack}
+use Rattle.load_run.proofs.Loads.{load_failed, load_told}
 use Rattle.load_run.proofs.run.run_generated.Goals as goal
 
 pub returns-in_err-runs-clause-leaves : goal.returns-in_err-runs-clause-leaves

@@ -1,0 +1,116 @@
+-- What a command leaves, put together from what it did.
+use Rattle.std.proofs.Common.{◌≡◌, inl, inr, ℕ, List, [], ◌++◌, map, Result, Ok, Err, IfOk}
+use Rattle.std.proofs.Common.{refl, sym, ap, ◌∙◌, subst, append-nil, arith}
+use Rattle.std.proofs.lemmas.List.{append_cancel_left}
+use Rattle.std.specs.Result.{IsErr, IsErrAnd}
+use Rattle.lane_history.specs.Links.{LinkReport}
+use Rattle.session_run.specs.declared.session.RunFault.{RunFault}
+use Rattle.session_run.specs.declared.session.RunFault.TheVariants.{NoMemory, Rack}
+use Rattle.session_serve.specs.Serving.{AreBack}
+use Rattle.command_terms.specs.declared.answer.Answer.{Answer}
+use Rattle.command_terms.specs.Leaving.{Leaves}
+use Rattle.command_terms.specs.Numbers.{refused_status}
+use Rattle.command_terms.specs.Outside.{GivenBack, no_pairs}
+use Rattle.command_terms.specs.Terms.{Owes, Terms}
+
+-- what is said of the links that were given back, by what each shows
+abbrev pub Told : {L : Type 0} → (L → LinkReport) → List L → List L → (List LinkReport → Type 0) → Type 0
+Told {L} shown old new holds = (links : List L) × (new ≡ old ++ links) × holds (map shown links)
+
+pub at_links : {L : Type 0} (shown : L → LinkReport) (old new links : List L) → new ≡ old ++ links
+    → (holds : List LinkReport → Type 0) → Told shown old new holds → holds (map shown links)
+at_links shown old new links grown holds told =
+    subst (λ found. holds (map shown found)) (append_cancel_left old told.0 links (sym told.1 ∙ grown)) told.2
+
+pub same_Err : {T E : Type 0} (why other : E) → ◌≡◌ {A = Result T E} (Err why) (Err other) → why ≡ other
+same_Err why other same = cc
+
+pub no_memory_is_no_rack : (fault : RunFault) → fault ≡ NoMemory → fault ≡ Rack → ⊥
+no_memory_is_no_rack fault is rack = cc
+
+-- no pair came
+pub none_served : AreBack [] []
+none_served = ([], record { served = []; each = tt })
+
+-- ---- nothing was made
+
+module _ {E : Type 0} (Fails : E → Type 0) (rack_failed : E) where
+  nothing_used : (terms : Terms) (bytes : List ℕ) (made : ℕ) (result : Result Answer E)
+      → IfOk result (λ answer. Owes terms bytes (no_pairs []) answer.status answer.text.items)
+      → ((fault : E) → result ≡ Err fault → Fails fault → ⊥)
+      → Leaves Fails rack_failed terms bytes made made result (no_pairs [])
+  nothing_used terms bytes made result owed calm = record {
+    used = inl refl;
+    counted = omega arith;
+    back = none_served;
+    owed = owed;
+    behind = λ fault is failed. absurd (calm fault is failed);
+    untouched = λ rack. tt;
+  }
+
+  pub nothing_left : {L : Type 0} (shown : L → LinkReport) (kept : List L) (terms : Terms) (bytes : List ℕ)
+      (made : ℕ) (result : Result Answer E)
+      → IfOk result (λ answer. Owes terms bytes (no_pairs []) answer.status answer.text.items)
+      → ((fault : E) → result ≡ Err fault → Fails fault → ⊥)
+      → Told shown kept kept (λ links. Leaves Fails rack_failed terms bytes made made result (no_pairs links))
+  nothing_left shown kept terms bytes made result owed calm =
+      ([], sym (append-nil kept), nothing_used terms bytes made result owed calm)
+
+  same_error : (result : Result Answer E) (fault other : E) → IsErrAnd result (λ why. why ≡ fault) → result ≡ Err other
+      → other ≡ fault
+  same_error (Ok answer) fault other is same = absurd cc
+  same_error (Err why) fault other is same = sym (same_Err why other same) ∙ is
+
+  pub failure_left : {L : Type 0} (shown : L → LinkReport) (kept : List L) (terms : Terms) (bytes : List ℕ)
+      (made : ℕ) (result : Result Answer E) (fault : E)
+      → IsErr result → IsErrAnd result (λ why. why ≡ fault) → (Fails fault → ⊥)
+      → Told shown kept kept (λ links. Leaves Fails rack_failed terms bytes made made result (no_pairs links))
+  failure_left shown kept terms bytes made (Ok answer) fault fails is calm = absurd cc
+  failure_left shown kept terms bytes made (Err why) fault fails is calm =
+      nothing_left shown kept terms bytes made (Err why) tt
+      (λ other same failed. calm (subst Fails (same_error (Err why) fault other is same) failed))
+
+  pub error_left : {L : Type 0} (shown : L → LinkReport) (kept : List L) (terms : Terms) (bytes : List ℕ) (made : ℕ)
+      (why : E) → (Fails why → ⊥)
+      → Told shown kept kept (λ links. Leaves Fails rack_failed terms bytes made made (Err why) (no_pairs links))
+  error_left shown kept terms bytes made why calm =
+      nothing_left shown kept terms bytes made (Err why) tt
+      (λ other same failed. calm (subst Fails (sym (same_Err why other same)) failed))
+
+  pub refusal_left : {L : Type 0} (shown : L → LinkReport) (kept : List L) (terms : Terms) (bytes : List ℕ)
+      (made : ℕ) (answer : Answer) → terms.Refuses bytes answer.text.items → answer.status ≡ refused_status
+      → Told shown kept kept (λ links. Leaves Fails rack_failed terms bytes made made (Ok answer) (no_pairs links))
+  refusal_left shown kept terms bytes made answer deserved status =
+      nothing_left shown kept terms bytes made (Ok answer) (inr (status, deserved)) (λ fault is failed. absurd cc)
+
+-- ---- the same with another error
+
+module _ {E F : Type 0} (Fails : E → Type 0) (rack : E) (Failed : F → Type 0) (rack_now : F) (terms : Terms)
+    (bytes : List ℕ) (made makes : ℕ) (given : GivenBack) where
+  pub done_as : (answer : Answer) → Leaves Fails rack terms bytes made makes (Ok answer) given
+      → Leaves Failed rack_now terms bytes made makes (Ok answer) given
+  done_as answer leaves = record {
+    used = leaves.used;
+    counted = leaves.counted;
+    back = leaves.back;
+    owed = leaves.owed;
+    behind = λ fault is failed. absurd cc;
+    untouched = λ is. absurd cc;
+  }
+
+  pub failed_as : (convert : E → F) (fault : E) (result : Result Answer F)
+      → (Failed (convert fault) → Fails fault) → (convert fault ≡ rack_now → fault ≡ rack)
+      → IsErr result → IsErrAnd result (λ why. why ≡ convert fault)
+      → Leaves Fails rack terms bytes made makes (Err fault) given
+      → Leaves Failed rack_now terms bytes made makes result given
+  failed_as convert fault (Ok answer) behind is_rack fails is leaves = absurd cc
+  failed_as convert fault (Err why) behind is_rack fails is leaves = record {
+    used = leaves.used;
+    counted = leaves.counted;
+    back = leaves.back;
+    owed = tt;
+    behind = λ other same failed.
+        leaves.behind fault refl
+        (behind (subst Failed (sym (same_Err why other same) ∙ is) failed));
+    untouched = λ same. leaves.untouched (ap Err (is_rack (sym is ∙ same_Err why rack_now same)));
+  }

@@ -1,0 +1,4 @@
+pub mod Leaving
+pub mod Pairs
+pub mod Documents
+pub mod Statuses

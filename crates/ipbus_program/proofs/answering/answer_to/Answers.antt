@@ -1,0 +1,118 @@
+use Rattle.std.proofs.Common.{Ok, [], map, refl, sym, subst, ◌∙◌, ap}
+use Rattle.session_run.specs.declared.session.RunFault.TheVariants as run
+use Rattle.session_serve.specs.declared.report.ServeFault.TheVariants as serve
+use Rattle.board_greeting.specs.Boards.{shown_by}
+use Rattle.command_words.specs.declared.command.Command.TheVariants.{Check, Run}
+use Rattle.command_terms.specs.Leaving.{IsRunFailure, IsServeFailure, Leaves}
+use Rattle.command_terms.specs.Outside.{no_pairs}
+use Rattle.command_terms.specs.Terms.{Owes}
+use Rattle.command_terms.proofs.Leaving.{done_as, failed_as, failure_left, nothing_left}
+use Rattle.command_terms.proofs.Pairs.{therefore, without_pairs}
+use Rattle.ipbus_program.specs.Commands.{terms_of}
+use Rattle.ipbus_program.specs.declared.no_answer.NoAnswer.TheVariants.{NoMemory, RackFault}
+use Rattle.ipbus_program.specs.Steps.{IsFailure, no_answer_of, no_answer_served}
+use Rattle.ipbus_program.proofs.Faults.{run_behind, run_no_door, run_rack, serve_behind, serve_rack}
+use Rattle.ipbus_program.proofs.answering.answer_to.Goals as goal
+
+pub returns-in_err-run_document-in-Run-clause-leaves : goal.returns-in_err-run_document-in-Run-clause-leaves
+returns-in_err-run_document-in-Run-clause-leaves g c =
+    let shown = shown_by g.R.L.Link.faults g.R.L.Link.quiets g.R.L.Link.gots g.R.L.Link.held g.R.L.Link.telling in
+    let made = g.R.Rack.made c.args.rack.now in
+    let makes = g.R.Rack.made c.run_document.new.rack in
+    let left = c.in_err-run_document-in-Run.ensures.leaves in
+    let result = c.from_residual.result in
+    without_pairs shown g.D.Incoming.Source.left g.D.Incoming.Source.faults
+    g.D.Outgoing.Sink.written g.D.Outgoing.Sink.faults g.D.Outgoing.Sink.ended
+    _ _ _ _ _ _ refl refl
+    (Leaves IsFailure RackFault (terms_of c.args.command.now) c.args.bytes.now made makes result) (
+      left.0,
+      left.1,
+      subst (λ command. Leaves IsFailure RackFault (terms_of command) c.args.bytes.now made makes result
+          (no_pairs (map shown left.0))) (sym c.in-Run.is)
+          (failed_as IsRunFailure run.Rack IsFailure RackFault (terms_of Run) c.args.bytes.now made makes
+          (no_pairs (map shown left.0)) no_answer_of c.in_err-run_document-in-Run.field-0.0 result (run_behind _) (run_rack _)
+          c.from_residual.ensures.0 c.from_residual.ensures.1 left.2),
+    )
+
+pub returns-in_ok-run_document-in-Run-clause-leaves : goal.returns-in_ok-run_document-in-Run-clause-leaves
+returns-in_ok-run_document-in-Run-clause-leaves g c =
+    let shown = shown_by g.R.L.Link.faults g.R.L.Link.quiets g.R.L.Link.gots g.R.L.Link.held g.R.L.Link.telling in
+    let made = g.R.Rack.made c.args.rack.now in
+    let makes = g.R.Rack.made c.run_document.new.rack in
+    let left = c.in_ok-run_document-in-Run.ensures.leaves in
+    let answer = c.in_ok-run_document-in-Run.field-0 in
+    without_pairs shown g.D.Incoming.Source.left g.D.Incoming.Source.faults
+    g.D.Outgoing.Sink.written g.D.Outgoing.Sink.faults g.D.Outgoing.Sink.ended
+    _ _ _ _ _ _ refl refl
+    (Leaves IsFailure RackFault (terms_of c.args.command.now) c.args.bytes.now made makes (Ok answer)) (
+      left.0,
+      left.1,
+      subst (λ command. Leaves IsFailure RackFault (terms_of command) c.args.bytes.now made makes (Ok answer)
+          (no_pairs (map shown left.0))) (sym c.in-Run.is)
+          (done_as IsRunFailure run.Rack IsFailure RackFault (terms_of Run) c.args.bytes.now made makes
+          (no_pairs (map shown left.0)) answer left.2),
+    )
+
+pub returns-in_err-run_document-in-Run-clause-serves : goal.returns-in_err-run_document-in-Run-clause-serves
+returns-in_err-run_document-in-Run-clause-serves g c = λ door.
+    absurd (run_no_door c.in_err-run_document-in-Run.field-0.0 c.from_residual.result c.from_residual.ensures.1 door)
+
+pub returns-in_err-check_document-in-Check-clause-leaves : goal.returns-in_err-check_document-in-Check-clause-leaves
+returns-in_err-check_document-in-Check-clause-leaves g c =
+    let shown = shown_by g.R.L.Link.faults g.R.L.Link.quiets g.R.L.Link.gots g.R.L.Link.held g.R.L.Link.telling in
+    let made = g.R.Rack.made c.args.rack.now in
+    without_pairs shown g.D.Incoming.Source.left g.D.Incoming.Source.faults
+    g.D.Outgoing.Sink.written g.D.Outgoing.Sink.faults g.D.Outgoing.Sink.ended
+    _ _ _ _ _ _ refl refl
+    (Leaves IsFailure RackFault (terms_of c.args.command.now) c.args.bytes.now made made _)
+    (failure_left IsFailure RackFault shown _ (terms_of c.args.command.now) c.args.bytes.now _ _ NoMemory
+    c.from_residual-in_err-check_document-in-Check.ensures.0 c.from_residual-in_err-check_document-in-Check.ensures.1 (λ failed. failed))
+
+pub returns-in_ok-check_document-in-Check-clause-leaves : goal.returns-in_ok-check_document-in-Check-clause-leaves
+returns-in_ok-check_document-in-Check-clause-leaves g c =
+    let shown = shown_by g.R.L.Link.faults g.R.L.Link.quiets g.R.L.Link.gots g.R.L.Link.held g.R.L.Link.telling in
+    let made = g.R.Rack.made c.args.rack.now in
+    let answer = c.in_ok-check_document-in-Check.field-0 in
+    let same = ap Check c.as_str.ensures ∙ sym c.in-Check.is in
+    without_pairs shown g.D.Incoming.Source.left g.D.Incoming.Source.faults
+    g.D.Outgoing.Sink.written g.D.Outgoing.Sink.faults g.D.Outgoing.Sink.ended
+    _ _ _ _ _ _ refl refl
+    (Leaves IsFailure RackFault (terms_of c.args.command.now) c.args.bytes.now made made _)
+    (nothing_left IsFailure RackFault shown _ (terms_of c.args.command.now) c.args.bytes.now _ _
+    (subst (λ command. Owes (terms_of command) c.args.bytes.now (no_pairs []) answer.status answer.text.items) same
+    c.in_ok-check_document-in-Check.ensures)
+    (λ fault never. absurd cc))
+
+pub returns-in_err-serve_document-in-Serve-clause-leaves : goal.returns-in_err-serve_document-in-Serve-clause-leaves
+returns-in_err-serve_document-in-Serve-clause-leaves g c =
+    let shown = shown_by g.R.L.Link.faults g.R.L.Link.quiets g.R.L.Link.gots g.R.L.Link.held g.R.L.Link.telling in
+    let made = g.R.Rack.made c.args.rack.now in
+    let makes = g.R.Rack.made c.serve_document.new.rack in
+    let result = c.from_residual-in_err-serve_document-in-Serve.result in
+    therefore shown g.D.Incoming.Source.left g.D.Incoming.Source.faults
+    g.D.Outgoing.Sink.written g.D.Outgoing.Sink.faults g.D.Outgoing.Sink.ended
+    _ _ _ _ _ _
+    (Leaves IsServeFailure serve.Rack _ c.args.bytes.now made makes _)
+    (Leaves IsFailure RackFault (terms_of c.args.command.now) c.args.bytes.now made makes result)
+    (λ given leaves. subst (λ command. Leaves IsFailure RackFault (terms_of command) c.args.bytes.now made makes result given)
+    (sym c.in-Serve.is)
+    (failed_as IsServeFailure serve.Rack IsFailure RackFault _ c.args.bytes.now made makes given
+    no_answer_served c.in_err-serve_document-in-Serve.field-0.0 result (serve_behind _) (serve_rack _)
+    c.from_residual-in_err-serve_document-in-Serve.ensures.0 c.from_residual-in_err-serve_document-in-Serve.ensures.1 leaves))
+    c.in_err-serve_document-in-Serve.ensures.leaves
+
+pub returns-in_ok-serve_document-in-Serve-clause-leaves : goal.returns-in_ok-serve_document-in-Serve-clause-leaves
+returns-in_ok-serve_document-in-Serve-clause-leaves g c =
+    let shown = shown_by g.R.L.Link.faults g.R.L.Link.quiets g.R.L.Link.gots g.R.L.Link.held g.R.L.Link.telling in
+    let made = g.R.Rack.made c.args.rack.now in
+    let makes = g.R.Rack.made c.serve_document.new.rack in
+    let answer = c.in_ok-serve_document-in-Serve.field-0 in
+    therefore shown g.D.Incoming.Source.left g.D.Incoming.Source.faults
+    g.D.Outgoing.Sink.written g.D.Outgoing.Sink.faults g.D.Outgoing.Sink.ended
+    _ _ _ _ _ _
+    (Leaves IsServeFailure serve.Rack _ c.args.bytes.now made makes (Ok answer))
+    (Leaves IsFailure RackFault (terms_of c.args.command.now) c.args.bytes.now made makes (Ok answer))
+    (λ given leaves. subst (λ command. Leaves IsFailure RackFault (terms_of command) c.args.bytes.now made makes (Ok answer) given)
+    (sym c.in-Serve.is)
+    (done_as IsServeFailure serve.Rack IsFailure RackFault _ c.args.bytes.now made makes given answer leaves))
+    c.in_ok-serve_document-in-Serve.ensures.leaves

@@ -1,0 +1,104 @@
+//! What each command answers. A command has a case in each of these functions, and nowhere else.
+
+ghost use Rattle.std.specs.Prelude.{◌≡◌, ◌≢◌, ◌≤◌, ℕ, Err, IfOk, true};
+ghost use Rattle.board_greeting.specs.Links.{Keeps};
+ghost use Rattle.session_serve.specs.Pairs.{GivesBack};
+ghost use Rattle.command_words.specs.declared.command.Command.{Command as CommandValue};
+ghost use Rattle.command_words.specs.declared.command.Command.TheVariants.{Load};
+ghost use Rattle.command_terms.specs.Faults.{RisesOnlyAt};
+ghost use Rattle.command_terms.specs.Leaving.{Leaves};
+ghost use Rattle.command_terms.specs.Numbers.{refused_status};
+ghost use Rattle.command_terms.specs.Terms.{AreTerms, Reads};
+ghost use Rattle.load_run.specs.Generated.{most_operations};
+ghost use Rattle.ipbus_program.specs.Commands.{terms_of};
+ghost use Rattle.ipbus_program.specs.Steps.{IsFailure, LeavesAlone};
+
+use crate::no_answer::NoAnswer;
+use check_command::check_document;
+use check_command::laws::the_terms_of_check;
+use client_threads::Gate;
+use command_terms::{Answer, refused};
+use command_words::Command;
+use ipb_base::NoMemory;
+use ipb_outside::Door;
+use load_run::answer_load;
+use load_run::laws::the_terms_of_load;
+use lossy_network::Rack;
+use run_command::laws::the_terms_of_run;
+use run_command::run_document;
+use serve_command::laws::the_terms_of_serve;
+use serve_command::serve_document;
+use session_input::{MAX_DOCUMENT, Refusal};
+use std::alloc::Global;
+use std::marker::Sync;
+use std::sync::Wait;
+use std::thread::Threads;
+
+/// What each command owes are the terms of a command.
+pub(crate) fn terms_are_terms()
+    ensures { (command : CommandValue) → AreTerms (terms_of command) }
+{
+    the_terms_of_run();
+    the_terms_of_check();
+    the_terms_of_serve();
+    the_terms_of_load();
+}
+
+/// How many bytes the input of a command may have, and none where it reads no input.
+pub(crate) fn limit_of(command: &Command) -> Option<usize>
+    ensures { result ≡ (terms_of command.now).limit }
+{
+    match command {
+        Command::Run => Some(MAX_DOCUMENT),
+        Command::Check { table: _ } => Some(MAX_DOCUMENT),
+        Command::Serve { port: _, count: _ } => Some(MAX_DOCUMENT),
+        Command::Load { count: _ } => None,
+    }
+}
+
+/// The answer to an input that is longer.
+pub(crate) fn too_long(alloc: Global, command: &Command) -> Result<Answer, NoMemory>
+    requires { Reads (terms_of command.now) }
+    ensures status { IfOk result (λ answer. answer.status ≡ refused_status) }
+    ensures text { IfOk result (λ answer. answer.text.items ≡ (terms_of command.now).long_line) }
+{
+    match command {
+        Command::Run => refused(alloc, &Refusal::TooLong),
+        Command::Check { table: _ } => refused(alloc, &Refusal::TooLong),
+        Command::Serve { port: _, count: _ } => refused(alloc, &Refusal::TooLong),
+        Command::Load { count: _ } => unreachable!(),
+    }
+}
+
+/// What a command answers to the bytes of its input; one that reads none, whatever the bytes.
+pub(crate) fn answer_to<R: Rack, D: Door, T: Threads + Wait + Sync, G: Gate>(
+    rt: &T,
+    alloc: Global,
+    command: &Command,
+    bytes: &[u8],
+    rack: &mut R,
+    door: &mut D,
+    gate: &G,
+) -> Result<Answer, NoAnswer>
+    requires { (count : ℕ) → command.now ≡ Load count → count ≤ most_operations }
+    ensures leaves { Keeps R.L.faults R.L.quiets R.L.gots R.L.held R.L.telling (R.kept rack.old) (R.kept rack.new)
+        (λ links. GivesBack D.Incoming.left D.Incoming.faults D.Outgoing.written D.Outgoing.faults D.Outgoing.ended
+        (D.coming door.old) (D.coming door.new) (D.kept door.old) (D.kept door.new)
+        (λ came back. Leaves IsFailure NoAnswer.RackFault (terms_of command.now) bytes.now (R.made rack.old)
+        (R.made rack.new) result (record { links = links; came = came; back = back }))) }
+    ensures alone { LeavesAlone (terms_of command.now) result rack.old rack.new door.old door.new }
+    ensures none_out { D.out door.new ≡ D.out door.old }
+    ensures serves { result ≡ Err NoAnswer.DoorFault → (terms_of command.now).lets_in ≡ true }
+    ensures not_read_fault { result ≢ Err NoAnswer.ReadFault }
+    ensures rack_faults { RisesOnlyAt (Err NoAnswer.RackFault) result (R.faults rack.old) (R.faults rack.new) }
+    ensures door_faults { RisesOnlyAt (Err NoAnswer.DoorFault) result (D.faults door.old) (D.faults door.new) }
+{
+    match command {
+        Command::Run => Ok(run_document(rt, alloc, bytes, rack, gate)?),
+        Command::Check { table } => Ok(check_document(alloc, bytes, table.as_str())?),
+        Command::Serve { port, count } => {
+            Ok(serve_document(rt, alloc, bytes, *port, *count, rack, door)?)
+        }
+        Command::Load { count } => Ok(answer_load(rt, alloc, *count, rack, gate)?),
+    }
+}

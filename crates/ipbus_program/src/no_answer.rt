@@ -1,0 +1,54 @@
+//! Why there is no answer to an input.
+
+use ipb_base::NoMemory;
+use session_run::RunFault;
+use session_serve::ServeFault;
+
+/// Why there is none.
+#[derive(Clone, Copy)]
+pub(crate) enum NoAnswer {
+    ReadFault,
+    RackFault,
+    DoorFault,
+    NoMemory,
+}
+
+impl From<NoMemory> for NoAnswer {
+    ghost use Rattle.std.specs.Prelude.{◌≡◌};
+    ghost use Rattle.ipbus_program.specs.declared.no_answer.NoAnswer.TheVariants.{NoMemory as out_of_memory};
+
+    ghost from_gives = { λ _ e. e ≡ out_of_memory };
+
+    fn from(_error: NoMemory) -> NoAnswer {
+        NoAnswer::NoMemory
+    }
+}
+
+impl From<RunFault> for NoAnswer {
+    ghost use Rattle.std.specs.Prelude.{◌≡◌};
+    ghost use Rattle.ipbus_program.specs.Steps.{no_answer_of};
+
+    ghost from_gives = { λ fault e. e ≡ no_answer_of fault };
+
+    fn from(fault: RunFault) -> NoAnswer {
+        match fault {
+            RunFault::Rack => NoAnswer::RackFault,
+            RunFault::NoMemory => NoAnswer::NoMemory,
+        }
+    }
+}
+
+impl From<ServeFault> for NoAnswer {
+    ghost use Rattle.std.specs.Prelude.{◌≡◌};
+    ghost use Rattle.ipbus_program.specs.Steps.{no_answer_served};
+
+    ghost from_gives = { λ fault e. e ≡ no_answer_served fault };
+
+    fn from(fault: ServeFault) -> NoAnswer {
+        match fault {
+            ServeFault::Rack => NoAnswer::RackFault,
+            ServeFault::Door => NoAnswer::DoorFault,
+            ServeFault::NoMemory => NoAnswer::NoMemory,
+        }
+    }
+}

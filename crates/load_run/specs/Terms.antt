@@ -1,0 +1,36 @@
+-- What `load` owes. Profile.
+use Rattle.std.specs.Prelude.{◌≡◌, ℕ, Bool, List, None, true, false, []}
+use Rattle.lane_history.specs.Links.{LinkReport}
+use Rattle.command_terms.specs.Numbers.{told_status}
+use Rattle.command_terms.specs.Terms.{Terms}
+use Rattle.load_run.specs.Generated.{boards, steps}
+use Rattle.load_run.specs.Loading.{IsLoadOf}
+use Rattle.session_run.specs.Links.{AreLeft}
+
+-- Of the number of operations, what the link that was given back shows, the status and the text, which is the summary of
+-- a generated session:
+pub record IsSummaryOf (count : ℕ) (links : List LinkReport) (status : ℕ) (text : List ℕ) : Type 0 where
+  -- whether every operation was replied to with code 0, and the summary that tells it
+  pub done : Bool
+  pub load : IsLoadOf count links done text
+  -- the status is 0 exactly where it was
+  pub told : status ≡ told_status done
+
+-- At every status: the links are those of the first boards of the generated session, each given back once; what the
+-- board executed is a merge of bodies that the scripts ask of it, some of each client's, in its order.
+abbrev pub AreLoaded : ℕ → List LinkReport → Type 0
+AreLoaded count links = AreLeft 0 (boards count) (steps count) links
+
+-- It reads nothing, runs the generated session of so many operations over a link that the rack makes, and writes the
+-- summary.
+abbrev pub load_terms : ℕ → Terms
+load_terms count = record {
+  limit = None;
+  makes_links = true;
+  lets_in = false;
+  long_line = [];
+  Right = λ bytes. Unit {0};
+  Refuses = λ bytes line. ⊥;
+  Done = λ bytes given status text. IsSummaryOf count given.links status text;
+  Uses = λ bytes links. AreLoaded count links;
+}

@@ -1,0 +1,45 @@
+//! What `load` answers.
+
+ghost use Rattle.std.specs.Prelude.{◌≡◌, ◌≢◌, ◌≤◌, ℕ, List, Err, IfOk};
+ghost use Rattle.board_greeting.specs.Links.{Keeps};
+ghost use Rattle.command_terms.specs.Faults.{RisesOnlyAt};
+ghost use Rattle.command_terms.specs.Leaving.{IsRunFailure, Leaves};
+ghost use Rattle.command_terms.specs.Numbers.{refused_status};
+ghost use Rattle.command_terms.specs.Outside.{no_pairs};
+ghost use Rattle.load_run.specs.Generated.{most_operations};
+ghost use Rattle.load_run.specs.Terms.{load_terms};
+
+use crate::run::run_load;
+use client_threads::Gate;
+use command_terms::{Answer, done_status};
+use lossy_network::Rack;
+use session_run::RunFault;
+use std::alloc::Global;
+use std::marker::Sync;
+use std::sync::Wait;
+use std::thread::Threads;
+
+/// Runs the generated session of so many operations, at most `MAX_COUNT`, over a link that the rack makes, gives the link
+/// back, and answers the summary (profile), with 0 where every operation was done, and else with 1. It reads no bytes,
+/// so its terms are met of any. `Rack` is answered where the link could not be made.
+pub fn answer_load<R: Rack, T: Threads + Wait + Sync, G: Gate>(
+    rt: &T,
+    alloc: Global,
+    count: u32,
+    rack: &mut R,
+    gate: &G,
+) -> Result<Answer, RunFault>
+    requires { count ≤ most_operations }
+    ensures leaves { (bytes : List ℕ)
+        → Keeps R.L.faults R.L.quiets R.L.gots R.L.held R.L.telling (R.kept rack.old) (R.kept rack.new)
+        (λ links. Leaves IsRunFailure RunFault.Rack (load_terms count) bytes (R.made rack.old) (R.made rack.new) result
+        (no_pairs links)) }
+    ensures not_refused { IfOk result (λ answer. answer.status ≢ refused_status) }
+    ensures rack_faults { RisesOnlyAt (Err RunFault.Rack) result (R.faults rack.old) (R.faults rack.new) }
+{
+    let load = run_load(rt, alloc, count, rack, gate)?;
+    Ok(Answer {
+        status: done_status(load.done),
+        text: load.text,
+    })
+}

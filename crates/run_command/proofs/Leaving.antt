@@ -1,0 +1,106 @@
+-- What a run leaves, put together from what its steps say.
+use Rattle.std.proofs.Common.{◌≡◌, inl, inr, ℕ, ◌+◌, List, length}
+use Rattle.std.proofs.Common.{Result, Ok, Err, IfOk}
+use Rattle.std.proofs.Common.{sym, ap, ◌∙◌}
+use Rattle.std.specs.List.{AllByRecursion}
+use Rattle.std.specs.Result.{IsErr, IsErrAnd}
+use Rattle.lane_history.specs.Links.{LinkReport, IsUntouched}
+use Rattle.lane_history.specs.Runs.{AreRunsOver}
+use Rattle.script_steps.specs.declared.operation.Step.{Step}
+use Rattle.script_lang.specs.declared.session.Session.{Session}
+use Rattle.session_input.specs.Deserved.{IsRunnable}
+use Rattle.session_run.specs.declared.session.RunFault.{RunFault}
+use Rattle.session_run.specs.declared.session.RunFault.TheVariants.{Rack, NoMemory}
+use Rattle.session_run.specs.Links.{AreLeft}
+use Rattle.script_plans.specs.declared.board_run.BoardRun.{BoardRun}
+use Rattle.transcript.specs.Lines.{all_good, transcript_of, run_status}
+use Rattle.transcript.specs.Text.{transcript_text}
+use Rattle.command_terms.specs.declared.answer.Answer.{Answer}
+use Rattle.command_terms.specs.Leaving.{IsRunFailure, Leaves}
+use Rattle.command_terms.specs.Numbers.{refused_status}
+use Rattle.command_terms.specs.Outside.{no_pairs}
+use Rattle.command_terms.specs.Terms.{Owes}
+use Rattle.command_terms.proofs.Leaving.{none_served}
+use Rattle.command_terms.proofs.Statuses.{done_is_no_refusal, told_is_done}
+use Rattle.run_laws.specs.Runs.{IsSessionRun}
+use Rattle.run_laws.specs.Steps.{CanRunSteps}
+use Rattle.run_command.specs.Headline.{RanSomeOf}
+use Rattle.run_command.specs.Steps.{Prints, RunLeaves}
+use Rattle.run_command.specs.Terms.{run_terms}
+
+failure : Result Answer RunFault → RunFault
+failure (Ok answer) = NoMemory
+failure (Err fault) = fault
+
+pub run_failed : (session : Session) (steps : List (List Step)) (made makes : ℕ) (result : Result Answer RunFault)
+    (fault : RunFault) (links : List LinkReport) → AreLeft 0 session.boards steps links → makes ≡ made + length links
+    → IsErr result → IsErrAnd result (λ why. why ≡ fault) → (fault ≡ Rack → AllByRecursion IsUntouched links)
+    → RunLeaves session steps made makes result links
+unfolding failure
+run_failed session steps made makes (Ok answer) fault links left counted fails is untouched = absurd cc
+run_failed session steps made makes (Err why) fault links left counted fails is untouched = record {
+  left = left;
+  counted = counted;
+  prints = tt;
+  untouched = λ rack. untouched (sym is ∙ ap failure rack);
+}
+
+pub run_printed : (session : Session) (steps : List (List Step)) (made makes : ℕ) (answer : Answer)
+    (runs : List BoardRun)
+    (links : List LinkReport) → AreLeft 0 session.boards steps links → makes ≡ made + length links
+    → AreRunsOver session.settings 0 session.boards steps runs links
+    → answer.text.items ≡ transcript_text (transcript_of steps runs)
+    → answer.status ≡ run_status (transcript_of steps runs).clients
+    → RunLeaves session steps made makes (Ok answer) links
+run_printed session steps made makes answer runs links left counted boards spelled told = record {
+  left = left;
+  counted = counted;
+  prints = record { runs = runs; boards = boards; spelled = spelled; told = told };
+  untouched = λ never. absurd cc;
+}
+
+-- outcomes over links are a run of the steps
+abbrev pub RunsLaw : Type 0
+RunsLaw = (session : Session) (steps : List (List Step)) (runs : List BoardRun) (links : List LinkReport)
+    → CanRunSteps session steps → AreRunsOver session.settings 0 session.boards steps runs links
+    → IsSessionRun session steps runs links
+
+owed_by : RunsLaw → (bytes : List ℕ) (session : Session) (steps : List (List Step)) (links : List LinkReport)
+    (result : Result Answer RunFault) → IsRunnable bytes session steps → CanRunSteps session steps
+    → IfOk result (λ answer. Prints session steps links answer.status answer.text.items)
+    → IfOk result (λ answer. Owes run_terms bytes (no_pairs links) answer.status answer.text.items)
+owed_by law bytes session steps links (Ok answer) runs can prints =
+    inl (record {
+      session = session;
+      steps = steps;
+      runnable = runs;
+      runs = prints.runs;
+      run = law session steps prints.runs links can prints.boards;
+      spelled = prints.spelled;
+      told = prints.told;
+    })
+owed_by law bytes session steps links (Err why) runs can prints = tt
+
+pub run_leaves : RunsLaw → (bytes : List ℕ) (session : Session) (steps : List (List Step)) (made makes : ℕ)
+    (result : Result Answer RunFault) (links : List LinkReport) → IsRunnable bytes session steps
+    → CanRunSteps session steps → RunLeaves session steps made makes result links
+    → Leaves IsRunFailure Rack run_terms bytes made makes result (no_pairs links)
+run_leaves law bytes session steps made makes result links runs can leaves =
+    let ran : RanSomeOf bytes links =
+    record { session = session; steps = steps; runnable = runs; left = leaves.left } in record {
+      used = inr ran;
+      counted = leaves.counted;
+      back = none_served;
+      owed = owed_by law bytes session steps links result runs can leaves.prints;
+      behind = λ fault is failed. ran;
+      untouched = leaves.untouched;
+    }
+
+pub kept_unless_refused : (P : Type 0) (session : Session) (steps : List (List Step)) (links : List LinkReport)
+    (result : Result Answer RunFault)
+    → IfOk result (λ answer. Prints session steps links answer.status answer.text.items)
+    → IfOk result (λ answer. answer.status ≡ refused_status → P)
+kept_unless_refused P session steps links (Ok answer) prints = λ refused.
+    absurd (done_is_no_refusal answer.status
+    (told_is_done (all_good (transcript_of steps prints.runs).clients) answer.status prints.told) refused)
+kept_unless_refused P session steps links (Err why) prints = tt

@@ -1,0 +1,72 @@
+-- THE HEADLINE: what `run` promises of the text that it writes with status 0 or 1.
+--
+-- Take any session, any way in which the threads of its clients take turns, and any losses, repeats, delays and changes
+-- of order on the links. An operation that the policy of the session denies is sent nowhere, and is printed so. Each
+-- board has one order of packets, those of a client in the order of its script. Of a board
+-- whose link tells, as that of every simulated board does: what is printed as the reply to an operation is what a bus
+-- with a single thread answers at the printed places of that order, and each packet that the board executed stands
+-- there once. `timeout` is printed only after as many rounds as the line says, and where the link tells, of a packet
+-- that was executed once or never.
+--
+-- It is one record, `IsTranscriptOf`, whose parts are these words. What it says of the lines is said of the steps of
+-- any run, by `IsSessionRun` of run_laws/specs/Runs. Profile.
+--
+--   the session, its policy      IsRunnable                              session_input/specs/Deserved
+--   the text                     transcript_of, transcript_text          transcript/specs/Lines, Text
+--   one order on each board      HasOneOrder, ShowsAllPlaces             board_history/specs/Parts,
+--                                                                        transcript/specs/Shown
+--   each client in its order     KeepsScripts                            board_history/specs/Parts
+--   executed once                IsExecutedOnce                          board_history/specs/Parts
+--   each reply                   AreRepliesOf, IsUngarbledWhereTold      board_history/specs/Parts,
+--                                                                        lane_history/specs/Runs
+--   timeouts                     GaveUpOnlyAfter, TimeOutsWaited,        board_history/specs/GiveUps,
+--                                IsLineOfRounds                          lane_history/specs/Runs
+--   replies over any link        RepliesCame                             lane_history/specs/Runs
+--   lost links, down, silent     IsLostOnlyIfFailed, IsDownRun,          lane_history/specs/Links, Runs
+--                                IsSilentRun                             lane_history/specs/Runs
+--   error and skipped            op_result, told_of                      transcript/specs/Results, Ends
+--   denied                       ruled_scripts, rules_shown, planned_on  access_policy/specs/Decisions,
+--                                                                        transcript/specs/Claims,
+--                                                                        script_plans/specs/Plan
+--   the status                   run_status, IsBusLine                   transcript/specs/Lines,
+--                                                                        board_history/specs/Lines
+--   where nothing was held back  AreWholeRuns, ShowAloneRuns             lane_history/specs/Runs
+--   where all was done           ShowAloneRunsWhereTold                  lane_history/specs/Runs
+--   over any link, told or not   HoldsOverAnyLink                        lane_history/specs/Runs
+--   at every status              RanSomeOf, below, by AreLeft            session_run/specs/Links
+--
+-- What holds of one board and its link is `IsRunOver` of lane_history/specs/Runs, which has a sentence for each part.
+use Rattle.std.specs.Prelude.{◌≡◌, ℕ, List}
+use Rattle.lane_history.specs.Links.{LinkReport}
+use Rattle.run_laws.specs.Runs.{IsSessionRun}
+use Rattle.script_steps.specs.declared.operation.Step.{Step}
+use Rattle.script_lang.specs.declared.session.Session.{Session}
+use Rattle.session_input.specs.Deserved.{IsRunnable}
+use Rattle.session_run.specs.Links.{AreLeft}
+use Rattle.script_plans.specs.declared.board_run.BoardRun.{BoardRun}
+use Rattle.transcript.specs.Lines.{transcript_of, run_status}
+use Rattle.transcript.specs.Text.{transcript_text}
+
+-- Of the bytes of the input, what the links that were given back show, the status and the text:
+pub record IsTranscriptOf (bytes : List ℕ) (links : List LinkReport) (status : ℕ) (text : List ℕ) : Type 0 where
+  -- the bytes stand for a session that can be run, and under its policy these are the steps of its scripts
+  pub session : Session
+  pub steps : List (List Step)
+  pub runnable : IsRunnable bytes session steps
+  -- there is an outcome for each body that the scripts ask of a board, such that it is a run of these steps over these
+  -- links, with one order of bodies on each board, and all that the lines of such a run show
+  pub runs : List BoardRun
+  pub run : IsSessionRun session steps runs links
+  -- the text is the transcript of these outcomes, and nothing else
+  pub spelled : text ≡ transcript_text (transcript_of steps runs)
+  -- the status is 0 exactly where every line of an operation is a value, `done` or `was`
+  pub told : status ≡ run_status (transcript_of steps runs).clients
+
+-- At every status: the bytes stand for a session that can be run, and the links are those of its first boards, in
+-- order, each given back once; what each board executed is a merge of bodies that the scripts ask of it, some of each
+-- client's, in its order.
+pub record RanSomeOf (bytes : List ℕ) (links : List LinkReport) : Type 0 where
+  pub session : Session
+  pub steps : List (List Step)
+  pub runnable : IsRunnable bytes session steps
+  pub left : AreLeft 0 session.boards steps links

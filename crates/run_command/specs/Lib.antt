@@ -1,0 +1,3 @@
+pub mod Headline
+pub mod Terms
+pub mod Steps

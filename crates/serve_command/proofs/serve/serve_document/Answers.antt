@@ -1,0 +1,82 @@
+use Rattle.std.proofs.Common.{refl, rules}
+use Rattle.session_input.specs.Deserved.{BreaksInServe, Deserves}
+use Rattle.board_greeting.specs.Boards.{shown_by}
+use Rattle.session_serve.specs.declared.report.ServeFault.TheVariants.{NoMemory, Rack}
+use Rattle.command_terms.specs.Documents.{IsRefusedDocument}
+use Rattle.command_terms.specs.Leaving.{IsServeFailure, Leaves}
+use Rattle.command_terms.proofs.Leaving.{error_left, failure_left, refusal_left}
+use Rattle.command_terms.proofs.Pairs.{therefore, without_pairs}
+use Rattle.serve_command.specs.Steps.{ServeLeaves}
+use Rattle.serve_command.specs.Terms.{serve_terms}
+use Rattle.serve_command.proofs.Leaving.{serve_leaves}
+use Rattle.serve_command.proofs.Ready.{may_serve}
+use Rattle.serve_command.proofs.Services.{not_refused}
+use Rattle.serve_command.proofs.serve.serve_document.Goals as goal
+
+pub served-requires-after_bounds : goal.served-requires-after_bounds
+served-requires-after_bounds g c κs within =
+    may_serve c.the_ranges_of_a_session_name_words.ensures c.args.bytes.now c.in-Ok.session
+    c.in-Ok.ensures.servable c.in-Ok.ensures.within
+
+pub returns-in_err-refused-in-Err-Refused-clause-leaves : goal.returns-in_err-refused-in-Err-Refused-clause-leaves
+returns-in_err-refused-in-Err-Refused-clause-leaves g c =
+    let shown = shown_by g.R.L.Link.faults g.R.L.Link.quiets g.R.L.Link.gots g.R.L.Link.held g.R.L.Link.telling in
+    let made = g.R.Rack.made c.args.rack.now in
+    without_pairs shown g.D.Incoming.Source.left g.D.Incoming.Source.faults
+    g.D.Outgoing.Sink.written g.D.Outgoing.Sink.faults g.D.Outgoing.Sink.ended
+    _ _ _ _ _ _ refl refl
+    (Leaves IsServeFailure Rack (serve_terms c.args.count) c.args.bytes.now made made c.from_residual.result)
+    (failure_left IsServeFailure Rack shown _ (serve_terms c.args.count) c.args.bytes.now _
+    c.from_residual.result NoMemory c.from_residual.ensures.0 c.from_residual.ensures.1 (λ failed. failed))
+
+pub returns-in-Ok-clause-leaves : goal.returns-in-Ok-clause-leaves
+returns-in-Ok-clause-leaves g c =
+    let shown = shown_by g.R.L.Link.faults g.R.L.Link.quiets g.R.L.Link.gots g.R.L.Link.held g.R.L.Link.telling in
+    let made = g.R.Rack.made c.args.rack.now in
+    let makes = g.R.Rack.made c.served.new.rack in
+    therefore shown g.D.Incoming.Source.left g.D.Incoming.Source.faults
+    g.D.Outgoing.Sink.written g.D.Outgoing.Sink.faults g.D.Outgoing.Sink.ended
+    _ _ _ _ _ _
+    (ServeLeaves c.in-Ok.session c.args.count made makes c.served.result)
+    (Leaves IsServeFailure Rack (serve_terms c.args.count) c.args.bytes.now made makes c.served.result)
+    (λ given leaves. serve_leaves c.serve_laws.ensures c.args.count c.args.bytes.now c.in-Ok.session
+    made makes c.served.result given c.in-Ok.ensures.servable leaves)
+    c.served.ensures.leaves
+
+pub returns-in-Ok-clause-refused : goal.returns-in-Ok-clause-refused
+returns-in-Ok-clause-refused g c =
+    let shown = shown_by g.R.L.Link.faults g.R.L.Link.quiets g.R.L.Link.gots g.R.L.Link.held g.R.L.Link.telling in
+    not_refused shown g.D.Incoming.Source.left g.D.Incoming.Source.faults
+    g.D.Outgoing.Sink.written g.D.Outgoing.Sink.faults g.D.Outgoing.Sink.ended
+    _ _ _ _ _ _ c.in-Ok.session c.args.count
+    (g.R.Rack.made c.args.rack.now) (g.R.Rack.made c.served.new.rack) _ c.served.result c.served.ensures.leaves
+
+pub returns-in_ok-refused-in-Err-Refused-clause-leaves : goal.returns-in_ok-refused-in-Err-Refused-clause-leaves
+returns-in_ok-refused-in-Err-Refused-clause-leaves g c =
+    let shown = shown_by g.R.L.Link.faults g.R.L.Link.quiets g.R.L.Link.gots g.R.L.Link.held g.R.L.Link.telling in
+    let made = g.R.Rack.made c.args.rack.now in
+    let deserved : Deserves BreaksInServe c.args.bytes.now c.in-Err-Refused.refusal = search rules in
+    let answer = c.in_ok-refused-in-Err-Refused.field-0 in
+    let refused : IsRefusedDocument BreaksInServe c.args.bytes.now answer.text.items =
+    record {
+      refusal = c.in-Err-Refused.refusal;
+      deserved = deserved;
+      spelled = c.in_ok-refused-in-Err-Refused.ensures.text;
+    } in
+    without_pairs shown g.D.Incoming.Source.left g.D.Incoming.Source.faults
+    g.D.Outgoing.Sink.written g.D.Outgoing.Sink.faults g.D.Outgoing.Sink.ended
+    _ _ _ _ _ _ refl refl
+    (Leaves IsServeFailure Rack (serve_terms c.args.count) c.args.bytes.now made made _)
+    (refusal_left IsServeFailure Rack shown _ (serve_terms c.args.count) c.args.bytes.now _ answer refused
+    c.in_ok-refused-in-Err-Refused.ensures.status)
+
+pub returns-in-Err-NoMemory-clause-leaves : goal.returns-in-Err-NoMemory-clause-leaves
+returns-in-Err-NoMemory-clause-leaves g c =
+    let shown = shown_by g.R.L.Link.faults g.R.L.Link.quiets g.R.L.Link.gots g.R.L.Link.held g.R.L.Link.telling in
+    let made = g.R.Rack.made c.args.rack.now in
+    without_pairs shown g.D.Incoming.Source.left g.D.Incoming.Source.faults
+    g.D.Outgoing.Sink.written g.D.Outgoing.Sink.faults g.D.Outgoing.Sink.ended
+    _ _ _ _ _ _ refl refl
+    (Leaves IsServeFailure Rack (serve_terms c.args.count) c.args.bytes.now made made _)
+    (error_left IsServeFailure Rack shown _ (serve_terms c.args.count) c.args.bytes.now _ NoMemory
+    (λ failed. failed))

@@ -1,0 +1,79 @@
+use Rattle.std.proofs.Common.{◌≡◌, ◌+◌, length, map, Ok, Err, ap, refl, subst}
+use Rattle.std.specs.List.{AllByRecursion}
+use Rattle.lane_history.specs.Links.{IsUntouched}
+use Rattle.board_greeting.specs.Boards.{shown_by}
+use Rattle.session_serve.specs.Boards.{AreLinksTo}
+use Rattle.session_serve.specs.Serving.{AreServed}
+use Rattle.command_terms.proofs.Leaving.{at_links}
+use Rattle.command_terms.proofs.Pairs.{with_links}
+use Rattle.script_lang.specs.declared.session.Session.{Session}
+use Rattle.serve_command.specs.Steps.{ServeLeaves}
+use Rattle.serve_command.proofs.Services.{no_memory_is_no_rack, serve_failed, served_done}
+use Rattle.serve_command.proofs.serve.served.Goals as goal
+
+pub returns-in_err-report-clause-leaves : goal.returns-in_err-report-clause-leaves
+returns-in_err-report-clause-leaves g c =
+    let shown = shown_by g.R.L.Link.faults g.R.L.Link.quiets g.R.L.Link.gots g.R.L.Link.held g.R.L.Link.telling in
+    let made = g.R.Rack.made c.args.rack.now in
+    let makes = g.R.Rack.made c.serve_session.new.rack in
+    let left = c.serve_session.ensures.links in
+    let links = map shown left.0 in
+    let back = c.serve_session.ensures.pairs in (
+      left.0,
+      left.1,
+      (
+        back.0,
+        back.1,
+        back.2,
+        back.3,
+        serve_failed c.args.session.now c.args.count made makes
+            c.from_residual.result c.in_err-report.field-0.0 _
+            (subst (λ boards. AreLinksTo boards links) c.as_slice-boards.ensures left.2.0) left.2.1 back.4
+            c.from_residual.ensures.0 c.from_residual.ensures.1
+            (λ rack. at_links shown _ _ left.0 left.1 (AllByRecursion IsUntouched)
+            (c.in_err-report.ensures.untouched (ap Err rack))),
+      ),
+    )
+
+pub returns-in_err-printed-clause-leaves : goal.returns-in_err-printed-clause-leaves
+returns-in_err-printed-clause-leaves g c =
+    let shown = shown_by g.R.L.Link.faults g.R.L.Link.quiets g.R.L.Link.gots g.R.L.Link.held g.R.L.Link.telling in
+    let made = g.R.Rack.made c.args.rack.now in
+    let makes = g.R.Rack.made c.serve_session.new.rack in
+    let left = c.serve_session.ensures.links in
+    let links = map shown left.0 in
+    let back = c.serve_session.ensures.pairs in (
+      left.0,
+      left.1,
+      (
+        back.0,
+        back.1,
+        back.2,
+        back.3,
+        serve_failed c.args.session.now c.args.count made makes c.from_residual-in_err-printed.result _ _
+            (subst (λ boards. AreLinksTo boards links) c.as_slice-boards.ensures left.2.0) left.2.1 back.4
+            c.from_residual-in_err-printed.ensures.0 c.from_residual-in_err-printed.ensures.1
+            (λ rack. absurd (no_memory_is_no_rack _ refl rack)),
+      ),
+    )
+
+pub returns-clause-leaves : goal.returns-clause-leaves
+returns-clause-leaves g c =
+    let shown = shown_by g.R.L.Link.faults g.R.L.Link.quiets g.R.L.Link.gots g.R.L.Link.held g.R.L.Link.telling in
+    let made = g.R.Rack.made c.args.rack.now in
+    let makes = g.R.Rack.made c.serve_session.new.rack in
+    let session : Session = c.args.session.now in
+    let boards = c.as_slice-boards.result.now in
+    let answer = c.in_ok-printed.field-0 in
+    let connections = c.in_ok-report.report.connections.items in
+    let lines = c.in_ok-report.report.boards.items in
+    with_links shown g.D.Incoming.Source.left g.D.Incoming.Source.faults
+    g.D.Outgoing.Sink.written g.D.Outgoing.Sink.faults g.D.Outgoing.Sink.ended
+    _ _ _ _ _ _
+    (λ links. AreLinksTo boards links × (makes ≡ made + length links))
+    (λ given. AreServed session.settings boards given.links given.came given.back connections lines)
+    (ServeLeaves session c.args.count made makes (Ok answer))
+    (λ given of_links served. served_done session c.args.count made makes boards c.as_slice-boards.ensures answer
+    connections lines given of_links.0 of_links.1 served c.in_ok-report.ensures.all c.in_ok-report.ensures.had_memory
+    c.in_ok-printed.ensures.text c.in_ok-printed.ensures.status)
+    c.serve_session.ensures.links c.in_ok-report.ensures.served

@@ -1,0 +1,4 @@
+pub mod Serving
+pub mod Terms
+pub mod Below
+pub mod Steps
