@@ -2,7 +2,6 @@
 use Rattle.std.specs.Prelude.{◌≡◌, ℕ, List, [], ◌∷◌}
 use Rattle.lane_history.specs.Links.{LinkReport}
 use Rattle.node_tree.specs.Maps.{RegisterMap}
-use Rattle.toml.specs.Data.{get_member}
 use Rattle.script_steps.specs.declared.operation.Step.{Step}
 use Rattle.script_lang.specs.declared.session.Session.{Session}
 use Rattle.session_input.specs.Deserved.{AreCompiled}
@@ -11,7 +10,7 @@ use Rattle.config_store.specs.Kept.{indexed, kept_of}
 use Rattle.config_laws.specs.Applied.{AreAmong, AreApplied}
 use Rattle.config_laws.specs.Saved.{saved_text}
 use Rattle.config_input.specs.Deserved.{IsApplicable}
-use Rattle.config_input.specs.Work.{entries_in, state_key}
+use Rattle.config_input.specs.Work.{apply_command}
 use Rattle.config_commands.specs.Written.{AllTell, IsWritten}
 
 -- The text has a value of each kept register of each board: the one that the state gives for it, or else the one that the
@@ -37,4 +36,4 @@ pub record IsAppliedBy (bytes : List ℕ) (links : List LinkReport) (status : �
   -- at status 0, where the links tell, it shows each value of the state, and every other kept register as its board opens
   -- with it, whatever the links lost, repeated, delayed or reordered
   pub applied : status ≡ 0 → AllTell links
-      → IsAppliedText session (entries_in (get_member state_key applicable.document)) text
+      → IsAppliedText session (apply_command.work applicable.document).values text

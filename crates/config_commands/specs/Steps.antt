@@ -13,18 +13,23 @@ use Rattle.transcript.specs.Lines.{client_lines, run_status, transcript_of}
 use Rattle.config_store.specs.Text.{state_text}
 use Rattle.command_terms.specs.declared.answer.Answer.{Answer}
 
--- the text of what one client's steps read, for some outcomes over these links
-pub record Writes (session : Session) (steps : List Step) (links : List LinkReport) (status : ℕ) (text : List ℕ)
+-- the steps of the first client
+abbrev pub first_of : List (List Step) → List Step
+first_of [] = []
+first_of (steps ∷ others) = steps
+
+-- the text of what the first client's steps read, for some outcomes over these links
+pub record Writes (session : Session) (steps : List (List Step)) (links : List LinkReport) (status : ℕ) (text : List ℕ)
     : Type 0 where
   pub runs : List BoardRun
-  pub boards : AreRunsOver session.settings 0 session.boards (steps ∷ []) runs links
-  pub spelled : text ≡ state_text session.boards (client_lines runs 0 steps)
-  pub told : status ≡ run_status (transcript_of (steps ∷ []) runs).clients
+  pub boards : AreRunsOver session.settings 0 session.boards steps runs links
+  pub spelled : text ≡ state_text session.boards (client_lines runs 0 (first_of steps))
+  pub told : status ≡ run_status (transcript_of steps runs).clients
 
 -- What a run left: `made` and `makes` are how many links the rack made before and after.
-pub record RunLeaves (session : Session) (steps : List Step) (made makes : ℕ) (result : Result Answer RunFault)
+pub record RunLeaves (session : Session) (steps : List (List Step)) (made makes : ℕ) (result : Result Answer RunFault)
     (links : List LinkReport) : Type 0 where
-  pub left : AreLeft 0 session.boards (steps ∷ []) links
+  pub left : AreLeft 0 session.boards steps links
   pub counted : makes ≡ made + length links
   pub writes : IfOk result (λ answer. Writes session steps links answer.status answer.text.items)
   pub untouched : result ≡ Err Rack → AllByRecursion IsUntouched links

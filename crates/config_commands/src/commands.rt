@@ -9,7 +9,10 @@ ghost use Rattle.command_terms.specs.Outside.{no_pairs};
 ghost use Rattle.config_input.specs.Lines.{refusal_line};
 ghost use Rattle.config_commands.specs.Terms.{apply_terms, save_terms};
 
-use crate::laws::{applied_texts, saved_texts, steps_for_a_command_can_be_run};
+use crate::laws::{
+    applied_texts_are_those_of_given_and_opening_values, saved_texts_are_those_of_opening_values,
+    steps_for_a_command_can_be_run,
+};
 use crate::run::write_configuration;
 use client_threads::Gate;
 use command_terms::{Answer, REFUSED};
@@ -40,7 +43,7 @@ pub fn save_document<R: Rack, T: Threads + Wait + Sync, G: Gate>(
     ensures refused { IfOk result (λ answer. answer.status ≡ refused_status → rack.new ≡ rack.old) }
     ensures rack_faults { RisesOnlyAt (Err RunFault.Rack) result (R.faults rack.old) (R.faults rack.new) }
 {
-    saved_texts();
+    saved_texts_are_those_of_opening_values();
     steps_for_a_command_can_be_run();
     steps_that_fit_may_be_run();
     runs_over_links_are_runs_of_a_session();
@@ -69,7 +72,7 @@ pub fn apply_document<R: Rack, T: Threads + Wait + Sync, G: Gate>(
     ensures refused { IfOk result (λ answer. answer.status ≡ refused_status → rack.new ≡ rack.old) }
     ensures rack_faults { RisesOnlyAt (Err RunFault.Rack) result (R.faults rack.old) (R.faults rack.new) }
 {
-    applied_texts();
+    applied_texts_are_those_of_given_and_opening_values();
     steps_for_a_command_can_be_run();
     steps_that_fit_may_be_run();
     runs_over_links_are_runs_of_a_session();

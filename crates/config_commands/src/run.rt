@@ -1,12 +1,12 @@
 //! One client's steps, run on boards, and the text of what they read.
 
-ghost use Rattle.std.specs.Prelude.{◌≡◌, ◌≢◌, ◌≤◌, [], ◌∷◌, Err, IfOk, length};
+ghost use Rattle.std.specs.Prelude.{◌≡◌, ◌≢◌, ◌≤◌, Err, IfOk, length};
 ghost use Rattle.board_greeting.specs.Links.{Keeps};
 ghost use Rattle.transcript.specs.Lines as lines;
 ghost use Rattle.command_terms.specs.Faults.{RisesOnlyAt};
 ghost use Rattle.config_store.specs.Text as texts;
 ghost use Rattle.run_laws.specs.Steps.{MayRun};
-ghost use Rattle.config_commands.specs.Steps.{RunLeaves};
+ghost use Rattle.config_commands.specs.Steps.{RunLeaves, first_of};
 
 use board_node::BoardSpec;
 use client_threads::Gate;
@@ -36,7 +36,7 @@ pub(crate) fn write_configuration<R: Rack, T: Threads + Wait + Sync, G: Gate>(
     requires runs { MayRun session.now steps.now }
     requires alone { length steps.now ≡ 1 }
     ensures leaves { Keeps R.L.faults R.L.quiets R.L.gots R.L.held R.L.telling (R.kept rack.old) (R.kept rack.new)
-        (RunLeaves session.now (alone_of steps.now) (R.made rack.old) (R.made rack.new) result) }
+        (RunLeaves session.now steps.now (R.made rack.old) (R.made rack.new) result) }
     ensures rack_faults { RisesOnlyAt (Err RunFault.Rack) result (R.faults rack.old) (R.faults rack.new) }
 {
     let boards = session.boards.as_slice();
@@ -53,7 +53,7 @@ fn written(
 ) -> Result<Answer, NoMemory>
     requires { length steps.now ≡ 1 }
     ensures text { IfOk result (λ answer. answer.text.items
-        ≡ texts.state_text boards.now (lines.client_lines runs.now 0 (alone_of steps.now))) }
+        ≡ texts.state_text boards.now (lines.client_lines runs.now 0 (first_of steps.now))) }
     ensures status { IfOk result (λ answer. answer.status
         ≡ lines.run_status (lines.transcript_of steps.now runs.now).clients) }
 {

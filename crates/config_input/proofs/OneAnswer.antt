@@ -207,6 +207,7 @@ module _ (tables : TableLaws) (work : Work) (s t : Session) (same : SameSession 
     registers = one.registers;
     boards = buses_moved tables s t same one.registers one.boards;
     right = rw same.boards one.right;
+    ordered = one.ordered;
     faultless = rw (same.boards, same.scripts) one.faultless;
     meant = rw same.boards one.meant;
   }

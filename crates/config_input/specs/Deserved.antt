@@ -19,6 +19,7 @@ use Rattle.session_input.specs.Numbers.{document_bytes}
 use Rattle.config_store.specs.declared.refusal.StoreRefusal.{StoreRefusal}
 use Rattle.config_store.specs.declared.refusal.StoreRefusal.TheVariants as store
 use Rattle.config_store.specs.Kept.{indexed}
+use Rattle.config_store.specs.Order.{AreInOrder}
 use Rattle.config_store.specs.States.{StoreFault}
 use Rattle.config_input.specs.declared.refusal.ConfigRefusal.{ConfigRefusal}
 use Rattle.config_input.specs.declared.refusal.ConfigRefusal.TheVariants.{OfSession, OfState}
@@ -59,12 +60,14 @@ pub record Stands (document : Members) (session : Session) (policy : Option (Lis
   pub has_policy : HasPolicy document policy
 
 -- The session breaks no rule, and these are the steps of the one client: those of the script, under the policy. The
--- scripts of the session itself have to be right and are not run.
+-- values stand in byte order of their boards and registers, so that no register has two. The scripts of the session
+-- itself have to be right and are not run.
 pub record IsAsked (work : Work) (session : Session) (policy : Option (List Rule)) (steps : List (List Step)) : Type 0
   where
     pub registers : List RegisterMap
     pub boards : HaveBuses session registers
     pub right : work.faults (indexed session.boards registers) ≡ []
+    pub ordered : AreInOrder work.values
     pub faultless : script_faults session.boards registers session.scripts ≡ []
     pub meant : steps ≡ ruled_scripts policy (names_of session.boards)
         (steps_of session.boards registers (work.script (indexed session.boards registers) ∷ []))

@@ -11,14 +11,16 @@ use Rattle.config_store.specs.Lines.{apply_lines, save_lines}
 use Rattle.config_store.specs.Refusals.{applying_faults, keeping_faults}
 use Rattle.config_store.specs.States.{StoreFault, shape_faults, state_entries}
 
--- of boards with the registers of their tables: what is faulty, in order, and the lines of the script
+-- the values that are written, and of boards with the registers of their tables: what is faulty, in order, and the lines
+-- of the script
 pub record Work : Type 0 where
+  pub values : List StateEntry
   pub faults : List IndexedBoard → List StoreFault
   pub script : List IndexedBoard → List (List ℕ)
 
--- each kept register is read
+-- nothing is written, and each kept register is read
 abbrev pub saving : Work
-saving = record { faults = keeping_faults; script = λ boards. save_lines (kept_of boards) }
+saving = record { values = []; faults = keeping_faults; script = λ boards. save_lines (kept_of boards) }
 
 -- ---- the values that are to be written
 
@@ -34,6 +36,7 @@ entries_in value = option_map_or state_entries value []
 -- each value is written, and then each kept register is read
 abbrev pub applying : Option Data → Work
 applying value = record {
+  values = entries_in value;
   faults = λ boards. state_faults value ++ applying_faults boards (entries_in value);
   script = λ boards. apply_lines (entries_in value) (kept_of boards);
 }

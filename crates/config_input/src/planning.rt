@@ -5,7 +5,7 @@ ghost use Rattle.std.specs.List.{AllByRecursion};
 ghost use Rattle.access_policy.specs.Decisions.{names_of, ruled_scripts};
 ghost use Rattle.script_lang.specs.Limits.{IsWithin};
 ghost use Rattle.script_lang.specs.Scripts.{script_faults, steps_of};
-ghost use Rattle.script_lang.specs.declared.refusal.TheConstants.{MAX_BOARDS, MAX_CLIENTS};
+ghost use Rattle.script_lang.specs.declared.refusal.TheConstants.{MAX_BOARDS};
 ghost use Rattle.script_lang.specs.declared.script_refusal.TheConstants.{MAX_LINES};
 ghost use Rattle.script_steps.specs.Packing.{AreWithinLimits, CanBePacked, HaveFewPieces};
 ghost use Rattle.session_input.specs.Deserved.{TellsLine};
@@ -41,7 +41,7 @@ fn steps_of_lines(
     requires faultless { script_faults session.boards indexes.now (lines.items ∷ []) ≡ [] }
     ensures session { IfOk result (λ read. read.session ≡ session) }
     ensures meant { IfOk result (λ read. read.steps.items ≡ steps_of session.boards indexes.now (lines.items ∷ [])) }
-    ensures one { IfOk result (λ read. length read.steps.items ≤ MAX_CLIENTS) }
+    ensures alone { IfOk result (λ read. length read.steps.items ≡ 1) }
     ensures packed { IfOk result (λ read. AllByRecursion (AllByRecursion CanBePacked) read.steps.items) }
     ensures few { IfOk result (λ read. AllByRecursion HaveFewPieces read.steps.items) }
     ensures limits { IfOk result (λ read. AreWithinLimits read.steps.items) }
@@ -78,6 +78,7 @@ pub(crate) fn planned(
         (steps_of session.boards indexes.now (lines.items ∷ []))) }
     ensures refused { IfErr result (spec.Tells
         (spec.TellsSession (TellsLine (script_faults session.boards indexes.now session.scripts)))) }
+    ensures alone { IfOk result (λ read. length read.steps.items ≡ 1) }
     ensures packed { IfOk result (λ read. AllByRecursion (AllByRecursion CanBePacked) read.steps.items) }
     ensures few { IfOk result (λ read. AllByRecursion HaveFewPieces read.steps.items) }
     ensures limits { IfOk result (λ read. AreWithinLimits read.steps.items) }

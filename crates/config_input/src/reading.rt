@@ -35,7 +35,9 @@ pub fn read_for_save(alloc: Global, bytes: &[u8]) -> Result<Runnable, ConfigUnre
     ensures savable { IfOk result (λ read. spec.IsSavable bytes.now read.session read.steps.items) }
     ensures refused { IfErr result (spec.Tells (spec.BreaksInSave bytes.now)) }
     ensures within { IfOk result (λ read. IsWithin read.session) }
-    // Each operation of the steps can be packed, whatever packets its board takes, and no client has too many.
+    // There is one client. Each operation of its steps can be packed, whatever packets its board takes, and there are not
+    // too many.
+    ensures alone { IfOk result (λ read. length read.steps.items ≡ 1) }
     ensures packed { IfOk result (λ read. AllByRecursion (AllByRecursion CanBePacked) read.steps.items) }
     ensures few { IfOk result (λ read. AllByRecursion HaveFewPieces read.steps.items) }
     ensures limits { IfOk result (λ read. AreWithinLimits read.steps.items) }
@@ -52,6 +54,7 @@ pub fn read_for_apply(alloc: Global, bytes: &[u8]) -> Result<Runnable, ConfigUnr
     ensures applicable { IfOk result (λ read. spec.IsApplicable bytes.now read.session read.steps.items) }
     ensures refused { IfErr result (spec.Tells (spec.BreaksInApply bytes.now)) }
     ensures within { IfOk result (λ read. IsWithin read.session) }
+    ensures alone { IfOk result (λ read. length read.steps.items ≡ 1) }
     ensures packed { IfOk result (λ read. AllByRecursion (AllByRecursion CanBePacked) read.steps.items) }
     ensures few { IfOk result (λ read. AllByRecursion HaveFewPieces read.steps.items) }
     ensures limits { IfOk result (λ read. AreWithinLimits read.steps.items) }
@@ -67,6 +70,7 @@ fn save_document(alloc: Global, document: Table) -> Result<Runnable, ConfigUnrea
         read.session read.steps.items) }
     ensures refused { IfErr result (spec.Tells (spec.BreaksCommand work.save_command (table_view document))) }
     ensures within { IfOk result (λ read. IsWithin read.session) }
+    ensures alone { IfOk result (λ read. length read.steps.items ≡ 1) }
     ensures packed { IfOk result (λ read. AllByRecursion (AllByRecursion CanBePacked) read.steps.items) }
     ensures few { IfOk result (λ read. AllByRecursion HaveFewPieces read.steps.items) }
     ensures limits { IfOk result (λ read. AreWithinLimits read.steps.items) }
@@ -82,6 +86,7 @@ fn apply_document(alloc: Global, document: Table) -> Result<Runnable, ConfigUnre
         read.session read.steps.items) }
     ensures refused { IfErr result (spec.Tells (spec.BreaksCommand work.apply_command (table_view document))) }
     ensures within { IfOk result (λ read. IsWithin read.session) }
+    ensures alone { IfOk result (λ read. length read.steps.items ≡ 1) }
     ensures packed { IfOk result (λ read. AllByRecursion (AllByRecursion CanBePacked) read.steps.items) }
     ensures few { IfOk result (λ read. AllByRecursion HaveFewPieces read.steps.items) }
     ensures limits { IfOk result (λ read. AreWithinLimits read.steps.items) }
@@ -104,6 +109,7 @@ fn save_session(
     ensures session { IfOk result (λ read. read.session ≡ session) }
     ensures asked { IfOk result (λ read. spec.IsAsked work.saving session policy read.steps.items) }
     ensures refused { IfErr result (spec.Tells (spec.BreaksInWork work.saving session)) }
+    ensures alone { IfOk result (λ read. length read.steps.items ≡ 1) }
     ensures packed { IfOk result (λ read. AllByRecursion (AllByRecursion CanBePacked) read.steps.items) }
     ensures few { IfOk result (λ read. AllByRecursion HaveFewPieces read.steps.items) }
     ensures limits { IfOk result (λ read. AreWithinLimits read.steps.items) }
@@ -131,6 +137,7 @@ fn apply_session(
         read.steps.items) }
     ensures refused { IfErr result (spec.Tells
         (spec.BreaksInWork (work.applying (option_map view value.now)) session)) }
+    ensures alone { IfOk result (λ read. length read.steps.items ≡ 1) }
     ensures packed { IfOk result (λ read. AllByRecursion (AllByRecursion CanBePacked) read.steps.items) }
     ensures few { IfOk result (λ read. AllByRecursion HaveFewPieces read.steps.items) }
     ensures limits { IfOk result (λ read. AreWithinLimits read.steps.items) }
