@@ -2,6 +2,7 @@
 
 use address_table::TableWhy;
 use board_bus::BusRefusal;
+use capture_commands::CaptureWhy;
 use node_tree::CompileWhy;
 use script_lang::{DocWhy, ScriptWhy};
 
@@ -12,6 +13,22 @@ pub(crate) const POLICY: &str =
 
 pub(crate) const NOT_SERVED: &str =
     "a policy binds scripts and no connections, so a document that has one is not served";
+
+pub(crate) const LONG_CAPTURE: &str = "the capture has more than 134217728 bytes";
+
+pub(crate) const LONG_DESCRIPTION: &str = "the description has more than 134217728 bytes";
+
+pub(crate) const NO_DESCRIPTION: &str = "no capture has this description";
+
+pub(crate) fn of_capture(why: CaptureWhy) -> &'static str {
+    match why {
+        CaptureWhy::First => "the first line is the word first and an identifier from 1 to 65535",
+        CaptureWhy::Form => {
+            "a line has > or <, a space, and two digits 0 to 9 or a to f for each byte, or - for none"
+        }
+        CaptureWhy::Long => "a datagram has at most 9000 bytes",
+    }
+}
 
 pub(crate) fn of_document(why: DocWhy) -> &'static str {
     match why {
