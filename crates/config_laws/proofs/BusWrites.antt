@@ -27,7 +27,7 @@ FullPut = (word value : ℕ) → word < 2 ^ 32 → value < 2 ^ 32 → put_field 
 
 -- ---- a plain write
 
-abbrev after_write : CellMap → Result CellMap BusFault → Writing
+abbrev pub after_write : CellMap → Result CellMap BusFault → Writing
 after_write cells written = write_on cells written (λ after. write_words after [])
 
 plain : ReadAgain → (cells : CellMap) (base value word : ℕ) → read_word cells base ≡ Ok word

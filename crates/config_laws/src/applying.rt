@@ -27,11 +27,10 @@ ghost use Rattle.config_laws.specs.Fields.{HaveFields};
 ghost use Rattle.config_laws.specs.Saved.{AreSaved, saved_text};
 
 use crate::turns::good_lines_show_operations_one_after_another;
-use crate::writes::written_values_stand_and_other_fields_stay;
-use config_store::laws::{
-    a_register_is_kept_by_what_it_is, kept_registers_overlap_in_a_bit_of_a_word,
-    the_scripts_write_and_read,
-};
+use crate::writes::{a_write_puts_its_field, written_values_stand_and_other_fields_stay};
+use board_bus::laws::a_write_changes_one_word;
+use config_store::laws::{kept_registers_overlap_in_a_bit_of_a_word, the_scripts_write_and_read};
+use script_lang::laws::scripts_ask_of_boards_that_are_there;
 
 /// Where every line of the script that applies values is a value or `done`, the text of its lines is that of a
 /// configuration in which each register has the value that is given for it, or else the one that its board opened with,
@@ -52,10 +51,12 @@ pub fn an_applied_text_is_that_of_given_and_opening_values()
         × AreAmong state shown × (state_text specs (client_lines runs 0 steps) ≡ saved_text specs shown) }
 {
     good_lines_show_operations_one_after_another();
+    a_write_puts_its_field();
     written_values_stand_and_other_fields_stay();
-    a_register_is_kept_by_what_it_is();
+    a_write_changes_one_word();
     kept_registers_overlap_in_a_bit_of_a_word();
     the_scripts_write_and_read();
+    scripts_ask_of_boards_that_are_there();
 }
 
 /// Where a value is given for each register, these are the values that are shown, so the configuration of the boards is
