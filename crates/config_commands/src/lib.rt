@@ -5,8 +5,8 @@
 //! of `specs/Terms` say all that they owe to their input.
 #![tactic(auto)]
 
+pub mod commands;
 pub mod laws;
 mod run;
-pub mod commands;
 
 pub use commands::{apply_document, save_document};

@@ -40,9 +40,11 @@ module _
       let sound = session_registers document session asks.registers session_is compiled.compile compiled.each_index in
       all_still AreExecutable still by.policy (names_of session.boards)
       (steps_of session.boards asks.registers (saving.script (indexed session.boards asks.registers) ∷ [])) steps
-      asks.meant
-      (save_well session.boards asks.registers (own document session session_is)
-      (words document session asks.registers session_is compiled) sound 1, tt)
+      asks.meant (
+        save_well session.boards asks.registers (own document session session_is)
+            (words document session asks.registers session_is compiled) sound 1,
+        tt,
+      )
 
   pub applicable_done : ((value : Option Data) → AllByRecursion HasWord (entries_in value))
       → (bytes : List ℕ) (session : Session) (steps : List (List Step)) → IsApplicable bytes session steps
@@ -59,6 +61,8 @@ module _
       let none = no_more (keeping_faults boards) (entry_faults boards (entries_in value)) kept.1 in
       all_still AreExecutable still by.policy (names_of session.boards)
       (steps_of session.boards asks.registers ((applying value).script boards ∷ [])) steps
-      asks.meant
-      (apply_well session.boards asks.registers (own _ session session_is)
-      (words _ session asks.registers session_is compiled) sound (entries_in value) none.1 (small value) 1, tt)
+      asks.meant (
+        apply_well session.boards asks.registers (own _ session session_is)
+            (words _ session asks.registers session_is compiled) sound (entries_in value) none.1 (small value) 1,
+        tt,
+      )

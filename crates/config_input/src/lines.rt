@@ -18,7 +18,12 @@ impl ConfigRefusal {
         match self {
             ConfigRefusal::OfSession(refusal) => refusal.line(alloc),
             ConfigRefusal::OfState { board, name, why } => {
-                state_line(alloc, shown(board.as_str()), shown(name.as_str()), store_rule(*why))
+                state_line(
+                    alloc,
+                    shown(board.as_str()),
+                    shown(name.as_str()),
+                    store_rule(*why),
+                )
             }
         }
     }

@@ -18,7 +18,7 @@ use node_tree::Index;
 use script_lang::{Script, ScriptRefusal, Scripts, Session, compile_scripts};
 use script_steps::Steps;
 use script_steps::laws::what_is_denied_asks_for_less;
-use session_input::{Runnable, compiled, ruled};
+use session_input::{Runnable, compiled, under_policy};
 use std::alloc::Global;
 
 /// The scripts of one client with these lines.
@@ -47,13 +47,33 @@ fn steps_of_lines(
     ensures limits { IfOk result (λ read. AreWithinLimits read.steps.items) }
     ensures short { IfOk result (λ read. AllByRecursion (λ steps. length steps ≤ MAX_LINES) read.steps.items) }
 {
-    let Session { settings, tables, boards, scripts: own } = session;
+    let Session {
+        settings,
+        tables,
+        boards,
+        scripts: own,
+    } = session;
     let scripts = one_script(alloc, lines)?;
-    let asked = Session { settings, tables, boards, scripts };
+    let asked = Session {
+        settings,
+        tables,
+        boards,
+        scripts,
+    };
     match compile_scripts(alloc, &asked, indexes) {
         Ok(steps) => {
-            let Session { settings, tables, boards, .. } = asked;
-            let session = Session { settings, tables, boards, scripts: own };
+            let Session {
+                settings,
+                tables,
+                boards,
+                ..
+            } = asked;
+            let session = Session {
+                settings,
+                tables,
+                boards,
+                scripts: own,
+            };
             Ok(Runnable { session, steps })
         }
         Err(ScriptRefusal::At { .. }) => unreachable!(),
@@ -87,6 +107,6 @@ pub(crate) fn planned(
     what_is_denied_asks_for_less();
     compiled(alloc, &session, indexes)?;
     let Runnable { session, steps } = steps_of_lines(alloc, session, indexes, lines)?;
-    let steps = ruled(alloc, &session, policy, steps)?;
+    let steps = under_policy(alloc, &session, policy, steps)?;
     Ok(Runnable { session, steps })
 }

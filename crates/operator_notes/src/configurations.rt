@@ -26,11 +26,7 @@ pub(crate) fn configuration_notes(
     }
 }
 
-fn notes_of(
-    alloc: Global,
-    refusal: ConfigRefusal,
-    bytes: &[u8],
-) -> Result<Vec<String>, NoMemory> {
+fn notes_of(alloc: Global, refusal: ConfigRefusal, bytes: &[u8]) -> Result<Vec<String>, NoMemory> {
     match refusal {
         ConfigRefusal::OfSession(refusal) => session_notes(alloc, &refusal, bytes),
         ConfigRefusal::OfState { board, name, why } => {

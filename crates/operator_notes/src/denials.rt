@@ -1,9 +1,9 @@
 //! Which rules of a document's policy denied something.
 
 use crate::escaping::shown;
+use access_policy::{Policy, PolicyRefusal, read_policy, rule_text};
 use command_words::Command;
 use config_input::{ConfigUnread, read_for_apply, read_for_save};
-use access_policy::{Policy, PolicyRefusal, read_policy, rule_text};
 use ipb_base::NoMemory;
 use script_lang::{SessionRefusal, parse_document, take_key};
 use script_steps::{Step, Steps};

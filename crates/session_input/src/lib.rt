@@ -14,6 +14,6 @@ pub use checking::{check_buses, indexes_of};
 pub use ipb_base::{NoMemory, Text};
 pub use reading::{
     Runnable, Stated, compiled, parse_input, read_document, read_for_check, read_for_run,
-    read_for_serve, ruled,
+    read_for_serve, under_policy,
 };
 pub use refusal::{MAX_DOCUMENT, Refusal, Unread};

@@ -203,11 +203,11 @@ fn ruled_steps(
 {
     what_is_denied_asks_for_less();
     let steps = steps_of(alloc, session)?;
-    Ok(ruled(alloc, session, policy, steps)?)
+    Ok(under_policy(alloc, session, policy, steps)?)
 }
 
 /// The steps of a session's clients under a policy, where there is one (profile).
-pub fn ruled(
+pub fn under_policy(
     alloc: Global,
     session: &Session,
     policy: Option<Policy>,
