@@ -1,14 +1,13 @@
 -- The configuration that boards show after values were applied.
-use Rattle.std.proofs.Common.{◌≡◌, ◌⊎◌, ℕ, ◌+◌, ◌<◌, ◌^◌, nat_lt, Bool, true, false, List, [], ◌∷◌, ◌++◌, length, map, Option, Some}
-use Rattle.std.proofs.Common.{None, Ok, Result, if◌then◌else◌, inl, inr, refl, sym, ap, ◌∙◌, subst, arith}
+use Rattle.std.proofs.Common.{◌≡◌, ℕ, ◌<◌, ◌^◌, nat_lt, Bool, true, false, List, [], ◌∷◌, ◌++◌, map, Some}
+use Rattle.std.proofs.Common.{None, Ok, Result, if◌then◌else◌, inl, inr, refl, sym, ap, ◌∙◌, subst}
 use Rattle.std.specs.Prelude.{IfSome}
 use Rattle.std.specs.List.{AllByRecursion, AllZip, Contains, filter, slice_get}
 use Rattle.std.specs.FinMap.Entries.{find}
 use Rattle.std.specs.Ordering.{nat_cmp}
 use Rattle.std.proofs.lemmas.List.Elements.{filter-append, filter_map-append}
-use Rattle.std.proofs.lemmas.Option.{get_or_from_slice_get, same_Some, slice_get_within}
+use Rattle.std.proofs.lemmas.Option.{get_or_from_slice_get, slice_get_within}
 use Rattle.ipb_base.specs.Word.{IsWord}
-use Rattle.transaction_codec.specs.declared.request.Op.{Op}
 use Rattle.masked_fields.specs.Field.{field}
 use Rattle.board_bus.specs.declared.fault.BusFault.{BusFault}
 use Rattle.board_bus.specs.Cells.{Cell, CellMap, HoldsWords, cell_at, read_word}
@@ -29,13 +28,12 @@ use Rattle.transcript.specs.declared.line.OpLine.{OpLine}
 use Rattle.board_history.specs.Runs.{opening_of}
 use Rattle.board_history.proofs.Lists.{all_at}
 use Rattle.config_store.specs.declared.state.StateEntry.{StateEntry}
-use Rattle.config_store.specs.Kept.{IndexedBoard, KeptRegister, indexed, kept}
+use Rattle.config_store.specs.Kept.{KeptRegister, indexed, kept}
 use Rattle.config_store.specs.Meanings.{HasWord}
-use Rattle.config_store.specs.Overlaps.{overlapping_names}
 use Rattle.config_store.specs.Puts.{AreApartFrom}
 use Rattle.config_store.specs.Refusals.{keeping_faults}
 use Rattle.config_store.specs.Text.{is_read_on, registers_text, state_text}
-use Rattle.config_laws.specs.Applied.{AreApplied, IsApplied, IsFor}
+use Rattle.config_laws.specs.Applied.{AreApplied}
 use Rattle.config_laws.specs.Fields.{HaveFields}
 use Rattle.config_laws.specs.Saved.{saved_text, values_text}
 use Rattle.config_laws.specs.Turns.{ShowTurns, after_ops, bus_behind}
@@ -94,10 +92,10 @@ module _ (own_shows : OwnShows) (others_stay : OthersStay) (here : WrittenHere) 
     (shows : ShowTurns specs [] (asked writes) lines) where
   module _ (r : KeptRegister) (step : Step) (is : IsRead (indexed specs indexes) r step) (word : ℕ)
       (read : read_word (bus_behind is.board.0.link is.place (asked writes)) r.register.address ≡ Ok word) where
-    cells : CellMap
+    abbrev cells : CellMap
     cells = opening_of is.board.0.link
 
-    vs : List ValueFor
+    abbrev vs : List ValueFor
     vs = written_on (indexed specs indexes) is.place state writes given
 
     on : slice_get specs is.place ≡ Some is.board.0
@@ -150,17 +148,20 @@ module _ (own_shows : OwnShows) (others_stay : OthersStay) (here : WrittenHere) 
         now in
         record {
           entry = record { board = r.board; name = r.name; value = field was.0 r.register.mask };
-          applied = inr (it.none, record {
-            board' = refl;
-            name' = refl;
-            place = is.place;
-            spec = is.board.0;
-            on = on;
-            called = is.called;
-            word = was.0;
-            opened = was.1;
-            value' = refl;
-          });
+          applied = inr (
+            it.none,
+            record {
+              board' = refl;
+              name' = refl;
+              place = is.place;
+              spec = is.board.0;
+              on = on;
+              called = is.called;
+              word = was.0;
+              opened = was.1;
+              value' = refl;
+            },
+          );
           board' = refl;
           name' = refl;
           value' = sym shown.2 ∙ ap (λ n. field n r.register.mask) same;
@@ -168,11 +169,11 @@ module _ (own_shows : OwnShows) (others_stay : OthersStay) (here : WrittenHere) 
 
     register_shown : IsShown specs state r word
     register_shown = elim (written_or_left law specs indexes own fields is.place is.board is.there
-    (none_overlaps (indexed specs indexes) is.place is.board none is.there) r is.called is.kept' state writes given
-    values) [
-      | inl it ↦ given_value it
-      | inr it ↦ opening_value it
-    ]
+        (none_overlaps (indexed specs indexes) is.place is.board none is.there) r is.called is.kept' state writes given
+        values) [
+          | inl it ↦ given_value it
+          | inr it ↦ opening_value it
+        ]
 
   reads_shown : (kept : List KeptRegister) (reads : List Step)
       → AllZip (IsRead (indexed specs indexes)) kept reads → (others : List OpLine)
@@ -194,7 +195,7 @@ pub applied_text : OwnShows → OthersStay → WrittenHere → Elsewhere → Ove
     → (lines : List OpLine) → ShowTurns specs [] (asked (writes ++ Dispatch ∷ reads)) lines
     → (shown : List StateEntry) × AreApplied specs state kept shown × (state_text specs lines ≡ saved_text specs shown)
 applied_text own_shows others_stay here elsewhere law specs indexes own fields none words state values kept writes reads
-given are lines turns =
+    given are lines turns =
     let parts = parted specs [] (asked writes) (asked reads) lines
     (subst (λ (asks : List Asked). ShowTurns specs [] asks lines) (asked_both writes reads) turns) in
     let it = reads_shown own_shows others_stay here elsewhere law specs indexes own fields none words state values writes

@@ -51,7 +51,7 @@ plain_elsewhere elsewhere cells base value other apart = elim (write_word cells 
 
 -- ---- a change of one word
 
-abbrev changed : ℕ → Result CellMap BusFault → Result Modified BusFault
+abbrev pub changed : ℕ → Result CellMap BusFault → Result Modified BusFault
 changed before written = written >>= (λ (after : CellMap). Ok (record { before = before; cells = after }))
 
 modify_is : (cells : CellMap) (base word : ℕ) (change : ℕ → ℕ) → read_word cells base ≡ Ok word

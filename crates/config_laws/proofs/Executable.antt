@@ -1,5 +1,5 @@
 -- The scripts of configurations can be executed.
-use Rattle.std.proofs.Common.{◌≡◌, ℕ, ◌<◌, ◌^◌, ◌≤◌, List, [], ◌∷◌, ◌++◌, inl, inr, sym, subst, arith}
+use Rattle.std.proofs.Common.{ℕ, ◌<◌, ◌^◌, ◌≤◌, List, [], ◌∷◌, ◌++◌, inl, inr, sym, subst, arith}
 use Rattle.std.specs.Prelude.{bit_and}
 use Rattle.std.specs.List.{AllByRecursion, AllZip}
 use Rattle.std.proofs.lemmas.Bool.{cases_Bool}

@@ -1,13 +1,13 @@
 -- The steps of a configuration's script, with the registers that they read and write.
-use Rattle.std.proofs.Common.{◌≡◌, ℕ, zero, suc, ◌<◌, ◌^◌, List, [], ◌∷◌, Some, None, inl, inr, refl, sym, ap, ◌∙◌, subst}
-use Rattle.std.proofs.Common.{arith, get_or}
-use Rattle.std.specs.List.{AllByRecursion, AllZip, slice_get}
+use Rattle.std.proofs.Common.{◌≡◌, ℕ, zero, suc, ◌<◌, List, [], ◌∷◌, Some, inl, inr, refl, sym, ap, ◌∙◌, subst}
+use Rattle.std.proofs.Common.{arith}
+use Rattle.std.specs.List.{AllZip, slice_get}
 use Rattle.std.specs.FinMap.{get}
 use Rattle.std.proofs.lemmas.Bool.{cases_lt, eqb-true}
 use Rattle.std.proofs.lemmas.Option.{get_or_from_slice_get, same_Some, slice_get_within}
 use Rattle.board_node.specs.declared.spec.BoardSpec.{BoardSpec}
 use Rattle.masked_fields.specs.Field.{FitsMask, shifted}
-use Rattle.node_tree.specs.Maps.{Name, RegisterMap}
+use Rattle.node_tree.specs.Maps.{RegisterMap}
 use Rattle.node_tree.specs.declared.register.Register.{Register}
 use Rattle.script_lang.specs.OwnNames.{HaveOwnNames}
 use Rattle.script_steps.specs.declared.operation.Step.{Step}

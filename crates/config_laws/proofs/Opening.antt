@@ -1,18 +1,18 @@
 -- A word that can be read after writes could be read before them.
-use Rattle.std.proofs.Common.{◌≡◌, ◌⊎◌, ℕ, ◌<◌, ◌==◌, true, false, if◌then◌else◌, List, [], ◌∷◌, Option, Some, None, Result, Ok, Err}
-use Rattle.std.proofs.Common.{inl, inr, refl, sym, ap, ◌∙◌, subst, arith}
+use Rattle.std.proofs.Common.{◌≡◌, ℕ, ◌==◌, true, false, if◌then◌else◌, List, [], ◌∷◌, Option, Some, None, Result, Ok, Err}
+use Rattle.std.proofs.Common.{inl, inr, refl, sym, ap, ◌∙◌, subst}
 use Rattle.std.specs.Int.{w32, bit_not}
 use Rattle.std.proofs.lemmas.Bool.{cases_Bool, eqb-true}
 use Rattle.masked_fields.specs.Field.{shifted}
 use Rattle.transaction_codec.specs.declared.request.Op.TheVariants.{Write}
 use Rattle.board_bus.specs.declared.fault.BusFault.{BusFault}
 use Rattle.board_bus.specs.Cells.{Cell, CellMap, cell_at, read_cell, read_fault, read_word, unless, write_cell, write_word}
-use Rattle.board_bus.specs.Transactions.{masked, modify, of_modifying, of_writing, outcome}
+use Rattle.board_bus.specs.Transactions.{◌>>=◌, Modified, masked, modify, of_modifying, of_writing, outcome}
 use Rattle.node_tree.specs.declared.register.Register.{Register}
 use Rattle.script_lang.specs.Operations.{is_full, masked_write, write_op}
 use Rattle.config_laws.specs.Writes.{AreDone, ValueFor, after_writes, written}
 use Rattle.config_laws.proofs.AllWrites.{Elsewhere, apart}
-use Rattle.config_laws.proofs.BusWrites.{after_write}
+use Rattle.config_laws.proofs.BusWrites.{after_write, changed}
 
 abbrev pub WrittenHere : Type 0
 WrittenHere = (cells after : CellMap) (address word : ℕ) (cell : Cell) → write_word cells address word ≡ Ok after
@@ -48,8 +48,10 @@ plain_refused here cells base value f read = elim (write_word cells base value) 
 change_refused : (cells : CellMap) (base : ℕ) (change : ℕ → ℕ) (f : BusFault) → read_word cells base ≡ Err f
     → (of_modifying cells (modify cells base change)).fault ≡ None → ⊥
 change_refused cells base change f read fine =
-    let same : modify cells base change ≡ Err f = rw read refl in
-    let bad : Some f ≡ None = sym (ap (λ m. (of_modifying cells m).fault) same) ∙ fine in absurd cc
+    let same : modify cells base change ≡ Err f =
+    ap (λ (r : Result ℕ BusFault). r >>= (λ (before : ℕ). changed before (write_word cells base (change before)))) read in
+    let bad : Some f ≡ None = sym (ap (λ (m : Result Modified BusFault). (of_modifying cells m).fault) same) ∙ fine in
+    absurd cc
 
 write_refused : WrittenHere → (cells : CellMap) (r : Register) (value : ℕ) (f : BusFault)
     → read_word cells r.address ≡ Err f → (outcome cells (write_op r (value ∷ []))).fault ≡ None

@@ -1,11 +1,11 @@
 -- The boards of a session have names that are words of a line, and registers whose fields can be read and written.
 use Rattle.std.proofs.Common.{◌≡◌, ℕ, zero, suc, Bool, true, false, if◌then◌else◌, List, [], ◌∷◌, ◌++◌, codes, Option, Some}
-use Rattle.std.proofs.Common.{None, refl, ap, sym, subst, arith}
+use Rattle.std.proofs.Common.{None, refl, ap, subst, arith}
 use Rattle.std.specs.List.{AllByRecursion, AllZip, slice_get, zip}
 use Rattle.std.specs.Option.{unwrap_or}
 use Rattle.std.specs.FinMap.{get}
 use Rattle.std.proofs.lemmas.Option.{same_Some}
-use Rattle.toml.specs.Data.{Data, Items, array, Members, get_member, as_str}
+use Rattle.toml.specs.Data.{Data, array, Members, get_member, as_str}
 use Rattle.address_table.specs.Rules.{has_key, holds_of, is_id}
 use Rattle.address_table.specs.Tables.{IsTable}
 use Rattle.address_table.specs.Valid.{IsValid}
@@ -20,17 +20,12 @@ use Rattle.script_lang.specs.Document.{IsSession, IsTableAt, duplicates, misfits
 use Rattle.script_lang.specs.Fields.{text_at}
 use Rattle.script_lang.specs.Keys.{board_keys, document_keys, is_udp, kind_at, sim_keys, sim_keys_with_noise, udp_keys}
 use Rattle.script_lang.specs.Sessions.{board_of, boards_of, format_of, tables_of}
-use Rattle.script_lang.specs.Texts.{keeps}
 use Rattle.script_lang.specs.Walk.{keys_faults, missing, shape_faults, table_faults, value_faults}
-use Rattle.script_lang.specs.declared.keys.ItemKind.TheVariants as items
-use Rattle.script_lang.specs.declared.keys.Kind.TheVariants.{Text}
-use Rattle.script_lang.specs.declared.keys.TableKind.TheVariants.{Board}
-use Rattle.script_lang.specs.declared.keys.TextRule.TheVariants.{Id}
 use Rattle.script_lang.specs.declared.session.Session.{Session}
 use Rattle.script_lang.proofs.Kept.{each_table, items_kept, kept_value, mapped_none, no_fault, parts_none}
 use Rattle.script_lang.proofs.Registers.{AreSoundRegisters, IsSoundRegister, session_registers}
 use Rattle.board_history.proofs.Lists.{all_at}
-use Rattle.config_store.specs.Kept.{IndexedBoard, indexed}
+use Rattle.config_store.specs.Kept.{indexed}
 use Rattle.config_store.specs.Meanings.{HaveWordNames, IsBoardWord, IsOneWord}
 use Rattle.config_laws.specs.Fields.{HasField, HaveFields}
 use Rattle.config_laws.proofs.SavedLines.{first_of}
@@ -44,14 +39,17 @@ RegisterWords = (tables : TableMap) (root : Name) (index : RegisterMap) (name : 
 
 -- ---- names of boards
 
-name_rule : (udp fates : Bool)
-    → kind_at (if udp then udp_keys else if fates then sim_keys else sim_keys_with_noise) (codes "name") ≡ Some (Text Id)
-name_rule true fates = refl
-name_rule false true = refl
-name_rule false false = refl
+-- what stands under the key `name` is an id
+name_id : (udp fates : Bool) (value : Data)
+    → value_faults (kind_at (if udp then udp_keys else if fates then sim_keys else sim_keys_with_noise) (codes "name")) value
+    ≡ []
+    → holds_of is_id (as_str value) ≡ true
+name_id true fates value none = no_fault (holds_of is_id (as_str value)) none
+name_id false true value none = no_fault (holds_of is_id (as_str value)) none
+name_id false false value none = no_fault (holds_of is_id (as_str value)) none
 
 module _ (words : BoardWords) where
-  kept_name : (o : Option (List ℕ)) → holds_of (keeps Id) o ≡ true → IsBoardWord (unwrap_or o [])
+  kept_name : (o : Option (List ℕ)) → holds_of is_id o ≡ true → IsBoardWord (unwrap_or o [])
   kept_name None h = absurd cc
   kept_name (Some text) h = words text h
 
@@ -59,10 +57,8 @@ module _ (words : BoardWords) where
       → IsBoardWord (text_at (codes "name") ms)
   name_there ms None is none = rw is (refl, refl)
   name_there ms (Some value) is none =
-      let kept : value_faults (Some (Text Id)) value ≡ [] =
-      subst (λ kind. value_faults kind value ≡ []) (name_rule (is_udp ms) (has_key (codes "fates") ms))
-      (kept_value (board_keys ms) (codes "name") ms value none is) in
-      rw is (kept_name (as_str value) (no_fault (holds_of (keeps Id) (as_str value)) kept))
+      rw is (kept_name (as_str value)
+      (name_id (is_udp ms) (has_key (codes "fates") ms) value (kept_value (board_keys ms) (codes "name") ms value none is)))
 
   board_named : (ms : Members) → table_faults (board_keys ms) ms ≡ [] → IsBoardWord (board_of ms).name
   board_named ms none =
@@ -73,9 +69,9 @@ module _ (words : BoardWords) where
       → AllByRecursion (λ (b : BoardSpec). IsBoardWord b.name) (boards_of document)
   boards_named document none =
       let keys = parts_none (keys_faults document_keys document) (missing document_keys document) none in
-      let kept = items_kept document_keys (items.Table Board) (codes "board") document keys.0 refl in
+      let kept = items_kept document_keys _ (codes "board") document keys.0 refl in
       rw kept.same
-      (each_table Board board_of (λ (b : BoardSpec). IsBoardWord b.name) board_named 0 kept.inside kept.faultless).0
+      (each_table _ board_of (λ (b : BoardSpec). IsBoardWord b.name) board_named 0 kept.inside kept.faultless).0
 
   session_named : (document : Members) (session : Session) → IsSession document session
       → AllByRecursion (λ (b : BoardSpec). IsBoardWord b.name) session.boards

@@ -1,15 +1,14 @@
 -- What is shown of the operations of a client alone on a board, where each of them was done.
-use Rattle.std.proofs.Common.{◌≡◌, ℕ, zero, suc, ◌+◌, ◌<◌, ◌==◌, Bool, true, false, List, [], ◌∷◌, ◌++◌, length, map}
-use Rattle.std.proofs.Common.{Option, Some, None, inl, inr, refl, sym, ap, ◌∙◌, subst, arith, length-append}
+use Rattle.std.proofs.Common.{◌≡◌, ℕ, zero, suc, ◌+◌, ◌<◌, true, false, List, [], ◌∷◌, ◌++◌, length, map}
+use Rattle.std.proofs.Common.{Option, Some, None, refl, sym, ap, ◌∙◌, subst, arith, length-append}
 use Rattle.std.specs.Prelude.{unwrap_or}
-use Rattle.std.specs.List.{AllByRecursion, flat_map, range_with_len, slice_get}
+use Rattle.std.specs.List.{flat_map, range_with_len, slice_get, zip}
 use Rattle.std.specs.Option.{option_map}
 use Rattle.std.proofs.lemmas.List.{length-map}
 use Rattle.std.proofs.lemmas.List.FromFn.{length-range_with_len}
 use Rattle.std.proofs.lemmas.Option.{same_Some, slice_get-map}
 use Rattle.world_model.proofs.Lists.{get_within}
 use Rattle.transaction_codec.specs.declared.request.Op.{Op}
-use Rattle.mtu_packer.specs.Packing.{AreReadable, body_words}
 use Rattle.board_bus.specs.Cells.{CellMap, HoldsWords}
 use Rattle.board_bus.specs.Transactions.{outcome}
 use Rattle.script_steps.specs.declared.operation.RegOp.{RegOp}
@@ -28,7 +27,7 @@ use Rattle.config_laws.specs.Turns.{after_ops}
 use Rattle.config_laws.proofs.BusReads.{Failures, Successes}
 use Rattle.config_laws.proofs.TurnOps.{AreAllDone, done_behind, shown_done, told_turn, turn_behind, turns}
 use Rattle.config_laws.proofs.TurnBodies.{AllGood, OneAnswer}
-use Rattle.config_laws.proofs.TurnParts.{ends, parts_done, results, results_at, spots, spots_in}
+use Rattle.config_laws.proofs.TurnParts.{ends, parts_done, results_at, spots, spots_in}
 use Rattle.config_laws.proofs.TurnPlans.{IsLaidOut}
 
 -- ---- one piece
@@ -88,10 +87,7 @@ module _ (success : Successes) (failure : Failures) (only : OneAnswer) (answerin
 
     ends_are : ends_of (part_alone cells planned) ≡ ends 1 cells laid.parts
     ends_are =
-        ap (λ (bodies : List (List ℕ)). ends_of (record {
-          planned = record planned { bodies = bodies };
-          outcomes = outcomes_from 1 cells bodies;
-        })) laid.bodies'
+        ap (λ (bodies : List (List ℕ)). map end_of (zip bodies (outcomes_from 1 cells bodies))) laid.bodies'
 
     -- what the operation of a number came to
     piece_at_place : (k : ℕ) (asked : RegOp) (p : PieceAt) → slice_get places k ≡ Some p

@@ -1,5 +1,5 @@
 -- A body of operations on a bus, where each of them was done.
-use Rattle.std.proofs.Common.{◌≡◌, ℕ, suc, ◌+◌, ◌-◌, ◌^◌, ◌≤◌, ◌<◌, true, false, List, [], ◌∷◌, ◌++◌, length, map}
+use Rattle.std.proofs.Common.{◌≡◌, ℕ, suc, ◌+◌, ◌-◌, ◌≤◌, true, false, List, [], ◌∷◌, ◌++◌, length, map}
 use Rattle.std.proofs.Common.{replicate, Some, inl, inr, refl, sym, ap, ◌∙◌, subst, arith, append-nil, eq-eqb}
 use Rattle.std.specs.List.{AllByRecursion}
 use Rattle.std.proofs.lemmas.List.{length-replicate}
@@ -97,13 +97,16 @@ module _ (success : Successes) (failure : Failures) where
       record {
         replies = first.reply ∷ later.replies;
         items = (reply_is_reply cells request holds is, later.items);
-        answers' = inl (record {
-          tid = refl;
-          kind = refl;
-          code = done.success;
-          count = done.full;
-          values = done.carried;
-        }, later.answers');
+        answers' = inl (
+          record {
+            tid = refl;
+            kind = refl;
+            code = done.success;
+            count = done.full;
+            values = done.carried;
+          },
+          later.answers',
+        );
         spelled = ap (λ (e : Executed). e.reply) step ∙ ap (λ (ws : List ℕ). reply_words first.reply ++ ws) later.spelled;
         count = ap length more ∙ ap suc later.count;
         good = λ all.

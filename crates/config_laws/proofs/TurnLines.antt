@@ -65,6 +65,14 @@ alone_showing spec board steps payload live k op =
 
 -- ---- operations on a board by their number
 
+pub on_here : (board : ℕ) (it : RegOp) (ops : List RegOp) → (it.board == board) ≡ true
+    → ops_on board (it ∷ ops) ≡ it.op ∷ ops_on board ops
+on_here board it ops here = rw here refl
+
+pub on_away : (board : ℕ) (it : RegOp) (ops : List RegOp) → (it.board == board) ≡ false
+    → ops_on board (it ∷ ops) ≡ ops_on board ops
+on_away board it ops away = rw away refl
+
 count_is : (board : ℕ) (ops : List RegOp) → count_on board ops ≡ length (ops_on board ops)
 count_is board [] = refl
 count_is board (op ∷ ops) =
@@ -75,11 +83,11 @@ count_is board (op ∷ ops) =
       | inl here ↦
           (let one : cond {A = ℕ} (op.board == board) 1 0 ≡ 1 = ap (λ t. cond {A = ℕ} t 1 0) here in
           let more : count_on board (op ∷ ops) ≡ suc (length (ops_on board ops)) = omega (arith, count, one, later) in
-          rw here more)
+          more ∙ ap length (sym (on_here board op ops here)))
       | inr away ↦
           (let none : cond {A = ℕ} (op.board == board) 1 0 ≡ 0 = ap (λ t. cond {A = ℕ} t 1 0) away in
           let same : count_on board (op ∷ ops) ≡ length (ops_on board ops) = omega (arith, count, none, later) in
-          rw away same)
+          same ∙ ap length (sym (on_away board op ops away)))
     ]
 
 -- the operation of a number on a board, among those that are asked for
@@ -104,14 +112,6 @@ found_later board k n ask asks op found more = record {
   is = found.is;
   number = more found.before ∙ ap (λ m. n + m) found.number;
 }
-
-pub on_here : (board : ℕ) (it : RegOp) (ops : List RegOp) → (it.board == board) ≡ true
-    → ops_on board (it ∷ ops) ≡ it.op ∷ ops_on board ops
-on_here board it ops here = rw here refl
-
-pub on_away : (board : ℕ) (it : RegOp) (ops : List RegOp) → (it.board == board) ≡ false
-    → ops_on board (it ∷ ops) ≡ ops_on board ops
-on_away board it ops away = rw away refl
 
 abbrev pub undenied : RegOp → Asked
 undenied it = record { op = it; denied = None }

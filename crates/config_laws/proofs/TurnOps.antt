@@ -1,7 +1,7 @@
 -- Operations on a bus one after another, and what is told of each.
-use Rattle.std.proofs.Common.{◌≡◌, ◌≢◌, ℕ, zero, suc, true, false, not, ◌==◌, if◌then◌else◌, List, [], ◌∷◌, ◌++◌, length, map}
-use Rattle.std.proofs.Common.{Option, Some, None, refl, sym, ap, ◌∙◌, subst, arith, append-nil}
-use Rattle.std.specs.List.{AllByRecursion, flat_map, slice_get}
+use Rattle.std.proofs.Common.{◌≡◌, ◌≢◌, ℕ, not, ◌==◌, if◌then◌else◌, List, [], ◌∷◌, ◌++◌, length}
+use Rattle.std.proofs.Common.{Option, Some, None, refl, ap, ◌∙◌, arith, append-nil}
+use Rattle.std.specs.List.{slice_get}
 use Rattle.transaction_codec.specs.declared.request.Op.{Op}
 use Rattle.transaction_codec.specs.declared.request.Op.TheVariants.{Read, ReadPort, Write, WritePort, RmwBits, RmwSum}
 use Rattle.transaction_codec.specs.declared.info_code.TheConstants.{SUCCESS}
@@ -16,7 +16,6 @@ use Rattle.reply_join.specs.declared.answer.Answer.{Answer}
 use Rattle.reply_join.specs.declared.answer.Answer.TheVariants.{Values, Done, Fault}
 use Rattle.reply_join.specs.Joining.{answer_of}
 use Rattle.script_steps.specs.declared.operation.Verb.{Verb}
-use Rattle.script_steps.specs.declared.operation.Verb.TheVariants as verb
 use Rattle.transcript.specs.declared.line.OpResult.{OpResult}
 use Rattle.transcript.specs.Ends.{answered}
 use Rattle.transcript.specs.Results.{combined, shown}

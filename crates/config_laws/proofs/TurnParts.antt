@@ -1,7 +1,7 @@
 -- The bodies of a client alone on a board, where each of their operations was done.
-use Rattle.std.proofs.Common.{◌≡◌, ℕ, zero, suc, ◌+◌, true, List, [], ◌∷◌, ◌++◌, length, map, Option, Some, None}
+use Rattle.std.proofs.Common.{◌≡◌, ℕ, ◌+◌, true, List, [], ◌∷◌, ◌++◌, length, map, Option, Some}
 use Rattle.std.proofs.Common.{refl, sym, ap, ◌∙◌, subst, arith, append_assoc, length-append}
-use Rattle.std.specs.List.{AllByRecursion, flat_map, range_with_len, slice_get, zip}
+use Rattle.std.specs.List.{flat_map, range_with_len, slice_get, zip}
 use Rattle.std.proofs.lemmas.List.{map-append}
 use Rattle.ipb_base.proofs.AllLemmas.{back_of_all, front_of_all}
 use Rattle.world_model.proofs.Lists.{get_seam}
@@ -26,7 +26,7 @@ use Rattle.board_history.proofs.Answering.{body_told, spelled_words}
 use Rattle.config_laws.specs.Turns.{after_ops}
 use Rattle.config_laws.proofs.BusReads.{Failures, Successes}
 use Rattle.config_laws.proofs.TurnOps.{AreAllDone, done_append, turns, turns_append}
-use Rattle.config_laws.proofs.TurnBodies.{AllGood, GoesOn, IsAnswered, OneAnswer, joined_on, told_answer, told_answers}
+use Rattle.config_laws.proofs.TurnBodies.{AllGood, OneAnswer, joined_on, told_answer, told_answers}
 
 -- ---- where transactions stand
 

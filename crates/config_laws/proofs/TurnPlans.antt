@@ -1,7 +1,6 @@
 -- The plan of a client whose operations are of one word each: one transaction for each, in order.
-use Rattle.std.proofs.Common.{◌≡◌, ℕ, zero, suc, ◌+◌, ◌-◌, ◌*◌, ◌≤◌, ◌<◌, ◌==◌, List, [], ◌∷◌, ◌++◌, length, map, take, drop}
-use Rattle.std.proofs.Common.{Option, Some, inl, inr, refl, sym, ap, ◌∙◌, subst, arith, append_assoc, append-nil}
-use Rattle.std.proofs.Common.{length-append}
+use Rattle.std.proofs.Common.{◌≡◌, ℕ, suc, ◌+◌, ◌-◌, ◌*◌, ◌≤◌, ◌==◌, List, [], ◌∷◌, ◌++◌, length, map, take, drop}
+use Rattle.std.proofs.Common.{Some, inl, inr, refl, sym, ap, ◌∙◌, subst, arith, append_assoc, append-nil}
 use Rattle.std.specs.Prelude.{min}
 use Rattle.std.specs.Int.{div_ceil}
 use Rattle.std.specs.List.{AllByRecursion, flat_map, fold, range_with_len}
@@ -15,7 +14,7 @@ use Rattle.transaction_codec.specs.Request.{AreRequests, op_count}
 use Rattle.mtu_packer.specs.declared.packed.Piece.{Piece}
 use Rattle.mtu_packer.specs.Cutting.{cut, part_of, piece, piece_count, piece_limit}
 use Rattle.mtu_packer.specs.Packing.{AreReadable, body_requests, body_words}
-use Rattle.mtu_packer.specs.Packed.{Contents, IsPacked, packed, piece_at, pieces_at, places_from}
+use Rattle.mtu_packer.specs.Packed.{Contents, IsPacked, packed, pieces_at, places_from}
 use Rattle.mtu_packer.proofs.Pieces.{piece_limit-some}
 use Rattle.script_steps.specs.declared.operation.RegOp.{RegOp}
 use Rattle.script_steps.specs.declared.operation.Step.{Step}

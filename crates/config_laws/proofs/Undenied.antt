@@ -1,5 +1,5 @@
 -- Where all was done, nothing was denied.
-use Rattle.std.proofs.Common.{◌≡◌, ℕ, suc, ◌+◌, ◌<◌, List, [], ◌∷◌, length, map, Option, Some, None, inl, inr, refl, sym, ap}
+use Rattle.std.proofs.Common.{◌≡◌, ℕ, suc, ◌+◌, ◌<◌, List, [], ◌∷◌, length, map, Option, Some, None, inl, inr, refl, ap}
 use Rattle.std.proofs.Common.{◌∙◌, subst}
 use Rattle.std.specs.List.{AllByRecursion}
 use Rattle.ipb_base.proofs.AllLemmas.{all-map}
@@ -16,7 +16,7 @@ use Rattle.script_lang.specs.OnBoards.{StepsAreOn}
 use Rattle.script_plans.specs.declared.board_run.BoardRun.{BoardRun}
 use Rattle.transcript.specs.declared.line.OpLine.{OpLine}
 use Rattle.transcript.specs.declared.line.OpResult.{OpResult}
-use Rattle.transcript.specs.Claims.{AreOnBoards, IsDone, IsDoneResult, IsOnBoard, rule_in, rules_of, rules_shown}
+use Rattle.transcript.specs.Claims.{AreOnBoards, IsDone, IsDoneResult, rule_in, rules_of, rules_shown}
 use Rattle.transcript.specs.Lines.{lines_from}
 use Rattle.lane_history.specs.Links.{LinkReport}
 use Rattle.lane_history.specs.Runs.{AreRunsOver}

@@ -1,8 +1,8 @@
 -- Values that are given for each kept register are those that are shown.
-use Rattle.std.proofs.Common.{◌≡◌, ℕ, zero, suc, ◌+◌, ◌<◌, List, [], ◌∷◌, ◌++◌, length, map, Option, Some, Less, Equal, nat_cmp}
-use Rattle.std.proofs.Common.{Ordering, get_or, inl, inr, refl, sym, ap, ◌∙◌, subst, arith}
+use Rattle.std.proofs.Common.{◌≡◌, ℕ, zero, suc, ◌+◌, List, [], ◌∷◌, ◌++◌, length, map, Some, Less, Equal, nat_cmp}
+use Rattle.std.proofs.Common.{Ordering, inl, inr, refl, sym, ap, ◌∙◌, subst}
 use Rattle.std.specs.Cmp.Lexicographic.{slice_cmp}
-use Rattle.std.specs.List.{AllByRecursion, AllZip, Contains, flat_map, slice_get}
+use Rattle.std.specs.List.{AllZip, Contains, slice_get}
 use Rattle.std.specs.List.Sorted.{IsStrictlySortedBy}
 use Rattle.std.specs.Option.{option_map}
 use Rattle.std.specs.Ordering.{ordering_then}
@@ -22,7 +22,7 @@ use Rattle.config_store.specs.Text.{heading}
 use Rattle.config_store.proofs.InOrder.{same_name}
 use Rattle.config_store.proofs.KeptMeaning.{kept_place}
 use Rattle.config_laws.specs.Applied.{AreAmong, AreApplied, AreFor, IsApplied, IsFor}
-use Rattle.config_laws.specs.Saved.{AreSaved, IsSaved, saved_board, saved_text, values_text}
+use Rattle.config_laws.specs.Saved.{AreSaved, saved_board, saved_text, values_text}
 use Rattle.config_laws.proofs.AppliedValues.{contains}
 use Rattle.config_laws.proofs.Givens.{IsGiven}
 
@@ -96,9 +96,11 @@ in_kept [] place b at m e there = absurd cc
 in_kept (x ∷ boards) zero b at m e there =
     let same : x ≡ b = same_Some x b at in
     let here : slice_get (kept_on b) m ≡ Some (kept_register b.0.name e) =
-    slice_get-map (kept_register b.0.name) (kept b.1) m ∙ ap (option_map (kept_register b.0.name)) there in
-    (m, get_front (kept_on x) (kept_of boards) m (kept_register b.0.name e)
-    (subst (λ (y : IndexedBoard). slice_get (kept_on y) m ≡ Some (kept_register b.0.name e)) (sym same) here))
+    slice_get-map (kept_register b.0.name) (kept b.1) m ∙ ap (option_map (kept_register b.0.name)) there in (
+      m,
+      get_front (kept_on x) (kept_of boards) m (kept_register b.0.name e)
+          (subst (λ (y : IndexedBoard). slice_get (kept_on y) m ≡ Some (kept_register b.0.name e)) (sym same) here),
+    )
 in_kept (x ∷ boards) (suc place) b at m e there =
     let rest = in_kept boards place b at m e there in
     (length (kept_on x) + rest.0, get_back (kept_on x) (kept_of boards) rest.0 (kept_register b.0.name e) rest.1)

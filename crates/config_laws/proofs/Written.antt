@@ -1,23 +1,21 @@
 -- The values that a script writes on each board, and the registers that show them.
-use Rattle.std.proofs.Common.{◌≡◌, ◌≢◌, ◌⊎◌, ℕ, zero, suc, ◌<◌, ◌^◌, ◌==◌, if◌then◌else◌, Bool, true, false, List, [], ◌∷◌}
-use Rattle.std.proofs.Common.{◌++◌, map, Option, Some, None, Ok, bit_and, inl, inr, refl, sym, ap, ◌∙◌, subst, arith}
-use Rattle.std.specs.Prelude.{IfSome}
-use Rattle.std.specs.List.{AllByRecursion, AllZip, Contains, slice_get}
+use Rattle.std.proofs.Common.{◌≡◌, ◌≢◌, ◌⊎◌, ℕ, zero, suc, ◌==◌, if◌then◌else◌, Bool, true, false, List, [], ◌∷◌}
+use Rattle.std.proofs.Common.{◌++◌, map, Some, bit_and, inl, inr, refl, sym, ap, ◌∙◌, subst}
+use Rattle.std.specs.List.{AllByRecursion, AllZip, slice_get}
 use Rattle.std.specs.Str.{bytes_eq}
 use Rattle.std.specs.FinMap.{get}
 use Rattle.std.proofs.lemmas.Bool.{cases_Bool, eq-eqb, eqb-true}
 use Rattle.std.proofs.lemmas.Option.{same_Some}
 use Rattle.std.proofs.lemmas.Slice.Eq.{bytes_eq-Decides}
 use Rattle.transaction_codec.specs.declared.request.Op.{Op}
-use Rattle.masked_fields.specs.Field.{FitsMask, field}
-use Rattle.board_bus.specs.Cells.{CellMap, read_word}
+use Rattle.board_bus.specs.Cells.{CellMap}
 use Rattle.board_bus.specs.Transactions.{outcome}
 use Rattle.board_node.specs.declared.spec.BoardSpec.{BoardSpec}
-use Rattle.node_tree.specs.Maps.{Name, RegisterMap}
+use Rattle.node_tree.specs.Maps.{RegisterMap}
 use Rattle.node_tree.specs.declared.register.Register.{Register}
 use Rattle.script_lang.specs.Operations.{write_op}
 use Rattle.script_lang.specs.OwnNames.{HaveOwnNames}
-use Rattle.script_steps.specs.Rulings.{Asked, allowed, asked}
+use Rattle.script_steps.specs.Rulings.{allowed, asked}
 use Rattle.script_steps.specs.declared.operation.RegOp.{RegOp}
 use Rattle.script_steps.specs.declared.operation.Step.{Step}
 use Rattle.script_plans.specs.Plan.{ops_on}
@@ -28,7 +26,7 @@ use Rattle.config_store.specs.Meanings.{HasWord, write_of}
 use Rattle.config_store.specs.Overlaps.{overlapping_names}
 use Rattle.config_store.specs.Puts.{AreApartFrom, CanBePut}
 use Rattle.config_laws.specs.Applied.{IsFor}
-use Rattle.config_laws.specs.Fields.{HasField, HaveFields}
+use Rattle.config_laws.specs.Fields.{HaveFields}
 use Rattle.config_laws.specs.Turns.{after_ops}
 use Rattle.config_laws.specs.Writes.{AreDone, CanBeWritten, ValueFor, after_writes, puts_at}
 use Rattle.config_laws.proofs.Apart.{OverlapInABit, masks_apart}
@@ -191,7 +189,6 @@ module _ (law : OverlapInABit) (specs : List BoardSpec) (indexes : List Register
       let found : get b.1 r.name ≡ Some is.register =
       subst (λ name. get b.1 name ≡ Some is.register) same (on_this e step is place).found in
       let register : is.register ≡ r.register = same_Some is.register r.register (sym found ∙ is_kept.found) in
-      let one : IndexedBoard = is.board in
       let board_same : is.board ≡ b =
       same_Some is.board b (sym is.there ∙ (ap (slice_get (indexed specs indexes)) place ∙ at)) in
       record {

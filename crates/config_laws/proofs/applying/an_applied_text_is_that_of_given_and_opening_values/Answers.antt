@@ -1,6 +1,5 @@
 use Rattle.std.proofs.Common.{List, [], ◌∷◌, length, sym, ◌∙◌, subst}
 use Rattle.script_steps.specs.declared.operation.Step.{Step}
-use Rattle.script_steps.specs.declared.operation.Step.TheVariants.{Dispatch}
 use Rattle.script_steps.specs.Rulings.{asked}
 use Rattle.script_lang.specs.OnBoards.{StepsAreOn}
 use Rattle.transcript.specs.Lines.{client_lines}
@@ -16,8 +15,8 @@ use Rattle.config_laws.proofs.Whole.{all_shown}
 use Rattle.config_laws.proofs.applying.an_applied_text_is_that_of_given_and_opening_values.Goals as goal
 
 pub returns : goal.returns
-returns c = λ settings specs indexes steps runs links state are own names fields none order values is tell made words can
-status.
+returns c = λ settings specs indexes steps runs links state are own names fields.
+    λ none order values is tell made words can status.
     let boards = indexed specs indexes in
     let kept = kept_of boards in
     let parts = no_more (keeping_faults boards) (entry_faults boards state) none in
@@ -36,6 +35,9 @@ status.
     c.written_values_stand_and_other_fields_stay.ensures.others c.a_write_changes_one_word.ensures.here
     c.a_write_puts_its_field.ensures.elsewhere c.kept_registers_overlap_in_a_bit_of_a_word.ensures specs indexes own fields
     parts.0 words state values kept writes reads given read (client_lines runs 0 steps)
-    (subst (λ (ss : List Step). ShowTurns specs [] (asked ss) (client_lines runs 0 steps)) whole turns) in
-    (shown, applied, all_shown specs boards state shown state writes order applied (λ k e at. contains state k e at) given,
-    text)
+    (subst (λ (ss : List Step). ShowTurns specs [] (asked ss) (client_lines runs 0 steps)) whole turns) in (
+      shown,
+      applied,
+      all_shown specs boards state shown state writes order applied (λ k e at. contains state k e at) given,
+      text,
+    )

@@ -7,8 +7,8 @@ use Rattle.config_laws.proofs.Whole.{kept_same, saved_for, text_same}
 use Rattle.config_laws.proofs.applying.what_was_saved_is_written_again.Goals as goal
 
 pub returns : goal.returns
-returns c = λ settings specs others indexes steps runs links state entries called saved among are own names fields none order
-values is tell made words can status.
+returns c = λ settings specs others indexes steps runs links state entries called saved among.
+    λ are own names fields none order values is tell made words can status.
     let kept = kept_of (indexed specs indexes) in
     let (shown, applied, all, text) = c.an_applied_text_is_that_of_given_and_opening_values.ensures settings specs indexes
     steps runs links state are own names fields none order values is tell made words can status in
