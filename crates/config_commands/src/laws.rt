@@ -18,9 +18,8 @@ ghost use Rattle.config_commands.specs.Terms.{apply_terms, save_terms};
 ghost use Rattle.config_commands.specs.Written.{AllTell};
 
 use config_input::laws::{
-    bytes_have_one_answer_to_a_command, names_of_a_session_are_words_of_lines,
-    operations_are_on_the_boards_of_their_session, values_of_a_state_are_words,
-    what_is_read_for_a_command_can_be_executed,
+    bytes_have_one_answer_to_a_command, operations_are_on_the_boards_of_their_session,
+    values_of_a_state_are_words, what_is_read_for_a_command_can_be_executed,
 };
 use config_laws::applying::an_applied_text_is_that_of_given_and_opening_values;
 use config_laws::permitted::where_all_was_done_nothing_was_denied;
@@ -65,7 +64,7 @@ pub fn saved_texts_are_those_of_opening_values()
         → run_status (transcript_of (steps ∷ []) runs).clients ≡ 0
         → IsOpeningText session (state_text session.boards (client_lines runs 0 steps)) }
 {
-    names_of_a_session_are_words_of_lines();
+    the_boards_of_a_session_have_words_and_fields();
     what_is_read_for_a_command_can_be_executed();
     where_all_was_done_nothing_was_denied();
     a_saved_text_is_that_of_the_opening_values();
@@ -84,7 +83,6 @@ pub fn applied_texts_are_those_of_given_and_opening_values()
         → IsAppliedText session (apply_command.work is.document).values
         (state_text session.boards (client_lines runs 0 steps)) }
 {
-    names_of_a_session_are_words_of_lines();
     values_of_a_state_are_words();
     what_is_read_for_a_command_can_be_executed();
     where_all_was_done_nothing_was_denied();

@@ -1,5 +1,4 @@
-pub mod Words
 pub mod Values
-pub mod Executable
 pub mod Asked
 pub mod OneAnswer
+pub mod Planned

@@ -2,20 +2,20 @@
 
 ghost use Rattle.std.specs.Prelude.{◌≡◌, ℕ, List, Option, length};
 ghost use Rattle.std.specs.List.{AllByRecursion};
-ghost use Rattle.toml.specs.Data.{Data, Members};
-ghost use Rattle.node_tree.specs.Maps.{RegisterMap};
+ghost use Rattle.toml.specs.Data.{Data};
 ghost use Rattle.script_steps.specs.Executable.{AreExecutable};
 ghost use Rattle.script_steps.specs.declared.operation.Step.{Step};
 ghost use Rattle.script_lang.specs.declared.session.Session.{Session};
-ghost use Rattle.script_lang.specs.Document.{IsSession, SameSession};
-ghost use Rattle.session_input.specs.Deserved.{AreCompiled, AreOnBoards};
-ghost use Rattle.config_store.specs.Kept.{indexed};
-ghost use Rattle.config_store.specs.Meanings.{HasWord, HaveWordNames};
+ghost use Rattle.script_lang.specs.Document.{SameSession};
+ghost use Rattle.session_input.specs.Deserved.{AreOnBoards};
+ghost use Rattle.config_store.specs.Meanings.{HasWord};
 ghost use Rattle.config_input.specs.Deserved.{Deserves, IsApplicable, IsReadFor, IsSavable};
 ghost use Rattle.config_input.specs.Work.{ConfigCommand, entries_in};
 ghost use Rattle.config_input.specs.declared.refusal.ConfigRefusal.{ConfigRefusal};
 
-use config_store::laws::names_are_words_of_lines;
+use config_laws::sessions::{
+    the_boards_of_a_session_have_words_and_fields, the_scripts_can_be_executed,
+};
 use script_lang::laws::{
     scripts_ask_of_boards_that_are_there, the_boards_of_a_session_have_their_own_names,
 };
@@ -34,14 +34,6 @@ pub fn bytes_have_one_answer_to_a_command()
 {
     document_laws();
     table_laws();
-}
-
-/// The names of a session's boards, and those of the registers of their tables, are words of a line.
-pub fn names_of_a_session_are_words_of_lines()
-    ensures { (document : Members) (session : Session) (indexes : List RegisterMap) → IsSession document session
-        → AreCompiled session indexes → HaveWordNames (indexed session.boards indexes) }
-{
-    names_are_words_of_lines();
 }
 
 /// The values of a state have 32 bits.
@@ -66,7 +58,8 @@ pub fn what_is_read_for_a_command_can_be_executed()
         → IsApplicable bytes session steps → AllByRecursion AreExecutable steps }
 {
     the_boards_of_a_session_have_their_own_names();
-    names_of_a_session_are_words_of_lines();
+    the_boards_of_a_session_have_words_and_fields();
+    the_scripts_can_be_executed();
     values_of_a_state_are_words();
     what_is_denied_asks_for_less();
 }

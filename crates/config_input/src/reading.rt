@@ -14,10 +14,11 @@ ghost use Rattle.config_input.specs.Deserved as spec;
 ghost use Rattle.config_input.specs.Work as work;
 ghost use Rattle.config_input.specs.Words.{IsOfDocument};
 
-use crate::laws::{names_of_a_session_are_words_of_lines, values_of_a_state_are_words};
+use crate::laws::values_of_a_state_are_words;
 use crate::planning::planned;
 use crate::refusal::ConfigUnread;
 use access_policy::Policy;
+use config_laws::sessions::the_boards_of_a_session_have_words_and_fields;
 use config_store::laws::the_scripts_have_no_fault;
 use config_store::{State, StoreRefusal, apply_lines, missing_state, read_state, save_lines};
 use node_tree::Index;
@@ -117,7 +118,7 @@ fn save_session(
 {
     the_scripts_have_no_fault();
     the_boards_of_a_session_have_their_own_names();
-    names_of_a_session_are_words_of_lines();
+    the_boards_of_a_session_have_words_and_fields();
     let indexes = board_indexes(alloc, &session)?;
     let lines = save_lines(alloc, &session, &indexes)?;
     planned(alloc, session, policy, &indexes, lines)
@@ -145,7 +146,7 @@ fn apply_session(
 {
     the_scripts_have_no_fault();
     the_boards_of_a_session_have_their_own_names();
-    names_of_a_session_are_words_of_lines();
+    the_boards_of_a_session_have_words_and_fields();
     values_of_a_state_are_words();
     let indexes = board_indexes(alloc, &session)?;
     let state = state_of(alloc, value)?;

@@ -24,7 +24,8 @@ returns c = λ bytes session steps runs links is are tell zero.
     (script_steps c.where_all_was_done_nothing_was_denied.ensures (applying value) session by.policy steps runs links asks
     are zero)
     (c.the_boards_of_a_session_have_their_own_names.ensures document session of_document)
-    (c.names_of_a_session_are_words_of_lines.ensures document session asks.registers of_document compiled)
+    (c.the_boards_of_a_session_have_words_and_fields.ensures.names document session asks.registers of_document
+    compiled.each_index)
     (c.the_boards_of_a_session_have_words_and_fields.ensures.fields document session asks.registers of_document
     compiled.compile compiled.each_index)
     right.1 asks.ordered (c.values_of_a_state_are_words.ensures value) are tell

@@ -14,7 +14,8 @@ returns c = λ bytes session steps runs links is are tell zero.
     c.a_saved_text_is_that_of_the_opening_values.ensures session.settings session.boards asks.registers steps runs links
     (script_steps c.where_all_was_done_nothing_was_denied.ensures saving session by.policy steps runs links asks are zero)
     (c.the_boards_of_a_session_have_their_own_names.ensures document session of_document)
-    (c.names_of_a_session_are_words_of_lines.ensures document session asks.registers of_document asks.boards.compiled)
+    (c.the_boards_of_a_session_have_words_and_fields.ensures.names document session asks.registers of_document
+    asks.boards.compiled.each_index)
     are tell
     (made_boards c.a_session_keeps_its_limits.ensures saving session by.policy (steps ∷ []) document of_document asks)
     (c.the_ranges_of_a_session_name_words.ensures document session of_document)
