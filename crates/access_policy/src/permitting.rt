@@ -1,15 +1,17 @@
 //! What a policy says of the steps of clients: the rules of a client on each board are found once, and each name is cut
-//! once.
+//! once where many of them are compared with it.
 
 ghost use Rattle.std.specs.Prelude.{◌≡◌, ◌≤◌, Some, length, map, IfOk, OnOk};
 ghost use Rattle.script_lang.specs.declared.refusal.TheConstants.{MAX_CLIENTS};
 ghost use Rattle.access_policy.specs.Candidates as of;
 ghost use Rattle.access_policy.specs.Decisions as spec;
+ghost use Rattle.access_policy.specs.Names.{items_of};
+ghost use Rattle.access_policy.specs.Patterns.{items_match};
 
 use crate::deciding::{client_matches, has_access, needs_of, said};
-use crate::matching::{board_matches, parts_match};
+use crate::matching::{board_matches, name_matches, parts_match};
 use crate::names::{NamePart, cut_name};
-use crate::policy::{Access, Policy, Rule};
+use crate::policy::{Access, Pattern, Policy, Rule};
 use address_table::Permission;
 use board_node::BoardSpec;
 use ipb_base::NoMemory;
@@ -17,6 +19,10 @@ use script_lang::Session;
 use script_steps::{Decision, RegOp, Step, Steps};
 use std::alloc::Global;
 use std::marker::Model;
+
+/// So many rules are compared with a name as it is written, which takes no memory; each of them cuts as much of it as it
+/// has items. For more of them the name is cut once.
+const FEW_RULES: usize = 4;
 
 /// A rule and its number.
 #[derive(Drop)]
@@ -46,6 +52,13 @@ impl<'a> Model for Candidates<'a> {
     ghost Value = { List Numbered };
 
     ghost view = { λ candidates. candidates.items.items };
+}
+
+/// The name of a register, as it is written or cut into its ids.
+#[derive(Drop)]
+enum RegisterName<'a> {
+    Written(&'a str),
+    Cut(Vec<NamePart<'a>>),
 }
 
 /// What a policy says of the steps of a client of a session (profile), step by step: a dispatch is allowed, and an
@@ -150,32 +163,43 @@ fn op_decision(alloc: Global, rules: &[Candidates<'_>], op: &RegOp) -> Result<De
     let Some(candidates) = rules.get(op.board as usize) else {
         return Ok(Decision::Denied { rule: 0 });
     };
-    let parts = cut_name(alloc, op.name.as_str())?;
     let candidates = candidates.items.as_slice();
-    Ok(said_of(candidates, parts.as_slice(), needs_of(op.verb)))
+    let name = name_for(alloc, candidates.len(), op.name.as_str())?;
+    Ok(said_of(candidates, &name, needs_of(op.verb)))
+}
+
+/// A name in the form in which so many rules are compared with it.
+fn name_for(alloc: Global, rules: usize, name: &str) -> Result<RegisterName<'_>, NoMemory>
+    ensures { IfOk result (λ form. of.ids_of form ≡ items_of name.now) }
+{
+    if rules <= FEW_RULES {
+        Ok(RegisterName::Written(name))
+    } else {
+        Ok(RegisterName::Cut(cut_name(alloc, name)?))
+    }
 }
 
 /// What rules say of a use of a register.
-fn said_of(rules: &[Candidate<'_>], parts: &[NamePart<'_>], needs: Permission) -> Decision
-    ensures { result ≡ of.said_of rules.now parts.now needs }
+fn said_of(rules: &[Candidate<'_>], name: &RegisterName<'_>, needs: Permission) -> Decision
+    ensures { result ≡ of.said_of rules.now (of.ids_of name.now) needs }
 {
     match needs {
-        Permission::R => first_of(rules, parts, Access::Reading),
-        Permission::W => first_of(rules, parts, Access::Writing),
-        Permission::Rw => match first_of(rules, parts, Access::Reading) {
-            Decision::Allowed => first_of(rules, parts, Access::Writing),
+        Permission::R => first_of(rules, name, Access::Reading),
+        Permission::W => first_of(rules, name, Access::Writing),
+        Permission::Rw => match first_of(rules, name, Access::Reading) {
+            Decision::Allowed => first_of(rules, name, Access::Writing),
             Decision::Denied { rule } => Decision::Denied { rule },
         },
     }
 }
 
 /// What the first of some rules says that speaks of an access.
-fn first_of(rules: &[Candidate<'_>], parts: &[NamePart<'_>], access: Access) -> Decision
-    ensures { result ≡ of.first_of access parts.now rules.now }
+fn first_of(rules: &[Candidate<'_>], name: &RegisterName<'_>, access: Access) -> Decision
+    ensures { result ≡ of.first_of access (of.ids_of name.now) rules.now }
 {
     for candidate in rules {
         let rule = candidate.rule;
-        if is_of(rule, parts, access) {
+        if is_of(rule, name, access) {
             return said(candidate.number, rule.effect);
         }
     }
@@ -183,9 +207,19 @@ fn first_of(rules: &[Candidate<'_>], parts: &[NamePart<'_>], access: Access) -> 
 }
 
 /// Whether a rule speaks of an access to a register.
-fn is_of(rule: &Rule, parts: &[NamePart<'_>], access: Access) -> bool
-    ensures { result ≡ of.is_of access parts.now rule.now }
+fn is_of(rule: &Rule, name: &RegisterName<'_>, access: Access) -> bool
+    ensures { result ≡ of.is_of access (of.ids_of name.now) rule.now }
 {
-    let pattern = &rule.pattern;
-    has_access(rule.access, access) && parts_match(pattern.items.as_slice(), pattern.rest, parts)
+    has_access(rule.access, access) && has_name(&rule.pattern, name)
+}
+
+/// Whether the items of a pattern match a name.
+fn has_name(pattern: &Pattern, name: &RegisterName<'_>) -> bool
+    ensures { result ≡ items_match pattern.now.items pattern.now.rest (of.ids_of name.now) }
+{
+    let items = pattern.items.as_slice();
+    match name {
+        RegisterName::Written(text) => name_matches(items, pattern.rest, text),
+        RegisterName::Cut(parts) => parts_match(items, pattern.rest, parts.as_slice()),
+    }
 }

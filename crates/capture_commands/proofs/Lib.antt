@@ -1,2 +1,2 @@
 mod OneAnswer
-mod Examples
+mod ReadLemmas

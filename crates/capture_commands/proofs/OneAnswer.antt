@@ -1,5 +1,5 @@
 -- An input deserves one refusal or has one answer.
-use Rattle.std.proofs.Common.{◌≡◌, ◌⊎◌, ℕ, ◌<◌, ◌≤◌, List, length, Option, Some, inl, inr, refl, sym, ap, subst, ◌∙◌}
+use Rattle.std.proofs.Common.{◌≡◌, ◌⊎◌, ℕ, List, Option, Some, inl, inr, refl, sym, ap, subst, ◌∙◌}
 use Rattle.std.proofs.Common.{arith}
 use Rattle.capture_reader.specs.declared.capture.Capture.{Capture}
 use Rattle.capture_reader.specs.declared.refusal.CaptureWhy.{CaptureWhy}
@@ -33,6 +33,10 @@ module _ (one_fault : (text : List ℕ) (line line' : ℕ) (why why' : CaptureWh
   one_as_capture bytes (refusal.Capture line why) refusal.LongCapture is of = absurd (omega (arith, is.0, of))
   one_as_capture bytes (refusal.Capture line why) (refusal.Capture line' why') is of =
       let same = one_fault bytes line line' why why' is.1 of.1 in rw (same.0, same.1) refl
+  one_as_capture bytes refusal.LongDescription other is of = absurd is
+  one_as_capture bytes refusal.NotDescription other is of = absurd is
+  one_as_capture bytes one refusal.LongDescription is of = absurd of
+  one_as_capture bytes one refusal.NotDescription is of = absurd of
 
 module _ (no_fault : (capture : Capture) (line : ℕ) (why : CaptureWhy) → IsCapture capture
     → ¬ IsFirstFault (capture_text capture) line why) where
@@ -56,10 +60,16 @@ one_as_description bytes refusal.LongDescription refusal.LongDescription is of =
 one_as_description bytes refusal.LongDescription refusal.NotDescription is of = absurd (omega (arith, is, of.0))
 one_as_description bytes refusal.NotDescription refusal.LongDescription is of = absurd (omega (arith, is.0, of))
 one_as_description bytes refusal.NotDescription refusal.NotDescription is of = refl
+one_as_description bytes refusal.LongCapture other is of = absurd is
+one_as_description bytes (refusal.Capture line why) other is of = absurd is
+one_as_description bytes one refusal.LongCapture is of = absurd of
+one_as_description bytes one (refusal.Capture line why) is of = absurd of
 
 not_deserved : (bytes : List ℕ) (capture : Capture) → IsDescriptionOf bytes capture → (one : TextRefusal)
     → DeservesAsDescription bytes one → ⊥
 not_deserved bytes capture read refusal.LongDescription is = omega (arith, read.fits, is)
+not_deserved bytes capture read refusal.LongCapture is = is
+not_deserved bytes capture read (refusal.Capture line why) is = is
 not_deserved bytes capture read refusal.NotDescription is = is.1 capture read.is_capture read.described
 
 pub description_unrefused : (bytes line : List ℕ) (capture : Capture) → IsDescriptionOf bytes capture

@@ -2,7 +2,6 @@
 use Rattle.std.specs.Prelude.{ℕ, false, List, Some}
 use Rattle.lane_history.specs.Links.{LinkReport}
 use Rattle.capture_reader.specs.declared.capture.Capture.{Capture}
-use Rattle.command_terms.specs.Outside.{GivenBack}
 use Rattle.command_terms.specs.Terms.{Terms}
 use Rattle.capture_commands.specs.declared.refusal.TextRefusal.TheVariants.{LongCapture, LongDescription}
 use Rattle.capture_commands.specs.Lines.{refusal_line}

@@ -18,7 +18,7 @@ use std::alloc::Global;
 /// What `describe` answers to an input (profile): the description of the capture whose text it is, or the line of the
 /// first rule that it breaks.
 pub fn describe_answer(alloc: Global, bytes: &[u8]) -> Result<Answer, NoMemory>
-    ensures { IfOk result (λ answer.
+    ensures owed { IfOk result (λ answer.
         Owes spec.describe_terms bytes.now (no_pairs []) answer.status answer.text.items) }
 {
     match read_for_describe(alloc, bytes) {
@@ -31,7 +31,7 @@ pub fn describe_answer(alloc: Global, bytes: &[u8]) -> Result<Answer, NoMemory>
 /// What `undescribe` answers to an input (profile): the text of the capture whose description it is, or the line of the
 /// first rule that it breaks.
 pub fn undescribe_answer(alloc: Global, bytes: &[u8]) -> Result<Answer, NoMemory>
-    ensures { IfOk result (λ answer.
+    ensures owed { IfOk result (λ answer.
         Owes spec.undescribe_terms bytes.now (no_pairs []) answer.status answer.text.items) }
 {
     match read_for_undescribe(alloc, bytes) {

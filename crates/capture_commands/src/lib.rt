@@ -1,5 +1,7 @@
 //! The commands `describe` and `undescribe`: the text of a capture in, its description out, and the other way round; or
 //! the first rule that the input breaks, as a line that tells it.
+//!
+//! `describe_terms` and `undescribe_terms` of `specs/Terms` say what they owe to their input.
 #![tactic(auto)]
 
 mod answers;

@@ -5,4 +5,5 @@ use Rattle.access_policy.proofs.permitting.first_of.Given as goal
 -- what is left says what all of them say
 abbrev pub invariant-loop-candidate : goal.invariant-loop-candidate
 invariant-loop-candidate l =
-    of.first_of l.access l.parts (drop l.candidate-index l.rules) ≡ of.first_of l.access l.parts l.rules
+    of.first_of l.access (of.ids_of l.name) (drop l.candidate-index l.rules)
+    ≡ of.first_of l.access (of.ids_of l.name) l.rules
