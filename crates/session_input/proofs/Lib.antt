@@ -5,5 +5,6 @@ pub mod Moved
 pub mod OneText
 pub mod Ruled
 mod Served
-mod OnBoards
+pub mod OnBoards
 mod Alone
+pub mod NoText
