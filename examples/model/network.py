@@ -81,7 +81,8 @@ class SimulatedBoard:
 
 
 class Link:
-    """The network between a hub and one board: datagrams that wait to be heard, and those that are late."""
+    """The network between a hub and one board: datagrams that wait to be heard, and those that are late. `traffic` is
+    what the hub sent and received, in order: whether it sent it, and the message."""
 
     def __init__(self, board):
         self.board = SimulatedBoard(board)
@@ -92,9 +93,12 @@ class Link:
         self.first_sends = 0
         self.held = 0
         self.quiets = 0
+        self.traffic = []
 
     def send(self, is_for_board, message):
         first = self.board.board.first
+        if is_for_board:
+            self.traffic.append((True, message))
         if is_for_board and message[:2] == ("control", identifier_at(first, self.first_sends + 1)):
             self.first_sends += 1
         datagram = Datagram(is_for_board, message, self.first_sends)
@@ -118,6 +122,7 @@ class Link:
             if self.first_sends - datagram.birth > LIFETIME:
                 self.held += 1
             elif not datagram.is_for_board:
+                self.traffic.append((False, datagram.message))
                 return datagram.message
             else:
                 answer = self.board.hear(datagram.message)

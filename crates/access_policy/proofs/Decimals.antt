@@ -169,3 +169,15 @@ index_found n small =
       digits_value-decimal own n fits,
     ) (word_small n (omega (arith, small))) in
     rw (begins (decimal n) digits some (lead_of n fits), number, between 0 MAX_INDEX n (omega arith) small) refl
+
+-- an index that was read is one that a node can have
+pub index_small : (text : List ℕ) (n : ℕ) → index_in text ≡ Some n → n ≤ MAX_INDEX
+index_small text n h = by_number (number_in_text text) (when (is_decimal text) (checked (is_between 0 MAX_INDEX) (number_in_text text)) n h).1
+  where
+    within : (m : ℕ) (b : Bool) → is_between 0 MAX_INDEX m ≡ b → cond b (Some m) None ≡ Some n → n ≤ MAX_INDEX
+    within m true is e = grind (arith, nat_tests)
+    within m false is e = cc
+
+    by_number : (found : Option ℕ) → checked (is_between 0 MAX_INDEX) found ≡ Some n → n ≤ MAX_INDEX
+    by_number None e = cc
+    by_number (Some m) e = within m (is_between 0 MAX_INDEX m) refl e

@@ -11,3 +11,5 @@ pub mod Fronts
 pub mod Decimals
 pub mod Written
 pub mod NamesBack
+pub mod Reread
+pub mod RuleNumbers

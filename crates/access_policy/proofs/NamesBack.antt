@@ -19,7 +19,7 @@ use Rattle.access_policy.proofs.Parts.{split_as, split_first}
 abbrev pub IsWithout : ℕ → List ℕ → Type 0
 IsWithout cut text = list_all (λ byte. not (byte == cut)) text ≡ true
 
-both_of : (a b : Bool) → (a && b) ≡ true → (a ≡ true) × (b ≡ true)
+pub both_of : (a b : Bool) → (a && b) ≡ true → (a ≡ true) × (b ≡ true)
 both_of true b h = (refl, h)
 both_of false b h = cc
 
@@ -29,7 +29,7 @@ other byte cut h = grind (arith, nat_tests)
 same : (cut : ℕ) → (cut == cut) ≡ true
 same cut = grind (arith, nat_tests)
 
-cut_found : (cut : ℕ) (front rest : List ℕ) → IsWithout cut front → cut_at cut (front ++ cut ∷ rest) ≡ Some (front, rest)
+pub cut_found : (cut : ℕ) (front rest : List ℕ) → IsWithout cut front → cut_at cut (front ++ cut ∷ rest) ≡ Some (front, rest)
 cut_found cut [] rest h = rw (same cut) refl
 cut_found cut (byte ∷ front) rest h =
     let p = both_of (not (byte == cut)) (list_all (λ byte. not (byte == cut)) front) h in
@@ -41,28 +41,28 @@ cut_none cut (byte ∷ text) h =
     let p = both_of (not (byte == cut)) (list_all (λ byte. not (byte == cut)) text) h in
     rw (other byte cut p.0, cut_none cut text p.1) refl
 
-all_so : (p q : ℕ → Bool) → ((n : ℕ) → p n ≡ true → q n ≡ true) → (xs : List ℕ) → list_all p xs ≡ true
+pub all_so : (p q : ℕ → Bool) → ((n : ℕ) → p n ≡ true → q n ≡ true) → (xs : List ℕ) → list_all p xs ≡ true
     → list_all q xs ≡ true
 all_so p q so [] h = refl
 all_so p q so (x ∷ xs) h =
     let parts = both_of (p x) (list_all p xs) h in rw (so x parts.0) (all_so p q so xs parts.1)
 
-id_bytes : (id : List ℕ) → is_id id ≡ true → list_all is_id_byte id ≡ true
+pub id_bytes : (id : List ℕ) → is_id id ≡ true → list_all is_id_byte id ≡ true
 id_bytes id h = (both_of _ (list_all is_id_byte id) h).1
 
-no_bracket : (byte : ℕ) → is_id_byte byte ≡ true → not (byte == 91) ≡ true
+pub no_bracket : (byte : ℕ) → is_id_byte byte ≡ true → not (byte == 91) ≡ true
 no_bracket byte h = grind (arith, nat_tests)
 
-no_dot : (byte : ℕ) → is_id_byte byte ≡ true → not (byte == dot) ≡ true
+pub no_dot : (byte : ℕ) → is_id_byte byte ≡ true → not (byte == dot) ≡ true
 no_dot byte h = grind (arith, nat_tests)
 
-digit_no_bracket : (byte : ℕ) → is_digit byte ≡ true → not (byte == 93) ≡ true
+pub digit_no_bracket : (byte : ℕ) → is_digit byte ≡ true → not (byte == 93) ≡ true
 digit_no_bracket byte h = grind (arith, nat_tests)
 
-digit_no_dot : (byte : ℕ) → is_digit byte ≡ true → not (byte == dot) ≡ true
+pub digit_no_dot : (byte : ℕ) → is_digit byte ≡ true → not (byte == dot) ≡ true
 digit_no_dot byte h = grind (arith, nat_tests)
 
-digits_of : (n : ℕ) → n ≤ MAX_INDEX → list_all is_digit (decimal n) ≡ true
+pub digits_of : (n : ℕ) → n ≤ MAX_INDEX → list_all is_digit (decimal n) ≡ true
 digits_of n small = digits_decimal own n (omega (arith, small))
 
 -- ---- one id
@@ -89,7 +89,7 @@ one_item id (Some n) is = indexed_item id n is.id' is.index'
 
 -- ---- no dots within
 
-and_also : (a b : Bool) → a ≡ true → b ≡ true → (a && b) ≡ true
+pub and_also : (a b : Bool) → a ≡ true → b ≡ true → (a && b) ≡ true
 and_also a b h k = rw (h, k) refl
 
 index_without : (index : Option ℕ) (id : List ℕ) → IsNameItem (record { id = id; index = index })
@@ -109,10 +109,10 @@ item_without id index is =
 
 -- ---- all ids
 
-one_part : (text : List ℕ) → IsWithout dot text → parts_of text ≡ text ∷ []
+pub one_part : (text : List ℕ) → IsWithout dot text → parts_of text ≡ text ∷ []
 one_part text h = split_first text ∙ ap (split_as text) (cut_none dot text h)
 
-more_parts : (text rest : List ℕ) → IsWithout dot text → parts_of (text ++ dot ∷ rest) ≡ text ∷ parts_of rest
+pub more_parts : (text rest : List ℕ) → IsWithout dot text → parts_of (text ++ dot ∷ rest) ≡ text ∷ parts_of rest
 more_parts text rest h =
     split_first (text ++ dot ∷ rest) ∙ ap (split_as (text ++ dot ∷ rest)) (cut_found dot text rest h)
 

@@ -18,21 +18,21 @@ use Rattle.access_policy.specs.declared.policy.ItemPattern.TheVariants.{Any, Id,
 use Rattle.access_policy.specs.declared.policy.Pattern.{Pattern}
 use Rattle.access_policy.proofs.Decimals.{index_back}
 
-same_some : {A : Type 0} (x y : A) → Some x ≡ Some y → x ≡ y
+pub same_some : {A : Type 0} (x y : A) → Some x ≡ Some y → x ≡ y
 same_some x y h = ap (λ o. unwrap_or o x) h
 
 -- what a step that was taken had before it
-bound : {A B : Type 0} (found : Option A) (f : A → Option B) (y : B) → (found >>= f) ≡ Some y
+pub bound : {A B : Type 0} (found : Option A) (f : A → Option B) (y : B) → (found >>= f) ≡ Some y
     → (x : A) × (found ≡ Some x) × (f x ≡ Some y)
 bound None f y h = cc
 bound (Some x) f y h = (x, refl, h)
 
-mapped : {A B : Type 0} (f : A → B) (found : Option A) (y : B) → option_map f found ≡ Some y
+pub mapped : {A B : Type 0} (f : A → B) (found : Option A) (y : B) → option_map f found ≡ Some y
     → (x : A) × (found ≡ Some x) × (f x ≡ y)
 mapped f None y h = cc
 mapped f (Some x) y h = (x, refl, same_some (f x) y h)
 
-when : {A : Type 0} (test : Bool) (found : Option A) (y : A) → cond test found None ≡ Some y
+pub when : {A : Type 0} (test : Bool) (found : Option A) (y : A) → cond test found None ≡ Some y
     → (test ≡ true) × (found ≡ Some y)
 when true found y h = (refl, h)
 when false found y h = cc
@@ -85,12 +85,12 @@ bracketed_back text parts h =
 
 -- ---- items
 
-pick : {A : Type 0} (test : Bool) (here later : Option A) (y : A) → cond test here later ≡ Some y
+pub pick : {A : Type 0} (test : Bool) (here later : Option A) (y : A) → cond test here later ≡ Some y
     → ((test ≡ true) × (here ≡ Some y)) ⊎ ((test ≡ false) × (later ≡ Some y))
 pick true here later y h = inl (refl, h)
 pick false here later y h = inr (refl, h)
 
-same_text : (text other : List ℕ) → bytes_eq text other ≡ true → text ≡ other
+pub same_text : (text other : List ℕ) → bytes_eq text other ≡ true → text ≡ other
 same_text text other h = (bytes_eq-Decides text other).0 h
 
 index_item : (id inside : List ℕ) (item : ItemPattern) → index_pattern id inside ≡ Some item
@@ -152,7 +152,7 @@ last_is [] h = refl
 last_is (part ∷ parts) h = cc
 
 -- the texts of items that were read are the parts that they were read from
-items_back : (parts : List (List ℕ)) (items : List ItemPattern × Bool) → items_in_parts parts ≡ Some items
+pub items_back : (parts : List (List ℕ)) (items : List ItemPattern × Bool) → items_in_parts parts ≡ Some items
     → item_texts items.0 items.1 ≡ parts
 items_back [] items h =
     let now : List ItemPattern × Bool = ([], false) in

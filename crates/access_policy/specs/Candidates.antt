@@ -12,6 +12,8 @@ use Rattle.script_steps.specs.declared.operation.Step.TheVariants as steps
 use Rattle.access_policy.specs.Decisions.{all_needed, client_matches, has_access, needs_of, said}
 use Rattle.access_policy.specs.Names.{NameItem, items_of}
 use Rattle.access_policy.specs.Patterns.{board_matches, items_match}
+use Rattle.access_policy.specs.declared.permitting.RegisterName.{RegisterName}
+use Rattle.access_policy.specs.declared.permitting.RegisterName.TheVariants.{Written, Cut}
 use Rattle.access_policy.specs.declared.policy.Access.{Access}
 use Rattle.access_policy.specs.declared.policy.Rule.{Rule}
 
@@ -32,6 +34,11 @@ concerns client board rule = client_matches rule.client client && board_matches 
 abbrev pub candidates_from : ℕ → List Rule → ℕ → List ℕ → List Numbered
 candidates_from number policy client board =
     filter (λ (candidate : Numbered). concerns client board candidate.rule) (numbered number policy)
+
+-- the ids of a name that is cut or not
+abbrev pub ids_of : RegisterName → List NameItem
+ids_of (Written name) = items_of name.now
+ids_of (Cut items) = items.items
 
 -- such a rule speaks of an access to a register
 abbrev pub is_of : Access → List NameItem → Rule → Bool

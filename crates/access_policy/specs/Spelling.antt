@@ -1,7 +1,8 @@
 -- How a pattern and a rule are written, and the pattern that a text writes. Profile.
-use Rattle.std.specs.Prelude.{ℕ, Bool, true, false, ◌&&◌, if◌then◌else◌, List, [], ◌∷◌, ◌++◌, map, codes, decimal}
+use Rattle.std.specs.Prelude.{◌≡◌, ◌≤◌, ℕ, Bool, true, false, ◌&&◌, if◌then◌else◌, List, [], ◌∷◌, ◌++◌, length, map}
+use Rattle.std.specs.Prelude.{codes, decimal}
 use Rattle.std.specs.Prelude.{Option, Some, None, option_map}
-use Rattle.std.specs.List.{join_with_byte}
+use Rattle.std.specs.List.{AllByRecursion, join_with_byte}
 use Rattle.std.specs.Option.{option_map_or}
 use Rattle.std.specs.Str.{bytes_eq}
 use Rattle.address_table.specs.Rules.{is_id}
@@ -9,6 +10,7 @@ use Rattle.address_table.specs.declared.kinds.Permission.{Permission}
 use Rattle.address_table.specs.declared.kinds.Permission.TheVariants.{R, W, Rw}
 use Rattle.node_tree.specs.Names.{dot}
 use Rattle.script_lang.specs.Texts.{◌>>=◌, cut_at}
+use Rattle.access_policy.specs.declared.limits.TheConstants.{MAX_INDEX}
 use Rattle.access_policy.specs.declared.policy.BoardPattern.{BoardPattern}
 use Rattle.access_policy.specs.declared.policy.BoardPattern.TheVariants as boards
 use Rattle.access_policy.specs.declared.policy.Effect.{Effect}
@@ -104,3 +106,23 @@ pattern_of text = do
   board ← board_in parts.0
   items ← items_in parts.1
   Some (record { board = board; items = items.0; rest = items.1 })
+
+-- ---- what can be written
+
+-- a name keeps the rule of ids
+abbrev pub IsBoardPattern : BoardPattern → Type 0
+IsBoardPattern boards.Any = Unit {0}
+IsBoardPattern (boards.Named name) = is_id name ≡ true
+
+-- so does an id, and an index is one that a node can have
+abbrev pub IsItemPattern : ItemPattern → Type 0
+IsItemPattern Any = Unit {0}
+IsItemPattern (Id id) = is_id id ≡ true
+IsItemPattern (Indexed id index) = (is_id id ≡ true) × (index ≤ MAX_INDEX)
+IsItemPattern (AnyIndex id) = is_id id ≡ true
+
+-- and there is an item, or `**`
+pub record IsPattern (pattern : Pattern) : Type 0 where
+  pub board' : IsBoardPattern pattern.board
+  pub items' : AllByRecursion IsItemPattern pattern.items
+  pub some : pattern.rest ≡ false → 1 ≤ length pattern.items

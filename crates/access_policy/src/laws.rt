@@ -1,16 +1,17 @@
 //! Laws of the definitions. These functions do nothing when they run: their clauses are what is proved.
 
-ghost use Rattle.std.specs.Prelude.{◌≡◌, ◌↔◌, ◌+◌, ℕ, Bool, true, false, List, [], ◌∷◌, ◌++◌, length, Some};
+ghost use Rattle.std.specs.Prelude.{◌≡◌, ◌≤◌, ◌↔◌, ◌+◌, ℕ, Bool, true, false, List, [], ◌∷◌, ◌++◌, length, Some};
 ghost use Rattle.std.specs.List.{AllByRecursion, list_any};
 ghost use Rattle.address_table.specs.declared.kinds.Permission.{Permission};
 ghost use Rattle.script_lang.specs.Operations.{allows};
 ghost use Rattle.script_lang.specs.declared.refusal.TheConstants.{MAX_CLIENTS};
 ghost use Rattle.script_steps.specs.declared.operation.Decision.TheVariants.{Denied};
+ghost use Rattle.script_steps.specs.declared.operation.Step.{Step};
 ghost use Rattle.script_steps.specs.declared.operation.Verb.{Verb};
 ghost use Rattle.access_policy.specs.Decisions as decide;
 ghost use Rattle.access_policy.specs.Names.{IsNameItem, NameItem, items_of, name_text};
 ghost use Rattle.access_policy.specs.Patterns.{AreItems, items_match};
-ghost use Rattle.access_policy.specs.Spelling.{pattern_of, pattern_text};
+ghost use Rattle.access_policy.specs.Spelling.{IsPattern, pattern_of, pattern_text};
 ghost use Rattle.access_policy.specs.declared.limits.TheConstants.{MAX_INDEX, MAX_RULES};
 ghost use Rattle.access_policy.specs.declared.policy.Access.{Access};
 ghost use Rattle.access_policy.specs.declared.policy.ItemPattern.{ItemPattern};
@@ -44,6 +45,14 @@ pub fn the_first_rule_that_speaks_decides()
         → decide.access_decision policy client board items access ≡ Denied 0 }
 {}
 
+/// What is denied names a rule by its number in the policy, at most as many as there are, or 0.
+pub fn a_denial_names_a_rule_of_the_policy()
+    ensures register { (policy : List Rule) (client : ℕ) (board : List ℕ) (name : List ℕ) (needs : Permission) (rule : ℕ)
+        → decide.decision policy client board name needs ≡ Denied rule → rule ≤ length policy }
+    ensures step { (policy : List Rule) (client : ℕ) (boards : List (List ℕ)) (step : Step) (rule : ℕ)
+        → decide.step_decision policy client boards step ≡ Denied rule → rule ≤ length policy }
+{}
+
 /// A name is read as the ids and indexes that it is written from.
 pub fn a_name_is_its_ids()
     ensures { (item : NameItem) (items : List NameItem) → AllByRecursion IsNameItem (item ∷ items)
@@ -59,4 +68,11 @@ pub fn items_match_the_front_of_a_name()
 /// A pattern that was read is written as it stood.
 pub fn a_pattern_is_written_as_it_stood()
     ensures { (text : List ℕ) (pattern : Pattern) → pattern_of text ≡ Some pattern → pattern_text pattern ≡ text }
+{}
+
+/// What was read is a pattern that can be written, and each of these is read back from its text: so a text is that of
+/// one pattern at most, and a pattern has one text.
+pub fn a_pattern_is_read_back_from_its_text()
+    ensures kept { (text : List ℕ) (pattern : Pattern) → pattern_of text ≡ Some pattern → IsPattern pattern }
+    ensures back { (pattern : Pattern) → IsPattern pattern → pattern_of (pattern_text pattern) ≡ Some pattern }
 {}

@@ -1,13 +1,14 @@
 //! What a policy says of the steps of clients: the rules of a client on each board are found once, and each name is cut
-//! once.
+//! once where many of them are compared with it.
 
 ghost use Rattle.std.specs.Prelude.{◌≡◌, ◌≤◌, Some, length, map, IfOk, OnOk};
 ghost use Rattle.script_lang.specs.declared.refusal.TheConstants.{MAX_CLIENTS};
 ghost use Rattle.access_policy.specs.Candidates as of;
 ghost use Rattle.access_policy.specs.Decisions as spec;
+ghost use Rattle.access_policy.specs.Names.{items_of};
 
 use crate::deciding::{client_matches, has_access, needs_of, said};
-use crate::matching::{board_matches, parts_match};
+use crate::matching::{board_matches, name_matches, parts_match};
 use crate::names::{NamePart, cut_name};
 use crate::policy::{Access, Policy, Rule};
 use address_table::Permission;
@@ -17,6 +18,10 @@ use script_lang::Session;
 use script_steps::{Decision, RegOp, Step, Steps};
 use std::alloc::Global;
 use std::marker::Model;
+
+/// So many rules are compared with a name as it is written, which takes no memory; each of them cuts as much of it as it
+/// has items. For more of them the name is cut once.
+const FEW_RULES: usize = 4;
 
 /// A rule and its number.
 #[derive(Drop)]
@@ -46,6 +51,13 @@ impl<'a> Model for Candidates<'a> {
     ghost Value = { List Numbered };
 
     ghost view = { λ candidates. candidates.items.items };
+}
+
+/// The name of a register, as it is written or cut into its ids.
+#[derive(Drop)]
+enum RegisterName<'a> {
+    Written(&'a str),
+    Cut(Vec<NamePart<'a>>),
 }
 
 /// What a policy says of the steps of a client of a session (profile), step by step: a dispatch is allowed, and an
@@ -150,40 +162,83 @@ fn op_decision(alloc: Global, rules: &[Candidates<'_>], op: &RegOp) -> Result<De
     let Some(candidates) = rules.get(op.board as usize) else {
         return Ok(Decision::Denied { rule: 0 });
     };
-    let parts = cut_name(alloc, op.name.as_str())?;
     let candidates = candidates.items.as_slice();
-    Ok(said_of(candidates, parts.as_slice(), needs_of(op.verb)))
+    let name = name_for(alloc, candidates.len(), op.name.as_str())?;
+    Ok(said_of(candidates, &name, needs_of(op.verb)))
+}
+
+/// A name in the form in which so many rules are compared with it.
+fn name_for(alloc: Global, rules: usize, name: &str) -> Result<RegisterName<'_>, NoMemory>
+    ensures { IfOk result (λ form. of.ids_of form ≡ items_of name.now) }
+{
+    if rules <= FEW_RULES {
+        Ok(RegisterName::Written(name))
+    } else {
+        Ok(RegisterName::Cut(cut_name(alloc, name)?))
+    }
 }
 
 /// What rules say of a use of a register.
-fn said_of(rules: &[Candidate<'_>], parts: &[NamePart<'_>], needs: Permission) -> Decision
-    ensures { result ≡ of.said_of rules.now parts.now needs }
+fn said_of(rules: &[Candidate<'_>], name: &RegisterName<'_>, needs: Permission) -> Decision
+    ensures { result ≡ of.said_of rules.now (of.ids_of name.now) needs }
 {
     match needs {
-        Permission::R => first_of(rules, parts, Access::Reading),
-        Permission::W => first_of(rules, parts, Access::Writing),
-        Permission::Rw => match first_of(rules, parts, Access::Reading) {
-            Decision::Allowed => first_of(rules, parts, Access::Writing),
+        Permission::R => first_of(rules, name, Access::Reading),
+        Permission::W => first_of(rules, name, Access::Writing),
+        Permission::Rw => match first_of(rules, name, Access::Reading) {
+            Decision::Allowed => first_of(rules, name, Access::Writing),
             Decision::Denied { rule } => Decision::Denied { rule },
         },
     }
 }
 
-/// What the first of some rules says that speaks of an access.
-fn first_of(rules: &[Candidate<'_>], parts: &[NamePart<'_>], access: Access) -> Decision
-    ensures { result ≡ of.first_of access parts.now rules.now }
+/// What the first of some rules says that speaks of an access. The form of the name is asked for here and not at each
+/// rule, since there may be many.
+fn first_of(rules: &[Candidate<'_>], name: &RegisterName<'_>, access: Access) -> Decision
+    ensures { result ≡ of.first_of access (of.ids_of name.now) rules.now }
+{
+    match name {
+        RegisterName::Written(text) => first_of_written(rules, text, access),
+        RegisterName::Cut(parts) => first_of_cut(rules, parts.as_slice(), access),
+    }
+}
+
+/// The same of a name as it is written.
+fn first_of_written(rules: &[Candidate<'_>], name: &str, access: Access) -> Decision
+    ensures { result ≡ of.first_of access (items_of name.now) rules.now }
 {
     for candidate in rules {
         let rule = candidate.rule;
-        if is_of(rule, parts, access) {
+        if is_of_written(rule, name, access) {
             return said(candidate.number, rule.effect);
         }
     }
     Decision::Denied { rule: 0 }
 }
 
-/// Whether a rule speaks of an access to a register.
-fn is_of(rule: &Rule, parts: &[NamePart<'_>], access: Access) -> bool
+/// The same of a name that is cut.
+fn first_of_cut(rules: &[Candidate<'_>], parts: &[NamePart<'_>], access: Access) -> Decision
+    ensures { result ≡ of.first_of access parts.now rules.now }
+{
+    for candidate in rules {
+        let rule = candidate.rule;
+        if is_of_cut(rule, parts, access) {
+            return said(candidate.number, rule.effect);
+        }
+    }
+    Decision::Denied { rule: 0 }
+}
+
+/// Whether a rule speaks of an access to a register, by its name as it is written.
+fn is_of_written(rule: &Rule, name: &str, access: Access) -> bool
+    ensures { result ≡ of.is_of access (items_of name.now) rule.now }
+{
+    let pattern = &rule.pattern;
+    has_access(rule.access, access) && name_matches(pattern.items.as_slice(), pattern.rest, name)
+}
+
+/// The same by a name that is cut.
+fn is_of_cut(rule: &Rule, parts: &[NamePart<'_>], access: Access) -> bool
     ensures { result ≡ of.is_of access parts.now rule.now }
 {
     let pattern = &rule.pattern;

@@ -24,7 +24,7 @@ abbrev pub StaysWord : Type 0
 StaysWord = (word mask value : ℕ) → 0 < mask → mask < 2 ^ 32 → word < 2 ^ 32 → FitsMask mask value
     → put_field word mask value < 2 ^ 32
 
-apart : (a b : ℕ) → (a == b) ≡ false → (b < a) ⊎ (a < b)
+pub apart : (a b : ℕ) → (a == b) ≡ false → (b < a) ⊎ (a < b)
 apart a b differ = elim (cases_lt b a) [
   | inl less ↦ inl less
   | inr more ↦ elim (cases_lt a b) [

@@ -27,7 +27,7 @@ FullPut = (word value : ℕ) → word < 2 ^ 32 → value < 2 ^ 32 → put_field 
 
 -- ---- a plain write
 
-abbrev after_write : CellMap → Result CellMap BusFault → Writing
+abbrev pub after_write : CellMap → Result CellMap BusFault → Writing
 after_write cells written = write_on cells written (λ after. write_words after [])
 
 plain : ReadAgain → (cells : CellMap) (base value word : ℕ) → read_word cells base ≡ Ok word
@@ -51,7 +51,7 @@ plain_elsewhere elsewhere cells base value other apart = elim (write_word cells 
 
 -- ---- a change of one word
 
-abbrev changed : ℕ → Result CellMap BusFault → Result Modified BusFault
+abbrev pub changed : ℕ → Result CellMap BusFault → Result Modified BusFault
 changed before written = written >>= (λ (after : CellMap). Ok (record { before = before; cells = after }))
 
 modify_is : (cells : CellMap) (base word : ℕ) (change : ℕ → ℕ) → read_word cells base ≡ Ok word

@@ -63,7 +63,7 @@ use Rattle.config_laws.proofs.PlanReads.{IsReadAt, both_all, planned_reads, read
 abbrev pub IsGood : OpLine → Type 0
 IsGood line = is_good line.result ≡ true
 
-done_is_good : (r : OpResult) → IsDoneResult r → is_good r ≡ true
+pub done_is_good : (r : OpResult) → IsDoneResult r → is_good r ≡ true
 done_is_good r (inl (words, is)) = ap is_good is
 done_is_good r (inr (inl is)) = ap is_good is
 done_is_good r (inr (inr (word, is))) = ap is_good is
@@ -87,12 +87,12 @@ one_piece mask word r there good = elim (is_good r) as
 -- ---- boards
 
 -- what a board of this process tells
-record Lives (link : LinkSpec) : Type 0 where
-  payload : ℕ
-  is : greeting_of link ≡ Live payload
-  low : 16 ≤ payload
+pub record Lives (link : LinkSpec) : Type 0 where
+  pub payload : ℕ
+  pub is : greeting_of link ≡ Live payload
+  pub low : 16 ≤ payload
 
-lives_of : (link : LinkSpec) → RunsHere link → Lives link
+pub lives_of : (link : LinkSpec) → RunsHere link → Lives link
 lives_of (Sim mtu buffers first ranges fates) here =
     let bounds = here.0.mtu_in_range in
     record { payload = payload_of mtu; is = refl; low = omega (arith, bounds.0) }
@@ -115,13 +115,13 @@ used_by_one (p ∷ []) planned same = one_asks p.planned.bodies
 used_by_one (p ∷ (q ∷ ps)) planned same = absurd cc
 
 -- the board of a run, which one client uses
-record BoardAt (specs : List BoardSpec) (steps : List Step) (board k : ℕ) (run : BoardRun) : Type 0 where
-  spec : BoardSpec
-  on : slice_get specs k ≡ Some spec
-  ready : IsReady spec board (steps ∷ [])
-  alone : (payload : ℕ) → run.greeting ≡ Live payload → run ≡ board_run spec board (steps ∷ [])
+pub record BoardAt (specs : List BoardSpec) (steps : List Step) (board k : ℕ) (run : BoardRun) : Type 0 where
+  pub spec : BoardSpec
+  pub on : slice_get specs k ≡ Some spec
+  pub ready : IsReady spec board (steps ∷ [])
+  pub alone : (payload : ℕ) → run.greeting ≡ Live payload → run ≡ board_run spec board (steps ∷ [])
 
-board_at : PacksWords → (settings : Limits) (first : ℕ) (specs : List BoardSpec) (steps : List Step)
+pub board_at : PacksWords → (settings : Limits) (first : ℕ) (specs : List BoardSpec) (steps : List Step)
     (runs : List BoardRun) (links : List LinkReport) → AreRunsOver settings first specs (steps ∷ []) runs links
     → ShowAloneRunsWhereTold first specs (steps ∷ []) runs links
     → AllByRecursion (λ (link : LinkReport). is_some link.board ≡ true) links
@@ -151,7 +151,7 @@ board_at packs settings first (spec ∷ specs) steps (r ∷ runs) (l ∷ links) 
     subst (λ n. BoardAt (spec ∷ specs) steps n (suc k) run) same
     (record { spec = later.spec; on = later.on; ready = later.ready; alone = later.alone })
 
-live_if_good : (run : BoardRun) (client k : ℕ) (op : RegOp) (told : Greeting) → run.greeting ≡ told
+pub live_if_good : (run : BoardRun) (client k : ℕ) (op : RegOp) (told : Greeting) → run.greeting ≡ told
     → is_good (showing run client k op).0 ≡ true → (payload : ℕ) × (run.greeting ≡ Live payload)
 live_if_good run client k op (Live payload) is good = (payload, is)
 live_if_good run client k op Silent is good =

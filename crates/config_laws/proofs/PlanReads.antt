@@ -28,7 +28,7 @@ use Rattle.config_laws.specs.Reads.{IsMaskedRead, IsWordRead, ReadSingleWords}
 
 -- ---- one piece for each read
 
-exactly_one : (limit n : ℕ) → 1 ≤ limit → 1 ≤ n * limit → n * limit < 1 + limit → n ≡ 1
+pub exactly_one : (limit n : ℕ) → 1 ≤ limit → 1 ≤ n * limit → n * limit < 1 + limit → n ≡ 1
 exactly_one limit zero some low high = let none : 0 * limit ≡ 0 = grind arith in absurd (omega (arith, low, none))
 exactly_one limit (suc zero) some low high = refl
 exactly_one limit (suc (suc n)) some low high =

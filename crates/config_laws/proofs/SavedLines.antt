@@ -44,12 +44,12 @@ single_words boards (r ∷ kept) (step ∷ steps) reads =
 -- ---- the boards
 
 -- the run of the board at a position
-record RunAt (runs : List BoardRun) (k : ℕ) (spec : BoardSpec) : Type 0 where
-  run : BoardRun
-  there : slice_get runs k ≡ Some run
-  named : run.name ≡ spec.name
+pub record RunAt (runs : List BoardRun) (k : ℕ) (spec : BoardSpec) : Type 0 where
+  pub run : BoardRun
+  pub there : slice_get runs k ≡ Some run
+  pub named : run.name ≡ spec.name
 
-run_at : (settings : Limits) (first : ℕ) (specs : List BoardSpec) (scripts : List (List Step)) (runs : List BoardRun)
+pub run_at : (settings : Limits) (first : ℕ) (specs : List BoardSpec) (scripts : List (List Step)) (runs : List BoardRun)
     (links : List LinkReport) → AreRunsOver settings first specs scripts runs links → (k : ℕ) (spec : BoardSpec)
     → slice_get specs k ≡ Some spec → RunAt runs k spec
 run_at settings first [] scripts runs links is k spec at = absurd cc
@@ -61,7 +61,7 @@ run_at settings first (s ∷ specs) scripts (r ∷ runs) (l ∷ links) is (suc k
     let later = run_at settings (first + 1) specs scripts runs links is.1 k spec at in
     record { run = later.run; there = later.there; named = later.named }
 
-first_of : {A B : Type 0} (xs : List A) (ys : List B) (k : ℕ) (pair : A × B) → slice_get (zip xs ys) k ≡ Some pair
+pub first_of : {A B : Type 0} (xs : List A) (ys : List B) (k : ℕ) (pair : A × B) → slice_get (zip xs ys) k ≡ Some pair
     → slice_get xs k ≡ Some pair.0
 first_of [] ys k pair at = absurd cc
 first_of (x ∷ xs) [] k pair at = absurd cc
@@ -74,7 +74,7 @@ behind (y ∷ before) later x = behind before later x
 
 -- ---- a line more
 
-more_text : (test : Bool) (line : OpLine) (lines : List OpLine) (entry : StateEntry) (entries : List StateEntry)
+pub more_text : (test : Bool) (line : OpLine) (lines : List OpLine) (entry : StateEntry) (entries : List StateEntry)
     → register_text line ≡ entry_text entry → registers_text lines ≡ flat_map entry_text entries
     → registers_text (if test then line ∷ lines else lines)
     ≡ flat_map entry_text (if test then entry ∷ entries else entries)
@@ -178,7 +178,7 @@ module _ (specs : List BoardSpec) (indexes : List RegisterMap) (steps : List Ste
 
 -- ---- the text
 
-same_text : (lines : List OpLine) (entries : List StateEntry) (boards : List BoardSpec)
+pub same_text : (lines : List OpLine) (entries : List StateEntry) (boards : List BoardSpec)
     → ((board : Name) → registers_text (filter (is_read_on board) lines) ≡ values_text entries board)
     → state_text boards lines ≡ saved_text boards entries
 same_text lines entries [] same = refl

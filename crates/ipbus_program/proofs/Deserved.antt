@@ -15,6 +15,7 @@ use Rattle.command_terms.specs.Outside.{GivenBack}
 use Rattle.command_terms.specs.Terms.{AreTerms, Reads, Terms, most_bytes}
 use Rattle.ipbus_program.specs.declared.no_answer.NoAnswer.{NoAnswer}
 use Rattle.ipbus_program.specs.declared.no_answer.NoAnswer.TheVariants.{DoorFault, RackFault, ReadFault}
+use Rattle.ipbus_program.specs.Commands.{terms_of}
 use Rattle.ipbus_program.specs.Ended.{IsCalm, IsWhole}
 use Rattle.ipbus_program.specs.Outputs.{Delivers}
 use Rattle.ipbus_program.specs.Owed.{AreCommand, AnswersInput, HasInput, IsDone, IsReadBy, IsRefused, UsedFrom, Wrote}
@@ -99,6 +100,29 @@ module _ (terms : Terms) (laws : AreTerms terms) where
     done_told given status text done =
         subst (λ bs. terms.Done bs given status text) (all_read done.bytes done.read) done.done
 
+    -- bytes for which boards were used deserve no refusal
+    pub used_undeserved : (links : List LinkReport) (line : List ℕ) → UsedFrom terms before now links
+        → terms.Refuses bytes line → ⊥
+    used_undeserved links line used refused =
+        laws.uses_apart bytes line links (subst (λ bs. terms.Uses bs links) (all_read used.bytes used.read) used.uses)
+        refused
+
+    pub deserved_refused : (given : GivenBack) (status : ℕ) (text handed : List ℕ) → handed ≡ text
+        → (old new : Option (List ℕ)) (met meets result : ℕ) (line : List ℕ) → terms.Refuses bytes line
+        → AnswersInput terms before now given status text
+        → Delivers status handed old new met meets result → ¬ Rose met meets
+        → (result ≡ refused_status) × Wrote old new line
+    deserved_refused given status text handed same old new met meets result line deserved answers
+        (inr (fault, (rose, part))) calm = absurd (calm rose)
+    deserved_refused given status text handed same old new met meets result line deserved (inl done)
+        (inl (said, wrote)) calm =
+        absurd (laws.done_apart bytes line given status text (done_told given status text done) deserved)
+    deserved_refused given status text handed same old new met meets result line deserved (inr (refused, why))
+        (inl (said, wrote)) calm =
+        let one = laws.one_line bytes text line (refused_deserves text why) deserved in
+        (said ∙ refused, wrote ∙ ap (append_known old) (same ∙ one))
+
+  module _ (before now : Option (List ℕ)) (bytes : List ℕ) (told : before ≡ Some bytes) where
     -- of an input that is longer than that as much was taken as is read at most
     taken_by : (text : List ℕ) → most_bytes terms ≤ length bytes → (why : IsRefused terms before now text)
         → IsAtEnd now ⊎ (length why.bytes ≡ most_bytes terms) → TakesCount (most_bytes terms) before now
@@ -117,28 +141,6 @@ module _ (terms : Terms) (laws : AreTerms terms) where
         let small = done_small terms laws done.bytes given status text done.done in
         absurd (omega (arith, refused, small))
     taken_of_long given status text long refused (inr (told_so, why)) = taken_by text long why why.read.stopped
-
-    -- bytes for which boards were used deserve no refusal
-    pub used_undeserved : (links : List LinkReport) (line : List ℕ) → UsedFrom terms before now links
-        → terms.Refuses bytes line → ⊥
-    used_undeserved links line used refused =
-        laws.uses_apart bytes line links (subst (λ bs. terms.Uses bs links) (all_read used.bytes used.read) used.uses)
-        refused
-
-    pub deserved_refused : (given : GivenBack) (status : ℕ) (text handed : List ℕ) → handed ≡ text
-        → (old new : Option (List ℕ)) (met meets result : ℕ) (line : List ℕ) → terms.Refuses bytes line
-        → AnswersInput terms before now given status text
-        → Delivers status handed old new met meets result → ¬ Rose met meets
-        → (result ≡ refused_status) × Wrote old new line
-    deserved_refused given status text handed same old new met meets result line deserved answers
-        (inr (fault, (rose, part))) calm = absurd (calm rose)
-    deserved_refused given status text handed same old new met meets result line deserved (inl done)
-        (inl (as, wrote)) calm =
-        absurd (laws.done_apart bytes line given status text (done_told given status text done) deserved)
-    deserved_refused given status text handed same old new met meets result line deserved (inr (refused, why))
-        (inl (as, wrote)) calm =
-        let one = laws.one_line bytes text line (refused_deserves text why) deserved in
-        (as ∙ refused, wrote ∙ ap (append_known old) (same ∙ one))
 
   -- bytes that deserve no refusal are done whole
   unrefused_by : (limit : Option ℕ) → terms.limit ≡ limit → (before now : Option (List ℕ)) (bytes : List ℕ)
@@ -168,19 +170,20 @@ no_rack false terms laws is left left_now links rack rack_now calm used rose =
     laws.unlinked is used.bytes links used.uses
 
 -- nothing of what the command uses failed
-pub no_failure : (terms : Terms) → AreTerms terms → (left left_now : Option (List ℕ)) (made makes : ℕ)
-    (given : GivenBack) (input input_now rack rack_now door door_now : ℕ) (result : Result Answer NoAnswer)
-    → IsCalm terms input input_now rack rack_now door door_now
-    → InputLeaves terms left left_now made makes result given
+pub no_failure : (asked command : Command) → asked ≡ command → AreTerms (terms_of command)
+    → (left left_now : Option (List ℕ)) (made makes : ℕ) (given : GivenBack)
+    (input input_now rack rack_now door door_now : ℕ) (result : Result Answer NoAnswer)
+    → IsCalm (terms_of asked) input input_now rack rack_now door door_now
+    → InputLeaves (terms_of command) left left_now made makes result given
     → RisesOnlyAt (Err ReadFault) result input input_now → RisesOnlyAt (Err RackFault) result rack rack_now
     → RisesOnlyAt (Err DoorFault) result door door_now
     → (result ≡ Err ReadFault → ⊥) × (result ≡ Err RackFault → ⊥) × (result ≡ Err DoorFault → ⊥)
-no_failure terms laws left left_now made makes given input input_now rack rack_now door door_now result calm leaves
-    inputs racks doors = (
+no_failure asked command same laws left left_now made makes given input input_now rack rack_now door door_now result
+    quiet leaves inputs racks doors =
+    let terms = terms_of command in
+    let calm = subst (λ c. IsCalm (terms_of c) input input_now rack rack_now door door_now) same quiet in (
       λ is. calm.0 (leaves.reads is) (inputs.0 is),
-      (
-        λ is. no_rack terms.makes_links terms laws refl left left_now given.links rack rack_now calm.1.0
-            (leaves.behind RackFault is tt) (racks.0 is),
-        λ is. calm.1.1 (leaves.serves is) (doors.0 is),
-      ),
+      λ is. no_rack terms.makes_links terms laws refl left left_now given.links rack rack_now calm.1
+          (leaves.behind RackFault is tt) (racks.0 is),
+      λ is. calm.2 (leaves.serves is) (doors.0 is),
     )

@@ -1,6 +1,6 @@
 -- How a call ends, put together from what its command answered and what was written of it.
-use Rattle.std.proofs.Common.{◌≡◌, ◌≢◌, ◌⊎◌, inl, inr, ℕ, ◌≤◌, List, [], Option, Some, false, true}
-use Rattle.std.proofs.Common.{Ok, Err, String, Global, refl, sym, ap, ◌∙◌, subst, arith}
+use Rattle.std.proofs.Common.{◌≡◌, ◌≢◌, ◌⊎◌, inl, inr, ℕ, ◌≤◌, List, [], Option, false}
+use Rattle.std.proofs.Common.{Ok, Err, String, Global, refl, sym, ◌∙◌, subst, arith}
 use Rattle.std.proofs.KnownBytes.{prepend_known-nil}
 use Rattle.ipb_outside.specs.Told.{AppendsPart, TakesAtMost}
 use Rattle.command_words.specs.declared.command.Command.{Command}
@@ -15,11 +15,11 @@ use Rattle.command_terms.proofs.Leaving.{none_served}
 use Rattle.ipbus_program.specs.declared.no_answer.NoAnswer.{NoAnswer}
 use Rattle.ipbus_program.specs.declared.no_answer.NoAnswer.TheVariants.{NoMemory, ReadFault, RackFault, DoorFault}
 use Rattle.ipbus_program.specs.Commands.{terms_of}
-use Rattle.ipbus_program.specs.Ended.{AreNoLinker, AreNoServer, CallsNoDoor, Ended, IsSessionless, IsTextless}
+use Rattle.ipbus_program.specs.Ended.{CallsNoDoor, Ended, IsSessionless, IsTextless}
 use Rattle.ipbus_program.specs.Ended.{MakesNoLink}
 use Rattle.ipbus_program.specs.Outputs.{Delivers}
 use Rattle.ipbus_program.specs.Outside.{Outside}
-use Rattle.ipbus_program.specs.Owed.{AnswersInput, AreCommand, AreNoCommand, ServedSome, UsedFrom, UsedSome, Wrote}
+use Rattle.ipbus_program.specs.Owed.{AnswersInput, AreCommand, AreNoCommand, UsedFrom, UsedSome, Wrote}
 use Rattle.ipbus_program.specs.Steps.{InputLeaves}
 use Rattle.ipbus_program.proofs.Causes.{done_small, done_small_status, done_whole, part_written, refused_whole}
 use Rattle.ipbus_program.proofs.Causes.{never, some_status, status_is}
@@ -241,7 +241,7 @@ module _ (words : List (String Global)) (command : Command) (laws : AreTerms (te
       reads = λ told. absurd (omega (arith, told));
       cut = λ told. absurd (omega (arith, told));
       unreached = λ told. absurd (omega (arith, told));
-      unserved = λ told. (command, are, (leaves.serves refl, leaves.behind DoorFault refl tt));
+      unserved = λ told. (command, are, leaves.serves refl, leaves.behind DoorFault refl tt);
     }
     failed NoMemory leaves = record {
       known = inr (inr (inr (inr (inr (inr (inl refl))))));

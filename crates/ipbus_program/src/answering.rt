@@ -14,6 +14,10 @@ ghost use Rattle.ipbus_program.specs.Commands.{terms_of};
 ghost use Rattle.ipbus_program.specs.Steps.{IsFailure, LeavesAlone};
 
 use crate::no_answer::NoAnswer;
+use capture_commands::laws::{the_terms_of_describe, the_terms_of_undescribe};
+use capture_commands::{
+    MAX_CAPTURE, TextRefusal, describe_answer, refused_text, undescribe_answer,
+};
 use check_command::check_document;
 use check_command::laws::the_terms_of_check;
 use client_threads::Gate;
@@ -42,6 +46,8 @@ pub(crate) fn terms_are_terms()
     the_terms_of_check();
     the_terms_of_serve();
     the_terms_of_load();
+    the_terms_of_describe();
+    the_terms_of_undescribe();
 }
 
 /// How many bytes the input of a command may have, and none where it reads no input.
@@ -53,6 +59,8 @@ pub(crate) fn limit_of(command: &Command) -> Option<usize>
         Command::Check { table: _ } => Some(MAX_DOCUMENT),
         Command::Serve { port: _, count: _ } => Some(MAX_DOCUMENT),
         Command::Load { count: _ } => None,
+        Command::Describe => Some(MAX_CAPTURE),
+        Command::Undescribe => Some(MAX_CAPTURE),
     }
 }
 
@@ -67,6 +75,8 @@ pub(crate) fn too_long(alloc: Global, command: &Command) -> Result<Answer, NoMem
         Command::Check { table: _ } => refused(alloc, &Refusal::TooLong),
         Command::Serve { port: _, count: _ } => refused(alloc, &Refusal::TooLong),
         Command::Load { count: _ } => unreachable!(),
+        Command::Describe => refused_text(alloc, &TextRefusal::LongCapture),
+        Command::Undescribe => refused_text(alloc, &TextRefusal::LongDescription),
     }
 }
 
@@ -100,5 +110,7 @@ pub(crate) fn answer_to<R: Rack, D: Door, T: Threads + Wait + Sync, G: Gate>(
             Ok(serve_document(rt, alloc, bytes, *port, *count, rack, door)?)
         }
         Command::Load { count } => Ok(answer_load(rt, alloc, *count, rack, gate)?),
+        Command::Describe => Ok(describe_answer(alloc, bytes)?),
+        Command::Undescribe => Ok(undescribe_answer(alloc, bytes)?),
     }
 }

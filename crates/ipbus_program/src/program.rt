@@ -22,9 +22,7 @@ ghost use Rattle.ipbus_program.specs.Steps.{InputLeaves, LeavesAlone};
 use crate::answering::{answer_to, limit_of, terms_are_terms, too_long};
 use crate::no_answer::NoAnswer;
 use client_threads::Gate;
-use command_terms::{
-    Answer, DOOR_FAULT, NO_MEMORY, RACK_FAULT, READ_FAULT, USAGE, WRITE_FAULT,
-};
+use command_terms::{Answer, DOOR_FAULT, NO_MEMORY, RACK_FAULT, READ_FAULT, USAGE, WRITE_FAULT};
 use command_words::laws::a_load_has_a_bound;
 use command_words::{Command, USAGE_LINE, command_of};
 use ipb_base::NoMemory;
@@ -59,6 +57,7 @@ fn answer_input<S: Source, R: Rack, D: Door, T: Threads + Wait + Sync, G: Gate>(
     ensures alone { LeavesAlone (terms_of command.now) result rack.old rack.new door.old door.new }
     ensures none_out { D.out door.new ≡ D.out door.old }
 {
+    terms_are_terms();
     match read_all(alloc, input, limit) {
         Ok(bytes) => answer_to(rt, alloc, command, &bytes, rack, door, gate),
         Err(ReadEnd::TooLong) => Ok(too_long(alloc, command)?),
@@ -90,6 +89,7 @@ fn answer_command<S: Source, R: Rack, D: Door, T: Threads + Wait + Sync, G: Gate
     ensures none_out { D.out door.new ≡ D.out door.old }
     ensures unread { (terms_of command.now).limit ≡ None → input.new ≡ input.old }
 {
+    terms_are_terms();
     match limit_of(command) {
         Some(limit) => answer_input(rt, alloc, command, limit, input, rack, door, gate),
         None => answer_to(rt, alloc, command, &[], rack, door, gate),
@@ -115,8 +115,8 @@ fn deliver<O: Sink>(out: &mut O, text: &[u8], status: u8) -> u8
 /// writes the transcript. `serve PORT COUNT` reads one, makes a link for each of its boards, lets so many connections
 /// in by the door, serves each in a thread of its own, gives each pair and each link back and writes a line for each
 /// connection and each board. `check TABLE` reads one and lists the registers of that table. `load COUNT` reads
-/// nothing: it runs the generated session of so many operations and writes its summary. Other words are answered by the
-/// usage line. The text of an answer is handed to the output once. The result is the status: `DONE`, `NOT_ALL_DONE`,
+/// nothing: it runs the generated session of so many operations and writes its summary. `describe` reads the text of a
+/// capture and writes its description, and `undescribe` the other way round. Other words are answered by the usage line. The text of an answer is handed to the output once. The result is the status: `DONE`, `NOT_ALL_DONE`,
 /// `USAGE`, `REFUSED`, `READ_FAULT`, `WRITE_FAULT`, `NO_MEMORY`, `RACK_FAULT` or `DOOR_FAULT`.
 pub fn control<S: Source, O: Sink, R: Rack, D: Door, T: Threads + Wait + Sync, G: Gate>(
     rt: &T,

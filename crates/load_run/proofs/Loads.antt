@@ -1,6 +1,6 @@
 -- What a load leaves, put together from what its steps say.
-use Rattle.std.proofs.Common.{◌≡◌, ◌≤◌, ℕ, ◌+◌, Bool, List, [], ◌∷◌, ◌++◌, length, map, Result, Ok, Err, IfOk}
-use Rattle.std.proofs.Common.{sym, ap, ◌∙◌, subst, append-nil, arith}
+use Rattle.std.proofs.Common.{◌≡◌, ◌≤◌, ℕ, ◌+◌, Bool, List, [], ◌∷◌, length, Result, Ok, Err, IfOk}
+use Rattle.std.proofs.Common.{sym, ap, ◌∙◌, append-nil, arith}
 use Rattle.std.specs.List.{AllByRecursion}
 use Rattle.std.specs.Result.{IsErr, IsErrAnd}
 use Rattle.board_node.specs.declared.spec.BoardSpec.{BoardSpec}

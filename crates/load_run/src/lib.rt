@@ -4,9 +4,9 @@
 //! reorders datagrams. The definitions that contracts cite are in `specs/`.
 #![tactic(auto)]
 
+pub mod answer;
 pub mod examples;
 pub mod laws;
-pub mod answer;
 mod run;
 mod run_laws;
 mod session;

@@ -1,7 +1,10 @@
-//! What the program says on standard error at its end: what to look for where words are no command or a document is
-//! refused, what a policy denied, what was done where the text could not be written, and a page of help. No contract speaks of these texts.
+//! What the program says on standard error at its end: what to look for where words are no command or an input is
+//! refused, what a policy denied, what was done where the text could not be written, and a page of help. No contract
+//! speaks of these texts.
 #![tactic(auto)]
 
+mod captures;
+mod configurations;
 mod denials;
 mod escaping;
 mod help;

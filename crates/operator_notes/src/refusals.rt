@@ -1,5 +1,7 @@
-//! What to look for in a document that is refused.
+//! What to look for in an input that is refused.
 
+use crate::captures::{capture_notes, description_notes};
+use crate::configurations::configuration_notes;
 use crate::escaping::shown;
 use crate::script_words::word_at_fault;
 use crate::sentences::{
@@ -12,7 +14,7 @@ use session_input::{Refusal, Unread, read_for_check, read_for_run, read_for_serv
 use std::alloc::Global;
 use std::str;
 
-/// What to look for in a document that a command refuses: its place and the rule in words; of a document that is no
+/// What to look for in an input that a command refuses: its place and the rule in words; of a document that is no
 /// TOML also what the parser says, and of a line of a script the line and the word that is at fault. Nothing where the
 /// command does not refuse it.
 pub fn refusal_notes(
@@ -20,12 +22,30 @@ pub fn refusal_notes(
     command: &Command,
     bytes: &[u8],
 ) -> Result<Vec<String>, NoMemory> {
+    match command {
+        Command::Describe => capture_notes(alloc, bytes),
+        Command::Undescribe => description_notes(alloc, bytes),
+        Command::Save | Command::Apply => configuration_notes(alloc, command, bytes),
+        _ => document_notes(alloc, command, bytes),
+    }
+}
+
+fn document_notes(alloc: Global, command: &Command, bytes: &[u8]) -> Result<Vec<String>, NoMemory> {
+    match refusal_of(alloc, command, bytes)? {
+        Some(refusal) => session_notes(alloc, &refusal, bytes),
+        None => Ok(Vec::new(alloc)),
+    }
+}
+
+/// What to look for in a document that breaks a rule of session documents.
+pub(crate) fn session_notes(
+    alloc: Global,
+    refusal: &Refusal,
+    bytes: &[u8],
+) -> Result<Vec<String>, NoMemory> {
     let mut notes = Vec::new(alloc);
-    let Some(refusal) = refusal_of(alloc, command, bytes)? else {
-        return Ok(notes);
-    };
-    notes.push(place_and_rule(alloc, &refusal)?)?;
-    if let Some(more) = more_of(alloc, &refusal, bytes)? {
+    notes.push(place_and_rule(alloc, refusal)?)?;
+    if let Some(more) = more_of(alloc, refusal, bytes)? {
         notes.push(more)?;
     }
     Ok(notes)
@@ -37,7 +57,7 @@ fn refusal_of(alloc: Global, command: &Command, bytes: &[u8]) -> Result<Option<R
         Command::Run => read_for_run(alloc, bytes).err(),
         Command::Serve { port: _, count: _ } => read_for_serve(alloc, bytes).err(),
         Command::Check { table } => read_for_check(alloc, bytes, table.as_str()).err(),
-        Command::Load { count: _ } => None,
+        _ => None,
     };
     match unread {
         None => Ok(None),
@@ -195,6 +215,7 @@ fn line_note(
         return Err(NoMemory);
     };
     take_key(&mut document, "policy");
+    take_key(&mut document, "state");
     let Ok(session) = read_session_table(alloc, &document) else {
         return Err(NoMemory);
     };

@@ -7,11 +7,11 @@ pub fn read_note() -> &'static str {
     "the input could not be read; nothing was executed or written"
 }
 
-/// The text could not be written: what was done before, by what the words asked for. `refused` says that the document
-/// was refused.
+/// The text could not be written: what was done before, by what the words asked for. `refused` says that the input was
+/// refused.
 pub fn write_note(command: Option<&Command>, refused: bool) -> &'static str {
     if refused {
-        return "the output could not be written: the document was refused, nothing was executed, and the line that says so is cut or missing";
+        return refusal_cut(command);
     }
     match command {
         Some(Command::Run) => {
@@ -26,7 +26,34 @@ pub fn write_note(command: Option<&Command>, refused: bool) -> &'static str {
         Some(Command::Check { table: _ }) => {
             "the output could not be written: only the listing is cut or missing"
         }
+        Some(Command::Describe) => {
+            "the output could not be written: only the description is cut or missing"
+        }
+        Some(Command::Undescribe) => {
+            "the output could not be written: only the text of the capture is cut or missing"
+        }
+        Some(Command::Save) => {
+            "the output could not be written: the registers were read, and only the text is cut or missing"
+        }
+        Some(Command::Apply) => {
+            "the output could not be written: the values were written and the registers read, and only the text is cut or missing"
+        }
         None => "the output could not be written: only the usage line is cut or missing",
+    }
+}
+
+/// The line of a refusal could not be written.
+fn refusal_cut(command: Option<&Command>) -> &'static str {
+    match command {
+        Some(Command::Describe) => {
+            "the output could not be written: the capture was refused, and the line that says so is cut or missing"
+        }
+        Some(Command::Undescribe) => {
+            "the output could not be written: the description was refused, and the line that says so is cut or missing"
+        }
+        _ => {
+            "the output could not be written: the document was refused, nothing was executed, and the line that says so is cut or missing"
+        }
     }
 }
 

@@ -12,6 +12,8 @@ mod at_once;
 #[cfg(test)]
 mod bad_frames;
 #[cfg(test)]
+mod capture_tests;
+#[cfg(test)]
 mod changed_documents;
 #[cfg(test)]
 mod clients;

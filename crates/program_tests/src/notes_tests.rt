@@ -91,6 +91,41 @@ fn a_refusal_in_words(rt: HostRuntime) -> Result<(), Fail> {
     Ok(())
 }
 
+/// The last of the lines that are said of an input.
+fn last_of(alloc: Global, command: &Command, text: &str) -> Result<String, Fail> {
+    let notes = refusal_notes(alloc, command, text.as_bytes())?;
+    match notes.as_slice() {
+        [.., last] => Ok(last.clone()?),
+        [] => Err(Fail::from("nothing is said")),
+    }
+}
+
+#[test]
+fn a_description_in_words(rt: HostRuntime) -> Result<(), Fail> {
+    for (text, wanted) in [
+        ("", "line 1: what stands here describes nothing"),
+        (
+            "first 1\n> raw 200001f2\nproved 0\n",
+            "line 2: what stands here describes nothing",
+        ),
+        (
+            "first 1\n> raw -\nproved 1\n",
+            "line 3: here belongs the last line, proved 0",
+        ),
+        (
+            "first 1\n> raw -\n",
+            "line 3: here belongs the last line, proved 0",
+        ),
+    ] {
+        same(
+            &rt,
+            &last_of(rt.alloc(), &Command::Undescribe, text)?.as_str(),
+            &wanted,
+        );
+    }
+    Ok(())
+}
+
 /// A text of so many letters.
 fn letters(alloc: Global, count: usize) -> Result<String, AllocError> {
     let mut letters = String::new(alloc);

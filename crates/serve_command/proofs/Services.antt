@@ -1,8 +1,7 @@
 -- What follows for boards that were served, put together.
-use Rattle.std.proofs.Common.{◌≡◌, ℕ, ◌+◌, Bool, List, [], ◌∷◌, ◌++◌, length, map, IfOk, Option, Some, None}
+use Rattle.std.proofs.Common.{◌≡◌, ℕ, ◌+◌, Bool, List, [], ◌∷◌, length, map, IfOk, Option}
 use Rattle.std.proofs.Common.{Result, Ok, Err}
-use Rattle.std.proofs.Common.{refl, sym, ap, ◌∙◌, subst, append-nil}
-use Rattle.std.specs.Prelude.{option_map}
+use Rattle.std.proofs.Common.{sym, ap, ◌∙◌, subst}
 use Rattle.std.specs.List.{AllByRecursion}
 use Rattle.std.specs.Result.{IsErr, IsErrAnd}
 use Rattle.board_node.specs.declared.spec.BoardSpec.{BoardSpec}
@@ -17,7 +16,7 @@ use Rattle.session_serve.specs.declared.report.ServeFault.TheVariants.{NoMemory,
 use Rattle.session_serve.specs.Boards.{AreLinksTo, states_of}
 use Rattle.session_serve.specs.Connections.{Conversation, HaveExchanged, WereServed}
 use Rattle.client_history.specs.Boards.{AreServedOver, IsServedOver, ServedBoard}
-use Rattle.session_serve.specs.Pairs.{GivesBack, PairReport}
+use Rattle.session_serve.specs.Pairs.{PairReport}
 use Rattle.session_serve.specs.Serving.{AreBack, AreServed, HadMemory}
 use Rattle.server_summary.specs.Text.{all_closed, serve_status, serve_text}
 use Rattle.command_terms.specs.declared.answer.Answer.{Answer}

@@ -1,5 +1,5 @@
 -- What laws of the crates below say of boards that were served, put together. No public clause speaks of it.
-use Rattle.std.specs.Prelude.{◌≡◌, ℕ, List}
+use Rattle.std.specs.Prelude.{ℕ, List}
 use Rattle.std.specs.List.{AllByRecursion}
 use Rattle.lane_history.specs.Links.{LinkReport}
 use Rattle.script_lang.specs.declared.session.Session.{Session}

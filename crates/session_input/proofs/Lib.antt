@@ -6,5 +6,6 @@ pub mod OneText
 pub mod Ruled
 mod Served
 mod Recorded
-mod OnBoards
+pub mod OnBoards
 mod Alone
+pub mod NoText

@@ -7,11 +7,15 @@ use Rattle.check_command.proofs.check.check_document.Goals as goal
 pub returns-in-Ok : goal.returns-in-Ok
 returns-in-Ok c =
     let listed : IsListed c.args.bytes.now c.args.table.now c.in-Ok.index = search rules in
-    listed_answer c.args.bytes.now c.args.table.now (no_pairs []) c.in-Ok.index c.listing.result listed
-    c.listing.ensures.text c.listing.ensures.status
+    record {
+      owed = listed_answer c.args.bytes.now c.args.table.now (no_pairs []) c.in-Ok.index c.listing.result listed
+          c.listing.ensures.text c.listing.ensures.status;
+    }
 
 pub returns-in-Err-Refused : goal.returns-in-Err-Refused
 returns-in-Err-Refused c =
     let deserved : Deserves (BreaksInCheck c.args.table.now) c.args.bytes.now c.in-Err-Refused.refusal = search rules in
-    refused_answer c.args.bytes.now c.args.table.now (no_pairs []) c.in-Err-Refused.refusal c.refused.result deserved
-    c.refused.ensures.status c.refused.ensures.text
+    record {
+      owed = refused_answer c.args.bytes.now c.args.table.now (no_pairs []) c.in-Err-Refused.refusal c.refused.result
+          deserved c.refused.ensures.status c.refused.ensures.text;
+    }

@@ -80,7 +80,7 @@ returns-in_ok-check_document-in-Check-clause-leaves g c =
     (Leaves IsFailure RackFault (terms_of c.args.command.now) c.args.bytes.now made made _)
     (nothing_left IsFailure RackFault shown _ (terms_of c.args.command.now) c.args.bytes.now _ _
     (subst (λ command. Owes (terms_of command) c.args.bytes.now (no_pairs []) answer.status answer.text.items) same
-    c.in_ok-check_document-in-Check.ensures)
+    c.in_ok-check_document-in-Check.ensures.owed)
     (λ fault never. absurd cc))
 
 pub returns-in_err-serve_document-in-Serve-clause-leaves : goal.returns-in_err-serve_document-in-Serve-clause-leaves
@@ -116,3 +116,95 @@ returns-in_ok-serve_document-in-Serve-clause-leaves g c =
     (sym c.in-Serve.is)
     (done_as IsServeFailure serve.Rack IsFailure RackFault _ c.args.bytes.now made makes given answer leaves))
     c.in_ok-serve_document-in-Serve.ensures.leaves
+
+pub returns-in_err-answer_load-in-Load-clause-leaves : goal.returns-in_err-answer_load-in-Load-clause-leaves
+returns-in_err-answer_load-in-Load-clause-leaves g c =
+    let shown = shown_by g.R.L.Link.faults g.R.L.Link.quiets g.R.L.Link.gots g.R.L.Link.held g.R.L.Link.telling in
+    let made = g.R.Rack.made c.args.rack.now in
+    let makes = g.R.Rack.made c.answer_load.new.rack in
+    let left = c.in_err-answer_load-in-Load.ensures.leaves c.args.bytes.now in
+    let result = c.from_residual-in_err-answer_load-in-Load.result in
+    without_pairs shown g.D.Incoming.Source.left g.D.Incoming.Source.faults
+    g.D.Outgoing.Sink.written g.D.Outgoing.Sink.faults g.D.Outgoing.Sink.ended
+    _ _ _ _ _ _ refl refl
+    (Leaves IsFailure RackFault (terms_of c.args.command.now) c.args.bytes.now made makes result) (
+      left.0,
+      left.1,
+      subst (λ command. Leaves IsFailure RackFault (terms_of command) c.args.bytes.now made makes result
+          (no_pairs (map shown left.0))) (sym c.in-Load.is)
+          (failed_as IsRunFailure run.Rack IsFailure RackFault _ c.args.bytes.now made makes
+          (no_pairs (map shown left.0)) no_answer_of c.in_err-answer_load-in-Load.field-0.0 result (run_behind _)
+          (run_rack _) c.from_residual-in_err-answer_load-in-Load.ensures.0
+          c.from_residual-in_err-answer_load-in-Load.ensures.1 left.2),
+    )
+
+pub returns-in_ok-answer_load-in-Load-clause-leaves : goal.returns-in_ok-answer_load-in-Load-clause-leaves
+returns-in_ok-answer_load-in-Load-clause-leaves g c =
+    let shown = shown_by g.R.L.Link.faults g.R.L.Link.quiets g.R.L.Link.gots g.R.L.Link.held g.R.L.Link.telling in
+    let made = g.R.Rack.made c.args.rack.now in
+    let makes = g.R.Rack.made c.answer_load.new.rack in
+    let left = c.in_ok-answer_load-in-Load.ensures.leaves c.args.bytes.now in
+    let answer = c.in_ok-answer_load-in-Load.field-0 in
+    without_pairs shown g.D.Incoming.Source.left g.D.Incoming.Source.faults
+    g.D.Outgoing.Sink.written g.D.Outgoing.Sink.faults g.D.Outgoing.Sink.ended
+    _ _ _ _ _ _ refl refl
+    (Leaves IsFailure RackFault (terms_of c.args.command.now) c.args.bytes.now made makes (Ok answer)) (
+      left.0,
+      left.1,
+      subst (λ command. Leaves IsFailure RackFault (terms_of command) c.args.bytes.now made makes (Ok answer)
+          (no_pairs (map shown left.0))) (sym c.in-Load.is)
+          (done_as IsRunFailure run.Rack IsFailure RackFault _ c.args.bytes.now made makes
+          (no_pairs (map shown left.0)) answer left.2),
+    )
+
+pub returns-in_err-describe_answer-in-Describe-clause-leaves : goal.returns-in_err-describe_answer-in-Describe-clause-leaves
+returns-in_err-describe_answer-in-Describe-clause-leaves g c =
+    let shown = shown_by g.R.L.Link.faults g.R.L.Link.quiets g.R.L.Link.gots g.R.L.Link.held g.R.L.Link.telling in
+    let made = g.R.Rack.made c.args.rack.now in
+    without_pairs shown g.D.Incoming.Source.left g.D.Incoming.Source.faults
+    g.D.Outgoing.Sink.written g.D.Outgoing.Sink.faults g.D.Outgoing.Sink.ended
+    _ _ _ _ _ _ refl refl
+    (Leaves IsFailure RackFault (terms_of c.args.command.now) c.args.bytes.now made made _)
+    (failure_left IsFailure RackFault shown _ (terms_of c.args.command.now) c.args.bytes.now _ _ NoMemory
+    c.from_residual-in_err-describe_answer-in-Describe.ensures.0 c.from_residual-in_err-describe_answer-in-Describe.ensures.1
+    (λ failed. failed))
+
+pub returns-in_ok-describe_answer-in-Describe-clause-leaves : goal.returns-in_ok-describe_answer-in-Describe-clause-leaves
+returns-in_ok-describe_answer-in-Describe-clause-leaves g c =
+    let shown = shown_by g.R.L.Link.faults g.R.L.Link.quiets g.R.L.Link.gots g.R.L.Link.held g.R.L.Link.telling in
+    let made = g.R.Rack.made c.args.rack.now in
+    let answer = c.in_ok-describe_answer-in-Describe.field-0 in
+    without_pairs shown g.D.Incoming.Source.left g.D.Incoming.Source.faults
+    g.D.Outgoing.Sink.written g.D.Outgoing.Sink.faults g.D.Outgoing.Sink.ended
+    _ _ _ _ _ _ refl refl
+    (Leaves IsFailure RackFault (terms_of c.args.command.now) c.args.bytes.now made made _)
+    (nothing_left IsFailure RackFault shown _ (terms_of c.args.command.now) c.args.bytes.now _ _
+    (subst (λ command. Owes (terms_of command) c.args.bytes.now (no_pairs []) answer.status answer.text.items)
+    (sym c.in-Describe.is) c.in_ok-describe_answer-in-Describe.ensures.owed)
+    (λ fault never. absurd cc))
+
+pub returns-in_err-undescribe_answer-in-Undescribe-clause-leaves : goal.returns-in_err-undescribe_answer-in-Undescribe-clause-leaves
+returns-in_err-undescribe_answer-in-Undescribe-clause-leaves g c =
+    let shown = shown_by g.R.L.Link.faults g.R.L.Link.quiets g.R.L.Link.gots g.R.L.Link.held g.R.L.Link.telling in
+    let made = g.R.Rack.made c.args.rack.now in
+    without_pairs shown g.D.Incoming.Source.left g.D.Incoming.Source.faults
+    g.D.Outgoing.Sink.written g.D.Outgoing.Sink.faults g.D.Outgoing.Sink.ended
+    _ _ _ _ _ _ refl refl
+    (Leaves IsFailure RackFault (terms_of c.args.command.now) c.args.bytes.now made made _)
+    (failure_left IsFailure RackFault shown _ (terms_of c.args.command.now) c.args.bytes.now _ _ NoMemory
+    c.from_residual-in_err-undescribe_answer-in-Undescribe.ensures.0 c.from_residual-in_err-undescribe_answer-in-Undescribe.ensures.1
+    (λ failed. failed))
+
+pub returns-in_ok-undescribe_answer-in-Undescribe-clause-leaves : goal.returns-in_ok-undescribe_answer-in-Undescribe-clause-leaves
+returns-in_ok-undescribe_answer-in-Undescribe-clause-leaves g c =
+    let shown = shown_by g.R.L.Link.faults g.R.L.Link.quiets g.R.L.Link.gots g.R.L.Link.held g.R.L.Link.telling in
+    let made = g.R.Rack.made c.args.rack.now in
+    let answer = c.in_ok-undescribe_answer-in-Undescribe.field-0 in
+    without_pairs shown g.D.Incoming.Source.left g.D.Incoming.Source.faults
+    g.D.Outgoing.Sink.written g.D.Outgoing.Sink.faults g.D.Outgoing.Sink.ended
+    _ _ _ _ _ _ refl refl
+    (Leaves IsFailure RackFault (terms_of c.args.command.now) c.args.bytes.now made made _)
+    (nothing_left IsFailure RackFault shown _ (terms_of c.args.command.now) c.args.bytes.now _ _
+    (subst (λ command. Owes (terms_of command) c.args.bytes.now (no_pairs []) answer.status answer.text.items)
+    (sym c.in-Undescribe.is) c.in_ok-undescribe_answer-in-Undescribe.ensures.owed)
+    (λ fault never. absurd cc))

@@ -1,24 +1,22 @@
-use Rattle.std.proofs.Common.{string_bytes, Some, Ok, Err, [], ◌∙◌, ◌≤◌, inl, map, length, ap}
-use Rattle.std.proofs.Common.{append-nil, refl, sym, subst, arith, rules}
+use Rattle.std.proofs.Common.{string_bytes, Some, Ok, Err, [], ◌∙◌, ◌≤◌, ℕ, List, inl, map, length, ap}
+use Rattle.std.proofs.Common.{append-nil, sym, subst, arith, rules, refl}
 use Rattle.ipb_outside.specs.Told.{TakesCount}
-use Rattle.session_input.specs.declared.refusal.Refusal.{Refusal}
-use Rattle.session_input.specs.Deserved.{Deserves}
 use Rattle.board_greeting.specs.Boards.{shown_by}
-use Rattle.command_words.specs.declared.command.Command.TheVariants.{Load}
-use Rattle.ipbus_program.specs.declared.answer.NoAnswer.TheVariants.{DoorFault, NoMemory, RackFault, ReadFault}
-use Rattle.ipbus_program.specs.Ended.{Ended, IsRight}
-use Rattle.ipbus_program.specs.Numbers.{no_memory_status, rack_fault_status, read_fault_status, refused_status, usage_status}
-use Rattle.ipbus_program.specs.Numbers.{door_fault_status}
-use Rattle.ipbus_program.specs.Owed.{AreCommand, AreNoCommand}
-use Rattle.ipbus_program.specs.Runs.{IsNoServer, Reads, breaks_in, most_bytes}
+use Rattle.command_terms.specs.Numbers.{no_memory_status, rack_fault_status, read_fault_status, refused_status}
+use Rattle.command_terms.specs.Numbers.{door_fault_status, usage_status}
+use Rattle.command_terms.specs.Terms.{most_bytes}
+use Rattle.command_terms.proofs.Pairs.{therefore, without_pairs}
+use Rattle.ipbus_program.specs.Commands.{terms_of}
+use Rattle.ipbus_program.specs.declared.no_answer.NoAnswer.TheVariants.{DoorFault, NoMemory, RackFault, ReadFault}
+use Rattle.ipbus_program.specs.Ended.{Ended}
+use Rattle.ipbus_program.specs.Owed.{AreCommand, AreNoCommand, HasInput}
 use Rattle.ipbus_program.specs.Steps.{InputLeaves}
 use Rattle.ipbus_program.proofs.Causes.{status_is}
-use Rattle.ipbus_program.proofs.Deserved.{accepted_whole, deserved_refused, load_whole, no_failure, no_load_reads}
-use Rattle.ipbus_program.proofs.Deserved.{one_command, right_whole, taken_of_long, used_undeserved}
+use Rattle.ipbus_program.proofs.Deserved.{accepted_whole, deserved_refused, no_failure, one_command, reads_of}
+use Rattle.ipbus_program.proofs.Deserved.{taken_of_long, used_undeserved}
 use Rattle.ipbus_program.proofs.Ending.{delivered, delivered_stays, failed_with, no_rack_fault, outside}
-use Rattle.ipbus_program.proofs.Ending.{output_rises, sessionless, shut_by, small_answer, unmade_by, unread_ended, usage_ended, written_with}
-use Rattle.ipbus_program.proofs.Reading.{loads}
-use Rattle.ipbus_program.proofs.Services.{therefore, without_pairs}
+use Rattle.ipbus_program.proofs.Ending.{output_rises, sessionless, shut_by, small_answer, unmade_by, unread_ended}
+use Rattle.ipbus_program.proofs.Ending.{usage_ended, written_with}
 use Rattle.ipbus_program.proofs.program.control.Goals as goal
 
 pub returns-in-Ok-None-clause-ended : goal.returns-in-Ok-None-clause-ended
@@ -70,6 +68,7 @@ pub returns-in-Ok-clause-ended : goal.returns-in-Ok-clause-ended
 returns-in-Ok-clause-ended g c =
     let shown = shown_by g.R.L.Link.faults g.R.L.Link.quiets g.R.L.Link.gots g.R.L.Link.held g.R.L.Link.telling in
     let are : AreCommand c.args.words.now c.in-Ok-Some.command = search rules in
+    let laws = c.terms_are_terms.ensures c.in-Ok-Some.command in
     let before = g.S.Source.left c.args.input.now in
     let now = g.S.Source.left c.answer_command.new.input in
     let made = g.R.Rack.made c.args.rack.now in
@@ -79,10 +78,10 @@ returns-in-Ok-clause-ended g c =
     therefore shown g.D.Incoming.Source.left g.D.Incoming.Source.faults
     g.D.Outgoing.Sink.written g.D.Outgoing.Sink.faults g.D.Outgoing.Sink.ended
     _ _ _ _ _ _
-    (InputLeaves c.in-Ok-Some.command before now made makes (Ok c.in-Ok.answer))
-    (λ given. Ended c.args.words.now (outside c.args.words.now c.in-Ok-Some.command are before now made makes written
+    (InputLeaves (terms_of c.in-Ok-Some.command) before now made makes (Ok c.in-Ok.answer))
+    (λ given. Ended c.args.words.now (outside c.args.words.now c.in-Ok-Some.command laws are before now made makes written
     written_now given) c.deliver-in-Ok.result)
-    (λ given leaves. delivered c.args.words.now c.in-Ok-Some.command are before now made makes written written_now given
+    (λ given leaves. delivered c.args.words.now c.in-Ok-Some.command laws are before now made makes written written_now given
     c.in-Ok.answer c.as_slice.result.now c.as_slice.ensures.value _ _ c.deliver-in-Ok.result leaves
     c.deliver-in-Ok.ensures.delivers)
     c.in-Ok.ensures.leaves
@@ -91,6 +90,7 @@ pub returns-in-Err-ReadFault-clause-ended : goal.returns-in-Err-ReadFault-clause
 returns-in-Err-ReadFault-clause-ended g c =
     let shown = shown_by g.R.L.Link.faults g.R.L.Link.quiets g.R.L.Link.gots g.R.L.Link.held g.R.L.Link.telling in
     let are : AreCommand c.args.words.now c.in-Ok-Some.command = search rules in
+    let laws = c.terms_are_terms.ensures c.in-Ok-Some.command in
     let before = g.S.Source.left c.args.input.now in
     let now = g.S.Source.left c.answer_command.new.input in
     let made = g.R.Rack.made c.args.rack.now in
@@ -99,10 +99,10 @@ returns-in-Err-ReadFault-clause-ended g c =
     therefore shown g.D.Incoming.Source.left g.D.Incoming.Source.faults
     g.D.Outgoing.Sink.written g.D.Outgoing.Sink.faults g.D.Outgoing.Sink.ended
     _ _ _ _ _ _
-    (InputLeaves c.in-Ok-Some.command before now made makes (Err c.in-Err-ReadFault.field-0))
-    (λ given. Ended c.args.words.now (outside c.args.words.now c.in-Ok-Some.command are before now made makes written
+    (InputLeaves (terms_of c.in-Ok-Some.command) before now made makes (Err c.in-Err-ReadFault.field-0))
+    (λ given. Ended c.args.words.now (outside c.args.words.now c.in-Ok-Some.command laws are before now made makes written
     written given) read_fault_status)
-    (λ given leaves. failed_with c.args.words.now c.in-Ok-Some.command are before now made makes written written given _ ReadFault
+    (λ given leaves. failed_with c.args.words.now c.in-Ok-Some.command laws are before now made makes written written given _ ReadFault
     c.in-Err-ReadFault.field-0-is leaves)
     c.in-Err-ReadFault.ensures.leaves
 
@@ -110,6 +110,7 @@ pub returns-in-Err-RackFault-clause-ended : goal.returns-in-Err-RackFault-clause
 returns-in-Err-RackFault-clause-ended g c =
     let shown = shown_by g.R.L.Link.faults g.R.L.Link.quiets g.R.L.Link.gots g.R.L.Link.held g.R.L.Link.telling in
     let are : AreCommand c.args.words.now c.in-Ok-Some.command = search rules in
+    let laws = c.terms_are_terms.ensures c.in-Ok-Some.command in
     let before = g.S.Source.left c.args.input.now in
     let now = g.S.Source.left c.answer_command.new.input in
     let made = g.R.Rack.made c.args.rack.now in
@@ -118,10 +119,10 @@ returns-in-Err-RackFault-clause-ended g c =
     therefore shown g.D.Incoming.Source.left g.D.Incoming.Source.faults
     g.D.Outgoing.Sink.written g.D.Outgoing.Sink.faults g.D.Outgoing.Sink.ended
     _ _ _ _ _ _
-    (InputLeaves c.in-Ok-Some.command before now made makes (Err c.in-Err-RackFault.field-0))
-    (λ given. Ended c.args.words.now (outside c.args.words.now c.in-Ok-Some.command are before now made makes written
+    (InputLeaves (terms_of c.in-Ok-Some.command) before now made makes (Err c.in-Err-RackFault.field-0))
+    (λ given. Ended c.args.words.now (outside c.args.words.now c.in-Ok-Some.command laws are before now made makes written
     written given) rack_fault_status)
-    (λ given leaves. failed_with c.args.words.now c.in-Ok-Some.command are before now made makes written written given _ RackFault
+    (λ given leaves. failed_with c.args.words.now c.in-Ok-Some.command laws are before now made makes written written given _ RackFault
     c.in-Err-RackFault.field-0-is leaves)
     c.in-Err-RackFault.ensures.leaves
 
@@ -129,6 +130,7 @@ pub returns-in-Err-DoorFault-clause-ended : goal.returns-in-Err-DoorFault-clause
 returns-in-Err-DoorFault-clause-ended g c =
     let shown = shown_by g.R.L.Link.faults g.R.L.Link.quiets g.R.L.Link.gots g.R.L.Link.held g.R.L.Link.telling in
     let are : AreCommand c.args.words.now c.in-Ok-Some.command = search rules in
+    let laws = c.terms_are_terms.ensures c.in-Ok-Some.command in
     let before = g.S.Source.left c.args.input.now in
     let now = g.S.Source.left c.answer_command.new.input in
     let made = g.R.Rack.made c.args.rack.now in
@@ -137,10 +139,10 @@ returns-in-Err-DoorFault-clause-ended g c =
     therefore shown g.D.Incoming.Source.left g.D.Incoming.Source.faults
     g.D.Outgoing.Sink.written g.D.Outgoing.Sink.faults g.D.Outgoing.Sink.ended
     _ _ _ _ _ _
-    (InputLeaves c.in-Ok-Some.command before now made makes (Err c.in-Err-DoorFault.field-0))
-    (λ given. Ended c.args.words.now (outside c.args.words.now c.in-Ok-Some.command are before now made makes written
+    (InputLeaves (terms_of c.in-Ok-Some.command) before now made makes (Err c.in-Err-DoorFault.field-0))
+    (λ given. Ended c.args.words.now (outside c.args.words.now c.in-Ok-Some.command laws are before now made makes written
     written given) door_fault_status)
-    (λ given leaves. failed_with c.args.words.now c.in-Ok-Some.command are before now made makes written written given _ DoorFault
+    (λ given leaves. failed_with c.args.words.now c.in-Ok-Some.command laws are before now made makes written written given _ DoorFault
     c.in-Err-DoorFault.field-0-is leaves)
     c.in-Err-DoorFault.ensures.leaves
 
@@ -148,6 +150,7 @@ pub returns-clause-ended : goal.returns-clause-ended
 returns-clause-ended g c =
     let shown = shown_by g.R.L.Link.faults g.R.L.Link.quiets g.R.L.Link.gots g.R.L.Link.held g.R.L.Link.telling in
     let are : AreCommand c.args.words.now c.in-Ok-Some.command = search rules in
+    let laws = c.terms_are_terms.ensures c.in-Ok-Some.command in
     let before = g.S.Source.left c.args.input.now in
     let now = g.S.Source.left c.answer_command.new.input in
     let made = g.R.Rack.made c.args.rack.now in
@@ -156,10 +159,10 @@ returns-clause-ended g c =
     therefore shown g.D.Incoming.Source.left g.D.Incoming.Source.faults
     g.D.Outgoing.Sink.written g.D.Outgoing.Sink.faults g.D.Outgoing.Sink.ended
     _ _ _ _ _ _
-    (InputLeaves c.in-Ok-Some.command before now made makes (Err c.in-Err-NoMemory.field-0))
-    (λ given. Ended c.args.words.now (outside c.args.words.now c.in-Ok-Some.command are before now made makes written
+    (InputLeaves (terms_of c.in-Ok-Some.command) before now made makes (Err c.in-Err-NoMemory.field-0))
+    (λ given. Ended c.args.words.now (outside c.args.words.now c.in-Ok-Some.command laws are before now made makes written
     written given) no_memory_status)
-    (λ given leaves. failed_with c.args.words.now c.in-Ok-Some.command are before now made makes written written given _ NoMemory
+    (λ given leaves. failed_with c.args.words.now c.in-Ok-Some.command laws are before now made makes written written given _ NoMemory
     c.in-Err-NoMemory.field-0-is leaves)
     c.in-Err-NoMemory.ensures.leaves
 
@@ -168,7 +171,8 @@ returns-in-Ok-clause-input_faults g c =
     let before = g.S.Source.left c.args.input.now in
     let now = g.S.Source.left c.answer_command.new.input in
     let leaves = c.in-Ok.ensures.leaves.2.4 in
-    let small = small_answer c.in-Ok-Some.command before now _ c.in-Ok.answer.status c.in-Ok.answer.text.items leaves.owed in
+    let laws = c.terms_are_terms.ensures c.in-Ok-Some.command in
+    let small = small_answer (terms_of c.in-Ok-Some.command) laws before now _ c.in-Ok.answer.status c.in-Ok.answer.text.items leaves.owed in
     delivered_stays c.in-Ok.answer.status small c.as_slice.result.now _ _ _ _ c.deliver-in-Ok.result read_fault_status
     (g.S.Source.faults c.args.input.now) (g.S.Source.faults c.answer_command.new.input) (omega arith) (λ e. omega (arith, e))
     c.deliver-in-Ok.ensures.delivers (c.in-Ok.ensures.input_faults.2 (λ never. absurd cc))
@@ -178,7 +182,8 @@ returns-in-Ok-clause-rack_faults g c =
     let before = g.S.Source.left c.args.input.now in
     let now = g.S.Source.left c.answer_command.new.input in
     let leaves = c.in-Ok.ensures.leaves.2.4 in
-    let small = small_answer c.in-Ok-Some.command before now _ c.in-Ok.answer.status c.in-Ok.answer.text.items leaves.owed in
+    let laws = c.terms_are_terms.ensures c.in-Ok-Some.command in
+    let small = small_answer (terms_of c.in-Ok-Some.command) laws before now _ c.in-Ok.answer.status c.in-Ok.answer.text.items leaves.owed in
     delivered_stays c.in-Ok.answer.status small c.as_slice.result.now _ _ _ _ c.deliver-in-Ok.result rack_fault_status
     (g.R.Rack.faults c.args.rack.now) (g.R.Rack.faults c.answer_command.new.rack) (omega arith) (λ e. omega (arith, e))
     c.deliver-in-Ok.ensures.delivers (c.in-Ok.ensures.rack_faults.2 (λ never. absurd cc))
@@ -188,7 +193,8 @@ returns-in-Ok-clause-door_faults g c =
     let before = g.S.Source.left c.args.input.now in
     let now = g.S.Source.left c.answer_command.new.input in
     let leaves = c.in-Ok.ensures.leaves.2.4 in
-    let small = small_answer c.in-Ok-Some.command before now _ c.in-Ok.answer.status c.in-Ok.answer.text.items leaves.owed in
+    let laws = c.terms_are_terms.ensures c.in-Ok-Some.command in
+    let small = small_answer (terms_of c.in-Ok-Some.command) laws before now _ c.in-Ok.answer.status c.in-Ok.answer.text.items leaves.owed in
     delivered_stays c.in-Ok.answer.status small c.as_slice.result.now _ _ _ _ c.deliver-in-Ok.result door_fault_status
     (g.D.Door.faults c.args.door.now) (g.D.Door.faults c.answer_command.new.door) (omega arith) (λ e. omega (arith, e))
     c.deliver-in-Ok.ensures.delivers (c.in-Ok.ensures.door_faults.2 (λ never. absurd cc))
@@ -198,7 +204,8 @@ returns-in-Ok-clause-output_faults g c =
     let before = g.S.Source.left c.args.input.now in
     let now = g.S.Source.left c.answer_command.new.input in
     let leaves = c.in-Ok.ensures.leaves.2.4 in
-    let small = small_answer c.in-Ok-Some.command before now _ c.in-Ok.answer.status c.in-Ok.answer.text.items leaves.owed in
+    let laws = c.terms_are_terms.ensures c.in-Ok-Some.command in
+    let small = small_answer (terms_of c.in-Ok-Some.command) laws before now _ c.in-Ok.answer.status c.in-Ok.answer.text.items leaves.owed in
     output_rises c.in-Ok.answer.status small c.as_slice.result.now _ _ _ _ c.deliver-in-Ok.result
     c.deliver-in-Ok.ensures.delivers c.deliver-in-Ok.ensures.later c.deliver-in-Ok.ensures.unfaulted
 
@@ -232,7 +239,8 @@ returns-in-Ok-clause-unwritten g c =
     let before = g.S.Source.left c.args.input.now in
     let now = g.S.Source.left c.answer_command.new.input in
     let leaves = c.in-Ok.ensures.leaves.2.4 in
-    let small = small_answer c.in-Ok-Some.command before now _ c.in-Ok.answer.status c.in-Ok.answer.text.items leaves.owed in (
+    let laws = c.terms_are_terms.ensures c.in-Ok-Some.command in
+    let small = small_answer (terms_of c.in-Ok-Some.command) laws before now _ c.in-Ok.answer.status c.in-Ok.answer.text.items leaves.owed in (
       written_with c.in-Ok.answer.status small c.as_slice.result.now _ _ _ _ c.deliver-in-Ok.result _
           c.deliver-in-Ok.ensures.delivers,
       c.deliver-in-Ok.ensures.ended_kept,
@@ -248,11 +256,12 @@ returns-in-Ok-None-clause-unwritten g c = (
 pub returns-in-Ok-clause-unmade : goal.returns-in-Ok-clause-unmade
 returns-in-Ok-clause-unmade g c =
     let are : AreCommand c.args.words.now c.in-Ok-Some.command = search rules in
+    let laws = c.terms_are_terms.ensures c.in-Ok-Some.command in
     let before = g.S.Source.left c.args.input.now in
     let now = g.S.Source.left c.answer_command.new.input in
     let leaves = c.in-Ok.ensures.leaves.2.4 in
-    unmade_by c.args.words.now c.in-Ok-Some.command are _ c.deliver-in-Ok.result c.in-Ok.ensures.alone.2
-    (sessionless c.args.words.now c.in-Ok-Some.command are before now
+    unmade_by c.args.words.now c.in-Ok-Some.command laws are _ c.deliver-in-Ok.result c.in-Ok.ensures.alone.2
+    (sessionless c.args.words.now c.in-Ok-Some.command laws are before now
     (g.R.Rack.made c.args.rack.now) (g.R.Rack.made c.answer_command.new.rack) _ _ _ c.in-Ok.answer
     c.as_slice.result.now c.as_slice.ensures.value _ _ c.deliver-in-Ok.result _
     (λ refused. (c.in-Ok.ensures.alone.0 refused).0) leaves c.deliver-in-Ok.ensures.delivers)
@@ -260,15 +269,16 @@ returns-in-Ok-clause-unmade g c =
 pub returns-in-Ok-clause-shut : goal.returns-in-Ok-clause-shut
 returns-in-Ok-clause-shut g c =
     let are : AreCommand c.args.words.now c.in-Ok-Some.command = search rules in
+    let laws = c.terms_are_terms.ensures c.in-Ok-Some.command in
     let before = g.S.Source.left c.args.input.now in
     let now = g.S.Source.left c.answer_command.new.input in
     let leaves = c.in-Ok.ensures.leaves.2.4 in (
-      shut_by c.args.words.now c.in-Ok-Some.command are _ c.deliver-in-Ok.result c.in-Ok.ensures.alone.3
-          (sessionless c.args.words.now c.in-Ok-Some.command are before now
+      shut_by c.args.words.now c.in-Ok-Some.command laws are _ c.deliver-in-Ok.result c.in-Ok.ensures.alone.3
+          (sessionless c.args.words.now c.in-Ok-Some.command laws are before now
           (g.R.Rack.made c.args.rack.now) (g.R.Rack.made c.answer_command.new.rack) _ _ _ c.in-Ok.answer
           c.as_slice.result.now c.as_slice.ensures.value _ _ c.deliver-in-Ok.result _
           (λ refused. (c.in-Ok.ensures.alone.0 refused).1) leaves c.deliver-in-Ok.ensures.delivers)
-          (no_rack_fault c.args.words.now c.in-Ok-Some.command are before now
+          (no_rack_fault c.args.words.now c.in-Ok-Some.command laws are before now
           (g.R.Rack.made c.args.rack.now) (g.R.Rack.made c.answer_command.new.rack) _ _ _ c.in-Ok.answer
           c.as_slice.result.now c.as_slice.ensures.value _ _ c.deliver-in-Ok.result _ leaves
           c.deliver-in-Ok.ensures.delivers),
@@ -276,149 +286,188 @@ returns-in-Ok-clause-shut g c =
     )
 
 pub returns-in-Ok-clause-unbroken : goal.returns-in-Ok-clause-unbroken
-returns-in-Ok-clause-unbroken g c command bytes asked told unbroken calm unfaulted quiet =
+returns-in-Ok-clause-unbroken g c command bytes asked has unbroken unfaulted quiet =
     let are : AreCommand c.args.words.now c.in-Ok-Some.command = search rules in
+    let terms = terms_of c.in-Ok-Some.command in
     let before = g.S.Source.left c.args.input.now in
     let now = g.S.Source.left c.answer_command.new.input in
     let leaves = c.in-Ok.ensures.leaves.2.4 in
     let same = one_command c.args.words.now command c.in-Ok-Some.command asked are in
-    accepted_whole c.input_laws.ensures c.in-Ok-Some.command before now bytes told _ c.in-Ok.answer.status c.in-Ok.answer.text.items c.as_slice.result.now c.as_slice.ensures.value _ _ _ _
-    c.deliver-in-Ok.result
-    (subst (λ command. (r : Refusal) → Deserves (breaks_in command) bytes r → ⊥) same unbroken)
+    accepted_whole terms (c.terms_are_terms.ensures c.in-Ok-Some.command) before now bytes
+    (subst (λ command. HasInput (terms_of command).limit before bytes) same has)
+    (subst (λ command. (line : List ℕ) → (terms_of command).Refuses bytes line → ⊥) same unbroken)
+    _ c.in-Ok.answer.status c.in-Ok.answer.text.items c.as_slice.result.now _ _ _ _ c.deliver-in-Ok.result
     leaves.owed c.deliver-in-Ok.ensures.delivers unfaulted
 
 pub returns-in-Ok-clause-right : goal.returns-in-Ok-clause-right
-returns-in-Ok-clause-right g c command bytes asked told right calm unfaulted quiet =
+returns-in-Ok-clause-right g c command bytes asked has right unfaulted quiet =
     let are : AreCommand c.args.words.now c.in-Ok-Some.command = search rules in
+    let terms = terms_of c.in-Ok-Some.command in
+    let laws = c.terms_are_terms.ensures c.in-Ok-Some.command in
     let before = g.S.Source.left c.args.input.now in
     let now = g.S.Source.left c.answer_command.new.input in
     let leaves = c.in-Ok.ensures.leaves.2.4 in
     let same = one_command c.args.words.now command c.in-Ok-Some.command asked are in
-    right_whole c.input_laws.ensures c.in-Ok-Some.command before now bytes told _ c.in-Ok.answer.status c.in-Ok.answer.text.items c.as_slice.result.now c.as_slice.ensures.value _ _ _ _
-    c.deliver-in-Ok.result
-    (subst (λ command. IsRight command bytes) same right)
+    let right_here = subst (λ command. (terms_of command).Right bytes) same right in
+    accepted_whole terms laws before now bytes
+    (subst (λ command. HasInput (terms_of command).limit before bytes) same has)
+    (λ line. laws.right_apart bytes line right_here)
+    _ c.in-Ok.answer.status c.in-Ok.answer.text.items c.as_slice.result.now _ _ _ _ c.deliver-in-Ok.result
     leaves.owed c.deliver-in-Ok.ensures.delivers unfaulted
 
 pub returns-in-Ok-clause-deserved : goal.returns-in-Ok-clause-deserved
-returns-in-Ok-clause-deserved g c command bytes refusal asked reads told deserved calm unfaulted =
+returns-in-Ok-clause-deserved g c command bytes line asked told deserved calm unfaulted =
     let are : AreCommand c.args.words.now c.in-Ok-Some.command = search rules in
+    let terms = terms_of c.in-Ok-Some.command in
+    let laws = c.terms_are_terms.ensures c.in-Ok-Some.command in
     let before = g.S.Source.left c.args.input.now in
     let now = g.S.Source.left c.answer_command.new.input in
     let leaves = c.in-Ok.ensures.leaves.2.4 in
     let same = one_command c.args.words.now command c.in-Ok-Some.command asked are in
-    inl (deserved_refused c.input_laws.ensures c.in-Ok-Some.command before now bytes told _ c.in-Ok.answer.status c.in-Ok.answer.text.items c.as_slice.result.now c.as_slice.ensures.value _ _ _ _
-    c.deliver-in-Ok.result
-    (subst Reads same reads) refusal
-    (subst (λ command. Deserves (breaks_in command) bytes refusal) same deserved) leaves.owed
-    c.deliver-in-Ok.ensures.delivers unfaulted)
-
-pub returns-in-Ok-clause-loadable : goal.returns-in-Ok-clause-loadable
-returns-in-Ok-clause-loadable g c count asked unfaulted quiet =
-    let are : AreCommand c.args.words.now c.in-Ok-Some.command = search rules in
-    let before = g.S.Source.left c.args.input.now in
-    let now = g.S.Source.left c.answer_command.new.input in
-    let leaves = c.in-Ok.ensures.leaves.2.4 in
-    let same = one_command c.args.words.now c.in-Ok-Some.command (Load count) are asked in
-    load_whole count c.in-Ok-Some.command same before now _ c.in-Ok.answer.status c.in-Ok.answer.text.items
-    c.as_slice.result.now _ _ _ _ c.deliver-in-Ok.result leaves.owed c.deliver-in-Ok.ensures.delivers unfaulted
+    let deserved_here = subst (λ command. (terms_of command).Refuses bytes line) same deserved in
+    let reads = reads_of terms laws bytes line deserved_here in
+    inl (deserved_refused terms laws reads.0 reads.1 before now bytes told _ c.in-Ok.answer.status
+    c.in-Ok.answer.text.items c.as_slice.result.now c.as_slice.ensures.value _ _ _ _ c.deliver-in-Ok.result line
+    deserved_here leaves.owed c.deliver-in-Ok.ensures.delivers unfaulted)
 
 pub returns-in-Ok-clause-too_long : goal.returns-in-Ok-clause-too_long
 returns-in-Ok-clause-too_long g c command bytes asked told long refused =
     let are : AreCommand c.args.words.now c.in-Ok-Some.command = search rules in
+    let terms = terms_of c.in-Ok-Some.command in
+    let laws = c.terms_are_terms.ensures c.in-Ok-Some.command in
     let before = g.S.Source.left c.args.input.now in
     let now = g.S.Source.left c.answer_command.new.input in
     let leaves = c.in-Ok.ensures.leaves.2.4 in
     let same = one_command c.args.words.now command c.in-Ok-Some.command asked are in
-    subst (λ command. TakesCount (most_bytes command) before now) (sym same)
-    (taken_of_long c.input_laws.ensures c.in-Ok-Some.command before now bytes told _ c.in-Ok.answer.status
-    c.in-Ok.answer.text.items (subst (λ command. most_bytes command ≤ length bytes) same long)
+    subst (λ command. TakesCount (most_bytes (terms_of command)) before now) (sym same)
+    (taken_of_long terms laws before now bytes told _ c.in-Ok.answer.status
+    c.in-Ok.answer.text.items (subst (λ command. most_bytes (terms_of command) ≤ length bytes) same long)
     (status_is c.in-Ok.answer.status c.deliver-in-Ok.result refused_status c.as_slice.result.now _ _ _ _
     c.deliver-in-Ok.ensures.delivers refused (λ e. omega (arith, e))) leaves.owed)
 
-pub returns-in-Err-RackFault-clause-unbroken : goal.returns-in-Err-RackFault-clause-unbroken
-returns-in-Err-RackFault-clause-unbroken g c command bytes asked told unbroken calm unfaulted quiet =
+pub returns-in-Err-ReadFault-clause-unbroken : goal.returns-in-Err-ReadFault-clause-unbroken
+returns-in-Err-ReadFault-clause-unbroken g c command bytes asked has unbroken unfaulted quiet =
     let are : AreCommand c.args.words.now c.in-Ok-Some.command = search rules in
     let before = g.S.Source.left c.args.input.now in
     let now = g.S.Source.left c.answer_command.new.input in
     let same = one_command c.args.words.now command c.in-Ok-Some.command asked are in
-    absurd ((no_failure command c.in-Ok-Some.command same before now (g.R.Rack.made c.args.rack.now)
-    (g.R.Rack.made c.answer_command.new.rack) _ (g.R.Rack.faults c.args.rack.now)
-    (g.R.Rack.faults c.answer_command.new.rack) (g.D.Door.faults c.args.door.now)
-    (g.D.Door.faults c.answer_command.new.door) (Err c.in-Err-RackFault.field-0) quiet c.in-Err-RackFault.ensures.leaves.2.4
-    c.in-Err-RackFault.ensures.rack_faults c.in-Err-RackFault.ensures.door_faults).0 (ap Err c.in-Err-RackFault.field-0-is))
+    let failure = c.in-Err-ReadFault in
+    absurd ((no_failure command c.in-Ok-Some.command same (c.terms_are_terms.ensures c.in-Ok-Some.command) before now
+    (g.R.Rack.made c.args.rack.now) (g.R.Rack.made c.answer_command.new.rack) _
+    (g.S.Source.faults c.args.input.now) (g.S.Source.faults c.answer_command.new.input)
+    (g.R.Rack.faults c.args.rack.now) (g.R.Rack.faults c.answer_command.new.rack)
+    (g.D.Door.faults c.args.door.now) (g.D.Door.faults c.answer_command.new.door) (Err failure.field-0) quiet
+    failure.ensures.leaves.2.4
+    failure.ensures.input_faults failure.ensures.rack_faults failure.ensures.door_faults).0
+    (ap Err failure.field-0-is))
+
+pub returns-in-Err-ReadFault-clause-right : goal.returns-in-Err-ReadFault-clause-right
+returns-in-Err-ReadFault-clause-right g c command bytes asked has right unfaulted quiet =
+    let are : AreCommand c.args.words.now c.in-Ok-Some.command = search rules in
+    let before = g.S.Source.left c.args.input.now in
+    let now = g.S.Source.left c.answer_command.new.input in
+    let same = one_command c.args.words.now command c.in-Ok-Some.command asked are in
+    let failure = c.in-Err-ReadFault in
+    absurd ((no_failure command c.in-Ok-Some.command same (c.terms_are_terms.ensures c.in-Ok-Some.command) before now
+    (g.R.Rack.made c.args.rack.now) (g.R.Rack.made c.answer_command.new.rack) _
+    (g.S.Source.faults c.args.input.now) (g.S.Source.faults c.answer_command.new.input)
+    (g.R.Rack.faults c.args.rack.now) (g.R.Rack.faults c.answer_command.new.rack)
+    (g.D.Door.faults c.args.door.now) (g.D.Door.faults c.answer_command.new.door) (Err failure.field-0) quiet
+    failure.ensures.leaves.2.4
+    failure.ensures.input_faults failure.ensures.rack_faults failure.ensures.door_faults).0
+    (ap Err failure.field-0-is))
+
+pub returns-in-Err-RackFault-clause-unbroken : goal.returns-in-Err-RackFault-clause-unbroken
+returns-in-Err-RackFault-clause-unbroken g c command bytes asked has unbroken unfaulted quiet =
+    let are : AreCommand c.args.words.now c.in-Ok-Some.command = search rules in
+    let before = g.S.Source.left c.args.input.now in
+    let now = g.S.Source.left c.answer_command.new.input in
+    let same = one_command c.args.words.now command c.in-Ok-Some.command asked are in
+    let failure = c.in-Err-RackFault in
+    absurd ((no_failure command c.in-Ok-Some.command same (c.terms_are_terms.ensures c.in-Ok-Some.command) before now
+    (g.R.Rack.made c.args.rack.now) (g.R.Rack.made c.answer_command.new.rack) _
+    (g.S.Source.faults c.args.input.now) (g.S.Source.faults c.answer_command.new.input)
+    (g.R.Rack.faults c.args.rack.now) (g.R.Rack.faults c.answer_command.new.rack)
+    (g.D.Door.faults c.args.door.now) (g.D.Door.faults c.answer_command.new.door) (Err failure.field-0) quiet
+    failure.ensures.leaves.2.4
+    failure.ensures.input_faults failure.ensures.rack_faults failure.ensures.door_faults).1
+    (ap Err failure.field-0-is))
 
 pub returns-in-Err-RackFault-clause-right : goal.returns-in-Err-RackFault-clause-right
-returns-in-Err-RackFault-clause-right g c command bytes asked told right calm unfaulted quiet =
+returns-in-Err-RackFault-clause-right g c command bytes asked has right unfaulted quiet =
     let are : AreCommand c.args.words.now c.in-Ok-Some.command = search rules in
     let before = g.S.Source.left c.args.input.now in
     let now = g.S.Source.left c.answer_command.new.input in
     let same = one_command c.args.words.now command c.in-Ok-Some.command asked are in
-    absurd ((no_failure command c.in-Ok-Some.command same before now (g.R.Rack.made c.args.rack.now)
-    (g.R.Rack.made c.answer_command.new.rack) _ (g.R.Rack.faults c.args.rack.now)
-    (g.R.Rack.faults c.answer_command.new.rack) (g.D.Door.faults c.args.door.now)
-    (g.D.Door.faults c.answer_command.new.door) (Err c.in-Err-RackFault.field-0) quiet c.in-Err-RackFault.ensures.leaves.2.4
-    c.in-Err-RackFault.ensures.rack_faults c.in-Err-RackFault.ensures.door_faults).0 (ap Err c.in-Err-RackFault.field-0-is))
-
-pub returns-in-Err-RackFault-clause-deserved : goal.returns-in-Err-RackFault-clause-deserved
-returns-in-Err-RackFault-clause-deserved g c command bytes refusal asked reads told deserved calm unfaulted =
-    let are : AreCommand c.args.words.now c.in-Ok-Some.command = search rules in
-    let before = g.S.Source.left c.args.input.now in
-    let now = g.S.Source.left c.answer_command.new.input in
-    let same = one_command c.args.words.now command c.in-Ok-Some.command asked are in
-    absurd (used_undeserved c.input_laws.ensures c.in-Ok-Some.command before now bytes told (subst Reads same reads) _
-    refusal (c.in-Err-RackFault.ensures.leaves.2.4.behind RackFault (ap Err c.in-Err-RackFault.field-0-is) tt)
-    (subst (λ command. Deserves (breaks_in command) bytes refusal) same deserved))
+    let failure = c.in-Err-RackFault in
+    absurd ((no_failure command c.in-Ok-Some.command same (c.terms_are_terms.ensures c.in-Ok-Some.command) before now
+    (g.R.Rack.made c.args.rack.now) (g.R.Rack.made c.answer_command.new.rack) _
+    (g.S.Source.faults c.args.input.now) (g.S.Source.faults c.answer_command.new.input)
+    (g.R.Rack.faults c.args.rack.now) (g.R.Rack.faults c.answer_command.new.rack)
+    (g.D.Door.faults c.args.door.now) (g.D.Door.faults c.answer_command.new.door) (Err failure.field-0) quiet
+    failure.ensures.leaves.2.4
+    failure.ensures.input_faults failure.ensures.rack_faults failure.ensures.door_faults).1
+    (ap Err failure.field-0-is))
 
 pub returns-in-Err-DoorFault-clause-unbroken : goal.returns-in-Err-DoorFault-clause-unbroken
-returns-in-Err-DoorFault-clause-unbroken g c command bytes asked told unbroken calm unfaulted quiet =
+returns-in-Err-DoorFault-clause-unbroken g c command bytes asked has unbroken unfaulted quiet =
     let are : AreCommand c.args.words.now c.in-Ok-Some.command = search rules in
     let before = g.S.Source.left c.args.input.now in
     let now = g.S.Source.left c.answer_command.new.input in
     let same = one_command c.args.words.now command c.in-Ok-Some.command asked are in
-    absurd ((no_failure command c.in-Ok-Some.command same before now (g.R.Rack.made c.args.rack.now)
-    (g.R.Rack.made c.answer_command.new.rack) _ (g.R.Rack.faults c.args.rack.now)
-    (g.R.Rack.faults c.answer_command.new.rack) (g.D.Door.faults c.args.door.now)
-    (g.D.Door.faults c.answer_command.new.door) (Err c.in-Err-DoorFault.field-0) quiet c.in-Err-DoorFault.ensures.leaves.2.4
-    c.in-Err-DoorFault.ensures.rack_faults c.in-Err-DoorFault.ensures.door_faults).1 (ap Err c.in-Err-DoorFault.field-0-is))
+    let failure = c.in-Err-DoorFault in
+    absurd ((no_failure command c.in-Ok-Some.command same (c.terms_are_terms.ensures c.in-Ok-Some.command) before now
+    (g.R.Rack.made c.args.rack.now) (g.R.Rack.made c.answer_command.new.rack) _
+    (g.S.Source.faults c.args.input.now) (g.S.Source.faults c.answer_command.new.input)
+    (g.R.Rack.faults c.args.rack.now) (g.R.Rack.faults c.answer_command.new.rack)
+    (g.D.Door.faults c.args.door.now) (g.D.Door.faults c.answer_command.new.door) (Err failure.field-0) quiet
+    failure.ensures.leaves.2.4
+    failure.ensures.input_faults failure.ensures.rack_faults failure.ensures.door_faults).2
+    (ap Err failure.field-0-is))
 
 pub returns-in-Err-DoorFault-clause-right : goal.returns-in-Err-DoorFault-clause-right
-returns-in-Err-DoorFault-clause-right g c command bytes asked told right calm unfaulted quiet =
+returns-in-Err-DoorFault-clause-right g c command bytes asked has right unfaulted quiet =
     let are : AreCommand c.args.words.now c.in-Ok-Some.command = search rules in
     let before = g.S.Source.left c.args.input.now in
     let now = g.S.Source.left c.answer_command.new.input in
     let same = one_command c.args.words.now command c.in-Ok-Some.command asked are in
-    absurd ((no_failure command c.in-Ok-Some.command same before now (g.R.Rack.made c.args.rack.now)
-    (g.R.Rack.made c.answer_command.new.rack) _ (g.R.Rack.faults c.args.rack.now)
-    (g.R.Rack.faults c.answer_command.new.rack) (g.D.Door.faults c.args.door.now)
-    (g.D.Door.faults c.answer_command.new.door) (Err c.in-Err-DoorFault.field-0) quiet c.in-Err-DoorFault.ensures.leaves.2.4
-    c.in-Err-DoorFault.ensures.rack_faults c.in-Err-DoorFault.ensures.door_faults).1 (ap Err c.in-Err-DoorFault.field-0-is))
+    let failure = c.in-Err-DoorFault in
+    absurd ((no_failure command c.in-Ok-Some.command same (c.terms_are_terms.ensures c.in-Ok-Some.command) before now
+    (g.R.Rack.made c.args.rack.now) (g.R.Rack.made c.answer_command.new.rack) _
+    (g.S.Source.faults c.args.input.now) (g.S.Source.faults c.answer_command.new.input)
+    (g.R.Rack.faults c.args.rack.now) (g.R.Rack.faults c.answer_command.new.rack)
+    (g.D.Door.faults c.args.door.now) (g.D.Door.faults c.answer_command.new.door) (Err failure.field-0) quiet
+    failure.ensures.leaves.2.4
+    failure.ensures.input_faults failure.ensures.rack_faults failure.ensures.door_faults).2
+    (ap Err failure.field-0-is))
+
+pub returns-in-Err-RackFault-clause-deserved : goal.returns-in-Err-RackFault-clause-deserved
+returns-in-Err-RackFault-clause-deserved g c command bytes line asked told deserved calm unfaulted =
+    let are : AreCommand c.args.words.now c.in-Ok-Some.command = search rules in
+    let terms = terms_of c.in-Ok-Some.command in
+    let laws = c.terms_are_terms.ensures c.in-Ok-Some.command in
+    let before = g.S.Source.left c.args.input.now in
+    let now = g.S.Source.left c.answer_command.new.input in
+    let same = one_command c.args.words.now command c.in-Ok-Some.command asked are in
+    let deserved_here = subst (λ command. (terms_of command).Refuses bytes line) same deserved in
+    let reads = reads_of terms laws bytes line deserved_here in
+    absurd (used_undeserved terms laws reads.0 reads.1 before now bytes told _ line
+    (c.in-Err-RackFault.ensures.leaves.2.4.behind RackFault (ap Err c.in-Err-RackFault.field-0-is) tt) deserved_here)
 
 pub returns-in-Err-DoorFault-clause-deserved : goal.returns-in-Err-DoorFault-clause-deserved
-returns-in-Err-DoorFault-clause-deserved g c command bytes refusal asked reads told deserved calm unfaulted =
+returns-in-Err-DoorFault-clause-deserved g c command bytes line asked told deserved calm unfaulted =
     let are : AreCommand c.args.words.now c.in-Ok-Some.command = search rules in
+    let terms = terms_of c.in-Ok-Some.command in
+    let laws = c.terms_are_terms.ensures c.in-Ok-Some.command in
     let before = g.S.Source.left c.args.input.now in
     let now = g.S.Source.left c.answer_command.new.input in
     let same = one_command c.args.words.now command c.in-Ok-Some.command asked are in
-    absurd (used_undeserved c.input_laws.ensures c.in-Ok-Some.command before now bytes told (subst Reads same reads) _
-    refusal (c.in-Err-DoorFault.ensures.leaves.2.4.behind DoorFault (ap Err c.in-Err-DoorFault.field-0-is) tt)
-    (subst (λ command. Deserves (breaks_in command) bytes refusal) same deserved))
-
-pub returns-in-Err-ReadFault-clause-loadable : goal.returns-in-Err-ReadFault-clause-loadable
-returns-in-Err-ReadFault-clause-loadable g c count asked unfaulted quiet =
-    let are : AreCommand c.args.words.now c.in-Ok-Some.command = search rules in
-    let same = one_command c.args.words.now c.in-Ok-Some.command (Load count) are asked in
-    absurd (no_load_reads count c.in-Ok-Some.command same
-    (c.in-Err-ReadFault.ensures.leaves.2.4.reads (ap Err c.in-Err-ReadFault.field-0-is)))
-
-pub returns-in-Err-DoorFault-clause-loadable : goal.returns-in-Err-DoorFault-clause-loadable
-returns-in-Err-DoorFault-clause-loadable g c count asked unfaulted quiet =
-    let are : AreCommand c.args.words.now c.in-Ok-Some.command = search rules in
-    let same = one_command c.args.words.now c.in-Ok-Some.command (Load count) are asked in
-    absurd (c.in-Err-DoorFault.ensures.leaves.2.4.serves (ap Err c.in-Err-DoorFault.field-0-is)
-    (subst IsNoServer (sym same) tt))
+    let deserved_here = subst (λ command. (terms_of command).Refuses bytes line) same deserved in
+    let reads = reads_of terms laws bytes line deserved_here in
+    absurd (used_undeserved terms laws reads.0 reads.1 before now bytes told _ line
+    (c.in-Err-DoorFault.ensures.leaves.2.4.behind DoorFault (ap Err c.in-Err-DoorFault.field-0-is) tt) deserved_here)
 
 pub answer_command-requires-after_bounds : goal.answer_command-requires-after_bounds
-answer_command-requires-after_bounds g c κs bounds = λ count generates.
+answer_command-requires-after_bounds g c κs bounds = λ count same.
     let are : AreCommand c.args.words.now c.in-Ok-Some.command = search rules in
-    let same = loads c.in-Ok-Some.command count generates in
     c.a_load_has_a_bound.ensures (map string_bytes c.args.words.now) count (are ∙ ap Some same)

@@ -21,5 +21,5 @@ returns-clause-leaves g c = λ bytes.
       left.0,
       left.1,
       load_done c.args.count bytes (g.R.Rack.made c.args.rack.now) (g.R.Rack.made c.run_load.new.rack) (map shown left.0)
-          c.in_ok-load.load c.done_status.result c.done_status.ensures left.2,
+          c.in_ok-load.load c.done_status.result c.done_status.ensures.status left.2,
     )
