@@ -6,7 +6,7 @@ ghost use Rattle.command_words.specs.App.{ipbus};
 ghost use Rattle.command_words.specs.Commands.{command_of};
 ghost use Rattle.command_words.specs.Forms.{Form, words_of, ArePlain, IsNamed};
 ghost use Rattle.command_words.specs.declared.command.Command.TheVariants.{Run, Check, Serve, Load};
-ghost use Rattle.command_words.specs.declared.command.Command.TheVariants.{Describe, Undescribe, Save, Apply};
+ghost use Rattle.command_words.specs.declared.command.Command.TheVariants.{Record, Describe, Undescribe, Save, Apply};
 
 /// The words of a command are taken by clap.
 pub fn the_words_of_a_command_are_taken()
@@ -30,6 +30,7 @@ pub fn words_by_hand()
     ensures check { command_of (codes "check" ∷ codes "main" ∷ []) ≡ Some (Check (codes "main")) }
     ensures serve { command_of (codes "serve" ∷ codes "50001" ∷ codes "64" ∷ []) ≡ Some (Serve 50001 64) }
     ensures load { command_of (codes "load" ∷ codes "100000" ∷ []) ≡ Some (Load 100000) }
+    ensures record_ { command_of (codes "record" ∷ []) ≡ Some Record }
     ensures describe { command_of (codes "describe" ∷ []) ≡ Some Describe }
     ensures undescribe { command_of (codes "undescribe" ∷ []) ≡ Some Undescribe }
     ensures save { command_of (codes "save" ∷ []) ≡ Some Save }

@@ -5,7 +5,7 @@ use crate::configurations::configuration_notes;
 use crate::escaping::shown;
 use crate::script_words::word_at_fault;
 use crate::sentences::{
-    NOT_SERVED, POLICY, TOO_LONG, of_board, of_compiling, of_document, of_script, of_table,
+    NOT_ONE_BOARD, NOT_SERVED, NOT_SIMULATED, POLICY, TOO_LONG, of_board, of_compiling, of_document, of_script, of_table,
 };
 use command_words::Command;
 use ipb_base::NoMemory;
@@ -76,6 +76,11 @@ fn place_and_rule(alloc: Global, refusal: &Refusal) -> Result<String, NoMemory> 
         }
         Refusal::Policy { path } => policy_note(alloc, path.as_str()),
         Refusal::NoServe => note(alloc, NOT_SERVED),
+        Refusal::OneBoard => note(alloc, NOT_ONE_BOARD),
+        Refusal::NotSim { name } => {
+            let name = shown(alloc, name.as_str())?;
+            Ok(format!(in alloc; "board {name}: {NOT_SIMULATED}")?)
+        }
         Refusal::Compile { table, path, why } => {
             let rule = of_compiling(*why);
             compile_note(alloc, table.as_str(), path.as_str(), rule)

@@ -15,6 +15,12 @@ pub(crate) const POLICY: &str =
 pub(crate) const NOT_SERVED: &str =
     "a policy binds scripts and no connections, so a document that has one is not served";
 
+pub(crate) const NOT_ONE_BOARD: &str =
+    "a capture is of one board, so a document with several is not recorded";
+
+pub(crate) const NOT_SIMULATED: &str =
+    "it is on a network, and only the traffic of a simulated board is recorded";
+
 pub(crate) const LONG_CAPTURE: &str = "the capture has more than 134217728 bytes";
 
 pub(crate) const LONG_DESCRIPTION: &str = "the description has more than 134217728 bytes";

@@ -17,7 +17,7 @@ use Rattle.script_lang.specs.declared.session.Session.{Session}
 use Rattle.script_lang.specs.Scripts.{LineFault, script_faults, steps_of}
 use Rattle.session_input.specs.declared.refusal.Refusal.{Refusal}
 use Rattle.session_input.specs.declared.refusal.Refusal.TheVariants.{TooLong, Document, Table, Policy, NoServe}
-use Rattle.session_input.specs.declared.refusal.Refusal.TheVariants.{Compile, Board, Script}
+use Rattle.session_input.specs.declared.refusal.Refusal.TheVariants.{OneBoard, NotSim, Compile, Board, Script}
 use Rattle.session_input.specs.Below.{TableLaws}
 use Rattle.session_input.specs.Deserved.{IsToldFirst, ranges_of, Compiles, HasIndex, HasBus, AreCompiled}
 use Rattle.session_input.specs.Deserved.{AreSteps}
@@ -65,6 +65,8 @@ of_bus b (Document path why) told = absurd told
 of_bus b (Table table path why) told = absurd told
 of_bus b (Policy path) told = absurd told
 of_bus b NoServe told = absurd told
+of_bus b OneBoard told = absurd told
+of_bus b (NotSim name) told = absurd told
 of_bus b (Compile table path why) told = absurd told
 of_bus b (Script client line why) told = absurd told
 
@@ -82,6 +84,8 @@ of_table tables root (Document path why) told = absurd told
 of_table tables root (Table table path why) told = absurd told
 of_table tables root (Policy path) told = absurd told
 of_table tables root NoServe told = absurd told
+of_table tables root OneBoard told = absurd told
+of_table tables root (NotSim name) told = absurd told
 of_table tables root (Board name why) told = absurd told
 of_table tables root (Script client line why) told = absurd told
 
@@ -99,6 +103,8 @@ of_line faults (Document path why) told = absurd told
 of_line faults (Table table path why) told = absurd told
 of_line faults (Policy path) told = absurd told
 of_line faults NoServe told = absurd told
+of_line faults OneBoard told = absurd told
+of_line faults (NotSim name) told = absurd told
 of_line faults (Compile table path why) told = absurd told
 of_line faults (Board name why) told = absurd told
 

@@ -13,7 +13,7 @@ use Rattle.script_lang.specs.Paths.{path as path_text}
 use Rattle.toml.specs.Data.{Data, Members, get_member}
 use Rattle.session_input.specs.declared.refusal.Refusal.{Refusal}
 use Rattle.session_input.specs.declared.refusal.Refusal.TheVariants.{TooLong, Document, Table, Policy, NoServe}
-use Rattle.session_input.specs.declared.refusal.Refusal.TheVariants.{Compile, Board, Script}
+use Rattle.session_input.specs.declared.refusal.Refusal.TheVariants.{OneBoard, NotSim, Compile, Board, Script}
 use Rattle.session_input.specs.Below.{DocumentLaws, TableLaws}
 use Rattle.session_input.specs.Numbers.{document_bytes}
 use Rattle.session_input.specs.Deserved.{AreSteps, BreaksInRun, BreaksInServe, BreaksInCheck, BreaksDocument, BreaksParts}
@@ -45,6 +45,8 @@ of_parts rest value (Table table path why) broken = inl (in_table table path why
 of_parts rest value (Policy path) broken = inr (path, refl, broken.0, broken.1)
 of_parts rest value TooLong broken = absurd broken
 of_parts rest value NoServe broken = absurd broken
+of_parts rest value OneBoard broken = absurd broken
+of_parts rest value (NotSim name) broken = absurd broken
 of_parts rest value (Compile table path why) broken = absurd broken
 of_parts rest value (Board name why) broken = absurd broken
 of_parts rest value (Script client line why) broken = absurd broken
@@ -113,6 +115,8 @@ kind_of bytes (Document path DuplicateBoard) d = inr (inr d)
 kind_of bytes (Table table path why) d = inr (inr d)
 kind_of bytes (Policy path) d = inr (inr d)
 kind_of bytes NoServe d = inr (inr d)
+kind_of bytes OneBoard d = inr (inr d)
+kind_of bytes (NotSim name) d = inr (inr d)
 kind_of bytes (Compile table path why) d = inr (inr d)
 kind_of bytes (Board name why) d = inr (inr d)
 kind_of bytes (Script client line why) d = inr (inr d)

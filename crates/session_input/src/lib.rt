@@ -8,6 +8,7 @@ pub mod laws;
 mod lines;
 mod names;
 mod reading;
+mod recording;
 mod refusal;
 
 pub use checking::{check_buses, indexes_of};
@@ -16,4 +17,5 @@ pub use reading::{
     Runnable, Stated, compiled, parse_input, read_document, read_for_check, read_for_run,
     read_for_serve, under_policy,
 };
+pub use recording::read_for_record;
 pub use refusal::{MAX_DOCUMENT, Refusal, Unread};

@@ -88,7 +88,7 @@ pub fn read_for_check(alloc: Global, bytes: &[u8], table: &str) -> Result<Index,
 }
 
 /// The session that bytes stand for, and its policy.
-fn read(alloc: Global, bytes: &[u8]) -> Result<Stated, Unread>
+pub(crate) fn read(alloc: Global, bytes: &[u8]) -> Result<Stated, Unread>
     ensures fits { OnOk result (length bytes.now ≤ document_bytes) }
     ensures stands { IfOk result (λ read. spec.StandsForSession bytes.now read.session read.policy) }
     ensures within { IfOk result (λ read. IsWithin read.session) }
@@ -188,7 +188,7 @@ fn refused(refusal: SessionRefusal) -> Unread
 }
 
 /// The steps of a session that can be run, under a policy where there is one.
-fn ruled_steps(
+pub(crate) fn ruled_steps(
     alloc: Global,
     session: &Session,
     policy: Option<Policy>,

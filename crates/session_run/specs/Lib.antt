@@ -1,4 +1,5 @@
 pub mod Links
+pub mod Stood
 pub mod Clients
 pub mod Lanes
 pub mod Boards
