@@ -107,12 +107,6 @@ module _ {L : Type 0} (faults quiets gots held : L → ℕ) (telling : L → Opt
       record { failed = omega (arith, down); untouched = untouched }
   told_as link (NoMemory after) ready told silent quiet down untouched = tt
 
-  begins_there : (old new : Option Telling) → IfTelling old new (StaysFresh settings) → IfSome new (CanBegin settings)
-  begins_there None None stays = tt
-  begins_there None (Some t) stays = absurd stays
-  begins_there (Some old) None stays = absurd stays
-  begins_there (Some old) (Some t) stays = stays.begins
-
   pub is_reached : (spec : BoardSpec) (link : L) (board : Greeted L) → telling link ≡ telling_for spec.link
       → IfTelling (telling link) (telling (link_of board)) (StaysFresh settings)
       → IfReady board (λ lane. lane ≡ opened lane.link settings lane.status)
@@ -131,7 +125,6 @@ module _ {L : Type 0} (faults quiets gots held : L → ℕ) (telling : L → Opt
       record {
         board' = board_of_spec settings spec.link (telling (link_of board)) call;
         untouched = untouched;
-        begins = begins_there (telling_for spec.link) (telling (link_of board)) call;
         as_told = told_as link board ready told silent quiet down untouched;
       }
 

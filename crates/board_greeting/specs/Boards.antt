@@ -8,7 +8,7 @@ use Rattle.lane_record.specs.Coding.{Head}
 use Rattle.hub_lane.specs.Records.{head_of}
 use Rattle.hub_lane.specs.declared.greeting.Greeted.{Greeted}
 use Rattle.hub_lane.specs.declared.greeting.Greeted.TheVariants.{Ready, Silent, Down, NoMemory}
-use Rattle.hub_lane.specs.Greeting.{CanBegin, link_of}
+use Rattle.hub_lane.specs.Greeting.{link_of}
 use Rattle.script_plans.specs.declared.greeting.Greeting.{Greeting}
 use Rattle.script_plans.specs.declared.greeting.Greeting.TheVariants as greeting
 use Rattle.board_bus.specs.Cells.{CellMap}
@@ -40,12 +40,11 @@ IsGreetedAs settings (Silent link rounds) telling shown = IsSilentRun settings s
 IsGreetedAs settings (Down link) telling shown = IsDownRun shown
 IsGreetedAs settings (NoMemory link) telling shown = Unit {0}
 
--- The board of this document was greeted, and executed nothing; over a link that tells a run can begin.
+-- The board of this document was greeted, and executed nothing.
 pub record IsReached {L : Type 0} (settings : Limits) (spec : BoardSpec) (greeted : Greeted L)
     (telling : Option Telling) (shown : LinkReport) : Type 0 where
   pub board' : IsBoardOf spec.link shown.board
   pub untouched : IsUntouched shown
-  pub begins : IfSome telling (CanBegin settings)
   pub as_told : IsGreetedAs settings greeted telling shown
 
 -- what a link shows; the first five are what contracts see of it

@@ -8,7 +8,7 @@
 --   the text                     capture_text                            capture_reader/specs/CaptureText
 --   what the capture proves      IsProved                                capture_reader/specs/Proved
 --   the datagrams of the link    IsTrafficOf                             link_tap/specs/Traffic
-use Rattle.std.specs.Prelude.{◌≡◌, ℕ, ◌≤◌, ◌==◌, ◌&&◌, Bool, List, [], ◌∷◌, ◌++◌, length, sum_by, Option, Some, None, IfSome}
+use Rattle.std.specs.Prelude.{◌≡◌, ℕ, ◌==◌, ◌&&◌, Bool, List, [], ◌∷◌, ◌++◌, length, sum_by, Option, Some, None, IfSome}
 use Rattle.packet_ids.specs.Identifier.{IsIdentifier}
 use Rattle.board_node.specs.declared.spec.BoardSpec.{BoardSpec}
 use Rattle.board_node.specs.declared.spec.LinkSpec.{LinkSpec}
@@ -28,11 +28,6 @@ use Rattle.capture_reader.specs.declared.capture.Capture.{Capture}
 use Rattle.capture_reader.specs.CaptureText.{IsCapture, capture_text}
 use Rattle.capture_reader.specs.Proved.{IsProved}
 use Rattle.link_tap.specs.Traffic.{IsTrafficOf}
-use Rattle.capture_laws.specs.Captures.{bodies_in}
-use Rattle.ipb_base.specs.Lists.{IsPrefix}
-use Rattle.world_model.specs.Board.{executed}
-use Rattle.lane_history.specs.Runs.{ExecutedSome}
-use Rattle.std.specs.List.{AllByRecursion}
 
 -- the identifier that the one board of a session expects first
 abbrev pub first_of : LinkSpec → Option ℕ
@@ -75,38 +70,22 @@ pub record IsRecordOf (bytes : List ℕ) (links : List LinkReport) (status : ℕ
   pub is_proved : IsProved capture proved
   pub told : status ≡ told_status (all_good (transcript_of steps runs).clients && (proved == body_count runs))
 
--- Of the link of the one board of a session whose clients have these steps, where it tells:
-pub record ShowsTraffic (session : Session) (steps : List (List Step)) (text : List ℕ) (telling : Telling) : Type 0
-  where
-    -- the text is that of a capture from the board's first identifier on
-    pub capture : Capture
-    pub first : capture.first ≡ telling.told.board.first
-    pub has_text : IsCapture capture
-    pub spelled : text ≡ capture_text capture
-    -- what was sent are the datagrams for the board in the air of the link, all of them in order, and what was received
-    -- are those that it handed out, in order
-    pub traffic : IsTrafficOf telling capture.items
-    -- the bodies of the packets that were sent for the first time are a merge of bodies that the scripts ask of the
-    -- board, some of each client's, in its order
-    pub asked : AllByRecursion (λ (spec : BoardSpec). ExecutedSome spec 0 steps (bodies_in capture)) session.boards
-    -- the board executed a front of them, and as many as are proved at least
-    pub in_order : IsPrefix (executed telling.told.board) (bodies_in capture)
-    pub at_least : (proved : ℕ) → IsProved capture proved → proved ≤ length (executed telling.told.board)
+-- Of the link of the one board, where it tells:
+pub record ShowsTraffic (text : List ℕ) (telling : Telling) : Type 0 where
+  -- the text is that of a capture from the board's first identifier on
+  pub capture : Capture
+  pub first : capture.first ≡ telling.told.board.first
+  pub has_text : IsCapture capture
+  pub spelled : text ≡ capture_text capture
+  -- what was sent are the datagrams for the board in the air of the link, all of them in order, and what was received
+  -- are those that it handed out, in order
+  pub traffic : IsTrafficOf telling capture.items
 
 -- One link was given back, behind those that were kept before, and the text shows its traffic.
-pub record GivesBackTapped {L : Type 0} (tells : L → Option Telling) (session : Session) (steps : List (List Step))
-    (old new : List L) (text : List ℕ) : Type 0 where
+pub record GivesBackTapped {L : Type 0} (tells : L → Option Telling) (old new : List L) (text : List ℕ) : Type 0 where
   pub link : L
   pub kept : new ≡ old ++ link ∷ []
-  pub shows : IfSome (tells link) (ShowsTraffic session steps text)
-
--- So of the session that the bytes stand for.
-pub record RecordsLink {L : Type 0} (tells : L → Option Telling) (bytes : List ℕ) (old new : List L) (text : List ℕ)
-    : Type 0 where
-  pub session : Session
-  pub steps : List (List Step)
-  pub recordable : IsRecordable bytes session steps
-  pub back : GivesBackTapped tells session steps old new text
+  pub shows : IfSome (tells link) (ShowsTraffic text)
 
 -- At every status: the bytes stand for such a session, and the links are that of its board, or none.
 pub record RecordedSomeOf (bytes : List ℕ) (links : List LinkReport) : Type 0 where

@@ -1,6 +1,6 @@
 //! What `record` makes of the bytes of a document.
 
-ghost use Rattle.std.specs.Prelude.{◌≡◌, ◌≢◌, ◌≤◌, ◌∷◌, ◌==◌, ◌<◌, ◌^◌, [], length, Some, Err, IfOk, IfSome, OnOk};
+ghost use Rattle.std.specs.Prelude.{◌≡◌, ◌≢◌, ◌≤◌, ◌∷◌, ◌==◌, ◌<◌, ◌^◌, [], length, Some, Err, IfOk, IfSome};
 ghost use Rattle.std.specs.List.{AllByRecursion, sum_by};
 ghost use Rattle.std.specs.Vec.{vec_capacity, vec_len};
 ghost use Rattle.ipb_base.specs.Faults.{Rose};
@@ -13,7 +13,6 @@ ghost use Rattle.session_input.specs.Recording.{IsOneSimulated, IsSimulated};
 ghost use Rattle.board_greeting.specs.Boards.{HasMemory, IsReached, shown_by};
 ghost use Rattle.board_greeting.specs.Links.{CanBeReached, Keeps};
 ghost use Rattle.session_run.specs.Links.{AreLeft};
-ghost use Rattle.session_run.specs.Stood.{HasStood};
 ghost use Rattle.run_laws.specs.Steps.{MayRun};
 ghost use Rattle.command_terms.specs.Faults.{RisesOnlyAt};
 ghost use Rattle.command_terms.specs.Leaving.{IsRunFailure, Leaves};
@@ -21,7 +20,7 @@ ghost use Rattle.command_terms.specs.Numbers.{refused_status};
 ghost use Rattle.command_terms.specs.Outside.{no_pairs};
 ghost use Rattle.capture_reader.specs.CaptureText.{AreItems};
 ghost use Rattle.record_command.specs.Headline as spec;
-ghost use Rattle.record_command.specs.Headline.{GivesBackTapped, RecordsLink};
+ghost use Rattle.record_command.specs.Headline.{GivesBackTapped};
 ghost use Rattle.record_command.specs.Steps.{RecordLeaves, WritesOf};
 ghost use Rattle.record_command.specs.Taps.{tapped};
 ghost use Rattle.record_command.specs.Terms.{record_terms};
@@ -30,7 +29,6 @@ use crate::taps::Taps;
 use board_bus::laws::words_stay_words;
 use board_greeting::into_link;
 use board_node::{BoardSpec, LinkSpec};
-use capture_laws::laws::a_capture_of_a_lane_proves_what_was_executed;
 use capture_reader::{Capture, Id, proved, write_capture};
 use client_threads::Gate;
 use command_terms::{Answer, done_status, refused};
@@ -73,7 +71,7 @@ pub fn record_document<R: Rack, T: Threads + Wait + Sync, G: Gate>(
         (λ links. Leaves IsRunFailure RunFault.Rack record_terms bytes.now (R.made rack.old) (R.made rack.new) result
         (no_pairs links)) }
     ensures traffic { IfOk result (λ answer. answer.status ≢ refused_status
-        → RecordsLink R.L.telling bytes.now (R.kept rack.old) (R.kept rack.new) answer.text.items) }
+        → GivesBackTapped R.L.telling (R.kept rack.old) (R.kept rack.new) answer.text.items) }
     ensures refused { IfOk result (λ answer. answer.status ≡ refused_status → rack.new ≡ rack.old) }
     ensures rack_faults { RisesOnlyAt (Err RunFault.Rack) result (R.faults rack.old) (R.faults rack.new) }
 {
@@ -102,10 +100,9 @@ fn recorded<R: Rack, T: Threads + Wait + Sync, G: Gate>(
     ensures leaves { Keeps R.L.faults R.L.quiets R.L.gots R.L.held R.L.telling (R.kept rack.old) (R.kept rack.new)
         (RecordLeaves session.now steps.now (R.made rack.old) (R.made rack.new) result) }
     ensures traffic { IfOk result (λ answer.
-        GivesBackTapped R.L.telling session.now steps.now (R.kept rack.old) (R.kept rack.new) answer.text.items) }
+        GivesBackTapped R.L.telling (R.kept rack.old) (R.kept rack.new) answer.text.items) }
     ensures rack_faults { RisesOnlyAt (Err RunFault.Rack) result (R.faults rack.old) (R.faults rack.new) }
 {
-    a_capture_of_a_lane_proves_what_was_executed();
     let boards = session.boards.as_slice();
     let board = &boards[0];
     let first = first_of(&board.link);
@@ -208,7 +205,6 @@ fn run_tapped<L: Link + Send + Drop, T: Threads + Wait + Sync, G: Gate>(
         (shown_by L.faults L.quiets L.gots L.held L.telling result.0.link ∷ [])) }
     ensures left { AreLeft 0 specs.now steps.now
         (shown_by L.faults L.quiets L.gots L.held L.telling result.0.link ∷ []) }
-    ensures stood { OnOk result.1 (IfSome (L.telling result.0.link) (HasStood settings specs.now steps.now)) }
 {
     a_lane_left_at_any_moment_executed_a_merge();
     if is_out_of_memory(&greeted) {

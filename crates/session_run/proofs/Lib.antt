@@ -9,7 +9,6 @@ pub mod Idle
 pub mod PlanningLanes
 pub mod HubRuns
 pub mod Rejoining
-pub mod Stood
 pub mod Sessions
 pub mod Pairs
 pub mod Plans

@@ -113,14 +113,14 @@ none_came faults quiets gots held tells settings scripts position (s ∷ specs) 
 none_came faults quiets gots held tells settings scripts position (s ∷ specs) (Silent link rounds ∷ boards) news long
     memory
     are gone = (
-      (record { board' = are.0.board'; untouched = are.0.untouched; as_told = are.0.as_told }, are.0.begins),
+      record { board' = are.0.board'; untouched = are.0.untouched; as_told = are.0.as_told },
       none_came faults quiets gots held tells settings scripts (position + 1) specs boards news (omega (arith, long))
           memory.1
           are.1 gone,
     )
 none_came faults quiets gots held tells settings scripts position (s ∷ specs) (Down link ∷ boards) news long memory are
     gone = (
-      (record { board' = are.0.board'; untouched = are.0.untouched; as_told = are.0.as_told }, are.0.begins),
+      record { board' = are.0.board'; untouched = are.0.untouched; as_told = are.0.as_told },
       none_came faults quiets gots held tells settings scripts (position + 1) specs boards news (omega (arith, long))
           memory.1
           are.1 gone,
@@ -165,7 +165,7 @@ all_came faults quiets gots held tells settings scripts position (s ∷ specs) (
 all_came faults quiets gots held tells settings scripts position (s ∷ specs) (Silent link rounds ∷ boards) news parts
     long
     memory are gone ran = (
-      (record { board' = are.0.board'; untouched = are.0.untouched; as_told = are.0.as_told }, are.0.begins),
+      record { board' = are.0.board'; untouched = are.0.untouched; as_told = are.0.as_told },
       all_came faults quiets gots held tells settings scripts (position + 1) specs boards news parts (omega (
         arith,
         long,
@@ -175,7 +175,7 @@ all_came faults quiets gots held tells settings scripts position (s ∷ specs) (
 all_came faults quiets gots held tells settings scripts position (s ∷ specs) (Down link ∷ boards) news parts long
     memory are
     gone ran = (
-      (record { board' = are.0.board'; untouched = are.0.untouched; as_told = are.0.as_told }, are.0.begins),
+      record { board' = are.0.board'; untouched = are.0.untouched; as_told = are.0.as_told },
       all_came faults quiets gots held tells settings scripts (position + 1) specs boards news parts (omega (
         arith,
         long,

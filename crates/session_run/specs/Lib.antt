@@ -1,5 +1,4 @@
 pub mod Links
-pub mod Stood
 pub mod Clients
 pub mod Lanes
 pub mod Boards

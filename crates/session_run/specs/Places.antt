@@ -4,7 +4,6 @@ use Rattle.world_core.specs.Telling.{Telling}
 use Rattle.world_model.specs.Settings.{Limits}
 use Rattle.board_node.specs.declared.spec.BoardSpec.{BoardSpec}
 use Rattle.script_steps.specs.declared.operation.Step.{Step}
-use Rattle.hub_lane.specs.Greeting.{CanBegin}
 use Rattle.script_plans.specs.declared.board_run.ClientPart.{ClientPart}
 use Rattle.lane_history.specs.Links.{LinkReport}
 use Rattle.board_greeting.specs.Places.{IsIdleBoard}
@@ -19,7 +18,7 @@ IsCameOf tells shows settings scripts position spec (board.Live lane parts) =
     IsStoppedLane settings scripts position spec (tells lane.link) lane
     × IfSome parts (λ there. IsRunOn scripts position lane there)
 IsCameOf tells shows settings scripts position spec (board.Idle told link) =
-    IsIdleBoard settings spec told (shows link) × IfSome (tells link) (CanBegin settings)
+    IsIdleBoard settings spec told (shows link)
 
 -- the same of each board, the first of which has this position
 abbrev pub AreCameOf : {L : Type 0} → (L → Option Telling) → (L → LinkReport) → Limits → List (List Step) → ℕ

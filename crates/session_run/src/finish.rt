@@ -9,7 +9,6 @@ ghost use Rattle.session_run.specs.Boards.{IsNamed, OnRun};
 ghost use Rattle.session_run.specs.Lanes.{IsRunOn, IsStoppedLane};
 ghost use Rattle.session_run.specs.Links.{AreLeft, IsLeft, Keeps};
 ghost use Rattle.session_run.specs.Places.{AreCameOf, IsCameOf};
-ghost use Rattle.session_run.specs.Stood.{AllStood, WasAsked};
 
 use board_greeting::{Board, Rejoined, close_lane};
 use board_node::BoardSpec;
@@ -25,7 +24,6 @@ use script_plans::{BoardRun, ClientPart, ClientParts, Greeting, plan_on};
 use script_steps::Steps;
 use std::alloc::Global;
 use world_core::Link;
-use world_core::laws::each_event_leads_to_a_state_of_a_run;
 
 /// The run of a board under its name, where it has parts.
 fn named(
@@ -62,11 +60,9 @@ fn finish_live<L: Link>(
     ensures ran { IfOk result.1 (λ run. IsRunOver settings spec.now position scripts.now run
         (shown_by L.faults L.quiets L.gots L.held L.telling result.0)) }
     ensures left { IsLeft spec.now position scripts.now (shown_by L.faults L.quiets L.gots L.held L.telling result.0) }
-    ensures stood { IfSome (L.telling result.0) (WasAsked settings spec.now position scripts.now) }
 {
     a_finished_lane_is_a_live_run();
     a_lane_left_at_any_moment_executed_a_merge();
-    lane.is_sound();
     let payload = lane.payload();
     let run = named(alloc, spec, Greeting::Live { payload }, parts);
     (close_lane(lane), run)
@@ -111,10 +107,8 @@ fn finish_board<L: Link>(
     ensures ran { IfOk result.1 (λ run. IsRunOver settings spec.now position scripts.now run
         (shown_by L.faults L.quiets L.gots L.held L.telling result.0)) }
     ensures left { IsLeft spec.now position scripts.now (shown_by L.faults L.quiets L.gots L.held L.telling result.0) }
-    ensures stood { IfSome (L.telling result.0) (WasAsked settings spec.now position scripts.now) }
 {
     a_lane_left_at_any_moment_executed_a_merge();
-    each_event_leads_to_a_state_of_a_run();
     match board {
         Board::Live { lane, came } => finish_live(
             alloc, settings, lane, came, spec, position, scripts,
@@ -156,7 +150,6 @@ pub(crate) fn finish_boards<R: Rack>(
         (R.kept rack.new) (AreRunsOver settings 0 specs.now scripts.now runs.items)) }
     ensures left { Keeps R.L.faults R.L.quiets R.L.gots R.L.held R.L.telling (R.kept rack.old) (R.kept rack.new)
         (λ links. AreLeft 0 specs.now scripts.now links × (length links ≡ length specs.now)) }
-    ensures stood { AllStood R.L.telling settings specs.now scripts.now (R.kept rack.old) (R.kept rack.new) }
     ensures made { R.made rack.new ≡ R.made rack.old }
     ensures faults { R.faults rack.new ≡ R.faults rack.old }
 {

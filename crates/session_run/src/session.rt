@@ -10,7 +10,6 @@ ghost use Rattle.lane_history.specs.Runs.{AreRunsOver};
 ghost use Rattle.board_greeting.specs.Boards.{AreReached, HasMemory, HasRoom, shown_by};
 ghost use Rattle.board_greeting.specs.Places.{IsSplitOf};
 ghost use Rattle.session_run.specs.Links.{AreLeft, CanBeReached, Keeps};
-ghost use Rattle.session_run.specs.Stood.{AllStood};
 
 use crate::finish::finish_boards;
 use crate::lanes::run_lanes;
@@ -28,7 +27,6 @@ use std::alloc::Global;
 use std::marker::Sync;
 use std::sync::Wait;
 use std::thread::Threads;
-use world_core::laws::each_event_leads_to_a_state_of_a_run;
 
 /// Why a session has no runs.
 #[derive(Clone, Copy, PartialEq, Eq)]
@@ -99,7 +97,6 @@ fn run_split<R: Rack, T: Threads + Wait + Sync, G: Gate>(
         (R.kept rack.new) (AreRunsOver settings 0 specs.now scripts.now runs.items)) }
     ensures left { Keeps R.L.faults R.L.quiets R.L.gots R.L.held R.L.telling (R.kept rack.old) (R.kept rack.new)
         (λ links. AreLeft 0 specs.now scripts.now links × (length links ≡ length specs.now)) }
-    ensures stood { AllStood R.L.telling settings specs.now scripts.now (R.kept rack.old) (R.kept rack.new) }
     ensures made { R.made rack.new ≡ R.made rack.old }
     ensures faults { R.faults rack.new ≡ R.faults rack.old }
 {
@@ -139,12 +136,10 @@ pub fn run_greeted<R: Rack, T: Threads + Wait + Sync, G: Gate>(
         (R.kept rack.new) (AreRunsOver settings 0 specs.now scripts.now runs.items)) }
     ensures left { Keeps R.L.faults R.L.quiets R.L.gots R.L.held R.L.telling (R.kept rack.old) (R.kept rack.new)
         (λ links. AreLeft 0 specs.now scripts.now links × (length links ≡ length specs.now)) }
-    ensures stood { AllStood R.L.telling settings specs.now scripts.now (R.kept rack.old) (R.kept rack.new) }
     ensures made { R.made rack.new ≡ R.made rack.old }
     ensures faults { R.faults rack.new ≡ R.faults rack.old }
 {
     a_lane_left_at_any_moment_executed_a_merge();
-    each_event_leads_to_a_state_of_a_run();
     match split_boards(alloc, boards) {
         Ok(split) => run_split(rt, alloc, settings, split, specs, scripts, rack, gate),
         Err(boards) => {

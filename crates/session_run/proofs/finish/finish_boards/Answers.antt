@@ -1,10 +1,8 @@
-use Rattle.std.proofs.Common.{◌∙◌, List, Some, ap, map, refl, subst, sym, arith}
-use Rattle.std.proofs.lemmas.Option.{slice_get-get_or}
+use Rattle.std.proofs.Common.{◌∙◌, List, map, refl, subst, arith}
 use Rattle.std.proofs.lemmas.List.{take_all}
 use Rattle.board_node.specs.declared.spec.BoardSpec.{BoardSpec}
 use Rattle.lane_history.specs.Runs.{AreRunsOver}
 use Rattle.board_greeting.specs.Boards.{shown_by}
-use Rattle.session_run.proofs.Stood.{none_stood, one_more_stood}
 use Rattle.session_run.proofs.Sessions.{board_more, next_board, none_ran, room_for_one, some_left}
 use Rattle.session_run.proofs.finish.finish_boards.Goals as goal
 
@@ -16,8 +14,6 @@ loop-position-init g c =
       so_far = rw c.new-runs.ensures.items (none_ran shows c.args.settings c.args.specs.now c.args.scripts.now
           (g.R.Rack.kept c.args.rack.now));
       left = c.requires.came;
-      stood = none_stood link.telling c.args.settings c.args.specs.now c.args.scripts.now
-          (g.R.Rack.kept c.args.rack.now);
       made = refl;
       faults = refl;
     }
@@ -65,11 +61,6 @@ loop-position-preserved g c =
           c.loop-position-test.true c.index-specs-position.is c.keep.ensures.kept c.finish_board-link.ensures.left
           c.finish_board-link.ensures.ran c.add_run-is_whole.ensures.whole c.add_run-is_whole.ensures.added;
       left = next.later;
-      stood = one_more_stood link.telling c.args.settings c.args.specs.now c.args.scripts.now
-          (g.R.Rack.kept c.args.rack.now) (g.R.Rack.kept c.loop-position.rack) (g.R.Rack.kept c.keep.new.self)
-          c.finish_board-link.result.0 c.index-specs-position.result k c.loop-position.invariant.stood
-          (slice_get-get_or c.args.specs.now k c.index-specs-position.result c.loop-position-test.true
-          ∙ ap Some (sym c.index-specs-position.is)) c.finish_board-link.ensures.stood c.keep.ensures.kept;
       made = c.keep.ensures.made ∙ c.loop-position.invariant.made;
       faults = c.keep.ensures.faults ∙ c.loop-position.invariant.faults;
     }

@@ -1,7 +1,6 @@
 use Rattle.std.proofs.Common.{◌≡◌, drop}
 use Rattle.board_greeting.specs.Boards.{shown_by}
 use Rattle.session_run.specs.Places.{AreCameOf}
-use Rattle.session_run.specs.Stood.{AllStood}
 use Rattle.session_run.proofs.Sessions.{RanBoards}
 use Rattle.session_run.proofs.finish.finish_boards.Given as goal
 
@@ -14,7 +13,6 @@ invariant-loop-position g l =
       so_far : RanBoards shows l.settings l.position l.specs l.scripts l.runs.items l.is_whole
           (g.R.Rack.kept l.initial.rack) (g.R.Rack.kept l.rack);
       left : AreCameOf link.telling shows l.settings l.scripts l.position (drop l.position l.specs) l.boards;
-      stood : AllStood link.telling l.settings l.specs l.scripts (g.R.Rack.kept l.initial.rack) (g.R.Rack.kept l.rack);
       made : g.R.Rack.made l.rack ≡ g.R.Rack.made l.initial.rack;
       faults : g.R.Rack.faults l.rack ≡ g.R.Rack.faults l.initial.rack;
     }

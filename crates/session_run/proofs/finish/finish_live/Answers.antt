@@ -1,5 +1,3 @@
-use Rattle.std.proofs.Common.{subst, sym}
-use Rattle.std.specs.Prelude.{IfSome}
 use Rattle.std.proofs.lemmas.Result.{IfOk-weaker}
 use Rattle.ipb_base.specs.Numbers.{payload_of}
 use Rattle.script_plans.specs.declared.board_run.BoardRun.{BoardRun}
@@ -7,9 +5,7 @@ use Rattle.script_plans.specs.declared.greeting.Greeting.TheVariants.{Live}
 use Rattle.lane_history.specs.Runs.{IsRunOver}
 use Rattle.board_greeting.specs.Boards.{shown_by}
 use Rattle.session_run.specs.Boards.{IsNamed}
-use Rattle.session_run.specs.Stood.{WasAsked}
 use Rattle.session_run.proofs.BoardRuns.{runs_live, stopped_at}
-use Rattle.session_run.proofs.Stood.{lane_asked}
 use Rattle.session_run.proofs.finish.finish_live.Goals as goal
 
 pub returns-clause-ran : goal.returns-clause-ran
@@ -45,16 +41,3 @@ returns-clause-left g c =
           scripts shown (payload_of lane.status.mtu) lane.items lane.outcomes lane.give_ups ended.payload
           c.requires.stopped.some ended.sound;
     }
-
-pub returns-clause-stood : goal.returns-clause-stood
-returns-clause-stood g c =
-    let link = g.L.Link in
-    let lane = c.args.lane in
-    let spec = c.args.spec.now in
-    let scripts = c.args.scripts.now in
-    let ended = c.close_lane.ensures.ended c.args.settings spec (stopped_at c.args.settings scripts c.args.position spec
-    lane (link.telling lane.link) c.requires.stopped) in
-    subst (λ (l : _). IfSome (link.telling l) (WasAsked c.args.settings spec c.args.position scripts))
-    (sym c.close_lane.ensures.link)
-    (lane_asked c.args.settings spec c.args.position scripts (link.telling lane.link) (link.faults lane.link)
-    (link.quiets lane.link) lane c.requires.stopped c.is_sound.ensures ended.payload)

@@ -1,11 +1,10 @@
-use Rattle.std.proofs.Common.{◌≡◌, ◌∙◌, ℕ, List, Vec, [], refl, ap, length, map, subst, sym}
+use Rattle.std.proofs.Common.{◌≡◌, ◌∙◌, ℕ, List, Vec, ap, length, map, subst, sym}
 use Rattle.std.proofs.lemmas.List.{length-map}
 use Rattle.hub_lane.specs.declared.greeting.Greeted.{Greeted}
 use Rattle.hub_lane.specs.Greeting.{link_of}
 use Rattle.board_greeting.specs.Boards.{AreReached, HasRoom, shown_by}
 use Rattle.board_greeting.proofs.Boards.{untouched_all}
 use Rattle.session_run.proofs.Sessions.{untouched_are_left}
-use Rattle.session_run.proofs.Stood.{greeted_stood}
 use Rattle.session_run.proofs.session.run_greeted.Goals as goal
 
 pub run_split-requires-clause-reached : goal.run_split-requires-clause-reached
@@ -41,19 +40,3 @@ returns-in-Err-clause-left g c =
             ∙ (ap (λ (l : List (Greeted _)). length l) same ∙ c.requires.all)),
       ),
     )
-
-pub returns-in-Err-clause-stood : goal.returns-in-Err-clause-stood
-returns-in-Err-clause-stood g c =
-    let link = g.R.L.Link in
-    let shows = shown_by link.faults link.quiets link.gots link.held link.telling in
-    let boards = c.in-Err.boards.items in
-    let same : boards ≡ c.args.boards.items =
-    ap (λ (v : Vec (Greeted _) _). v.items) c.in-Err.ensures.given_back in
-    record {
-      links = map (λ (b : Greeted _). link_of b) boards;
-      kept = c.keep_all.ensures.kept;
-      each = greeted_stood c.each_event_leads_to_a_state_of_a_run.ensures.begins
-          c.a_lane_left_at_any_moment_executed_a_merge.ensures.untouched link.faults link.quiets link.gots link.held
-          link.telling c.args.settings c.args.specs.now c.args.scripts.now [] c.args.specs.now boards refl
-          (subst (AreReached link.telling shows c.args.settings c.args.specs.now) (sym same) c.requires.reached);
-    }
