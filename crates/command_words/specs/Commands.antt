@@ -80,4 +80,5 @@ command_of (word ∷ (first ∷ (second ∷ (third ∷ others)))) = None
 
 -- the line for words that are no command
 abbrev pub usage_text : List ℕ
-usage_text = codes "usage: ipbus run | check TABLE | serve PORT COUNT | load COUNT | record | describe | undescribe | save | apply\n"
+usage_text =
+    codes "usage: ipbus run | check TABLE | serve PORT COUNT | load COUNT | record | describe | undescribe | save | apply\n"
