@@ -4,3 +4,4 @@ pub mod Strays
 pub mod Digits
 pub mod Named
 pub mod Bounds
+pub mod Unnamed
