@@ -1,6 +1,7 @@
 -- A board that was greeted over a tap, and what is given back behind it.
-use Rattle.std.proofs.Common.{◌≡◌, ◌∙◌, ℕ, ◌++◌, List, [], ◌∷◌, length, map, Result, Ok, Err, IfOk, Option, Some, None, IfSome}
-use Rattle.std.proofs.Common.{ap, refl, subst, sym, arith}
+use Rattle.std.proofs.Common.{◌≡◌, ◌∙◌, ℕ, ◌++◌, ◌&&◌, Bool, true, false, List, [], ◌∷◌, length, map}
+use Rattle.std.proofs.Common.{Result, Ok, Err, IfOk, Option, Some, None, IfSome}
+use Rattle.std.proofs.Common.{ap, refl, slice_index_or, subst, sym, arith}
 use Rattle.std.specs.Global.{Vec}
 use Rattle.std.specs.List.{AllByRecursion}
 use Rattle.world_core.specs.Telling.{Telling}
@@ -35,6 +36,18 @@ one_is_one [] is = absurd is
 one_is_one (board ∷ []) is = refl
 one_is_one (board ∷ other ∷ boards) is = absurd is
 
+pub at_first : (P : BoardSpec → Type 0) (boards : List BoardSpec) (board : BoardSpec) → IsOneSimulated boards
+    → AllByRecursion P boards → board ≡ slice_index_or boards 0 board → P board
+at_first P [] board one all is = absurd one
+at_first P (first ∷ []) board one all is = subst P (sym is) all.0
+at_first P (first ∷ other ∷ boards) board one all is = absurd one
+
+pub first_is_told : (boards : List BoardSpec) (board : BoardSpec) (first : ℕ) → IsOneSimulated boards
+    → board ≡ slice_index_or boards 0 board → first_of board.link ≡ Some first → first_in boards ≡ Some first
+first_is_told [] board first one is same = absurd one
+first_is_told (b ∷ []) board first one is same = ap (λ (spec : BoardSpec). first_of spec.link) (sym is) ∙ same
+first_is_told (b ∷ other ∷ boards) board first one is same = absurd one
+
 pub left_alone : UntouchedLaw → (specs : List BoardSpec) (scripts : List (List Step)) (shown : LinkReport)
     → length specs ≡ 1
     → ((spec : BoardSpec) → specs ≡ spec ∷ [] → IsBoardOf spec.link shown.board × IsUntouched shown)
@@ -61,7 +74,22 @@ ran_alone shows old new tap none is holds (Ok runs) told =
     at_links shows old new (tap ∷ []) (is ∙ ap (λ (l : List _). l ++ tap ∷ []) (sym none)) (holds runs.items) told
 ran_alone shows old new tap none is holds (Err why) told = tt
 
+pub ran_for : {L E : Type 0} (session : Session) (steps : List (List Step)) (specs : List BoardSpec)
+    (shows : L → LinkReport) (there link : L) (result : Result (Vec BoardRun) E) → specs ≡ session.boards → link ≡ there
+    → IfOk result (λ runs. AreRunsOver session.settings 0 specs steps runs.items (shows there ∷ []))
+    → IfOk result (λ runs. AreRunsOver session.settings 0 session.boards steps runs.items (shows link ∷ []))
+ran_for session steps specs shows there link (Ok runs) same is ran =
+    subst (λ (boards : List BoardSpec). AreRunsOver session.settings 0 boards steps runs.items (shows link ∷ [])) same
+    (subst (λ (l : _). AreRunsOver session.settings 0 specs steps runs.items (shows l ∷ [])) (sym is) ran)
+ran_for session steps specs shows there link (Err why) same is ran = tt
+
 -- ---- what is written
+
+pub both_true : (a b all : Bool) → a ≡ true → all ≡ b → all ≡ (a && b)
+both_true a b all true_is is = is ∙ ap (λ (x : Bool). x && b) (sym true_is)
+
+pub one_false : (a b all : Bool) → a ≡ false → all ≡ a → all ≡ (a && b)
+one_false a b all false_is is = is ∙ (false_is ∙ ap (λ (x : Bool). x && b) (sym false_is))
 
 pub records_of : {E : Type 0} (session : Session) (steps : List (List Step)) (result : Result (Vec BoardRun) E)
     (capture : Capture) (answer : Answer) (links : List LinkReport)
