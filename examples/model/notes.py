@@ -23,6 +23,8 @@ UNWRITTEN = {
     "serve": CUT.format("the connections were served, and only the text is cut or missing"),
     "load": CUT.format("the session was run, and only the text is cut or missing"),
     "check": CUT.format("only the listing is cut or missing"),
+    "save": CUT.format("the registers were read, and only the text is cut or missing"),
+    "apply": CUT.format("the values were written and the registers read, and only the text is cut or missing"),
     "describe": CUT.format("only the description is cut or missing"),
     "undescribe": CUT.format("only the text of the capture is cut or missing"),
     "usage": CUT.format("only the usage line is cut or missing"),
@@ -80,7 +82,8 @@ def operations(count):
 def sentences():
     """The refusals of `docs/FORMATS.md` and what each means, by the second word and the last one of its line."""
     page = (TOP / "docs" / "FORMATS.md").read_text()
-    rows = re.findall(r"^\| `(document|table|policy|compile|board|script|capture|description)` \| `(\w+)` \| (.+) \|$", page, re.MULTILINE)
+    kinds = "document|table|policy|compile|board|state|script|capture|description"
+    rows = re.findall(rf"^\| `({kinds})` \| `(\w+)` \| (.+) \|$", page, re.MULTILINE)
     return {(kind, name): sentence for kind, name, sentence in rows}
 
 

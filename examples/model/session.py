@@ -25,6 +25,9 @@ class Register:
         self.address = address
         self.mask = number(node.get("mask", WHOLE))
         self.is_port = node.get("mode") in ("port", "non-incremental", "non-inc")
+        is_word = node.get("mode", "single") == "single"
+        # one word that is read and written
+        self.is_rw_word = is_word and node.get("permission", "rw") in ("rw", "wr", "readwrite", "writeread")
 
     @property
     def shift(self):

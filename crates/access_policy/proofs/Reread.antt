@@ -1,6 +1,6 @@
 -- A pattern that can be written is read back from its text, and what was read can be written.
-use Rattle.std.proofs.Common.{◌≡◌, ◌≤◌, ◌⊎◌, inl, inr, ℕ, ◌==◌, List, [], ◌∷◌, ◌++◌, map, length, codes, Bool, true, false, not}
-use Rattle.std.proofs.Common.{cond, ◌&&◌, Option, Some, None, option_map, refl, ap, sym, subst, arith, ◌∙◌, bytes_eq, decimal}
+use Rattle.std.proofs.Common.{◌≡◌, ◌≤◌, ◌⊎◌, inl, inr, ℕ, ◌==◌, List, [], ◌∷◌, ◌++◌, length, codes, Bool, true, false, not}
+use Rattle.std.proofs.Common.{cond, ◌&&◌, Some, None, option_map, refl, ap, sym, subst, arith, ◌∙◌, bytes_eq, decimal}
 use Rattle.std.specs.List.{AllByRecursion, join_with_byte, list_all}
 use Rattle.std.proofs.lemmas.Bool.Decides.{nat_tests}
 use Rattle.std.proofs.lemmas.List.{append-nil}
@@ -24,7 +24,7 @@ use Rattle.access_policy.proofs.Decimals.{index_found, index_small}
 use Rattle.access_policy.proofs.NamesBack.{IsWithout, all_so, and_also, both_of, cut_found, digit_no_bracket, digit_no_dot}
 use Rattle.access_policy.proofs.NamesBack.{digits_of, id_bytes, more_parts, no_bracket, no_dot, one_part}
 use Rattle.access_policy.proofs.Parts.{has_part}
-use Rattle.access_policy.proofs.Written.{bound, items_back, mapped, pick, same_some, same_text, when}
+use Rattle.access_policy.proofs.Written.{bound, items_back, mapped, pick, same_some, when}
 
 -- ---- an id is no `*`
 

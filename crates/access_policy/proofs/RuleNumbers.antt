@@ -1,6 +1,6 @@
 -- What is denied names a rule by its number in the policy, or 0.
-use Rattle.std.proofs.Common.{◌≡◌, ℕ, zero, suc, ◌+◌, ◌<◌, ◌≤◌, List, [], ◌∷◌, length, Bool, true, false, cond, Option, Some, None}
-use Rattle.std.proofs.Common.{slice_get, refl, ap, arith, subst}
+use Rattle.std.proofs.Common.{◌≡◌, ℕ, suc, ◌+◌, ◌<◌, ◌≤◌, List, [], ◌∷◌, length, Bool, true, false, cond, Option, Some, None}
+use Rattle.std.proofs.Common.{slice_get, ap, arith}
 use Rattle.std.specs.Option.{option_map_or}
 use Rattle.address_table.specs.declared.kinds.Permission.{Permission}
 use Rattle.address_table.specs.declared.kinds.Permission.TheVariants.{R, W, Rw}
@@ -9,7 +9,7 @@ use Rattle.script_steps.specs.declared.operation.Decision.TheVariants.{Allowed, 
 use Rattle.script_steps.specs.declared.operation.RegOp.{RegOp}
 use Rattle.script_steps.specs.declared.operation.Step.{Step}
 use Rattle.script_steps.specs.declared.operation.Step.TheVariants as steps
-use Rattle.access_policy.specs.Decisions.{access_decision, all_needed, both, decided, decision, needs_of, op_decision, said}
+use Rattle.access_policy.specs.Decisions.{access_decision, all_needed, both, decided, decision, needs_of, said}
 use Rattle.access_policy.specs.Decisions.{speaks_of, step_decision}
 use Rattle.access_policy.specs.Names.{items_of}
 use Rattle.access_policy.specs.declared.policy.Access.{Access}

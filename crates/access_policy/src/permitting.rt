@@ -6,12 +6,11 @@ ghost use Rattle.script_lang.specs.declared.refusal.TheConstants.{MAX_CLIENTS};
 ghost use Rattle.access_policy.specs.Candidates as of;
 ghost use Rattle.access_policy.specs.Decisions as spec;
 ghost use Rattle.access_policy.specs.Names.{items_of};
-ghost use Rattle.access_policy.specs.Patterns.{items_match};
 
 use crate::deciding::{client_matches, has_access, needs_of, said};
 use crate::matching::{board_matches, name_matches, parts_match};
 use crate::names::{NamePart, cut_name};
-use crate::policy::{Access, Pattern, Policy, Rule};
+use crate::policy::{Access, Policy, Rule};
 use address_table::Permission;
 use board_node::BoardSpec;
 use ipb_base::NoMemory;
@@ -193,33 +192,55 @@ fn said_of(rules: &[Candidate<'_>], name: &RegisterName<'_>, needs: Permission) 
     }
 }
 
-/// What the first of some rules says that speaks of an access.
+/// What the first of some rules says that speaks of an access. The form of the name is asked for here and not at each
+/// rule, since there may be many.
 fn first_of(rules: &[Candidate<'_>], name: &RegisterName<'_>, access: Access) -> Decision
     ensures { result ≡ of.first_of access (of.ids_of name.now) rules.now }
 {
+    match name {
+        RegisterName::Written(text) => first_of_written(rules, text, access),
+        RegisterName::Cut(parts) => first_of_cut(rules, parts.as_slice(), access),
+    }
+}
+
+/// The same of a name as it is written.
+fn first_of_written(rules: &[Candidate<'_>], name: &str, access: Access) -> Decision
+    ensures { result ≡ of.first_of access (items_of name.now) rules.now }
+{
     for candidate in rules {
         let rule = candidate.rule;
-        if is_of(rule, name, access) {
+        if is_of_written(rule, name, access) {
             return said(candidate.number, rule.effect);
         }
     }
     Decision::Denied { rule: 0 }
 }
 
-/// Whether a rule speaks of an access to a register.
-fn is_of(rule: &Rule, name: &RegisterName<'_>, access: Access) -> bool
-    ensures { result ≡ of.is_of access (of.ids_of name.now) rule.now }
+/// The same of a name that is cut.
+fn first_of_cut(rules: &[Candidate<'_>], parts: &[NamePart<'_>], access: Access) -> Decision
+    ensures { result ≡ of.first_of access parts.now rules.now }
 {
-    has_access(rule.access, access) && has_name(&rule.pattern, name)
+    for candidate in rules {
+        let rule = candidate.rule;
+        if is_of_cut(rule, parts, access) {
+            return said(candidate.number, rule.effect);
+        }
+    }
+    Decision::Denied { rule: 0 }
 }
 
-/// Whether the items of a pattern match a name.
-fn has_name(pattern: &Pattern, name: &RegisterName<'_>) -> bool
-    ensures { result ≡ items_match pattern.now.items pattern.now.rest (of.ids_of name.now) }
+/// Whether a rule speaks of an access to a register, by its name as it is written.
+fn is_of_written(rule: &Rule, name: &str, access: Access) -> bool
+    ensures { result ≡ of.is_of access (items_of name.now) rule.now }
 {
-    let items = pattern.items.as_slice();
-    match name {
-        RegisterName::Written(text) => name_matches(items, pattern.rest, text),
-        RegisterName::Cut(parts) => parts_match(items, pattern.rest, parts.as_slice()),
-    }
+    let pattern = &rule.pattern;
+    has_access(rule.access, access) && name_matches(pattern.items.as_slice(), pattern.rest, name)
+}
+
+/// The same by a name that is cut.
+fn is_of_cut(rule: &Rule, parts: &[NamePart<'_>], access: Access) -> bool
+    ensures { result ≡ of.is_of access parts.now rule.now }
+{
+    let pattern = &rule.pattern;
+    has_access(rule.access, access) && parts_match(pattern.items.as_slice(), pattern.rest, parts)
 }

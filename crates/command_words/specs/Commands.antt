@@ -5,7 +5,7 @@ use Rattle.std.specs.Str.{bytes_eq}
 use Rattle.ipb_base.specs.Digits.{digits_number, is_between}
 use Rattle.command_words.specs.declared.command.Command.{Command}
 use Rattle.command_words.specs.declared.command.Command.TheVariants.{Run, Check, Serve, Load}
-use Rattle.command_words.specs.declared.command.Command.TheVariants.{Describe, Undescribe}
+use Rattle.command_words.specs.declared.command.Command.TheVariants.{Record, Describe, Undescribe, Save, Apply}
 
 -- a word begins with a hyphen
 abbrev pub is_option : List ℕ → Bool
@@ -22,7 +22,14 @@ number_between least most word = option_and_then (within least most) (digits_num
 
 -- the commands that are a name alone, each beside its name
 abbrev pub alone : List (List ℕ × Command)
-alone = (codes "run", Run) ∷ (codes "describe", Describe) ∷ (codes "undescribe", Undescribe) ∷ []
+alone =
+    (codes "run", Run)
+    ∷ (codes "record", Record)
+    ∷ (codes "describe", Describe)
+    ∷ (codes "undescribe", Undescribe)
+    ∷ (codes "save", Save)
+    ∷ (codes "apply", Apply)
+    ∷ []
 
 -- the first command that has this name
 abbrev pub first_named : List (List ℕ × Command) → List ℕ → Option Command
@@ -73,4 +80,5 @@ command_of (word ∷ (first ∷ (second ∷ (third ∷ others)))) = None
 
 -- the line for words that are no command
 abbrev pub usage_text : List ℕ
-usage_text = codes "usage: ipbus run | check TABLE | serve PORT COUNT | load COUNT | describe | undescribe\n"
+usage_text =
+    codes "usage: ipbus run | check TABLE | serve PORT COUNT | load COUNT | record | describe | undescribe | save | apply\n"

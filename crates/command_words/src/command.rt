@@ -10,7 +10,7 @@ use std::alloc::Global;
 
 /// The line for words that are no command.
 pub const USAGE_LINE: &str =
-    "usage: ipbus run | check TABLE | serve PORT COUNT | load COUNT | describe | undescribe\n";
+    "usage: ipbus run | check TABLE | serve PORT COUNT | load COUNT | record | describe | undescribe | save | apply\n";
 
 /// What the words of a command line ask for (profile).
 #[derive(Drop)]
@@ -24,10 +24,17 @@ pub enum Command {
     Serve { port: u16, count: u32 },
     /// `load COUNT`: a generated session of so many operations is run, 1 to 100,000 of them.
     Load { count: u32 },
+    /// `record`: the scripts of a session document are run on its one board, and the capture of its traffic is written.
+    Record,
     /// `describe`: the description of a capture is written.
     Describe,
     /// `undescribe`: the text of the capture that has a description is written.
     Undescribe,
+    /// `save`: the configuration of the boards of a session document is written.
+    Save,
+    /// `apply`: the values under the key `state` of a session document are put into its boards, and then their
+    /// configuration is written.
+    Apply,
 }
 
 /// The command that words are, if they are one. A word that begins with a hyphen is in none: there are no options, and
@@ -62,8 +69,11 @@ fn alone(name: &str) -> Option<Command>
 {
     match name {
         "run" => Some(Command::Run),
+        "record" => Some(Command::Record),
         "describe" => Some(Command::Describe),
         "undescribe" => Some(Command::Undescribe),
+        "save" => Some(Command::Save),
+        "apply" => Some(Command::Apply),
         _ => None,
     }
 }

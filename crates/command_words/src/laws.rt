@@ -6,7 +6,7 @@ ghost use Rattle.command_words.specs.App.{ipbus};
 ghost use Rattle.command_words.specs.Commands.{command_of};
 ghost use Rattle.command_words.specs.Forms.{Form, words_of, ArePlain, IsNamed};
 ghost use Rattle.command_words.specs.declared.command.Command.TheVariants.{Run, Check, Serve, Load};
-ghost use Rattle.command_words.specs.declared.command.Command.TheVariants.{Describe, Undescribe};
+ghost use Rattle.command_words.specs.declared.command.Command.TheVariants.{Record, Describe, Undescribe, Save, Apply};
 
 /// The words of a command are taken by clap.
 pub fn the_words_of_a_command_are_taken()
@@ -30,8 +30,11 @@ pub fn words_by_hand()
     ensures check { command_of (codes "check" ∷ codes "main" ∷ []) ≡ Some (Check (codes "main")) }
     ensures serve { command_of (codes "serve" ∷ codes "50001" ∷ codes "64" ∷ []) ≡ Some (Serve 50001 64) }
     ensures load { command_of (codes "load" ∷ codes "100000" ∷ []) ≡ Some (Load 100000) }
+    ensures record_ { command_of (codes "record" ∷ []) ≡ Some Record }
     ensures describe { command_of (codes "describe" ∷ []) ≡ Some Describe }
     ensures undescribe { command_of (codes "undescribe" ∷ []) ≡ Some Undescribe }
+    ensures save { command_of (codes "save" ∷ []) ≡ Some Save }
+    ensures apply { command_of (codes "apply" ∷ []) ≡ Some Apply }
     ensures no_load { command_of (codes "load" ∷ codes "0" ∷ []) ≡ None }
     ensures too_much_load { command_of (codes "load" ∷ codes "100001" ∷ []) ≡ None }
     ensures no_words { command_of [] ≡ None }

@@ -58,7 +58,7 @@ nothing_there address = by_test (nat_lt address (2 ^ 32)) where
   by_test true = tt
   by_test false = tt
 
-opens : (link : LinkSpec) → LinkNamesWords link → HoldsWords (opening_of link)
+pub opens : (link : LinkSpec) → LinkNamesWords link → HoldsWords (opening_of link)
 opens (Sim mtu buffers first ranges fates) words = opening-words ranges words
 opens (Udp address port wait) words = nothing_there
 

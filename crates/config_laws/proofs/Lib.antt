@@ -23,3 +23,10 @@ mod AppliedLines
 mod AppliedValues
 mod AppliedScript
 mod Whole
+mod TextWords
+mod TextNodes
+mod TextRead
+mod TextNames
+mod TextApart
+mod SavedWords
+mod OneValue

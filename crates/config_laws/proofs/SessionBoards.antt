@@ -40,7 +40,7 @@ RegisterWords = (tables : TableMap) (root : Name) (index : RegisterMap) (name : 
 -- ---- names of boards
 
 -- what stands under the key `name` is an id
-name_id : (udp fates : Bool) (value : Data)
+pub name_id : (udp fates : Bool) (value : Data)
     → value_faults (kind_at (if udp then udp_keys else if fates then sim_keys else sim_keys_with_noise) (codes "name")) value
     ≡ []
     → holds_of is_id (as_str value) ≡ true
@@ -96,7 +96,7 @@ valid_at format (Some value) None t is there = absurd is
 valid_at format (Some value) (Some u) t is there =
     subst IsValid (same_Some u t there) (table_valid format value u is)
 
-valid_tables : (document : Members) (session : Session) → IsSession document session → AreValidTables session.tables
+pub valid_tables : (document : Members) (session : Session) → IsSession document session → AreValidTables session.tables
 valid_tables document session is name t there =
     valid_at (format_of document) (get_member name (tables_of document)) (get session.tables name) t (is.tables name) there
 
@@ -109,7 +109,7 @@ second_of (x ∷ xs) [] k pair at = absurd cc
 second_of (x ∷ xs) (y ∷ ys) zero pair at = ap (λ p. Some p.1) (same_Some (x, y) pair at)
 second_of (x ∷ xs) (y ∷ ys) (suc k) pair at = second_of xs ys k pair at
 
-zip_at : {A B : Type 0} (R : A → B → Type 0) (xs : List A) (ys : List B) (k : ℕ) (pair : A × B) → AllZip R xs ys
+pub zip_at : {A B : Type 0} (R : A → B → Type 0) (xs : List A) (ys : List B) (k : ℕ) (pair : A × B) → AllZip R xs ys
     → slice_get (zip xs ys) k ≡ Some pair → R pair.0 pair.1
 zip_at R [] ys k pair all at = absurd cc
 zip_at R (x ∷ xs) [] k pair all at = absurd cc

@@ -54,7 +54,7 @@ one_value (e ∷ state) order (suc i) zero x y at there board name =
 one_value (e ∷ state) order (suc i) (suc j) x y at there board name = one_value state order.1 i j x y at there board name
 
 -- a place of what is contained
-at_place : {T : Type 0} (xs : List T) (x : T) → Contains xs x → (k : ℕ) × (slice_get xs k ≡ Some x)
+pub at_place : {T : Type 0} (xs : List T) (x : T) → Contains xs x → (k : ℕ) × (slice_get xs k ≡ Some x)
 at_place xs x has = (has.0, slice_get_read xs (length xs) has.0 x refl has.1 (sym has.2))
 
 only_value : (state : List StateEntry) → AreInOrder state → (r : KeptRegister) (x y : StateEntry) → Contains state x

@@ -4,3 +4,4 @@ pub mod Writes
 pub mod Turns
 pub mod Fields
 pub mod Applied
+pub mod ReadBack

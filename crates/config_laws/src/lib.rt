@@ -6,7 +6,9 @@
 #![tactic(auto)]
 
 pub mod applying;
+pub mod examples;
 pub mod permitted;
+pub mod reading_back;
 pub mod reads;
 pub mod saving;
 pub mod sessions;

@@ -76,7 +76,7 @@ fn denial_lines(
     given: Option<&[u8]>,
 ) -> Result<Vec<String>, NoMemory> {
     match (command, given) {
-        (Some(Command::Run), Some(bytes)) => denial_notes(alloc, bytes),
+        (Some(command), Some(bytes)) => denial_notes(alloc, command, bytes),
         _ => Ok(Vec::new(alloc)),
     }
 }

@@ -4,26 +4,35 @@ ghost use Rattle.std.specs.Prelude.{◌≡◌, ◌≢◌, ◌≤◌, ℕ, Err, I
 ghost use Rattle.board_greeting.specs.Links.{Keeps};
 ghost use Rattle.session_serve.specs.Pairs.{GivesBack};
 ghost use Rattle.command_words.specs.declared.command.Command.{Command as CommandValue};
-ghost use Rattle.command_words.specs.declared.command.Command.TheVariants.{Load};
+ghost use Rattle.command_words.specs.declared.command.Command.TheVariants.{Load, Record};
 ghost use Rattle.command_terms.specs.Faults.{RisesOnlyAt};
 ghost use Rattle.command_terms.specs.Leaving.{Leaves};
 ghost use Rattle.command_terms.specs.Numbers.{refused_status};
 ghost use Rattle.command_terms.specs.Terms.{AreTerms, Reads};
 ghost use Rattle.load_run.specs.Generated.{most_operations};
+ghost use Rattle.record_command.specs.Headline.{GivesBackTapped};
 ghost use Rattle.ipbus_program.specs.Commands.{terms_of};
 ghost use Rattle.ipbus_program.specs.Steps.{IsFailure, LeavesAlone};
 
 use crate::no_answer::NoAnswer;
+use capture_commands::laws::{the_terms_of_describe, the_terms_of_undescribe};
+use capture_commands::{
+    MAX_CAPTURE, TextRefusal, describe_answer, refused_text, undescribe_answer,
+};
 use check_command::check_document;
 use check_command::laws::the_terms_of_check;
 use client_threads::Gate;
 use command_terms::{Answer, refused};
 use command_words::Command;
+use config_commands::laws::{the_terms_of_apply, the_terms_of_save};
+use config_commands::{apply_document, save_document};
 use ipb_base::NoMemory;
 use ipb_outside::Door;
 use load_run::answer_load;
 use load_run::laws::the_terms_of_load;
 use lossy_network::Rack;
+use record_command::laws::the_terms_of_record;
+use record_command::record_document;
 use run_command::laws::the_terms_of_run;
 use run_command::run_document;
 use serve_command::laws::the_terms_of_serve;
@@ -42,6 +51,11 @@ pub(crate) fn terms_are_terms()
     the_terms_of_check();
     the_terms_of_serve();
     the_terms_of_load();
+    the_terms_of_record();
+    the_terms_of_describe();
+    the_terms_of_undescribe();
+    the_terms_of_save();
+    the_terms_of_apply();
 }
 
 /// How many bytes the input of a command may have, and none where it reads no input.
@@ -53,6 +67,11 @@ pub(crate) fn limit_of(command: &Command) -> Option<usize>
         Command::Check { table: _ } => Some(MAX_DOCUMENT),
         Command::Serve { port: _, count: _ } => Some(MAX_DOCUMENT),
         Command::Load { count: _ } => None,
+        Command::Record => Some(MAX_DOCUMENT),
+        Command::Describe => Some(MAX_CAPTURE),
+        Command::Undescribe => Some(MAX_CAPTURE),
+        Command::Save => Some(MAX_DOCUMENT),
+        Command::Apply => Some(MAX_DOCUMENT),
     }
 }
 
@@ -67,6 +86,11 @@ pub(crate) fn too_long(alloc: Global, command: &Command) -> Result<Answer, NoMem
         Command::Check { table: _ } => refused(alloc, &Refusal::TooLong),
         Command::Serve { port: _, count: _ } => refused(alloc, &Refusal::TooLong),
         Command::Load { count: _ } => unreachable!(),
+        Command::Record => refused(alloc, &Refusal::TooLong),
+        Command::Describe => refused_text(alloc, &TextRefusal::LongCapture),
+        Command::Undescribe => refused_text(alloc, &TextRefusal::LongDescription),
+        Command::Save => refused(alloc, &Refusal::TooLong),
+        Command::Apply => refused(alloc, &Refusal::TooLong),
     }
 }
 
@@ -90,6 +114,8 @@ pub(crate) fn answer_to<R: Rack, D: Door, T: Threads + Wait + Sync, G: Gate>(
     ensures none_out { D.out door.new ≡ D.out door.old }
     ensures serves { result ≡ Err NoAnswer.DoorFault → (terms_of command.now).lets_in ≡ true }
     ensures not_read_fault { result ≢ Err NoAnswer.ReadFault }
+    ensures traffic { command.now ≡ Record → IfOk result (λ answer. answer.status ≢ refused_status
+        → GivesBackTapped R.L.telling (R.kept rack.old) (R.kept rack.new) answer.text.items) }
     ensures rack_faults { RisesOnlyAt (Err NoAnswer.RackFault) result (R.faults rack.old) (R.faults rack.new) }
     ensures door_faults { RisesOnlyAt (Err NoAnswer.DoorFault) result (D.faults door.old) (D.faults door.new) }
 {
@@ -100,5 +126,10 @@ pub(crate) fn answer_to<R: Rack, D: Door, T: Threads + Wait + Sync, G: Gate>(
             Ok(serve_document(rt, alloc, bytes, *port, *count, rack, door)?)
         }
         Command::Load { count } => Ok(answer_load(rt, alloc, *count, rack, gate)?),
+        Command::Record => Ok(record_document(rt, alloc, bytes, rack, gate)?),
+        Command::Describe => Ok(describe_answer(alloc, bytes)?),
+        Command::Undescribe => Ok(undescribe_answer(alloc, bytes)?),
+        Command::Save => Ok(save_document(rt, alloc, bytes, rack, gate)?),
+        Command::Apply => Ok(apply_document(rt, alloc, bytes, rack, gate)?),
     }
 }

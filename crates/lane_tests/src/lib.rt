@@ -19,6 +19,8 @@ mod hub_session_tests;
 #[cfg(test)]
 mod lane_record_tests;
 #[cfg(test)]
+mod link_tap_tests;
+#[cfg(test)]
 mod links;
 #[cfg(test)]
 mod lossy_network_tests;

@@ -2,6 +2,8 @@
 
 use crate::escaping::shown;
 use access_policy::{Policy, PolicyRefusal, read_policy, rule_text};
+use command_words::Command;
+use config_input::{ConfigUnread, read_for_apply, read_for_save};
 use ipb_base::NoMemory;
 use script_lang::{SessionRefusal, parse_document, take_key};
 use script_steps::{Step, Steps};
@@ -9,10 +11,14 @@ use session_input::{Unread, read_for_run};
 use std::alloc::Global;
 use std::str;
 
-/// For each rule of a document's policy that denied an operation of its scripts, in the order of the rules, its number,
-/// how many it denied, and its text; and behind these how many operations no rule allowed. Nothing where the document
-/// has no policy or is not run.
-pub fn denial_notes(alloc: Global, bytes: &[u8]) -> Result<Vec<String>, NoMemory> {
+/// For each rule of a document's policy that denied an operation of what a command runs, in the order of the rules, its
+/// number, how many it denied, and its text; and behind these how many operations no rule allowed. Nothing where the
+/// document has no policy, or the command refuses it or runs nothing of it.
+pub fn denial_notes(
+    alloc: Global,
+    command: &Command,
+    bytes: &[u8],
+) -> Result<Vec<String>, NoMemory> {
     let mut notes = Vec::new(alloc);
     if !may_have_policy(bytes) {
         return Ok(notes);
@@ -20,11 +26,10 @@ pub fn denial_notes(alloc: Global, bytes: &[u8]) -> Result<Vec<String>, NoMemory
     let Some(policy) = policy_of(alloc, bytes)? else {
         return Ok(notes);
     };
-    let counts = match read_for_run(alloc, bytes) {
-        Ok(read) => denied_by(alloc, &policy, &read.steps)?,
-        Err(Unread::Refused(_)) => return Ok(notes),
-        Err(Unread::NoMemory) => return Err(NoMemory),
+    let Some(steps) = steps_of(alloc, command, bytes)? else {
+        return Ok(notes);
     };
+    let counts = denied_by(alloc, &policy, &steps)?;
     push_rules(alloc, &mut notes, &policy, &counts)?;
     if let Some(count) = counts.first()
         && *count > 0
@@ -33,6 +38,33 @@ pub fn denial_notes(alloc: Global, bytes: &[u8]) -> Result<Vec<String>, NoMemory
         notes.push(format!(in alloc; "no rule of the policy allowed {operations}")?)?;
     }
     Ok(notes)
+}
+
+/// The steps that a command runs of a document, if it does.
+fn steps_of(
+    alloc: Global,
+    command: &Command,
+    bytes: &[u8],
+) -> Result<Option<Vec<Steps>>, NoMemory> {
+    let read = match command {
+        Command::Run => return run_steps(alloc, bytes),
+        Command::Save => read_for_save(alloc, bytes),
+        Command::Apply => read_for_apply(alloc, bytes),
+        _ => return Ok(None),
+    };
+    match read {
+        Ok(read) => Ok(Some(read.steps)),
+        Err(ConfigUnread::Refused(_)) => Ok(None),
+        Err(ConfigUnread::NoMemory) => Err(NoMemory),
+    }
+}
+
+fn run_steps(alloc: Global, bytes: &[u8]) -> Result<Option<Vec<Steps>>, NoMemory> {
+    match read_for_run(alloc, bytes) {
+        Ok(read) => Ok(Some(read.steps)),
+        Err(Unread::Refused(_)) => Ok(None),
+        Err(Unread::NoMemory) => Err(NoMemory),
+    }
 }
 
 /// Whether the text may have the key, which can be written by escapes too: a document without it is not read again.

@@ -4,7 +4,7 @@
 pub const VERSION: &str = "version 2, for IPbus 2.0 and session documents of formats 1 and 2";
 
 /// The lines of the page of help: each command with what it does and an example.
-pub const HELP: [&str; 13] = [
+pub const HELP: [&str; 17] = [
     "ipbus run                runs the scripts of the session document on standard input on its boards",
     "                           bin/ipbus run < examples/start/first.toml",
     "ipbus check TABLE        lists the registers of a table of the document, and which of them overlap",
@@ -17,5 +17,9 @@ pub const HELP: [&str; 13] = [
     "                           bin/ipbus describe < examples/captures/one_read.capture",
     "ipbus undescribe         makes the text of a capture from its description",
     "                           bin/ipbus undescribe < examples/captures/one_read.description",
+    "ipbus save               writes the configuration of the boards of the document: the values of its registers",
+    "                           bin/ipbus save < examples/guide/configuration.toml",
+    "ipbus apply              puts the values that the document has under state into its boards, and writes the same",
+    "                           bin/ipbus apply < examples/configurations/array_of_channels_applied.toml",
     "docs/SESSIONS.md shows how to write a session document",
 ];

@@ -4,6 +4,7 @@
 #![tactic(auto)]
 
 mod captures;
+mod configurations;
 mod denials;
 mod escaping;
 mod help;

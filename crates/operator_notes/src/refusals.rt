@@ -1,10 +1,11 @@
 //! What to look for in an input that is refused.
 
 use crate::captures::{capture_notes, description_notes};
+use crate::configurations::configuration_notes;
 use crate::escaping::shown;
 use crate::script_words::word_at_fault;
 use crate::sentences::{
-    NOT_SERVED, POLICY, TOO_LONG, of_board, of_compiling, of_document, of_script, of_table,
+    NOT_ONE_BOARD, NOT_SERVED, NOT_SIMULATED, POLICY, TOO_LONG, of_board, of_compiling, of_document, of_script, of_table,
 };
 use command_words::Command;
 use ipb_base::NoMemory;
@@ -24,17 +25,27 @@ pub fn refusal_notes(
     match command {
         Command::Describe => capture_notes(alloc, bytes),
         Command::Undescribe => description_notes(alloc, bytes),
+        Command::Save | Command::Apply => configuration_notes(alloc, command, bytes),
         _ => document_notes(alloc, command, bytes),
     }
 }
 
 fn document_notes(alloc: Global, command: &Command, bytes: &[u8]) -> Result<Vec<String>, NoMemory> {
+    match refusal_of(alloc, command, bytes)? {
+        Some(refusal) => session_notes(alloc, &refusal, bytes),
+        None => Ok(Vec::new(alloc)),
+    }
+}
+
+/// What to look for in a document that breaks a rule of session documents.
+pub(crate) fn session_notes(
+    alloc: Global,
+    refusal: &Refusal,
+    bytes: &[u8],
+) -> Result<Vec<String>, NoMemory> {
     let mut notes = Vec::new(alloc);
-    let Some(refusal) = refusal_of(alloc, command, bytes)? else {
-        return Ok(notes);
-    };
-    notes.push(place_and_rule(alloc, &refusal)?)?;
-    if let Some(more) = more_of(alloc, &refusal, bytes)? {
+    notes.push(place_and_rule(alloc, refusal)?)?;
+    if let Some(more) = more_of(alloc, refusal, bytes)? {
         notes.push(more)?;
     }
     Ok(notes)
@@ -46,7 +57,7 @@ fn refusal_of(alloc: Global, command: &Command, bytes: &[u8]) -> Result<Option<R
         Command::Run => read_for_run(alloc, bytes).err(),
         Command::Serve { port: _, count: _ } => read_for_serve(alloc, bytes).err(),
         Command::Check { table } => read_for_check(alloc, bytes, table.as_str()).err(),
-        Command::Load { count: _ } | Command::Describe | Command::Undescribe => None,
+        _ => None,
     };
     match unread {
         None => Ok(None),
@@ -65,6 +76,11 @@ fn place_and_rule(alloc: Global, refusal: &Refusal) -> Result<String, NoMemory> 
         }
         Refusal::Policy { path } => policy_note(alloc, path.as_str()),
         Refusal::NoServe => note(alloc, NOT_SERVED),
+        Refusal::OneBoard => note(alloc, NOT_ONE_BOARD),
+        Refusal::NotSim { name } => {
+            let name = shown(alloc, name.as_str())?;
+            Ok(format!(in alloc; "board {name}: {NOT_SIMULATED}")?)
+        }
         Refusal::Compile { table, path, why } => {
             let rule = of_compiling(*why);
             compile_note(alloc, table.as_str(), path.as_str(), rule)
@@ -199,6 +215,7 @@ fn line_note(
         return Err(NoMemory);
     };
     take_key(&mut document, "policy");
+    take_key(&mut document, "state");
     let Ok(session) = read_session_table(alloc, &document) else {
         return Err(NoMemory);
     };

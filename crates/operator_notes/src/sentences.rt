@@ -3,6 +3,7 @@
 use address_table::TableWhy;
 use board_bus::BusRefusal;
 use capture_commands::CaptureWhy;
+use config_store::StoreWhy;
 use node_tree::CompileWhy;
 use script_lang::{DocWhy, ScriptWhy};
 
@@ -13,6 +14,12 @@ pub(crate) const POLICY: &str =
 
 pub(crate) const NOT_SERVED: &str =
     "a policy binds scripts and no connections, so a document that has one is not served";
+
+pub(crate) const NOT_ONE_BOARD: &str =
+    "a capture is of one board, so a document with several is not recorded";
+
+pub(crate) const NOT_SIMULATED: &str =
+    "it is on a network, and only the traffic of a simulated board is recorded";
 
 pub(crate) const LONG_CAPTURE: &str = "the capture has more than 134217728 bytes";
 
@@ -27,6 +34,22 @@ pub(crate) fn of_capture(why: CaptureWhy) -> &'static str {
             "a line has > or <, a space, and two digits 0 to 9 or a to f for each byte, or - for none"
         }
         CaptureWhy::Long => "a datagram has at most 9000 bytes",
+    }
+}
+
+pub(crate) fn of_state(why: StoreWhy) -> &'static str {
+    match why {
+        StoreWhy::Shape => {
+            "under state each board has a table, and in it each register a number, by its name in quotes"
+        }
+        StoreWhy::Overlap => "an earlier register that is kept shares a bit with this one",
+        StoreWhy::TooMany => "the boards keep more than 50000 registers",
+        StoreWhy::UnknownBoard => "no board has this name",
+        StoreWhy::UnknownName => "the table of the board has no such register",
+        StoreWhy::NotKept => {
+            "the register is not one word that is read and written, or others stand below its name"
+        }
+        StoreWhy::BitsOutside => "the value does not fit the mask of the register",
     }
 }
 

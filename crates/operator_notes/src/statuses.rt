@@ -32,6 +32,12 @@ pub fn write_note(command: Option<&Command>, refused: bool) -> &'static str {
         Some(Command::Undescribe) => {
             "the output could not be written: only the text of the capture is cut or missing"
         }
+        Some(Command::Save) => {
+            "the output could not be written: the registers were read, and only the text is cut or missing"
+        }
+        Some(Command::Apply) => {
+            "the output could not be written: the values were written and the registers read, and only the text is cut or missing"
+        }
         None => "the output could not be written: only the usage line is cut or missing",
     }
 }

@@ -55,13 +55,15 @@ fn wrong_word(alloc: Global, words: &[String]) -> Result<String, NoMemory> {
         "run" => more_than(alloc, words, 1, "run takes no further word"),
         "describe" => more_than(alloc, words, 1, "describe takes no further word"),
         "undescribe" => more_than(alloc, words, 1, "undescribe takes no further word"),
+        "save" => more_than(alloc, words, 1, "save takes no further word"),
+        "apply" => more_than(alloc, words, 1, "apply takes no further word"),
         "check" => wrong_table(alloc, words),
         "serve" => wrong_number(alloc, words, 1, &[PORT, CONNECTIONS]),
         "load" => wrong_number(alloc, words, 1, &[OPERATIONS]),
         _ => {
             let first = shown(alloc, first)?;
             let text = format!(in alloc;
-                "\"{first}\" is no command; run, check, serve, load, describe and undescribe are"
+                "\"{first}\" is no command; run, check, serve, load, describe, undescribe, save and apply are"
             )?;
             Ok(text)
         }

@@ -5,7 +5,7 @@ use crate::fixtures::{calm, over_links, wide_sink};
 use crate::same::{same, same_items};
 use ipb_base::NoMemory;
 use ipbus_program::{NOT_ALL_DONE, REFUSED};
-use operator_notes::denial_notes;
+use operator_notes::{Command, denial_notes};
 use session_input::{Refusal, Unread, read_for_run, read_for_serve};
 use std::alloc::Global;
 use std::marker::Sync;
@@ -81,7 +81,7 @@ fn a_document_with_a_policy_is_read(rt: HostRuntime) -> Result<(), Fail> {
 #[test]
 fn a_rule_that_denied_is_told(rt: HostRuntime) -> Result<(), Fail> {
     let document = guarded(rt.alloc())?;
-    let notes = denial_notes(rt.alloc(), document.as_bytes())?;
+    let notes = denial_notes(rt.alloc(), &Command::Run, document.as_bytes())?;
     let [note] = notes.as_slice() else {
         return Err("not one note")?;
     };

@@ -5,5 +5,7 @@ pub mod Moved
 pub mod OneText
 pub mod Ruled
 mod Served
-mod OnBoards
+mod Recorded
+pub mod OnBoards
 mod Alone
+pub mod NoText

@@ -26,7 +26,7 @@ found_same None (Some u) same = absurd same
 found_same (Some t) None same = absurd same
 found_same (Some t) (Some u) same = same
 
-first_moved : (Right Right' Told Told' : BoardSpec → Type 0) → ((b : BoardSpec) → Right b → Right' b)
+pub first_moved : (Right Right' Told Told' : BoardSpec → Type 0) → ((b : BoardSpec) → Right b → Right' b)
     → ((b : BoardSpec) → Told b → Told' b)
     → (bs : List BoardSpec) → IsToldFirst Right Told bs → IsToldFirst Right' Told' bs
 first_moved Right Right' Told Told' right told [] first = first
@@ -51,7 +51,7 @@ module _ (laws : TableLaws) (s t : Session) (same : SameSession s t) where
   same_tables : SameTables s.tables t.tables
   same_tables name = found_same (get s.tables name) (get t.tables name) (same.tables name)
 
-  kept_moved : (b : BoardSpec) → Compiles t.tables b → Compiles s.tables b
+  pub kept_moved : (b : BoardSpec) → Compiles t.tables b → Compiles s.tables b
   kept_moved b kept = (laws.same_kept s.tables t.tables b.table same_tables).1 kept
 
   index_moved : (b : BoardSpec) (x : RegisterMap) → HasIndex t.tables b x → HasIndex s.tables b x
@@ -66,14 +66,14 @@ module _ (laws : TableLaws) (s t : Session) (same : SameSession s t) where
       subst (TellsCompile s.tables root) (sym o.is)
       ((laws.same_refused s.tables t.tables root (At o.name o.path o.why) same_tables).1 o.of)
 
-  compiled_moved : (xs : List RegisterMap) → AreCompiled t xs → AreCompiled s xs
+  pub compiled_moved : (xs : List RegisterMap) → AreCompiled t xs → AreCompiled s xs
   compiled_moved xs c = record {
     compile = rw same.boards (all_moved (Compiles t.tables) (Compiles s.tables) kept_moved t.boards c.compile);
     each_index =
         rw same.boards (zip_moved (HasIndex t.tables) (HasIndex s.tables) index_moved t.boards xs c.each_index);
   }
 
-  buses_moved : (xs : List RegisterMap) → HaveBuses t xs → HaveBuses s xs
+  pub buses_moved : (xs : List RegisterMap) → HaveBuses t xs → HaveBuses s xs
   buses_moved xs c = record { compiled = compiled_moved xs c.compiled; buses = rw same.boards c.buses }
 
   pub steps_moved : (policy : Option (List Rule)) (steps : List (List Step)) → AreSteps t policy steps

@@ -17,7 +17,7 @@ use Rattle.script_lang.specs.declared.session.Session.{Session}
 use Rattle.script_lang.specs.Scripts.{LineFault, script_faults, steps_of}
 use Rattle.session_input.specs.declared.refusal.Refusal.{Refusal}
 use Rattle.session_input.specs.declared.refusal.Refusal.TheVariants.{TooLong, Document, Table, Policy, NoServe}
-use Rattle.session_input.specs.declared.refusal.Refusal.TheVariants.{Compile, Board, Script}
+use Rattle.session_input.specs.declared.refusal.Refusal.TheVariants.{OneBoard, NotSim, Compile, Board, Script}
 use Rattle.session_input.specs.Below.{TableLaws}
 use Rattle.session_input.specs.Deserved.{IsToldFirst, ranges_of, Compiles, HasIndex, HasBus, AreCompiled}
 use Rattle.session_input.specs.Deserved.{AreSteps}
@@ -65,6 +65,8 @@ of_bus b (Document path why) told = absurd told
 of_bus b (Table table path why) told = absurd told
 of_bus b (Policy path) told = absurd told
 of_bus b NoServe told = absurd told
+of_bus b OneBoard told = absurd told
+of_bus b (NotSim name) told = absurd told
 of_bus b (Compile table path why) told = absurd told
 of_bus b (Script client line why) told = absurd told
 
@@ -82,6 +84,8 @@ of_table tables root (Document path why) told = absurd told
 of_table tables root (Table table path why) told = absurd told
 of_table tables root (Policy path) told = absurd told
 of_table tables root NoServe told = absurd told
+of_table tables root OneBoard told = absurd told
+of_table tables root (NotSim name) told = absurd told
 of_table tables root (Board name why) told = absurd told
 of_table tables root (Script client line why) told = absurd told
 
@@ -99,26 +103,28 @@ of_line faults (Document path why) told = absurd told
 of_line faults (Table table path why) told = absurd told
 of_line faults (Policy path) told = absurd told
 of_line faults NoServe told = absurd told
+of_line faults OneBoard told = absurd told
+of_line faults (NotSim name) told = absurd told
 of_line faults (Compile table path why) told = absurd told
 of_line faults (Board name why) told = absurd told
 
-bus_apart : (r : Refusal) (b : BoardSpec) → HasBus b → TellsBus b r → ⊥
+pub bus_apart : (r : Refusal) (b : BoardSpec) → HasBus b → TellsBus b r → ⊥
 bus_apart r b right told = let o = of_bus b r told in not_none (refusal_of (ranges_of b.link)) o.why right o.of
 
-same_bus : (r q : Refusal) (b : BoardSpec) → TellsBus b r → TellsBus b q → r ≡ q
+pub same_bus : (r q : Refusal) (b : BoardSpec) → TellsBus b r → TellsBus b q → r ≡ q
 same_bus r q b first second =
     let o = of_bus b r first in
     let p = of_bus b q second in
     o.is ∙ (ap (λ why. Board b.name why) (same_some (refusal_of (ranges_of b.link)) o.why p.why o.of p.of) ∙ sym p.is)
 
-same_line : (faults : List LineFault) (r q : Refusal) → TellsLine faults r → TellsLine faults q → r ≡ q
+pub same_line : (faults : List LineFault) (r q : Refusal) → TellsLine faults r → TellsLine faults q → r ≡ q
 same_line faults r q first second =
     let o = of_line faults r first in
     let p = of_line faults q second in
     let same : (o.client, o.line, o.why) ≡ (p.client, p.line, p.why) = same_some (slice_get faults 0) _ _ o.of p.of in
     o.is ∙ (ap (λ (f : LineFault). Script f.0 f.1 f.2) same ∙ sym p.is)
 
-no_line : (faults : List LineFault) (r : Refusal) → faults ≡ [] → TellsLine faults r → ⊥
+pub no_line : (faults : List LineFault) (r : Refusal) → faults ≡ [] → TellsLine faults r → ⊥
 no_line faults r none told =
     let o = of_line faults r told in
     not_none (slice_get faults 0) (o.client, o.line, o.why) (ap (λ fs. slice_get fs 0) none) o.of
@@ -164,7 +170,7 @@ module _ (laws : TableLaws) where
     abbrev faults_of : List RegisterMap → List LineFault
     faults_of indexes = script_faults s.boards indexes s.scripts
 
-    one_indexes : (xs ys : List RegisterMap) → AreCompiled s xs → AreCompiled s ys → xs ≡ ys
+    pub one_indexes : (xs ys : List RegisterMap) → AreCompiled s xs → AreCompiled s ys → xs ≡ ys
     one_indexes xs ys one other = same_indexes s.tables s.boards xs ys one.each_index other.each_index
 
     not_faulty : (r : Refusal) (policy : Option (List Rule)) (steps : List (List Step)) → BreaksScripts s r

@@ -13,7 +13,7 @@ use Rattle.script_lang.specs.Paths.{path as path_text}
 use Rattle.toml.specs.Data.{Data, Members, get_member}
 use Rattle.session_input.specs.declared.refusal.Refusal.{Refusal}
 use Rattle.session_input.specs.declared.refusal.Refusal.TheVariants.{TooLong, Document, Table, Policy, NoServe}
-use Rattle.session_input.specs.declared.refusal.Refusal.TheVariants.{Compile, Board, Script}
+use Rattle.session_input.specs.declared.refusal.Refusal.TheVariants.{OneBoard, NotSim, Compile, Board, Script}
 use Rattle.session_input.specs.Below.{DocumentLaws, TableLaws}
 use Rattle.session_input.specs.Numbers.{document_bytes}
 use Rattle.session_input.specs.Deserved.{AreSteps, BreaksInRun, BreaksInServe, BreaksInCheck, BreaksDocument, BreaksParts}
@@ -29,12 +29,12 @@ told_of (in_document path why) = Document path why
 told_of (in_table table path why) = Table table path why
 
 -- what a refusal of a document is: that of its first fault, or of its policy
-abbrev IsOfParts : Members → Option Data → Refusal → Type 0
+abbrev pub IsOfParts : Members → Option Data → Refusal → Type 0
 IsOfParts rest value r =
     ((f : Fault) × (r ≡ told_of f) × (slice_get (faults rest) 0 ≡ Some f))
     ⊎ ((path : List ℕ) × (r ≡ Policy path) × (faults rest ≡ []) × BreaksPolicy value path)
 
-of_parts : (rest : Members) (value : Option Data) (r : Refusal) → BreaksParts rest value r → IsOfParts rest value r
+pub of_parts : (rest : Members) (value : Option Data) (r : Refusal) → BreaksParts rest value r → IsOfParts rest value r
 of_parts rest value (Document path NotToml) broken = absurd broken
 of_parts rest value (Document path Shape) broken = inl (in_document path Shape, refl, broken)
 of_parts rest value (Document path NoBoards) broken = inl (in_document path NoBoards, refl, broken)
@@ -45,6 +45,8 @@ of_parts rest value (Table table path why) broken = inl (in_table table path why
 of_parts rest value (Policy path) broken = inr (path, refl, broken.0, broken.1)
 of_parts rest value TooLong broken = absurd broken
 of_parts rest value NoServe broken = absurd broken
+of_parts rest value OneBoard broken = absurd broken
+of_parts rest value (NotSim name) broken = absurd broken
 of_parts rest value (Compile table path why) broken = absurd broken
 of_parts rest value (Board name why) broken = absurd broken
 of_parts rest value (Script client line why) broken = absurd broken
@@ -61,7 +63,7 @@ same_path None path other first second = absurd first
 same_path (Some value) path other first second =
     same_some (slice_get (map path_text (policy_faults value)) 0) path other first second
 
-same_broken : (rest : Members) (value : Option Data) (r q : Refusal) → IsOfParts rest value r → IsOfParts rest value q
+pub same_broken : (rest : Members) (value : Option Data) (r q : Refusal) → IsOfParts rest value r → IsOfParts rest value q
     → r ≡ q
 same_broken rest value r q (inl a) (inl b) =
     a.1 ∙ (ap told_of (same_some (slice_get (faults rest) 0) a.0 b.0 a.2 b.2) ∙ sym b.1)
@@ -79,12 +81,12 @@ policy_faultless (Some value) (Some rules) path is broken =
     (ap (map path_text) is.0) broken
 
 -- what stands for a session and a policy breaks no rule
-unbroken : (rest : Members) (value : Option Data) (s : Session) (policy : Option (List Rule)) (r : Refusal)
+pub unbroken : (rest : Members) (value : Option Data) (s : Session) (policy : Option (List Rule)) (r : Refusal)
     → IsSession rest s → IsPolicyOf value policy → IsOfParts rest value r → ⊥
 unbroken rest value s policy r is has (inl a) = not_first (faults rest) a.0 is.faultless a.2
 unbroken rest value s policy r is has (inr a) = policy_faultless value policy a.0 has a.3
 
-same_policy : (value : Option Data) (p q : Option (List Rule)) → IsPolicyOf value p → IsPolicyOf value q → p ≡ q
+pub same_policy : (value : Option Data) (p q : Option (List Rule)) → IsPolicyOf value p → IsPolicyOf value q → p ≡ q
 same_policy None None None one other = refl
 same_policy None (Some rules) q one other = absurd one
 same_policy None None (Some rules) one other = absurd other
@@ -96,13 +98,13 @@ same_policy (Some value) (Some rules) (Some more) one other =
 -- ---- bytes
 
 -- what a refusal of bytes is that are no document of a session: they are too long, or no TOML, or break a first rule
-abbrev IsKind : List ℕ → Refusal → Type 0
+abbrev pub IsKind : List ℕ → Refusal → Type 0
 IsKind bytes r =
     ((r ≡ TooLong) × (document_bytes < length bytes))
     ⊎ (((r ≡ Document [] NotToml) × (length bytes ≤ document_bytes) × IsNotToml bytes)
     ⊎ ((length bytes ≤ document_bytes) × HasFirstRefusal bytes r))
 
-kind_of : (bytes : List ℕ) (r : Refusal) → DeservesUnread bytes r → IsKind bytes r
+pub kind_of : (bytes : List ℕ) (r : Refusal) → DeservesUnread bytes r → IsKind bytes r
 kind_of bytes TooLong d = inl (refl, d)
 kind_of bytes (Document path NotToml) d = inr (inl (ap (λ p. Document p NotToml) d.1, d.0, d.2))
 kind_of bytes (Document path Shape) d = inr (inr d)
@@ -113,11 +115,13 @@ kind_of bytes (Document path DuplicateBoard) d = inr (inr d)
 kind_of bytes (Table table path why) d = inr (inr d)
 kind_of bytes (Policy path) d = inr (inr d)
 kind_of bytes NoServe d = inr (inr d)
+kind_of bytes OneBoard d = inr (inr d)
+kind_of bytes (NotSim name) d = inr (inr d)
 kind_of bytes (Compile table path why) d = inr (inr d)
 kind_of bytes (Board name why) d = inr (inr d)
 kind_of bytes (Script client line why) d = inr (inr d)
 
-not_both_sizes : (n : ℕ) → document_bytes < n → n ≤ document_bytes → ⊥
+pub not_both_sizes : (n : ℕ) → document_bytes < n → n ≤ document_bytes → ⊥
 not_both_sizes n long fits = omega (arith, long, fits)
 
 module _ (documents : DocumentLaws) where
@@ -136,7 +140,7 @@ module _ (documents : DocumentLaws) where
       unbroken (session_part stands.document) (get_member policy_key stands.document) s policy r stands.is_session
       stands.has_policy (of_bytes bytes stands.document r stands.toml has.1)
 
-  same_kind : (bytes : List ℕ) (r q : Refusal) → IsKind bytes r → IsKind bytes q → r ≡ q
+  pub same_kind : (bytes : List ℕ) (r q : Refusal) → IsKind bytes r → IsKind bytes q → r ≡ q
   same_kind bytes r q (inl a) (inl b) = a.0 ∙ sym b.0
   same_kind bytes r q (inl a) (inr (inl b)) = absurd (not_both_sizes (length bytes) a.1 b.1)
   same_kind bytes r q (inl a) (inr (inr b)) = absurd (not_both_sizes (length bytes) a.1 b.0)

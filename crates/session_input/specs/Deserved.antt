@@ -165,6 +165,12 @@ BreaksDocument document refusal = BreaksParts (session_part document) (get_membe
 abbrev pub HasFirstRefusal : List ℕ → Refusal → Type 0
 HasFirstRefusal bytes refusal = (document : Members) × IsToml bytes document × BreaksDocument document refusal
 
+-- The bytes are not the text of a document, since they are too many or no TOML.
+abbrev pub IsNoText : List ℕ → Refusal → Type 0
+IsNoText bytes TooLong = document_bytes < length bytes
+IsNoText bytes (Document path NotToml) = (length bytes ≤ document_bytes) × (path ≡ []) × IsNotToml bytes
+IsNoText bytes _ = ⊥
+
 -- The bytes are no document of a session: the first rule that they break.
 abbrev pub DeservesUnread : List ℕ → Refusal → Type 0
 DeservesUnread bytes TooLong = document_bytes < length bytes

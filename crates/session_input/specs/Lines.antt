@@ -4,7 +4,7 @@ use Rattle.std.specs.List.{flat_map}
 use Rattle.std.specs.Fmt.{decimal}
 use Rattle.session_input.specs.declared.refusal.Refusal.{Refusal}
 use Rattle.session_input.specs.declared.refusal.Refusal.TheVariants.{TooLong, Document, Table, Policy, NoServe}
-use Rattle.session_input.specs.declared.refusal.Refusal.TheVariants.{Compile, Board, Script}
+use Rattle.session_input.specs.declared.refusal.Refusal.TheVariants.{OneBoard, NotSim, Compile, Board, Script}
 use Rattle.session_input.specs.Names.{document_rule, table_rule, compile_rule, bus_rule, script_rule}
 
 -- an empty path is shown as a hyphen
@@ -26,6 +26,8 @@ refusal_line (Table table path why) =
     ++ (table ++ (codes " " ++ (shown (positions path) ++ (codes " " ++ (table_rule why ++ codes "\n")))))
 refusal_line (Policy path) = codes "refused: policy " ++ (shown path ++ (codes " " ++ (codes "Shape" ++ codes "\n")))
 refusal_line NoServe = codes "refused: policy - NoServe\n"
+refusal_line OneBoard = codes "refused: document - OneBoard\n"
+refusal_line (NotSim name) = codes "refused: board " ++ (name ++ (codes " " ++ (codes "NotSim" ++ codes "\n")))
 refusal_line (Compile table path why) =
     codes "refused: compile "
     ++ (table ++ (codes " " ++ (shown path ++ (codes " " ++ (compile_rule why ++ codes "\n")))))

@@ -9,14 +9,14 @@ use node_tree::laws::{
 use script_lang::laws::a_document_stands_for_one_session;
 
 /// Bytes are the text of one document, which stands for one session.
-pub(crate) fn document_laws()
+pub fn document_laws()
     ensures { DocumentLaws }
 {
     a_document_stands_for_one_session();
 }
 
 /// Tables compile into one index or are refused in one way.
-pub(crate) fn table_laws()
+pub fn table_laws()
     ensures { TableLaws }
 {
     tables_that_keep_the_rules_are_not_refused();

@@ -28,8 +28,9 @@ pub(crate) fn index_of(alloc: Global, tables: &Tables, root: &str) -> Result<Ind
     }
 }
 
-/// The indexes of the boards' tables, in the boards' order.
-pub(crate) fn indexes_of(
+/// The indexes of the boards' tables, in the boards' order (profile), or else the first rule that the first faulty table
+/// breaks.
+pub fn indexes_of(
     alloc: Global,
     tables: &Tables,
     boards: &[BoardSpec],
@@ -70,8 +71,8 @@ fn check_bus(alloc: Global, board: &BoardSpec) -> Result<(), Unread>
     }
 }
 
-/// Whether the ranges of each board are a bus.
-pub(crate) fn check_buses(alloc: Global, boards: &[BoardSpec]) -> Result<(), Unread>
+/// Whether the ranges of each board are a bus (profile); refused is the first board whose ranges are none.
+pub fn check_buses(alloc: Global, boards: &[BoardSpec]) -> Result<(), Unread>
     ensures buses { OnOk result (AllByRecursion spec.HasBus boards.now) }
     ensures refused { IfErr result (spec.Tells (spec.TellsFirstBus boards.now)) }
 {

@@ -9,6 +9,7 @@ ghost use Rattle.script_steps.specs.declared.operation.Step.{Step};
 ghost use Rattle.script_lang.specs.declared.session.Session.{Session};
 ghost use Rattle.session_input.specs.Deserved.{AreOnBoards, BreaksInCheck, BreaksInRun, BreaksInServe, Deserves};
 ghost use Rattle.session_input.specs.Deserved.{IsListed, IsRunnable, IsServable, StandsForSession};
+ghost use Rattle.session_input.specs.Recording.{BreaksInRecord, IsRecordable};
 ghost use Rattle.session_input.specs.Numbers.{document_bytes};
 ghost use Rattle.session_input.specs.declared.refusal.Refusal.{Refusal};
 ghost use Rattle.session_input.specs.declared.refusal.TheConstants.{MAX_DOCUMENT};
@@ -42,6 +43,20 @@ pub fn bytes_have_one_answer_to_serve()
         → Deserves BreaksInServe bytes r → Deserves BreaksInServe bytes q → r ≡ q }
     ensures not_both { (bytes : List ℕ) (session : Session) (refusal : Refusal)
         → IsServable bytes session → ¬ Deserves BreaksInServe bytes refusal }
+{
+    document_laws();
+    table_laws();
+}
+
+/// Bytes whose board can be recorded have one session, node for node, and one list of steps; others deserve at most one
+/// refusal.
+pub fn bytes_have_one_answer_to_record()
+    ensures session { (bytes : List ℕ) (s t : Session) (steps more : List (List Step))
+        → IsRecordable bytes s steps → IsRecordable bytes t more → SameSession s t × (steps ≡ more) }
+    ensures refusal { (bytes : List ℕ) (r q : Refusal)
+        → Deserves BreaksInRecord bytes r → Deserves BreaksInRecord bytes q → r ≡ q }
+    ensures not_both { (bytes : List ℕ) (session : Session) (steps : List (List Step)) (refusal : Refusal)
+        → IsRecordable bytes session steps → ¬ Deserves BreaksInRecord bytes refusal }
 {
     document_laws();
     table_laws();

@@ -2,14 +2,20 @@
 //! its tables, or the first rule that they break, as a line that tells it.
 #![tactic(auto)]
 
-mod below;
+pub mod below;
 mod checking;
 pub mod laws;
 mod lines;
 mod names;
 mod reading;
+mod recording;
 mod refusal;
 
+pub use checking::{check_buses, indexes_of};
 pub use ipb_base::{NoMemory, Text};
-pub use reading::{Runnable, read_for_check, read_for_run, read_for_serve};
+pub use reading::{
+    Runnable, Stated, compiled, parse_input, read_document, read_for_check, read_for_run,
+    read_for_serve, under_policy,
+};
+pub use recording::read_for_record;
 pub use refusal::{MAX_DOCUMENT, Refusal, Unread};

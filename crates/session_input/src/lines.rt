@@ -25,6 +25,8 @@ impl Refusal {
             }
             Refusal::Policy { path } => policy_line(alloc, shown(path.as_str()), "Shape"),
             Refusal::NoServe => policy_line(alloc, "-", "NoServe"),
+            Refusal::OneBoard => document_line(alloc, "-", "OneBoard"),
+            Refusal::NotSim { name } => board_line(alloc, name.as_str(), "NotSim"),
             Refusal::Compile { table, path, why } => {
                 let path = shown(path.as_str());
                 compile_line(alloc, table.as_str(), path, compile_rule(*why))

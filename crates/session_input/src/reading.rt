@@ -5,7 +5,7 @@ ghost use Rattle.std.specs.List.{AllByRecursion};
 ghost use Rattle.toml.specs.Data.{Data, Members};
 ghost use Rattle.toml.specs.View.{table_view, view};
 ghost use Rattle.access_policy.specs.Decisions.{names_of, ruled_scripts};
-ghost use Rattle.script_lang.specs.Document.{IsSession, TellsFault, TellsNotToml, faults};
+ghost use Rattle.script_lang.specs.Document.{IsSession, IsToml, TellsFault, TellsNotToml, faults};
 ghost use Rattle.script_lang.specs.Limits.{IsWithin};
 ghost use Rattle.script_steps.specs.Packing.{AreWithinLimits, CanBePacked, HaveFewPieces};
 ghost use Rattle.script_lang.specs.declared.refusal.TheConstants.{MAX_CLIENTS};
@@ -38,9 +38,9 @@ pub struct Runnable {
 
 /// A session, and its policy where the document has one.
 #[derive(Drop)]
-struct Stated {
-    session: Session,
-    policy: Option<Policy>,
+pub struct Stated {
+    pub session: Session,
+    pub policy: Option<Policy>,
 }
 
 /// Reads a document to run it (profile): the session that the bytes stand for and the steps of its scripts under its
@@ -88,24 +88,35 @@ pub fn read_for_check(alloc: Global, bytes: &[u8], table: &str) -> Result<Index,
 }
 
 /// The session that bytes stand for, and its policy.
-fn read(alloc: Global, bytes: &[u8]) -> Result<Stated, Unread>
+pub(crate) fn read(alloc: Global, bytes: &[u8]) -> Result<Stated, Unread>
     ensures fits { OnOk result (length bytes.now ≤ document_bytes) }
     ensures stands { IfOk result (λ read. spec.StandsForSession bytes.now read.session read.policy) }
     ensures within { IfOk result (λ read. IsWithin read.session) }
     ensures refused { IfErr result (spec.Tells (spec.DeservesUnread bytes.now)) }
 {
+    let document = parse_input(alloc, bytes)?;
+    read_document(alloc, document)
+}
+
+/// The table that an input writes which is to be a document (TOML). Refused are bytes that are too many, and bytes that
+/// are no TOML.
+pub fn parse_input(alloc: Global, bytes: &[u8]) -> Result<Table, Unread>
+    ensures fits { OnOk result (length bytes.now ≤ document_bytes) }
+    ensures document { IfOk result (λ document. IsToml bytes.now (table_view document)) }
+    ensures refused { IfErr result (spec.Tells (spec.IsNoText bytes.now)) }
+{
     if bytes.len() > MAX_DOCUMENT {
         return Err(Unread::Refused(Refusal::TooLong));
     }
     match parse_document(alloc, bytes) {
-        Ok(document) => read_document(alloc, document),
+        Ok(document) => Ok(document),
         Err(refusal) => Err(refused(refusal)),
     }
 }
 
-/// The session that a parsed document stands for, and its policy. The key of the policy is taken out of the table, so
-/// that nothing is copied.
-fn read_document(alloc: Global, document: Table) -> Result<Stated, Unread>
+/// The session that a parsed document stands for, and its policy (profile), or else the first rule that the document
+/// breaks. The key of the policy is taken out of the table, so that nothing is copied.
+pub fn read_document(alloc: Global, document: Table) -> Result<Stated, Unread>
     ensures session { IfOk result (λ read. IsSession (spec.session_part (table_view document)) read.session) }
     ensures policy { IfOk result (λ read. spec.HasPolicy (table_view document) read.policy) }
     ensures within { IfOk result (λ read. IsWithin read.session) }
@@ -160,7 +171,7 @@ fn policy_of(alloc: Global, value: &Option<Value>) -> Result<Option<Policy>, Unr
 /// A document's refusal as an input's.
 fn refused(refusal: SessionRefusal) -> Unread
     ensures not_toml { (bytes : List ℕ) → length bytes ≤ document_bytes → TellsNotToml bytes refusal
-        → spec.Tells (spec.DeservesUnread bytes) result }
+        → spec.Tells (spec.IsNoText bytes) result }
     ensures faulty { (rest : Members) (value : Option Data) → TellsFault (faults rest) refusal
         → spec.Tells (spec.BreaksParts rest value) result }
 {
@@ -177,7 +188,7 @@ fn refused(refusal: SessionRefusal) -> Unread
 }
 
 /// The steps of a session that can be run, under a policy where there is one.
-fn ruled_steps(
+pub(crate) fn ruled_steps(
     alloc: Global,
     session: &Session,
     policy: Option<Policy>,
@@ -192,11 +203,11 @@ fn ruled_steps(
 {
     what_is_denied_asks_for_less();
     let steps = steps_of(alloc, session)?;
-    Ok(ruled(alloc, session, policy, steps)?)
+    Ok(under_policy(alloc, session, policy, steps)?)
 }
 
-/// The steps of a session under a policy, where there is one.
-fn ruled(
+/// The steps of a session's clients under a policy, where there is one (profile).
+pub fn under_policy(
     alloc: Global,
     session: &Session,
     policy: Option<Policy>,
@@ -229,8 +240,8 @@ fn steps_of(alloc: Global, session: &Session) -> Result<Vec<Steps>, Unread>
     compiled(alloc, session, &indexes)
 }
 
-/// The steps of the scripts, by an index for each board.
-fn compiled(alloc: Global, session: &Session, indexes: &[Index]) -> Result<Vec<Steps>, Unread>
+/// The steps of the scripts of a session (profile), by an index for each board, or else the first faulty line.
+pub fn compiled(alloc: Global, session: &Session, indexes: &[Index]) -> Result<Vec<Steps>, Unread>
     requires { IsWithin session.now }
     ensures meant { IfOk result (λ steps. steps.items
         ≡ meant_steps session.now.boards indexes.now session.now.scripts) }

@@ -36,6 +36,12 @@ pub enum Refusal {
     },
     /// A session with a policy is to be served. A policy binds scripts alone.
     NoServe,
+    /// A session with several boards is to be recorded. A capture is of one board.
+    OneBoard,
+    /// The board of this name, whose traffic is to be recorded, is on a network.
+    NotSim {
+        name: Text,
+    },
     /// The tables cannot be compiled. The path is a register's name, or empty where it is the table that is at fault.
     Compile {
         table: Text,

@@ -20,4 +20,4 @@ pub use asking::client_plans;
 pub use board_plans::BoardPlans;
 pub use ipb_base::NoMemory;
 pub use parts::client_parts;
-pub use session::{RunFault, run_session};
+pub use session::{RunFault, run_greeted, run_session};

@@ -111,7 +111,7 @@ fn run_split<R: Rack, T: Threads + Wait + Sync, G: Gate>(
 }
 
 /// Runs the scripts on boards that were greeted, all at once, and gives each link back to the rack.
-fn run_greeted<R: Rack, T: Threads + Wait + Sync, G: Gate>(
+pub fn run_greeted<R: Rack, T: Threads + Wait + Sync, G: Gate>(
     rt: &T,
     alloc: Global,
     settings: Settings,

@@ -156,3 +156,175 @@ returns-in_ok-answer_load-in-Load-clause-leaves g c =
           (done_as IsRunFailure run.Rack IsFailure RackFault _ c.args.bytes.now made makes
           (no_pairs (map shown left.0)) answer left.2),
     )
+
+pub returns-in_err-describe_answer-in-Describe-clause-leaves : goal.returns-in_err-describe_answer-in-Describe-clause-leaves
+returns-in_err-describe_answer-in-Describe-clause-leaves g c =
+    let shown = shown_by g.R.L.Link.faults g.R.L.Link.quiets g.R.L.Link.gots g.R.L.Link.held g.R.L.Link.telling in
+    let made = g.R.Rack.made c.args.rack.now in
+    without_pairs shown g.D.Incoming.Source.left g.D.Incoming.Source.faults
+    g.D.Outgoing.Sink.written g.D.Outgoing.Sink.faults g.D.Outgoing.Sink.ended
+    _ _ _ _ _ _ refl refl
+    (Leaves IsFailure RackFault (terms_of c.args.command.now) c.args.bytes.now made made _)
+    (failure_left IsFailure RackFault shown _ (terms_of c.args.command.now) c.args.bytes.now _ _ NoMemory
+    c.from_residual-in_err-describe_answer-in-Describe.ensures.0 c.from_residual-in_err-describe_answer-in-Describe.ensures.1
+    (λ failed. failed))
+
+pub returns-in_ok-describe_answer-in-Describe-clause-leaves : goal.returns-in_ok-describe_answer-in-Describe-clause-leaves
+returns-in_ok-describe_answer-in-Describe-clause-leaves g c =
+    let shown = shown_by g.R.L.Link.faults g.R.L.Link.quiets g.R.L.Link.gots g.R.L.Link.held g.R.L.Link.telling in
+    let made = g.R.Rack.made c.args.rack.now in
+    let answer = c.in_ok-describe_answer-in-Describe.field-0 in
+    without_pairs shown g.D.Incoming.Source.left g.D.Incoming.Source.faults
+    g.D.Outgoing.Sink.written g.D.Outgoing.Sink.faults g.D.Outgoing.Sink.ended
+    _ _ _ _ _ _ refl refl
+    (Leaves IsFailure RackFault (terms_of c.args.command.now) c.args.bytes.now made made _)
+    (nothing_left IsFailure RackFault shown _ (terms_of c.args.command.now) c.args.bytes.now _ _
+    (subst (λ command. Owes (terms_of command) c.args.bytes.now (no_pairs []) answer.status answer.text.items)
+    (sym c.in-Describe.is) c.in_ok-describe_answer-in-Describe.ensures.owed)
+    (λ fault never. absurd cc))
+
+pub returns-in_err-undescribe_answer-in-Undescribe-clause-leaves : goal.returns-in_err-undescribe_answer-in-Undescribe-clause-leaves
+returns-in_err-undescribe_answer-in-Undescribe-clause-leaves g c =
+    let shown = shown_by g.R.L.Link.faults g.R.L.Link.quiets g.R.L.Link.gots g.R.L.Link.held g.R.L.Link.telling in
+    let made = g.R.Rack.made c.args.rack.now in
+    without_pairs shown g.D.Incoming.Source.left g.D.Incoming.Source.faults
+    g.D.Outgoing.Sink.written g.D.Outgoing.Sink.faults g.D.Outgoing.Sink.ended
+    _ _ _ _ _ _ refl refl
+    (Leaves IsFailure RackFault (terms_of c.args.command.now) c.args.bytes.now made made _)
+    (failure_left IsFailure RackFault shown _ (terms_of c.args.command.now) c.args.bytes.now _ _ NoMemory
+    c.from_residual-in_err-undescribe_answer-in-Undescribe.ensures.0 c.from_residual-in_err-undescribe_answer-in-Undescribe.ensures.1
+    (λ failed. failed))
+
+pub returns-in_ok-undescribe_answer-in-Undescribe-clause-leaves : goal.returns-in_ok-undescribe_answer-in-Undescribe-clause-leaves
+returns-in_ok-undescribe_answer-in-Undescribe-clause-leaves g c =
+    let shown = shown_by g.R.L.Link.faults g.R.L.Link.quiets g.R.L.Link.gots g.R.L.Link.held g.R.L.Link.telling in
+    let made = g.R.Rack.made c.args.rack.now in
+    let answer = c.in_ok-undescribe_answer-in-Undescribe.field-0 in
+    without_pairs shown g.D.Incoming.Source.left g.D.Incoming.Source.faults
+    g.D.Outgoing.Sink.written g.D.Outgoing.Sink.faults g.D.Outgoing.Sink.ended
+    _ _ _ _ _ _ refl refl
+    (Leaves IsFailure RackFault (terms_of c.args.command.now) c.args.bytes.now made made _)
+    (nothing_left IsFailure RackFault shown _ (terms_of c.args.command.now) c.args.bytes.now _ _
+    (subst (λ command. Owes (terms_of command) c.args.bytes.now (no_pairs []) answer.status answer.text.items)
+    (sym c.in-Undescribe.is) c.in_ok-undescribe_answer-in-Undescribe.ensures.owed)
+    (λ fault never. absurd cc))
+
+pub returns-in_err-record_document-in-Record-clause-leaves : goal.returns-in_err-record_document-in-Record-clause-leaves
+returns-in_err-record_document-in-Record-clause-leaves g c =
+    let shown = shown_by g.R.L.Link.faults g.R.L.Link.quiets g.R.L.Link.gots g.R.L.Link.held g.R.L.Link.telling in
+    let made = g.R.Rack.made c.args.rack.now in
+    let makes = g.R.Rack.made c.record_document.new.rack in
+    let left = c.in_err-record_document-in-Record.ensures.leaves in
+    let result = c.from_residual-in_err-record_document-in-Record.result in
+    without_pairs shown g.D.Incoming.Source.left g.D.Incoming.Source.faults
+    g.D.Outgoing.Sink.written g.D.Outgoing.Sink.faults g.D.Outgoing.Sink.ended
+    _ _ _ _ _ _ refl refl
+    (Leaves IsFailure RackFault (terms_of c.args.command.now) c.args.bytes.now made makes result) (
+      left.0,
+      left.1,
+      subst (λ command. Leaves IsFailure RackFault (terms_of command) c.args.bytes.now made makes result
+          (no_pairs (map shown left.0))) (sym c.in-Record.is)
+          (failed_as IsRunFailure run.Rack IsFailure RackFault _ c.args.bytes.now made makes
+          (no_pairs (map shown left.0)) no_answer_of c.in_err-record_document-in-Record.field-0.0 result (run_behind _)
+          (run_rack _) c.from_residual-in_err-record_document-in-Record.ensures.0
+          c.from_residual-in_err-record_document-in-Record.ensures.1 left.2),
+    )
+
+pub returns-in_ok-record_document-in-Record-clause-leaves : goal.returns-in_ok-record_document-in-Record-clause-leaves
+returns-in_ok-record_document-in-Record-clause-leaves g c =
+    let shown = shown_by g.R.L.Link.faults g.R.L.Link.quiets g.R.L.Link.gots g.R.L.Link.held g.R.L.Link.telling in
+    let made = g.R.Rack.made c.args.rack.now in
+    let makes = g.R.Rack.made c.record_document.new.rack in
+    let left = c.in_ok-record_document-in-Record.ensures.leaves in
+    let answer = c.in_ok-record_document-in-Record.field-0 in
+    without_pairs shown g.D.Incoming.Source.left g.D.Incoming.Source.faults
+    g.D.Outgoing.Sink.written g.D.Outgoing.Sink.faults g.D.Outgoing.Sink.ended
+    _ _ _ _ _ _ refl refl
+    (Leaves IsFailure RackFault (terms_of c.args.command.now) c.args.bytes.now made makes (Ok answer)) (
+      left.0,
+      left.1,
+      subst (λ command. Leaves IsFailure RackFault (terms_of command) c.args.bytes.now made makes (Ok answer)
+          (no_pairs (map shown left.0))) (sym c.in-Record.is)
+          (done_as IsRunFailure run.Rack IsFailure RackFault _ c.args.bytes.now made makes
+          (no_pairs (map shown left.0)) answer left.2),
+    )
+
+pub returns-in_err-save_document-in-Save-clause-leaves : goal.returns-in_err-save_document-in-Save-clause-leaves
+returns-in_err-save_document-in-Save-clause-leaves g c =
+    let shown = shown_by g.R.L.Link.faults g.R.L.Link.quiets g.R.L.Link.gots g.R.L.Link.held g.R.L.Link.telling in
+    let made = g.R.Rack.made c.args.rack.now in
+    let makes = g.R.Rack.made c.save_document.new.rack in
+    let left = c.in_err-save_document-in-Save.ensures.leaves in
+    let result = c.from_residual-in_err-save_document-in-Save.result in
+    without_pairs shown g.D.Incoming.Source.left g.D.Incoming.Source.faults
+    g.D.Outgoing.Sink.written g.D.Outgoing.Sink.faults g.D.Outgoing.Sink.ended
+    _ _ _ _ _ _ refl refl
+    (Leaves IsFailure RackFault (terms_of c.args.command.now) c.args.bytes.now made makes result) (
+      left.0,
+      left.1,
+      subst (λ command. Leaves IsFailure RackFault (terms_of command) c.args.bytes.now made makes result
+          (no_pairs (map shown left.0))) (sym c.in-Save.is)
+          (failed_as IsRunFailure run.Rack IsFailure RackFault _ c.args.bytes.now made makes
+          (no_pairs (map shown left.0)) no_answer_of c.in_err-save_document-in-Save.field-0.0 result (run_behind _)
+          (run_rack _) c.from_residual-in_err-save_document-in-Save.ensures.0
+          c.from_residual-in_err-save_document-in-Save.ensures.1 left.2),
+    )
+
+pub returns-in_ok-save_document-in-Save-clause-leaves : goal.returns-in_ok-save_document-in-Save-clause-leaves
+returns-in_ok-save_document-in-Save-clause-leaves g c =
+    let shown = shown_by g.R.L.Link.faults g.R.L.Link.quiets g.R.L.Link.gots g.R.L.Link.held g.R.L.Link.telling in
+    let made = g.R.Rack.made c.args.rack.now in
+    let makes = g.R.Rack.made c.save_document.new.rack in
+    let left = c.in_ok-save_document-in-Save.ensures.leaves in
+    let answer = c.in_ok-save_document-in-Save.field-0 in
+    without_pairs shown g.D.Incoming.Source.left g.D.Incoming.Source.faults
+    g.D.Outgoing.Sink.written g.D.Outgoing.Sink.faults g.D.Outgoing.Sink.ended
+    _ _ _ _ _ _ refl refl
+    (Leaves IsFailure RackFault (terms_of c.args.command.now) c.args.bytes.now made makes (Ok answer)) (
+      left.0,
+      left.1,
+      subst (λ command. Leaves IsFailure RackFault (terms_of command) c.args.bytes.now made makes (Ok answer)
+          (no_pairs (map shown left.0))) (sym c.in-Save.is)
+          (done_as IsRunFailure run.Rack IsFailure RackFault _ c.args.bytes.now made makes
+          (no_pairs (map shown left.0)) answer left.2),
+    )
+
+pub returns-in_err-apply_document-in-Apply-clause-leaves : goal.returns-in_err-apply_document-in-Apply-clause-leaves
+returns-in_err-apply_document-in-Apply-clause-leaves g c =
+    let shown = shown_by g.R.L.Link.faults g.R.L.Link.quiets g.R.L.Link.gots g.R.L.Link.held g.R.L.Link.telling in
+    let made = g.R.Rack.made c.args.rack.now in
+    let makes = g.R.Rack.made c.apply_document.new.rack in
+    let left = c.in_err-apply_document-in-Apply.ensures.leaves in
+    let result = c.from_residual-in_err-apply_document-in-Apply.result in
+    without_pairs shown g.D.Incoming.Source.left g.D.Incoming.Source.faults
+    g.D.Outgoing.Sink.written g.D.Outgoing.Sink.faults g.D.Outgoing.Sink.ended
+    _ _ _ _ _ _ refl refl
+    (Leaves IsFailure RackFault (terms_of c.args.command.now) c.args.bytes.now made makes result) (
+      left.0,
+      left.1,
+      subst (λ command. Leaves IsFailure RackFault (terms_of command) c.args.bytes.now made makes result
+          (no_pairs (map shown left.0))) (sym c.in-Apply.is)
+          (failed_as IsRunFailure run.Rack IsFailure RackFault _ c.args.bytes.now made makes
+          (no_pairs (map shown left.0)) no_answer_of c.in_err-apply_document-in-Apply.field-0.0 result (run_behind _)
+          (run_rack _) c.from_residual-in_err-apply_document-in-Apply.ensures.0
+          c.from_residual-in_err-apply_document-in-Apply.ensures.1 left.2),
+    )
+
+pub returns-in_ok-apply_document-in-Apply-clause-leaves : goal.returns-in_ok-apply_document-in-Apply-clause-leaves
+returns-in_ok-apply_document-in-Apply-clause-leaves g c =
+    let shown = shown_by g.R.L.Link.faults g.R.L.Link.quiets g.R.L.Link.gots g.R.L.Link.held g.R.L.Link.telling in
+    let made = g.R.Rack.made c.args.rack.now in
+    let makes = g.R.Rack.made c.apply_document.new.rack in
+    let left = c.in_ok-apply_document-in-Apply.ensures.leaves in
+    let answer = c.in_ok-apply_document-in-Apply.field-0 in
+    without_pairs shown g.D.Incoming.Source.left g.D.Incoming.Source.faults
+    g.D.Outgoing.Sink.written g.D.Outgoing.Sink.faults g.D.Outgoing.Sink.ended
+    _ _ _ _ _ _ refl refl
+    (Leaves IsFailure RackFault (terms_of c.args.command.now) c.args.bytes.now made makes (Ok answer)) (
+      left.0,
+      left.1,
+      subst (λ command. Leaves IsFailure RackFault (terms_of command) c.args.bytes.now made makes (Ok answer)
+          (no_pairs (map shown left.0))) (sym c.in-Apply.is)
+          (done_as IsRunFailure run.Rack IsFailure RackFault _ c.args.bytes.now made makes
+          (no_pairs (map shown left.0)) answer left.2),
+    )

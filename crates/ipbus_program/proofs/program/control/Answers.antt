@@ -2,6 +2,7 @@ use Rattle.std.proofs.Common.{string_bytes, Some, Ok, Err, [], ◌∙◌, ◌≤
 use Rattle.std.proofs.Common.{append-nil, sym, subst, arith, rules, refl}
 use Rattle.ipb_outside.specs.Told.{TakesCount}
 use Rattle.board_greeting.specs.Boards.{shown_by}
+use Rattle.command_words.specs.declared.command.Command.TheVariants.{Record}
 use Rattle.command_terms.specs.Numbers.{no_memory_status, rack_fault_status, read_fault_status, refused_status}
 use Rattle.command_terms.specs.Numbers.{door_fault_status, usage_status}
 use Rattle.command_terms.specs.Terms.{most_bytes}
@@ -11,7 +12,7 @@ use Rattle.ipbus_program.specs.declared.no_answer.NoAnswer.TheVariants.{DoorFaul
 use Rattle.ipbus_program.specs.Ended.{Ended}
 use Rattle.ipbus_program.specs.Owed.{AreCommand, AreNoCommand, HasInput}
 use Rattle.ipbus_program.specs.Steps.{InputLeaves}
-use Rattle.ipbus_program.proofs.Causes.{status_is}
+use Rattle.ipbus_program.proofs.Causes.{status_is, written_as}
 use Rattle.ipbus_program.proofs.Deserved.{accepted_whole, deserved_refused, no_failure, one_command, reads_of}
 use Rattle.ipbus_program.proofs.Deserved.{taken_of_long, used_undeserved}
 use Rattle.ipbus_program.proofs.Ending.{delivered, delivered_stays, failed_with, no_rack_fault, outside}
@@ -284,6 +285,13 @@ returns-in-Ok-clause-shut g c =
           c.deliver-in-Ok.ensures.delivers),
       c.in-Ok.ensures.none_out,
     )
+
+pub returns-in-Ok-clause-recorded : goal.returns-in-Ok-clause-recorded
+returns-in-Ok-clause-recorded g c asked done =
+    let are : AreCommand c.args.words.now c.in-Ok-Some.command = search rules in
+    let same = one_command c.args.words.now c.in-Ok-Some.command Record are asked in
+    written_as _ c.in-Ok.answer.status c.in-Ok.answer.text.items c.as_slice.result.now c.as_slice.ensures.value _ _ _ _
+    c.deliver-in-Ok.result c.deliver-in-Ok.ensures.delivers done (c.in-Ok.ensures.traffic same)
 
 pub returns-in-Ok-clause-unbroken : goal.returns-in-Ok-clause-unbroken
 returns-in-Ok-clause-unbroken g c command bytes asked has unbroken unfaulted quiet =

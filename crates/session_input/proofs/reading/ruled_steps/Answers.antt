@@ -9,23 +9,23 @@ use Rattle.session_input.proofs.reading.ruled_steps.Goals as goal
 pub returns-clause-packed : goal.returns-clause-packed
 returns-clause-packed c =
     all_still (AllByRecursion CanBePacked) c.what_is_denied_asks_for_less.ensures.packed c.args.policy
-    (names_of c.args.session.now.boards) c.in_ok-steps.steps.items c.in_ok-ruled.field-0.items c.in_ok-ruled.ensures
+    (names_of c.args.session.now.boards) c.in_ok-steps.steps.items c.in_ok-under_policy.field-0.items c.in_ok-under_policy.ensures
     c.in_ok-steps.ensures.packed
 
 pub returns-clause-few : goal.returns-clause-few
 returns-clause-few c =
     all_still HaveFewPieces c.what_is_denied_asks_for_less.ensures.few c.args.policy
-    (names_of c.args.session.now.boards) c.in_ok-steps.steps.items c.in_ok-ruled.field-0.items c.in_ok-ruled.ensures
+    (names_of c.args.session.now.boards) c.in_ok-steps.steps.items c.in_ok-under_policy.field-0.items c.in_ok-under_policy.ensures
     c.in_ok-steps.ensures.few
 
 pub returns-clause-limits : goal.returns-clause-limits
 returns-clause-limits c =
     within_still c.what_is_denied_asks_for_less.ensures.limits c.args.policy (names_of c.args.session.now.boards)
-    c.in_ok-steps.steps.items c.in_ok-ruled.field-0.items c.in_ok-ruled.ensures c.in_ok-steps.ensures.limits
+    c.in_ok-steps.steps.items c.in_ok-under_policy.field-0.items c.in_ok-under_policy.ensures c.in_ok-steps.ensures.limits
 
 pub returns-clause-short : goal.returns-clause-short
 returns-clause-short c =
     all_still (λ steps. length steps ≤ MAX_LINES)
     (short_still c.what_is_denied_asks_for_less.ensures.count MAX_LINES) c.args.policy
-    (names_of c.args.session.now.boards) c.in_ok-steps.steps.items c.in_ok-ruled.field-0.items c.in_ok-ruled.ensures
+    (names_of c.args.session.now.boards) c.in_ok-steps.steps.items c.in_ok-under_policy.field-0.items c.in_ok-under_policy.ensures
     c.in_ok-steps.ensures.short

@@ -1,0 +1,7 @@
+pub mod Joint
+pub mod Walks
+pub mod Shown
+pub mod Sends
+pub mod Spelled
+pub mod Runs
+pub mod Lanes

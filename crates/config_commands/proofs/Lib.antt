@@ -1,0 +1,5 @@
+pub mod Leaving
+pub mod Owed
+pub mod Refused
+pub mod Texts
+pub mod OneClient

@@ -1,0 +1,75 @@
+use Rattle.std.proofs.Common.{◌≡◌, ◌<◌, ◌^◌, length, map, rules, subst, arith}
+use Rattle.session_run.specs.declared.session.RunFault.TheVariants.{NoMemory, Rack}
+use Rattle.board_greeting.specs.Boards.{shown_by}
+use Rattle.command_terms.specs.Leaving.{IsRunFailure}
+use Rattle.command_terms.proofs.Leaving.{error_left, failure_left, refusal_left}
+use Rattle.run_laws.specs.Steps.{MayRun}
+use Rattle.config_input.specs.Deserved.{BreaksInApply}
+use Rattle.config_input.specs.Work.{apply_command}
+use Rattle.config_commands.specs.Steps.{RunLeaves}
+use Rattle.config_commands.specs.Terms.{IsRefusedBy, apply_terms}
+use Rattle.config_commands.proofs.Leaving.{kept_unless_refused}
+use Rattle.config_commands.proofs.Owed.{apply_leaves}
+use Rattle.config_commands.proofs.commands.apply_document.Goals as goal
+
+pub write_configuration-requires-runs-after_bounds : goal.write_configuration-requires-runs-after_bounds
+write_configuration-requires-runs-after_bounds g c κs within =
+    let session = c.in-Ok.read.session in
+    let steps = c.in-Ok.read.steps.items in
+    let alone = c.in-Ok.ensures.alone in
+    let few : length steps < 2 ^ 32 = omega (arith, alone) in
+    let ready : MayRun session steps =
+    c.steps_that_fit_may_be_run.ensures session steps
+    (c.steps_for_a_command_can_be_run.ensures.apply c.args.bytes.now session steps c.in-Ok.ensures.applicable)
+    few c.in-Ok.ensures.packed c.in-Ok.ensures.few c.in-Ok.ensures.limits c.in-Ok.ensures.short in
+    rw c.deref.ensures.value ready
+
+pub returns-in_err-refused-in-Err-Refused-clause-leaves :
+    goal.returns-in_err-refused-in-Err-Refused-clause-leaves
+returns-in_err-refused-in-Err-Refused-clause-leaves g c =
+    let shown = shown_by g.R.L.Link.faults g.R.L.Link.quiets g.R.L.Link.gots g.R.L.Link.held g.R.L.Link.telling in
+    failure_left IsRunFailure Rack shown _ apply_terms c.args.bytes.now _ c.from_residual.result NoMemory
+    c.from_residual.ensures.0 c.from_residual.ensures.1 (λ failed. failed)
+
+pub returns-in-Ok-clause-leaves : goal.returns-in-Ok-clause-leaves
+returns-in-Ok-clause-leaves g c =
+    let left = c.write_configuration.ensures.leaves in
+    let shown = shown_by g.R.L.Link.faults g.R.L.Link.quiets g.R.L.Link.gots g.R.L.Link.held g.R.L.Link.telling in
+    let made = g.R.Rack.made c.args.rack.now in
+    let makes = g.R.Rack.made c.write_configuration.new.rack in
+    let session = c.in-Ok.read.session in
+    let steps = c.in-Ok.read.steps.items in (
+      left.0,
+      left.1,
+      apply_leaves c.runs_over_links_are_runs_of_a_session.ensures
+          c.applied_texts_are_those_of_given_and_opening_values.ensures c.args.bytes.now session steps made makes
+          c.write_configuration.result (map shown left.0) c.in-Ok.ensures.applicable c.in-Ok.ensures.alone
+          (c.steps_for_a_command_can_be_run.ensures.apply c.args.bytes.now session steps c.in-Ok.ensures.applicable)
+          (subst (λ steps. RunLeaves session steps made makes c.write_configuration.result (map shown left.0))
+          c.deref.ensures.value left.2),
+    )
+
+pub returns-in-Ok-clause-refused : goal.returns-in-Ok-clause-refused
+returns-in-Ok-clause-refused g c =
+    kept_unless_refused _ c.in-Ok.read.session c.deref.result.now _ c.write_configuration.result
+    c.write_configuration.ensures.leaves.2.writes
+
+pub returns-in_ok-refused-in-Err-Refused-clause-leaves :
+    goal.returns-in_ok-refused-in-Err-Refused-clause-leaves
+returns-in_ok-refused-in-Err-Refused-clause-leaves g c =
+    let shown = shown_by g.R.L.Link.faults g.R.L.Link.quiets g.R.L.Link.gots g.R.L.Link.held g.R.L.Link.telling in
+    let deserved : BreaksInApply c.args.bytes.now c.in-Err-Refused.refusal = search rules in
+    let answer = c.in_ok-refused-in-Err-Refused.field-0 in
+    let refused : IsRefusedBy apply_command c.args.bytes.now answer.text.items =
+    record {
+      refusal = c.in-Err-Refused.refusal;
+      deserved = deserved;
+      spelled = c.in_ok-refused-in-Err-Refused.ensures.text;
+    } in
+    refusal_left IsRunFailure Rack shown _ apply_terms c.args.bytes.now _ answer refused
+    c.in_ok-refused-in-Err-Refused.ensures.status
+
+pub returns-in-Err-NoMemory-clause-leaves : goal.returns-in-Err-NoMemory-clause-leaves
+returns-in-Err-NoMemory-clause-leaves g c =
+    let shown = shown_by g.R.L.Link.faults g.R.L.Link.quiets g.R.L.Link.gots g.R.L.Link.held g.R.L.Link.telling in
+    error_left IsRunFailure Rack shown _ apply_terms c.args.bytes.now _ NoMemory (λ failed. failed)

@@ -1,0 +1,112 @@
+-- The datagrams of a link as a tap keeps them, and how they stand to what the link tells of its own. Profile.
+use Rattle.std.specs.Prelude.{◌≡◌, ℕ, Bool, true, false, not, List, [], ◌∷◌, map, Option, Some, IfSome}
+use Rattle.std.specs.Prelude.{Result, Ok, Err}
+use Rattle.std.specs.List.{filter, slice_get}
+use Rattle.world_model.specs.declared.datagram.Datagram.{Datagram}
+use Rattle.world_model.specs.declared.datagram.Direction.TheVariants.{ToBoard, ToHub}
+use Rattle.world_model.specs.Air.{goes_to, is_alive}
+use Rattle.world_core.specs.declared.link.LinkFault.{LinkFault}
+use Rattle.world_core.specs.declared.link.Received.{Received}
+use Rattle.world_core.specs.declared.link.Received.TheVariants.{Got, Quiet}
+use Rattle.world_core.specs.Airs.{birth_after}
+use Rattle.world_core.specs.Telling.{Telling}
+use Rattle.capture_reader.specs.declared.capture.Caught.{Caught}
+use Rattle.capture_reader.specs.CaptureText.{AreItems}
+
+-- a link, and the datagrams that were sent on it and received from it, in the order of the calls
+pub record Tapped (L : Type 0) : Type 0 where
+  pub link : L
+  pub caught : List Caught
+
+-- a datagram that the hub sent, and one that it received
+abbrev pub sent_item : List ℕ → Caught
+sent_item bytes = record { sent = true; bytes = bytes }
+
+abbrev pub received_item : List ℕ → Caught
+received_item bytes = record { sent = false; bytes = bytes }
+
+-- the bytes of those that were sent, and of those that were received, each in their order
+abbrev pub is_sent : Caught → Bool
+is_sent item = item.sent
+
+abbrev pub is_received : Caught → Bool
+is_received item = not item.sent
+
+abbrev pub bytes_of : Caught → List ℕ
+bytes_of item = item.bytes
+
+abbrev pub sent_in : List Caught → List (List ℕ)
+sent_in items = map bytes_of (filter is_sent items)
+
+abbrev pub received_in : List Caught → List (List ℕ)
+received_in items = map bytes_of (filter is_received items)
+
+-- the bytes of the datagrams of an air that are for the board, in order
+abbrev pub is_for_board : Datagram → Bool
+is_for_board datagram = goes_to ToBoard datagram.direction
+
+abbrev pub carried : Datagram → List ℕ
+carried datagram = datagram.bytes
+
+abbrev pub for_board : List Datagram → List (List ℕ)
+for_board air = map carried (filter is_for_board air)
+
+-- these datagrams stand at these places of an air, and each is for the hub
+pub record IsForHubAt (air : List Datagram) (place : ℕ) (datagram : Datagram) : Type 0 where
+  pub there : slice_get air place ≡ Some datagram
+  pub for_hub : datagram.direction ≡ ToHub
+
+abbrev pub AreForHubAt : List Datagram → List ℕ → List Datagram → Type 0
+AreForHubAt air [] [] = Unit {0}
+AreForHubAt air [] (datagram ∷ later) = ⊥
+AreForHubAt air (place ∷ places) [] = ⊥
+AreForHubAt air (place ∷ places) (datagram ∷ later) =
+    IsForHubAt air place datagram × AreForHubAt air places later
+
+-- the first of these datagrams is within its lifetime after so many first sends
+abbrev pub IsNextAlive : ℕ → List Datagram → Type 0
+IsNextAlive sent [] = ⊥
+IsNextAlive sent (datagram ∷ later) = is_alive sent datagram ≡ true
+
+abbrev pub behind_next : List Datagram → List Datagram
+behind_next [] = []
+behind_next (datagram ∷ later) = later
+
+-- what holds of a datagram that was sent, or of one that was received
+abbrev pub ByKind : Bool → Type 0 → Type 0 → Type 0
+ByKind true Sent Received = Sent
+ByKind false Sent Received = Received
+
+-- Each received datagram, which is the next of these, was within its lifetime when it was received: as many first sends
+-- were counted by then, from so many on, as stand among the datagrams that were sent before it.
+abbrev pub WereAlive : ℕ → ℕ → List Datagram → List Caught → Type 0
+WereAlive first sent handed [] = Unit {0}
+WereAlive first sent handed (item ∷ items) = ByKind item.sent
+    (WereAlive first (birth_after first sent item.bytes) handed items)
+    (IsNextAlive sent handed × WereAlive first sent (behind_next handed) items)
+
+-- These are all datagrams of a link that tells, in the order of its calls: those that were sent are the ones for the
+-- board in its air, all of them and in order, and those that were received are the ones that it handed out, in order,
+-- each within its lifetime then.
+pub record IsTrafficOf (telling : Telling) (items : List Caught) : Type 0 where
+  pub sent : sent_in items ≡ for_board telling.told.air
+  pub heard : List Datagram
+  pub handed : AreForHubAt telling.told.air telling.handed heard
+  pub received : received_in items ≡ map carried heard
+  pub alive : WereAlive telling.told.board.first 0 heard items
+
+-- nothing was sent on the link yet, and nothing was handed out
+pub record IsUnused (telling : Telling) : Type 0 where
+  pub air : telling.told.air ≡ []
+  pub handed : telling.handed ≡ []
+
+-- what a receive that came to this adds to them
+abbrev pub caught_after : Result Received LinkFault → List ℕ → List Caught
+caught_after (Ok Got) bytes = received_item bytes ∷ []
+caught_after (Ok Quiet) bytes = []
+caught_after (Err fault) bytes = []
+
+-- what a tap has caught, over a link that tells this
+pub record HasCaught (telling : Option Telling) (items : List Caught) : Type 0 where
+  pub short : AreItems items
+  pub traffic : IfSome telling (λ t. IsTrafficOf t items)

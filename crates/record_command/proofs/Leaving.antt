@@ -1,0 +1,116 @@
+-- What a recording leaves, put together from what its steps say.
+use Rattle.std.proofs.Common.{◌≡◌, inl, inr, ℕ, ◌+◌, ◌==◌, ◌&&◌, List, length}
+use Rattle.std.proofs.Common.{Result, Ok, Err, IfOk, Some}
+use Rattle.std.proofs.Common.{sym, ap, ◌∙◌}
+use Rattle.std.specs.List.{AllByRecursion}
+use Rattle.std.specs.Result.{IsErr, IsErrAnd}
+use Rattle.lane_history.specs.Links.{LinkReport, IsUntouched}
+use Rattle.lane_history.specs.Runs.{AreRunsOver}
+use Rattle.script_steps.specs.declared.operation.Step.{Step}
+use Rattle.script_lang.specs.declared.session.Session.{Session}
+use Rattle.session_input.specs.Recording.{IsRecordable}
+use Rattle.session_run.specs.declared.session.RunFault.{RunFault}
+use Rattle.session_run.specs.declared.session.RunFault.TheVariants.{Rack, NoMemory}
+use Rattle.session_run.specs.Links.{AreLeft}
+use Rattle.script_plans.specs.declared.board_run.BoardRun.{BoardRun}
+use Rattle.transcript.specs.Lines.{all_good, transcript_of}
+use Rattle.command_terms.specs.declared.answer.Answer.{Answer}
+use Rattle.command_terms.specs.Leaving.{IsRunFailure, Leaves}
+use Rattle.command_terms.specs.Numbers.{refused_status}
+use Rattle.command_terms.specs.Outside.{no_pairs}
+use Rattle.command_terms.specs.Terms.{Owes}
+use Rattle.command_terms.proofs.Leaving.{none_served}
+use Rattle.command_terms.proofs.Statuses.{done_is_no_refusal, told_is_done}
+use Rattle.run_laws.specs.Runs.{IsSessionRun}
+use Rattle.run_laws.specs.Steps.{CanRunSteps}
+use Rattle.capture_reader.specs.declared.capture.Capture.{Capture}
+use Rattle.record_command.specs.Headline.{RecordedSomeOf, body_count, first_in}
+use Rattle.record_command.specs.Steps.{RecordLeaves, Records, Writes}
+use Rattle.record_command.specs.Terms.{record_terms}
+
+failure : Result Answer RunFault → RunFault
+failure (Ok answer) = NoMemory
+failure (Err fault) = fault
+
+pub record_failed : (session : Session) (steps : List (List Step)) (made makes : ℕ) (result : Result Answer RunFault)
+    (fault : RunFault) (links : List LinkReport) → AreLeft 0 session.boards steps links → makes ≡ made + length links
+    → IsErr result → IsErrAnd result (λ why. why ≡ fault) → (fault ≡ Rack → AllByRecursion IsUntouched links)
+    → RecordLeaves session steps made makes result links
+unfolding failure
+record_failed session steps made makes (Ok answer) fault links left counted fails is untouched = absurd cc
+record_failed session steps made makes (Err why) fault links left counted fails is untouched = record {
+  left = left;
+  counted = counted;
+  records = tt;
+  untouched = λ rack. untouched (sym is ∙ ap failure rack);
+}
+
+pub record_written : (session : Session) (steps : List (List Step)) (made makes : ℕ) (answer : Answer)
+    (runs : List BoardRun) (capture : Capture) (links : List LinkReport) → AreLeft 0 session.boards steps links
+    → makes ≡ made + length links → AreRunsOver session.settings 0 session.boards steps runs links
+    → first_in session.boards ≡ Some capture.first
+    → Writes steps runs capture answer.status answer.text.items
+    → RecordLeaves session steps made makes (Ok answer) links
+record_written session steps made makes answer runs capture links left counted boards first writes = record {
+  left = left;
+  counted = counted;
+  records = record { runs = runs; boards = boards; capture = capture; first = first; writes = writes };
+  untouched = λ never. absurd cc;
+}
+
+-- outcomes over links are a run of the steps
+abbrev pub RunsLaw : Type 0
+RunsLaw = (session : Session) (steps : List (List Step)) (runs : List BoardRun) (links : List LinkReport)
+    → CanRunSteps session steps → AreRunsOver session.settings 0 session.boards steps runs links
+    → IsSessionRun session steps runs links
+
+owed_by : RunsLaw → (bytes : List ℕ) (session : Session) (steps : List (List Step)) (links : List LinkReport)
+    (result : Result Answer RunFault) → IsRecordable bytes session steps → CanRunSteps session steps
+    → IfOk result (λ answer. Records session steps links answer.status answer.text.items)
+    → IfOk result (λ answer. Owes record_terms bytes (no_pairs links) answer.status answer.text.items)
+owed_by law bytes session steps links (Ok answer) is can records =
+    inl (record {
+      session = session;
+      steps = steps;
+      recordable = is;
+      runs = records.runs;
+      run = law session steps records.runs links can records.boards;
+      capture = records.capture;
+      first = records.first;
+      has_text = records.writes.has_text;
+      spelled = records.writes.spelled;
+      proved = records.writes.proved;
+      is_proved = records.writes.is_proved;
+      told = records.writes.told;
+    })
+owed_by law bytes session steps links (Err why) is can records = tt
+
+pub record_leaves : RunsLaw → (bytes : List ℕ) (session : Session) (steps : List (List Step)) (made makes : ℕ)
+    (result : Result Answer RunFault) (links : List LinkReport) → IsRecordable bytes session steps
+    → CanRunSteps session steps → RecordLeaves session steps made makes result links
+    → Leaves IsRunFailure Rack record_terms bytes made makes result (no_pairs links)
+record_leaves law bytes session steps made makes result links is can leaves =
+    let recorded : RecordedSomeOf bytes links =
+    record { session = session; steps = steps; recordable = is; left = leaves.left } in record {
+      used = inr recorded;
+      counted = leaves.counted;
+      back = none_served;
+      owed = owed_by law bytes session steps links result is can leaves.records;
+      behind = λ fault failed why. recorded;
+      untouched = leaves.untouched;
+    }
+
+no_refusal : (session : Session) (steps : List (List Step)) (links : List LinkReport) (answer : Answer)
+    → Records session steps links answer.status answer.text.items → answer.status ≡ refused_status → ⊥
+no_refusal session steps links answer records refused =
+    done_is_no_refusal answer.status
+    (told_is_done (all_good (transcript_of steps records.runs).clients
+    && (records.writes.proved == body_count records.runs)) answer.status records.writes.told) refused
+
+pub kept_unless_refused : (P : Type 0) (session : Session) (steps : List (List Step)) (links : List LinkReport)
+    (result : Result Answer RunFault)
+    → IfOk result (λ answer. Records session steps links answer.status answer.text.items)
+    → IfOk result (λ answer. answer.status ≡ refused_status → P)
+kept_unless_refused P session steps links (Ok answer) records = λ refused.
+    absurd (no_refusal session steps links answer records refused)
+kept_unless_refused P session steps links (Err why) records = tt

@@ -1,0 +1,95 @@
+-- What `record` promises of the text that it writes with status 0 or 1. Profile.
+--
+-- It is one record, `IsRecordOf`, of what the link that was given back shows, and another, `ShowsTraffic`, of what the
+-- link itself tells of its datagrams. A text is that of one capture, so both speak of the same.
+--
+--   the session, its policy      IsRecordable                            session_input/specs/Recording
+--   a run of it                  IsSessionRun                            run_laws/specs/Runs
+--   the text                     capture_text                            capture_reader/specs/CaptureText
+--   what the capture proves      IsProved                                capture_reader/specs/Proved
+--   the datagrams of the link    IsTrafficOf                             link_tap/specs/Traffic
+use Rattle.std.specs.Prelude.{◌≡◌, ℕ, ◌==◌, ◌&&◌, Bool, List, [], ◌∷◌, ◌++◌, length, sum_by, Option, Some, None, IfSome}
+use Rattle.packet_ids.specs.Identifier.{IsIdentifier}
+use Rattle.board_node.specs.declared.spec.BoardSpec.{BoardSpec}
+use Rattle.board_node.specs.declared.spec.LinkSpec.{LinkSpec}
+use Rattle.board_node.specs.declared.spec.LinkSpec.TheVariants.{Sim, Udp}
+use Rattle.world_core.specs.Telling.{Telling}
+use Rattle.lane_history.specs.Links.{LinkReport}
+use Rattle.script_steps.specs.declared.operation.Step.{Step}
+use Rattle.script_lang.specs.declared.session.Session.{Session}
+use Rattle.script_plans.specs.declared.board_run.BoardRun.{BoardRun}
+use Rattle.script_plans.specs.declared.board_run.ClientPart.{ClientPart}
+use Rattle.transcript.specs.Lines.{all_good, transcript_of}
+use Rattle.session_input.specs.Recording.{IsRecordable}
+use Rattle.session_run.specs.Links.{AreLeft}
+use Rattle.run_laws.specs.Runs.{IsSessionRun}
+use Rattle.command_terms.specs.Numbers.{told_status}
+use Rattle.capture_reader.specs.declared.capture.Capture.{Capture}
+use Rattle.capture_reader.specs.CaptureText.{IsCapture, capture_text}
+use Rattle.capture_reader.specs.Proved.{IsProved}
+use Rattle.link_tap.specs.Traffic.{IsTrafficOf}
+
+-- the identifier that the one board of a session expects first
+abbrev pub first_of : LinkSpec → Option ℕ
+first_of (Sim mtu buffers first ranges fates) = Some first
+first_of (Udp address port wait) = None
+
+abbrev pub first_in : List BoardSpec → Option ℕ
+first_in [] = None
+first_in (board ∷ boards) = first_of board.link
+
+-- how many bodies the clients ask of boards
+abbrev pub bodies_of_part : ClientPart → ℕ
+bodies_of_part part = length part.planned.bodies
+
+abbrev pub bodies_of_run : BoardRun → ℕ
+bodies_of_run run = sum_by bodies_of_part run.parts
+
+abbrev pub body_count : List BoardRun → ℕ
+body_count runs = sum_by bodies_of_run runs
+
+-- Of the bytes of the input, what the link that was given back shows, the status and the text:
+pub record IsRecordOf (bytes : List ℕ) (links : List LinkReport) (status : ℕ) (text : List ℕ) : Type 0 where
+  -- the bytes stand for a session of one simulated board that can be run, and under its policy these are the steps of
+  -- its scripts
+  pub session : Session
+  pub steps : List (List Step)
+  pub recordable : IsRecordable bytes session steps
+  -- there is an outcome for each body that the scripts ask of the board, such that it is a run of these steps over this
+  -- link, with one order of bodies, and all that the lines of such a run show; these lines are not written
+  pub runs : List BoardRun
+  pub run : IsSessionRun session steps runs links
+  -- the text is that of a capture from the board's first identifier on, and nothing else
+  pub capture : Capture
+  pub first : first_in session.boards ≡ Some capture.first
+  pub has_text : IsCapture capture
+  pub spelled : text ≡ capture_text capture
+  -- the status is 0 exactly where every line of an operation is a value, `done` or `was`, and the capture proves that the
+  -- board executed all bodies that the scripts ask of it
+  pub proved : ℕ
+  pub is_proved : IsProved capture proved
+  pub told : status ≡ told_status (all_good (transcript_of steps runs).clients && (proved == body_count runs))
+
+-- Of the link of the one board, where it tells:
+pub record ShowsTraffic (text : List ℕ) (telling : Telling) : Type 0 where
+  -- the text is that of a capture from the board's first identifier on
+  pub capture : Capture
+  pub first : capture.first ≡ telling.told.board.first
+  pub has_text : IsCapture capture
+  pub spelled : text ≡ capture_text capture
+  -- what was sent are the datagrams for the board in the air of the link, all of them in order, and what was received
+  -- are those that it handed out, in order
+  pub traffic : IsTrafficOf telling capture.items
+
+-- One link was given back, behind those that were kept before, and the text shows its traffic.
+pub record GivesBackTapped {L : Type 0} (tells : L → Option Telling) (old new : List L) (text : List ℕ) : Type 0 where
+  pub link : L
+  pub kept : new ≡ old ++ link ∷ []
+  pub shows : IfSome (tells link) (ShowsTraffic text)
+
+-- At every status: the bytes stand for such a session, and the links are that of its board, or none.
+pub record RecordedSomeOf (bytes : List ℕ) (links : List LinkReport) : Type 0 where
+  pub session : Session
+  pub steps : List (List Step)
+  pub recordable : IsRecordable bytes session steps
+  pub left : AreLeft 0 session.boards steps links

@@ -1,0 +1,4 @@
+pub mod Headline
+pub mod Terms
+pub mod Steps
+pub mod Taps

@@ -1,0 +1,51 @@
+-- How the steps of the call work together: what its private functions promise one another. No public clause speaks of
+-- these.
+use Rattle.std.specs.Prelude.{◌≡◌, ℕ, ◌+◌, ◌==◌, ◌&&◌, List, [], ◌∷◌, length, Result, Ok, Err, IfOk, Some}
+use Rattle.std.specs.Global.{Vec}
+use Rattle.std.specs.List.{AllByRecursion}
+use Rattle.lane_history.specs.Links.{LinkReport, IsUntouched}
+use Rattle.lane_history.specs.Runs.{AreRunsOver}
+use Rattle.script_steps.specs.declared.operation.Step.{Step}
+use Rattle.script_lang.specs.declared.session.Session.{Session}
+use Rattle.session_run.specs.declared.session.RunFault.{RunFault}
+use Rattle.session_run.specs.declared.session.RunFault.TheVariants.{Rack}
+use Rattle.session_run.specs.Links.{AreLeft}
+use Rattle.script_plans.specs.declared.board_run.BoardRun.{BoardRun}
+use Rattle.transcript.specs.Lines.{all_good, transcript_of}
+use Rattle.command_terms.specs.Numbers.{told_status}
+use Rattle.command_terms.specs.declared.answer.Answer.{Answer}
+use Rattle.capture_reader.specs.declared.capture.Capture.{Capture}
+use Rattle.capture_reader.specs.CaptureText.{IsCapture, capture_text}
+use Rattle.capture_reader.specs.Proved.{IsProved}
+use Rattle.record_command.specs.Headline.{body_count, first_in}
+
+-- the text of a capture, and the status that goes with it after these outcomes
+pub record Writes (steps : List (List Step)) (runs : List BoardRun) (capture : Capture) (status : ℕ) (text : List ℕ)
+    : Type 0 where
+  pub has_text : IsCapture capture
+  pub spelled : text ≡ capture_text capture
+  pub proved : ℕ
+  pub is_proved : IsProved capture proved
+  pub told : status ≡ told_status (all_good (transcript_of steps runs).clients && (proved == body_count runs))
+
+-- there are outcomes, and this is written of them
+abbrev pub WritesOf : {E : Type 0} → List (List Step) → Result (Vec BoardRun) E → Capture → Answer → Type 0
+WritesOf steps (Ok runs) capture answer = Writes steps runs.items capture answer.status answer.text.items
+WritesOf steps (Err fault) capture answer = ⊥
+
+-- the record of a session's steps, for some outcomes over these links
+pub record Records (session : Session) (steps : List (List Step)) (links : List LinkReport) (status : ℕ)
+    (text : List ℕ) : Type 0 where
+  pub runs : List BoardRun
+  pub boards : AreRunsOver session.settings 0 session.boards steps runs links
+  pub capture : Capture
+  pub first : first_in session.boards ≡ Some capture.first
+  pub writes : Writes steps runs capture status text
+
+-- What a recording left: `made` and `makes` are how many links the rack made before and after.
+pub record RecordLeaves (session : Session) (steps : List (List Step)) (made makes : ℕ)
+    (result : Result Answer RunFault) (links : List LinkReport) : Type 0 where
+  pub left : AreLeft 0 session.boards steps links
+  pub counted : makes ≡ made + length links
+  pub records : IfOk result (λ answer. Records session steps links answer.status answer.text.items)
+  pub untouched : result ≡ Err Rack → AllByRecursion IsUntouched links
