@@ -6,11 +6,5 @@ use Rattle.command_words.proofs.command.alone.Goals as goal
 pub returns-in_default : goal.returns-in_default
 returns-in_default c =
     let other = c.in_default in
-    let others = (
-      other.not-run,
-      (
-        other.not-record,
-        (other.not-describe, (other.not-undescribe, (other.not-save, (other.not-apply, tt)))),
-      ),
-    ) in
-    sym (none_named c.args.name.now alone others)
+    sym (none_named c.args.name.now alone
+    (other.not-run, (other.not-record, (other.not-describe, (other.not-undescribe, (other.not-save, (other.not-apply, tt)))))))
