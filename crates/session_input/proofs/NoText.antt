@@ -23,5 +23,3 @@ no_text bytes (NotSim name) is = absurd is
 no_text bytes (Compile table path why) is = absurd is
 no_text bytes (Board name why) is = absurd is
 no_text bytes (Script client line why) is = absurd is
-no_text bytes OneBoard is = absurd is
-no_text bytes (NotSim name) is = absurd is
