@@ -17,6 +17,15 @@ is_word name w = by (bytes_eq name w) refl
     by true e = inr ((bytes_eq-Decides name w).0 e)
     by false e = inl e
 
+-- a word that is none of the names
+pub none_named : (w : Text) (rows : List (Text × Command)) → AllByRecursion (λ row. w ≡ row.0 → ⊥) rows
+    → first_named rows w ≡ None
+none_named w [] others = refl
+none_named w (row ∷ rows) others = elim (is_word row.0 w) [
+  | inr same ↦ absurd (others.0 (sym same))
+  | inl apart ↦ ap (λ (b : Bool). if b then Some row.1 else first_named rows w) apart ∙ none_named w rows others.1
+]
+
 -- what holds of each name holds of a word that is one
 listed : (P : Text → Type 0) (rows : List (Text × Command)) → AllByRecursion P (map (λ row. row.0) rows) → (w : Text)
     → is_some (first_named rows w) ≡ true → P w

@@ -4,4 +4,3 @@ pub mod Strays
 pub mod Digits
 pub mod Named
 pub mod Bounds
-pub mod Unnamed

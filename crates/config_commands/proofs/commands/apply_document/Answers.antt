@@ -12,8 +12,8 @@ use Rattle.config_commands.proofs.Leaving.{kept_unless_refused}
 use Rattle.config_commands.proofs.Owed.{apply_leaves}
 use Rattle.config_commands.proofs.commands.apply_document.Goals as goal
 
-pub write_configuration-requires-runs-after_bounds : goal.write_configuration-requires-runs-after_bounds
-write_configuration-requires-runs-after_bounds g c κs within =
+pub write_configuration-requires-clause-runs : goal.write_configuration-requires-clause-runs
+write_configuration-requires-clause-runs g c κs within =
     let session = c.in-Ok.read.session in
     let steps = c.in-Ok.read.steps.items in
     let alone = c.in-Ok.ensures.alone in
