@@ -39,8 +39,8 @@ use link_tap::TapLink;
 use lossy_network::{Rack, RackFault};
 use reliable_engine::Settings;
 use run_laws::laws::{
-    a_document_can_run_its_steps, a_document_has_few_clients, runs_over_links_are_runs_of_a_session,
-    steps_that_fit_may_be_run,
+    a_document_can_run_its_steps, a_document_has_few_clients,
+    runs_over_links_are_runs_of_a_session, steps_that_fit_may_be_run,
 };
 use script_lang::Session;
 use script_plans::{BoardRun, ClientPart};
