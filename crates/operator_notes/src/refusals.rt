@@ -5,7 +5,8 @@ use crate::configurations::configuration_notes;
 use crate::escaping::shown;
 use crate::script_words::word_at_fault;
 use crate::sentences::{
-    NOT_ONE_BOARD, NOT_SERVED, NOT_SIMULATED, POLICY, TOO_LONG, of_board, of_compiling, of_document, of_script, of_table,
+    NOT_ONE_BOARD, NOT_SERVED, NOT_SIMULATED, POLICY, TOO_LONG, of_board, of_compiling,
+    of_document, of_script, of_table,
 };
 use command_words::Command;
 use ipb_base::NoMemory;
