@@ -22,6 +22,7 @@ UNWRITTEN = {
     "run": CUT.format("the scripts were executed, and only the text is cut or missing"),
     "serve": CUT.format("the connections were served, and only the text is cut or missing"),
     "load": CUT.format("the session was run, and only the text is cut or missing"),
+    "record": CUT.format("the scripts were executed, and only the capture is cut or missing"),
     "check": CUT.format("only the listing is cut or missing"),
     "save": CUT.format("the registers were read, and only the text is cut or missing"),
     "apply": CUT.format("the values were written and the registers read, and only the text is cut or missing"),

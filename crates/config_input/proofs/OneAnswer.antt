@@ -14,7 +14,7 @@ use Rattle.script_lang.specs.Document.{IsSession, IsToml, SameSession}
 use Rattle.script_lang.specs.Scripts.{script_faults, steps_of}
 use Rattle.session_input.specs.declared.refusal.Refusal.{Refusal}
 use Rattle.session_input.specs.declared.refusal.Refusal.TheVariants.{TooLong, Document, Table, Policy, NoServe}
-use Rattle.session_input.specs.declared.refusal.Refusal.TheVariants.{Compile, Board, Script}
+use Rattle.session_input.specs.declared.refusal.Refusal.TheVariants.{OneBoard, NotSim, Compile, Board, Script}
 use Rattle.session_input.specs.Below.{DocumentLaws, TableLaws}
 use Rattle.session_input.specs.Numbers.{document_bytes}
 use Rattle.session_input.specs.Deserved.{BreaksDocument, BreaksInRun, Compiles, HasBus, HasPolicy, HaveBuses, IsNoText}
@@ -284,6 +284,8 @@ no_text_apart bytes d fits toml (Document path DuplicateBoard) is = is
 no_text_apart bytes d fits toml (Table table path why) is = is
 no_text_apart bytes d fits toml (Policy path) is = is
 no_text_apart bytes d fits toml NoServe is = is
+no_text_apart bytes d fits toml OneBoard is = is
+no_text_apart bytes d fits toml (NotSim name) is = is
 no_text_apart bytes d fits toml (Compile table path why) is = is
 no_text_apart bytes d fits toml (Board name why) is = is
 no_text_apart bytes d fits toml (Script client line why) is = is

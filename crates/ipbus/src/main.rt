@@ -10,8 +10,8 @@ use ipbus_program::{
 };
 use net_edges::{KeptSource, RealRack, StdinSource, StdoutSink, TcpDoor};
 use operator_notes::{
-    Command, NoMemory, command_of, denial_notes, door_note, memory_note, rack_note, read_note,
-    refusal_notes, usage_notes, write_note,
+    Command, MAX_CAPTURE, NoMemory, command_of, denial_notes, door_note, memory_note, rack_note,
+    read_note, refusal_notes, usage_notes, write_note,
 };
 use std::alloc::{AllocError, Global};
 use std::env;
@@ -54,6 +54,15 @@ fn connections_of(command: Option<&Command>) -> Option<u32> {
     match command {
         Some(Command::Serve { port: _, count }) => Some(*count),
         _ => None,
+    }
+}
+
+/// How many bytes of the input are kept, to say what to look for in them: one byte more than the longest input of the
+/// command tells that it is too long.
+fn most_kept(command: Option<&Command>) -> usize {
+    match command {
+        Some(Command::Describe | Command::Undescribe) => MAX_CAPTURE + 1,
+        _ => MAX_DOCUMENT + 1,
     }
 }
 
@@ -118,8 +127,8 @@ fn main(rt: HostRuntime) -> ExitCode {
         return ExitCode::from(NO_MEMORY);
     };
     let command = command_of(alloc, &words).unwrap_or(None);
-    // one byte more than the longest document tells that it is too long
-    let mut input = KeptSource::new(alloc, StdinSource::new(&rt), MAX_DOCUMENT + 1);
+    let most = most_kept(command.as_ref());
+    let mut input = KeptSource::new(alloc, StdinSource::new(&rt), most);
     let mut out = StdoutSink::new(&rt);
     let mut rack = RealRack::with_notes(&rt, to);
     let mut door = match connections_of(command.as_ref()) {

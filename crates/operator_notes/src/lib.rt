@@ -14,6 +14,7 @@ mod sentences;
 mod statuses;
 mod usage;
 
+pub use capture_commands::MAX_CAPTURE;
 pub use command_words::{Command, command_of};
 pub use denials::denial_notes;
 pub use escaping::{MOST_SHOWN, shown};

@@ -11,7 +11,9 @@ use crate::sentences::{
 use command_words::Command;
 use ipb_base::NoMemory;
 use script_lang::{DocWhy, ScriptWhy, parse_document, read_session_table, take_key};
-use session_input::{Refusal, Unread, read_for_check, read_for_run, read_for_serve};
+use session_input::{
+    Refusal, Unread, read_for_check, read_for_record, read_for_run, read_for_serve,
+};
 use std::alloc::Global;
 use std::str;
 
@@ -57,6 +59,7 @@ fn refusal_of(alloc: Global, command: &Command, bytes: &[u8]) -> Result<Option<R
     let unread = match command {
         Command::Run => read_for_run(alloc, bytes).err(),
         Command::Serve { port: _, count: _ } => read_for_serve(alloc, bytes).err(),
+        Command::Record => read_for_record(alloc, bytes).err(),
         Command::Check { table } => read_for_check(alloc, bytes, table.as_str()).err(),
         _ => None,
     };
