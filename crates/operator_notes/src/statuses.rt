@@ -35,9 +35,6 @@ pub fn write_note(command: Option<&Command>, refused: bool) -> &'static str {
         Some(Command::Undescribe) => {
             "the output could not be written: only the text of the capture is cut or missing"
         }
-        Some(Command::Record) => {
-            "the output could not be written: the script was executed, and only the text is cut or missing"
-        }
         Some(Command::Save) => {
             "the output could not be written: the registers were read, and only the text is cut or missing"
         }
