@@ -1,7 +1,6 @@
-use Rattle.std.proofs.Common.{◌≡◌, [], ◌∷◌, ◌++◌, refl, sym, subst, ◌∙◌, Some, ap}
-use Rattle.toml.specs.Data.{get_member}
+use Rattle.std.proofs.Common.{◌≡◌, [], ◌∷◌, refl, sym, subst, ◌∙◌, Some}
 use Rattle.toml.specs.Parse.{parse_document}
-use Rattle.session_input.specs.Deserved.{AreCompiled, session_part}
+use Rattle.session_input.specs.Deserved.{session_part}
 use Rattle.session_input.proofs.OneAnswer.{one_indexes}
 use Rattle.config_laws.specs.Saved.{AreSaved}
 use Rattle.config_store.proofs.KeptLines.{no_more}
@@ -9,7 +8,7 @@ use Rattle.config_store.specs.Kept.{indexed, kept_of}
 use Rattle.config_store.specs.Refusals.{applying_faults}
 use Rattle.config_store.specs.States.{state_entries}
 use Rattle.config_input.specs.Deserved.{IsAsked}
-use Rattle.config_input.specs.Work.{apply_command, applying, save_command, state_faults, state_key}
+use Rattle.config_input.specs.Work.{apply_command, applying, save_command, state_faults}
 use Rattle.config_commands.proofs.Texts.{made_boards, script_steps}
 use Rattle.config_commands.proofs.laws.a_saved_text_that_is_applied_is_written_again.Goals as goal
 
