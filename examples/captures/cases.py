@@ -12,7 +12,7 @@ from model.captures import MOST_BYTES, Capture, Caught, Refused, description, re
 from model.captures import describe as describe_text
 from model.captures import undescribe as undescribe_text
 from model.drawn_captures import drawn_capture, drawn_description, long_capture
-from model.notes import NOTES, is_note_of, usage_line
+from model.notes import NOTES, is_note_of
 from model.recorded import recorded
 from model.session import Session
 from net.packets import Status, control_packet, request, resend_request, status_reply, status_request
@@ -203,14 +203,12 @@ def of_pictures():
 
 
 def of_the_lossy_run(answer):
-    """The capture that the guide draws is that of its session by the second program, and by the program, where that
-    records sessions."""
+    """The capture that the guide draws is that of its session by the second program, and what the program records."""
     text = LOSSY_RUN.with_suffix(".capture").read_bytes()
     capture = recorded(Session(LOSSY_RUN.read_bytes()))
     is_same = write_capture(capture) == text and description(read_capture(text)).endswith(b"\nproved 4\n")
     yield "capture of the lossy run", [] if is_same else ["it is another capture"]
-    if b" record " in usage_line():
-        yield "record of the lossy run", faults_of(answer(["record"], LOSSY_RUN.read_bytes()), text)
+    yield "record of the lossy run", faults_of(answer(["record"], LOSSY_RUN.read_bytes()), text)
 
 
 def of_one_read(answer):

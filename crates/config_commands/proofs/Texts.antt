@@ -1,9 +1,8 @@
 -- Where all was done, the text of a run is that of the configuration of its boards.
-use Rattle.std.proofs.Common.{◌≡◌, ℕ, List, [], ◌∷◌, ◌++◌, true, Option, is_some, refl, sym, ap, ◌∙◌, subst}
-use Rattle.std.specs.List.{AllByRecursion, AllZip}
+use Rattle.std.proofs.Common.{◌≡◌, ℕ, List, [], ◌∷◌, Option, ◌∙◌, subst}
+use Rattle.std.specs.List.{AllByRecursion}
 use Rattle.access_policy.specs.Decisions.{names_of, ruled_scripts}
 use Rattle.access_policy.specs.declared.policy.Rule.{Rule}
-use Rattle.board_node.specs.OpeningWords.{OpensOnWords}
 use Rattle.board_node.specs.declared.spec.BoardSpec.{BoardSpec}
 use Rattle.lane_history.specs.Links.{CanBeMade, LinkReport}
 use Rattle.lane_history.specs.Runs.{AreRunsOver}
@@ -18,7 +17,6 @@ use Rattle.script_steps.specs.declared.operation.Step.{Step}
 use Rattle.toml.specs.Data.{Members}
 use Rattle.transcript.specs.Lines.{run_status, transcript_of}
 use Rattle.world_model.specs.Settings.{Limits}
-use Rattle.session_input.specs.Deserved.{session_part}
 use Rattle.config_store.specs.Kept.{indexed}
 use Rattle.config_input.specs.Deserved.{IsAsked}
 use Rattle.config_input.specs.Work.{Work}

@@ -1,23 +1,22 @@
 -- A document has one answer to a command.
-use Rattle.std.proofs.Common.{◌≡◌, ◌⊎◌, ℕ, ◌≤◌, List, [], ◌∷◌, Option, Some, None, length, slice_get, inl, inr, refl, sym}
-use Rattle.std.proofs.Common.{ap, subst, ◌∙◌, arith}
+use Rattle.std.proofs.Common.{◌≡◌, ◌⊎◌, ℕ, ◌≤◌, List, [], ◌∷◌, Option, Some, None, length, slice_get, inl, inr, sym}
+use Rattle.std.proofs.Common.{ap, subst, ◌∙◌}
 use Rattle.toml.specs.Data.{Members, get_member}
 use Rattle.access_policy.specs.Decisions.{names_of, ruled_scripts}
 use Rattle.access_policy.specs.declared.policy.Rule.{Rule}
-use Rattle.board_node.specs.declared.spec.BoardSpec.{BoardSpec}
 use Rattle.node_tree.specs.Maps.{RegisterMap}
 use Rattle.script_steps.specs.declared.operation.Step.{Step}
 use Rattle.script_lang.specs.declared.refusal.DocWhy.TheVariants.{NotToml, Shape, NoBoards, ManyBoards, ManyClients}
 use Rattle.script_lang.specs.declared.refusal.DocWhy.TheVariants.{DuplicateBoard}
 use Rattle.script_lang.specs.declared.session.Session.{Session}
-use Rattle.script_lang.specs.Document.{IsSession, IsToml, SameSession}
+use Rattle.script_lang.specs.Document.{IsToml, SameSession}
 use Rattle.script_lang.specs.Scripts.{script_faults, steps_of}
 use Rattle.session_input.specs.declared.refusal.Refusal.{Refusal}
 use Rattle.session_input.specs.declared.refusal.Refusal.TheVariants.{TooLong, Document, Table, Policy, NoServe}
 use Rattle.session_input.specs.declared.refusal.Refusal.TheVariants.{OneBoard, NotSim, Compile, Board, Script}
 use Rattle.session_input.specs.Below.{DocumentLaws, TableLaws}
 use Rattle.session_input.specs.Numbers.{document_bytes}
-use Rattle.session_input.specs.Deserved.{BreaksDocument, BreaksInRun, Compiles, HasBus, HasPolicy, HaveBuses, IsNoText}
+use Rattle.session_input.specs.Deserved.{BreaksDocument, BreaksInRun, Compiles, HasBus, HaveBuses, IsNoText}
 use Rattle.session_input.specs.Deserved.{TellsBus, TellsCompile, TellsLine, policy_key, session_part}
 use Rattle.session_input.proofs.Moved.{buses_moved, compiled_moved, first_moved, kept_moved, told_moved}
 use Rattle.session_input.proofs.NoText.{no_text}

@@ -1,5 +1,5 @@
 -- The values of a state have 32 bits.
-use Rattle.std.proofs.Common.{◌≡◌, ℕ, ◌<◌, ◌^◌, List, [], ◌∷◌, ◌++◌, Option, Some, None, option_map, option_to_list, refl}
+use Rattle.std.proofs.Common.{ℕ, List, [], ◌∷◌, ◌++◌, Option, Some, None, option_map, option_to_list}
 use Rattle.std.specs.List.{AllByRecursion}
 use Rattle.std.specs.Option.{option_map_or}
 use Rattle.toml.specs.Data.{Data, Members, as_table, member, no_members}
@@ -8,7 +8,7 @@ use Rattle.node_tree.specs.Maps.{Name}
 use Rattle.script_lang.proofs.SmallNumbers.{IsSmall, number_small}
 use Rattle.config_store.specs.declared.state.StateEntry.{StateEntry}
 use Rattle.config_store.specs.Meanings.{HasWord}
-use Rattle.config_store.specs.States.{board_entries, boards_entries, entry_of, number_entries, state_entries, table_entries}
+use Rattle.config_store.specs.States.{board_entries, boards_entries, entry_of, number_entries, table_entries}
 use Rattle.config_input.specs.Work.{entries_in}
 
 both : (xs ys : List StateEntry) → AllByRecursion HasWord xs → AllByRecursion HasWord ys → AllByRecursion HasWord (xs ++ ys)

@@ -1,7 +1,5 @@
 -- The names of a session's boards and of their registers are words of a line. No public clause but a law speaks of it.
-use Rattle.std.specs.Prelude.{List}
 use Rattle.toml.specs.Data.{Members}
-use Rattle.node_tree.specs.Maps.{RegisterMap}
 use Rattle.script_lang.specs.declared.session.Session.{Session}
 use Rattle.script_lang.specs.Document.{IsSession}
 

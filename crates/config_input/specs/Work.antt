@@ -1,6 +1,6 @@
 -- What the commands on the configuration of boards do: which of it they find faulty, and the script of the one client
 -- that they run. Profile.
-use Rattle.std.specs.Prelude.{◌≡◌, ℕ, List, [], ◌∷◌, ◌++◌, codes, Option, Some, None}
+use Rattle.std.specs.Prelude.{ℕ, List, [], ◌∷◌, ◌++◌, codes, Option, Some, None}
 use Rattle.std.specs.Option.{option_map_or}
 use Rattle.toml.specs.Data.{Data, Members, get_member}
 use Rattle.script_lang.specs.Aside.{without}

@@ -18,6 +18,8 @@ mod changed_documents;
 #[cfg(test)]
 mod clients;
 #[cfg(test)]
+mod configurations;
+#[cfg(test)]
 mod document_a;
 #[cfg(test)]
 mod fixtures;

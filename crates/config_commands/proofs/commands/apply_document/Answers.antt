@@ -1,4 +1,4 @@
-use Rattle.std.proofs.Common.{◌≡◌, ◌<◌, ◌^◌, length, map, rules, subst, arith}
+use Rattle.std.proofs.Common.{◌<◌, ◌^◌, length, map, rules, subst, arith}
 use Rattle.session_run.specs.declared.session.RunFault.TheVariants.{NoMemory, Rack}
 use Rattle.board_greeting.specs.Boards.{shown_by}
 use Rattle.command_terms.specs.Leaving.{IsRunFailure}

@@ -1,4 +1,4 @@
-use Rattle.std.proofs.Common.{[], ◌∷◌, ◌++◌}
+use Rattle.std.proofs.Common.{[], ◌∷◌}
 use Rattle.toml.specs.Data.{get_member}
 use Rattle.session_input.specs.Deserved.{session_part}
 use Rattle.config_store.proofs.KeptLines.{no_more}

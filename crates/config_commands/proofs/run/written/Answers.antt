@@ -1,4 +1,4 @@
-use Rattle.std.proofs.Common.{◌≡◌, ◌<◌, length, vec_len, rules, arith}
+use Rattle.std.proofs.Common.{◌≡◌, length, vec_len, rules, arith}
 use Rattle.config_commands.proofs.OneClient.{some_client}
 use Rattle.config_commands.proofs.run.written.Goals as goal
 
