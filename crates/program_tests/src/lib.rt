@@ -32,6 +32,8 @@ mod program;
 #[cfg(test)]
 mod rack_tests;
 #[cfg(test)]
+mod recordings;
+#[cfg(test)]
 mod refused_again;
 #[cfg(test)]
 mod same;

@@ -1,0 +1,83 @@
+//! `record` on a document, with a link that works, one that fails, and where memory runs out.
+
+use crate::capture_tests::ONE_READ;
+use crate::document_a::DOCUMENT;
+use crate::fixtures::{calm, over, shut_door, wide_sink};
+use crate::same::{same, same_items};
+use ipb_base::NoMemory;
+use ipbus_program::{DONE, NO_MEMORY, NOT_ALL_DONE, RACK_FAULT, REFUSED};
+use lossy_network::SimRack;
+use std::alloc::Global;
+use std::marker::Sync;
+use std::sync::Wait;
+use std::test::Fail;
+use std::thread::Threads;
+
+/// The status of `record` on a document over a rack of which these makes fail and, on each link, these calls; its text,
+/// and how many links came back of those that were made.
+fn record<T: Threads + Wait + Sync>(
+    rt: &T,
+    alloc: Global,
+    document: &str,
+    fail_makes: &[u64],
+    fail_calls: &[u64],
+) -> Result<(u8, Vec<u8>, bool), NoMemory> {
+    let mut input = calm(alloc, document)?;
+    let mut out = wide_sink(alloc)?;
+    let makes = Vec::from_slice(alloc, fail_makes)?;
+    let calls = Vec::from_slice(alloc, fail_calls)?;
+    let mut rack = SimRack::new(alloc, makes, calls);
+    let mut door = shut_door(alloc)?;
+    let status = over(
+        rt, alloc, "record", &mut input, &mut out, &mut rack, &mut door,
+    );
+    let is_back = rack.kept(0).is_some() == (rack.made() == 1);
+    Ok((status, out.bytes().to_vec(alloc)?, is_back))
+}
+
+#[test]
+fn one_read_is_recorded(rt: HostRuntime) -> Result<(), Fail> {
+    let (status, text, is_back) = record(&rt, rt.alloc(), DOCUMENT, &[], &[])?;
+    same(&rt, &status, &DONE);
+    assert!(rt; is_back);
+    same_items(&rt, text.as_slice(), ONE_READ.as_bytes());
+    Ok(())
+}
+
+#[test]
+fn a_link_that_fails_is_recorded(rt: HostRuntime) -> Result<(), Fail> {
+    let (status, text, is_back) = record(&rt, rt.alloc(), DOCUMENT, &[], &[1])?;
+    same(&rt, &status, &NOT_ALL_DONE);
+    assert!(rt; is_back);
+    same_items(&rt, text.as_slice(), b"first 1\n".as_slice());
+    let (status, text, is_back) = record(&rt, rt.alloc(), DOCUMENT, &[1], &[])?;
+    same(&rt, &status, &RACK_FAULT);
+    assert!(rt; is_back && text.is_empty());
+    Ok(())
+}
+
+#[test]
+fn two_boards_are_not_recorded(rt: HostRuntime) -> Result<(), Fail> {
+    let other = "[[board]]\nname = 'b1'\ntable = 'main'\nranges = [{ base = 0, size = 1 }]\n";
+    let document = format!(in rt.alloc(); "{DOCUMENT}{other}")?;
+    let (status, text, is_back) = record(&rt, rt.alloc(), document.as_str(), &[], &[])?;
+    same(&rt, &status, &REFUSED);
+    assert!(rt; is_back);
+    let line = b"refused: document - OneBoard\n".as_slice();
+    same_items(&rt, text.as_slice(), line);
+    Ok(())
+}
+
+#[test]
+fn a_recording_with_any_memory(rt: HostRuntime) {
+    let mut is_whole = false;
+    for _ in 0..2 {
+        let none = (NO_MEMORY, Vec::new(rt.alloc()), true);
+        let (status, text, is_back) = record(&rt, rt.alloc(), DOCUMENT, &[], &[]).unwrap_or(none);
+        let wanted = if status == DONE { ONE_READ } else { "" };
+        assert!(rt; is_back && text.as_slice() == wanted.as_bytes());
+        assert!(rt; status == DONE || status == NO_MEMORY);
+        is_whole = is_whole || status == DONE;
+    }
+    assert!(rt; is_whole);
+}
