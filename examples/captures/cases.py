@@ -12,7 +12,7 @@ from model.captures import MOST_BYTES, Capture, Caught, Refused, description, re
 from model.captures import describe as describe_text
 from model.captures import undescribe as undescribe_text
 from model.drawn_captures import drawn_capture, drawn_description, long_capture
-from model.notes import NOTES, is_note_of, usage_line
+from model.notes import NOTES, is_note_of
 from model.recorded import recorded
 from model.session import Session
 from net.packets import Status, control_packet, request, resend_request, status_reply, status_request
@@ -23,6 +23,7 @@ SECONDS = 120
 # so many characters of what differs are shown
 MOST_SHOWN = 500
 ONE_READ = HERE / "one_read.capture"
+FIRST = HERE.parent / "start" / "first.toml"
 LOSSY_RUN = HERE / "lossy_run.toml"
 
 
@@ -202,14 +203,36 @@ def of_pictures():
 
 
 def of_the_lossy_run(answer):
-    """The capture that the guide draws is that of its session by the second program, and by the program, where that
-    records sessions."""
+    """The capture that the guide draws is that of its session by the second program, and what the program records."""
     text = LOSSY_RUN.with_suffix(".capture").read_bytes()
     capture = recorded(Session(LOSSY_RUN.read_bytes()))
     is_same = write_capture(capture) == text and description(read_capture(text)).endswith(b"\nproved 4\n")
     yield "capture of the lossy run", [] if is_same else ["it is another capture"]
+    yield "record of the lossy run", faults_of(answer(["record"], LOSSY_RUN.read_bytes()), text)
+
+
+def of_one_read(answer):
+    """The capture of a session of one read, by the second program and by the program, where that records sessions."""
+    text = ONE_READ.read_bytes()
+    session = FIRST.read_bytes()
+    yield "capture of one read", [] if write_capture(recorded(Session(session))) == text else ["it is another capture"]
     if b" record " in usage_line():
-        yield "record of the lossy run", faults_of(answer(["record"], LOSSY_RUN.read_bytes()), text)
+        yield "record of one read", faults_of(answer(["record"], session), text)
+        described = ONE_READ.with_suffix(".description").read_bytes()
+        yield "describe of that record", faults_of(answer(["describe"], answer(["record"], session).stdout), described)
+
+
+def of_what_is_not_done(answer):
+    """A capture is written where an operation is not done too, with status 1; what a policy denies is not in it."""
+    if b" record " not in usage_line():
+        return
+    first = FIRST.read_bytes()
+    for name, session in (
+        ("denied", b"policy = []\n" + first),
+        ("past the end", first.replace(b"address = 4", b"address = 16")),
+    ):
+        wanted = write_capture(recorded(Session(session)))
+        yield f"record of a read {name}", faults_of(answer(["record"], session), wanted, 1)
 
 
 def capture_cases(answer):
@@ -220,3 +243,5 @@ def capture_cases(answer):
     yield from of_dumps()
     yield from of_pictures()
     yield from of_the_lossy_run(answer)
+    yield from of_one_read(answer)
+    yield from of_what_is_not_done(answer)

@@ -51,7 +51,11 @@ fn a_tap_leaves_out_what_the_link_refused(rt: HostRuntime) -> Result<(), Fail> {
     same(&rt, &tap.caught().len(), &1);
     same(&rt, &tap.link().held(), &1);
     let (text, places) = said(rt.alloc(), tap)?;
-    same(&rt, &text.as_slice(), &"first 1\n> 200001f02000010f00000004\n".as_bytes());
+    same(
+        &rt,
+        &text.as_slice(),
+        &"first 1\n> 200001f02000010f00000004\n".as_bytes(),
+    );
     same(&rt, &places, &0);
     Ok(())
 }

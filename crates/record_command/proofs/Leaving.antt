@@ -46,17 +46,11 @@ record_failed session steps made makes (Err why) fault links left counted fails 
 }
 
 pub record_written : (session : Session) (steps : List (List Step)) (made makes : ℕ) (answer : Answer)
-    (runs : List BoardRun) (capture : Capture) (links : List LinkReport) → AreLeft 0 session.boards steps links
-    → makes ≡ made + length links → AreRunsOver session.settings 0 session.boards steps runs links
-    → first_in session.boards ≡ Some capture.first
-    → Writes steps runs capture answer.status answer.text.items
+    (links : List LinkReport) → AreLeft 0 session.boards steps links → makes ≡ made + length links
+    → Records session steps links answer.status answer.text.items
     → RecordLeaves session steps made makes (Ok answer) links
-record_written session steps made makes answer runs capture links left counted boards first writes = record {
-  left = left;
-  counted = counted;
-  records = record { runs = runs; boards = boards; capture = capture; first = first; writes = writes };
-  untouched = λ never. absurd cc;
-}
+record_written session steps made makes answer links left counted records =
+    record { left = left; counted = counted; records = records; untouched = λ never. absurd cc }
 
 -- outcomes over links are a run of the steps
 abbrev pub RunsLaw : Type 0

@@ -1,6 +1,6 @@
 //! What `record` makes of the bytes of a document.
 
-ghost use Rattle.std.specs.Prelude.{◌≡◌, ◌≢◌, ◌≤◌, ◌∷◌, ◌==◌, ◌<◌, ◌^◌, [], length, Some, Err, IfOk, IfSome};
+ghost use Rattle.std.specs.Prelude.{◌≡◌, ◌≢◌, ◌≤◌, ◌∷◌, ◌==◌, ◌<◌, ◌^◌, [], length, Some, Err, IfOk, IfSome, false};
 ghost use Rattle.std.specs.List.{AllByRecursion, sum_by};
 ghost use Rattle.std.specs.Vec.{vec_capacity, vec_len};
 ghost use Rattle.ipb_base.specs.Faults.{Rose};
@@ -39,8 +39,8 @@ use link_tap::TapLink;
 use lossy_network::{Rack, RackFault};
 use reliable_engine::Settings;
 use run_laws::laws::{
-    a_document_can_run_its_steps, a_document_has_few_clients, runs_over_links_are_runs_of_a_session,
-    steps_that_fit_may_be_run,
+    a_document_can_run_its_steps, a_document_has_few_clients,
+    runs_over_links_are_runs_of_a_session, steps_that_fit_may_be_run,
 };
 use script_lang::Session;
 use script_plans::{BoardRun, ClientPart};
@@ -233,7 +233,8 @@ fn written(
         return Err(NoMemory);
     };
     let text = write_capture(alloc, capture)?;
-    let all = printed.all_good && proved(capture) == bodies;
+    let place = proved(capture);
+    let all = printed.all_good && place == bodies;
     Ok(Answer {
         status: done_status(all),
         text,

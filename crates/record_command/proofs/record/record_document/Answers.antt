@@ -1,0 +1,74 @@
+use Rattle.std.proofs.Common.{map, rules, subst}
+use Rattle.session_input.specs.Deserved.{Deserves}
+use Rattle.session_input.specs.Recording.{BreaksInRecord}
+use Rattle.session_run.specs.declared.session.RunFault.TheVariants.{NoMemory, Rack}
+use Rattle.board_greeting.specs.Boards.{shown_by}
+use Rattle.command_terms.specs.Documents.{IsRefusedDocument}
+use Rattle.command_terms.specs.Leaving.{IsRunFailure}
+use Rattle.command_terms.proofs.Leaving.{error_left, failure_left, refusal_left}
+use Rattle.run_laws.specs.Steps.{MayRun}
+use Rattle.record_command.specs.Steps.{RecordLeaves}
+use Rattle.record_command.specs.Terms.{record_terms}
+use Rattle.record_command.proofs.Leaving.{kept_unless_refused, record_leaves}
+use Rattle.record_command.proofs.record.record_document.Goals as goal
+
+pub recorded-requires-clause-may : goal.recorded-requires-clause-may
+recorded-requires-clause-may g c κs within =
+    let session = c.in-Ok.read.session in
+    let steps = c.in-Ok.read.steps.items in
+    let runnable = c.in-Ok.ensures.recordable.runnable in
+    let ready : MayRun session steps =
+    c.steps_that_fit_may_be_run.ensures session steps
+    (c.a_document_can_run_its_steps.ensures c.args.bytes.now session steps runnable)
+    (c.a_document_has_few_clients.ensures c.args.bytes.now session steps runnable)
+    c.in-Ok.ensures.packed c.in-Ok.ensures.few c.in-Ok.ensures.limits c.in-Ok.ensures.short in
+    rw c.deref.ensures.value ready
+
+pub returns-in_err-refused-in-Err-Refused-clause-leaves :
+    goal.returns-in_err-refused-in-Err-Refused-clause-leaves
+returns-in_err-refused-in-Err-Refused-clause-leaves g c =
+    let shown = shown_by g.R.L.Link.faults g.R.L.Link.quiets g.R.L.Link.gots g.R.L.Link.held g.R.L.Link.telling in
+    failure_left IsRunFailure Rack shown _ record_terms c.args.bytes.now _ c.from_residual.result NoMemory
+    c.from_residual.ensures.0 c.from_residual.ensures.1 (λ failed. failed)
+
+pub returns-in-Ok-clause-leaves : goal.returns-in-Ok-clause-leaves
+returns-in-Ok-clause-leaves g c =
+    let left = c.recorded.ensures.leaves in
+    let shown = shown_by g.R.L.Link.faults g.R.L.Link.quiets g.R.L.Link.gots g.R.L.Link.held g.R.L.Link.telling in
+    let made = g.R.Rack.made c.args.rack.now in
+    let makes = g.R.Rack.made c.recorded.new.rack in
+    let session = c.in-Ok.read.session in
+    let steps = c.in-Ok.read.steps.items in (
+      left.0,
+      left.1,
+      record_leaves c.runs_over_links_are_runs_of_a_session.ensures c.args.bytes.now session steps made makes
+          c.recorded.result (map shown left.0) c.in-Ok.ensures.recordable
+          (c.a_document_can_run_its_steps.ensures c.args.bytes.now session steps c.in-Ok.ensures.recordable.runnable)
+          (subst (λ steps. RecordLeaves session steps made makes c.recorded.result (map shown left.0))
+          c.deref.ensures.value left.2),
+    )
+
+pub returns-in-Ok-clause-refused : goal.returns-in-Ok-clause-refused
+returns-in-Ok-clause-refused g c =
+    kept_unless_refused _ c.in-Ok.read.session c.deref.result.now _ c.recorded.result
+    c.recorded.ensures.leaves.2.records
+
+pub returns-in_ok-refused-in-Err-Refused-clause-leaves :
+    goal.returns-in_ok-refused-in-Err-Refused-clause-leaves
+returns-in_ok-refused-in-Err-Refused-clause-leaves g c =
+    let shown = shown_by g.R.L.Link.faults g.R.L.Link.quiets g.R.L.Link.gots g.R.L.Link.held g.R.L.Link.telling in
+    let deserved : Deserves BreaksInRecord c.args.bytes.now c.in-Err-Refused.refusal = search rules in
+    let answer = c.in_ok-refused-in-Err-Refused.field-0 in
+    let refused : IsRefusedDocument BreaksInRecord c.args.bytes.now answer.text.items =
+    record {
+      refusal = c.in-Err-Refused.refusal;
+      deserved = deserved;
+      spelled = c.in_ok-refused-in-Err-Refused.ensures.text;
+    } in
+    refusal_left IsRunFailure Rack shown _ record_terms c.args.bytes.now _ answer refused
+    c.in_ok-refused-in-Err-Refused.ensures.status
+
+pub returns-in-Err-NoMemory-clause-leaves : goal.returns-in-Err-NoMemory-clause-leaves
+returns-in-Err-NoMemory-clause-leaves g c =
+    let shown = shown_by g.R.L.Link.faults g.R.L.Link.quiets g.R.L.Link.gots g.R.L.Link.held g.R.L.Link.telling in
+    error_left IsRunFailure Rack shown _ record_terms c.args.bytes.now _ NoMemory (λ failed. failed)

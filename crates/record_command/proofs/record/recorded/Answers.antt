@@ -1,0 +1,108 @@
+use Rattle.std.proofs.Common.{◌≡◌, ◌∙◌, ◌++◌, ◌+◌, [], ◌∷◌, List, ap, append-nil, length, refl, subst, sym, arith}
+use Rattle.std.proofs.Common.{Some, slice_index_or}
+use Rattle.board_node.specs.declared.spec.BoardSpec.{BoardSpec}
+use Rattle.board_greeting.specs.Boards.{shown_by}
+use Rattle.lane_history.specs.Links.{LinkReport}
+use Rattle.lane_history.specs.Runs.{AreRunsOver}
+use Rattle.session_run.specs.declared.session.RunFault.TheVariants.{NoMemory}
+use Rattle.session_run.specs.Links.{AreLeft, CanBeReached}
+use Rattle.command_terms.proofs.Leaving.{no_memory_is_no_rack}
+use Rattle.record_command.proofs.Leaving.{record_failed, record_written}
+use Rattle.record_command.proofs.Tapped.{at_first, first_is_told, one_is_one, records_of, ran_for, shows_traffic}
+use Rattle.record_command.proofs.record.recorded.Goals as goal
+
+pub returns-in_err-room-clause-leaves : goal.returns-in_err-room-clause-leaves
+returns-in_err-room-clause-leaves g c =
+    let made = g.R.Rack.made c.args.rack.now in (
+      [],
+      sym (append-nil (g.R.Rack.kept c.args.rack.now)),
+      record_failed c.args.session.now c.args.steps.now made made c.from_residual-in_err-room.result NoMemory [] tt
+          (omega arith) c.from_residual-in_err-room.ensures.0 c.from_residual-in_err-room.ensures.1 (λ rack. tt),
+    )
+
+pub greet_tapped-requires-clause-reached : goal.greet_tapped-requires-clause-reached
+greet_tapped-requires-clause-reached g c κs within =
+    let board = c.index-boards-0.result in
+    let there = subst (λ (boards : List BoardSpec). board ≡ slice_index_or boards 0 board) c.as_slice-boards.ensures
+    c.index-boards-0.is in
+    at_first CanBeReached c.args.session.now.boards board c.requires.one c.requires.may.reached there
+
+pub run_tapped-tap-requires-clause-one : goal.run_tapped-tap-requires-clause-one
+run_tapped-tap-requires-clause-one g c κs within =
+    ap length c.as_slice-boards.ensures ∙ one_is_one c.args.session.now.boards c.requires.one
+
+pub returns-in_err-written-clause-leaves : goal.returns-in_err-written-clause-leaves
+returns-in_err-written-clause-leaves g c =
+    let it = g.R.L.Link in
+    let shows = shown_by it.faults it.quiets it.gots it.held it.telling in
+    let link = c.into_parts-link.result.0 in
+    let boards = c.as_slice-boards.ensures in
+    let steps = c.args.steps.now in
+    let made = g.R.Rack.made c.args.rack.now in
+    let makes = g.R.Rack.made c.keep.new.self in
+    let kept = c.keep.ensures.made in
+    let one = c.in_ok-greeted.ensures.made in (
+      link ∷ [],
+      c.keep.ensures.kept ∙ ap (λ (l : List _). l ++ link ∷ []) c.greet_tapped.ensures.kept,
+      record_failed c.args.session.now steps made makes c.from_residual-in_err-written.result
+          NoMemory (shows link ∷ [])
+          (subst (λ (specs : List BoardSpec). AreLeft 0 specs steps (shows link ∷ [])) boards
+          (subst (λ link. AreLeft 0 c.as_slice-boards.result.now steps (shows link ∷ [])) (sym c.into_parts-link.ensures.link)
+          c.run_tapped-tap.ensures.left))
+          (omega (arith, kept, one))
+          c.from_residual-in_err-written.ensures.0 c.from_residual-in_err-written.ensures.1
+          (λ rack. absurd (no_memory_is_no_rack _ refl rack)),
+    )
+
+pub returns-clause-leaves : goal.returns-clause-leaves
+returns-clause-leaves g c =
+    let it = g.R.L.Link in
+    let shows = shown_by it.faults it.quiets it.gots it.held it.telling in
+    let link = c.into_parts-link.result.0 in
+    let boards = c.as_slice-boards.ensures in
+    let session = c.args.session.now in
+    let steps = c.args.steps.now in
+    let board = c.index-boards-0.result in
+    let there = subst (λ (boards : List BoardSpec). board ≡ slice_index_or boards 0 board) boards c.index-boards-0.is in
+    let first = first_is_told session.boards board c.first_of-first.result c.requires.one there c.first_of-first.ensures in
+    let made = g.R.Rack.made c.args.rack.now in
+    let makes = g.R.Rack.made c.keep.new.self in
+    let kept = c.keep.ensures.made in
+    let one = c.in_ok-greeted.ensures.made in (
+      link ∷ [],
+      c.keep.ensures.kept ∙ ap (λ (l : List _). l ++ link ∷ []) c.greet_tapped.ensures.kept,
+      record_written session steps made makes c.in_ok-written.field-0 (shows link ∷ [])
+          (subst (λ (specs : List BoardSpec). AreLeft 0 specs steps (shows link ∷ [])) boards
+          (subst (λ link. AreLeft 0 c.as_slice-boards.result.now steps (shows link ∷ [])) (sym c.into_parts-link.ensures.link)
+          c.run_tapped-tap.ensures.left))
+          (omega (arith, kept, one))
+          (records_of session steps c.run_tapped-tap.result.1 c.into_parts-link.result.1 c.in_ok-written.field-0
+          (shows link ∷ [])
+          (ran_for session steps c.as_slice-boards.result.now shows _ link c.run_tapped-tap.result.1 boards
+          c.into_parts-link.ensures.link c.run_tapped-tap.ensures.ran)
+          (first ∙ sym (ap (λ capture. Some capture.first) c.into_parts-link.ensures.capture))
+          c.in_ok-written.ensures),
+    )
+
+pub returns-clause-traffic : goal.returns-clause-traffic
+returns-clause-traffic g c =
+    let it = g.R.L.Link in
+    let shows = shown_by it.faults it.quiets it.gots it.held it.telling in
+    let link = c.into_parts-link.result.0 in
+    let boards = c.as_slice-boards.ensures in
+    let session = c.args.session.now in
+    let steps = c.args.steps.now in
+    let board = c.index-boards-0.result in
+    let there = subst (λ (boards : List BoardSpec). board ≡ slice_index_or boards 0 board) boards c.index-boards-0.is in
+    let first = first_is_told session.boards board c.first_of-first.result c.requires.one there c.first_of-first.ensures in
+    record {
+      link = link;
+      kept = c.keep.ensures.kept ∙ ap (λ (l : List _). l ++ link ∷ []) c.greet_tapped.ensures.kept;
+      shows = shows_traffic session.boards steps (it.telling link) (shows link) c.run_tapped-tap.result.1
+          c.into_parts-link.result.1 c.in_ok-written.field-0 refl
+          (subst (λ (specs : List BoardSpec). AreLeft 0 specs steps (shows link ∷ [])) boards
+          (subst (λ link. AreLeft 0 c.as_slice-boards.result.now steps (shows link ∷ [])) (sym c.into_parts-link.ensures.link)
+          c.run_tapped-tap.ensures.left))
+          (first ∙ sym (ap (λ capture. Some capture.first) c.into_parts-link.ensures.capture))
+          c.in_ok-written.ensures c.into_parts-link.ensures.caught;
+    }
