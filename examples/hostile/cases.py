@@ -1,6 +1,7 @@
-"""Hostile inputs, drawn from numbers and bounded in count: changed documents, streams of frames, and datagrams of a
-board that answers anything. A case takes the words that start the program, a count and the number of the first input. It
+"""Hostile inputs, drawn from numbers and bounded in count: changed documents, run, saved and applied, streams of frames,
+and datagrams of a board that answers anything. A case takes the words that start the program, a count and the number of the first input. It
 gives what is wrong, as texts, and a line that says what was tried."""
+from hostile.configurations import try_configurations
 from hostile.datagrams import try_datagrams
 from hostile.documents import try_documents
 from hostile.streams import AT_ONCE, try_streams
@@ -11,6 +12,10 @@ COUNT = 5000
 
 def documents(command, count, first):
     return try_documents(command, range(first, first + count))
+
+
+def configurations(command, count, first):
+    return try_configurations(command, range(first, first + count // 2))
 
 
 def streams(command, count, first):
@@ -33,4 +38,9 @@ def datagrams(command, count, first):
     return faults, f"{sum(sent)} strange datagrams in {number - first} runs"
 
 
-HOSTILE = {"changed documents": documents, "streams of frames": streams, "a board that answers anything": datagrams}
+HOSTILE = {
+    "changed documents": documents,
+    "changed configurations": configurations,
+    "streams of frames": streams,
+    "a board that answers anything": datagrams,
+}
