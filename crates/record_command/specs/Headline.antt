@@ -8,7 +8,8 @@
 --   the text                     capture_text                            capture_reader/specs/CaptureText
 --   what the capture proves      IsProved                                capture_reader/specs/Proved
 --   the datagrams of the link    IsTrafficOf                             link_tap/specs/Traffic
-use Rattle.std.specs.Prelude.{◌≡◌, ℕ, ◌==◌, ◌&&◌, List, [], ◌∷◌, ◌++◌, length, sum_by, Option, Some, None, IfSome}
+use Rattle.std.specs.Prelude.{◌≡◌, ℕ, ◌==◌, ◌&&◌, Bool, List, [], ◌∷◌, ◌++◌, length, sum_by, Option, Some, None, IfSome}
+use Rattle.packet_ids.specs.Identifier.{IsIdentifier}
 use Rattle.board_node.specs.declared.spec.BoardSpec.{BoardSpec}
 use Rattle.board_node.specs.declared.spec.LinkSpec.{LinkSpec}
 use Rattle.board_node.specs.declared.spec.LinkSpec.TheVariants.{Sim, Udp}

@@ -1,6 +1,6 @@
 -- How the steps of the call work together: what its private functions promise one another. No public clause speaks of
 -- these.
-use Rattle.std.specs.Prelude.{◌≡◌, ℕ, ◌+◌, ◌==◌, ◌&&◌, List, length, Result, Ok, Err, IfOk, Some}
+use Rattle.std.specs.Prelude.{◌≡◌, ℕ, ◌+◌, ◌==◌, ◌&&◌, List, [], ◌∷◌, length, Result, Ok, Err, IfOk, Some}
 use Rattle.std.specs.Global.{Vec}
 use Rattle.std.specs.List.{AllByRecursion}
 use Rattle.lane_history.specs.Links.{LinkReport, IsUntouched}

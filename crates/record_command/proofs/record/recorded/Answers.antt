@@ -1,7 +1,9 @@
-use Rattle.std.proofs.Common.{◌≡◌, ◌∙◌, ◌++◌, [], ◌∷◌, List, ap, append-nil, length, refl, subst, sym, arith}
+use Rattle.std.proofs.Common.{◌≡◌, ◌∙◌, ◌++◌, ◌+◌, [], ◌∷◌, List, ap, append-nil, length, refl, subst, sym, arith}
 use Rattle.std.proofs.Common.{Some, slice_index_or}
 use Rattle.board_node.specs.declared.spec.BoardSpec.{BoardSpec}
 use Rattle.board_greeting.specs.Boards.{shown_by}
+use Rattle.lane_history.specs.Links.{LinkReport}
+use Rattle.lane_history.specs.Runs.{AreRunsOver}
 use Rattle.session_run.specs.declared.session.RunFault.TheVariants.{NoMemory}
 use Rattle.session_run.specs.Links.{AreLeft, CanBeReached}
 use Rattle.command_terms.proofs.Leaving.{no_memory_is_no_rack}
