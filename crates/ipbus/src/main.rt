@@ -5,13 +5,13 @@
 #![tactic(auto)]
 
 use ipbus_program::{
-    DOOR_FAULT, MAX_DOCUMENT, NO_MEMORY, NOT_ALL_DONE, NoGate, RACK_FAULT, READ_FAULT, REFUSED,
-    USAGE, WRITE_FAULT, control,
+    DONE, DOOR_FAULT, MAX_DOCUMENT, NO_MEMORY, NOT_ALL_DONE, NoGate, RACK_FAULT, READ_FAULT,
+    REFUSED, USAGE, WRITE_FAULT, control,
 };
-use net_edges::{KeptSource, RealRack, StdinSource, StdoutSink, TcpDoor};
+use net_edges::{KeptSink, KeptSource, RealRack, StdinSource, StdoutSink, TcpDoor};
 use operator_notes::{
-    Command, MAX_CAPTURE, NoMemory, command_of, denial_notes, door_note, memory_note, rack_note,
-    read_note, refusal_notes, usage_notes, write_note,
+    Command, MAX_CAPTURE, NoMemory, command_of, configuration_summary, denial_notes, door_note,
+    memory_note, rack_note, read_note, refusal_notes, usage_notes, write_note,
 };
 use std::alloc::{AllocError, Global};
 use std::env;
@@ -66,6 +66,26 @@ fn most_kept(command: Option<&Command>) -> usize {
     }
 }
 
+/// How many bytes of the output are kept, to say what was read of a configuration: more than its text can have.
+fn most_written(command: Option<&Command>) -> usize {
+    match command {
+        Some(Command::Save | Command::Apply) => MAX_CAPTURE,
+        _ => 0,
+    }
+}
+
+/// What was read of the configuration of boards.
+fn summary_lines(
+    alloc: Global,
+    command: Option<&Command>,
+    written: Option<&[u8]>,
+) -> Result<Vec<String>, NoMemory> {
+    match (command, written) {
+        (Some(Command::Save | Command::Apply), Some(text)) => configuration_summary(alloc, text),
+        _ => Ok(Vec::new(alloc)),
+    }
+}
+
 /// What to look for where a command refuses the bytes that it was given.
 fn refusal_lines(
     alloc: Global,
@@ -98,9 +118,14 @@ fn say_end(
     words: &[String],
     command: Option<&Command>,
     given: Option<&[u8]>,
+    written: Option<&[u8]>,
 ) -> Result<(), NoMemory> {
     match status {
-        NOT_ALL_DONE => say_all(to, denial_lines(alloc, command, given)?.as_slice()),
+        DONE => say_all(to, summary_lines(alloc, command, written)?.as_slice()),
+        NOT_ALL_DONE => {
+            say_all(to, denial_lines(alloc, command, given)?.as_slice());
+            say_all(to, summary_lines(alloc, command, written)?.as_slice());
+        }
         USAGE => say_all(to, usage_notes(alloc, words)?.as_slice()),
         REFUSED => say_all(to, refusal_lines(alloc, command, given)?.as_slice()),
         READ_FAULT => say(to, read_note()),
@@ -129,7 +154,7 @@ fn main(rt: HostRuntime) -> ExitCode {
     let command = command_of(alloc, &words).unwrap_or(None);
     let most = most_kept(command.as_ref());
     let mut input = KeptSource::new(alloc, StdinSource::new(&rt), most);
-    let mut out = StdoutSink::new(&rt);
+    let mut out = KeptSink::new(alloc, StdoutSink::new(&rt), most_written(command.as_ref()));
     let mut rack = RealRack::with_notes(&rt, to);
     let mut door = match connections_of(command.as_ref()) {
         Some(connections) => TcpDoor::with_notes(&rt, to, connections),
@@ -139,6 +164,14 @@ fn main(rt: HostRuntime) -> ExitCode {
         &rt, alloc, &words, &mut input, &mut out, &mut rack, &mut door, &NoGate,
     );
     // without memory for its words the status says it alone
-    let _ = say_end(to, alloc, status, &words, command.as_ref(), input.given());
+    let _ = say_end(
+        to,
+        alloc,
+        status,
+        &words,
+        command.as_ref(),
+        input.given(),
+        out.taken(),
+    );
     ExitCode::from(status)
 }

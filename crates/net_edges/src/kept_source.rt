@@ -2,6 +2,7 @@
 
 ghost use Rattle.std.specs.Prelude.{◌≡◌};
 
+use crate::copying::appended;
 use ipb_outside::{Failed, Source};
 use std::alloc::Global;
 use std::marker::Model;
@@ -47,16 +48,6 @@ impl<S: Source + Drop> KeptSource<S> {
         if !appended(&mut self.copy, bytes, self.most) {
             self.copy = None;
         }
-    }
-}
-
-/// Adds bytes to a copy, if that leaves it at so many at the most and there is memory for them.
-fn appended(copy: &mut Option<Vec<u8>>, bytes: &[u8], most: usize) -> bool {
-    match copy {
-        Some(copy) => {
-            copy.len().saturating_add(bytes.len()) <= most && copy.extend_from_slice(bytes).is_ok()
-        }
-        None => false,
     }
 }
 

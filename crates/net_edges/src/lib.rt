@@ -8,9 +8,11 @@
 
 mod any_link;
 mod bound;
+mod copying;
 mod counting;
 mod errors;
 mod heard;
+mod kept_sink;
 mod kept_source;
 pub mod laws;
 mod notes;
@@ -26,6 +28,7 @@ pub use any_link::AnyLink;
 pub use errors::{SendOutcome, is_passing};
 pub use ipb_base::NoMemory;
 pub use ipb_outside::{Door, Failed, Sink, Source};
+pub use kept_sink::KeptSink;
 pub use kept_source::KeptSource;
 pub use lossy_network::{Link, LinkFault, Rack, RackFault, Received};
 pub use real_rack::RealRack;

@@ -1,6 +1,6 @@
 //! What the program says on standard error at its end: what to look for where words are no command or an input is
-//! refused, what a policy denied, what was done where the text could not be written, and a page of help. No contract
-//! speaks of these texts.
+//! refused, what a policy denied, what of a configuration was read, what was done where the text could not be written, and a
+//! page of help. No contract speaks of these texts.
 #![tactic(auto)]
 
 mod captures;
@@ -12,6 +12,7 @@ mod refusals;
 mod script_words;
 mod sentences;
 mod statuses;
+mod summaries;
 mod usage;
 
 pub use capture_commands::MAX_CAPTURE;
@@ -23,4 +24,5 @@ pub use ipb_base::NoMemory;
 pub use refusals::refusal_notes;
 pub use session_input::Refusal;
 pub use statuses::{door_note, memory_note, rack_note, read_note, write_note};
+pub use summaries::configuration_summary;
 pub use usage::usage_notes;
