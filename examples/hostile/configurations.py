@@ -9,7 +9,7 @@ from hostile.documents import AT_ONCE, LARGEST, SECONDS, changed_document, is_re
 from model.configuration import Configuration, told
 from model.drawn_configuration import drawn_configuration
 from model.network import run_session
-from model.notes import NOTES, denial_notes, is_note_of
+from model.notes import configuration_notes, denial_notes, is_note_of
 
 HERE = pathlib.Path(__file__).resolve().parent
 DRAWN = 60
@@ -37,7 +37,7 @@ def by_model(data, command):
             return text, status, None
         session = Configuration(data, command)
         session.run()
-        return text, status, denial_notes(session) + NOTES[status]
+        return text, status, denial_notes(session) + configuration_notes(text)
     except Exception:
         return None
 

@@ -76,6 +76,28 @@ def denial_notes(session):
     return "".join(f"ipbus: {line}\n" for line in lines).encode()
 
 
+# so many registers that were not read are named
+MOST_NAMED = 10
+
+
+def configuration_notes(text):
+    """What is said of the text of a configuration: how many registers of how many boards it has, and which of them were
+    not read."""
+    board, boards, registers, missing = "", 0, 0, []
+    for line in text.splitlines():
+        if line.startswith("["):
+            board, boards = line.removeprefix("[state.").removesuffix("]"), boards + 1
+            continue
+        registers += 1
+        if line.startswith("# "):
+            missing.append(f"board {shown(board)}: {shown(line.removeprefix('# '))}")
+    lines = [f"registers: {registers}, boards: {boards}" + (f"; not read: {len(missing)}" if missing else "")]
+    lines += missing[:MOST_NAMED]
+    if len(missing) > MOST_NAMED:
+        lines.append(f"and {len(missing) - MOST_NAMED} more")
+    return "".join(f"ipbus: {line}\n" for line in lines).encode()
+
+
 def operations(count):
     return f"{count} operation" if count == 1 else f"{count} operations"
 
