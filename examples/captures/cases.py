@@ -212,20 +212,17 @@ def of_the_lossy_run(answer):
 
 
 def of_one_read(answer):
-    """The capture of a session of one read, by the second program and by the program, where that records sessions."""
+    """The capture of a session of one read, by the second program and by the program."""
     text = ONE_READ.read_bytes()
     session = FIRST.read_bytes()
     yield "capture of one read", [] if write_capture(recorded(Session(session))) == text else ["it is another capture"]
-    if b" record " in usage_line():
-        yield "record of one read", faults_of(answer(["record"], session), text)
-        described = ONE_READ.with_suffix(".description").read_bytes()
-        yield "describe of that record", faults_of(answer(["describe"], answer(["record"], session).stdout), described)
+    yield "record of one read", faults_of(answer(["record"], session), text)
+    described = ONE_READ.with_suffix(".description").read_bytes()
+    yield "describe of that record", faults_of(answer(["describe"], answer(["record"], session).stdout), described)
 
 
 def of_what_is_not_done(answer):
     """A capture is written where an operation is not done too, with status 1; what a policy denies is not in it."""
-    if b" record " not in usage_line():
-        return
     first = FIRST.read_bytes()
     for name, session in (
         ("denied", b"policy = []\n" + first),
