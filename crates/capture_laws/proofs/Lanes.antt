@@ -1,12 +1,12 @@
 -- What a capture of a lane's link shows: a lane over a link that tells is in a state of a run, and so its air is that of
 -- a run.
-use Rattle.std.proofs.Common.{◌≡◌, ◌∙◌, ◌⊎◌, ℕ, zero, suc, ◌+◌, ◌-◌, ◌<◌, ◌≤◌, ◌==◌, ◌&&◌, Bool, true, false, List, [], ◌∷◌}
+use Rattle.std.proofs.Common.{◌≡◌, ◌∙◌, ◌⊎◌, ℕ, ◌+◌, ◌≤◌, ◌==◌, ◌&&◌, Bool, true, false, List, [], ◌∷◌}
 use Rattle.std.proofs.Common.{◌++◌, length, map, Option, Some, None, Result, Ok, Err, refl, ap, sym, subst, inl, inr, arith}
 use Rattle.std.proofs.Common.{append_assoc, if◌then◌else◌}
 use Rattle.std.specs.Prelude.{IfSome}
 use Rattle.std.proofs.lemmas.Bool.{leb-true}
 use Rattle.std.proofs.lemmas.List.{append-nil, length-map, length-append, map-append}
-use Rattle.std.specs.List.{AllByRecursion, slice_get}
+use Rattle.std.specs.List.{AllByRecursion}
 use Rattle.ipb_base.specs.Lists.{IsPrefix}
 use Rattle.ipb_base.proofs.AllLemmas.{front_of_all}
 use Rattle.packet_ids.specs.Identifier.{IsIdentifier, identifier_at}
@@ -20,15 +20,13 @@ use Rattle.packet_codec.specs.Reading.{packet_of, head_read}
 use Rattle.world_model.specs.declared.datagram.Datagram.{Datagram}
 use Rattle.world_model.specs.declared.datagram.Direction.{Direction}
 use Rattle.world_model.specs.declared.datagram.Direction.TheVariants as goes
-use Rattle.world_model.specs.declared.offered.Offered.{Offered}
 use Rattle.world_model.specs.Messages.{ToBoard, StatusRequest, ResendRequest, packet_to_board, said_to_board, to_board}
 use Rattle.world_model.specs.Messages.{to_hub}
 use Rattle.world_model.specs.Board.{Board, executed, replies}
 use Rattle.world_model.specs.Hub.{Hub}
 use Rattle.world_model.specs.Sends.{Next, bytes_to_send, next_send, pending}
-use Rattle.world_model.specs.Air.{LIFETIME, is_alive}
-use Rattle.world_model.specs.World.{World, flush, flush_on, go_on, sent_into, start, with_hub}
-use Rattle.world_model.specs.Links.{IsJoined, Told, first_sends, is_first_message, is_first_send, together}
+use Rattle.world_model.specs.World.{World, flush, sent_into, start}
+use Rattle.world_model.specs.Links.{IsJoined, Told, is_first_message, is_first_send, together}
 use Rattle.world_model.specs.Settings.{Limits}
 use Rattle.world_model.specs.Facts.{IsDatagram, IsGreeting, IsGreetingOf, IsSaid, IsSaidToHub, IsSound, bodies_of}
 use Rattle.world_model.specs.Facts.{offered_body}
@@ -40,20 +38,20 @@ use Rattle.world_core.specs.Airs.{birth_after}
 use Rattle.world_core.specs.States.{world_of_both}
 use Rattle.world_core.specs.Telling.{Telling}
 use Rattle.lane_record.specs.declared.outcome.Outcome.{Outcome}
-use Rattle.hub_lane.specs.Standing.{IsRunning, IsStanding, IsStopped}
+use Rattle.hub_lane.specs.Standing.{IsRunning, IsStanding}
 use Rattle.capture_reader.specs.declared.capture.Caught.{Caught}
 use Rattle.capture_reader.specs.CaptureText.{AreItems}
-use Rattle.capture_reader.specs.Proved.{HasProof, Proves, is_big, is_big_control, is_control, sent_after}
+use Rattle.capture_reader.specs.Proved.{HasProof, is_big, is_big_control, is_control, sent_after}
 use Rattle.link_tap.specs.Traffic.{AreForHubAt, IsTrafficOf, WereAlive, carried, for_board, received_in, sent_in, sent_item}
 use Rattle.link_tap.proofs.Lists.{for_board-append}
 use Rattle.link_tap.proofs.Traffic.{count_of_air, counted}
 use Rattle.capture_laws.specs.Captures.{bodies_from, body_in, items_of, new_body}
-use Rattle.capture_laws.proofs.Walks.{bodies_append, count_append, count_from}
+use Rattle.capture_laws.proofs.Walks.{bodies_append, count_from}
 use Rattle.capture_laws.proofs.Shown.{shows_executed}
 use Rattle.capture_laws.proofs.Spelled.{IsBigTold, IsSpelled, IsSpelledTo}
 use Rattle.capture_laws.proofs.Sends.{IsNew, IsOld, IsSendOr, send_is}
 use Rattle.capture_laws.proofs.Joint.{Laws}
-use Rattle.capture_laws.proofs.Runs.{Shows, sent_joined, shows_run, told_of}
+use Rattle.capture_laws.proofs.Runs.{sent_joined, shows_run, told_of}
 
 -- ---- the two counts of first sends
 

@@ -1,13 +1,12 @@
 -- What a capture shows through a run: every move keeps it.
-use Rattle.std.proofs.Common.{◌≡◌, ◌∙◌, ◌⊎◌, ℕ, zero, suc, ◌+◌, ◌-◌, ◌<◌, ◌≤◌, Bool, true, false, if◌then◌else◌, List, [], ◌∷◌, ◌++◌}
+use Rattle.std.proofs.Common.{◌≡◌, ◌∙◌, ◌⊎◌, ℕ, zero, suc, ◌+◌, ◌-◌, ◌≤◌, Bool, true, if◌then◌else◌, List, [], ◌∷◌, ◌++◌}
 use Rattle.std.proofs.Common.{length, map, drop, Option, Some, None, Result, Ok, Err, refl, ap, sym, subst, inl, inr, arith}
 use Rattle.std.proofs.Common.{append_assoc}
-use Rattle.std.specs.Prelude.{IfOk, min, nat_lt}
+use Rattle.std.specs.Prelude.{IfOk, nat_lt}
 use Rattle.std.proofs.lemmas.Bool.{leb-true}
 use Rattle.std.proofs.lemmas.List.{append-nil, length-map, length-append, map-append}
 use Rattle.std.proofs.Math.Seq.{drop-append_seam}
 use Rattle.std.specs.List.{AllByRecursion, slice_get}
-use Rattle.ipb_base.specs.Lists.{IsPrefix}
 use Rattle.ipb_base.proofs.AllLemmas.{AllByRecursion-append, all-map}
 use Rattle.packet_ids.specs.Identifier.{IsIdentifier, identifier_at}
 use Rattle.packet_codec.specs.Packet.{AreBytes, packet_bytes}
@@ -22,25 +21,25 @@ use Rattle.world_model.specs.declared.offered.Offered.{Offered}
 use Rattle.world_model.specs.declared.offered.OpenPlace.{OpenPlace}
 use Rattle.world_model.specs.declared.offered.Fate.{Fate}
 use Rattle.world_model.specs.declared.offered.Fate.TheVariants.{Replied, TimedOut, Unsent}
-use Rattle.world_model.specs.Messages.{ToHub, StatusReply, Reply, to_board, to_hub}
+use Rattle.world_model.specs.Messages.{ToHub, StatusReply, Reply, to_hub}
 use Rattle.world_model.specs.Places.{at_place}
 use Rattle.world_model.specs.Board.{Board, body_of, executed, hear, replies}
-use Rattle.world_model.specs.Hub.{Hub, give_up, hear_quiet, insert_fate, is_waiting, least, new_hub, offer, open_with}
+use Rattle.world_model.specs.Hub.{Hub, give_up, hear_quiet, is_waiting, least, offer, open_with}
 use Rattle.world_model.specs.Hub.{places, recovered, settle, tag_of, take_message, told_place, want_status}
 use Rattle.world_model.specs.Sends.{Next, bytes_to_send, next_send, packet_to_send, pending}
 use Rattle.world_model.specs.Air.{LIFETIME, goes_to, is_alive}
 use Rattle.world_model.specs.World.{World, answered, board_hears, flush, flush_on, go_on, hub_hears, moves_on, run_moves}
 use Rattle.world_model.specs.World.{sent_into, start, step, taken, when_taken, with_hub}
-use Rattle.world_model.specs.Facts.{IsSaid, IsSaidToHub, IsSound, IsStart, bodies_of, offered_body}
+use Rattle.world_model.specs.Facts.{IsSaid, IsSaidToHub, IsStart, bodies_of, offered_body}
 use Rattle.world_model.specs.History.{IsMove}
-use Rattle.world_model.specs.Links.{IsHanded, IsHandedAt, IsHeard, IsJoined, Told, birth_of, first_sends, first_sends_from}
-use Rattle.world_model.specs.Links.{heard_by, heard_on, hears_all, is_first_send, sent_on, then_told, together}
-use Rattle.world_model.proofs.Hubs.{IsFound, IsFoundOr, all_inserted, all_timed_out, all_unsent, open_found}
+use Rattle.world_model.specs.Links.{IsHanded, IsHeard, IsJoined, Told, birth_of, first_sends, first_sends_from}
+use Rattle.world_model.specs.Links.{heard_by, heard_on, hears_all, is_first_send, then_told}
+use Rattle.world_model.proofs.Hubs.{IsFoundOr, all_inserted, all_timed_out, all_unsent, open_found}
 use Rattle.world_model.proofs.Lists.{all_get, either}
 use Rattle.world_model.proofs.Places.{has_below, has_from}
 use Rattle.capture_laws.proofs.Joint.{Laws}
 use Rattle.capture_reader.specs.declared.capture.Caught.{Caught}
-use Rattle.capture_reader.specs.Proved.{HasProof, Proves, sent_after}
+use Rattle.capture_reader.specs.Proved.{HasProof, sent_after}
 use Rattle.link_tap.specs.Traffic.{for_board, received_item, sent_in, sent_item}
 use Rattle.link_tap.proofs.Lists.{for_board-append, none_sent, one_more_for_board, one_more_sent}
 use Rattle.link_tap.proofs.Traffic.{answer_for_hub}

@@ -1,5 +1,5 @@
 -- A datagram that the hub may still hear shows no place that was not executed.
-use Rattle.std.proofs.Common.{◌≡◌, ◌∙◌, ◌⊎◌, ℕ, ◌+◌, ◌-◌, ◌<◌, ◌≤◌, List, length, Some, Result, Ok, Err, refl, ap, sym}
+use Rattle.std.proofs.Common.{◌≡◌, ◌∙◌, ◌⊎◌, ℕ, ◌+◌, ◌-◌, ◌<◌, ◌≤◌, List, length, Some, Result, Ok, Err, refl, ap}
 use Rattle.std.proofs.Common.{subst, inl, inr, arith}
 use Rattle.std.proofs.lemmas.Bool.{cases_lt}
 use Rattle.packet_ids.specs.Identifier.{IsIdentifier, identifier_at}
@@ -8,16 +8,15 @@ use Rattle.packet_codec.specs.declared.packet.Packet.{Packet}
 use Rattle.packet_codec.specs.declared.packet.PacketKind.{PacketKind}
 use Rattle.packet_codec.specs.declared.packet.PacketKind.TheVariants.{Control}
 use Rattle.packet_codec.specs.declared.packet.BadPacket.{BadPacket}
-use Rattle.packet_codec.specs.Packet.{AreBytes, head_of, packet_bytes}
+use Rattle.packet_codec.specs.Packet.{AreBytes, head_of}
 use Rattle.packet_codec.specs.Reading.{packet_of, head_read}
-use Rattle.world_model.specs.Messages.{Reply, StatusReply, control_packet, packet_to_hub, said_to_hub, to_hub}
+use Rattle.world_model.specs.Messages.{Reply, control_packet, packet_to_hub, said_to_hub, to_hub}
 use Rattle.world_model.specs.Air.{LIFETIME}
-use Rattle.world_model.specs.Places.{at_place}
 use Rattle.world_model.specs.Facts.{IsReplyOf, IsSaidToHub, IsToldOf}
 use Rattle.world_model.proofs.Lists.{at_from_one, at_within}
 use Rattle.world_model.proofs.Places.{one_place}
 use Rattle.capture_reader.specs.declared.capture.Caught.{Caught}
-use Rattle.capture_reader.specs.Proved.{Proves, ProvesByReply, ProvesByStatus}
+use Rattle.capture_reader.specs.Proved.{ProvesByReply, ProvesByStatus}
 use Rattle.capture_laws.proofs.Joint.{Laws}
 
 -- ---- what a control packet says to a hub

@@ -1,7 +1,7 @@
 -- Captures one behind the other.
-use Rattle.std.proofs.Common.{◌≡◌, ◌∙◌, ◌⊎◌, ℕ, ◌+◌, List, [], ◌∷◌, ◌++◌, map, refl, ap, sym, inl, inr, append_assoc}
+use Rattle.std.proofs.Common.{◌≡◌, ◌∙◌, ◌⊎◌, ℕ, List, [], ◌∷◌, ◌++◌, refl, ap, sym, inl, inr, append_assoc}
 use Rattle.capture_reader.specs.declared.capture.Caught.{Caught}
-use Rattle.capture_reader.specs.Proved.{HasProof, Proves, sent_after}
+use Rattle.capture_reader.specs.Proved.{HasProof, sent_after}
 use Rattle.capture_laws.specs.Captures.{bodies_from, new_body}
 
 -- how many packets were sent for the first time, behind so many

@@ -1,7 +1,7 @@
-//! `ipbus`: reads a session document from standard input, and either runs its scripts on its boards and prints what
-//! they answered, or serves TCP connections at its boards and prints what they did, or lists the registers of one of
-//! its tables; or runs a generated session and prints its sums. The exit status is that of `control`; beside some
-//! of them a line on standard error says what happened.
+//! `ipbus`: reads a session document from standard input and runs its scripts on its boards, records the traffic of such
+//! a run, serves TCP connections at its boards, saves or applies their configuration, or lists the registers of one of its
+//! tables; or reads a capture or its description; or runs a session that it generates. The exit status is that of
+//! `control`; beside some of them lines on standard error say what happened.
 #![tactic(auto)]
 
 use ipbus_program::{

@@ -1,4 +1,4 @@
-use Rattle.std.proofs.Common.{ℕ, ◌≤◌, List, length, arith, inl, inr, ◌⊎◌, ◌≡◌}
+use Rattle.std.proofs.Common.{ℕ, ◌≤◌, length, arith, inl, inr, ◌⊎◌, ◌≡◌}
 use Rattle.world_model.specs.Board.{executed}
 use Rattle.capture_reader.specs.Proved.{HasProof}
 use Rattle.capture_laws.proofs.Joint.{Laws}

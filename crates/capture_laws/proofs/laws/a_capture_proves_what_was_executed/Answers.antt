@@ -1,6 +1,6 @@
-use Rattle.std.proofs.Common.{ℕ, ◌≤◌, List, length, arith, inl, inr, ◌⊎◌, ◌≡◌}
-use Rattle.world_model.specs.Board.{Board, executed}
-use Rattle.world_model.specs.World.{World, start}
+use Rattle.std.proofs.Common.{ℕ, ◌≤◌, length, arith, inl, inr, ◌⊎◌, ◌≡◌}
+use Rattle.world_model.specs.Board.{executed}
+use Rattle.world_model.specs.World.{start}
 use Rattle.world_model.specs.declared.offered.Fate.TheVariants.{Replied}
 use Rattle.world_model.proofs.Lists.{all_get}
 use Rattle.capture_reader.specs.Proved.{HasProof}
