@@ -32,6 +32,8 @@ pub record Laws : Type 0 where
   pub quiet : (hub : Hub) (told : Told) → IsJoined hub told → IsJoined (hear_quiet hub) told
   pub handed_out : (hub : Hub) (told : Told) (fate : ℕ × Fate) (fates : List (ℕ × Fate)) → IsJoined hub told
       → hub.fates ≡ fate ∷ fates → IsJoined (record hub { fates = fates }) told
+  pub late : (hub : Hub) (told : Told) (late : ℕ × List ℕ) (lates : List (ℕ × List ℕ)) → IsJoined hub told
+      → hub.lates ≡ late ∷ lates → IsJoined (record hub { lates = lates }) told
   pub log : (old new : Told) → IsHeard old new → IsPrefix {T = LogEntry} old.board.log new.board.log
   pub says_status : (bytes : List ℕ) (mtu buffers next : ℕ) → AreBytes bytes
       → (to_hub bytes ≡ Some (StatusReply mtu buffers next))

@@ -312,11 +312,11 @@ module _ (laws : Laws) where
     pub big : AllByRecursion IsBigSend (for_board told.air)
     pub bodies : bodies_from told.board.first 0 (map sent_item (for_board told.air)) ≡ bodies_of hub.sent
 
-  of_run : (limits : Limits) (hub : Hub) (outcomes : List (Option Outcome)) (t : Telling)
-      → IsRunning limits hub outcomes t → IsOfRun hub t.told
-  of_run limits hub outcomes t r =
+  of_run : (limits : Limits) (hub : Hub) (outcomes : List (Option Outcome)) (lates : List (Option (List ℕ)))
+      (t : Telling) → IsRunning limits hub outcomes lates t → IsOfRun hub t.told
+  of_run limits hub outcomes lates t r =
       let joined = r.reached.joined in
-      let w = world_of_both hub t.told r.fates in
+      let w = world_of_both hub t.told r.out in
       let state = r.reached.state.state in
       let begin = start limits.window limits.rounds r.board r.air in
       let new = caught_up w in
@@ -368,10 +368,11 @@ module _ (laws : Laws) where
     pub shown : AreItems items → (place : ℕ) → HasProof t.told.board.first 0 items place
         → place ≤ length (executed t.told.board)
 
-  pub running_shows : (limits : Limits) (hub : Hub) (outcomes : List (Option Outcome)) (t : Telling)
-      (items : List Caught) → IsRunning limits hub outcomes t → IsTrafficOf t items → LaneShows hub t items
-  running_shows limits hub outcomes t items r traffic =
-      let o = of_run limits hub outcomes t r in
+  pub running_shows : (limits : Limits) (hub : Hub) (outcomes : List (Option Outcome))
+      (lates : List (Option (List ℕ))) (t : Telling) (items : List Caught)
+      → IsRunning limits hub outcomes lates t → IsTrafficOf t items → LaneShows hub t items
+  running_shows limits hub outcomes lates t items r traffic =
+      let o = of_run limits hub outcomes lates t r in
       let joined = r.reached.joined in
       let sound = joined.sound in
       let f = t.told.board.first in
@@ -421,12 +422,13 @@ module _ (laws : Laws) where
     shown = s.shown;
   }
 
-  pub lane_shows : (stopped : Bool) (limits : Limits) (hub : Hub) (outcomes : List (Option Outcome)) (t : Telling)
-      (items : List Caught) → IsStanding stopped limits hub outcomes t → IsTrafficOf t items → CaptureShows hub t items
-  lane_shows false limits hub outcomes t items r traffic =
+  pub lane_shows : (stopped : Bool) (limits : Limits) (hub : Hub) (outcomes : List (Option Outcome))
+      (lates : List (Option (List ℕ))) (t : Telling) (items : List Caught)
+      → IsStanding stopped limits hub outcomes lates t → IsTrafficOf t items → CaptureShows hub t items
+  lane_shows false limits hub outcomes lates t items r traffic =
       by_lane hub hub t items ([], sym (append-nil (bodies_of hub.sent)))
-      (running_shows limits hub outcomes t items r traffic)
-  lane_shows true limits hub outcomes t items stopped traffic =
+      (running_shows limits hub outcomes lates t items r traffic)
+  lane_shows true limits hub outcomes lates t items stopped traffic =
       by_lane stopped.before hub t items
       (refused_sends stopped.before hub t.told stopped.running.reached.joined.sound stopped.refused)
-      (running_shows limits stopped.before outcomes t items stopped.running traffic)
+      (running_shows limits stopped.before outcomes lates t items stopped.running traffic)

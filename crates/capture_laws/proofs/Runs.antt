@@ -150,6 +150,12 @@ module _ (laws : Laws) where
   all_out h told (fate ∷ fates) is e =
       all_out (record h { fates = fates }) told fates (laws.handed_out h told fate fates is e) refl
 
+  all_lates_out : (h : Hub) (told : Told) (lates : List (ℕ × List ℕ)) → IsJoined h told → h.lates ≡ lates
+      → IsJoined (record h { lates = [] }) told
+  all_lates_out h told [] is e = subst (λ (ls : List (ℕ × List ℕ)). IsJoined (record h { lates = ls }) told) e is
+  all_lates_out h told (late ∷ lates) is e =
+      all_lates_out (record h { lates = lates }) told lates (laws.late h told late lates is e) refl
+
   -- ---- a send
 
   record Counts (first : ℕ) (n : Next) (items : List Caught) (bytes : List ℕ) : Type 0 where
@@ -269,7 +275,8 @@ module _ (laws : Laws) where
         more = f.more;
         air = f.air;
         shows = record {
-          joined = all_out new.hub (told_of new) new.hub.fates f.shows.joined refl;
+          joined = all_lates_out (record new.hub { fates = [] }) (told_of new) new.hub.lates
+              (all_out new.hub (told_of new) new.hub.fates f.shows.joined refl) refl;
           same_first = f.shows.same_first;
           count = f.shows.count;
           bodies = f.shows.bodies;

@@ -56,14 +56,17 @@ pub fn a_capture_proves_what_was_executed()
 /// was sent for the first time by the capture is a front of the bodies that the hub has sent, in order, and what the
 /// board executed is a front of that, of as many bodies as are proved at least.
 pub fn a_capture_of_a_lane_proves_what_was_executed()
-    ensures sent { (stopped : Bool) (limits : Limits) (hub : Hub) (outcomes : List (Option Outcome)) (t : Telling)
-        (items : List Caught) → IsStanding stopped limits hub outcomes t → IsTrafficOf t items
+    ensures sent { (stopped : Bool) (limits : Limits) (hub : Hub) (outcomes : List (Option Outcome))
+        (lates : List (Option (List ℕ))) (t : Telling) (items : List Caught)
+        → IsStanding stopped limits hub outcomes lates t → IsTrafficOf t items
         → IsPrefix (bodies_in (record { first = t.told.board.first; items = items })) (bodies_of hub.sent) }
-    ensures executed { (stopped : Bool) (limits : Limits) (hub : Hub) (outcomes : List (Option Outcome)) (t : Telling)
-        (items : List Caught) → IsStanding stopped limits hub outcomes t → IsTrafficOf t items
+    ensures executed { (stopped : Bool) (limits : Limits) (hub : Hub) (outcomes : List (Option Outcome))
+        (lates : List (Option (List ℕ))) (t : Telling) (items : List Caught)
+        → IsStanding stopped limits hub outcomes lates t → IsTrafficOf t items
         → IsPrefix (executed t.told.board) (bodies_in (record { first = t.told.board.first; items = items })) }
-    ensures proved { (stopped : Bool) (limits : Limits) (hub : Hub) (outcomes : List (Option Outcome)) (t : Telling)
-        (items : List Caught) (proved : ℕ) → IsStanding stopped limits hub outcomes t → IsTrafficOf t items
+    ensures proved { (stopped : Bool) (limits : Limits) (hub : Hub) (outcomes : List (Option Outcome))
+        (lates : List (Option (List ℕ))) (t : Telling) (items : List Caught) (proved : ℕ)
+        → IsStanding stopped limits hub outcomes lates t → IsTrafficOf t items
         → AreItems items → IsProved (record { first = t.told.board.first; items = items }) proved
         → proved ≤ length (executed t.told.board) }
 {

@@ -2,12 +2,14 @@
 use Rattle.std.proofs.Common.{◌≡◌, ℕ, ◌+◌, ◌*◌, ◌<◌, ◌≤◌, Bool, true, false, cond, List, [], ◌∷◌}
 use Rattle.std.proofs.Common.{length, map, Option, Some, refl, sym, ap, ◌∙◌, subst, arith, inl, inr, ◌||◌}
 use Rattle.std.specs.Prelude.{◌==◌, nat_lt}
+use Rattle.std.specs.List.{Contains}
 use Rattle.ipb_base.specs.Faults.{one_more}
 use Rattle.world_model.specs.declared.offered.Fate.{Fate}
 use Rattle.world_model.specs.declared.offered.OpenPlace.{OpenPlace}
 use Rattle.packet_codec.specs.declared.packet.TheConstants.{MAX_BODY_WORDS}
+use Rattle.world_model.specs.LateAnswers.{AreOfTimedOut}
 use Rattle.world_model.specs.Messages.{ToHub, Reply as ReplyTo, to_hub}
-use Rattle.world_model.specs.Hub.{Hub, give_up, hear_quiet, is_waiting, places, recover}
+use Rattle.world_model.specs.Hub.{HandedOut, Hub, IsDrained, drained, give_up, hear_quiet, is_waiting, places, recover}
 use Rattle.world_model.specs.Hub.{some_queued, some_waited, take_message, want_status, without}
 use Rattle.world_model.specs.Sends.{Next, next_send}
 use Rattle.world_model.specs.Facts.{HasBodies, IsWindow}
@@ -22,21 +24,26 @@ use Rattle.lane_record.specs.Claims.{Claim, claims}
 use Rattle.lane_record.specs.FirstSends.{PlacesCount}
 use Rattle.lane_record.specs.Bounds.{AreLostOnlyIf, HasReached, HasWaited, IsKept, TellRounds, timeouts}
 use Rattle.lane_record.specs.Outcomes.{AreShort, is_given_up, is_lost, is_replied}
+use Rattle.lane_record.specs.Lates.{put_lates}
 use Rattle.lane_record.specs.Offers.{AddsOnly, AgreesWith, KeepsOutcomes, Settles, put_all}
 use Rattle.lane_record.proofs.Rounds.{give_up_tells, message_tells}
 use Rattle.lane_record.proofs.Lengths.{give_up_short, message_short}
 use Rattle.recovery_laws.proofs.Rounds.{mul_more}
+use Rattle.hub_lane.specs.Below.{LateLaws}
 use Rattle.hub_lane.specs.declared.answers.Pumped.{Pumped}
 use Rattle.hub_lane.specs.declared.answers.Pumped.TheVariants.{Reply, Status, Stray, Quiet, Idle, LinkDown}
 use Rattle.hub_lane.specs.Hearing.{IsEventAs, give_ups_of, hub_after, quiets_of}
+use Rattle.hub_lane.specs.LateAnswers.{AreLateAnswers}
 use Rattle.hub_lane.specs.Lanes.{BoardStatus, IsLane, IsReady, KnowsBoard, waits}
-use Rattle.hub_lane.specs.Sends.{HasSent, handed_out}
+use Rattle.hub_lane.specs.Sends.{HasSent}
 use Rattle.hub_lane.proofs.Heard.{reply_short}
+use Rattle.hub_lane.proofs.LateAnswers.{HandsOver, account_sent, handed_over, message_lates_short}
+use Rattle.hub_lane.proofs.LateAnswers.{quiet_lates_short}
 use Rattle.hub_lane.proofs.Linked.{SendKeepsBodies}
 use Rattle.hub_lane.proofs.Ready.{ready_sent, same_sent}
 use Rattle.hub_lane.proofs.Sends.{one_sent, sent_keeps}
 use Rattle.hub_lane.proofs.Rounds.{none_wait}
-use Rattle.hub_lane.proofs.Standing.{SameFates}
+use Rattle.hub_lane.proofs.Standing.{SendLeaves}
 use Rattle.hub_lane.proofs.Windows.{IsSameBut, IsWindowed, message_windowed, quiet_windowed}
 
 -- ---- sends
@@ -50,20 +57,27 @@ pub record IsMid (asks : ℕ) (cs : List Claim) (os : List (Option Outcome)) (ol
   pub ready : IsReady asks mid
   pub same : IsSameBut old mid
   pub agrees : AgreesWith mid cs os
+  pub account : (out : HandedOut) → AreOfTimedOut out old → AreOfTimedOut out mid
 
 record Both (asks : ℕ) (cs : List Claim) (os : List (Option Outcome)) (hub : Hub) : Type 0 where
   ready : IsReady asks hub
   agrees : AgreesWith hub cs os
 
-pub mid_sent : SameFates → SendKeepsBodies → SendAgrees → (asks : ℕ) (cs : List Claim) (os : List (Option Outcome))
-    (old mid : Hub) → HasSent old mid → IsReady asks old → AgreesWith old cs os → IsMid asks cs os old mid
-mid_sent fates bodies agree asks cs os old mid sent ready agrees =
+pub mid_sent : SendLeaves → SendKeepsBodies → SendAgrees → LateLaws → (asks : ℕ) (cs : List Claim)
+    (os : List (Option Outcome)) (old mid : Hub) → HasSent old mid → IsReady asks old → AgreesWith old cs os
+    → IsMid asks cs os old mid
+mid_sent fates bodies agree late asks cs os old mid sent ready agrees =
     let both = sent_keeps (Both asks cs os)
     (λ hub next e is. record {
       ready = ready_sent fates bodies asks hub next.hub (one_sent hub next e) is.ready;
       agrees = agree hub cs os next is.ready.window is.agrees e;
     }) old mid sent (record { ready = ready; agrees = agrees }) in
-    record { ready = both.ready; same = same_sent old mid sent; agrees = both.agrees }
+    record {
+      ready = both.ready;
+      same = same_sent old mid sent;
+      agrees = both.agrees;
+      account = account_sent late old mid sent;
+    }
 
 -- ---- what an event leaves
 
@@ -143,9 +157,9 @@ pub same_length : (cs : List Claim) (old new : List (Option Outcome)) → length
 same_length cs old new a b = b ∙ sym a
 
 ready_after : (asks asks_now : ℕ) (event : Hub) → asks_now ≡ asks → IsWindowed event → HasBodies asks event
-    → IsReady asks_now (handed_out event)
+    → IsReady asks_now (drained event)
 ready_after asks asks_now event same window bodies = record {
-  drained = refl;
+  drained = record { fates = refl; lates = refl };
   window = window;
   bodies = record {
     few = (let h = bodies.few in omega (arith, h, same));
@@ -173,7 +187,7 @@ QuietSettles = (hub : Hub) (cs : List Claim) (os : List (Option Outcome))
     → IsWindow hub.window (length hub.sent) (places hub.open_places) → hub.fates ≡ [] → AgreesWith hub cs os
     → Settles (hear_quiet hub) cs os is_given_up hub.window
 
--- all that holds but how the hub stands to the link
+-- all that holds but how the hub stands to the link, and late answers
 pub record IsAfter (settings : Limits) (status : BoardStatus) (hub : Hub) (items : List Item)
     (old outcomes : List (Option Outcome)) (give_ups : ℕ) (quiets : ℕ) : Type 0 where
   pub knows : KnowsBoard settings status hub
@@ -202,11 +216,11 @@ knows_still settings status old new first window rounds is = record {
 
 -- what holds of a lane whose sends went out
 pub mid_after : (settings : Limits) (status : BoardStatus) (hub mid : Hub) (items : List Item)
-    (outcomes : List (Option Outcome)) (give_ups : ℕ) (telling : Option Telling) (faults quiets : ℕ)
-    → IsMid (length outcomes) (claims items) outcomes hub mid
-    → IsLane settings status hub items outcomes give_ups false false telling faults quiets
+    (outcomes : List (Option Outcome)) (lates : List (Option (List ℕ))) (give_ups : ℕ) (telling : Option Telling)
+    (faults quiets : ℕ) → IsMid (length outcomes) (claims items) outcomes hub mid
+    → IsLane settings status hub items outcomes lates give_ups false false telling faults quiets
     → IsAfter settings status mid items outcomes outcomes give_ups quiets
-mid_after settings status hub mid items outcomes give_ups telling faults quiets at is = record {
+mid_after settings status hub mid items outcomes lates give_ups telling faults quiets at is = record {
   knows = knows_still settings status hub mid at.same.first at.same.window at.same.rounds is.knows;
   ready = at.ready;
   agrees = at.agrees;
@@ -228,18 +242,18 @@ asked_after : (settings : Limits) (status : BoardStatus) (mid : Hub) (items : Li
     (outcomes : List (Option Outcome)) (give_ups quiets quiets_now : ℕ) → is_waiting mid ≡ true
     → quiets_now ≡ one_more quiets → mid.status_requests < mid.rounds → HasBodies (length outcomes) (want_status mid)
     → IsWindowed (want_status mid) → IsAfter settings status mid items outcomes outcomes give_ups quiets
-    → IsAfter settings status (handed_out (want_status mid)) items outcomes (put_all (want_status mid).fates outcomes)
+    → IsAfter settings status (drained (want_status mid)) items outcomes (put_all (want_status mid).fates outcomes)
     (give_ups_of Quiet (want_status mid) give_ups) quiets_now
 asked_after settings status mid items outcomes give_ups quiets quiets_now waiting rose less bodies window is =
-    let none = is.ready.drained in
+    let none = is.ready.drained.fates in
     let outs : put_all mid.fates outcomes ≡ outcomes = ap (λ (fs : List (ℕ × Fate)). put_all fs outcomes) none in
     let count : ◌≡◌ {A = ℕ} (cond (is_waiting mid) give_ups (give_ups + 1)) give_ups =
     ap (λ (b : Bool). cond b give_ups (give_ups + 1)) waiting in
-    subst (λ (os : List (Option Outcome)). IsAfter settings status (handed_out (want_status mid)) items outcomes os
+    subst (λ (os : List (Option Outcome)). IsAfter settings status (drained (want_status mid)) items outcomes os
     (cond (is_waiting mid) give_ups (give_ups + 1)) quiets_now) (sym outs)
-    (subst (λ (g : ℕ). IsAfter settings status (handed_out (want_status mid)) items outcomes outcomes g quiets_now)
+    (subst (λ (g : ℕ). IsAfter settings status (drained (want_status mid)) items outcomes outcomes g quiets_now)
     (sym count) (record {
-      knows = knows_still settings status mid (handed_out (want_status mid)) refl refl refl is.knows;
+      knows = knows_still settings status mid (drained (want_status mid)) refl refl refl is.knows;
       ready = ready_after (length outcomes) (length outcomes) (want_status mid) refl window bodies;
       agrees = is.agrees;
       kept = is.kept;
@@ -256,7 +270,7 @@ given_up_after : GaveUpLaw → (settings : Limits) (status : BoardStatus) (mid :
     → quiets_now ≡ one_more quiets → mid.rounds ≤ mid.status_requests → HasBodies (length outcomes) (give_up mid)
     → IsWindowed (give_up mid) → Settles (give_up mid) (claims items) outcomes is_given_up mid.window
     → IsAfter settings status mid items outcomes outcomes give_ups quiets
-    → IsAfter settings status (handed_out (give_up mid)) items outcomes (put_all (give_up mid).fates outcomes)
+    → IsAfter settings status (drained (give_up mid)) items outcomes (put_all (give_up mid).fates outcomes)
     (give_ups_of Quiet (give_up mid) give_ups) quiets_now
 given_up_after gave_up settings status mid items outcomes give_ups quiets quiets_now waiting rose more bodies window s
     is =
@@ -269,18 +283,19 @@ given_up_after gave_up settings status mid items outcomes give_ups quiets quiets
     let one : ◌≡◌ {A = ℕ} (waits mid) 1 = ap (λ (b : Bool). cond b 1 0) waiting in
     let none : ◌≡◌ {A = ℕ} (waits event) 0 = ap (λ (b : Bool). cond b 1 0) off in
     let paid = mul_more (mid.rounds + 1) give_ups in
-    subst (λ (g : ℕ). IsAfter settings status (handed_out event) items outcomes new g quiets_now)
+    subst (λ (g : ℕ). IsAfter settings status (drained event) items outcomes new g quiets_now)
     (sym count) (record {
-      knows = knows_still settings status mid (handed_out event) refl refl refl is.knows;
+      knows = knows_still settings status mid (drained event) refl refl refl is.knows;
       ready = ready_after (length outcomes) (length new) event same window bodies;
       agrees = s.agrees;
       kept = gave_up items outcomes new mid.window give_ups is.kept s.keeps s.few s.agrees.counts;
       waited = (let w = is.waited in omega (arith, w, rose, paid, more));
       fewer = (let h = is.fewer in omega (arith, h, one, none, same));
       lost = still_lost (false ≡ true) is_given_up outcomes new ended s.adds is.lost;
-      tells = subst (λ (rounds : ℕ). TellRounds rounds new) is.knows.rounds (give_up_tells mid outcomes is.ready.drained
+      tells = subst (λ (rounds : ℕ). TellRounds rounds new) is.knows.rounds (give_up_tells mid outcomes
+          is.ready.drained.fates
           (subst (λ (rounds : ℕ). TellRounds rounds outcomes) (sym is.knows.rounds) is.tells));
-      short = give_up_short mid outcomes is.ready.drained is.short;
+      short = give_up_short mid outcomes is.ready.drained.fates is.short;
       keeps = s.keeps;
     })
 
@@ -289,16 +304,16 @@ message_after : MessageSettles → RepliedLaw → (settings : Limits) (status : 
     → ((id : ℕ) (words : List ℕ) → message ≡ Some (ReplyTo id words) → length words ≤ MAX_BODY_WORDS)
     → HasBodies (length outcomes) (take_message mid message)
     → IsAfter settings status mid items outcomes outcomes give_ups quiets
-    → IsAfter settings status (handed_out (take_message mid message)) items outcomes
+    → IsAfter settings status (drained (take_message mid message)) items outcomes
     (put_all (take_message mid message).fates outcomes) give_ups quiets
 message_after settles replied settings status mid message items outcomes give_ups quiets short bodies is =
     let event = take_message mid message in
     let new = put_all event.fates outcomes in
-    let s = settles mid message (claims items) outcomes is.ready.window is.ready.drained is.agrees in
+    let s = settles mid message (claims items) outcomes is.ready.window is.ready.drained.fates is.agrees in
     let same = same_length (claims items) outcomes new is.agrees.counts.each s.agrees.counts.each in
     let l = message_leaves mid message in
     record {
-      knows = knows_still settings status mid (handed_out event) l.first l.window l.rounds is.knows;
+      knows = knows_still settings status mid (drained event) l.first l.window l.rounds is.knows;
       ready = ready_after (length outcomes) (length new) event same (message_windowed mid message is.ready.window)
           bodies;
       agrees = s.agrees;
@@ -308,8 +323,8 @@ message_after settles replied settings status mid message items outcomes give_up
           rw r (waited_less ((mid.rounds + 1) * give_ups) event.status_requests mid.status_requests quiets q w));
       fewer = (let h = is.fewer in let f = l.fewer in omega (arith, h, f, same));
       lost = still_lost (false ≡ true) is_replied outcomes new calm s.adds is.lost;
-      tells = message_tells settings.rounds mid message outcomes is.ready.drained is.tells;
-      short = message_short mid message outcomes short is.ready.drained is.short;
+      tells = message_tells settings.rounds mid message outcomes is.ready.drained.fates is.tells;
+      short = message_short mid message outcomes short is.ready.drained.fates is.short;
       keeps = s.keeps;
     }
 
@@ -318,14 +333,14 @@ quiet_after : QuietSettles → GaveUpLaw → (settings : Limits) (status : Board
     → is_waiting mid ≡ true → quiets_now ≡ one_more quiets
     → HasBodies (length outcomes) (hear_quiet mid)
     → IsAfter settings status mid items outcomes outcomes give_ups quiets
-    → IsAfter settings status (handed_out (hear_quiet mid)) items outcomes
+    → IsAfter settings status (drained (hear_quiet mid)) items outcomes
     (put_all (hear_quiet mid).fates outcomes) (give_ups_of Quiet (hear_quiet mid) give_ups) quiets_now
 quiet_after settles gave_up settings status mid items outcomes give_ups quiets quiets_now waiting rose bodies is =
-    let s = settles mid (claims items) outcomes is.ready.window is.ready.drained is.agrees in
+    let s = settles mid (claims items) outcomes is.ready.window is.ready.drained.fates is.agrees in
     let w = quiet_windowed mid is.ready.window in
     quiet_cases (λ (event : Hub). HasBodies (length outcomes) event → IsWindowed event
     → Settles event (claims items) outcomes is_given_up mid.window
-    → IsAfter settings status (handed_out event) items outcomes (put_all event.fates outcomes)
+    → IsAfter settings status (drained event) items outcomes (put_all event.fates outcomes)
     (give_ups_of Quiet event give_ups) quiets_now) mid
     (λ less bodies_now window settled. asked_after settings status mid items outcomes give_ups quiets quiets_now waiting
     rose less bodies_now window is)
@@ -340,7 +355,7 @@ pub event_after : MessageSettles → RepliedLaw → QuietSettles → GaveUpLaw
     → HasBodies (length outcomes) (hear_quiet mid)
     → is_waiting mid ≡ true → IsEventAs mid bytes pumped
     → IsAfter settings status mid items outcomes outcomes give_ups quiets
-    → IsAfter settings status (handed_out (hub_after pumped bytes mid)) items outcomes
+    → IsAfter settings status (drained (hub_after pumped bytes mid)) items outcomes
     (put_all (hub_after pumped bytes mid).fates outcomes) (give_ups_of pumped (hub_after pumped bytes mid) give_ups)
     (quiets_of pumped quiets)
 event_after settles replied quiet gave_up settings status mid bytes (Reply place) items outcomes give_ups quiets bodies
@@ -375,3 +390,49 @@ more_give_ups Stray event n = omega arith
 more_give_ups Quiet event n = more_after (is_waiting event) n
 more_give_ups Idle event n = omega arith
 more_give_ups LinkDown event n = omega arith
+
+-- ---- late answers
+
+-- an event that the hub makes known, over any link
+event_hands_over : LateLaws → (mid event : Hub) (items : List Item) (outcomes : List (Option Outcome))
+    (lates : List (Option (List ℕ))) (kind : Outcome → Bool) (most : ℕ)
+    → ((out : HandedOut) → AreOfTimedOut out mid → AreOfTimedOut out event)
+    → ((place : ℕ) (words : List ℕ) → Contains event.lates (place, words) → length words ≤ MAX_BODY_WORDS)
+    → HasBodies (length outcomes) event → AgreesWith mid (claims items) outcomes
+    → Settles event (claims items) outcomes kind most → AreLateAnswers mid outcomes lates
+    → HandsOver (put_all event.fates outcomes) lates (put_lates event.lates lates) (drained event)
+event_hands_over laws mid event items outcomes lates kind most account short bodies agrees settles late =
+    let few = bodies.few in
+    let count = late.count in
+    handed_over laws mid event (claims items) outcomes lates kind most account short (omega (arith, few, count))
+    (same_length (claims items) outcomes (put_all event.fates outcomes) agrees.counts.each settles.agrees.counts.each)
+    settles late
+
+pub event_late : LateLaws → MessageSettles → QuietSettles → (mid : Hub) (bytes : List ℕ) (pumped : Pumped)
+    (items : List Item) (outcomes : List (Option Outcome)) (lates : List (Option (List ℕ)))
+    → ((message : Option ToHub) → HasBodies (length outcomes) (take_message mid message))
+    → HasBodies (length outcomes) (hear_quiet mid) → IsEventAs mid bytes pumped → IsReady (length outcomes) mid
+    → AgreesWith mid (claims items) outcomes → AreLateAnswers mid outcomes lates
+    → HandsOver (put_all (hub_after pumped bytes mid).fates outcomes) lates
+    (put_lates (hub_after pumped bytes mid).lates lates) (drained (hub_after pumped bytes mid))
+event_late laws message quiet mid bytes pumped items outcomes lates bodies quiet_bodies event ready agrees late =
+    by pumped event
+  where
+    heard : HandsOver (put_all (take_message mid (to_hub bytes)).fates outcomes) lates
+        (put_lates (take_message mid (to_hub bytes)).lates lates) (drained (take_message mid (to_hub bytes)))
+    heard = event_hands_over laws mid (take_message mid (to_hub bytes)) items outcomes lates is_replied 0
+        (λ out account. laws.heard out mid (to_hub bytes) account)
+        (message_lates_short mid (to_hub bytes) ready.drained (reply_short bytes)) (bodies (to_hub bytes)) agrees
+        (message mid (to_hub bytes) (claims items) outcomes ready.window ready.drained.fates agrees) late
+
+    by : (pumped : Pumped) → IsEventAs mid bytes pumped
+        → HandsOver (put_all (hub_after pumped bytes mid).fates outcomes) lates
+        (put_lates (hub_after pumped bytes mid).lates lates) (drained (hub_after pumped bytes mid))
+    by (Reply place) event = heard
+    by Status event = heard
+    by Stray event = heard
+    by Quiet event = event_hands_over laws mid (hear_quiet mid) items outcomes lates is_given_up mid.window
+        (λ out account. laws.quiet out mid account) (quiet_lates_short mid ready.drained) quiet_bodies agrees
+        (quiet mid (claims items) outcomes ready.window ready.drained.fates agrees) late
+    by Idle event = absurd event
+    by LinkDown event = absurd event

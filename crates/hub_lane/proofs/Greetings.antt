@@ -27,6 +27,8 @@ use Rattle.world_core.specs.declared.link.LinkFault.TheVariants as fault
 use Rattle.world_core.specs.declared.link.Received.{Received}
 use Rattle.world_core.specs.declared.link.Received.TheVariants as came
 use Rattle.world_core.specs.Telling.{IfTelling, IsGot, IsQuiet, IsReceived, IsSent, Receives, Telling}
+use Rattle.hub_lane.specs.Standing.{AreInAir}
+use Rattle.hub_lane.proofs.Closed.{got_in_air, sent_in_air, unheard_in_air}
 use Rattle.recovery_laws.proofs.Heard.{AirGrows, GoesThere, contains_get, front_goes, heard_first, heard_goes}
 use Rattle.recovery_laws.proofs.Heard.{nothing_due, one_way}
 use Rattle.hub_lane.specs.declared.greeting.Answer.{Answer}
@@ -91,29 +93,32 @@ answer_there grows window t u k ks is e =
 -- ---- one receive
 
 received_fresh : HeardGoesOn → (settings : Limits) (by_hub : List ℕ) (before now : ℕ) (old new : Telling)
-    → CanBegin settings old → IsReceived by_hub before now old new → StaysFresh settings old new
-received_fresh law settings by_hub before now old new begins is =
-    let on = law settings.window old.told new.told begins is.by_board in
-    record { begins = on.0; same_board = on.1 }
+    → CanBegin settings old → AreInAir new → IsReceived by_hub before now old new → StaysFresh settings old new
+received_fresh law settings by_hub before now old new begins in_air is =
+    let on = law settings.window old.told new.told begins.start is.by_board in
+    record { begins = record { start = on.0; in_air = in_air }; same_board = on.1 }
 
-receives_fresh : HeardGoesOn → (settings : Limits) (result : Result Received LinkFault) (bytes : List ℕ)
+receives_fresh : HeardGoesOn → AirGrows → (settings : Limits) (result : Result Received LinkFault) (bytes : List ℕ)
     (before now : ℕ) (old new : Telling) → CanBegin settings old → Receives result bytes before now old new
     → StaysFresh settings old new
-receives_fresh law settings (Ok came.Got) bytes before now old new begins is = received_fresh law settings
-    (is.place ∷ []) before now old new begins is.received
-receives_fresh law settings (Ok came.Quiet) bytes before now old new begins is = received_fresh law settings []
-    before now old new begins is.received
-receives_fresh law settings (Err fault.Failed) bytes before now old new begins is =
+receives_fresh law grows settings (Ok came.Got) bytes before now old new begins is =
+    received_fresh law settings (is.place ∷ []) before now old new begins
+    (got_in_air grows bytes before now old new is begins.in_air) is.received
+receives_fresh law grows settings (Ok came.Quiet) bytes before now old new begins is =
+    received_fresh law settings [] before now old new begins
+    (unheard_in_air grows before now old new is.received begins.in_air) is.received
+receives_fresh law grows settings (Err fault.Failed) bytes before now old new begins is =
     record { begins = subst (CanBegin settings) (sym is) begins; same_board = ap (λ (t : Telling). t.told.board) is }
-receives_fresh law settings (Err fault.NoMemory) bytes before now old new begins is = received_fresh law settings []
-    before now old new begins is
+receives_fresh law grows settings (Err fault.NoMemory) bytes before now old new begins is =
+    received_fresh law settings [] before now old new begins
+    (unheard_in_air grows before now old new is begins.in_air) is
 
-pub fresh_on : HeardGoesOn → (settings : Limits) (result : Result Received LinkFault) (bytes : List ℕ)
+pub fresh_on : HeardGoesOn → AirGrows → (settings : Limits) (result : Result Received LinkFault) (bytes : List ℕ)
     (before now : ℕ) (old new : Option Telling) → IfSome old (CanBegin settings)
     → IfTelling old new (Receives result bytes before now) → IfTelling old new (StaysFresh settings)
-fresh_on law settings result bytes before now old new begins is =
+fresh_on law grows settings result bytes before now old new begins is =
     on_telling (CanBegin settings) (Receives result bytes before now) (StaysFresh settings) old new
-    (receives_fresh law settings result bytes before now) begins is
+    (receives_fresh law grows settings result bytes before now) begins is
 
 -- the answer to what the board heard is neither still to be heard nor handed out
 answer_rose : AirGrows → (before now : ℕ) (old new : Telling) → IsQuiet before now old new
@@ -139,7 +144,7 @@ answer_held : AirGrows → (settings : Limits) (before now : ℕ) (old new : Tel
     → Rose before now
 answer_held grows settings before now old new begins is [] e j lt = absurd (omega (arith, lt))
 answer_held grows settings before now old new begins is (k ∷ ks) e j lt = answer_rose grows before now old new is
-    (answer_there grows settings.window old.told new.told k ks begins e)
+    (answer_there grows settings.window old.told new.told k ks begins.start e)
 
 -- what is expected is settled by a quiet receive only where datagrams are held
 quiet_held : HeardGoesOn → AirGrows → (settings : Limits) (before now : ℕ) (old new : Telling)
@@ -183,32 +188,37 @@ ReplyTells = (mtu buffers next : ℕ) → IsStatusReply (packet_bytes (status_re
 told_greeted : (settings : Limits) (before now : ℕ) (old new : Telling) (told : Answer) → CanBegin settings new
     → IsTold new.told.board.mtu new.told.board.buffers new.told.board.first told
     → IsHeardFrom settings before now told old new
-told_greeted settings before now old new (answer.Told status) begins is = record
-    { begins = begins; told = record { mtu = is.0; buffers = is.1; next = is.2 } }
+told_greeted settings before now old new (answer.Told status) begins is = record {
+  begins = begins.start;
+  in_air = begins.in_air;
+  told = record { mtu = is.0; buffers = is.1; next = is.2 };
+}
 told_greeted settings before now old new answer.Nothing begins is = absurd is
 told_greeted settings before now old new answer.Other begins is = absurd is
 
-got_greeted : HeardGoesOn → ReplyTells → (settings : Limits) (bytes : List ℕ) (told : Answer) → TellsAll bytes told
+got_greeted : HeardGoesOn → AirGrows → ReplyTells → (settings : Limits) (bytes : List ℕ) (told : Answer)
+    → TellsAll bytes told
     → (before now : ℕ) (old new : Telling) → CanBegin settings old → IsGot bytes before now old new
     → IsHeardFrom settings before now told old new
-got_greeted law tells settings bytes told all before now old new begins is =
-    let fresh = received_fresh law settings (is.place ∷ []) before now old new begins is.received in
-    let start = fresh.begins in
+got_greeted law grows tells settings bytes told all before now old new begins is =
+    let fresh = receives_fresh law grows settings (Ok came.Got) bytes before now old new begins is in
+    let start = fresh.begins.start in
     let board = new.told.board in
     let greeting = all_get (IsGreeting board) new.told.air is.place
     (record { direction = goes.ToHub; bytes = bytes; birth = is.there.birth }) start.greetings is.there.there in
-    told_greeted settings before now old new told start
+    told_greeted settings before now old new told fresh.begins
     (all board.mtu board.buffers board.first start.mtu start.buffers start.first
     (subst (λ (bs : List ℕ). IsStatusReply bs board.mtu board.buffers board.first) (sym greeting.bytes)
     (tells board.mtu board.buffers board.first)))
 
-pub got_told : HeardGoesOn → ReplyTells → (settings : Limits) (bytes : List ℕ) (told : Answer) → TellsAll bytes told
+pub got_told : HeardGoesOn → AirGrows → ReplyTells → (settings : Limits) (bytes : List ℕ) (told : Answer)
+    → TellsAll bytes told
     → (before now : ℕ) (old new : Option Telling) → IfSome old (CanBegin settings)
     → IfTelling old new (Receives (Ok came.Got) bytes before now)
     → IfTelling old new (IsHeardFrom settings before now told)
-got_told law tells settings bytes told all before now old new begins is =
+got_told law grows tells settings bytes told all before now old new begins is =
     on_telling (CanBegin settings) (Receives (Ok came.Got) bytes before now)
-    (IsHeardFrom settings before now told) old new (got_greeted law tells settings bytes told all before now)
+    (IsHeardFrom settings before now told) old new (got_greeted law grows tells settings bytes told all before now)
     begins is
 
 -- ---- what was handed out
@@ -322,8 +332,11 @@ sent_fresh : RequestGoesOn → (settings : Limits) (bytes : List ℕ) (before no
 sent_fresh law settings bytes before now old new e begins is =
     let told : new.told ≡ sent_on old.told (packet_bytes status_request) = is.told ∙ ap (sent_on old.told) e in
     record {
-      begins = subst (λ (t : Told). IsStart settings.window t.board t.air) (sym told)
-          (law settings.window old.told begins);
+      begins = record {
+        start = subst (λ (t : Told). IsStart settings.window t.board t.air) (sym told)
+            (law settings.window old.told begins.start);
+        in_air = sent_in_air bytes before now old new is begins.in_air;
+      };
       same_board = ap (λ (t : Told). t.board) told;
     }
 

@@ -9,11 +9,12 @@ use Rattle.packet_ids.specs.Identifier.{identifier_at}
 use Rattle.world_model.specs.declared.offered.Offered.{Offered}
 use Rattle.world_model.specs.declared.offered.OpenPlace.{OpenPlace}
 use Rattle.world_model.specs.Messages.{ToHub, StatusReply, Reply as ReplyTo, to_hub}
-use Rattle.world_model.specs.Hub.{Hub, hear_quiet, offer, open_with, places, settle, take_message, want_control}
+use Rattle.world_model.specs.Hub.{Hub, drained, hear_quiet, offer, open_with, places, settle, take_message}
+use Rattle.world_model.specs.Hub.{want_control}
 use Rattle.world_model.specs.Sends.{Next, bytes_to_send, next_send}
 use Rattle.world_model.specs.Facts.{has}
 use Rattle.world_model.proofs.Flushing.{quiet_cases, status_cases}
-use Rattle.world_model.proofs.Hubs.{has_first, has_later}
+use Rattle.world_model.proofs.OpenPlaces.{named, none_named}
 use Rattle.reliable_engine.specs.Answers.{IsOpen}
 use Rattle.reliable_engine.specs.Events.{IsAtRest}
 use Rattle.world_model.specs.Settings.{Limits}
@@ -29,10 +30,8 @@ use Rattle.hub_lane.specs.Lanes.{LaneState, board_of}
 use Rattle.hub_lane.specs.Rounds.{AreCalls, EndsInSilence, HasPaid, IsCall, KeepsRound, LaneCall, LaneRound, PaysOn}
 use Rattle.hub_lane.specs.Rounds.{PaysRounds, Pumps, RoundAfter, RoundFor, RoundState, Sends, SettlesOne, in_round}
 use Rattle.hub_lane.specs.Rounds.{round_of}
-use Rattle.hub_lane.specs.Sends.{handed_out}
 use Rattle.hub_lane.specs.Standing.{GoesOn, IsRunning, IsStanding}
 use Rattle.hub_lane.proofs.Rounds.{both_told, can_recover, neither, still_up}
-use Rattle.hub_lane.proofs.Standing.{open_named}
 use Rattle.hub_lane.proofs.Windows.{send_same}
 
 -- ---- what a link tells before a call and after it
@@ -135,7 +134,7 @@ sent_keeps_round laws hub next before now t u e can sent =
     (λ some way. laws.sent hub next before now t u can e sent way)
 
 pub none_sent : (hub : Hub) (held : ℕ) (telling : Option Telling) → RoundFor Sends telling hub held telling hub held
-none_sent hub held telling = λ limits outcomes mtu rounds g start paid.
+none_sent hub held telling = λ limits outcomes lates mtu rounds g start paid.
     same_link (λ t u. RoundAfter Sends (in_round hub held t) (in_round hub held u)) telling
     (λ t up. same_round (in_round hub held t))
 
@@ -146,56 +145,28 @@ pub round_sent : WayLaws → (begin old : Hub) (next : Next) (first_held before 
     → PaysOn first begin first_held telling old before → RoundFor Sends first begin first_held telling old before
     → RoundFor Sends first begin first_held after next.hub now
 round_sent laws begin old next first_held before now first telling after e since le running call pays keeps =
-    λ limits outcomes mtu rounds g start paid.
-    let Ready : Telling → Type 0 = λ t. IsRunning limits old outcomes t × PaysRounds mtu rounds g old before t in
+    λ limits outcomes lates mtu rounds g start paid.
+    let Ready : Telling → Type 0 = λ t. IsRunning limits old outcomes lates t × PaysRounds mtu rounds g old before t in
     let One : Telling → Telling → Type 0 = λ t u. KeepsRound (in_round old before t) (in_round next.hub now u) in
     let one : IfTelling telling after One = called Ready (IsSent (bytes_to_send next.hub next.send) before now) One
-    telling after (both_told (IsRunning limits old outcomes) (PaysRounds mtu rounds g old before) telling
-    (running limits outcomes start) (pays limits outcomes mtu rounds g start paid)) call
+    telling after (both_told (IsRunning limits old outcomes lates) (PaysRounds mtu rounds g old before) telling
+    (running limits outcomes lates start) (pays limits outcomes lates mtu rounds g start paid)) call
     (λ t u is sent. sent_keeps_round laws old next before now t u e
     (can_recover mtu rounds g old before t is.0.reached.joined is.1) sent) in
     called_twice (λ s t. RoundAfter Sends (in_round begin first_held s) (in_round old before t)) One
     (λ s u. RoundAfter Sends (in_round begin first_held s) (in_round next.hub now u)) first telling after
-    (keeps limits outcomes mtu rounds g start paid) one
+    (keeps limits outcomes lates mtu rounds g start paid) one
     (λ s t u is last up. keeps_after (in_round begin first_held s) (in_round old before t) (in_round next.hub now u)
     since le (is refl) last)
 
 -- ---- a receive
 
-unnamed : (first id : ℕ) (os : List OpenPlace) (place : ℕ) → open_with first id os ≡ None → has place (places os) ≡ true
-    → identifier_at first place ≡ id → ⊥
-unnamed first id [] place none there same = absurd (cc)
-unnamed first id (o ∷ os) place none there same = elim (eqb_tells (identifier_at first o.place) id) [
-  | inl here ↦ absurd (
-      let e : open_with first id (o ∷ os) ≡ Some o = rw here.0 refl in
-      let bad : Some o ≡ None = sym e ∙ none in cc)
-  | inr other ↦
-      let later : open_with first id os ≡ None =
-      (let e : open_with first id (o ∷ os) ≡ open_with first id os = rw other.0 refl in sym e ∙ none) in
-      elim (eqb_tells o.place place) [
-        | inl this ↦ other.1 (ap (identifier_at first) this.1 ∙ same)
-        | inr apart ↦ unnamed first id os place later
-            (let e : has place (places (o ∷ os)) ≡ has place (places os) = rw apart.0 refl in sym e ∙ there) same
-      ]
-]
-
-open_there : (first id : ℕ) (os : List OpenPlace) (o : OpenPlace) → open_with first id os ≡ Some o
-    → has o.place (places os) ≡ true
-open_there first id [] o e = absurd (cc)
-open_there first id (x ∷ os) o e =
-    elim (identifier_at first x.place == id) as (λ b. cond b (Some x) (open_with first id os) ≡ Some o
-    → has o.place (places (x ∷ os)) ≡ true) [
-      | true ↦ λ told. (let same : x ≡ o = cc in subst (λ (y : OpenPlace). has y.place (places (x ∷ os)) ≡ true) same
-          (has_first x.place (places os)))
-      | false ↦ λ told. has_later o.place x.place (places os) (open_there first id os o told)
-    ] e
-
 settle_ends : (hub : Hub) (words : List ℕ) (id place : ℕ) (r : Option OpenPlace)
     → open_with hub.first id hub.open_places ≡ r → IsOpen hub place → identifier_at hub.first place ≡ id
     → (settle hub words r).status_requests ≡ 0
-settle_ends hub words id place None none there named =
-    absurd (unnamed hub.first id hub.open_places place none there named)
-settle_ends hub words id place (Some o) some there named = refl
+settle_ends hub words id place None none there same =
+    absurd (none_named hub.first id hub.open_places place none there same)
+settle_ends hub words id place (Some o) some there same = refl
 
 -- a reply of an open place ends the round
 reply_ends : (hub : Hub) (message : Option ToHub) (place : ℕ) → SettlesPlace hub message place
@@ -216,13 +187,15 @@ settled_strays : (hub : Hub) (words : List ℕ) (id : ℕ) (r : Option OpenPlace
     → open_with hub.first id hub.open_places ≡ r → IsStray hub (Some (ReplyTo id words))
     → SameRequests hub (settle hub words r)
 settled_strays hub words id None none is = refl
-settled_strays hub words id (Some o) some is = absurd (is.no_reply o.place (record {
-  id = id;
-  words = words;
-  reply = refl;
-  open_there = open_there hub.first id hub.open_places o some;
-  identifier = open_named hub.first id hub.open_places o some;
-}))
+settled_strays hub words id (Some o) some is =
+    let found = named hub.first id hub.open_places o some in
+    absurd (is.no_reply o.place (record {
+      id = id;
+      words = words;
+      reply = refl;
+      open_there = found.there;
+      identifier = found.identifier;
+    }))
 
 stray_stays : (hub : Hub) (message : Option ToHub) → IsStray hub message → SameRequests hub (take_message hub message)
 stray_stays hub None is = refl
@@ -250,7 +223,8 @@ got_round : WayLaws → (pumped : Pumped) (hub : Hub) (bytes : List ℕ) (before
     → IsHeardAs hub (to_hub bytes) pumped → CanRecover hub t
     → (1 ≤ hub.status_requests → 1 ≤ length hub.open_places) → IsGot bytes before now t u
     → RoundAfter (Pumps pumped) (in_round hub before t) (in_round (take_message hub (to_hub bytes)) now u)
-got_round laws (Reply place) hub bytes before now t u heard can some_open got = reply_ends hub (to_hub bytes) place heard
+got_round laws (Reply place) hub bytes before now t u heard can some_open got =
+    reply_ends hub (to_hub bytes) place heard
 got_round laws Status hub bytes before now t u heard can some_open got =
     got_way laws hub bytes before now t u (status_stays hub (to_hub bytes) heard) can some_open got
 got_round laws Stray hub bytes before now t u heard can some_open got =
@@ -262,10 +236,10 @@ got_round laws LinkDown hub bytes before now t u heard can some_open got = absur
 pub round_got : WayLaws → (pumped : Pumped) (hub : Hub) (bytes : List ℕ) (before now : ℕ) (old new : Option Telling)
     → IsHeardAs hub (to_hub bytes) pumped → IfTelling old new (IsGot bytes before now)
     → RoundFor (Pumps pumped) old hub before new (take_message hub (to_hub bytes)) now
-round_got laws pumped hub bytes before now old new heard call = λ limits outcomes mtu rounds g start paid.
-    called (λ t. IsRunning limits hub outcomes t × PaysRounds mtu rounds g hub before t) (IsGot bytes before now)
+round_got laws pumped hub bytes before now old new heard call = λ limits outcomes lates mtu rounds g start paid.
+    called (λ t. IsRunning limits hub outcomes lates t × PaysRounds mtu rounds g hub before t) (IsGot bytes before now)
     (λ t u. RoundAfter (Pumps pumped) (in_round hub before t) (in_round (take_message hub (to_hub bytes)) now u))
-    old new (both_told (IsRunning limits hub outcomes) (PaysRounds mtu rounds g hub before) old start paid) call
+    old new (both_told (IsRunning limits hub outcomes lates) (PaysRounds mtu rounds g hub before) old start paid) call
     (λ t u is got. got_round laws pumped hub bytes before now t u heard
     (can_recover mtu rounds g hub before t is.0.reached.joined is.1) is.1.paid.some_open got)
 
@@ -279,10 +253,10 @@ quiet_round laws hub before now t u can none quiet = record {
 
 pub round_quiet : WayLaws → (hub : Hub) (before now : ℕ) (old new : Option Telling) → next_send hub ≡ None
     → IfTelling old new (IsQuiet before now) → RoundFor (Pumps Quiet) old hub before new (hear_quiet hub) now
-round_quiet laws hub before now old new none call = λ limits outcomes mtu rounds g start paid.
-    called (λ t. IsRunning limits hub outcomes t × PaysRounds mtu rounds g hub before t) (IsQuiet before now)
+round_quiet laws hub before now old new none call = λ limits outcomes lates mtu rounds g start paid.
+    called (λ t. IsRunning limits hub outcomes lates t × PaysRounds mtu rounds g hub before t) (IsQuiet before now)
     (λ t u. EndsInSilence (in_round hub before t) (in_round (hear_quiet hub) now u)) old new
-    (both_told (IsRunning limits hub outcomes) (PaysRounds mtu rounds g hub before) old start paid) call
+    (both_told (IsRunning limits hub outcomes lates) (PaysRounds mtu rounds g hub before) old start paid) call
     (λ t u is quiet. quiet_round laws hub before now t u
     (can_recover mtu rounds g hub before t is.0.reached.joined is.1) none quiet)
 
@@ -290,7 +264,8 @@ round_quiet laws hub before now old new none call = λ limits outcomes mtu round
 
 -- what was handed out changes no round
 out_round : (pumped : Pumped) (a : RoundState) (event : Hub) (held : ℕ) (u : Telling)
-    → RoundAfter (Pumps pumped) a (in_round event held u) → RoundAfter (Pumps pumped) a (in_round (handed_out event) held u)
+    → RoundAfter (Pumps pumped) a (in_round event held u)
+    → RoundAfter (Pumps pumped) a (in_round (drained event) held u)
 out_round (Reply place) a event held u is = is
 out_round Status a event held u is = record { same = is.same; way = is.way }
 out_round Stray a event held u is = record { same = is.same; way = is.way }
@@ -299,21 +274,21 @@ out_round Idle a event held u is = record { same = is.same; way = is.way }
 out_round LinkDown a event held u is = is
 
 pub round_exchanged : (pumped : Pumped) (old mid event hub : Hub) (before between after : Option Telling)
-    (held held_then held_now : ℕ) → hub ≡ handed_out event → held ≤ held_then → held_then ≤ held_now
+    (held held_then held_now : ℕ) → hub ≡ drained event → held ≤ held_then → held_then ≤ held_now
     → GoesOn before old between mid → PaysOn before old held between mid held_then
     → RoundFor Sends before old held between mid held_then
     → RoundFor (Pumps pumped) between mid held_then after event held_now
     → RoundFor (Pumps pumped) before old held after hub held_now
 round_exchanged pumped old mid event hub before between after held held_then held_now hub_is le more running pays sends
-    receives = λ limits outcomes mtu rounds g start paid.
+    receives = λ limits outcomes lates mtu rounds g start paid.
     subst (λ (h : Hub). IfTelling before after
     (λ s u. RoundAfter (Pumps pumped) (in_round old held s) (in_round h held_now u))) (sym hub_is)
     (called_twice (λ s t. RoundAfter Sends (in_round old held s) (in_round mid held_then t))
     (λ t u. RoundAfter (Pumps pumped) (in_round mid held_then t) (in_round event held_now u))
-    (λ s u. RoundAfter (Pumps pumped) (in_round old held s) (in_round (handed_out event) held_now u))
-    before between after (sends limits outcomes mtu rounds g start paid)
-    (receives limits outcomes mtu rounds g (running limits outcomes start)
-    (pays limits outcomes mtu rounds g start paid))
+    (λ s u. RoundAfter (Pumps pumped) (in_round old held s) (in_round (drained event) held_now u))
+    before between after (sends limits outcomes lates mtu rounds g start paid)
+    (receives limits outcomes lates mtu rounds g (running limits outcomes lates start)
+    (pays limits outcomes lates mtu rounds g start paid))
     (λ s t u first later. out_round pumped (in_round old held s) event held_now u
     (round_after (Pumps pumped) (in_round old held s) (in_round mid held_then t) (in_round event held_now u) le more
     (first refl) later)))
@@ -322,20 +297,21 @@ round_exchanged pumped old mid event hub before between after held held_then hel
 
 -- one that is neither down nor spent, before the call and after it
 pub lane_round : (call : LaneCall) (down spent : Bool) (settings : Limits) (outcomes : List (Option Outcome))
-    (mtu g : ℕ) (hub new : Hub) (held now : ℕ) (telling after : Option Telling) → down ≡ false → spent ≡ false
+    (lates : List (Option (List ℕ))) (mtu g : ℕ) (hub new : Hub) (held now : ℕ) (telling after : Option Telling)
+    → down ≡ false → spent ≡ false
     → RoundFor call telling hub held after new now
-    → IfSome telling (IsStanding (down || spent) settings hub outcomes)
+    → IfSome telling (IsStanding (down || spent) settings hub outcomes lates)
     → IfSome telling (HasPaid (down || spent) mtu settings.rounds g hub held)
     → IfTelling telling after (λ t u. RoundAfter call
     (record { hub = hub; stopped = down || spent; told = t; held = held })
     (record { hub = new; stopped = down || spent; told = u; held = now }))
-lane_round call down spent settings outcomes mtu g hub new held now telling after d s rounds standing paid =
+lane_round call down spent settings outcomes lates mtu g hub new held now telling after d s rounds standing paid =
     let up = neither down spent d s in
     subst (λ (b : Bool). IfTelling telling after (λ t u. RoundAfter call
     (record { hub = hub; stopped = b; told = t; held = held })
     (record { hub = new; stopped = b; told = u; held = now }))) (sym up)
-    (rounds settings outcomes mtu settings.rounds g
-    (still_up down spent settings hub outcomes telling d s standing)
+    (rounds settings outcomes lates mtu settings.rounds g
+    (still_up down spent settings hub outcomes lates telling d s standing)
     (subst (λ (b : Bool). IfSome telling (HasPaid b mtu settings.rounds g hub held)) up paid))
 
 -- an offer
@@ -356,20 +332,21 @@ told_alike : (P : Telling → Type 0) (S : Telling → Telling → Type 0) (tell
 told_alike P S None is leads = tt
 told_alike P S (Some t) is leads = leads t is
 
-pub offered_round : (down spent : Bool) (settings : Limits) (outcomes : List (Option Outcome)) (hub new : Hub)
-    (o : Offered) (held : ℕ) (telling : Option Telling) → new ≡ cond down hub (offer hub o)
-    → IfSome telling (IsStanding (down || spent) settings hub outcomes)
+pub offered_round : (down spent : Bool) (settings : Limits) (outcomes : List (Option Outcome))
+    (lates : List (Option (List ℕ))) (hub new : Hub) (o : Offered) (held : ℕ) (telling : Option Telling)
+    → new ≡ cond down hub (offer hub o)
+    → IfSome telling (IsStanding (down || spent) settings hub outcomes lates)
     → IfTelling telling telling (λ t u. RoundAfter Sends
     (record { hub = hub; stopped = down || spent; told = t; held = held })
     (record { hub = new; stopped = down || spent; told = u; held = held }))
-offered_round true spent settings outcomes hub new o held telling new_is standing =
+offered_round true spent settings outcomes lates hub new o held telling new_is standing =
     same_link (λ t u. RoundAfter Sends (record { hub = hub; stopped = true; told = t; held = held })
     (record { hub = new; stopped = true; told = u; held = held })) telling (λ t up. absurd cc)
-offered_round false true settings outcomes hub new o held telling new_is standing =
+offered_round false true settings outcomes lates hub new o held telling new_is standing =
     same_link (λ t u. RoundAfter Sends (record { hub = hub; stopped = true; told = t; held = held })
     (record { hub = new; stopped = true; told = u; held = held })) telling (λ t up. absurd cc)
-offered_round false false settings outcomes hub new o held telling new_is standing =
-    told_alike (IsRunning settings hub outcomes)
+offered_round false false settings outcomes lates hub new o held telling new_is standing =
+    told_alike (IsRunning settings hub outcomes lates)
     (λ t u. RoundAfter Sends (in_round hub held t) (in_round new held u)) telling standing
     (λ t is up. subst (λ (h : Hub). KeepsRound (in_round hub held t) (in_round h held t)) (sym new_is)
     (keeps_by (in_round hub held t) (in_round (offer hub o) held t) refl

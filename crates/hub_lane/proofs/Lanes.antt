@@ -28,9 +28,12 @@ use Rattle.lane_record.specs.NextEntry.{ask_of}
 use Rattle.lane_record.proofs.Lookups.{claims_push}
 use Rattle.lane_record.proofs.Lengths.{ShortIfThere}
 use Rattle.lane_record.proofs.Rounds.{TellsIfThere}
+use Rattle.hub_lane.specs.Below.{LateLaws}
 use Rattle.hub_lane.specs.Lanes.{BoardStatus, HasToldStatus, IsGreeted, FitsBoard, IsFittingPlan, IsLane, board_of}
-use Rattle.hub_lane.specs.Standing.{IsRunning, IsStopped}
+use Rattle.hub_lane.specs.Standing.{IsRunning, IsStopped, IsUnanswered, NoneOpenHanded}
+use Rattle.hub_lane.proofs.Closed.{begins_closed, offered_closed}
 use Rattle.hub_lane.proofs.Datagrams.{at_most_one}
+use Rattle.hub_lane.proofs.LateAnswers.{asked_late, begins_late}
 use Rattle.hub_lane.proofs.Standing.{BeginLaw, OfferLaw, asked_lost, asked_running, begins_running, if_told}
 use Rattle.hub_lane.proofs.Standing.{offered_running, pushed_get}
 use Rattle.hub_lane.proofs.Windows.{new_windowed, offer_windowed}
@@ -61,21 +64,22 @@ told_still status (Some t) (Some u) same is =
 -- ---- a lane begins
 
 begins_standing : BeginLaw → (settings : Limits) (status : BoardStatus) (t : Telling) → IsGreeted settings status t
-    → IsRunning settings (new_hub status.next (min settings.window status.buffers) settings.rounds) [] t
+    → IsRunning settings (new_hub status.next (min settings.window status.buffers) settings.rounds) [] [] t
 begins_standing law settings status t is =
-    subst (λ (next : ℕ). IsRunning settings (new_hub next (min settings.window status.buffers) settings.rounds) [] t)
+    subst (λ (next : ℕ). IsRunning settings (new_hub next (min settings.window status.buffers) settings.rounds) [] [] t)
     (sym is.told.next)
     (subst (λ (buffers : ℕ). IsRunning settings (new_hub t.told.board.first (min settings.window buffers)
-    settings.rounds) [] t) (sym is.told.buffers) (begins_running law settings t is.begins))
+    settings.rounds) [] [] t) (sym is.told.buffers) (begins_running law settings t is.begins))
 
-pub lane_begins : BeginLaw → (settings : Limits) (status : BoardStatus) (telling : Option Telling) (faults quiets : ℕ)
+pub lane_begins : BeginLaw → LateLaws → (settings : Limits) (status : BoardStatus) (telling : Option Telling)
+    (faults quiets : ℕ)
     → ((first window rounds : ℕ) → AgreesWith (new_hub first window rounds) [] [])
     → ((window : ℕ) → IsKept [] [] window 0)
     → AreLimits settings → IsMtu status.mtu → IsBufferCount status.buffers → IsIdentifier status.next
     → IfSome telling (IsGreeted settings status)
-    → IsLane settings status (new_hub status.next (min settings.window status.buffers) settings.rounds) [] [] 0 false
-    false telling faults quiets
-lane_begins law settings status telling faults quiets agrees kept limits mtu buffers next greeted =
+    → IsLane settings status (new_hub status.next (min settings.window status.buffers) settings.rounds) [] [] [] 0
+    false false telling faults quiets
+lane_begins law late settings status telling faults quiets agrees kept limits mtu buffers next greeted =
     let w = min settings.window status.buffers in
     let few = limits.window_in_range in
     let one = limits.some_window in
@@ -91,7 +95,7 @@ lane_begins law settings status telling faults quiets agrees kept limits mtu buf
         rounds = refl;
       };
       ready = record {
-        drained = refl;
+        drained = record { fates = refl; lates = refl };
         window = new_windowed status.next w settings.rounds (omega (arith, few)) (omega (arith, one, some));
         bodies = record { few = omega arith; sent = tt; queue = tt };
       };
@@ -104,28 +108,36 @@ lane_begins law settings status telling faults quiets agrees kept limits mtu buf
       lost = λ k o e is. absurd cc;
       tells = tt;
       short = tt;
+      late = begins_late late status.next w settings.rounds;
       standing = if_told (IsGreeted settings status)
-          (IsRunning settings (new_hub status.next w settings.rounds) []) telling greeted
+          (IsRunning settings (new_hub status.next w settings.rounds) [] []) telling greeted
           (λ t is. begins_standing law settings status t is);
+      unanswered = if_told (IsGreeted settings status)
+          (IsUnanswered (new_hub status.next w settings.rounds) false false) telling greeted
+          (λ t is. inl (begins_closed status.next w settings.rounds t is.in_air));
       told = if_told (IsGreeted settings status) (HasTold status) telling greeted (λ t is. is.told);
     }
 
-pub lane_begun : BeginLaw → (settings : Limits) (status : BoardStatus) (hub : Hub) (items : List Item)
-    (outcomes : List (Option Outcome)) (telling : Option Telling) (faults quiets : ℕ)
+pub lane_begun : BeginLaw → LateLaws → (settings : Limits) (status : BoardStatus) (hub : Hub) (items : List Item)
+    (outcomes : List (Option Outcome)) (lates : List (Option (List ℕ))) (telling : Option Telling) (faults quiets : ℕ)
     → ((first window rounds : ℕ) → AgreesWith (new_hub first window rounds) [] [])
     → ((window : ℕ) → IsKept [] [] window 0)
     → AreLimits settings → IsMtu status.mtu → IsBufferCount status.buffers → IsIdentifier status.next
     → IfSome telling (IsGreeted settings status)
     → hub ≡ new_hub status.next (min settings.window status.buffers) settings.rounds → items ≡ [] → outcomes ≡ []
-    → IsLane settings status hub items outcomes 0 false false telling faults quiets
-lane_begun law settings status hub items outcomes telling faults quiets agrees kept limits mtu buffers next greeted h
-    i o =
-    subst (λ (x : Hub). IsLane settings status x items outcomes 0 false false telling faults quiets) (sym h)
-    (subst (λ (xs : List Item). IsLane settings status (new_hub status.next (min settings.window status.buffers)
-    settings.rounds) xs outcomes 0 false false telling faults quiets) (sym i)
-    (subst (λ (os : List (Option Outcome)). IsLane settings status (new_hub status.next
-    (min settings.window status.buffers) settings.rounds) [] os 0 false false telling faults quiets) (sym o)
-    (lane_begins law settings status telling faults quiets agrees kept limits mtu buffers next greeted)))
+    → lates ≡ []
+    → IsLane settings status hub items outcomes lates 0 false false telling faults quiets
+lane_begun law late settings status hub items outcomes lates telling faults quiets agrees kept limits mtu buffers next
+    greeted h i o l =
+    let begun = new_hub status.next (min settings.window status.buffers) settings.rounds in
+    subst (λ (x : Hub). IsLane settings status x items outcomes lates 0 false false telling faults quiets) (sym h)
+    (subst (λ (xs : List Item). IsLane settings status begun xs outcomes lates 0 false false telling faults quiets)
+    (sym i)
+    (subst (λ (os : List (Option Outcome)). IsLane settings status begun [] os lates 0 false false telling faults
+    quiets) (sym o)
+    (subst (λ (ls : List (Option (List ℕ))). IsLane settings status begun [] [] ls 0 false false telling faults quiets)
+    (sym l)
+    (lane_begins law late settings status telling faults quiets agrees kept limits mtu buffers next greeted))))
 
 -- ---- an entry that is no Ask
 
@@ -134,29 +146,40 @@ same_claims items x none = claims_push items x
     ∙ (ap (λ (o : Option ℕ). claims items ++ claim_in items x o) none ∙ append-nil (claims items))
 
 pub lane_entry : (settings : Limits) (status : BoardStatus) (hub : Hub) (items : List Item)
-    (outcomes : List (Option Outcome)) (give_ups : ℕ) (down spent : Bool) (telling : Option Telling)
-    (faults quiets : ℕ) (x : Item) → ask_in x.what ≡ None → IsFittingPlan (payload_of status.mtu) x
+    (outcomes : List (Option Outcome)) (lates : List (Option (List ℕ))) (give_ups : ℕ) (down spent : Bool)
+    (telling : Option Telling) (faults quiets : ℕ) (x : Item) → ask_in x.what ≡ None
+    → IsFittingPlan (payload_of status.mtu) x
     → (IsKept items outcomes hub.window give_ups → IsKept (items ++ x ∷ []) outcomes hub.window give_ups)
-    → IsLane settings status hub items outcomes give_ups down spent telling faults quiets
-    → IsLane settings status hub (items ++ x ∷ []) outcomes give_ups down spent telling faults quiets
-lane_entry settings status hub items outcomes give_ups down spent telling faults quiets x ask fits kept is = record {
-  knows = is.knows;
-  ready = is.ready;
-  agrees = subst (λ (cs : List Claim). Agrees hub.sent (cond down [] hub.queue) (cond down [] hub.open_places) cs
-      outcomes) (sym (same_claims items x ask)) is.agrees;
-  kept = kept is.kept;
-  waited = is.waited;
-  fewer = is.fewer;
-  fits = AllByRecursion-append (IsFittingPlan (payload_of status.mtu)) items (x ∷ []) is.fits (fits, tt);
-  fault = is.fault;
-  lost = is.lost;
-  tells = is.tells;
-  short = is.short;
-  standing = is.standing;
-  told = is.told;
-}
+    → IsLane settings status hub items outcomes lates give_ups down spent telling faults quiets
+    → IsLane settings status hub (items ++ x ∷ []) outcomes lates give_ups down spent telling faults quiets
+lane_entry settings status hub items outcomes lates give_ups down spent telling faults quiets x ask fits kept is =
+    record {
+      knows = is.knows;
+      ready = is.ready;
+      agrees = subst (λ (cs : List Claim). Agrees hub.sent (cond down [] hub.queue) (cond down [] hub.open_places) cs
+          outcomes) (sym (same_claims items x ask)) is.agrees;
+      kept = kept is.kept;
+      waited = is.waited;
+      fewer = is.fewer;
+      fits = AllByRecursion-append (IsFittingPlan (payload_of status.mtu)) items (x ∷ []) is.fits (fits, tt);
+      fault = is.fault;
+      lost = is.lost;
+      tells = is.tells;
+      short = is.short;
+      late = is.late;
+      standing = is.standing;
+      unanswered = is.unanswered;
+      told = is.told;
+    }
 
 -- ---- an Ask
+
+-- a lane that is not spent lost no late answer
+pub up_unanswered : (hub : Hub) (down spent : Bool) (t : Telling) → spent ≡ false → IsUnanswered hub down spent t
+    → NoneOpenHanded hub t
+up_unanswered hub down spent t up (inl none) = none
+up_unanswered hub down spent t up (inr waits) =
+    absurd (let bad : true ≡ false = sym waits.ran_out ∙ up in cc)
 
 abbrev pub claim_of : ℕ → ℕ → ℕ → List ℕ → Claim
 claim_of client seq g body = record { client = client; seq = seq; give_ups = g; body = body }
@@ -166,8 +189,8 @@ asked_claims : (items : List Item) (client seq g : ℕ) (body : List ℕ) → fo
 asked_claims items client seq g body there = claims_push items (ask_of client seq g)
     ∙ ap (λ (o : Option (List ℕ)). claims items ++ claim_of client seq g (unwrap_or o []) ∷ []) there
 
-pub lane_offered : OfferLaw → (settings : Limits) (status : BoardStatus) (hub : Hub) (items : List Item)
-    (outcomes : List (Option Outcome)) (give_ups : ℕ) (telling : Option Telling)
+pub lane_offered : OfferLaw → LateLaws → (settings : Limits) (status : BoardStatus) (hub : Hub) (items : List Item)
+    (outcomes : List (Option Outcome)) (lates : List (Option (List ℕ))) (give_ups : ℕ) (telling : Option Telling)
     (faults quiets : ℕ) (client seq : ℕ) (body : List ℕ)
     → ((most : ℕ) (h : Hub) (o : Offered) → IsSendable o.body → HasBodies most h → HasBodies (most + 1) (offer h o))
     → ((h : Hub) (cs : List Claim) (os : List (Option Outcome)) (c : Claim) → AgreesWith h cs os
@@ -175,10 +198,12 @@ pub lane_offered : OfferLaw → (settings : Limits) (status : BoardStatus) (hub 
     → (IsKept items outcomes hub.window give_ups
     → IsKept (items ++ ask_of client seq give_ups ∷ []) (outcomes ++ None ∷ []) hub.window give_ups)
     → found plan_in client seq items ≡ Some body → IsSendable body
-    → IsLane settings status hub items outcomes give_ups false false telling faults quiets
+    → IsLane settings status hub items outcomes lates give_ups false false telling faults quiets
     → IsLane settings status (offer hub (record { tag = length outcomes; body = body }))
-    (items ++ ask_of client seq give_ups ∷ []) (outcomes ++ None ∷ []) give_ups false false telling faults quiets
-lane_offered law settings status hub items outcomes give_ups telling faults quiets client seq body bodies agree kept
+    (items ++ ask_of client seq give_ups ∷ []) (outcomes ++ None ∷ []) (lates ++ None ∷ []) give_ups false false telling
+    faults quiets
+lane_offered law late settings status hub items outcomes lates give_ups telling faults quiets client seq body bodies
+    agree kept
     there can is =
     let o : Offered = record { tag = length outcomes; body = body } in
     let longer = length-append outcomes (None ∷ []) in
@@ -196,7 +221,7 @@ lane_offered law settings status hub items outcomes give_ups telling faults quie
         rounds = is.knows.rounds;
       };
       ready = record {
-        drained = is.ready.drained;
+        drained = record { fates = is.ready.drained.fates; lates = is.ready.drained.lates };
         window = offer_windowed hub o is.ready.window;
         bodies = record { few = (let h = more.few in omega (arith, h, longer)); sent = more.sent; queue = more.queue };
       };
@@ -216,25 +241,32 @@ lane_offered law settings status hub items outcomes give_ups telling faults quie
       ];
       tells = AllByRecursion-append (TellsIfThere settings.rounds) outcomes (None ∷ []) is.tells (tt, tt);
       short = AllByRecursion-append ShortIfThere outcomes (None ∷ []) is.short (tt, tt);
-      standing = if_told (IsRunning settings hub outcomes) (IsRunning settings (offer hub o) (outcomes ++ None ∷ []))
-          telling is.standing (λ t running. asked_running settings outcomes (offer hub o) t
-          (offered_running law settings outcomes hub o t can is.ready.drained running));
+      late = asked_late hub (offer hub o) outcomes lates None
+          (record { fates = is.ready.drained.fates; lates = is.ready.drained.lates })
+          (λ out account. late.offered out hub o account) is.late;
+      standing = if_told (IsRunning settings hub outcomes lates)
+          (IsRunning settings (offer hub o) (outcomes ++ None ∷ []) (lates ++ None ∷ [])) telling is.standing
+          (λ t running. asked_running settings outcomes lates (offer hub o) t
+          (offered_running law settings outcomes lates hub o t can is.ready.drained running));
+      unanswered = if_told (IsUnanswered hub false false) (IsUnanswered (offer hub o) false false) telling is.unanswered
+          (λ t none. inl (offered_closed hub o t (up_unanswered hub false false t refl none)));
       told = is.told;
     }
 
 pub lane_asked_in_vain : (settings : Limits) (status : BoardStatus) (hub : Hub) (items : List Item)
-    (outcomes : List (Option Outcome)) (give_ups : ℕ) (spent : Bool) (telling : Option Telling)
-    (faults quiets : ℕ) (client seq : ℕ) (body : List ℕ)
+    (outcomes : List (Option Outcome)) (lates : List (Option (List ℕ))) (give_ups : ℕ) (spent : Bool)
+    (telling : Option Telling) (faults quiets : ℕ) (client seq : ℕ) (body : List ℕ)
     → ((sent : List Offered) (cs : List Claim) (os : List (Option Outcome)) (c : Claim) → Agrees sent [] [] cs os
     → Agrees sent [] [] (cs ++ c ∷ []) (os ++ Some (became.LinkLost None) ∷ []))
     → (IsKept items outcomes hub.window give_ups
     → IsKept (items ++ ask_of client seq give_ups ∷ []) (outcomes ++ Some (became.LinkLost None) ∷ []) hub.window
     give_ups)
     → found plan_in client seq items ≡ Some body
-    → IsLane settings status hub items outcomes give_ups true spent telling faults quiets
+    → IsLane settings status hub items outcomes lates give_ups true spent telling faults quiets
     → IsLane settings status hub (items ++ ask_of client seq give_ups ∷ [])
-    (outcomes ++ Some (became.LinkLost None) ∷ []) give_ups true spent telling faults quiets
-lane_asked_in_vain settings status hub items outcomes give_ups spent telling faults quiets client seq body agree kept
+    (outcomes ++ Some (became.LinkLost None) ∷ []) (lates ++ None ∷ []) give_ups true spent telling faults quiets
+lane_asked_in_vain settings status hub items outcomes lates give_ups spent telling faults quiets client seq body agree
+    kept
     there is =
     let longer = length-append outcomes (Some (became.LinkLost None) ∷ []) in
     record {
@@ -261,9 +293,12 @@ lane_asked_in_vain settings status hub items outcomes give_ups spent telling fau
       tells = AllByRecursion-append (TellsIfThere settings.rounds) outcomes (Some (became.LinkLost None) ∷ []) is.tells
           (tt, tt);
       short = AllByRecursion-append ShortIfThere outcomes (Some (became.LinkLost None) ∷ []) is.short (tt, tt);
-      standing = if_told (IsStopped settings hub outcomes)
-          (IsStopped settings hub (outcomes ++ Some (became.LinkLost None) ∷ [])) telling is.standing
-          (λ t stopped. asked_lost settings outcomes hub t stopped);
+      late = asked_late hub hub outcomes lates (Some (became.LinkLost None)) is.ready.drained (λ out account. account)
+          is.late;
+      standing = if_told (IsStopped settings hub outcomes lates)
+          (IsStopped settings hub (outcomes ++ Some (became.LinkLost None) ∷ []) (lates ++ None ∷ [])) telling
+          is.standing (λ t stopped. asked_lost settings outcomes lates hub t stopped);
+      unanswered = is.unanswered;
       told = is.told;
     }
 
@@ -299,14 +334,15 @@ found_fits payload (x ∷ xs) client seq body all there = found_first payload x 
 pub body_sendable : (mtu : ℕ) (body : List ℕ) → IsMtu mtu → FitsBoard (payload_of mtu) body → length body ≤ 2242
 body_sendable mtu body is fits = let short = fits.short in let most = is.1 in omega (arith, short, most)
 
-pub lane_asks : OfferLaw
+pub lane_asks : OfferLaw → LateLaws
     → ((most : ℕ) (h : Hub) (o : Offered) → IsSendable o.body → HasBodies most h → HasBodies (most + 1) (offer h o))
     → ((h : Hub) (cs : List Claim) (os : List (Option Outcome)) (c : Claim) → AgreesWith h cs os
     → AgreesWith (offer h (offer_of (length cs) c)) (cs ++ c ∷ []) (os ++ None ∷ []))
     → ((sent : List Offered) (cs : List Claim) (os : List (Option Outcome)) (c : Claim) → Agrees sent [] [] cs os
     → Agrees sent [] [] (cs ++ c ∷ []) (os ++ Some (became.LinkLost None) ∷ []))
     → (settings : Limits) (status : BoardStatus) (hub new : Hub) (items items_now : List Item)
-    (outcomes outcomes_now : List (Option Outcome)) (give_ups : ℕ) (down spent : Bool) (telling : Option Telling)
+    (outcomes outcomes_now : List (Option Outcome)) (lates lates_now : List (Option (List ℕ))) (give_ups : ℕ)
+    (down spent : Bool) (telling : Option Telling)
     (faults quiets : ℕ) (client seq : ℕ) (body : List ℕ)
     → (IsKept items outcomes hub.window give_ups
     → IsKept (items ++ ask_of client seq give_ups ∷ []) (outcomes ++ None ∷ []) hub.window give_ups)
@@ -317,32 +353,38 @@ pub lane_asks : OfferLaw
     → new ≡ cond down hub (offer hub (record { tag = length outcomes; body = body }))
     → items_now ≡ items ++ ask_of client seq give_ups ∷ []
     → outcomes_now ≡ outcomes ++ cond down (Some (became.LinkLost None)) None ∷ []
-    → IsLane settings status hub items outcomes give_ups down spent telling faults quiets
-    → IsLane settings status new items_now outcomes_now give_ups down spent telling faults quiets
-lane_asks law bodies agree later settings status hub new items items_now outcomes outcomes_now give_ups true spent
-    telling faults quiets client seq body kept vain there can up hub_is items_are outcomes_are is =
-    subst (λ (h : Hub). IsLane settings status h items_now outcomes_now give_ups true spent telling faults quiets)
-    (sym hub_is)
-    (subst (λ (xs : List Item). IsLane settings status hub xs outcomes_now give_ups true spent telling faults quiets)
-    (sym items_are)
-    (subst (λ (os : List (Option Outcome)). IsLane settings status hub (items ++ ask_of client seq give_ups ∷ []) os
-    give_ups true spent telling faults quiets) (sym outcomes_are)
-    (lane_asked_in_vain settings status hub items outcomes give_ups spent telling faults quiets client seq body later
-    vain
-    there is)))
-lane_asks law bodies agree later settings status hub new items items_now outcomes outcomes_now give_ups false spent
-    telling faults quiets client seq body kept vain there can up hub_is items_are outcomes_are is =
-    let is_up = subst (λ (s : Bool). IsLane settings status hub items outcomes give_ups false s telling faults quiets)
-    up is in
-    let o : Offered = record { tag = length outcomes; body = body } in
-    subst (λ (s : Bool). IsLane settings status new items_now outcomes_now give_ups false s telling faults quiets)
-    (sym up)
-    (subst (λ (h : Hub). IsLane settings status h items_now outcomes_now give_ups false false telling faults quiets)
-    (sym hub_is)
-    (subst (λ (xs : List Item). IsLane settings status (offer hub o) xs outcomes_now give_ups false false telling faults
+    → lates_now ≡ lates ++ None ∷ []
+    → IsLane settings status hub items outcomes lates give_ups down spent telling faults quiets
+    → IsLane settings status new items_now outcomes_now lates_now give_ups down spent telling faults quiets
+lane_asks law late bodies agree later settings status hub new items items_now outcomes outcomes_now lates lates_now
+    give_ups true spent telling faults quiets client seq body kept vain there can up hub_is items_are outcomes_are
+    lates_are is =
+    subst (λ (h : Hub). IsLane settings status h items_now outcomes_now lates_now give_ups true spent telling faults
+    quiets) (sym hub_is)
+    (subst (λ (xs : List Item). IsLane settings status hub xs outcomes_now lates_now give_ups true spent telling faults
     quiets) (sym items_are)
-    (subst (λ (os : List (Option Outcome)). IsLane settings status (offer hub o)
-    (items ++ ask_of client seq give_ups ∷ []) os give_ups false false telling faults quiets) (sym outcomes_are)
-    (lane_offered law settings status hub items outcomes give_ups telling faults quiets client seq body bodies agree
-    kept
-    there can is_up))))
+    (subst (λ (os : List (Option Outcome)). IsLane settings status hub (items ++ ask_of client seq give_ups ∷ []) os
+    lates_now give_ups true spent telling faults quiets) (sym outcomes_are)
+    (subst (λ (ls : List (Option (List ℕ))). IsLane settings status hub (items ++ ask_of client seq give_ups ∷ [])
+    (outcomes ++ Some (became.LinkLost None) ∷ []) ls give_ups true spent telling faults quiets) (sym lates_are)
+    (lane_asked_in_vain settings status hub items outcomes lates give_ups spent telling faults quiets client seq body
+    later vain there is))))
+lane_asks law late bodies agree later settings status hub new items items_now outcomes outcomes_now lates lates_now
+    give_ups false spent telling faults quiets client seq body kept vain there can up hub_is items_are outcomes_are
+    lates_are is =
+    let is_up = subst (λ (s : Bool). IsLane settings status hub items outcomes lates give_ups false s telling faults
+    quiets) up is in
+    let o : Offered = record { tag = length outcomes; body = body } in
+    let asked = items ++ ask_of client seq give_ups ∷ [] in
+    subst (λ (s : Bool). IsLane settings status new items_now outcomes_now lates_now give_ups false s telling faults
+    quiets) (sym up)
+    (subst (λ (h : Hub). IsLane settings status h items_now outcomes_now lates_now give_ups false false telling faults
+    quiets) (sym hub_is)
+    (subst (λ (xs : List Item). IsLane settings status (offer hub o) xs outcomes_now lates_now give_ups false false
+    telling faults quiets) (sym items_are)
+    (subst (λ (os : List (Option Outcome)). IsLane settings status (offer hub o) asked os lates_now give_ups false false
+    telling faults quiets) (sym outcomes_are)
+    (subst (λ (ls : List (Option (List ℕ))). IsLane settings status (offer hub o) asked (outcomes ++ None ∷ []) ls
+    give_ups false false telling faults quiets) (sym lates_are)
+    (lane_offered law late settings status hub items outcomes lates give_ups telling faults quiets client seq body
+    bodies agree kept there can is_up)))))

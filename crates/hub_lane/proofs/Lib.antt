@@ -1,12 +1,16 @@
+mod Handed
 mod Standing
+mod Closed
 mod Sends
 mod Windows
 mod Carrying
 mod Linked
+mod LateAnswers
 mod Heard
 mod Datagrams
 mod Greetings
 mod Truth
+mod EachLate
 mod Tables
 mod Replies
 mod Rounds

@@ -1,12 +1,12 @@
 -- What holds of a lane, kept by a pump.
 use Rattle.std.proofs.Common.{◌≡◌, ℕ, ◌≤◌, Bool, true, false, List, []}
-use Rattle.std.proofs.Common.{length, Option, refl, sym, ap, ◌∙◌, subst, arith}
+use Rattle.std.proofs.Common.{length, Option, refl, sym, ap, ◌∙◌, subst, arith, ◌⊎◌, inl, inr, ⊎_elim}
 use Rattle.std.specs.Prelude.{IfSome}
 use Rattle.ipb_base.specs.Faults.{Rose}
 use Rattle.world_model.specs.declared.offered.Offered.{Offered}
 use Rattle.world_model.specs.declared.offered.OpenPlace.{OpenPlace}
 use Rattle.world_model.specs.Messages.{ToHub}
-use Rattle.world_model.specs.Hub.{Hub, hear_quiet, is_waiting}
+use Rattle.world_model.specs.Hub.{Hub, drained, hear_quiet, is_waiting}
 use Rattle.world_model.specs.Hub.{take_message}
 use Rattle.world_model.specs.Sends.{pending}
 use Rattle.world_model.specs.Facts.{HasBodies}
@@ -18,57 +18,78 @@ use Rattle.lane_record.specs.Claims.{Claim, claims}
 use Rattle.lane_record.specs.FirstSends.{PlacesCount}
 use Rattle.lane_record.specs.Bounds.{IsKept}
 use Rattle.lane_record.specs.Outcomes.{is_lost}
+use Rattle.lane_record.specs.Lates.{KeepsLates, put_lates}
 use Rattle.lane_record.specs.Offers.{AddsOnly, Agrees, KeepsOutcomes, all_lost, put_all}
 use Rattle.lane_record.proofs.Lengths.{all_lost_short}
 use Rattle.lane_record.proofs.Rounds.{all_lost_tell}
+use Rattle.hub_lane.specs.Below.{LateLaws}
 use Rattle.hub_lane.specs.declared.answers.Pumped.{Pumped}
 use Rattle.hub_lane.specs.Heard.{HasHeard}
 use Rattle.hub_lane.specs.Hearing.{IsEventAs, give_ups_of, gots_of, hub_after, quiets_of}
 use Rattle.hub_lane.specs.Lanes.{BoardStatus, IsLane, board_of}
-use Rattle.hub_lane.specs.Sends.{HasSent, all_sent, handed_out}
-use Rattle.hub_lane.specs.Standing.{GoesOn, IsRunning, IsStopped, Stops}
+use Rattle.hub_lane.specs.Sends.{HasSent, all_sent}
+use Rattle.hub_lane.specs.Standing.{GoesOn, IsRunning, IsStopped, IsUnanswered, NoneOpenHanded, StaysUnanswered, Stops}
 use Rattle.hub_lane.proofs.Datagrams.{heard_after}
 use Rattle.hub_lane.proofs.Exchanges.{GaveUpLaw, IsAfter, IsMid, MessageSettles, QuietSettles, RepliedLaw, SendAgrees}
-use Rattle.hub_lane.proofs.Exchanges.{event_after, mid_after, mid_sent, more_give_ups, same_length}
-use Rattle.hub_lane.proofs.Lanes.{told_still}
+use Rattle.hub_lane.proofs.Exchanges.{event_after, event_late, mid_after, mid_sent, more_give_ups, same_length}
+use Rattle.hub_lane.proofs.Lanes.{told_still, up_unanswered}
+use Rattle.hub_lane.proofs.LateAnswers.{HandsOver, late_still, lost_late}
 use Rattle.hub_lane.proofs.Linked.{SendKeepsBodies}
-use Rattle.hub_lane.proofs.Standing.{SameFates, if_told, lost_stopped}
+use Rattle.hub_lane.proofs.Standing.{SendLeaves, if_told, lost_stopped}
 
 -- ---- an exchange
 
-pub lane_received : MessageSettles → RepliedLaw → QuietSettles → GaveUpLaw
+-- what a pump keeps of a lane
+pub record Pumps (settings : Limits) (status : BoardStatus) (hub : Hub) (items : List Item)
+    (old outcomes : List (Option Outcome)) (old_lates lates : List (Option (List ℕ))) (old_give_ups give_ups : ℕ)
+    (down spent : Bool) (telling : Option Telling) (faults quiets : ℕ) : Type 0 where
+  pub lane : IsLane settings status hub items outcomes lates give_ups down spent telling faults quiets
+  pub keeps : KeepsOutcomes old outcomes
+  pub keeps_lates : KeepsLates old_lates lates
+  pub more : old_give_ups ≤ give_ups
+
+pub lane_received : LateLaws → MessageSettles → RepliedLaw → QuietSettles → GaveUpLaw
     → (settings : Limits) (status : BoardStatus) (hub mid new : Hub) (bytes : List ℕ) (pumped : Pumped)
-    (items : List Item) (outcomes outcomes_now : List (Option Outcome)) (give_ups give_ups_now : ℕ)
-    (telling telling_now : Option Telling) (faults faults_now quiets quiets_now : ℕ)
+    (items : List Item) (outcomes outcomes_now : List (Option Outcome)) (lates lates_now : List (Option (List ℕ)))
+    (give_ups give_ups_now : ℕ) (telling telling_now : Option Telling) (faults faults_now quiets quiets_now : ℕ)
     → ((message : Option ToHub) → HasBodies (length outcomes) (take_message mid message))
     → HasBodies (length outcomes) (hear_quiet mid)
     → IsMid (length outcomes) (claims items) outcomes hub mid
     → is_waiting hub ≡ true → IsEventAs mid bytes pumped
-    → new ≡ handed_out (hub_after pumped bytes mid)
+    → new ≡ drained (hub_after pumped bytes mid)
     → outcomes_now ≡ put_all (hub_after pumped bytes mid).fates outcomes
+    → lates_now ≡ put_lates (hub_after pumped bytes mid).lates lates
     → give_ups_now ≡ give_ups_of pumped (hub_after pumped bytes mid) give_ups
     → quiets_now ≡ quiets_of pumped quiets
-    → IfSome telling_now (IsRunning settings new outcomes_now) → board_of telling_now ≡ board_of telling
-    → IsLane settings status hub items outcomes give_ups false false telling faults quiets
-    → IsLane settings status new items outcomes_now give_ups_now false false telling_now faults_now quiets_now
-    × KeepsOutcomes outcomes outcomes_now × (give_ups ≤ give_ups_now)
-lane_received message replied quiet gave_up settings status hub mid new bytes pumped items outcomes outcomes_now
-    give_ups give_ups_now telling telling_now faults faults_now quiets quiets_now bodies quiet_bodies at waiting event
-    hub_is
-    outcomes_are give_ups_are quiets_are running same_board is =
-    let before = mid_after settings status hub mid items outcomes give_ups telling faults quiets at is in
+    → IfSome telling_now (IsRunning settings new outcomes_now lates_now) → IfSome telling_now (NoneOpenHanded new)
+    → board_of telling_now ≡ board_of telling
+    → IsLane settings status hub items outcomes lates give_ups false false telling faults quiets
+    → Pumps settings status new items outcomes outcomes_now lates lates_now give_ups give_ups_now false false
+    telling_now faults_now quiets_now
+lane_received late message replied quiet gave_up settings status hub mid new bytes pumped items outcomes outcomes_now
+    lates lates_now give_ups give_ups_now telling telling_now faults faults_now quiets quiets_now bodies quiet_bodies at
+    waiting event hub_is outcomes_are lates_are give_ups_are quiets_are running none same_board is =
+    let before = mid_after settings status hub mid items outcomes lates give_ups telling faults quiets at is in
     let done = event_after message replied quiet gave_up settings status mid bytes pumped items outcomes give_ups quiets
     bodies quiet_bodies (at.same.waits ∙ waiting) event before in
     let after = subst (λ (h : Hub). IsAfter settings status h items outcomes outcomes_now give_ups_now quiets_now)
-    (sym hub_is) (subst (λ (os : List (Option Outcome)). IsAfter settings status (handed_out (hub_after pumped bytes
+    (sym hub_is) (subst (λ (os : List (Option Outcome)). IsAfter settings status (drained (hub_after pumped bytes
     mid))
     items outcomes os give_ups_now quiets_now) (sym outcomes_are)
-    (subst (λ (n : ℕ). IsAfter settings status (handed_out (hub_after pumped bytes mid)) items outcomes
+    (subst (λ (n : ℕ). IsAfter settings status (drained (hub_after pumped bytes mid)) items outcomes
     (put_all (hub_after pumped bytes mid).fates outcomes) n quiets_now) (sym give_ups_are)
-    (subst (λ (q : ℕ). IsAfter settings status (handed_out (hub_after pumped bytes mid)) items outcomes
+    (subst (λ (q : ℕ). IsAfter settings status (drained (hub_after pumped bytes mid)) items outcomes
     (put_all (hub_after pumped bytes mid).fates outcomes)
-    (give_ups_of pumped (hub_after pumped bytes mid) give_ups) q) (sym quiets_are) done))) in (
-      record {
+    (give_ups_of pumped (hub_after pumped bytes mid) give_ups) q) (sym quiets_are) done))) in
+    let hands = subst (λ (h : Hub). HandsOver outcomes_now lates lates_now h) (sym hub_is)
+    (subst (λ (os : List (Option Outcome)). HandsOver os lates lates_now (drained (hub_after pumped bytes mid)))
+    (sym outcomes_are)
+    (subst (λ (ls : List (Option (List ℕ))). HandsOver (put_all (hub_after pumped bytes mid).fates outcomes) lates ls
+    (drained (hub_after pumped bytes mid))) (sym lates_are)
+    (event_late late message quiet mid bytes pumped items outcomes lates bodies quiet_bodies event at.ready at.agrees
+    (late_still hub mid outcomes lates at.ready.drained at.account is.late)))) in
+    record {
+      lane = record {
         knows = after.knows;
         ready = after.ready;
         agrees = after.agrees;
@@ -80,14 +101,29 @@ lane_received message replied quiet gave_up settings status hub mid new bytes pu
         lost = after.lost;
         tells = after.tells;
         short = after.short;
+        late = hands.late;
         standing = running;
+        unanswered = if_told (NoneOpenHanded new) (IsUnanswered new false false) telling_now none (λ t is. inl is);
         told = told_still status telling telling_now same_board is.told;
-      },
-      after.keeps,
-      (let h = more_give_ups pumped (hub_after pumped bytes mid) give_ups in omega (arith, h, give_ups_are)),
-    )
+      };
+      keeps = after.keeps;
+      keeps_lates = hands.keeps;
+      more = (let h = more_give_ups pumped (hub_after pumped bytes mid) give_ups in omega (arith, h, give_ups_are));
+    }
 
 -- ---- an exchange that failed
+
+-- where no reply of an open place was handed out none is, whatever became of the lane
+still_unanswered : (settings : Limits) (outcomes : List (Option Outcome)) (lates : List (Option (List ℕ)))
+    (hub mid : Hub) (down spent : Bool) (telling telling_now : Option Telling)
+    → StaysUnanswered telling hub telling_now mid → IfSome telling (IsRunning settings hub outcomes lates)
+    → IfSome telling (IsUnanswered hub false false) → IfSome telling_now (IsUnanswered mid down spent)
+still_unanswered settings outcomes lates hub mid down spent telling telling_now stays running none =
+    if_told (NoneOpenHanded mid) (IsUnanswered mid down spent) telling_now
+    (stays settings outcomes lates running
+    (if_told (IsUnanswered hub false false) (NoneOpenHanded hub) telling none
+    (λ t is. up_unanswered hub false false t refl is)))
+    (λ t is. inl is)
 
 abbrev pub LostLaw : Type 0
 LostLaw = (items : List Item) (old new : List (Option Outcome)) (window now : ℕ) → IsKept items old window now
@@ -99,28 +135,32 @@ pub lane_down : LostLaw
     → ((sent : ℕ) (outs : List (Option Outcome)) → KeepsOutcomes outs (all_lost sent outs))
     → ((sent : ℕ) (outs : List (Option Outcome)) → AddsOnly is_lost outs (all_lost sent outs))
     → (settings : Limits) (status : BoardStatus) (hub mid : Hub) (items : List Item)
-    (outcomes before_lost outcomes_now : List (Option Outcome)) (give_ups give_ups_now sent : ℕ)
+    (outcomes before_lost outcomes_now : List (Option Outcome)) (lates lates_now : List (Option (List ℕ)))
+    (give_ups give_ups_now sent : ℕ)
     (telling telling_now : Option Telling) (faults faults_now quiets quiets_now : ℕ)
     → IsMid (length outcomes) (claims items) outcomes hub mid
-    → Stops telling hub telling_now mid → Rose faults faults_now → quiets_now ≡ quiets
-    → give_ups_now ≡ give_ups → before_lost ≡ outcomes → sent ≡ length mid.sent
+    → Stops telling hub telling_now mid → StaysUnanswered telling hub telling_now mid → Rose faults faults_now
+    → quiets_now ≡ quiets
+    → give_ups_now ≡ give_ups → before_lost ≡ outcomes → lates_now ≡ lates → sent ≡ length mid.sent
     → outcomes_now ≡ all_lost sent before_lost → board_of telling_now ≡ board_of telling
-    → IsLane settings status hub items outcomes give_ups false false telling faults quiets
-    → IsLane settings status mid items outcomes_now give_ups_now true false telling_now faults_now quiets_now
-lane_down lost agrees keeps adds settings status hub mid items outcomes before_lost outcomes_now give_ups give_ups_now
-    sent telling telling_now faults faults_now quiets quiets_now at stops rose same_quiets same_give_ups same_outcomes
-    sent_is outcomes_are same_board is =
-    let before = mid_after settings status hub mid items outcomes give_ups telling faults quiets at is in
+    → IsLane settings status hub items outcomes lates give_ups false false telling faults quiets
+    → IsLane settings status mid items outcomes_now lates_now give_ups_now true false telling_now faults_now quiets_now
+lane_down lost agrees keeps adds settings status hub mid items outcomes before_lost outcomes_now lates lates_now
+    give_ups give_ups_now sent telling telling_now faults faults_now quiets quiets_now at stops stays rose same_quiets
+    same_give_ups same_outcomes same_lates sent_is outcomes_are same_board is =
+    let before = mid_after settings status hub mid items outcomes lates give_ups telling faults quiets at is in
     let new = all_lost (length mid.sent) outcomes in
     let a = agrees mid.sent mid.queue mid.open_places (claims items) outcomes before.agrees in
     let same = same_length (claims items) outcomes new before.agrees.counts.each a.counts.each in
     let new_is : outcomes_now ≡ new = outcomes_are ∙ (ap (λ (n : ℕ). all_lost n before_lost) sent_is
     ∙ ap (all_lost (length mid.sent)) same_outcomes) in
-    subst (λ (os : List (Option Outcome)). IsLane settings status mid items os give_ups_now true false telling_now
-    faults_now quiets_now) (sym new_is)
-    (subst (λ (g : ℕ). IsLane settings status mid items new g true false telling_now faults_now quiets_now)
+    subst (λ (os : List (Option Outcome)). IsLane settings status mid items os lates_now give_ups_now true false
+    telling_now faults_now quiets_now) (sym new_is)
+    (subst (λ (ls : List (Option (List ℕ))). IsLane settings status mid items new ls give_ups_now true false telling_now
+    faults_now quiets_now) (sym same_lates)
+    (subst (λ (g : ℕ). IsLane settings status mid items new lates g true false telling_now faults_now quiets_now)
     (sym same_give_ups)
-    (subst (λ (q : ℕ). IsLane settings status mid items new give_ups true false telling_now faults_now q)
+    (subst (λ (q : ℕ). IsLane settings status mid items new lates give_ups true false telling_now faults_now q)
     (sym same_quiets) (record {
       knows = before.knows;
       ready = record {
@@ -142,23 +182,34 @@ lane_down lost agrees keeps adds settings status hub mid items outcomes before_l
       lost = λ k o e l. refl;
       tells = all_lost_tell settings.rounds (length mid.sent) outcomes is.tells;
       short = all_lost_short (length mid.sent) outcomes is.short;
-      standing = if_told (IsStopped settings mid outcomes) (IsStopped settings mid new) telling_now
-          (stops settings outcomes is.standing)
-          (λ t stopped. lost_stopped settings outcomes mid (length mid.sent) t stopped);
+      late = lost_late hub mid outcomes new lates at.ready.drained at.account (keeps (length mid.sent) outcomes) same
+          is.late;
+      standing = if_told (IsStopped settings mid outcomes lates) (IsStopped settings mid new lates) telling_now
+          (stops settings outcomes lates is.standing)
+          (λ t stopped. lost_stopped settings outcomes lates mid (length mid.sent) t stopped);
+      unanswered = still_unanswered settings outcomes lates hub mid true false telling telling_now stays is.standing
+          is.unanswered;
       told = told_still status telling telling_now same_board is.told;
-    })))
+    }))))
+
+-- what became of an Ask stays
+pub lost_keeps : ((sent : ℕ) (outs : List (Option Outcome)) → KeepsOutcomes outs (all_lost sent outs)) → (sent : ℕ)
+    (old before new : List (Option Outcome)) → before ≡ old → new ≡ all_lost sent before → KeepsOutcomes old new
+lost_keeps keeps sent old before new same lost =
+    subst (KeepsOutcomes old) (sym (lost ∙ ap (all_lost sent) same)) (keeps sent old)
 
 -- all sends went out, and nothing else happened
 lane_sent : (settings : Limits) (status : BoardStatus) (hub mid : Hub) (items : List Item)
-    (outcomes : List (Option Outcome)) (give_ups : ℕ)
+    (outcomes : List (Option Outcome)) (lates : List (Option (List ℕ))) (give_ups : ℕ)
     (telling telling_now : Option Telling) (faults faults_now quiets quiets_now : ℕ)
     → IsMid (length outcomes) (claims items) outcomes hub mid
-    → GoesOn telling hub telling_now mid → quiets_now ≡ quiets → board_of telling_now ≡ board_of telling
-    → IsLane settings status hub items outcomes give_ups false false telling faults quiets
-    → IsLane settings status mid items outcomes give_ups false false telling_now faults_now quiets_now
-lane_sent settings status hub mid items outcomes give_ups telling telling_now faults faults_now quiets quiets_now at
-    goes same_quiets same_board is =
-    let before = mid_after settings status hub mid items outcomes give_ups telling faults quiets at is in
+    → GoesOn telling hub telling_now mid → StaysUnanswered telling hub telling_now mid → quiets_now ≡ quiets
+    → board_of telling_now ≡ board_of telling
+    → IsLane settings status hub items outcomes lates give_ups false false telling faults quiets
+    → IsLane settings status mid items outcomes lates give_ups false false telling_now faults_now quiets_now
+lane_sent settings status hub mid items outcomes lates give_ups telling telling_now faults faults_now quiets quiets_now
+    at goes stays same_quiets same_board is =
+    let before = mid_after settings status hub mid items outcomes lates give_ups telling faults quiets at is in
     record {
       knows = before.knows;
       ready = before.ready;
@@ -171,24 +222,31 @@ lane_sent settings status hub mid items outcomes give_ups telling telling_now fa
       lost = before.lost;
       tells = before.tells;
       short = before.short;
-      standing = goes settings outcomes is.standing;
+      late = late_still hub mid outcomes lates at.ready.drained at.account is.late;
+      standing = goes settings outcomes lates is.standing;
+      unanswered = still_unanswered settings outcomes lates hub mid false false telling telling_now stays is.standing
+          is.unanswered;
       told = told_still status telling telling_now same_board is.told;
     }
 
 pub lane_spent : (settings : Limits) (status : BoardStatus) (hub mid : Hub) (items : List Item)
-    (outcomes outcomes_now : List (Option Outcome)) (give_ups give_ups_now : ℕ)
+    (outcomes outcomes_now : List (Option Outcome)) (lates lates_now : List (Option (List ℕ)))
+    (give_ups give_ups_now : ℕ)
     (telling telling_now : Option Telling) (faults faults_now quiets quiets_now : ℕ)
     → IsMid (length outcomes) (claims items) outcomes hub mid
-    → Stops telling hub telling_now mid → quiets ≤ quiets_now
-    → give_ups_now ≡ give_ups → outcomes_now ≡ outcomes → board_of telling_now ≡ board_of telling
-    → IsLane settings status hub items outcomes give_ups false false telling faults quiets
-    → IsLane settings status mid items outcomes_now give_ups_now false true telling_now faults_now quiets_now
-lane_spent settings status hub mid items outcomes outcomes_now give_ups give_ups_now telling telling_now faults
-    faults_now quiets quiets_now at stops more same_give_ups same_outcomes same_board is =
-    let before = mid_after settings status hub mid items outcomes give_ups telling faults quiets at is in
-    subst (λ (os : List (Option Outcome)). IsLane settings status mid items os give_ups_now false true telling_now
-    faults_now quiets_now) (sym same_outcomes)
-    (subst (λ (g : ℕ). IsLane settings status mid items outcomes g false true telling_now faults_now quiets_now)
+    → Stops telling hub telling_now mid
+    → StaysUnanswered telling hub telling_now mid ⊎ (is_waiting mid ≡ true) → quiets ≤ quiets_now
+    → give_ups_now ≡ give_ups → outcomes_now ≡ outcomes → lates_now ≡ lates → board_of telling_now ≡ board_of telling
+    → IsLane settings status hub items outcomes lates give_ups false false telling faults quiets
+    → IsLane settings status mid items outcomes_now lates_now give_ups_now false true telling_now faults_now quiets_now
+lane_spent settings status hub mid items outcomes outcomes_now lates lates_now give_ups give_ups_now telling telling_now
+    faults faults_now quiets quiets_now at stops stays more same_give_ups same_outcomes same_lates same_board is =
+    let before = mid_after settings status hub mid items outcomes lates give_ups telling faults quiets at is in
+    subst (λ (os : List (Option Outcome)). IsLane settings status mid items os lates_now give_ups_now false true
+    telling_now faults_now quiets_now) (sym same_outcomes)
+    (subst (λ (ls : List (Option (List ℕ))). IsLane settings status mid items outcomes ls give_ups_now false true
+    telling_now faults_now quiets_now) (sym same_lates)
+    (subst (λ (g : ℕ). IsLane settings status mid items outcomes lates g false true telling_now faults_now quiets_now)
     (sym same_give_ups) (record {
       knows = before.knows;
       ready = before.ready;
@@ -201,25 +259,35 @@ lane_spent settings status hub mid items outcomes outcomes_now give_ups give_ups
       lost = before.lost;
       tells = before.tells;
       short = before.short;
-      standing = stops settings outcomes is.standing;
+      late = late_still hub mid outcomes lates at.ready.drained at.account is.late;
+      standing = stops settings outcomes lates is.standing;
+      unanswered = ⊎_elim
+          (λ (goes : StaysUnanswered telling hub telling_now mid). still_unanswered settings outcomes lates hub mid
+          false true telling telling_now goes is.standing is.unanswered)
+          (λ (waits : is_waiting mid ≡ true). if_told (IsStopped settings mid outcomes lates)
+          (IsUnanswered mid false true) telling_now (stops settings outcomes lates is.standing)
+          (λ t _. inr (record { ran_out = refl; link_up = refl; waits = waits })))
+          stays;
       told = told_still status telling telling_now same_board is.told;
-    }))
+    })))
 
 -- ---- a pump
 
 up : (settings : Limits) (status : BoardStatus) (hub : Hub) (items : List Item) (outcomes : List (Option Outcome))
-    (give_ups : ℕ) (down spent : Bool) (telling : Option Telling) (faults quiets : ℕ) → down ≡ false → spent ≡ false
-    → IsLane settings status hub items outcomes give_ups down spent telling faults quiets
-    → IsLane settings status hub items outcomes give_ups false false telling faults quiets
-up settings status hub items outcomes give_ups down spent telling faults quiets d s is =
-    subst (λ (x : Bool). IsLane settings status hub items outcomes give_ups false x telling faults quiets) s
-    (subst (λ (x : Bool). IsLane settings status hub items outcomes give_ups x spent telling faults quiets) d is)
+    (lates : List (Option (List ℕ))) (give_ups : ℕ) (down spent : Bool) (telling : Option Telling) (faults quiets : ℕ)
+    → down ≡ false → spent ≡ false
+    → IsLane settings status hub items outcomes lates give_ups down spent telling faults quiets
+    → IsLane settings status hub items outcomes lates give_ups false false telling faults quiets
+up settings status hub items outcomes lates give_ups down spent telling faults quiets d s is =
+    subst (λ (x : Bool). IsLane settings status hub items outcomes lates give_ups false x telling faults quiets) s
+    (subst (λ (x : Bool). IsLane settings status hub items outcomes lates give_ups x spent telling faults quiets) d is)
 
 -- what the laws say of a lane's hub in a pump
 pub record PumpLaws : Type 0 where
-  pub fates : SameFates
+  pub fates : SendLeaves
   pub bodies : SendKeepsBodies
   pub agrees : SendAgrees
+  pub late : LateLaws
   pub message_bodies : (most : ℕ) (h : Hub) (message : Option ToHub) → HasBodies most h
       → HasBodies most (take_message h message)
   pub quiet_bodies : (most : ℕ) (h : Hub) → HasBodies most h → HasBodies most (hear_quiet h)
@@ -233,92 +301,103 @@ pub record PumpLaws : Type 0 where
   pub lost_keeps : (sent : ℕ) (outs : List (Option Outcome)) → KeepsOutcomes outs (all_lost sent outs)
   pub lost_adds : (sent : ℕ) (outs : List (Option Outcome)) → AddsOnly is_lost outs (all_lost sent outs)
 
-pub record Pumps (settings : Limits) (status : BoardStatus) (hub : Hub) (items : List Item)
-    (old outcomes : List (Option Outcome)) (old_give_ups give_ups : ℕ) (down spent : Bool) (telling : Option Telling)
-    (faults quiets : ℕ) : Type 0 where
-  pub lane : IsLane settings status hub items outcomes give_ups down spent telling faults quiets
-  pub keeps : KeepsOutcomes old outcomes
-  pub more : old_give_ups ≤ give_ups
-
 module _ (laws : PumpLaws) (settings : Limits) (status : BoardStatus) (hub : Hub) (items : List Item)
-    (outcomes : List (Option Outcome)) (give_ups : ℕ) (down spent : Bool) (telling : Option Telling)
-    (faults quiets : ℕ) (d : down ≡ false) (s : spent ≡ false)
-    (is : IsLane settings status hub items outcomes give_ups down spent telling faults quiets) where
-  is_up : IsLane settings status hub items outcomes give_ups false false telling faults quiets
-  is_up = up settings status hub items outcomes give_ups down spent telling faults quiets d s is
+    (outcomes : List (Option Outcome)) (lates : List (Option (List ℕ))) (give_ups : ℕ) (down spent : Bool)
+    (telling : Option Telling) (faults quiets : ℕ) (d : down ≡ false) (s : spent ≡ false)
+    (is : IsLane settings status hub items outcomes lates give_ups down spent telling faults quiets) where
+  is_up : IsLane settings status hub items outcomes lates give_ups false false telling faults quiets
+  is_up = up settings status hub items outcomes lates give_ups down spent telling faults quiets d s is
+
+  -- so is its link
+  pub up_standing : IfSome telling (IsRunning settings hub outcomes lates)
+  up_standing = is_up.standing
+
+  pub up_none : IfSome telling (NoneOpenHanded hub)
+  up_none = if_told (IsUnanswered hub false false) (NoneOpenHanded hub) telling is_up.unanswered
+      (λ t is. up_unanswered hub false false t refl is)
 
   at_mid : (mid : Hub) → HasSent hub mid → IsMid (length outcomes) (claims items) outcomes hub mid
-  at_mid mid sent = mid_sent laws.fates laws.bodies laws.agrees (length outcomes) (claims items) outcomes hub mid sent
-      is_up.ready is_up.agrees
+  at_mid mid sent = mid_sent laws.fates laws.bodies laws.agrees laws.late (length outcomes) (claims items) outcomes hub
+      mid sent is_up.ready is_up.agrees
 
   pub pump_received : (new : Hub) (bytes : List ℕ) (pumped : Pumped) (outcomes_now : List (Option Outcome))
-      (give_ups_now : ℕ) (telling_now : Option Telling) (faults_now quiets_now : ℕ)
+      (lates_now : List (Option (List ℕ))) (give_ups_now : ℕ) (telling_now : Option Telling)
+      (faults_now quiets_now : ℕ)
       → is_waiting hub ≡ true → IsEventAs (all_sent hub) bytes pumped
-      → new ≡ handed_out (hub_after pumped bytes (all_sent hub))
+      → new ≡ drained (hub_after pumped bytes (all_sent hub))
       → outcomes_now ≡ put_all (hub_after pumped bytes (all_sent hub)).fates outcomes
+      → lates_now ≡ put_lates (hub_after pumped bytes (all_sent hub)).lates lates
       → give_ups_now ≡ give_ups_of pumped (hub_after pumped bytes (all_sent hub)) give_ups
       → quiets_now ≡ quiets_of pumped quiets
-      → ((limits : Limits) → IfSome telling (IsRunning limits hub outcomes)
-      → IfSome telling_now (IsRunning limits new outcomes_now))
+      → ((limits : Limits) → IfSome telling (IsRunning limits hub outcomes lates)
+      → IfSome telling_now (IsRunning limits new outcomes_now lates_now))
+      → StaysUnanswered telling hub telling_now new
       → board_of telling_now ≡ board_of telling
-      → Pumps settings status new items outcomes outcomes_now give_ups give_ups_now down spent telling_now faults_now
-      quiets_now
-  pump_received new bytes pumped outcomes_now give_ups_now telling_now faults_now quiets_now waiting event hub_is
-      outcomes_are give_ups_are quiets_are running same_board =
+      → Pumps settings status new items outcomes outcomes_now lates lates_now give_ups give_ups_now down spent
+      telling_now faults_now quiets_now
+  pump_received new bytes pumped outcomes_now lates_now give_ups_now telling_now faults_now quiets_now waiting event
+      hub_is outcomes_are lates_are give_ups_are quiets_are running stays same_board =
       let mid = all_sent hub in
       let at = at_mid mid (record { count = pending hub; sends = refl }) in
-      let done = lane_received laws.message laws.replied laws.quiet laws.gave_up settings status hub mid new bytes
-      pumped items outcomes outcomes_now give_ups give_ups_now telling telling_now faults faults_now quiets quiets_now
+      let done = lane_received laws.late laws.message laws.replied laws.quiet laws.gave_up settings status hub mid new
+      bytes pumped items outcomes outcomes_now lates lates_now give_ups give_ups_now telling telling_now faults
+      faults_now quiets quiets_now
       (λ message. laws.message_bodies (length outcomes) mid message at.ready.bodies)
-      (laws.quiet_bodies (length outcomes) mid at.ready.bodies) at waiting event hub_is outcomes_are give_ups_are
-      quiets_are (running settings is_up.standing) same_board is_up in
-      record {
-        lane = subst (λ (x : Bool). IsLane settings status new items outcomes_now give_ups_now x spent telling_now
-            faults_now quiets_now) (sym d)
-            (subst (λ (x : Bool). IsLane settings status new items outcomes_now give_ups_now false x telling_now
-            faults_now quiets_now) (sym s) done.0);
-        keeps = done.1;
-        more = done.2;
-      }
+      (laws.quiet_bodies (length outcomes) mid at.ready.bodies) at waiting event hub_is outcomes_are lates_are
+      give_ups_are quiets_are (running settings is_up.standing) (stays settings outcomes lates is_up.standing up_none)
+      same_board is_up in
+      subst (λ (x : Bool). Pumps settings status new items outcomes outcomes_now lates lates_now give_ups give_ups_now
+      x spent telling_now faults_now quiets_now) (sym d)
+      (subst (λ (x : Bool). Pumps settings status new items outcomes outcomes_now lates lates_now give_ups give_ups_now
+      false x telling_now faults_now quiets_now) (sym s) done)
 
   pub pump_sent : (mid : Hub) (telling_now : Option Telling) (faults_now quiets_now : ℕ)
-      → HasSent hub mid → GoesOn telling hub telling_now mid → quiets_now ≡ quiets
-      → board_of telling_now ≡ board_of telling
-      → IsLane settings status mid items outcomes give_ups down spent telling_now faults_now quiets_now
-  pump_sent mid telling_now faults_now quiets_now went goes same_quiets same_board =
-      subst (λ (x : Bool). IsLane settings status mid items outcomes give_ups x spent telling_now faults_now quiets_now)
-      (sym d)
-      (subst (λ (x : Bool). IsLane settings status mid items outcomes give_ups false x telling_now faults_now
+      → HasSent hub mid → GoesOn telling hub telling_now mid → StaysUnanswered telling hub telling_now mid
+      → quiets_now ≡ quiets → board_of telling_now ≡ board_of telling
+      → IsLane settings status mid items outcomes lates give_ups down spent telling_now faults_now quiets_now
+  pump_sent mid telling_now faults_now quiets_now went goes stays same_quiets same_board =
+      subst (λ (x : Bool). IsLane settings status mid items outcomes lates give_ups x spent telling_now faults_now
+      quiets_now) (sym d)
+      (subst (λ (x : Bool). IsLane settings status mid items outcomes lates give_ups false x telling_now faults_now
       quiets_now) (sym s)
-      (lane_sent settings status hub mid items outcomes give_ups telling telling_now faults faults_now quiets quiets_now
-      (at_mid mid went) goes same_quiets same_board is_up))
+      (lane_sent settings status hub mid items outcomes lates give_ups telling telling_now faults faults_now quiets
+      quiets_now (at_mid mid went) goes stays same_quiets same_board is_up))
 
-  pub pump_down : (mid : Hub) (before_lost outcomes_now : List (Option Outcome)) (give_ups_now sent : ℕ)
-      (telling_now : Option Telling) (faults_now quiets_now : ℕ)
-      → HasSent hub mid → Stops telling hub telling_now mid → Rose faults faults_now → quiets_now ≡ quiets
-      → give_ups_now ≡ give_ups → before_lost ≡ outcomes → sent ≡ length mid.sent
+  pub pump_down : (mid : Hub) (before_lost outcomes_now : List (Option Outcome)) (lates_now : List (Option (List ℕ)))
+      (give_ups_now sent : ℕ) (telling_now : Option Telling) (faults_now quiets_now : ℕ)
+      → HasSent hub mid → Stops telling hub telling_now mid → StaysUnanswered telling hub telling_now mid
+      → Rose faults faults_now → quiets_now ≡ quiets
+      → give_ups_now ≡ give_ups → before_lost ≡ outcomes → lates_now ≡ lates → sent ≡ length mid.sent
       → outcomes_now ≡ all_lost sent before_lost → board_of telling_now ≡ board_of telling
-      → IsLane settings status mid items outcomes_now give_ups_now true spent telling_now faults_now quiets_now
-  pump_down mid before_lost outcomes_now give_ups_now sent telling_now faults_now quiets_now went stops rose same_quiets
-      same_give_ups same_outcomes sent_is outcomes_are same_board =
-      subst (λ (x : Bool). IsLane settings status mid items outcomes_now give_ups_now true x telling_now
+      → IsLane settings status mid items outcomes_now lates_now give_ups_now true spent telling_now faults_now
+      quiets_now
+  pump_down mid before_lost outcomes_now lates_now give_ups_now sent telling_now faults_now quiets_now went stops stays
+      rose same_quiets same_give_ups same_outcomes same_lates sent_is outcomes_are same_board =
+      subst (λ (x : Bool). IsLane settings status mid items outcomes_now lates_now give_ups_now true x telling_now
       faults_now quiets_now) (sym s)
       (lane_down laws.lost laws.lost_agrees laws.lost_keeps laws.lost_adds settings status hub mid items outcomes
-      before_lost outcomes_now give_ups give_ups_now sent telling telling_now faults faults_now quiets quiets_now
-      (at_mid mid went) stops rose same_quiets same_give_ups same_outcomes sent_is outcomes_are
-      same_board is_up)
+      before_lost outcomes_now lates lates_now give_ups give_ups_now sent telling telling_now faults faults_now quiets
+      quiets_now (at_mid mid went) stops stays rose same_quiets same_give_ups same_outcomes same_lates sent_is
+      outcomes_are same_board is_up)
 
-  pub pump_spent : (mid : Hub) (outcomes_now : List (Option Outcome)) (give_ups_now : ℕ)
-      (telling_now : Option Telling) (faults_now quiets_now : ℕ)
-      → HasSent hub mid → Stops telling hub telling_now mid → quiets ≤ quiets_now
-      → give_ups_now ≡ give_ups → outcomes_now ≡ outcomes → board_of telling_now ≡ board_of telling
-      → IsLane settings status mid items outcomes_now give_ups_now down true telling_now faults_now quiets_now
-  pump_spent mid outcomes_now give_ups_now telling_now faults_now quiets_now went stops more same_give_ups
-      same_outcomes same_board =
-      subst (λ (x : Bool). IsLane settings status mid items outcomes_now give_ups_now x true telling_now
+  -- memory ran out: in a send, or in a receive, and then a body waits
+  pub pump_spent : (mid : Hub) (outcomes_now : List (Option Outcome)) (lates_now : List (Option (List ℕ)))
+      (give_ups_now : ℕ) (telling_now : Option Telling) (faults_now quiets_now : ℕ)
+      → HasSent hub mid → Stops telling hub telling_now mid
+      → StaysUnanswered telling hub telling_now mid ⊎ (is_waiting hub ≡ true) → quiets ≤ quiets_now
+      → give_ups_now ≡ give_ups → outcomes_now ≡ outcomes → lates_now ≡ lates
+      → board_of telling_now ≡ board_of telling
+      → IsLane settings status mid items outcomes_now lates_now give_ups_now down true telling_now faults_now quiets_now
+  pump_spent mid outcomes_now lates_now give_ups_now telling_now faults_now quiets_now went stops stays more
+      same_give_ups same_outcomes same_lates same_board =
+      let at = at_mid mid went in
+      subst (λ (x : Bool). IsLane settings status mid items outcomes_now lates_now give_ups_now x true telling_now
       faults_now quiets_now) (sym d)
-      (lane_spent settings status hub mid items outcomes outcomes_now give_ups give_ups_now telling telling_now faults
-      faults_now quiets quiets_now (at_mid mid went) stops more same_give_ups same_outcomes same_board is_up)
+      (lane_spent settings status hub mid items outcomes outcomes_now lates lates_now give_ups give_ups_now telling
+      telling_now faults faults_now quiets quiets_now at stops
+      (⊎_elim (λ (goes : StaysUnanswered telling hub telling_now mid). inl goes)
+      (λ (waits : is_waiting hub ≡ true). inr (at.same.waits ∙ waits)) stays)
+      more same_give_ups same_outcomes same_lates same_board is_up)
 
   pub pump_heard : (bytes : List ℕ) (pumped : Pumped) (outcomes_now : List (Option Outcome)) (gots gots_now : ℕ)
       → IsEventAs (all_sent hub) bytes pumped
@@ -327,8 +406,8 @@ module _ (laws : PumpLaws) (settings : Limits) (status : BoardStatus) (hub : Hub
   pump_heard bytes pumped outcomes_now gots gots_now event outcomes_are rose heard =
       let mid = all_sent hub in
       let at = at_mid mid (record { count = pending hub; sends = refl }) in
-      let settled = laws.quiet mid (claims items) outcomes at.ready.window at.ready.drained at.agrees in
+      let settled = laws.quiet mid (claims items) outcomes at.ready.window at.ready.drained.fates at.agrees in
       subst (λ (os : List (Option Outcome)). HasHeard os gots_now) (sym outcomes_are)
-      (heard_after mid bytes pumped outcomes gots gots_now at.ready.drained
+      (heard_after mid bytes pumped outcomes gots gots_now at.ready.drained.fates
       (same_length (claims items) outcomes (put_all (hear_quiet mid).fates outcomes) at.agrees.counts.each
       settled.agrees.counts.each) settled.adds event rose heard)

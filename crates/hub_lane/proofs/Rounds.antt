@@ -11,7 +11,7 @@ use Rattle.world_model.specs.declared.offered.Offered.{Offered}
 use Rattle.world_model.specs.declared.offered.OpenPlace.{OpenPlace}
 use Rattle.world_model.specs.Messages.{ToHub, to_hub}
 use Rattle.world_model.specs.Board.{Board}
-use Rattle.world_model.specs.Hub.{Hub, abandoned, give_up, hear_quiet, is_waiting, new_hub, offer, some_waited}
+use Rattle.world_model.specs.Hub.{Hub, abandoned, drained, give_up, hear_quiet, is_waiting, new_hub, offer, some_waited}
 use Rattle.world_model.specs.Hub.{take_message, want_status}
 use Rattle.world_model.specs.Links.{IsJoined, Told}
 use Rattle.world_model.specs.Sends.{Next, bytes_to_send, next_send}
@@ -30,7 +30,6 @@ use Rattle.hub_lane.specs.Hearing.{IsHeardAs, give_ups_after, give_ups_of}
 use Rattle.hub_lane.specs.Below.{RoundLaws}
 use Rattle.hub_lane.specs.Lanes.{BoardStatus, FitsBoard, IsGreeted, board_of}
 use Rattle.hub_lane.specs.Rounds.{HasPaid, PaysFor, PaysOn, PaysRounds}
-use Rattle.hub_lane.specs.Sends.{handed_out}
 use Rattle.hub_lane.specs.Standing.{GoesOn, IsRunning, IsStanding}
 use Rattle.hub_lane.proofs.Standing.{SameBoard, after_call, if_told}
 
@@ -90,11 +89,11 @@ pub pays_sent : RoundLaws → (begin old : Hub) (next : Next) (first_held before
     → IfTelling telling after (IsSent (bytes_to_send next.hub next.send) before now)
     → PaysOn first begin first_held telling old before → PaysOn first begin first_held after next.hub now
 pays_sent laws begin old next first_held before now first telling after e le running call pays =
-    λ limits outcomes mtu rounds g start paid.
-    after_call (λ t. IsRunning limits old outcomes t × PaysRounds mtu rounds g old before t)
+    λ limits outcomes lates mtu rounds g start paid.
+    after_call (λ t. IsRunning limits old outcomes lates t × PaysRounds mtu rounds g old before t)
     (PaysRounds mtu rounds g next.hub now) (IsSent (bytes_to_send next.hub next.send) before now) telling after
-    (both_told (IsRunning limits old outcomes) (PaysRounds mtu rounds g old before) telling
-    (running limits outcomes start) (pays limits outcomes mtu rounds g start paid)) call
+    (both_told (IsRunning limits old outcomes lates) (PaysRounds mtu rounds g old before) telling
+    (running limits outcomes lates start) (pays limits outcomes lates mtu rounds g start paid)) call
     (λ t u is sent. sent_pays laws mtu rounds g old next before now t u e le is.0.reached.joined sent is.1)
 
 -- ---- a receive
@@ -140,12 +139,12 @@ module _ (laws : RoundLaws) (board : SameBoard) where
   pub got_for : (pumped : Pumped) (hub : Hub) (bytes : List ℕ) (before now : ℕ) (old new : Option Telling)
       → before ≤ now → IsHeardAs hub (to_hub bytes) pumped → IfTelling old new (IsGot bytes before now)
       → PaysFor pumped old hub before new (take_message hub (to_hub bytes)) now
-  got_for pumped hub bytes before now old new le heard call = λ limits outcomes mtu g start paid.
+  got_for pumped hub bytes before now old new le heard call = λ limits outcomes lates mtu g start paid.
       subst (λ (n : ℕ). IfSome new (PaysRounds mtu hub.rounds n (take_message hub (to_hub bytes)) now))
       (sym (same_give_ups pumped hub (take_message hub (to_hub bytes)) (to_hub bytes) g heard))
-      (after_call (λ t. IsRunning limits hub outcomes t × PaysRounds mtu hub.rounds g hub before t)
+      (after_call (λ t. IsRunning limits hub outcomes lates t × PaysRounds mtu hub.rounds g hub before t)
       (PaysRounds mtu hub.rounds g (take_message hub (to_hub bytes)) now) (IsGot bytes before now) old new
-      (both_told (IsRunning limits hub outcomes) (PaysRounds mtu hub.rounds g hub before) old start paid) call
+      (both_told (IsRunning limits hub outcomes lates) (PaysRounds mtu hub.rounds g hub before) old start paid) call
       (λ t u is got. got_pays mtu hub.rounds g hub bytes before now t u le is.0.reached.joined got is.1))
 
   quiet_pays : (mtu g : ℕ) (hub : Hub) (before now : ℕ) (t u : Telling) → before ≤ now → next_send hub ≡ None
@@ -170,16 +169,16 @@ module _ (laws : RoundLaws) (board : SameBoard) where
   pub quiet_for : (hub : Hub) (before now : ℕ) (old new : Option Telling) → before ≤ now → next_send hub ≡ None
       → is_waiting hub ≡ true → IfTelling old new (IsQuiet before now)
       → PaysFor Quiet old hub before new (hear_quiet hub) now
-  quiet_for hub before now old new le none waits call = λ limits outcomes mtu g start paid.
-      after_call (λ t. IsRunning limits hub outcomes t × PaysRounds mtu hub.rounds g hub before t)
+  quiet_for hub before now old new le none waits call = λ limits outcomes lates mtu g start paid.
+      after_call (λ t. IsRunning limits hub outcomes lates t × PaysRounds mtu hub.rounds g hub before t)
       (PaysRounds mtu hub.rounds (give_ups_after (hear_quiet hub) g) (hear_quiet hub) now) (IsQuiet before now) old new
-      (both_told (IsRunning limits hub outcomes) (PaysRounds mtu hub.rounds g hub before) old start paid) call
+      (both_told (IsRunning limits hub outcomes lates) (PaysRounds mtu hub.rounds g hub before) old start paid) call
       (λ t u is quiet. quiet_pays mtu g hub before now t u le none waits is.0.reached.joined quiet is.1)
 
 -- ---- an exchange
 
 out_pays : (mtu rounds g : ℕ) (hub : Hub) (held : ℕ) (t : Telling) → PaysRounds mtu rounds g hub held t
-    → PaysRounds mtu rounds g (handed_out hub) held t
+    → PaysRounds mtu rounds g (drained hub) held t
 out_pays mtu rounds g hub held t is = record {
   board = is.board;
   some_window = is.some_window;
@@ -190,22 +189,24 @@ out_pays mtu rounds g hub held t is = record {
 }
 
 pub exchanged_pays : (pumped : Pumped) (old mid event hub : Hub) (outcomes : List (Option Outcome))
-    (before between after : Option Telling) (held held_then held_now g g_now : ℕ) → mid.rounds ≡ old.rounds
-    → hub ≡ handed_out event → g_now ≡ give_ups_of pumped event g → GoesOn before old between mid
+    (lates : List (Option (List ℕ))) (before between after : Option Telling) (held held_then held_now g g_now : ℕ)
+    → mid.rounds ≡ old.rounds
+    → hub ≡ drained event → g_now ≡ give_ups_of pumped event g → GoesOn before old between mid
     → PaysOn before old held between mid held_then → PaysFor pumped between mid held_then after event held_now
-    → (limits : Limits) (mtu : ℕ) → IfSome before (IsRunning limits old outcomes)
+    → (limits : Limits) (mtu : ℕ) → IfSome before (IsRunning limits old outcomes lates)
     → IfSome before (PaysRounds mtu old.rounds g old held) → IfSome after (PaysRounds mtu old.rounds g_now hub held_now)
-exchanged_pays pumped old mid event hub outcomes before between after held held_then held_now g g_now rounds hub_is
+exchanged_pays pumped old mid event hub outcomes lates before between after held held_then held_now g g_now rounds
+    hub_is
     g_is running on for limits mtu start paid =
     let then = subst (λ (r : ℕ). IfSome between (PaysRounds mtu r g mid held_then)) (sym rounds)
-    (on limits outcomes mtu old.rounds g start paid) in
-    let now = for limits outcomes mtu g (running limits outcomes start) then in
+    (on limits outcomes lates mtu old.rounds g start paid) in
+    let now = for limits outcomes lates mtu g (running limits outcomes lates start) then in
     let out = if_told (PaysRounds mtu mid.rounds (give_ups_of pumped event g) event held_now)
-    (PaysRounds mtu mid.rounds (give_ups_of pumped event g) (handed_out event) held_now) after now
+    (PaysRounds mtu mid.rounds (give_ups_of pumped event g) (drained event) held_now) after now
     (λ t is. out_pays mtu mid.rounds (give_ups_of pumped event g) event held_now t is) in
     subst (λ (h : Hub). IfSome after (PaysRounds mtu old.rounds g_now h held_now)) (sym hub_is)
-    (subst (λ (n : ℕ). IfSome after (PaysRounds mtu old.rounds n (handed_out event) held_now)) (sym g_is)
-    (subst (λ (r : ℕ). IfSome after (PaysRounds mtu r (give_ups_of pumped event g) (handed_out event) held_now)) rounds
+    (subst (λ (n : ℕ). IfSome after (PaysRounds mtu old.rounds n (drained event) held_now)) (sym g_is)
+    (subst (λ (r : ℕ). IfSome after (PaysRounds mtu r (give_ups_of pumped event g) (drained event) held_now)) rounds
     out))
 
 -- ---- a lane begins, is asked, and stops
@@ -288,11 +289,11 @@ still_paid laws false mtu rounds g hub held now t le is =
 -- ---- a pump
 
 pub still_up : (down spent : Bool) (settings : Limits) (hub : Hub) (outcomes : List (Option Outcome))
-    (telling : Option Telling) → down ≡ false → spent ≡ false
-    → IfSome telling (IsStanding (down || spent) settings hub outcomes)
-    → IfSome telling (IsRunning settings hub outcomes)
-still_up down spent settings hub outcomes telling d s is =
-    subst (λ (b : Bool). IfSome telling (IsStanding b settings hub outcomes)) (neither down spent d s) is
+    (lates : List (Option (List ℕ))) (telling : Option Telling) → down ≡ false → spent ≡ false
+    → IfSome telling (IsStanding (down || spent) settings hub outcomes lates)
+    → IfSome telling (IsRunning settings hub outcomes lates)
+still_up down spent settings hub outcomes lates telling d s is =
+    subst (λ (b : Bool). IfSome telling (IsStanding b settings hub outcomes lates)) (neither down spent d s) is
 
 pub pays_pumped : (down spent : Bool) (mtu rounds g g_now : ℕ) (hub new : Hub) (held now : ℕ)
     (telling after : Option Telling) → down ≡ false → spent ≡ false → hub.rounds ≡ rounds

@@ -1,5 +1,5 @@
 -- How a hub stands to a link that tells: what each call keeps of it.
-use Rattle.std.proofs.Common.{◌≡◌, ℕ, zero, suc, ◌+◌, true, false, cond, List, [], ◌∷◌, ◌++◌, length}
+use Rattle.std.proofs.Common.{◌≡◌, ℕ, zero, suc, ◌+◌, true, false, cond, List, [], ◌∷◌, ◌++◌, length, map}
 use Rattle.std.proofs.Common.{Option, Some, None, refl, sym, ap, ◌∙◌, subst, arith, ◌==◌, inl, inr, ◌⊎◌, append_assoc}
 use Rattle.std.specs.Prelude.{IfSome, min, nat_lt}
 use Rattle.std.specs.List.{AllByRecursion, Contains, slice_get}
@@ -16,64 +16,71 @@ use Rattle.world_model.specs.declared.offered.OpenPlace.{OpenPlace}
 use Rattle.world_model.specs.Places.{at_place}
 use Rattle.world_model.specs.Messages.{ToHub, StatusReply, Reply, to_hub}
 use Rattle.world_model.specs.Board.{Board}
-use Rattle.world_model.specs.Hub.{Hub, hear_quiet, insert_fate, is_waiting, new_hub}
-use Rattle.world_model.specs.Hub.{offer, open_with, tag_of, take_message, time_out}
+use Rattle.world_model.specs.Hub.{HandedOut, Hub, IsDrained, drained, hands_out, hear_quiet, insert_fate, insert_late}
+use Rattle.world_model.specs.Hub.{is_waiting, new_hub, none_handed_out, offer, open_with, recover, settle, tag_of}
+use Rattle.world_model.specs.Hub.{take_message, time_out, to_hand_out}
 use Rattle.world_model.specs.Sends.{Next, bytes_to_send, next_send}
 use Rattle.world_model.specs.World.{World, start}
 use Rattle.world_model.specs.Facts.{IsSendable, IsStart}
-use Rattle.world_model.specs.Links.{IsHanded, IsHeard, Told, sent_on}
+use Rattle.world_model.specs.Links.{IsHanded, IsHeard, IsJoined, Told, sent_on}
 use Rattle.world_model.proofs.Lists.{either, get_front, get_seam}
-use Rattle.world_model.proofs.Hubs.{all_inserted, all_unsent}
+use Rattle.world_model.proofs.Hubs.{all_inserted, all_late, all_unsent}
+use Rattle.world_model.proofs.OpenPlaces.{named}
 use Rattle.world_model.proofs.Flushing.{quiet_cases, reply_cases, status_cases}
-use Rattle.reliable_engine.specs.Answers.{hub_next}
+use Rattle.reliable_engine.specs.Answers.{IsOpen, hub_next}
 use Rattle.world_model.specs.Settings.{Limits}
 use Rattle.world_core.specs.States.{IsReached}
 use Rattle.world_core.specs.Telling.{IfTelling, IsGot, IsQuiet, IsReceived, IsSent, Telling}
 use Rattle.lane_record.specs.declared.outcome.Outcome.{Outcome}
 use Rattle.lane_record.specs.declared.outcome.Outcome.TheVariants as became
+use Rattle.lane_record.specs.Lates.{put_lates}
 use Rattle.lane_record.specs.Offers.{AreToldBy, IsToldBy, all_lost, lost_after, outcome_of, put, put_all}
 use Rattle.lane_record.specs.Outcomes.{is_sent}
 use Rattle.recovery_laws.proofs.Heard.{AirGrows}
-use Rattle.hub_lane.specs.Standing.{IsHandedFate, IsRunning, IsStopped}
+use Rattle.lane_record.proofs.Lates.{no_lates, told_lates_added, told_lates_more}
+use Rattle.hub_lane.specs.Standing.{AreHanded, IsHandedFate, IsHandedLate, IsRunning, IsStopped, WasHanded}
+use Rattle.hub_lane.proofs.Handed.{heard_handed}
 
 -- ---- the laws of world_core and world_model that these rest on
 
 abbrev pub BeginLaw : Type 0
 BeginLaw = (window rounds : ℕ) (board : Board) (air : List Datagram) → IsStart window board air
-    → IsReached (start window rounds board air) [] (new_hub board.first (min window board.buffers) rounds)
+    → IsReached (start window rounds board air) none_handed_out (new_hub board.first (min window board.buffers) rounds)
     (record { board = board; air = air })
 
 abbrev pub OfferLaw : Type 0
-OfferLaw = (begin : World) (fates : List (ℕ × Fate)) (hub : Hub) (told : Told) (offered : Offered)
-    → IsReached begin fates hub told → IsSendable offered.body → hub.fates ≡ []
-    → IsReached begin fates (offer hub offered) told
+OfferLaw = (begin : World) (out : HandedOut) (hub : Hub) (told : Told) (offered : Offered)
+    → IsReached begin out hub told → IsSendable offered.body → IsDrained hub
+    → IsReached begin out (offer hub offered) told
 
 abbrev pub SendLaw : Type 0
-SendLaw = (begin : World) (fates : List (ℕ × Fate)) (hub : Hub) (told : Told) (next : Next)
-    → IsReached begin fates hub told → next_send hub ≡ Some next
-    → IsReached begin fates next.hub (sent_on told (bytes_to_send next.hub next.send))
+SendLaw = (begin : World) (out : HandedOut) (hub : Hub) (told : Told) (next : Next)
+    → IsReached begin out hub told → next_send hub ≡ Some next
+    → IsReached begin out next.hub (sent_on told (bytes_to_send next.hub next.send))
 
-abbrev pub SameFates : Type 0
-SameFates = (hub : Hub) (next : Next) → next_send hub ≡ Some next → next.hub.fates ≡ hub.fates
+-- what a send leaves as it was
+pub record SendLeaves : Type 0 where
+  pub fates : (hub : Hub) (next : Next) → next_send hub ≡ Some next → next.hub.fates ≡ hub.fates
+  pub lates : (hub : Hub) (next : Next) → next_send hub ≡ Some next → next.hub.lates ≡ hub.lates
 
 abbrev pub HeardLaw : Type 0
-HeardLaw = (begin : World) (fates : List (ℕ × Fate)) (hub : Hub) (old new : Told)
-    → IsReached begin fates hub old → next_send hub ≡ None → hub.fates ≡ [] → IsHeard old new
-    → IsReached begin fates hub new
+HeardLaw = (begin : World) (out : HandedOut) (hub : Hub) (old new : Told)
+    → IsReached begin out hub old → next_send hub ≡ None → IsDrained hub → IsHeard old new
+    → IsReached begin out hub new
 
 abbrev pub HandedLaw : Type 0
-HandedLaw = (begin : World) (fates : List (ℕ × Fate)) (hub : Hub) (told : Told) (bytes : List ℕ)
-    → IsReached begin fates hub told → next_send hub ≡ None → hub.fates ≡ [] → IsHanded told bytes
-    → IsReached begin fates (take_message hub (to_hub bytes)) told
+HandedLaw = (begin : World) (out : HandedOut) (hub : Hub) (told : Told) (bytes : List ℕ)
+    → IsReached begin out hub told → next_send hub ≡ None → IsDrained hub → IsHanded told bytes
+    → IsReached begin out (take_message hub (to_hub bytes)) told
 
 abbrev pub QuietLaw : Type 0
-QuietLaw = (begin : World) (fates : List (ℕ × Fate)) (hub : Hub) (told : Told)
-    → IsReached begin fates hub told → next_send hub ≡ None → hub.fates ≡ [] → is_waiting hub ≡ true
-    → IsReached begin fates (hear_quiet hub) told
+QuietLaw = (begin : World) (out : HandedOut) (hub : Hub) (told : Told)
+    → IsReached begin out hub told → next_send hub ≡ None → IsDrained hub → is_waiting hub ≡ true
+    → IsReached begin out (hear_quiet hub) told
 
 abbrev pub OutLaw : Type 0
-OutLaw = (begin : World) (fates : List (ℕ × Fate)) (hub : Hub) (told : Told) → IsReached begin fates hub told
-    → IsReached begin (fates ++ hub.fates) (record hub { fates = [] }) told
+OutLaw = (begin : World) (out : HandedOut) (hub : Hub) (told : Told) → IsReached begin out hub told
+    → IsReached begin (hands_out out hub) (drained hub) told
 
 abbrev pub SameBoard : Type 0
 SameBoard = (old new : Told) → IsHeard old new → record new.board { log = old.board.log } ≡ old.board
@@ -100,8 +107,9 @@ record Grows (t u : Telling) : Type 0 where
   first : u.told.board.first ≡ t.told.board.first
   handed : (number : ℕ) → Contains t.handed number → Contains u.handed number
 
-fate_grows : (t u : Telling) → Grows t u → (f : ℕ × Fate) → IsHandedFate t f → IsHandedFate u f
-fate_grows t u grows (tag, fate.Replied place words) is = record {
+was_grows : (t u : Telling) → Grows t u → (place : ℕ) (words : List ℕ) → WasHanded t place words
+    → WasHanded u place words
+was_grows t u grows place words is = record {
   number = is.number;
   birth = is.birth;
   bytes = is.bytes;
@@ -109,7 +117,12 @@ fate_grows t u grows (tag, fate.Replied place words) is = record {
   there = ap (λ (air : List Datagram). slice_get air is.number) grows.air
       ∙ get_front t.told.air grows.more is.number _ is.there;
   reply = is.reply ∙ ap (λ (first : ℕ). Some (Reply (identifier_at first place) words)) (sym grows.first);
+  sent = is.sent;
+  recent = is.recent;
 }
+
+fate_grows : (t u : Telling) → Grows t u → (f : ℕ × Fate) → IsHandedFate t f → IsHandedFate u f
+fate_grows t u grows (tag, fate.Replied place words) is = was_grows t u grows place words is
 fate_grows t u grows (tag, fate.TimedOut place rounds) is = tt
 fate_grows t u grows (tag, fate.Unsent) is = tt
 
@@ -117,6 +130,17 @@ fates_grow : (t u : Telling) → Grows t u → (fates : List (ℕ × Fate)) → 
     → AllByRecursion (IsHandedFate u) fates
 fates_grow t u grows [] are = tt
 fates_grow t u grows (f ∷ fs) are = (fate_grows t u grows f are.0, fates_grow t u grows fs are.1)
+
+lates_grow : (t u : Telling) → Grows t u → (lates : List (ℕ × List ℕ)) → AllByRecursion (IsHandedLate t) lates
+    → AllByRecursion (IsHandedLate u) lates
+lates_grow t u grows [] are = tt
+lates_grow t u grows (l ∷ ls) are = (was_grows t u grows l.0 l.1 are.0, lates_grow t u grows ls are.1)
+
+handed_grows : (t u : Telling) → Grows t u → (out : HandedOut) → AreHanded t out → AreHanded u out
+handed_grows t u grows out are = record {
+  fates = fates_grow t u grows out.fates are.fates;
+  lates = lates_grow t u grows out.lates are.lates;
+}
 
 sent_grows : (bytes : List ℕ) (before now : ℕ) (t u : Telling) → IsSent bytes before now t u → Grows t u
 sent_grows bytes before now t u is = record {
@@ -138,45 +162,63 @@ received_grows air_law board_law by_hub before now t u is =
           (Contains-append_left t.handed by_hub number there);
     }
 
--- ---- the fates that a message or a quiet receive brings
+-- ---- what a message or a quiet receive brings
 
-pub open_named : (first id : ℕ) (os : List OpenPlace) (o : OpenPlace) → open_with first id os ≡ Some o
-    → identifier_at first o.place ≡ id
-open_named first id [] o is = absurd cc
-open_named first id (p ∷ os) o is = elim (identifier_at first p.place == id)
-    as (λ b. (identifier_at first p.place == id) ≡ b → cond b (Some p) (open_with first id os) ≡ Some o
-    → identifier_at first o.place ≡ id) [
-      | true ↦ λ e here. (let same : p ≡ o = cc in ap (λ (x : OpenPlace). identifier_at first x.place) (sym same)
-          ∙ eqb-true _ _ e)
-      | false ↦ λ e later. open_named first id os o later
-    ] refl is
+-- a fate is that of the reply in the message, which an open place waits for
+abbrev pub IsOfReply : Hub → Option ToHub → ℕ × Fate → Type 0
+IsOfReply hub message (tag, fate.Replied place words) =
+    IsOpen hub place × (message ≡ Some (Reply (identifier_at hub.first place) words))
+IsOfReply hub message (tag, fate.TimedOut place rounds) = Unit {0}
+IsOfReply hub message (tag, fate.Unsent) = Unit {0}
 
--- a fate is that of the reply in the message
-abbrev pub IsOfReply : ℕ → Option ToHub → ℕ × Fate → Type 0
-IsOfReply first message (tag, fate.Replied place words) = message ≡ Some (Reply (identifier_at first place) words)
-IsOfReply first message (tag, fate.TimedOut place rounds) = Unit {0}
-IsOfReply first message (tag, fate.Unsent) = Unit {0}
+-- a late answer is the reply in the message, to an open place
+abbrev pub IsLateOfReply : Hub → Option ToHub → ℕ × List ℕ → Type 0
+IsLateOfReply hub message late =
+    IsOpen hub late.0 × (message ≡ Some (Reply (identifier_at hub.first late.0) late.1))
 
-abbrev pub AreOfReply : ℕ → Option ToHub → List (ℕ × Fate) → Type 0
-AreOfReply first message fates = AllByRecursion (IsOfReply first message) fates
+pub record AreOfReply (hub : Hub) (message : Option ToHub) (out : HandedOut) : Type 0 where
+  pub fates : AllByRecursion (IsOfReply hub message) out.fates
+  pub lates : AllByRecursion (IsLateOfReply hub message) out.lates
 
-none_of : (P : ℕ × Fate → Type 0) (fates : List (ℕ × Fate)) → fates ≡ [] → AllByRecursion P fates
-none_of P fates none = subst (AllByRecursion P) (sym none) tt
+none_of : {A : Type 0} (P : A → Type 0) (xs : List A) → xs ≡ [] → AllByRecursion P xs
+none_of P xs none = subst (AllByRecursion P) (sym none) tt
 
-pub message_fates : (hub : Hub) (message : Option ToHub) → hub.fates ≡ []
-    → AreOfReply hub.first message (take_message hub message).fates
-message_fates hub None none = none_of _ hub.fates none
-message_fates hub (Some (StatusReply mtu buffers next)) none = none_of _ _
-    (status_cases (λ (h : Hub). h.fates ≡ []) hub next none (λ _. none))
-message_fates hub (Some (Reply id words)) none =
-    reply_cases (λ (h : Hub). AreOfReply hub.first (Some (Reply id words)) h.fates) hub id words
-    (none_of _ hub.fates none)
-    (λ o is. let named = open_named hub.first id hub.open_places o is in
+none_brought : (hub : Hub) (message : Option ToHub) (after : Hub) → IsDrained after
+    → AreOfReply hub message (to_hand_out after)
+none_brought hub message after none =
+    record { fates = none_of _ after.fates none.fates; lates = none_of _ after.lates none.lates }
+
+reply_brings : (hub : Hub) (id : ℕ) (words : List ℕ) → IsDrained hub → (o : OpenPlace)
+    → open_with hub.first id hub.open_places ≡ Some o
+    → AreOfReply hub (Some (Reply id words)) (to_hand_out (settle hub words (Some o)))
+reply_brings hub id words none o is =
+    let message : Option ToHub = Some (Reply id words) in
+    let found = named hub.first id hub.open_places o is in
+    let said = ap (λ (n : ℕ). Some (Reply n words)) (sym found.identifier) in
     let new : ℕ × Fate = (tag_of (at_place hub.sent o.place), fate.Replied o.place words) in
-    either (AreOfReply hub.first (Some (Reply id words))) o.waited (insert_fate o.place new hub.fates) hub.fates
-    (λ _. all_inserted (IsOfReply hub.first (Some (Reply id words))) o.place new hub.fates
-    (ap (λ (n : ℕ). Some (Reply n words)) (sym named)) (none_of _ hub.fates none))
-    (λ _. none_of _ hub.fates none))
+    record {
+      fates = either (AllByRecursion (IsOfReply hub message)) o.waited (insert_fate o.place new hub.fates) hub.fates
+          (λ _. all_inserted (IsOfReply hub message) o.place new hub.fates (found.there, said)
+          (none_of _ hub.fates none.fates))
+          (λ _. none_of _ hub.fates none.fates);
+      lates = either (AllByRecursion (IsLateOfReply hub message)) o.waited hub.lates
+          (insert_late (o.place, words) hub.lates)
+          (λ _. none_of _ hub.lates none.lates)
+          (λ _. all_late (IsLateOfReply hub message) (o.place, words) hub.lates (found.there, said)
+          (none_of _ hub.lates none.lates));
+    }
+
+pub message_brings : (hub : Hub) (message : Option ToHub) → IsDrained hub
+    → AreOfReply hub message (to_hand_out (take_message hub message))
+message_brings hub None none = none_brought hub None hub none
+message_brings hub (Some (StatusReply mtu buffers next)) none =
+    status_cases (λ (h : Hub). AreOfReply hub (Some (StatusReply mtu buffers next)) (to_hand_out h)) hub next
+    (none_brought hub _ hub none)
+    (λ told. none_brought hub _ (record hub { open_places = map (recover told) hub.open_places })
+    (record { fates = none.fates; lates = none.lates }))
+message_brings hub (Some (Reply id words)) none =
+    reply_cases (λ (h : Hub). AreOfReply hub (Some (Reply id words)) (to_hand_out h)) hub id words
+    (none_brought hub _ hub none) (λ o is. reply_brings hub id words none o is)
 
 time_outs_are : (P : ℕ × Fate → Type 0) → ((tag place rounds : ℕ) → P (tag, fate.TimedOut place rounds))
     → (rounds : ℕ) (sent : List Offered) (os : List OpenPlace) (fates : List (ℕ × Fate)) → AllByRecursion P fates
@@ -196,138 +238,169 @@ quiet_fates t hub none = quiet_cases (λ (h : Hub). AllByRecursion (IsHandedFate
     (none_of _ hub.fates none))
     (all_unsent (IsHandedFate t) hub.queue (λ tag. tt)))
 
-all_front : (P : ℕ × Fate → Type 0) (xs ys : List (ℕ × Fate)) → AllByRecursion P (xs ++ ys) → AllByRecursion P xs
+-- no late answer comes of it
+pub quiet_lates : (hub : Hub) → (hear_quiet hub).lates ≡ hub.lates
+quiet_lates hub = quiet_cases (λ (h : Hub). h.lates ≡ hub.lates) hub (λ _. refl) (λ _. refl)
+
+all_front : {A : Type 0} (P : A → Type 0) (xs ys : List A) → AllByRecursion P (xs ++ ys) → AllByRecursion P xs
 all_front P [] ys all = tt
 all_front P (x ∷ xs) ys all = (all.0, all_front P xs ys all.1)
+
+-- what was handed out before, and what a hub brings now
+handed_with : (t : Telling) (out : HandedOut) (old new : Hub) → AreHanded t (hands_out out old)
+    → AreHanded t (to_hand_out new) → AreHanded t (hands_out out new)
+handed_with t out old new before now = record {
+  fates = AllByRecursion-append (IsHandedFate t) out.fates new.fates
+      (all_front (IsHandedFate t) out.fates old.fates before.fates) now.fates;
+  lates = AllByRecursion-append (IsHandedLate t) out.lates new.lates
+      (all_front (IsHandedLate t) out.lates old.lates before.lates) now.lates;
+}
 
 -- ---- each call
 
 pub begins_running : BeginLaw → (limits : Limits) (t : Telling) → IsStart limits.window t.told.board t.told.air
-    → IsRunning limits (new_hub t.told.board.first (min limits.window t.told.board.buffers) limits.rounds) [] t
+    → IsRunning limits (new_hub t.told.board.first (min limits.window t.told.board.buffers) limits.rounds) [] [] t
 begins_running law limits t begins = record {
   board = t.told.board;
   air = t.told.air;
   begins = begins;
-  fates = [];
+  out = none_handed_out;
   reached = law limits.window limits.rounds t.told.board t.told.air begins;
   told = λ k o e. absurd cc;
-  handed = tt;
+  late = no_lates.came;
+  handed = record { fates = tt; lates = tt };
 }
 
-pub sent_running : SendLaw → SameFates → (limits : Limits) (outcomes : List (Option Outcome)) (hub : Hub) (next : Next)
+pub sent_running : SendLaw → SendLeaves → (limits : Limits) (outcomes : List (Option Outcome))
+    (lates : List (Option (List ℕ))) (hub : Hub) (next : Next)
     (before now : ℕ) (t u : Telling) → next_send hub ≡ Some next
-    → IsRunning limits hub outcomes t → IsSent (bytes_to_send next.hub next.send) before now t u
-    → IsRunning limits next.hub outcomes u
-sent_running law same limits outcomes hub next before now t u send is sent = record {
+    → IsRunning limits hub outcomes lates t → IsSent (bytes_to_send next.hub next.send) before now t u
+    → IsRunning limits next.hub outcomes lates u
+sent_running law same limits outcomes lates hub next before now t u send is sent = record {
   board = is.board;
   air = is.air;
   begins = is.begins;
-  fates = is.fates;
-  reached = subst (IsReached (start limits.window limits.rounds is.board is.air) is.fates next.hub) (sym sent.told)
-      (law (start limits.window limits.rounds is.board is.air) is.fates hub t.told next is.reached send);
+  out = is.out;
+  reached = subst (IsReached (start limits.window limits.rounds is.board is.air) is.out next.hub) (sym sent.told)
+      (law (start limits.window limits.rounds is.board is.air) is.out hub t.told next is.reached send);
   told = is.told;
-  handed = fates_grow t u (sent_grows _ before now t u sent) (is.fates ++ next.hub.fates)
-      (subst (λ (xs : List (ℕ × Fate)). AllByRecursion (IsHandedFate t) (is.fates ++ xs)) (sym (same hub next send))
-      is.handed);
+  late = is.late;
+  handed = handed_grows t u (sent_grows _ before now t u sent) (hands_out is.out next.hub) (record {
+    fates = subst (λ (xs : List (ℕ × Fate)). AllByRecursion (IsHandedFate t) (is.out.fates ++ xs))
+        (sym (same.fates hub next send)) is.handed.fates;
+    lates = subst (λ (xs : List (ℕ × List ℕ)). AllByRecursion (IsHandedLate t) (is.out.lates ++ xs))
+        (sym (same.lates hub next send)) is.handed.lates;
+  });
 }
 
-pub refused_stopped : (limits : Limits) (outcomes : List (Option Outcome)) (hub : Hub) (next : Next) (t : Telling)
-    → next_send hub ≡ Some next → IsRunning limits hub outcomes t → IsStopped limits next.hub outcomes t
-refused_stopped limits outcomes hub next t send is = record {
+pub refused_stopped : (limits : Limits) (outcomes : List (Option Outcome)) (lates : List (Option (List ℕ)))
+    (hub : Hub) (next : Next) (t : Telling)
+    → next_send hub ≡ Some next → IsRunning limits hub outcomes lates t → IsStopped limits next.hub outcomes lates t
+refused_stopped limits outcomes lates hub next t send is = record {
   before = hub;
   running = is;
   refused = inr (ap (hub_next hub) (sym send));
 }
 
-pub stopped_there : (limits : Limits) (outcomes : List (Option Outcome)) (hub : Hub) (t : Telling)
-    → IsRunning limits hub outcomes t → IsStopped limits hub outcomes t
-stopped_there limits outcomes hub t is = record { before = hub; running = is; refused = inl refl }
+pub stopped_there : (limits : Limits) (outcomes : List (Option Outcome)) (lates : List (Option (List ℕ)))
+    (hub : Hub) (t : Telling) → IsRunning limits hub outcomes lates t → IsStopped limits hub outcomes lates t
+stopped_there limits outcomes lates hub t is = record { before = hub; running = is; refused = inl refl }
 
 module _ (heard : HeardLaw) (longer : AirGrows) (board : SameBoard) where
-  pub other_running : (limits : Limits) (outcomes : List (Option Outcome)) (hub : Hub) (by_hub : List ℕ)
-      (before now : ℕ) (t u : Telling) → next_send hub ≡ None → hub.fates ≡ []
-      → IsRunning limits hub outcomes t → IsReceived by_hub before now t u → IsRunning limits hub outcomes u
-  other_running limits outcomes hub by_hub before now t u send none is received = record {
+  pub other_running : (limits : Limits) (outcomes : List (Option Outcome)) (lates : List (Option (List ℕ)))
+      (hub : Hub) (by_hub : List ℕ) (before now : ℕ) (t u : Telling) → next_send hub ≡ None → IsDrained hub
+      → IsRunning limits hub outcomes lates t → IsReceived by_hub before now t u
+      → IsRunning limits hub outcomes lates u
+  other_running limits outcomes lates hub by_hub before now t u send none is received = record {
     board = is.board;
     air = is.air;
     begins = is.begins;
-    fates = is.fates;
-    reached = heard _ is.fates hub t.told u.told is.reached send none received.by_board;
+    out = is.out;
+    reached = heard _ is.out hub t.told u.told is.reached send none received.by_board;
     told = is.told;
-    handed = fates_grow t u (received_grows longer board by_hub before now t u received) _ is.handed;
+    late = is.late;
+    handed = handed_grows t u (received_grows longer board by_hub before now t u received) _ is.handed;
   }
 
-  fate_handed : (limits : Limits) (outcomes : List (Option Outcome)) (hub : Hub) (bytes : List ℕ)
-      (before now : ℕ) (t u : Telling) → hub.first ≡ u.told.board.first → IsGot bytes before now t u
-      → (f : ℕ × Fate) → IsOfReply hub.first (to_hub bytes) f → IsHandedFate u f
-  fate_handed limits outcomes hub bytes before now t u first got (tag, fate.Replied place words) is = record {
-    number = got.place;
-    birth = got.there.birth;
-    bytes = bytes;
-    handed = subst (λ (xs : List ℕ). Contains xs got.place) (sym got.received.handed)
-        (Contains-append_right t.handed (got.place ∷ []) got.place (0, omega arith, refl));
-    there = got.there.there;
-    reply = is ∙ ap (λ (n : ℕ). Some (Reply (identifier_at n place) words)) first;
-  }
-  fate_handed limits outcomes hub bytes before now t u first got (tag, fate.TimedOut place rounds) is = tt
-  fate_handed limits outcomes hub bytes before now t u first got (tag, fate.Unsent) is = tt
+  fates_handed : (hub : Hub) (bytes : List ℕ) (before now : ℕ) (t u : Telling) → IsJoined hub u.told
+      → IsGot bytes before now t u → (fates : List (ℕ × Fate)) → AllByRecursion (IsOfReply hub (to_hub bytes)) fates
+      → AllByRecursion (IsHandedFate u) fates
+  fates_handed hub bytes before now t u joined got [] are = tt
+  fates_handed hub bytes before now t u joined got ((tag, fate.Replied place words) ∷ fs) are = (
+    heard_handed hub bytes before now t u place words joined got are.0.0 are.0.1,
+    fates_handed hub bytes before now t u joined got fs are.1,
+  )
+  fates_handed hub bytes before now t u joined got ((tag, fate.TimedOut place rounds) ∷ fs) are =
+      (tt, fates_handed hub bytes before now t u joined got fs are.1)
+  fates_handed hub bytes before now t u joined got ((tag, fate.Unsent) ∷ fs) are =
+      (tt, fates_handed hub bytes before now t u joined got fs are.1)
 
-  fates_handed : (limits : Limits) (outcomes : List (Option Outcome)) (hub : Hub) (bytes : List ℕ)
-      (before now : ℕ) (t u : Telling) → hub.first ≡ u.told.board.first → IsGot bytes before now t u
-      → (fates : List (ℕ × Fate)) → AreOfReply hub.first (to_hub bytes) fates → AllByRecursion (IsHandedFate u) fates
-  fates_handed limits outcomes hub bytes before now t u first got [] are = tt
-  fates_handed limits outcomes hub bytes before now t u first got (f ∷ fs) are = (
-    fate_handed limits outcomes hub bytes before now t u first got f are.0,
-    fates_handed limits outcomes hub bytes before now t u first got fs are.1,
+  lates_handed : (hub : Hub) (bytes : List ℕ) (before now : ℕ) (t u : Telling) → IsJoined hub u.told
+      → IsGot bytes before now t u → (lates : List (ℕ × List ℕ))
+      → AllByRecursion (IsLateOfReply hub (to_hub bytes)) lates → AllByRecursion (IsHandedLate u) lates
+  lates_handed hub bytes before now t u joined got [] are = tt
+  lates_handed hub bytes before now t u joined got (l ∷ ls) are = (
+    heard_handed hub bytes before now t u l.0 l.1 joined got are.0.0 are.0.1,
+    lates_handed hub bytes before now t u joined got ls are.1,
   )
 
-  pub got_running : HandedLaw → (limits : Limits) (outcomes : List (Option Outcome)) (hub : Hub) (bytes : List ℕ)
-      (before now : ℕ) (t u : Telling) → next_send hub ≡ None → hub.fates ≡ []
-      → IsRunning limits hub outcomes t → IsGot bytes before now t u
-      → IsRunning limits (take_message hub (to_hub bytes)) outcomes u
-  got_running law limits outcomes hub bytes before now t u send none is got =
-      let here = other_running limits outcomes hub (got.place ∷ []) before now t u send none is got.received in
-      let first = here.reached.joined.sound.node.same_first in
+  pub got_running : HandedLaw → (limits : Limits) (outcomes : List (Option Outcome))
+      (lates : List (Option (List ℕ))) (hub : Hub) (bytes : List ℕ)
+      (before now : ℕ) (t u : Telling) → next_send hub ≡ None → IsDrained hub
+      → IsRunning limits hub outcomes lates t → IsGot bytes before now t u
+      → IsRunning limits (take_message hub (to_hub bytes)) outcomes lates u
+  got_running law limits outcomes lates hub bytes before now t u send none is got =
+      let here = other_running limits outcomes lates hub (got.place ∷ []) before now t u send none is got.received in
+      let brings = message_brings hub (to_hub bytes) none in
+      let joined = here.reached.joined in
       record {
         board = here.board;
         air = here.air;
         begins = here.begins;
-        fates = here.fates;
-        reached = law _ here.fates hub u.told bytes here.reached send none
+        out = here.out;
+        reached = law _ here.out hub u.told bytes here.reached send none
             (record { place = got.place; at = got.there });
         told = here.told;
-        handed = AllByRecursion-append (IsHandedFate u) here.fates (take_message hub (to_hub bytes)).fates
-            (all_front (IsHandedFate u) here.fates hub.fates here.handed)
-            (fates_handed limits outcomes hub bytes before now t u first got _ (message_fates hub (to_hub bytes) none));
+        late = here.late;
+        handed = handed_with u here.out hub (take_message hub (to_hub bytes)) here.handed (record {
+          fates = fates_handed hub bytes before now t u joined got _ brings.fates;
+          lates = lates_handed hub bytes before now t u joined got _ brings.lates;
+        });
       }
 
-  pub quiet_running : QuietLaw → (limits : Limits) (outcomes : List (Option Outcome)) (hub : Hub)
-      (before now : ℕ) (t u : Telling) → next_send hub ≡ None → hub.fates ≡ [] → is_waiting hub ≡ true
-      → IsRunning limits hub outcomes t → IsQuiet before now t u → IsRunning limits (hear_quiet hub) outcomes u
-  quiet_running law limits outcomes hub before now t u send none waits is quiet =
-      let here = other_running limits outcomes hub [] before now t u send none is quiet.received in
+  pub quiet_running : QuietLaw → (limits : Limits) (outcomes : List (Option Outcome))
+      (lates : List (Option (List ℕ))) (hub : Hub)
+      (before now : ℕ) (t u : Telling) → next_send hub ≡ None → IsDrained hub → is_waiting hub ≡ true
+      → IsRunning limits hub outcomes lates t → IsQuiet before now t u
+      → IsRunning limits (hear_quiet hub) outcomes lates u
+  quiet_running law limits outcomes lates hub before now t u send none waits is quiet =
+      let here = other_running limits outcomes lates hub [] before now t u send none is quiet.received in
       record {
         board = here.board;
         air = here.air;
         begins = here.begins;
-        fates = here.fates;
-        reached = law _ here.fates hub u.told here.reached send none waits;
+        out = here.out;
+        reached = law _ here.out hub u.told here.reached send none waits;
         told = here.told;
-        handed = AllByRecursion-append (IsHandedFate u) here.fates (hear_quiet hub).fates
-            (all_front (IsHandedFate u) here.fates hub.fates here.handed) (quiet_fates u hub none);
+        late = here.late;
+        handed = handed_with u here.out hub (hear_quiet hub) here.handed (record {
+          fates = quiet_fates u hub none.fates;
+          lates = none_of _ (hear_quiet hub).lates (quiet_lates hub ∙ none.lates);
+        });
       }
 
-pub offered_running : OfferLaw → (limits : Limits) (outcomes : List (Option Outcome)) (hub : Hub) (offered : Offered)
-    (t : Telling) → IsSendable offered.body → hub.fates ≡ []
-    → IsRunning limits hub outcomes t → IsRunning limits (offer hub offered) outcomes t
-offered_running law limits outcomes hub offered t can none is = record {
+pub offered_running : OfferLaw → (limits : Limits) (outcomes : List (Option Outcome)) (lates : List (Option (List ℕ)))
+    (hub : Hub) (offered : Offered) (t : Telling) → IsSendable offered.body → IsDrained hub
+    → IsRunning limits hub outcomes lates t → IsRunning limits (offer hub offered) outcomes lates t
+offered_running law limits outcomes lates hub offered t can none is = record {
   board = is.board;
   air = is.air;
   begins = is.begins;
-  fates = is.fates;
-  reached = law _ is.fates hub t.told offered is.reached can none;
+  out = is.out;
+  reached = law _ is.out hub t.told offered is.reached can none;
   told = is.told;
-  handed = is.handed;
+  late = is.late;
+  handed = record { fates = is.handed.fates; lates = is.handed.lates };
 }
 
 -- ---- fates are handed out, and become outcomes
@@ -373,17 +446,21 @@ told_all fates (f ∷ fs) outcomes are =
     subst (λ (all : List (ℕ × Fate)). AreToldBy all (put_all (f ∷ fs) outcomes)) (append_assoc fates (f ∷ []) fs)
     (told_all (fates ++ f ∷ []) fs (put f.0 (outcome_of f.1) outcomes) (told_one fates outcomes f are))
 
-pub drained_running : OutLaw → (limits : Limits) (outcomes : List (Option Outcome)) (hub : Hub) (t : Telling)
-    → IsRunning limits hub outcomes t
-    → IsRunning limits (record hub { fates = [] }) (put_all hub.fates outcomes) t
-drained_running law limits outcomes hub t is = record {
+pub drained_running : OutLaw → (limits : Limits) (outcomes : List (Option Outcome)) (lates : List (Option (List ℕ)))
+    (hub : Hub) (t : Telling) → IsRunning limits hub outcomes lates t
+    → IsRunning limits (drained hub) (put_all hub.fates outcomes) (put_lates hub.lates lates) t
+drained_running law limits outcomes lates hub t is = record {
   board = is.board;
   air = is.air;
   begins = is.begins;
-  fates = is.fates ++ hub.fates;
-  reached = law _ is.fates hub t.told is.reached;
-  told = told_all is.fates hub.fates outcomes is.told;
-  handed = subst (AllByRecursion (IsHandedFate t)) (sym (append-nil (is.fates ++ hub.fates))) is.handed;
+  out = hands_out is.out hub;
+  reached = law _ is.out hub t.told is.reached;
+  told = told_all is.out.fates hub.fates outcomes is.told;
+  late = told_lates_more is.out.lates hub.lates lates is.late;
+  handed = record {
+    fates = subst (AllByRecursion (IsHandedFate t)) (sym (append-nil (is.out.fates ++ hub.fates))) is.handed.fates;
+    lates = subst (AllByRecursion (IsHandedLate t)) (sym (append-nil (is.out.lates ++ hub.lates))) is.handed.lates;
+  };
 }
 
 -- ---- outcomes that no fate tells
@@ -419,26 +496,29 @@ told_lost : (fates : List (ℕ × Fate)) (k : ℕ) (o : Outcome) (place : Option
     → IsToldBy fates k o
 told_lost fates k o place is = subst (IsToldBy fates k) (sym is) tt
 
-pub lost_running : (limits : Limits) (outcomes : List (Option Outcome)) (hub : Hub) (sent : ℕ) (t : Telling)
-    → IsRunning limits hub outcomes t → IsRunning limits hub (all_lost sent outcomes) t
-lost_running limits outcomes hub sent t is = record {
+pub lost_running : (limits : Limits) (outcomes : List (Option Outcome)) (lates : List (Option (List ℕ))) (hub : Hub)
+    (sent : ℕ) (t : Telling) → IsRunning limits hub outcomes lates t
+    → IsRunning limits hub (all_lost sent outcomes) lates t
+lost_running limits outcomes lates hub sent t is = record {
   board = is.board;
   air = is.air;
   begins = is.begins;
-  fates = is.fates;
+  out = is.out;
   reached = is.reached;
   told = λ k o e. elim (lost_get 0 sent outcomes k o e) [
-    | inl lost ↦ told_lost is.fates k o lost.0 lost.1
+    | inl lost ↦ told_lost is.out.fates k o lost.0 lost.1
     | inr old ↦ is.told k o old
   ];
+  late = is.late;
   handed = is.handed;
 }
 
-pub lost_stopped : (limits : Limits) (outcomes : List (Option Outcome)) (hub : Hub) (sent : ℕ) (t : Telling)
-    → IsStopped limits hub outcomes t → IsStopped limits hub (all_lost sent outcomes) t
-lost_stopped limits outcomes hub sent t is = record {
+pub lost_stopped : (limits : Limits) (outcomes : List (Option Outcome)) (lates : List (Option (List ℕ))) (hub : Hub)
+    (sent : ℕ) (t : Telling) → IsStopped limits hub outcomes lates t
+    → IsStopped limits hub (all_lost sent outcomes) lates t
+lost_stopped limits outcomes lates hub sent t is = record {
   before = is.before;
-  running = lost_running limits outcomes is.before sent t is.running;
+  running = lost_running limits outcomes lates is.before sent t is.running;
   refused = is.refused;
 }
 
@@ -459,31 +539,35 @@ told_pushed fates outcomes new last are = λ k o e. elim (pushed_get outcomes ne
   | inr old ↦ are k o old
 ]
 
-pub asked_running : (limits : Limits) (outcomes : List (Option Outcome)) (hub : Hub) (t : Telling)
-    → IsRunning limits hub outcomes t → IsRunning limits hub (outcomes ++ None ∷ []) t
-asked_running limits outcomes hub t is = record {
+-- one more Ask, and room for what may come late
+asked_with : (new : Option Outcome) (limits : Limits) (outcomes : List (Option Outcome))
+    (lates : List (Option (List ℕ))) (hub : Hub) (t : Telling)
+    → ((fates : List (ℕ × Fate)) (k : ℕ) (o : Outcome) → new ≡ Some o → IsToldBy fates k o)
+    → IsRunning limits hub outcomes lates t
+    → IsRunning limits hub (outcomes ++ new ∷ []) (lates ++ None ∷ []) t
+asked_with new limits outcomes lates hub t told is = record {
   board = is.board;
   air = is.air;
   begins = is.begins;
-  fates = is.fates;
+  out = is.out;
   reached = is.reached;
-  told = told_pushed is.fates outcomes None (λ k o e. absurd cc) is.told;
+  told = told_pushed is.out.fates outcomes new (told is.out.fates) is.told;
+  late = told_lates_added is.out.lates lates is.late;
   handed = is.handed;
 }
 
-pub asked_lost : (limits : Limits) (outcomes : List (Option Outcome)) (hub : Hub) (t : Telling)
-    → IsStopped limits hub outcomes t → IsStopped limits hub (outcomes ++ Some (became.LinkLost None) ∷ []) t
-asked_lost limits outcomes hub t is = record {
+pub asked_running : (limits : Limits) (outcomes : List (Option Outcome)) (lates : List (Option (List ℕ))) (hub : Hub)
+    (t : Telling) → IsRunning limits hub outcomes lates t
+    → IsRunning limits hub (outcomes ++ None ∷ []) (lates ++ None ∷ []) t
+asked_running limits outcomes lates hub t is =
+    asked_with None limits outcomes lates hub t (λ fates k o e. absurd cc) is
+
+pub asked_lost : (limits : Limits) (outcomes : List (Option Outcome)) (lates : List (Option (List ℕ))) (hub : Hub)
+    (t : Telling) → IsStopped limits hub outcomes lates t
+    → IsStopped limits hub (outcomes ++ Some (became.LinkLost None) ∷ []) (lates ++ None ∷ []) t
+asked_lost limits outcomes lates hub t is = record {
   before = is.before;
-  running = record {
-    board = is.running.board;
-    air = is.running.air;
-    begins = is.running.begins;
-    fates = is.running.fates;
-    reached = is.running.reached;
-    told = told_pushed is.running.fates outcomes (Some (became.LinkLost None))
-        (λ k o e. told_lost is.running.fates k o None cc) is.running.told;
-    handed = is.running.handed;
-  };
+  running = asked_with (Some (became.LinkLost None)) limits outcomes lates is.before t
+      (λ fates k o e. told_lost fates k o None cc) is.running;
   refused = is.refused;
 }

@@ -12,6 +12,7 @@ use Rattle.lane_record.specs.declared.outcome.Outcome.{Outcome}
 use Rattle.lane_record.specs.declared.item.Item.{Item}
 use Rattle.lane_record.specs.Claims.{Claim, claim_in, claims, claims_behind}
 use Rattle.lane_record.specs.Items.{ask_in, asked, found, is_of}
+use Rattle.lane_record.specs.Lates.{late_in}
 use Rattle.lane_record.specs.Legal.{IsLegal}
 use Rattle.lane_record.specs.Offers.{Agrees, awaited, tags, unsettled_from}
 use Rattle.lane_record.proofs.Asks.{apart}
@@ -146,5 +147,6 @@ same_record {L} old new e = record {
   status = ap (λ (l : LaneState L). l.status) e;
   items = ap (λ (l : LaneState L). l.items) e;
   outcomes = λ k outcome there. ap (λ (l : LaneState L). slice_get l.outcomes k) e ∙ there;
+  lates = λ place words there. ap (λ (l : LaneState L). late_in l.lates place) e ∙ there;
   give_ups = let same = ap (λ (l : LaneState L). l.give_ups) e in omega (arith, same);
 }

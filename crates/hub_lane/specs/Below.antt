@@ -1,9 +1,11 @@
--- What the laws of rounds say, for the proofs here: no public clause speaks of it.
-use Rattle.std.specs.Prelude.{◌≡◌, ◌⊎◌, ℕ, ◌+◌, ◌*◌, ◌≤◌, true, List, Some, None, length}
+-- What the laws of rounds and of late answers say, for the proofs here: no public clause speaks of it.
+use Rattle.std.specs.Prelude.{◌≡◌, ◌⊎◌, ℕ, ◌+◌, ◌*◌, ◌≤◌, true, List, Option, Some, None, length}
 use Rattle.ipb_base.specs.Faults.{Rose}
 use Rattle.world_model.specs.declared.offered.Offered.{Offered}
-use Rattle.world_model.specs.Messages.{to_hub}
-use Rattle.world_model.specs.Hub.{Hub, give_up, is_waiting, offer, take_message, want_status}
+use Rattle.world_model.specs.Messages.{ToHub, to_hub}
+use Rattle.world_model.specs.Hub.{HandedOut, Hub, drained, give_up, hands_out, hear_quiet, is_waiting, new_hub}
+use Rattle.world_model.specs.Hub.{none_handed_out, offer, take_message, want_status}
+use Rattle.world_model.specs.LateAnswers.{AreOfTimedOut}
 use Rattle.world_model.specs.Sends.{Next, bytes_to_send, next_send}
 use Rattle.world_core.specs.Telling.{IsGot, IsQuiet, IsSent, Telling}
 use Rattle.lane_record.specs.Bounds.{HasReached}
@@ -43,3 +45,16 @@ pub record WayLaws : Type 0 where
       Rose before now ⊎ (after.status_requests ≡ 0) ⊎ IsUnderWay after new
   pub quiet : (hub : Hub) (before now : ℕ) (old new : Telling) → CanRecover hub old → next_send hub ≡ None
       → IsQuiet before now old new → IsUnderWay hub old → Rose before now
+
+-- and of what a hub knows of late answers
+pub record LateLaws : Type 0 where
+  pub begins : (first window rounds : ℕ) → AreOfTimedOut none_handed_out (new_hub first window rounds)
+  pub offered : (before : HandedOut) (hub : Hub) (offered : Offered) → AreOfTimedOut before hub
+      → AreOfTimedOut before (offer hub offered)
+  pub heard : (before : HandedOut) (hub : Hub) (message : Option ToHub) → AreOfTimedOut before hub
+      → AreOfTimedOut before (take_message hub message)
+  pub quiet : (before : HandedOut) (hub : Hub) → AreOfTimedOut before hub → AreOfTimedOut before (hear_quiet hub)
+  pub sent : (before : HandedOut) (hub : Hub) (next : Next) → AreOfTimedOut before hub → next_send hub ≡ Some next
+      → AreOfTimedOut before next.hub
+  pub handed_out : (before : HandedOut) (hub : Hub) → AreOfTimedOut before hub
+      → AreOfTimedOut (hands_out before hub) (drained hub)

@@ -2,7 +2,7 @@
 use Rattle.std.specs.Prelude.{◌≡◌, ◌⊎◌, ℕ, ◌≤◌, Bool, true, false, ◌||◌, if◌then◌else◌, List, [], ◌∷◌, ◌++◌, length}
 use Rattle.std.specs.Prelude.{Option, Some, None, IfSome}
 use Rattle.std.specs.List.{slice_get}
-use Rattle.world_model.specs.Hub.{Hub, is_waiting, offer}
+use Rattle.world_model.specs.Hub.{Hub, drained, is_waiting, offer}
 use Rattle.world_core.specs.Telling.{Telling}
 use Rattle.lane_record.specs.declared.outcome.Outcome.{Outcome}
 use Rattle.lane_record.specs.declared.outcome.Outcome.TheVariants.{Replied, LinkLost}
@@ -10,6 +10,7 @@ use Rattle.lane_record.specs.declared.item.Item.{Item}
 use Rattle.lane_record.specs.NextEntry.{ask_of, the_seal, took_of}
 use Rattle.lane_record.specs.Items.{asked, found, is_sealed, plan_in, planned, took_in}
 use Rattle.lane_record.specs.Claims.{Claim, IsAskOf}
+use Rattle.lane_record.specs.Lates.{KeepsLates, put_lates}
 use Rattle.lane_record.specs.Outcomes.{IsShort}
 use Rattle.lane_record.specs.Offers.{KeepsOutcomes, all_lost, put_all}
 use Rattle.hub_lane.specs.declared.answers.Asked.{Asked}
@@ -19,7 +20,7 @@ use Rattle.hub_lane.specs.declared.answers.Pumped.TheVariants.{Reply, Status, St
 use Rattle.hub_lane.specs.declared.answers.Taken.{Taken}
 use Rattle.hub_lane.specs.declared.answers.Taken.TheVariants.{Ready, NotYet}
 use Rattle.hub_lane.specs.Carrying.{HasPut}
-use Rattle.hub_lane.specs.Sends.{HasSent, all_sent, handed_out}
+use Rattle.hub_lane.specs.Sends.{HasSent, all_sent}
 use Rattle.hub_lane.specs.Hearing.{IsEventAs, WasReceived, give_ups_of, hub_after}
 use Rattle.hub_lane.specs.Lanes.{LaneState, with_item}
 
@@ -39,12 +40,14 @@ abbrev pub offered : {L : Type 0} → LaneState L → ℕ → ℕ → List ℕ �
 offered lane client seq body = record (with_item lane (ask_of client seq lane.give_ups)) {
   hub = offer lane.hub (record { tag = length lane.outcomes; body = body });
   outcomes = lane.outcomes ++ None ∷ [];
+  lates = lane.lates ++ None ∷ [];
 }
 
 -- the link failed before
 abbrev pub asked_in_vain : {L : Type 0} → LaneState L → ℕ → ℕ → LaneState L
 asked_in_vain lane client seq = record (with_item lane (ask_of client seq lane.give_ups)) {
   outcomes = lane.outcomes ++ Some (LinkLost None) ∷ [];
+  lates = lane.lates ++ None ∷ [];
 }
 
 -- the client's next body stands asked, and nothing was sent
@@ -59,12 +62,13 @@ OffersAs old client new asks.Nothing = (new ≡ old) × (asked client old.items 
 
 -- ---- sends
 
--- no entry is added, and what became of an Ask stays
+-- no entry is added, and what became of an Ask stays, and what came late
 pub record IsSameRecord {L : Type 0} (old new : LaneState L) : Type 0 where
   pub settings : new.settings ≡ old.settings
   pub status : new.status ≡ old.status
   pub items : new.items ≡ old.items
   pub outcomes : KeepsOutcomes old.outcomes new.outcomes
+  pub lates : KeepsLates old.lates new.lates
   pub give_ups : old.give_ups ≤ new.give_ups
 
 -- a lane that sends no more: its link failed, or it ran out of memory in a send or a receive
@@ -75,6 +79,7 @@ has_stopped lane = lane.down || lane.spent
 pub record SendsAll {L : Type 0} (old new : LaneState L) : Type 0 where
   pub hub : new.hub ≡ all_sent old.hub
   pub outcomes : new.outcomes ≡ old.outcomes
+  pub lates : new.lates ≡ old.lates
   pub give_ups : new.give_ups ≡ old.give_ups
   pub down : new.down ≡ false
   pub spent : new.spent ≡ false
@@ -83,6 +88,7 @@ pub record SendsAll {L : Type 0} (old new : LaneState L) : Type 0 where
 pub record GoesDown {L : Type 0} (old new : LaneState L) : Type 0 where
   pub hub : HasSent old.hub new.hub
   pub outcomes : new.outcomes ≡ all_lost (length new.hub.sent) old.outcomes
+  pub lates : new.lates ≡ old.lates
   pub give_ups : new.give_ups ≡ old.give_ups
   pub down : new.down ≡ true
   pub spent : new.spent ≡ false
@@ -92,6 +98,7 @@ pub record IsSpent {L : Type 0} (old new : LaneState L) : Type 0 where
   pub spent : new.spent ≡ true
   pub hub : HasSent old.hub new.hub
   pub outcomes : new.outcomes ≡ old.outcomes
+  pub lates : new.lates ≡ old.lates
   pub give_ups : new.give_ups ≡ old.give_ups
   pub down : new.down ≡ old.down
 
@@ -120,10 +127,12 @@ Asking old client new asks.Nothing before after = after ≡ before
 
 -- ---- pump
 
--- the hub after an event, its fates among the outcomes; a quiet receive after which nobody waits was a give-up
+-- The hub after an event, its fates among the outcomes, and its late answers at their places. A quiet receive after
+-- which nobody waits was a give-up.
 pub record Became {L : Type 0} (old : LaneState L) (event : Hub) (pumped : Pumped) (new : LaneState L) : Type 0 where
-  pub hub : new.hub ≡ handed_out event
+  pub hub : new.hub ≡ drained event
   pub outcomes : new.outcomes ≡ put_all event.fates old.outcomes
+  pub lates : new.lates ≡ put_lates event.lates old.lates
   pub give_ups : new.give_ups ≡ give_ups_of pumped event old.give_ups
   pub down : new.down ≡ false
   pub spent : new.spent ≡ false

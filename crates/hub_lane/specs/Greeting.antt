@@ -12,10 +12,13 @@ use Rattle.hub_lane.specs.declared.greeting.Answer.TheVariants as answer
 use Rattle.hub_lane.specs.declared.greeting.Greeted.{Greeted}
 use Rattle.hub_lane.specs.declared.greeting.Greeted.TheVariants.{Ready, Silent, Down, NoMemory}
 use Rattle.hub_lane.specs.Lanes.{IsGreeted, LaneState, status_of}
+use Rattle.hub_lane.specs.Standing.{AreInAir}
 
--- a run can begin at this board and this air: nothing was executed, and nothing but greetings is in the air
-abbrev pub CanBegin : Limits → Telling → Type 0
-CanBegin settings t = IsStart settings.window t.told.board t.told.air
+-- A run can begin at this board and this air: nothing was executed, and nothing but greetings is in the air, where all
+-- stands that was handed out.
+pub record CanBegin (settings : Limits) (t : Telling) : Type 0 where
+  pub start : IsStart settings.window t.told.board t.told.air
+  pub in_air : AreInAir t
 
 -- a run can begin there still, and the board is as it was
 pub record StaysFresh (settings : Limits) (old new : Telling) : Type 0 where

@@ -10,7 +10,7 @@ use Rattle.status_packet.specs.Range.{IsBufferCount, IsMtu}
 use Rattle.packet_ids.specs.Identifier.{IsIdentifier}
 use Rattle.board_bus.specs.Cells.{CellMap}
 use Rattle.world_model.specs.Board.{Board}
-use Rattle.world_model.specs.Hub.{Hub, is_waiting, new_hub, places}
+use Rattle.world_model.specs.Hub.{Hub, IsDrained, is_waiting, new_hub, places}
 use Rattle.world_model.specs.Facts.{HasBodies, IsStart, IsWindow}
 use Rattle.world_model.specs.Settings.{AreLimits, Limits}
 use Rattle.world_core.specs.Telling.{Telling}
@@ -21,7 +21,8 @@ use Rattle.lane_record.specs.Claims.{claims}
 use Rattle.lane_record.specs.Bounds.{AreLostOnlyIf, HasWaited, IsKept, TellRounds}
 use Rattle.lane_record.specs.Offers.{Agrees}
 use Rattle.lane_record.specs.Outcomes.{AreShort}
-use Rattle.hub_lane.specs.Standing.{IsStanding}
+use Rattle.hub_lane.specs.LateAnswers.{AreLateAnswers}
+use Rattle.hub_lane.specs.Standing.{AreInAir, IsStanding, IsUnanswered}
 
 -- what a board told of itself: its MTU in bytes, how many replies it keeps, and the identifier that it expects first
 pub record BoardStatus : Type 0 where
@@ -39,7 +40,8 @@ pub record HasToldStatus (status : BoardStatus) (board : Board) : Type 0 where
   pub next : status.next ≡ board.first
 
 -- A lane: its link, the settings and the status told at the greeting, its engine's hub, its record, what became of each
--- Ask in order, how often it gave up, whether its link failed, and whether it ran out of memory in a pump.
+-- Ask in order, what came late at each place from 1 on (one for each Ask, so there is room for every place), how often
+-- it gave up, whether its link failed, and whether it ran out of memory in a pump.
 pub record LaneState (L : Type 0) : Type 0 where
   pub link : L
   pub settings : Limits
@@ -47,6 +49,7 @@ pub record LaneState (L : Type 0) : Type 0 where
   pub hub : Hub
   pub items : List Item
   pub outcomes : List (Option Outcome)
+  pub lates : List (Option (List ℕ))
   pub give_ups : ℕ
   pub down : Bool
   pub spent : Bool
@@ -94,18 +97,19 @@ pub record KnowsBoard (settings : Limits) (status : BoardStatus) (hub : Hub) : T
 
 -- what the hub of a lane keeps over any link, where there are so many Asks
 pub record IsReady (asks : ℕ) (hub : Hub) : Type 0 where
-  pub drained : hub.fates ≡ []
+  pub drained : IsDrained hub
   pub window : IsWindow hub.window (length hub.sent) (places hub.open_places)
   pub bodies : HasBodies asks hub
 
 -- What holds of a lane. The record is legal, and gives up, times out and waits by the numbers of its link; the hub was
 -- offered the bodies of the Asks in order, and waits for those without an outcome, unless its link failed; a body is
 -- lost only where the link failed, one that was timed out tells the rounds of the settings, and the words of a reply
--- fit a packet; and over a link that tells, hub, board and air are a state of a run of the world, and the status is
--- that of the board.
+-- fit a packet; what came late is of bodies that were timed out; and over a link that tells, hub, board and air are a
+-- state of a run of the world, no reply of an open place was handed out, unless memory ran out in hearing it, and the
+-- status is that of the board.
 pub record IsLane (settings : Limits) (status : BoardStatus) (hub : Hub) (items : List Item)
-    (outcomes : List (Option Outcome)) (give_ups : ℕ) (down spent : Bool) (telling : Option Telling)
-    (faults quiets : ℕ) : Type 0 where
+    (outcomes : List (Option Outcome)) (lates : List (Option (List ℕ))) (give_ups : ℕ) (down spent : Bool)
+    (telling : Option Telling) (faults quiets : ℕ) : Type 0 where
   pub knows : KnowsBoard settings status hub
   pub ready : IsReady (length outcomes) hub
   pub agrees : Agrees hub.sent (if down then [] else hub.queue) (if down then [] else hub.open_places)
@@ -118,12 +122,15 @@ pub record IsLane (settings : Limits) (status : BoardStatus) (hub : Hub) (items 
   pub lost : AreLostOnlyIf (down ≡ true) outcomes
   pub tells : TellRounds settings.rounds outcomes
   pub short : AreShort outcomes
-  pub standing : IfSome telling (IsStanding (down || spent) settings hub outcomes)
+  pub late : AreLateAnswers hub outcomes lates
+  pub standing : IfSome telling (IsStanding (down || spent) settings hub outcomes lates)
+  pub unanswered : IfSome telling (IsUnanswered hub down spent)
   pub told : IfSome telling (λ (t : Telling). HasToldStatus status t.told.board)
 
 -- a link that tells, after a greeting in which its board told this status: a run can begin there
 pub record IsGreeted (settings : Limits) (status : BoardStatus) (t : Telling) : Type 0 where
   pub begins : IsStart settings.window t.told.board t.told.air
+  pub in_air : AreInAir t
   pub told : HasToldStatus status t.told.board
 
 -- a lane before its first entry
@@ -135,6 +142,7 @@ opened link settings status = record {
   hub = new_hub status.next (min settings.window status.buffers) settings.rounds;
   items = [];
   outcomes = [];
+  lates = [];
   give_ups = 0;
   down = false;
   spent = false;

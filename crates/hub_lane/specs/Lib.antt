@@ -1,6 +1,7 @@
 pub mod Sends
 pub mod Hearing
 pub mod Carrying
+pub mod LateAnswers
 pub mod Standing
 pub mod Lanes
 pub mod Rounds

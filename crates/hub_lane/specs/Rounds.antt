@@ -36,14 +36,15 @@ HasPaid true mtu rounds given_up hub held t = HasReached (rounds * given_up) hel
 -- where the rounds of a hub were paid they are so after some sends
 abbrev pub PaysOn : Option Telling → Hub → ℕ → Option Telling → Hub → ℕ → Type 0
 PaysOn old_telling old before new_telling new now = (limits : Limits) (outcomes : List (Option Outcome))
-    (mtu rounds given_up : ℕ) → IfSome old_telling (IsRunning limits old outcomes)
+    (lates : List (Option (List ℕ))) (mtu rounds given_up : ℕ)
+    → IfSome old_telling (IsRunning limits old outcomes lates)
     → IfSome old_telling (PaysRounds mtu rounds given_up old before)
     → IfSome new_telling (PaysRounds mtu rounds given_up new now)
 
 -- and after a receive that came to this
 abbrev pub PaysFor : Pumped → Option Telling → Hub → ℕ → Option Telling → Hub → ℕ → Type 0
 PaysFor pumped old_telling old before new_telling new now = (limits : Limits) (outcomes : List (Option Outcome))
-    (mtu given_up : ℕ) → IfSome old_telling (IsRunning limits old outcomes)
+    (lates : List (Option (List ℕ))) (mtu given_up : ℕ) → IfSome old_telling (IsRunning limits old outcomes lates)
     → IfSome old_telling (PaysRounds mtu old.rounds given_up old before)
     → IfSome new_telling (PaysRounds mtu old.rounds (give_ups_of pumped new given_up) new now)
 
@@ -122,6 +123,7 @@ in_round hub held t = record { hub = hub; stopped = false; told = t; held = held
 -- what some sends, or a receive, make of the round, where the rounds of the hub were paid
 abbrev pub RoundFor : LaneCall → Option Telling → Hub → ℕ → Option Telling → Hub → ℕ → Type 0
 RoundFor call old_telling old before new_telling new now = (limits : Limits) (outcomes : List (Option Outcome))
-    (mtu rounds given_up : ℕ) → IfSome old_telling (IsRunning limits old outcomes)
+    (lates : List (Option (List ℕ))) (mtu rounds given_up : ℕ)
+    → IfSome old_telling (IsRunning limits old outcomes lates)
     → IfSome old_telling (PaysRounds mtu rounds given_up old before)
     → IfTelling old_telling new_telling (λ t u. RoundAfter call (in_round old before t) (in_round new now u))

@@ -17,6 +17,9 @@ pub record HasSent (old new : Hub) : Type 0 where
   pub count : ℕ
   pub sends : new ≡ after_sends count old
 
--- the hub whose fates were all handed out
-abbrev pub handed_out : Hub → Hub
-handed_out hub = record hub { fates = [] }
+-- the hub whose fates were all handed out, and the one whose late answers were
+abbrev pub without_fates : Hub → Hub
+without_fates hub = record hub { fates = [] }
+
+abbrev pub without_lates : Hub → Hub
+without_lates hub = record hub { lates = [] }

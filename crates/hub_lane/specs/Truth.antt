@@ -8,9 +8,10 @@ use Rattle.world_model.specs.Board.{executed, replies}
 use Rattle.world_model.specs.Facts.{bodies_of}
 use Rattle.world_core.specs.Telling.{Telling}
 use Rattle.lane_record.specs.declared.outcome.Outcome.{Outcome}
-use Rattle.lane_record.specs.declared.outcome.Outcome.TheVariants.{Replied}
+use Rattle.lane_record.specs.declared.outcome.Outcome.TheVariants.{Replied, TimedOut}
 use Rattle.lane_record.specs.declared.item.Item.{Item}
 use Rattle.lane_record.specs.Lists.{CountsFrom}
+use Rattle.lane_record.specs.Lates.{late_in}
 use Rattle.lane_record.specs.Claims.{taken}
 use Rattle.lane_record.specs.Legal.{IsLegal}
 use Rattle.lane_record.specs.FirstSends.{bodies_sent, first_sends, places_of}
@@ -26,17 +27,34 @@ pub record AreRightReplies (t : Telling) (outcomes : List (Option Outcome)) : Ty
   pub handed : (k place : ℕ) (words : List ℕ) → slice_get outcomes k ≡ Some (Some (Replied place words))
       → WasHanded t place words
 
--- The board executed a front of the bodies that were sent first, in order, and the replies are right.
-pub record IsTrueTo (t : Telling) (bodies : List (List ℕ)) (outcomes : List (Option Outcome)) : Type 0 where
+-- What came late at a place is the words that the board gives there, as with a reply in time, and the link handed such
+-- a reply out.
+pub record AreRightLates (t : Telling) (lates : List (Option (List ℕ))) : Type 0 where
+  pub right : (place : ℕ) (words : List ℕ) → late_in lates place ≡ Some words
+      → at_place (replies t.told.board) place ≡ Some words
+  pub handed : (place : ℕ) (words : List ℕ) → late_in lates place ≡ Some words → WasHanded t place words
+
+-- The board executed a front of the bodies that were sent first, in order, and the replies and the late answers are
+-- right.
+pub record IsTrueTo (t : Telling) (bodies : List (List ℕ)) (outcomes : List (Option Outcome))
+    (lates : List (Option (List ℕ))) : Type 0 where
   pub in_order : IsPrefix (executed t.told.board) bodies
   pub replied : AreRightReplies t outcomes
+  pub late : AreRightLates t lates
+
+-- Where a body was timed out and the link handed a reply of its place out, that came late. With `AreRightLates` and
+-- `AreLateAnswers`: it has a late answer exactly there.
+abbrev pub HasEachLate : Telling → List (Option Outcome) → List (Option (List ℕ)) → Type 0
+HasEachLate t outcomes lates = (k place rounds : ℕ) (words : List ℕ)
+    → slice_get outcomes k ≡ Some (Some (TimedOut place rounds)) → WasHanded t place words
+    → late_in lates place ≡ Some words
 
 -- What a lane's record says where each Ask has its Took: it is legal; its first sends have the places 1, 2, 3, .. and
 -- are the bodies that the hub sent; what was timed out, and the quiet receives that each give-up took, are within the
 -- bounds; a body is lost only where the link failed, and one that was timed out tells the rounds of the hub; and over a
--- link that tells the record is true.
-pub record IsWhole (items : List Item) (sent : List Offered) (window rounds give_ups faults quiets : ℕ)
-    (telling : Option Telling) : Type 0 where
+-- link that tells the record is true, and so is what came late, which is all that was handed out so.
+pub record IsWhole (items : List Item) (lates : List (Option (List ℕ))) (sent : List Offered)
+    (window rounds give_ups faults quiets : ℕ) (telling : Option Telling) : Type 0 where
   pub legal : IsLegal items (taken items)
   pub places : CountsFrom 1 (places_of (first_sends items))
   pub bodies : bodies_of sent ≡ bodies_sent (first_sends items)
@@ -45,4 +63,5 @@ pub record IsWhole (items : List Item) (sent : List Offered) (window rounds give
   pub waited : HasReached ((rounds + 1) * give_ups) quiets
   pub lost : AreLostOnlyIf (1 ≤ faults) (taken items)
   pub tells : TellRounds rounds (taken items)
-  pub truth : IfSome telling (λ t. IsTrueTo t (bodies_sent (first_sends items)) (taken items))
+  pub truth : IfSome telling (λ t. IsTrueTo t (bodies_sent (first_sends items)) (taken items) lates)
+  pub each_late : IfSome telling (λ t. HasEachLate t (taken items) lates)

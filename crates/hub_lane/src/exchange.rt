@@ -6,10 +6,11 @@ ghost use Rattle.ipb_base.specs.Faults.{Rose};
 ghost use Rattle.packet_ids.specs.Identifier.{identifier_at};
 ghost use Rattle.reliable_engine.specs.Answers.{body_count};
 ghost use Rattle.world_model.specs.Messages.{Reply as ReplyTo, StatusReply, to_hub};
-ghost use Rattle.world_model.specs.Hub.{hear_reply, hear_status, is_waiting, places, take_message};
+ghost use Rattle.world_model.specs.Hub.{IsDrained, drained, hear_reply, hear_status, is_waiting, places, take_message};
 ghost use Rattle.world_model.specs.Sends.{bytes_to_send, next_send};
 ghost use Rattle.world_model.specs.Facts.{AreSendable, IsWindow};
 ghost use Rattle.world_model.specs.Settings.{Limits};
+ghost use Rattle.lane_record.specs.Lates.{put_lates};
 ghost use Rattle.lane_record.specs.Offers.{put_all};
 ghost use Rattle.hub_lane.specs.Lanes.{IsReady, board_of};
 ghost use Rattle.world_core.specs.declared.link.TheConstants.{MAX_DATAGRAM};
@@ -17,9 +18,9 @@ ghost use Rattle.world_core.specs.Messages.{IsWritable};
 ghost use Rattle.world_core.specs.Telling.{IfTelling};
 ghost use Rattle.hub_lane.specs.Carrying.{Brings, Carries, HasPut};
 ghost use Rattle.hub_lane.specs.Hearing.{IsEventAs, IsHeardAs, WasReceived, give_ups_of, gots_of, hub_after, quiets_of};
-ghost use Rattle.hub_lane.specs.Sends.{HasSent, all_sent, handed_out};
+ghost use Rattle.hub_lane.specs.Sends.{HasSent, all_sent};
 ghost use Rattle.hub_lane.specs.Rounds.{PaysFor, PaysOn, PaysRounds, Pumps, RoundFor, Sends};
-ghost use Rattle.hub_lane.specs.Standing.{GoesOn, IsRunning, Stops};
+ghost use Rattle.hub_lane.specs.Standing.{GoesOn, IsRunning, StaysUnanswered, Stops};
 
 use crate::answers::Pumped;
 use crate::below::{laws_of_rounds, laws_of_ways};
@@ -38,8 +39,8 @@ use world_core::{Link, LinkFault, Message, Received, append_sending, read_for_hu
 use world_model::laws::links::a_link_forgets_nothing;
 use world_model::laws::sends::only_an_offer_makes_more_bodies;
 
-/// Sends all that the hub wants, receives once, and puts what that settled among the outcomes. Where the link or memory
-/// fails, some sends were taken from the hub, and nothing is settled.
+/// Sends all that the hub wants, receives once, and puts what that settled among the outcomes and the late answers.
+/// Where the link or memory fails, some sends were taken from the hub, and nothing is settled.
 pub(crate) fn exchange<L: Link>(
     alloc: Global,
     first: Id,
@@ -56,28 +57,35 @@ pub(crate) fn exchange<L: Link>(
     requires few_give_ups { give_ups.old < 2 ^ 63 }
     ensures event { IfOk result (IsEventAs (all_sent hub.old) buffer.new.items) }
     ensures hub { IfOk result (λ pumped.
-        hub.new ≡ handed_out (hub_after pumped buffer.new.items (all_sent hub.old))) }
+        hub.new ≡ drained (hub_after pumped buffer.new.items (all_sent hub.old))) }
     ensures outcomes { IfOk result (λ pumped. outcomes.new.items
         ≡ put_all (hub_after pumped buffer.new.items (all_sent hub.old)).fates outcomes.old.items) }
+    ensures lates { IfOk result (λ pumped. outcomes.new.lates
+        ≡ put_lates (hub_after pumped buffer.new.items (all_sent hub.old)).lates outcomes.old.lates) }
     ensures bodies { outcomes.new.bodies ≡ outcomes.old.bodies }
     ensures give_ups { IfOk result (λ pumped. give_ups.new
         ≡ give_ups_of pumped (hub_after pumped buffer.new.items (all_sent hub.old)) give_ups.old) }
     ensures received { IfOk result (λ pumped.
         IfSome (L.telling link.new) (WasReceived pumped buffer.new.items)) }
     ensures running { OnOk result ((limits : Limits)
-        → IfSome (L.telling link.old) (IsRunning limits hub.old outcomes.old.items)
-        → IfSome (L.telling link.new) (IsRunning limits hub.new outcomes.new.items)) }
+        → IfSome (L.telling link.old) (IsRunning limits hub.old outcomes.old.items outcomes.old.lates)
+        → IfSome (L.telling link.new) (IsRunning limits hub.new outcomes.new.items outcomes.new.lates)) }
     ensures pays { OnOk result ((limits : Limits) (mtu : ℕ)
-        → IfSome (L.telling link.old) (IsRunning limits hub.old outcomes.old.items)
+        → IfSome (L.telling link.old) (IsRunning limits hub.old outcomes.old.items outcomes.old.lates)
         → IfSome (L.telling link.old) (PaysRounds mtu hub.old.rounds give_ups.old hub.old (L.held link.old))
         → IfSome (L.telling link.new) (PaysRounds mtu hub.old.rounds give_ups.new hub.new (L.held link.new))) }
     ensures round { IfOk result (λ pumped. RoundFor (Pumps pumped) (L.telling link.old) hub.old (L.held link.old)
         (L.telling link.new) hub.new (L.held link.new)) }
+    ensures unanswered { OnOk result
+        (StaysUnanswered (L.telling link.old) hub.old (L.telling link.new) hub.new) }
     ensures sent { OnErr result (HasSent hub.old hub.new) }
     ensures same_outcomes { OnErr result (outcomes.new.items ≡ outcomes.old.items) }
+    ensures same_lates { OnErr result (outcomes.new.lates ≡ outcomes.old.lates) }
     ensures same_give_ups { OnErr result (give_ups.new ≡ give_ups.old) }
     ensures stopped { OnErr result (Stops (L.telling link.old) hub.old (L.telling link.new) hub.new) }
     ensures failed { result ≡ Err LinkFault.Failed → Rose (L.faults link.old) (L.faults link.new) }
+    ensures failed_unanswered { result ≡ Err LinkFault.Failed
+        → StaysUnanswered (L.telling link.old) hub.old (L.telling link.new) hub.new }
     ensures faults { L.faults link.old ≤ L.faults link.new }
     ensures quiets { IfOk result (λ pumped. L.quiets link.new ≡ quiets_of pumped (L.quiets link.old)) }
     ensures quiets_rise { L.quiets link.old ≤ L.quiets link.new }
@@ -112,6 +120,7 @@ pub(crate) fn send_all<L: Link>(
     ensures none { OnOk result (next_send hub.new ≡ None) }
     ensures some { HasSent hub.old hub.new }
     ensures running { OnOk result (GoesOn (L.telling link.old) hub.old (L.telling link.new) hub.new) }
+    ensures unanswered { StaysUnanswered (L.telling link.old) hub.old (L.telling link.new) hub.new }
     ensures pays { OnOk result
         (PaysOn (L.telling link.old) hub.old (L.held link.old) (L.telling link.new) hub.new (L.held link.new)) }
     ensures round { OnOk result
@@ -160,7 +169,7 @@ fn receive<L: Link>(
     buffer: &mut Vec<u8>,
 ) -> Result<Pumped, LinkFault>
     requires none { next_send hub.old ≡ None }
-    requires drained { hub.old.fates ≡ [] }
+    requires drained { IsDrained hub.old }
     requires waits { is_waiting hub.old ≡ true }
     requires first { first ≡ hub.old.first }
     requires window { IsWindow hub.old.window (length hub.old.sent) (places hub.old.open_places) }
@@ -171,11 +180,15 @@ fn receive<L: Link>(
     ensures received { IfOk result (λ pumped.
         IfSome (L.telling link.new) (WasReceived pumped buffer.new.items)) }
     ensures running { GoesOn (L.telling link.old) hub.old (L.telling link.new) hub.new }
+    ensures unanswered { OnOk result
+        (StaysUnanswered (L.telling link.old) hub.old (L.telling link.new) hub.new) }
     ensures pays { IfOk result (λ pumped.
         PaysFor pumped (L.telling link.old) hub.old (L.held link.old) (L.telling link.new) hub.new (L.held link.new)) }
     ensures round { IfOk result (λ pumped. RoundFor (Pumps pumped) (L.telling link.old) hub.old (L.held link.old)
         (L.telling link.new) hub.new (L.held link.new)) }
     ensures failed { result ≡ Err LinkFault.Failed → Rose (L.faults link.old) (L.faults link.new) }
+    ensures failed_unanswered { result ≡ Err LinkFault.Failed
+        → StaysUnanswered (L.telling link.old) hub.old (L.telling link.new) hub.new }
     ensures faults { L.faults link.old ≤ L.faults link.new }
     ensures quiets { IfOk result (λ pumped. L.quiets link.new ≡ quiets_of pumped (L.quiets link.old)) }
     ensures quiets_rise { L.quiets link.old ≤ L.quiets link.new }

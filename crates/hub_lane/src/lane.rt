@@ -2,13 +2,14 @@
 
 ghost use Rattle.std.specs.Prelude.{◌≡◌, ◌≤◌, ◌<◌, ◌⊎◌, ◌*◌, ℕ, true, false, length, map, count_by, OnOk, OnErr};
 ghost use Rattle.std.specs.Prelude.{IfOk, IfErr};
-ghost use Rattle.std.specs.Prelude.{IfSome, IfNone, Err, List, if◌then◌else◌, Some, None};
+ghost use Rattle.std.specs.Prelude.{IfSome, IfNone, MatchOption, Err, List, if◌then◌else◌, Some, None};
 ghost use Rattle.ipb_base.specs.Faults.{Rose};
 ghost use Rattle.ipb_base.specs.Numbers.{payload_of};
 ghost use Rattle.transaction_codec.specs.Answer.{reply_room};
 ghost use Rattle.packet_codec.specs.declared.packet.TheConstants.{MAX_BODY_WORDS};
 ghost use Rattle.lane_record.specs.Bounds.{HasReached, timeouts};
 ghost use Rattle.lane_record.specs.Coding.{entry_of};
+ghost use Rattle.lane_record.specs.Lates.{late_in};
 ghost use Rattle.world_model.specs.Hub.{offer};
 ghost use Rattle.hub_lane.specs.Plans.{CanPlan, IsRefused, Plans};
 ghost use Rattle.world_core.specs.Telling.{IfTelling};
@@ -22,7 +23,7 @@ ghost use Rattle.hub_lane.specs.Lanes.{IsGreeted, IsLane, board_of, opened, open
 ghost use Rattle.hub_lane.specs.Rounds.{LaneRound, Pumps, Sends};
 
 use crate::answers::{Asked, PlanRefusal, Pumped, Taken};
-use crate::below::laws_of_rounds;
+use crate::below::{laws_of_late_answers, laws_of_rounds};
 use crate::exchange::{exchange, send_all};
 use crate::outcomes::{copy_outcome, copy_words, count_of, lose_all, reply_under};
 use ipb_base::{NoMemory, Words};
@@ -82,6 +83,7 @@ impl<L: Link> Model for Lane<L> {
       hub = l.engine;
       items = l.book.items;
       outcomes = l.outcomes.items;
+      lates = l.outcomes.lates;
       give_ups = l.give_ups;
       down = l.down;
       spent = l.spent;
@@ -89,8 +91,8 @@ impl<L: Link> Model for Lane<L> {
 
     ghost invariant = { λ l. IsLane l.settings
         (record { mtu = l.mtu; buffers = l.buffers; next = l.first })
-        l.engine l.book.items l.outcomes.items l.give_ups l.down l.spent (L.telling l.link) (L.faults l.link)
-        (L.quiets l.link)
+        l.engine l.book.items l.outcomes.items l.outcomes.lates l.give_ups l.down l.spent (L.telling l.link)
+        (L.faults l.link) (L.quiets l.link)
         × IfSome (L.telling l.link)
         (HasPaid (l.down || l.spent) l.mtu l.settings.rounds l.give_ups l.engine (L.held l.link))
         × HasHeard l.outcomes.items (L.gots l.link)
@@ -101,8 +103,8 @@ impl<L: Link> Lane<L> {
     /// What holds of every lane. It does nothing when it runs.
     pub fn is_sound(&self)
         ensures { IsLane self.now.settings self.now.status self.now.hub self.now.items self.now.outcomes
-            self.now.give_ups self.now.down self.now.spent (L.telling self.now.link) (L.faults self.now.link)
-            (L.quiets self.now.link) }
+            self.now.lates self.now.give_ups self.now.down self.now.spent (L.telling self.now.link)
+            (L.faults self.now.link) (L.quiets self.now.link) }
     {
         let _down = &self.down;
     }
@@ -151,6 +153,7 @@ impl<L: Link> Lane<L> {
         an_ask_is_an_offer();
         each_event_leads_to_a_state_of_a_run();
         entries_go_into_the_book();
+        laws_of_late_answers();
         laws_of_rounds();
         Ok(Lane {
             alloc,
@@ -192,6 +195,16 @@ impl<L: Link> Lane<L> {
     {
         let tag = self.engine.tag_at(place)?;
         reply_under(&self.outcomes, tag, place)
+    }
+
+    /// What came late for the body at this place: the words of its reply, which was taken after the body was timed out.
+    /// `None` where none was. It never changes.
+    pub fn late_at(&self, place: u64) -> Option<&[u32]>
+        ensures late { MatchOption result (late_in self.now.lates place ≡ None)
+            (λ words. late_in self.now.lates place ≡ Some words.now) }
+        ensures short { IfSome result (λ words. length words.now ≤ MAX_BODY_WORDS) }
+    {
+        self.outcomes.late_at(place)
     }
 
     /// How many bodies with a place were replied to, how many timed out, and how many were lost with the link.
@@ -302,6 +315,7 @@ impl<L: Link> Lane<L> {
         a_failed_link_loses_what_waits();
         each_event_leads_to_a_state_of_a_run();
         entries_go_into_the_book();
+        laws_of_late_answers();
         laws_of_rounds();
         only_an_offer_makes_more_bodies();
         if self.spent {
@@ -344,6 +358,7 @@ impl<L: Link> Lane<L> {
         what_a_hub_hears_settles_asks();
         a_failed_link_loses_what_waits();
         outcomes_go_into_the_book();
+        laws_of_late_answers();
         laws_of_rounds();
         if self.spent {
             return;
@@ -413,6 +428,7 @@ impl<L: Link> Lane<L> {
         what_a_hub_hears_settles_asks();
         a_failed_link_loses_what_waits();
         outcomes_go_into_the_book();
+        laws_of_late_answers();
         laws_of_rounds();
         if self.spent {
             return Err(NoMemory);

@@ -1,6 +1,6 @@
 //! Laws of lanes. These functions do nothing when they run: their clauses are what is proved.
 
-ghost use Rattle.std.specs.Prelude.{◌≡◌, ◌⊎◌, ◌≤◌, ℕ, Bool, true, List, Option};
+ghost use Rattle.std.specs.Prelude.{◌≡◌, ◌⊎◌, ◌≤◌, ℕ, Bool, true, false, List, Option, Some};
 ghost use Rattle.ipb_base.specs.Faults.{Rose};
 ghost use Rattle.hub_lane.specs.Records.{record_shown};
 ghost use Rattle.world_model.specs.Hub.{Hub};
@@ -8,12 +8,13 @@ ghost use Rattle.world_model.specs.Facts.{bodies_of};
 ghost use Rattle.world_model.specs.Settings.{Limits};
 ghost use Rattle.world_core.specs.Telling.{Telling};
 ghost use Rattle.lane_record.specs.declared.outcome.Outcome.{Outcome};
+ghost use Rattle.lane_record.specs.Outcomes.{AreSettled};
 ghost use Rattle.hub_lane.specs.declared.greeting.TheConstants.{MOST_OTHERS};
 ghost use Rattle.hub_lane.specs.Greeting.{most_others};
 ghost use Rattle.hub_lane.specs.declared.answers.Pumped.TheVariants as came_to;
 ghost use Rattle.hub_lane.specs.Rounds.{AreCalls, IsCall, LaneCall, Pumps, RoundState, SettlesOne};
 ghost use Rattle.hub_lane.specs.Standing.{IsStanding};
-ghost use Rattle.hub_lane.specs.Truth.{IsTrueTo, IsWhole};
+ghost use Rattle.hub_lane.specs.Truth.{HasEachLate, IsTrueTo, IsWhole};
 ghost use Rattle.hub_lane.specs.Lanes.{BoardStatus, IsLane, opening_of};
 ghost use Rattle.lane_record.specs.Claims.{IsFinished};
 ghost use Rattle.lane_record.specs.declared.item.Item.{Item};
@@ -24,6 +25,7 @@ use lane_record::laws::finished::{
     a_finished_record_tells_all, a_hub_has_sent_what_a_finished_record_tells,
 };
 use world_core::laws::a_state_of_a_run_tells_the_truth;
+use world_model::laws::answered::each_sent_place_is_open_or_answered;
 
 /// The limit of what a round of the greeting hears.
 pub fn the_limit_of_a_greeting()
@@ -31,27 +33,43 @@ pub fn the_limit_of_a_greeting()
 {}
 
 /// Over a link that tells a lane is true at the exit of every call, also where it is down or spent: the board executed
-/// a front of the bodies that were sent first, in order, and each reply that a client got or will get is the board's at
-/// its place.
+/// a front of the bodies that were sent first, in order; each reply that a client got or will get is the board's at its
+/// place, and so is what came late.
 pub fn a_lane_over_a_link_that_tells_is_true()
-    ensures { (stopped : Bool) (limits : Limits) (hub : Hub) (outcomes : List (Option Outcome)) (t : Telling)
-        → IsStanding stopped limits hub outcomes t → IsTrueTo t (bodies_of hub.sent) outcomes }
+    ensures { (stopped : Bool) (limits : Limits) (hub : Hub) (outcomes : List (Option Outcome))
+        (lates : List (Option (List ℕ))) (t : Telling) → IsStanding stopped limits hub outcomes lates t
+        → IsTrueTo t (bodies_of hub.sent) outcomes lates }
 {
     a_state_of_a_run_tells_the_truth();
+}
+
+/// Over a link that tells, a lane keeps each late answer: where a body was timed out and the link handed a reply of its
+/// place out, that came late. Only where memory runs out in hearing that reply it is lost; but then a body waits for
+/// good, and the lane never pumps again.
+pub fn a_timed_out_body_has_its_late_answer()
+    ensures { (settings : Limits) (status : BoardStatus) (hub : Hub) (items : List Item)
+        (outcomes : List (Option Outcome)) (lates : List (Option (List ℕ))) (give_ups : ℕ) (down spent : Bool)
+        (t : Telling) (faults quiets : ℕ)
+        → IsLane settings status hub items outcomes lates give_ups down spent (Some t) faults quiets
+        → (spent ≡ false) ⊎ AreSettled outcomes → HasEachLate t outcomes lates }
+{
+    a_state_of_a_run_tells_the_truth();
+    each_sent_place_is_open_or_answered();
 }
 
 /// Where each asked body of a lane was taken, the record alone tells the bodies that were sent, by place, and what
 /// became of each; and what holds of the lane is said of this record.
 pub fn a_finished_lane_is_whole()
     ensures { (settings : Limits) (status : BoardStatus) (hub : Hub) (items : List Item)
-        (outcomes : List (Option Outcome)) (give_ups : ℕ) (down spent : Bool) (telling : Option Telling)
-        (faults quiets : ℕ) → IsFinished items
-        → IsLane settings status hub items outcomes give_ups down spent telling faults quiets
-        → IsWhole items hub.sent hub.window hub.rounds give_ups faults quiets telling }
+        (outcomes : List (Option Outcome)) (lates : List (Option (List ℕ))) (give_ups : ℕ) (down spent : Bool)
+        (telling : Option Telling) (faults quiets : ℕ) → IsFinished items
+        → IsLane settings status hub items outcomes lates give_ups down spent telling faults quiets
+        → IsWhole items lates hub.sent hub.window hub.rounds give_ups faults quiets telling }
 {
     a_finished_record_tells_all();
     a_hub_has_sent_what_a_finished_record_tells();
     a_lane_over_a_link_that_tells_is_true();
+    a_timed_out_body_has_its_late_answer();
 }
 
 /// The record of a lane, as whoever hands lanes on sees it, tells the settings, the status that the board told, the bus

@@ -5,10 +5,12 @@ ghost use Rattle.std.specs.Prelude.{List, None, Some};
 ghost use Rattle.std.specs.List.{slice_get};
 ghost use Rattle.lane_record.specs.declared.outcome.Outcome.TheVariants.{LinkLost, Replied};
 ghost use Rattle.lane_record.specs.Bounds.{has_timed_out, timeouts};
+ghost use Rattle.lane_record.specs.Lates.{put_lates};
 ghost use Rattle.lane_record.specs.Offers.{all_lost, outcome_of, put_all};
 ghost use Rattle.hub_lane.specs.Hearing.{give_ups_of};
 ghost use Rattle.hub_lane.specs.Calls.{IsReplyAt, IsReplyOf, is_lost_at_place, is_replied};
-ghost use Rattle.hub_lane.specs.Sends.{handed_out};
+ghost use Rattle.hub_lane.specs.Sends.{without_fates, without_lates};
+ghost use Rattle.world_model.specs.Hub.{drained};
 ghost use Rattle.packet_codec.specs.declared.packet.TheConstants.{MAX_BODY_WORDS};
 ghost use Rattle.world_model.specs.Facts.{IsSendable};
 
@@ -58,12 +60,25 @@ fn outcome_of(fate: Fate) -> Outcome
 
 /// The hub hands out all its fates.
 fn settle_all(hub: &mut Engine, outcomes: &mut OutcomeTable)
-    ensures hub { hub.new ≡ handed_out hub.old }
+    ensures hub { hub.new ≡ without_fates hub.old }
     ensures outcomes { outcomes.new.items ≡ put_all hub.old.fates outcomes.old.items }
     ensures bodies { outcomes.new.bodies ≡ outcomes.old.bodies }
+    ensures lates { outcomes.new.lates ≡ outcomes.old.lates }
 {
     while let Some(fate) = hub.settled() {
         outcomes.put(fate.0, outcome_of(fate.1));
+    }
+}
+
+/// The hub hands out all its late answers.
+fn keep_lates(hub: &mut Engine, outcomes: &mut OutcomeTable)
+    ensures hub { hub.new ≡ without_lates hub.old }
+    ensures lates { outcomes.new.lates ≡ put_lates hub.old.lates outcomes.old.lates }
+    ensures outcomes { outcomes.new.items ≡ outcomes.old.items }
+    ensures bodies { outcomes.new.bodies ≡ outcomes.old.bodies }
+{
+    while let Some(late) = hub.late() {
+        outcomes.put_late(late.0, late.1);
     }
 }
 
@@ -71,6 +86,7 @@ fn settle_all(hub: &mut Engine, outcomes: &mut OutcomeTable)
 pub(crate) fn lose_all(outcomes: &mut OutcomeTable, sent: u64)
     ensures outcomes { outcomes.new.items ≡ all_lost sent outcomes.old.items }
     ensures bodies { outcomes.new.bodies ≡ outcomes.old.bodies }
+    ensures lates { outcomes.new.lates ≡ outcomes.old.lates }
 {
     let mut place = 0;
     for ask in 0..outcomes.len() {
@@ -87,8 +103,8 @@ pub(crate) fn lose_all(outcomes: &mut OutcomeTable, sent: u64)
     }
 }
 
-/// What an event of the hub settles: its fates are handed out, and a quiet receive after which nobody waits was a
-/// give-up.
+/// What an event of the hub settles: its fates and its late answers are handed out, and a quiet receive after which
+/// nobody waits was a give-up.
 pub(crate) fn settle(
     hub: &mut Engine,
     outcomes: &mut OutcomeTable,
@@ -96,8 +112,9 @@ pub(crate) fn settle(
     pumped: Pumped,
 )
     requires { give_ups.old < 2 ^ 63 }
-    ensures hub { hub.new ≡ handed_out hub.old }
+    ensures hub { hub.new ≡ drained hub.old }
     ensures outcomes { outcomes.new.items ≡ put_all hub.old.fates outcomes.old.items }
+    ensures lates { outcomes.new.lates ≡ put_lates hub.old.lates outcomes.old.lates }
     ensures bodies { outcomes.new.bodies ≡ outcomes.old.bodies }
     ensures give_ups { give_ups.new ≡ give_ups_of pumped hub.old give_ups.old }
 {
@@ -105,6 +122,7 @@ pub(crate) fn settle(
         *give_ups += 1;
     }
     settle_all(hub, outcomes);
+    keep_lates(hub, outcomes);
 }
 
 /// The reply under the number of an Ask, where it came at this place.

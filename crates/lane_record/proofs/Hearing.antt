@@ -1,5 +1,5 @@
 -- Lemmas on what a hub hears: outcomes come, by replies or by a give-up, and with them it agrees.
-use Rattle.std.proofs.Common.{◌≡◌, ℕ, suc, ◌+◌, ◌≤◌, Bool, true, false, cond, ◌==◌, List, [], ◌∷◌, ◌++◌}
+use Rattle.std.proofs.Common.{◌≡◌, ℕ, zero, suc, ◌+◌, ◌≤◌, Bool, true, false, cond, ◌==◌, List, [], ◌∷◌, ◌++◌}
 use Rattle.std.proofs.Common.{length, map, Option, Some, None}
 use Rattle.std.proofs.Common.{refl, sym, ap, ◌∙◌, subst, arith, append_assoc, inl, inr, if◌then◌else◌}
 use Rattle.std.specs.Prelude.{nat_lt}
@@ -26,7 +26,7 @@ use Rattle.lane_record.specs.Outcomes.{is_replied, is_given_up, is_timed_out}
 use Rattle.lane_record.specs.Claims.{Claim}
 use Rattle.lane_record.specs.Bounds.{timeouts}
 use Rattle.lane_record.specs.Offers.{awaited, tag_at, tags, Agrees, put}
-use Rattle.lane_record.specs.Offers.{put_all, outcome_of, KeepsOutcomes, AddsOnly, Settles}
+use Rattle.lane_record.specs.Offers.{put_all, outcome_of, AreOutcomes, KeepsOutcomes, AddsOnly, Settles}
 use Rattle.lane_record.proofs.Offers.{unsettled_none}
 use Rattle.lane_record.proofs.Offers.{keeps_put, adds_put, timeouts_put}
 use Rattle.lane_record.proofs.Events.{IsOpened, window_opened, awaited_append, none_awaited, waits_at}
@@ -74,6 +74,19 @@ goes_put_other outs k o kind none is other = record {
       (timeouts_put k o outs none) in omega (arith, t));
 }
 
+-- outcomes that stay are told as before
+pub still_told : (old new : List (Option Outcome)) (fates : List (ℕ × Fate)) → KeepsOutcomes old new
+    → AreOutcomes fates old → AreOutcomes fates new
+still_told old new [] keeps are = tt
+still_told old new (f ∷ fs) keeps are =
+    (keeps f.0 (outcome_of f.1) are.0, still_told old new fs keeps are.1)
+
+put_there : (k : ℕ) (o : Outcome) (outs : List (Option Outcome)) → slice_get outs k ≡ Some None
+    → slice_get (put k o outs) k ≡ Some (Some o)
+put_there k o [] none = absurd (cc)
+put_there zero o (x ∷ outs) none = refl
+put_there (suc k) o (x ∷ outs) none = put_there k o outs none
+
 -- no fates are there
 same_settles : (hub : Hub) (cs : List Claim) (outs : List (Option Outcome)) (kind : Outcome → Bool) (most : ℕ)
     → hub.fates ≡ [] → Agrees hub.sent hub.queue hub.open_places cs outs → Settles hub cs outs kind most
@@ -82,16 +95,18 @@ same_settles hub cs outs kind most none is =
     let e : put_all hub.fates outs ≡ outs = ap (λ (fs : List (ℕ × Fate)). put_all fs outs) none in
     record {
       agrees = subst (Agrees hub.sent hub.queue hub.open_places cs) (sym e) is;
+      told = subst (λ (fs : List (ℕ × Fate)). AreOutcomes fs (put_all hub.fates outs)) (sym none) tt;
       keeps = subst (KeepsOutcomes outs) (sym e) g.keeps;
       adds = subst (AddsOnly kind outs) (sym e) g.adds;
       few = subst (λ (os : List (Option Outcome)). timeouts os ≤ timeouts outs + most) (sym e) g.few;
     }
 
 settles_by : (hub : Hub) (cs : List Claim) (outs new : List (Option Outcome)) (kind : Outcome → Bool) (most : ℕ)
-    → put_all hub.fates outs ≡ new → Agrees hub.sent hub.queue hub.open_places cs new → Goes outs new kind most
-    → Settles hub cs outs kind most
-settles_by hub cs outs new kind most e is g = record {
+    → put_all hub.fates outs ≡ new → Agrees hub.sent hub.queue hub.open_places cs new → AreOutcomes hub.fates new
+    → Goes outs new kind most → Settles hub cs outs kind most
+settles_by hub cs outs new kind most e is told g = record {
   agrees = subst (Agrees hub.sent hub.queue hub.open_places cs) (sym e) is;
+  told = subst (AreOutcomes hub.fates) (sym e) told;
   keeps = subst (KeepsOutcomes outs) (sym e) g.keeps;
   adds = subst (AddsOnly kind outs) (sym e) g.adds;
   few = subst (λ (os : List (Option Outcome)). timeouts os ≤ timeouts outs + most) (sym e) g.few;
@@ -154,19 +169,27 @@ unwaited_agrees sent queue front back o cs outs waits is = record {
       (tag_at sent o.place ∷ awaited sent back) (awaited sent back)) waits)) ∙ is.waits;
 }
 
+-- the fates of a settled place, and the outcomes with them
+settled_fates : (hub : Hub) (words : List ℕ) (o : OpenPlace) (b : Bool) → o.waited ≡ b → hub.fates ≡ []
+    → (settle hub words (Some o)).fates
+    ≡ (if b then (tag_at hub.sent o.place, fate.Replied o.place words) ∷ [] else [])
+settled_fates hub words o true waits none =
+    ap (λ (b : Bool). if b then insert_fate o.place
+    (tag_at hub.sent o.place, fate.Replied o.place words) hub.fates else hub.fates) waits
+    ∙ ap (λ (fs : List (ℕ × Fate)). insert_fate o.place
+    (tag_at hub.sent o.place, fate.Replied o.place words) fs) none
+settled_fates hub words o false waits none =
+    ap (λ (b : Bool). if b then insert_fate o.place
+    (tag_at hub.sent o.place, fate.Replied o.place words) hub.fates else hub.fates) waits ∙ none
+
 settled_by : (hub : Hub) (words : List ℕ) (o : OpenPlace) (b : Bool) (outs : List (Option Outcome)) → o.waited ≡ b
     → hub.fates ≡ []
     → put_all (settle hub words (Some o)).fates outs ≡ (if b then put (tag_at hub.sent o.place)
     (Replied o.place words) outs else outs)
 settled_by hub words o true outs waits none =
-    ap (λ (b : Bool). put_all (if b then insert_fate o.place
-    (tag_at hub.sent o.place, fate.Replied o.place words) hub.fates else hub.fates) outs) waits
-    ∙ ap (λ (fs : List (ℕ × Fate)). put_all (insert_fate o.place
-    (tag_at hub.sent o.place, fate.Replied o.place words) fs) outs) none
+    ap (λ (fs : List (ℕ × Fate)). put_all fs outs) (settled_fates hub words o true waits none)
 settled_by hub words o false outs waits none =
-    ap (λ (b : Bool). put_all (if b then insert_fate o.place
-    (tag_at hub.sent o.place, fate.Replied o.place words) hub.fates else hub.fates) outs) waits
-    ∙ ap (λ (fs : List (ℕ × Fate)). put_all fs outs) none
+    ap (λ (fs : List (ℕ × Fate)). put_all fs outs) (settled_fates hub words o false waits none)
 
 settle_settles : (hub : Hub) (words : List ℕ) (r : Option OpenPlace) (cs : List Claim) (outs : List (Option Outcome))
     (first id : ℕ) → FoundIn first id hub.open_places r → hub.fates ≡ []
@@ -180,20 +203,22 @@ settle_settles hub words (Some o) cs outs first id f none opens is =
     let op : IsOpened (length hub.sent) o = all_at (IsOpened (length hub.sent)) s.front o s.back
     (subst (AllByRecursion (IsOpened (length hub.sent))) s.is opens) in
     elim o.waited as (λ b. o.waited ≡ b → Settles (settle hub words (Some o)) cs outs is_replied 0) [
-      | true ↦ λ w. settles_by (settle hub words (Some o)) cs outs
-          (put (tag_at hub.sent o.place) (Replied o.place words) outs) is_replied 0
+      | true ↦ λ w.
+          let none_yet = unsettled_none (tag_at hub.sent o.place) outs (awaited hub.sent s.front)
+          (awaited hub.sent s.back ++ tags hub.queue) (waits_at hub.sent hub.queue s.front s.back o cs outs w here) in
+          let new = put (tag_at hub.sent o.place) (Replied o.place words) outs in
+          settles_by (settle hub words (Some o)) cs outs new is_replied 0
           (settled_by hub words o true outs w none)
-          (subst (λ (os : List OpenPlace). Agrees hub.sent hub.queue os cs
-          (put (tag_at hub.sent o.place) (Replied o.place words) outs)) (sym s.rest)
+          (subst (λ (os : List OpenPlace). Agrees hub.sent hub.queue os cs new) (sym s.rest)
           (settled_agrees hub.sent hub.queue s.front s.back o cs outs (Replied o.place words) op w refl refl here))
-          (goes_put_other outs (tag_at hub.sent o.place) (Replied o.place words) is_replied
-          (unsettled_none (tag_at hub.sent o.place) outs (awaited hub.sent s.front)
-          (awaited hub.sent s.back ++ tags hub.queue) (waits_at hub.sent hub.queue s.front s.back o cs outs w
-          here)) refl refl)
+          (subst (λ (fs : List (ℕ × Fate)). AreOutcomes fs new) (sym (settled_fates hub words o true w none))
+          (put_there (tag_at hub.sent o.place) (Replied o.place words) outs none_yet, tt))
+          (goes_put_other outs (tag_at hub.sent o.place) (Replied o.place words) is_replied none_yet refl refl)
       | false ↦ λ w. settles_by (settle hub words (Some o)) cs outs outs is_replied 0
           (settled_by hub words o false outs w none)
           (subst (λ (os : List OpenPlace). Agrees hub.sent hub.queue os cs outs) (sym s.rest)
           (unwaited_agrees hub.sent hub.queue s.front s.back o cs outs w here))
+          (subst (λ (fs : List (ℕ × Fate)). AreOutcomes fs outs) (sym (settled_fates hub words o false w none)) tt)
           (goes_none outs is_replied 0)
     ] refl
 
@@ -298,30 +323,36 @@ put_append : (a b : List (ℕ × Fate)) (outs : List (Option Outcome)) → put_a
 put_append [] b outs = refl
 put_append (f ∷ a) b outs = put_append a b (put f.0 (outcome_of f.1) outs)
 
-record Ends (sent queue : List Offered) (os : List OpenPlace) (cs : List Claim) (old new : List (Option Outcome))
-    (most : ℕ) : Type 0 where
-  agrees : Agrees sent queue os cs new
-  goes : Goes old new is_given_up most
+record Ends (sent queue : List Offered) (os : List OpenPlace) (cs : List Claim) (fates : List (ℕ × Fate))
+    (old : List (Option Outcome)) (most : ℕ) : Type 0 where
+  agrees : Agrees sent queue os cs (put_all fates old)
+  told : AreOutcomes fates (put_all fates old)
+  goes : Goes old (put_all fates old) is_given_up most
 
 time_outs_end : (rounds : ℕ) (sent queue : List Offered) (os : List OpenPlace) (cs : List Claim)
     (outs : List (Option Outcome)) → AllByRecursion (IsOpened (length sent)) os
-    → Agrees sent queue os cs outs → Ends sent queue [] cs outs (put_all (time_outs rounds sent os) outs) (length os)
-time_outs_end rounds sent queue [] cs outs opens is = record { agrees = is; goes = goes_none outs is_given_up 0 }
+    → Agrees sent queue os cs outs → Ends sent queue [] cs (time_outs rounds sent os) outs (length os)
+time_outs_end rounds sent queue [] cs outs opens is =
+    record { agrees = is; told = tt; goes = goes_none outs is_given_up 0 }
 time_outs_end rounds sent queue (o ∷ os) cs outs opens is =
     let new : ℕ × Fate = (tag_at sent o.place, fate.TimedOut o.place rounds) in
-    elim o.waited as (λ b. o.waited ≡ b → Ends sent queue [] cs outs
-    (put_all (cond b (new ∷ time_outs rounds sent os) (time_outs rounds sent os)) outs) (suc (length os))) [
+    elim o.waited as (λ b. o.waited ≡ b → Ends sent queue [] cs
+    (cond b (new ∷ time_outs rounds sent os) (time_outs rounds sent os)) outs (suc (length os))) [
       | true ↦ λ w.
           let out : Outcome = TimedOut o.place rounds in
           let next = settled_agrees sent queue [] os o cs outs out opens.0 w refl refl is in
-          let one = goes_put outs (tag_at sent o.place) out is_given_up
-          (unsettled_none (tag_at sent o.place) outs [] (awaited sent os ++ tags queue)
-          (waits_at sent queue [] os o cs outs w is)) refl in
+          let none_yet = unsettled_none (tag_at sent o.place) outs [] (awaited sent os ++ tags queue)
+          (waits_at sent queue [] os o cs outs w is) in
+          let one = goes_put outs (tag_at sent o.place) out is_given_up none_yet refl in
           let later = time_outs_end rounds sent queue os cs (put (tag_at sent o.place) out outs) opens.1 next in
           let all = put_all (time_outs rounds sent os) (put (tag_at sent o.place) out outs) in
           let both = goes_on outs (put (tag_at sent o.place) out outs) all is_given_up 1 (length os) one later.goes in
           record {
             agrees = later.agrees;
+            told = (
+              later.goes.keeps (tag_at sent o.place) out (put_there (tag_at sent o.place) out outs none_yet),
+              later.told,
+            );
             goes = record {
               keeps = both.keeps;
               adds = both.adds;
@@ -334,6 +365,7 @@ time_outs_end rounds sent queue (o ∷ os) cs outs opens is =
           (unwaited_agrees sent queue [] os o cs outs w is) in
           record {
             agrees = later.agrees;
+            told = later.told;
             goes = record {
               keeps = later.goes.keeps;
               adds = later.goes.adds;
@@ -344,15 +376,16 @@ time_outs_end rounds sent queue (o ∷ os) cs outs opens is =
     ] refl
 
 unsent_end : (sent queue : List Offered) (cs : List Claim) (outs : List (Option Outcome))
-    → Agrees sent queue [] cs outs → Ends sent [] [] cs outs (put_all (map unsent queue) outs) 0
-unsent_end sent [] cs outs is = record { agrees = is; goes = goes_none outs is_given_up 0 }
+    → Agrees sent queue [] cs outs → Ends sent [] [] cs (map unsent queue) outs 0
+unsent_end sent [] cs outs is = record { agrees = is; told = tt; goes = goes_none outs is_given_up 0 }
 unsent_end sent (x ∷ queue) cs outs is =
     let next = unsent_agrees sent queue x cs outs is in
-    let one = goes_put_other outs x.tag Unsent is_given_up (unsettled_none x.tag outs [] (tags queue) (sym is.waits))
-    refl refl in
+    let none_yet = unsettled_none x.tag outs [] (tags queue) (sym is.waits) in
+    let one = goes_put_other outs x.tag Unsent is_given_up none_yet refl refl in
     let later = unsent_end sent queue cs (put x.tag Unsent outs) next in
     record {
       agrees = later.agrees;
+      told = (later.goes.keeps x.tag Unsent (put_there x.tag Unsent outs none_yet), later.told);
       goes = goes_on outs (put x.tag Unsent outs)
           (put_all (map unsent queue) (put x.tag Unsent outs)) is_given_up 0 0 one later.goes;
     }
@@ -382,6 +415,11 @@ give_up_settles hub cs outs none window is =
     let fates_are : put_all (give_up hub).fates outs ≡ put_all (map unsent hub.queue) (put_all late outs) =
     ap (λ (l : List (ℕ × Fate)). put_all (l ++ map unsent hub.queue) outs) timed_is
     ∙ put_append late (map unsent hub.queue) outs in
+    let told : AreOutcomes (give_up hub).fates (put_all (map unsent hub.queue) (put_all late outs)) =
+    subst (λ (l : List (ℕ × Fate)). AreOutcomes (l ++ map unsent hub.queue)
+    (put_all (map unsent hub.queue) (put_all late outs))) (sym timed_is)
+    (AllByRecursion-append _ late (map unsent hub.queue) (still_told (put_all late outs)
+    (put_all (map unsent hub.queue) (put_all late outs)) late b.goes.keeps a.told) b.told) in
     let few = window_few hub.window (length hub.sent) hub.open_places window in
     let both = goes_on outs (put_all late outs) (put_all (map unsent hub.queue) (put_all late outs)) is_given_up
     (length hub.open_places) 0 a.goes b.goes in
@@ -393,6 +431,7 @@ give_up_settles hub cs outs none window is =
       waits = ap (λ (l : List ℕ). l ++ [])
           (none_awaited hub.sent hub.open_places) ∙ b.agrees.waits;
     })
+    told
     (record { keeps = both.keeps; adds = both.adds; few = (let k = both.few in omega (arith, k, few)) })
 
 pub quiet_settles : (hub : Hub) (cs : List Claim) (outs : List (Option Outcome)) → hub.fates ≡ []

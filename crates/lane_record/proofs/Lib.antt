@@ -7,6 +7,7 @@ pub mod Finished
 pub mod Offers
 pub mod Events
 pub mod Hearing
+pub mod Lates
 pub mod EachOutcome
 pub mod Rounds
 pub mod Lengths

@@ -6,6 +6,7 @@ pub mod Legal
 pub mod FirstSends
 pub mod Bounds
 pub mod Offers
+pub mod Lates
 pub mod NextEntry
 pub mod Dispatches
 pub mod Submissions

@@ -1,7 +1,7 @@
 -- What ties a record to the hub that sends its bodies: an Ask is an offer under the number of the Ask. Profile.
 use Rattle.std.specs.Prelude.{◌≡◌, ◌⊎◌, ℕ, Bool, true, zero, suc, ◌+◌, ◌≤◌, if◌then◌else◌, nat_lt}
 use Rattle.std.specs.Prelude.{List, [], ◌∷◌, ◌++◌, map, Option, Some, None}
-use Rattle.std.specs.List.{slice_get}
+use Rattle.std.specs.List.{AllByRecursion, slice_get}
 use Rattle.world_model.specs.declared.offered.Offered.{Offered}
 use Rattle.world_model.specs.declared.offered.OpenPlace.{OpenPlace}
 use Rattle.world_model.specs.declared.offered.Fate.{Fate}
@@ -103,6 +103,11 @@ IsToldBy fates k (LinkLost place) = Unit {0}
 abbrev pub AreToldBy : List (ℕ × Fate) → List (Option Outcome) → Type 0
 AreToldBy fates outcomes = (k : ℕ) (o : Outcome) → slice_get outcomes k ≡ Some (Some o) → IsToldBy fates k o
 
+-- each of these fates is what became of the Ask of its tag
+abbrev pub AreOutcomes : List (ℕ × Fate) → List (Option Outcome) → Type 0
+AreOutcomes fates outcomes =
+    AllByRecursion (λ (f : ℕ × Fate). slice_get outcomes f.0 ≡ Some (Some (outcome_of f.1))) fates
+
 -- what became of an Ask stays
 abbrev pub KeepsOutcomes : List (Option Outcome) → List (Option Outcome) → Type 0
 KeepsOutcomes old new =
@@ -113,11 +118,12 @@ abbrev pub AddsOnly : (Outcome → Bool) → List (Option Outcome) → List (Opt
 AddsOnly kind old new = (k : ℕ) (outcome : Outcome) → slice_get new k ≡ Some (Some outcome)
     → (slice_get old k ≡ Some (Some outcome)) ⊎ (kind outcome ≡ true)
 
--- A hub whose fates are still to be handed out: with them the outcomes agree with it. What became of an Ask stays, what
--- is new is of one kind, and at most so many bodies more are timed out.
+-- A hub whose fates are still to be handed out: with them the outcomes agree with it, and each of them is the outcome
+-- of its Ask. What became of an Ask stays, what is new is of one kind, and at most so many bodies more are timed out.
 pub record Settles (hub : Hub) (claims : List Claim) (old : List (Option Outcome)) (kind : Outcome → Bool) (most : ℕ)
     : Type 0 where
   pub agrees : Agrees hub.sent hub.queue hub.open_places claims (put_all hub.fates old)
+  pub told : AreOutcomes hub.fates (put_all hub.fates old)
   pub keeps : KeepsOutcomes old (put_all hub.fates old)
   pub adds : AddsOnly kind old (put_all hub.fates old)
   pub few : timeouts (put_all hub.fates old) ≤ timeouts old + most

@@ -1,6 +1,6 @@
 -- What an outcome tells of its body. Profile.
-use Rattle.std.specs.Prelude.{◌≡◌, ℕ, ◌≤◌, Bool, true, false, List, length, Option, Some, None, IfSome, is_some}
-use Rattle.std.specs.List.{AllByRecursion}
+use Rattle.std.specs.Prelude.{◌≡◌, ◌≢◌, ℕ, ◌≤◌, Bool, true, false, List, length, Option, Some, None, IfSome, is_some}
+use Rattle.std.specs.List.{AllByRecursion, slice_get}
 use Rattle.packet_codec.specs.declared.packet.TheConstants.{MAX_BODY_WORDS}
 use Rattle.lane_record.specs.declared.outcome.Outcome.{Outcome}
 use Rattle.lane_record.specs.declared.outcome.Outcome.TheVariants.{Replied, TimedOut, Unsent, LinkLost}
@@ -54,6 +54,10 @@ IsShort (LinkLost place) = Unit {0}
 -- the same of all that became of some bodies
 abbrev pub AreShort : List (Option Outcome) → Type 0
 AreShort outcomes = AllByRecursion (λ (o : Option Outcome). IfSome o IsShort) outcomes
+
+-- something became of each Ask
+abbrev pub AreSettled : List (Option Outcome) → Type 0
+AreSettled outcomes = (k : ℕ) → slice_get outcomes k ≢ Some None
 
 -- whether the body was sent
 abbrev pub is_sent : Outcome → Bool

@@ -91,13 +91,14 @@ pub spots_extended : (old new : List OutcomeRow) (spots : List Spot) → AreSpot
     → AreSpots new spots
 spots_extended old new spots are is = spots_kept old new spots are is.keeps (is.one_each are.one_each)
 
-pub view_extended : (old new : List OutcomeRow) (spots : List Spot) → AreSpots old spots → IsExtended old new
-    → ◌≡◌ {A = TableState} (record { items = items_of new spots; bodies = bodies_of new spots })
-    (record { items = items_of old spots; bodies = bodies_of old spots })
-view_extended old new spots are is =
-    ap (λ (os : List (Option Outcome)). record { items = os; bodies = bodies_of new spots })
+pub view_extended : (old new : List OutcomeRow) (spots : List Spot) (lates : List (Option (List ℕ)))
+    → AreSpots old spots → IsExtended old new
+    → ◌≡◌ {A = TableState} (record { items = items_of new spots; bodies = bodies_of new spots; lates = lates })
+    (record { items = items_of old spots; bodies = bodies_of old spots; lates = lates })
+view_extended old new spots lates are is =
+    ap (λ (os : List (Option Outcome)). record { items = os; bodies = bodies_of new spots; lates = lates })
     (same_map (outcome_of_spot old) (outcome_of_spot new) spots (λ ask spot there. is.same spot.row spot.seq))
-    ∙ ap (λ (told : List AskedBody). record { items = items_of old spots; bodies = told })
+    ∙ ap (λ (told : List AskedBody). record { items = items_of old spots; bodies = told; lates = lates })
     (same_bodies old new spots are is.keeps)
 
 -- there is more room for spots as well
@@ -105,13 +106,18 @@ pub spots_reserved : (old new : List OutcomeRow) (spots more : List Spot) → mo
     → IsExtended old new → AreSpots new more
 spots_reserved old new spots more same are is = subst (AreSpots new) (sym same) (spots_extended old new spots are is)
 
-pub view_reserved : (old new : List OutcomeRow) (spots more : List Spot) → more ≡ spots → AreSpots old spots
-    → IsExtended old new
-    → ◌≡◌ {A = TableState} (record { items = items_of new more; bodies = bodies_of new more })
-    (record { items = items_of old spots; bodies = bodies_of old spots })
-view_reserved old new spots more same are is =
-    ap (λ (ss : List Spot). record { items = items_of new ss; bodies = bodies_of new ss }) same
-    ∙ view_extended old new spots are is
+pub view_reserved : (old new : List OutcomeRow) (spots more : List Spot) (lates after : List (Option (List ℕ)))
+    → more ≡ spots → after ≡ lates → AreSpots old spots → IsExtended old new
+    → ◌≡◌ {A = TableState} (record { items = items_of new more; bodies = bodies_of new more; lates = after })
+    (record { items = items_of old spots; bodies = bodies_of old spots; lates = lates })
+view_reserved old new spots more lates after same same_lates are is =
+    ap (λ (ss : List Spot). record { items = items_of new ss; bodies = bodies_of new ss; lates = after }) same
+    ∙ ap (λ (ls : List (Option (List ℕ))). record {
+      items = items_of new spots;
+      bodies = bodies_of new spots;
+      lates = ls;
+    }) same_lates
+    ∙ view_extended old new spots lates are is
 
 -- ---- an outcome comes
 
@@ -255,7 +261,7 @@ pub longer : (old rows now : List OutcomeRow) (spots : List Spot) (client seq : 
 longer old rows now spots client seq spot outcome are more new there set =
     let is = added old rows now spots client seq spot outcome are more new there set in
     let extended = spots_extended old rows spots are more in
-    let view = view_extended old rows spots are more in
+    let view = view_extended old rows spots [] are more in
     record {
       are = spots_added rows now spots client seq spot outcome extended is;
       items = items_added rows now spots client seq spot outcome is

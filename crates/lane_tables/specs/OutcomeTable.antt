@@ -1,5 +1,5 @@
--- What became of the asked bodies, in the order of their Asks, and whose each body is. The rows by client and number
--- are how the code finds them. Profile.
+-- What became of the asked bodies, in the order of their Asks, and whose each body is; and what came late, by place.
+-- The rows by client and number are how the code finds them. Profile.
 use Rattle.std.specs.Prelude.{◌≡◌, ℕ, zero, suc, ◌≤◌, ◌<◌, List, [], ◌∷◌, length, map, Option, Some, None, get_or}
 use Rattle.std.specs.List.{slice_get}
 use Rattle.lane_record.specs.declared.outcome.Outcome.{Outcome}
@@ -16,10 +16,11 @@ pub record AskedBody : Type 0 where
 abbrev pub asked_body : ℕ → ℕ → AskedBody
 asked_body client seq = record { client = client; seq = seq }
 
--- what became of each Ask, and whose body it asked, both in the order of the Asks
+-- what became of each Ask, and whose body it asked, both in the order of the Asks; and what came late, by place
 pub record TableState : Type 0 where
   pub items : List (Option Outcome)
   pub bodies : List AskedBody
+  pub lates : List (Option (List ℕ))
 
 -- this body of a client was asked
 pub record IsAsked (bodies : List AskedBody) (client seq : ℕ) : Type 0 where

@@ -1,11 +1,13 @@
-//! Where outcomes stand: in a list for each client, by number, and for each Ask whose body it asked.
+//! Where outcomes stand: in a list for each client, by number, and for each Ask whose body it asked. What came late for
+//! a body stands at its place.
 
 ghost use Rattle.std.specs.Prelude.{◌≡◌, ◌≤◌, ◌<◌, ◌+◌, ◌^◌, ◌∷◌, ◌++◌, [], ℕ, length, Some, None, OnOk, OnErr, IfOk};
-ghost use Rattle.std.specs.Prelude.{IfSome, IfNone, get_or, if◌then◌else◌};
+ghost use Rattle.std.specs.Prelude.{IfSome, IfNone, MatchOption, get_or, if◌then◌else◌};
 ghost use Rattle.std.specs.List.{slice_get};
 ghost use Rattle.world_model.specs.Hub.{offer};
 ghost use Rattle.reliable_engine.specs.Answers.{body_count};
 ghost use Rattle.lane_record.specs.declared.outcome.Outcome.TheVariants.{LinkLost};
+ghost use Rattle.lane_record.specs.Lates.{late_in, put_late};
 ghost use Rattle.lane_record.specs.Offers.{put};
 ghost use Rattle.lane_tables.specs.OutcomeTable.{IsSetAt, IsClientAt, IsExtended, IsSpot, IsSpotOf, IsAsked};
 ghost use Rattle.lane_tables.specs.OutcomeTable.{asked_body, outcome_in};
@@ -30,12 +32,14 @@ struct Spot {
     seq: usize,
 }
 
-/// What became of the asked bodies. Contracts see it in the order of the Asks.
+/// What became of the asked bodies, which contracts see in the order of the Asks; and what came late, by place from 1
+/// on. There are as many places for that as Asks, so there is room for every place.
 #[derive(Drop)]
 pub struct OutcomeTable {
     alloc: Global,
     rows: Vec<OutcomeRow>,
     spots: Vec<Spot>,
+    lates: Vec<Option<Words>>,
 }
 
 impl Model for OutcomeTable {
@@ -46,6 +50,7 @@ impl Model for OutcomeTable {
     ghost view = { λ t. record {
       items = items_of t.rows.items t.spots.items;
       bodies = bodies_of t.rows.items t.spots.items;
+      lates = t.lates.items;
     } };
 
     ghost invariant = { λ t. AreSpots t.rows.items t.spots.items };
@@ -56,11 +61,13 @@ impl OutcomeTable {
     pub fn new(alloc: Global) -> OutcomeTable
         ensures items { result.items ≡ [] }
         ensures bodies { result.bodies ≡ [] }
+        ensures lates { result.lates ≡ [] }
     {
         OutcomeTable {
             alloc,
             rows: Vec::new(alloc),
             spots: Vec::new(alloc),
+            lates: Vec::new(alloc),
         }
     }
 
@@ -99,6 +106,7 @@ impl OutcomeTable {
     pub fn put(&mut self, ask: u64, outcome: Outcome)
         ensures items { self.new.items ≡ put ask outcome self.old.items }
         ensures bodies { self.new.bodies ≡ self.old.bodies }
+        ensures lates { self.new.lates ≡ self.old.lates }
     {
         let ask = ask as usize;
         if ask < self.spots.len() {
@@ -106,9 +114,36 @@ impl OutcomeTable {
         }
     }
 
+    /// The words come late for the body at this place. Where there is no such place nothing changes.
+    pub fn put_late(&mut self, place: u64, words: Words)
+        ensures lates { self.new.lates ≡ put_late place words self.old.lates }
+        ensures items { self.new.items ≡ self.old.items }
+        ensures bodies { self.new.bodies ≡ self.old.bodies }
+    {
+        if place == 0 {
+            return;
+        }
+        let at = (place - 1) as usize;
+        if at < self.lates.len() {
+            self.lates[at] = Some(words);
+        }
+    }
+
+    /// What came late for the body at this place.
+    pub fn late_at(&self, place: u64) -> Option<&[u32]>
+        ensures { MatchOption result (late_in self.now.lates place ≡ None)
+            (λ words. late_in self.now.lates place ≡ Some words.now) }
+    {
+        if place == 0 {
+            return None;
+        }
+        let late = self.lates.get((place - 1) as usize)?;
+        Some(late.as_ref()?.as_slice())
+    }
+
     /// Adds an Ask of a client's body, which was not asked before: the engine is offered it under the number of the
-    /// Ask, or it is lost where the link failed. The engine has no more bodies than were asked. An `Err` changes
-    /// nothing.
+    /// Ask, or it is lost where the link failed. There is room for what may come late then. The engine has no more
+    /// bodies than were asked. An `Err` changes nothing.
     pub fn offer(
         &mut self,
         engine: &mut Engine,
@@ -124,15 +159,18 @@ impl OutcomeTable {
         ensures items { OnOk result (self.new.items ≡ self.old.items
             ++ (if down then Some (LinkLost None) else None) ∷ []) }
         ensures bodies { OnOk result (self.new.bodies ≡ self.old.bodies ++ asked_body client seq ∷ []) }
+        ensures lates { OnOk result (self.new.lates ≡ self.old.lates ++ None ∷ []) }
         ensures same_engine { OnErr result (engine.new ≡ engine.old) }
         ensures unchanged { OnErr result (self.new ≡ self.old) }
     {
         let ask = self.len() as u64;
         let spot = make_spot(self.alloc, &mut self.rows, client, seq as usize)?;
         self.spots.reserve(1)?;
+        self.lates.reserve(1)?;
         let outcome = offer_body(engine, down, ask, body)?;
         set_outcome(&mut self.rows, spot, outcome);
         self.spots.push_reserved(spot);
+        self.lates.push_reserved(None);
         Ok(())
     }
 }

@@ -1,12 +1,12 @@
 -- A hub over a simulated link goes from one state of a run to another.
-use Rattle.std.proofs.Common.{◌≡◌, ◌⊎◌, inl, inr, ◌∙◌, ℕ, zero, suc, Bool, true, false, cond, List, [], ◌∷◌, ◌++◌}
+use Rattle.std.proofs.Common.{◌≡◌, ◌⊎◌, inl, inr, ◌∙◌, ℕ, zero, suc, Bool, true, false, cond, List, [], ◌∷◌}
 use Rattle.std.proofs.Common.{Option, Some, None, refl, sym, ap, subst}
 use Rattle.std.specs.Prelude.{◌&&◌}
 use Rattle.std.specs.List.{AllByRecursion}
-use Rattle.world_model.specs.declared.offered.Fate.{Fate}
 use Rattle.world_model.specs.declared.offered.Offered.{Offered}
 use Rattle.world_model.specs.Facts.{IsSendable}
-use Rattle.world_model.specs.Hub.{Hub, hear_quiet, is_waiting, offer, take_message}
+use Rattle.world_model.specs.Hub.{Hub, HandedOut, IsDrained, drained, hands_out}
+use Rattle.world_model.specs.Hub.{hear_quiet, is_waiting, offer, take_message}
 use Rattle.world_model.specs.Links.{IsHanded, IsHeard, Told, hears_all, sent_on, then_told}
 use Rattle.world_model.specs.Messages.{to_hub}
 use Rattle.world_model.specs.Sends.{Next, bytes_to_send, next_send}
@@ -19,7 +19,8 @@ use Rattle.lossy_network.specs.Network.{fails}
 use Rattle.lossy_network.specs.Network.{front, most_takings, received, takes}
 use Rattle.lossy_network.specs.HubSteps.{CannotReceive, HandsOut, HubAndLink, HubStep, IsHubStep, Offers, Receives}
 use Rattle.lossy_network.specs.HubSteps.{Sends, after_step}
-use Rattle.lossy_network.specs.HubSteps.{after_steps, steps_on, hears_answer, is_silent, is_told, may_receive, sends_on}
+use Rattle.lossy_network.specs.HubSteps.{after_steps, steps_on, hears_answer, is_drained, is_none, is_silent}
+use Rattle.lossy_network.specs.HubSteps.{may_receive, sends_on}
 use Rattle.lossy_network.proofs.Takings.{still, takes_one}
 use Rattle.lossy_network.proofs.Along.{WasDropped, WasHeard, was_taken}
 use Rattle.lossy_network.proofs.Receipts.{the_got, the_quiet}
@@ -27,20 +28,20 @@ use Rattle.lossy_network.proofs.Receipts.{the_got, the_quiet}
 -- ---- the events of a run, a law of `world_core`
 
 pub record RunEvents (begin : World) : Type 0 where
-  pub offered : (fates : List (ℕ × Fate)) (hub : Hub) (told : Told) (body : Offered) → IsReached begin fates hub told
-      → IsSendable body.body → hub.fates ≡ [] → IsReached begin fates (offer hub body) told
-  pub one_sent : (fates : List (ℕ × Fate)) (hub : Hub) (told : Told) (next : Next) → IsReached begin fates hub told
+  pub offered : (so_far : HandedOut) (hub : Hub) (told : Told) (body : Offered) → IsReached begin so_far hub told
+      → IsSendable body.body → IsDrained hub → IsReached begin so_far (offer hub body) told
+  pub one_sent : (so_far : HandedOut) (hub : Hub) (told : Told) (next : Next) → IsReached begin so_far hub told
       → next_send hub ≡ Some next
-      → IsReached begin fates next.hub (sent_on told (bytes_to_send next.hub next.send))
-  pub some_heard : (fates : List (ℕ × Fate)) (hub : Hub) (old new : Told) → IsReached begin fates hub old
-      → next_send hub ≡ None → hub.fates ≡ [] → IsHeard old new → IsReached begin fates hub new
-  pub handed : (fates : List (ℕ × Fate)) (hub : Hub) (told : Told) (bytes : List ℕ) → IsReached begin fates hub told
-      → next_send hub ≡ None → hub.fates ≡ [] → IsHanded told bytes
-      → IsReached begin fates (take_message hub (to_hub bytes)) told
-  pub quiet : (fates : List (ℕ × Fate)) (hub : Hub) (told : Told) → IsReached begin fates hub told
-      → next_send hub ≡ None → hub.fates ≡ [] → is_waiting hub ≡ true → IsReached begin fates (hear_quiet hub) told
-  pub out : (fates : List (ℕ × Fate)) (hub : Hub) (told : Told) → IsReached begin fates hub told
-      → IsReached begin (fates ++ hub.fates) (record hub { fates = [] }) told
+      → IsReached begin so_far next.hub (sent_on told (bytes_to_send next.hub next.send))
+  pub some_heard : (so_far : HandedOut) (hub : Hub) (old new : Told) → IsReached begin so_far hub old
+      → next_send hub ≡ None → IsDrained hub → IsHeard old new → IsReached begin so_far hub new
+  pub handed : (so_far : HandedOut) (hub : Hub) (told : Told) (bytes : List ℕ) → IsReached begin so_far hub told
+      → next_send hub ≡ None → IsDrained hub → IsHanded told bytes
+      → IsReached begin so_far (take_message hub (to_hub bytes)) told
+  pub quiet : (so_far : HandedOut) (hub : Hub) (told : Told) → IsReached begin so_far hub told
+      → next_send hub ≡ None → IsDrained hub → is_waiting hub ≡ true → IsReached begin so_far (hear_quiet hub) told
+  pub out : (so_far : HandedOut) (hub : Hub) (told : Told) → IsReached begin so_far hub told
+      → IsReached begin (hands_out so_far hub) (drained hub) told
 
 -- ---- takings are hearings
 
@@ -81,9 +82,15 @@ right_true : (b c : Bool) → (b && c) ≡ true → c ≡ true
 right_true true c is = is
 right_true false c is = absurd cc
 
-told_none : (fates : List (ℕ × Fate)) → is_told fates ≡ true → fates ≡ []
-told_none [] is = refl
-told_none (fate ∷ fates) is = absurd cc
+none_left : {T : Type 0} (xs : List T) → is_none xs ≡ true → xs ≡ []
+none_left [] is = refl
+none_left (x ∷ xs) is = absurd cc
+
+drained_is : (hub : Hub) → is_drained hub ≡ true → IsDrained hub
+drained_is hub is = record {
+  fates = none_left hub.fates (left_true _ _ is);
+  lates = none_left hub.lates (right_true _ _ is);
+}
 
 silent_none : (r : Option Next) → is_silent r ≡ true → r ≡ None
 silent_none None is = refl
@@ -103,7 +110,7 @@ if_none false r x is = is
 -- ---- steps
 
 abbrev pub IsThere : World → HubAndLink → Type 0
-IsThere begin both = IsReached begin both.fates both.hub both.net.told
+IsThere begin both = IsReached begin both.so_far both.hub both.net.told
 
 module _ (begin : World) (events : RunEvents begin) where
   sends_there : (both after : HubAndLink) (r : Option Next) → next_send both.hub ≡ r → IsThere begin both
@@ -111,33 +118,33 @@ module _ (begin : World) (events : RunEvents begin) where
   sends_there both after None is here done = absurd cc
   sends_there both after (Some next) is here done =
       let same = some_is _ after (if_none (fails both.net) _ after done) in
-      subst (IsThere begin) (sym same) (events.one_sent both.fates both.hub both.net.told next here is)
+      subst (IsThere begin) (sym same) (events.one_sent both.so_far both.hub both.net.told next here is)
 
   received_there : (both after : HubAndLink) (answer : Received) → answer ≡ (received both.net).answer
-      → IsThere begin both → next_send both.hub ≡ None → both.hub.fates ≡ []
+      → IsThere begin both → next_send both.hub ≡ None → IsDrained both.hub
       → hears_answer both (received both.net) answer ≡ Some after → IsThere begin after
   received_there both after Got is here silent told done =
       let got = the_got both.net is in
       let heard = takes_heard (most_takings (called both.net)) (called both.net) in
-      let mid = events.some_heard both.fates both.hub both.net.told (all_taken (called both.net)).told here silent told
+      let mid = events.some_heard both.so_far both.hub both.net.told (all_taken (called both.net)).told here silent told
       heard in
-      let handed = events.handed both.fates both.hub (all_taken (called both.net)).told got.bytes mid silent told
+      let handed = events.handed both.so_far both.hub (all_taken (called both.net)).told got.bytes mid silent told
       (record { place = got.place; at = got.there }) in
       subst (IsThere begin) (sym (some_is _ after done))
-      (subst (λ (r : Receipt). IsReached begin both.fates (take_message both.hub (to_hub r.bytes)) r.after.told)
+      (subst (λ (r : Receipt). IsReached begin both.so_far (take_message both.hub (to_hub r.bytes)) r.after.told)
       (sym got.is) handed)
   received_there both after Quiet is here silent told done =
       let quiet = the_quiet both.net is in
       let heard = takes_heard (most_takings (called both.net)) (called both.net) in
-      let mid = events.some_heard both.fates both.hub both.net.told (all_taken (called both.net)).told here silent told
+      let mid = events.some_heard both.so_far both.hub both.net.told (all_taken (called both.net)).told here silent told
       heard in
       let waits = if_some (is_waiting both.hub) _ after done in
-      let noticed = events.quiet both.fates both.hub (all_taken (called both.net)).told mid silent told waits.0 in
+      let noticed = events.quiet both.so_far both.hub (all_taken (called both.net)).told mid silent told waits.0 in
       subst (IsThere begin) (sym (some_is _ after waits.1))
-      (subst (λ (r : Receipt). IsReached begin both.fates (hear_quiet both.hub) r.after.told) (sym quiet.is) noticed)
+      (subst (λ (r : Receipt). IsReached begin both.so_far (hear_quiet both.hub) r.after.told) (sym quiet.is) noticed)
 
-  told_of_may : (both : HubAndLink) → may_receive both ≡ true → both.hub.fates ≡ []
-  told_of_may both is = told_none both.hub.fates (left_true _ _ (left_true _ _ is))
+  told_of_may : (both : HubAndLink) → may_receive both ≡ true → IsDrained both.hub
+  told_of_may both is = drained_is both.hub (left_true _ _ (left_true _ _ is))
 
   silent_of_may : (both : HubAndLink) → may_receive both ≡ true → next_send both.hub ≡ None
   silent_of_may both is = silent_none (next_send both.hub) (right_true _ _ (left_true _ _ is))
@@ -145,9 +152,9 @@ module _ (begin : World) (events : RunEvents begin) where
   step_there : (both after : HubAndLink) (step : HubStep) → IsHubStep step → IsThere begin both
       → after_step both step ≡ Some after → IsThere begin after
   step_there both after (Offers offered) is here done =
-      let told = if_some (is_told both.hub.fates) _ after done in
+      let told = if_some (is_drained both.hub) _ after done in
       subst (IsThere begin) (sym (some_is _ after told.1))
-      (events.offered both.fates both.hub both.net.told offered here is (told_none both.hub.fates told.0))
+      (events.offered both.so_far both.hub both.net.told offered here is (drained_is both.hub told.0))
   step_there both after Sends is here done = sends_there both after (next_send both.hub) refl here done
   step_there both after Receives is here done =
       let may = if_some (may_receive both) _ after done in
@@ -156,10 +163,10 @@ module _ (begin : World) (events : RunEvents begin) where
   step_there both after (CannotReceive taken) is here done =
       let may = if_some (may_receive both) _ after done in
       subst (IsThere begin) (sym (some_is _ after may.1))
-      (events.some_heard both.fates both.hub both.net.told (takes taken (called both.net)).told here
+      (events.some_heard both.so_far both.hub both.net.told (takes taken (called both.net)).told here
       (silent_of_may both may.0) (told_of_may both may.0) (takes_heard taken (called both.net)))
   step_there both after HandsOut is here done = subst (IsThere begin) (sym (some_is _ after done))
-      (events.out both.fates both.hub both.net.told here)
+      (events.out both.so_far both.hub both.net.told here)
 
   steps_by : (r : Option HubAndLink) (steps : List HubStep) (after : HubAndLink)
       → ((mid : HubAndLink) → r ≡ Some mid → after_steps mid steps ≡ Some after → IsThere begin after)

@@ -1,32 +1,33 @@
 -- A hub over a simulated link, which makes its calls. Profile.
-use Rattle.std.specs.Prelude.{ℕ, ◌&&◌, Bool, true, false, not, if◌then◌else◌, List, [], ◌∷◌, ◌++◌, min, Option}
+use Rattle.std.specs.Prelude.{ℕ, ◌&&◌, Bool, true, false, not, if◌then◌else◌, List, [], ◌∷◌, min, Option}
 use Rattle.std.specs.Prelude.{Some, None}
-use Rattle.world_model.specs.declared.offered.Fate.{Fate}
 use Rattle.world_model.specs.declared.offered.Offered.{Offered}
 use Rattle.world_model.specs.Facts.{IsSendable}
-use Rattle.world_model.specs.Hub.{Hub, hear_quiet, is_waiting, new_hub, offer, take_message}
+use Rattle.world_model.specs.Hub.{Hub, HandedOut, drained, hands_out, none_handed_out}
+use Rattle.world_model.specs.Hub.{hear_quiet, is_waiting, new_hub, offer, take_message}
 use Rattle.world_model.specs.Messages.{to_hub}
 use Rattle.world_model.specs.Sends.{Next, bytes_to_send, next_send}
 use Rattle.world_core.specs.declared.link.Received.{Received}
 use Rattle.world_core.specs.declared.link.Received.TheVariants.{Got, Quiet}
 use Rattle.lossy_network.specs.Network.{Network, Receipt, called, fails, received, sent, takes}
 
--- the hub, the link, and the fates of bodies that were handed out
+-- the hub, the link, and what was handed out
 pub record HubAndLink : Type 0 where
   pub hub : Hub
   pub net : Network
-  pub fates : List (ℕ × Fate)
+  pub so_far : HandedOut
 
 -- a hub of this window that knows a link's fresh board, and has sent nothing
 abbrev pub new_hub_and_link : ℕ → ℕ → Network → HubAndLink
 new_hub_and_link window rounds net = record {
   hub = new_hub net.told.board.first (min window net.told.board.buffers) rounds;
   net = net;
-  fates = [];
+  so_far = none_handed_out;
 }
 
 -- What a hub does: it takes an offer, it sends the next of what it wants to send, it receives when nothing is left to
--- send, it is told that memory ran out in a receive that had taken so many datagrams, and it hands out fates.
+-- send, it is told that memory ran out in a receive that had taken so many datagrams, and it hands out fates and late
+-- answers.
 pub data HubStep : Type 0 where
   Offers : Offered → HubStep
   Sends : HubStep
@@ -42,17 +43,21 @@ IsHubStep Receives = Unit {0}
 IsHubStep (CannotReceive taken) = Unit {0}
 IsHubStep HandsOut = Unit {0}
 
-abbrev pub is_told : List (ℕ × Fate) → Bool
-is_told [] = true
-is_told (fate ∷ fates) = false
+abbrev pub is_none : {T : Type 0} → List T → Bool
+is_none [] = true
+is_none (x ∷ xs) = false
+
+-- no fate and no late answer waits to be handed out
+abbrev pub is_drained : Hub → Bool
+is_drained hub = is_none hub.fates && is_none hub.lates
 
 abbrev pub is_silent : Option Next → Bool
 is_silent None = true
 is_silent (Some next) = false
 
--- no fate waits to be handed out, and nothing to be sent, and the link will not fail
+-- nothing waits to be handed out or to be sent, and the link will not fail
 abbrev pub may_receive : HubAndLink → Bool
-may_receive both = is_told both.hub.fates && is_silent (next_send both.hub) && not (fails both.net)
+may_receive both = is_drained both.hub && is_silent (next_send both.hub) && not (fails both.net)
 
 abbrev pub sends_on : HubAndLink → Option Next → Option HubAndLink
 sends_on both None = None
@@ -73,13 +78,13 @@ hears both receipt = hears_answer both receipt receipt.answer
 -- has no fate
 abbrev pub after_step : HubAndLink → HubStep → Option HubAndLink
 after_step both (Offers offered) =
-    if is_told both.hub.fates then Some (record both { hub = offer both.hub offered }) else None
+    if is_drained both.hub then Some (record both { hub = offer both.hub offered }) else None
 after_step both Sends = sends_on both (next_send both.hub)
 after_step both Receives = if may_receive both then hears both (received both.net) else None
 after_step both (CannotReceive taken) =
     if may_receive both then Some (record both { net = takes taken (called both.net) }) else None
 after_step both HandsOut =
-    Some (record both { hub = record both.hub { fates = [] }; fates = both.fates ++ both.hub.fates })
+    Some (record both { hub = drained both.hub; so_far = hands_out both.so_far both.hub })
 
 abbrev pub steps_on : Option HubAndLink → (HubAndLink → Option HubAndLink) → Option HubAndLink
 steps_on None more = None

@@ -95,13 +95,13 @@ pub fn no_more_than_nine_are_delayed()
 
 /// A hub over a simulated link begins where a run of the world begins, and whatever it does leads to a state of one: it
 /// takes an offer, sends what it wants to send, receives when nothing is left to send, is told that memory ran out in a
-/// receive, and hands out fates. So the air is that of a run, and the board's executed bodies are. Steps after a call
-/// that failed, or after a send that memory ran out for, are not spoken of.
+/// receive, and hands out fates and late answers. So the air is that of a run, and the board's executed bodies are.
+/// Steps after a call that failed, or after a send that memory ran out for, are not spoken of.
 pub fn a_hub_over_a_simulated_link_goes_as_a_run()
     ensures { (window rounds : ℕ) (board : Board) (fates : Fates) (fail : List ℕ) (steps : List HubStep)
         (after : HubAndLink) → IsStart window board [] → AllByRecursion IsHubStep steps
         → after_steps (new_hub_and_link window rounds (new_network board fates fail)) steps ≡ Some after
-        → IsReached (start window rounds board []) after.fates after.hub after.net.told }
+        → IsReached (start window rounds board []) after.so_far after.hub after.net.told }
 {
     each_event_leads_to_a_state_of_a_run();
 }

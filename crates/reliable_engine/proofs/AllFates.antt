@@ -10,7 +10,8 @@ use Rattle.world_model.specs.declared.offered.Fate.TheVariants.{Replied, TimedOu
 use Rattle.world_model.specs.Places.{at_place}
 use Rattle.world_model.specs.Hub.{Hub, give_up, goes_before, insert_fate, settle, tag_of, time_out, unsent}
 use Rattle.world_model.proofs.Lists.{either}
-use Rattle.reliable_engine.specs.Events.{HubEvent, Offer, Status, Reply, Quiet, Send, HandOut, after_event}
+use Rattle.reliable_engine.specs.Events.{HubEvent, Offer, Status, Reply, Quiet, Send, HandOut, HandOutLate}
+use Rattle.reliable_engine.specs.Events.{after_event}
 use Rattle.reliable_engine.specs.Events.{IsAmong, after_events, handouts}
 use Rattle.reliable_engine.proofs.Cases.{after_is}
 use Rattle.reliable_engine.specs.ToldFates.{StandsIn, all_fates, handed, handed_out}
@@ -29,7 +30,7 @@ stands_trans (x ∷ xs) (y ∷ ys) (z ∷ zs) a (inr b) = inr (stands_trans (x �
 stands_trans (x ∷ xs) (y ∷ ys) (z ∷ zs) (inl a) (inl b) = inl (a.0 ∙ b.0, stands_trans xs ys zs a.1 b.1)
 stands_trans (x ∷ xs) (y ∷ ys) (z ∷ zs) (inr a) (inl b) = inr (stands_trans (x ∷ xs) ys zs a b.1)
 
-stands_behind : {T : Type 0} (front xs ys : List T) → StandsIn xs ys → StandsIn (front ++ xs) (front ++ ys)
+pub stands_behind : {T : Type 0} (front xs ys : List T) → StandsIn xs ys → StandsIn (front ++ xs) (front ++ ys)
 stands_behind [] xs ys is = is
 stands_behind (x ∷ front) xs ys is = inl (refl, stands_behind front xs ys is)
 
@@ -79,7 +80,7 @@ give_up_stands h =
 
 -- the fates that waited stand among those that an event hands out and those that wait after it
 event_stands : (h : Hub) (event : HubEvent) → StandsIn h.fates (handed h event ++ (after_event h event).fates)
-event_stands h event = after_is (λ now after. StandsIn h.fates (now ++ after.fates)) h (record {
+event_stands h event = after_is (λ now after. StandsIn h.fates (now.fates ++ after.fates)) h (record {
   offered = λ x. stands_same h.fates;
   same = stands_same h.fates;
   told = λ place. stands_same h.fates;
@@ -90,6 +91,7 @@ event_stands h event = after_is (λ now after. StandsIn h.fates (now ++ after.fa
   wished = λ w e. stands_same h.fates;
   sent_first = λ x later e room. stands_same h.fates;
   handed = subst (StandsIn h.fates) (sym (take-append-drop 1 h.fates)) (stands_same h.fates);
+  late_handed = stands_same h.fates;
 }) event
 
 -- ---- all fates
@@ -134,6 +136,7 @@ hands_nothing h (Status next) events none = (refl, none)
 hands_nothing h (Reply id words) events none = (refl, none)
 hands_nothing h Quiet events none = (refl, none)
 hands_nothing h Send events none = (refl, none)
+hands_nothing h HandOutLate events none = (refl, none)
 hands_nothing h HandOut events none = absurd (omega (arith, none))
 
 none_handed : (h : Hub) (events : List HubEvent) → handouts events ≡ 0 → handed_out h events ≡ []

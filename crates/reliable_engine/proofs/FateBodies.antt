@@ -13,7 +13,8 @@ use Rattle.world_model.specs.Hub.{Hub, give_up, insert_fate, least, open_with, p
 use Rattle.world_model.specs.Hub.{time_out, unsent}
 use Rattle.world_model.proofs.Hubs.{all_inserted, all_timed_out, all_unsent, tagged}
 use Rattle.world_model.proofs.Lists.{at_front, either}
-use Rattle.reliable_engine.specs.Events.{HubEvent, Offer, Status, Reply, Quiet, Send, HandOut, after_event}
+use Rattle.reliable_engine.specs.Events.{HubEvent, Offer, Status, Reply, Quiet, Send, HandOut, HandOutLate}
+use Rattle.reliable_engine.specs.Events.{after_event}
 use Rattle.reliable_engine.specs.Events.{after_events}
 use Rattle.reliable_engine.specs.ToldFates.{IsOfItsBody, all_fates, handed}
 use Rattle.reliable_engine.proofs.AllFates.{all_cons}
@@ -78,6 +79,7 @@ event_tagged h event is all = after_is (λ _ after. AreTagged after.sent after.f
   wished = λ _ _. all;
   sent_first = λ x _ _ _. all_on h.sent (h.sent ++ x ∷ []) h.fates (x ∷ [], refl) all;
   handed = back_of_all (IsOfItsBody h.sent) (take 1 h.fates) (drop 1 h.fates) (parts_tagged h.sent h.fates all);
+  late_handed = all;
 }) event
 
 handed_tagged : (h : Hub) (event : HubEvent) → AreTagged h.sent h.fates → AreTagged h.sent (handed h event)
@@ -86,6 +88,7 @@ handed_tagged h (Status next) all = tt
 handed_tagged h (Reply id words) all = tt
 handed_tagged h Quiet all = tt
 handed_tagged h Send all = tt
+handed_tagged h HandOutLate all = tt
 handed_tagged h HandOut all =
     front_of_all (IsOfItsBody h.sent) (take 1 h.fates) (drop 1 h.fates) (parts_tagged h.sent h.fates all)
 

@@ -100,6 +100,7 @@ event_by_place h event all = after_is (λ _ after. AreByPlace 0 after.fates) h (
   wished = λ _ _. all;
   sent_first = λ _ _ _ _. all;
   handed = without_first h.fates all;
+  late_handed = all;
 }) event
 
 pub by_place : (h : Hub) (events : List HubEvent) → AreByPlace 0 h.fates → AreByPlace 0 (after_events h events).fates

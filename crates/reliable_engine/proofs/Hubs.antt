@@ -21,6 +21,7 @@ use Rattle.world_model.specs.declared.sending.Sending.{Sending}
 use Rattle.world_model.specs.declared.sending.Sending.TheVariants as sends
 use Rattle.world_model.specs.Places.{at_place}
 use Rattle.world_model.specs.Hub.{Hub, low, least, places, place_of, some_queued, settle, told_place, insert_fate}
+use Rattle.world_model.specs.Hub.{insert_late}
 use Rattle.world_model.specs.Hub.{tag_of, open_with, without, place_with}
 use Rattle.world_model.specs.Sends.{Next, Wanted, after_open, wanted, opened, first_send, next_send}
 use Rattle.world_model.specs.Facts.{has}
@@ -163,10 +164,24 @@ fates_with h o words = cond o.waited
     (insert_fate o.place (tag_of (at_place h.sent o.place), Replied o.place words) h.fates)
     h.fates
 
+abbrev pub lates_with : Hub → OpenPlace → List ℕ → List (ℕ × List ℕ)
+lates_with h o words = cond o.waited h.lates (insert_late (o.place, words) h.lates)
+
 pub settle_is : (h : Hub) (words : List ℕ) (o : OpenPlace) (os : List OpenPlace) (fates : List (ℕ × Fate))
-    (r : Option OpenPlace) → r ≡ Some o → os ≡ without o.place h.open_places → fates ≡ fates_with h o words
-    → record h { open_places = os; status_requests = 0; fates = fates } ≡ settle h words r
-settle_is h words o os fates r is e f = rw (e, f, is) refl
+    (lates : List (ℕ × List ℕ)) (r : Option OpenPlace) → r ≡ Some o → os ≡ without o.place h.open_places
+    → fates ≡ fates_with h o words → lates ≡ lates_with h o words
+    → record h { open_places = os; status_requests = 0; fates = fates; lates = lates } ≡ settle h words r
+settle_is h words o os fates lates r is e f l = rw (e, f, l, is) refl
+
+pub lates_waited : (h : Hub) (o : OpenPlace) (words : List ℕ) → o.waited ≡ true → lates_with h o words ≡ h.lates
+lates_waited h o words e = rw e refl
+
+pub lates_not_waited : (h : Hub) (o : OpenPlace) (words : List ℕ) → o.waited ≡ false
+    → lates_with h o words ≡ insert_late (o.place, words) h.lates
+lates_not_waited h o words e = rw e refl
+
+pub fates_not_waited : (h : Hub) (o : OpenPlace) (words : List ℕ) → o.waited ≡ false → fates_with h o words ≡ h.fates
+fates_not_waited h o words e = rw e refl
 
 pub fates_waited : (h : Hub) (o : OpenPlace) (words : List ℕ) → o.waited ≡ true
     → fates_with h o words ≡ insert_fate o.place (tag_of (at_place h.sent o.place), Replied o.place words) h.fates
@@ -198,16 +213,16 @@ pub names_none : (h : Hub) (id : ℕ) → open_with h.first id h.open_places ≡
 names_none h id none names = unnamed h.first id h.open_places names.place none names.open_there names.identifier
 
 -- what is kept after the open place with an identifier was taken out
-pub reply_keeps : (i : Inside) (id : ℕ) (o : OpenPlace) (r : Option OpenPlace) (os : List OpenPlace) (fl fr : ℕ)
+pub reply_keeps : (i : Inside) (id : ℕ) (o : OpenPlace) (r : Option OpenPlace) (os : List OpenPlace) (fl fr ll lr : ℕ)
     → IsKept i → r ≡ open_with i.first id i.open_places → r ≡ Some o → os ≡ places_after i.open_places r
-    → fl ≤ i.fates.len + (if o.waited then 1 else 0) → i.fates.cap ≤ fr
-    → Keeps i.first i.window i.sent (length i.bodies.items) os fl fr
-reply_keeps i id o r os fl fr is taken some after fates grown =
+    → fl ≤ i.fates.len + (if o.waited then 1 else 0) → i.fates.cap ≤ fr → ll ≤ i.lates.len + 1 → i.lates.cap ≤ lr
+    → Keeps i.first i.window i.sent (length i.bodies.items) os fl fr ll lr
+reply_keeps i id o r os fl fr ll lr is taken some after fates grown late more =
     let all = i.open_places in
     let told : open_with i.first id all ≡ Some o = sym taken ∙ some in
     let left : os ≡ without o.place all = after ∙ ap (places_after all) some in
-    rw left (keeps_less i.first i.window i.sent (length i.bodies.items) all o i.fates.len i.fates.cap fl fr is
-    (found i.first id all o told).gone fates grown)
+    rw left (keeps_less i.first i.window i.sent (length i.bodies.items) all o i.fates.len i.fates.cap i.lates.len
+    i.lates.cap fl fr ll lr is (found i.first id all o told).gone fates grown late more)
 
 -- ---- the place that a status reply tells
 

@@ -5,6 +5,7 @@ use Rattle.std.specs.Prelude.{IfSome}
 use Rattle.std.proofs.lemmas.Bool.{eqb-true, eq-eqb}
 use Rattle.std.proofs.lemmas.Bool.Decides.{eqb_tells}
 use Rattle.std.proofs.lemmas.List.{length-map, map-append}
+use Rattle.std.proofs.Common.{length-append}
 use Rattle.packet_ids.specs.Identifier.{identifier_at}
 use Rattle.world_model.specs.declared.offered.OpenPlace.{OpenPlace}
 use Rattle.world_model.specs.Hub.{recover, abandoned, open_with, without, places, place_of, least}
@@ -143,21 +144,22 @@ found first id (x ∷ os) o e =
 
 -- ---- what is kept
 
-pub keeps_same : (first window sent count : ℕ) (os qs : List OpenPlace) (fl fr : ℕ)
-    → Keeps first window sent count os fl fr → places qs ≡ places os → waits qs ≡ waits os
-    → Keeps first window sent count qs fl fr
-keeps_same first window sent count os qs fl fr is same waiting = record {
+pub keeps_same : (first window sent count : ℕ) (os qs : List OpenPlace) (fl fr ll lr : ℕ)
+    → Keeps first window sent count os fl fr ll lr → places qs ≡ places os → waits qs ≡ waits os
+    → Keeps first window sent count qs fl fr ll lr
+keeps_same first window sent count os qs fl fr ll lr is same waiting = record {
   identifier = is.identifier;
   within = is.within;
   few = is.few;
   in_window = rw same is.in_window;
   fates_fit = omega (arith, is.fates_fit);
+  lates_fit = omega (arith, is.lates_fit, length-map os place_of, length-map qs place_of, ap length same);
 }
 
-pub keeps_push : (first window sent count : ℕ) (os : List OpenPlace) (fl fr : ℕ)
-    → Keeps first window sent count os fl fr → sent < count → sent + 2 ≤ window + least (places os) (sent + 1)
-    → Keeps first window (sent + 1) count (os ++ opened (sent + 1) ∷ []) fl fr
-keeps_push first window sent count os fl fr is more room =
+pub keeps_push : (first window sent count : ℕ) (os : List OpenPlace) (fl fr ll lr : ℕ)
+    → Keeps first window sent count os fl fr ll lr → sent < count → sent + 2 ≤ window + least (places os) (sent + 1)
+    → Keeps first window (sent + 1) count (os ++ opened (sent + 1) ∷ []) fl fr ll lr
+keeps_push first window sent count os fl fr ll lr is more room =
     let w = waits_push os (sent + 1) in
     record {
       identifier = is.identifier;
@@ -166,36 +168,40 @@ keeps_push first window sent count os fl fr is more room =
       in_window = rw (map-append place_of os (opened (sent + 1) ∷ []))
           (window_push window sent (places os) is.in_window room);
       fates_fit = omega (arith, is.fates_fit);
+      lates_fit = omega (arith, is.lates_fit, length-append os (opened (sent + 1) ∷ []));
     }
 
-pub keeps_less : (first window sent count : ℕ) (os : List OpenPlace) (o : OpenPlace) (fl fr fl2 fr2 : ℕ)
-    → Keeps first window sent count os fl fr → Removed os o → fl2 ≤ fl + (if o.waited then 1 else 0) → fr ≤ fr2
-    → Keeps first window sent count (without o.place os) fl2 fr2
-keeps_less first window sent count os o fl fr fl2 fr2 is gone fates grown = record {
+pub keeps_less : (first window sent count : ℕ) (os : List OpenPlace) (o : OpenPlace) (fl fr ll lr fl2 fr2 ll2 lr2 : ℕ)
+    → Keeps first window sent count os fl fr ll lr → Removed os o → fl2 ≤ fl + (if o.waited then 1 else 0) → fr ≤ fr2
+    → ll2 ≤ ll + 1 → lr ≤ lr2
+    → Keeps first window sent count (without o.place os) fl2 fr2 ll2 lr2
+keeps_less first window sent count os o fl fr ll lr fl2 fr2 ll2 lr2 is gone fates grown late more = record {
   identifier = is.identifier;
   within = is.within;
   few = is.few;
   in_window = rw (places_without o.place os) (window_less window sent o.place (places os) is.in_window);
   fates_fit = omega (arith, is.fates_fit, gone.waiting);
+  lates_fit = omega (arith, is.lates_fit, gone.shorter);
 }
 
-wanted_kept : (first window sent count : ℕ) (os : List OpenPlace) (fl fr : ℕ) (r : Option Wanted)
-    → Keeps first window sent count os fl fr → IsWantedOr first os r → SameWaited os r
-    → Keeps first window sent count (places_wanted os r) fl fr
-wanted_kept first window sent count os fl fr None is w s = is
-wanted_kept first window sent count os fl fr (Some x) is w s =
-    keeps_same first window sent count os x.open_places fl fr is w.same (same_waits os x.open_places s)
+wanted_kept : (first window sent count : ℕ) (os : List OpenPlace) (fl fr ll lr : ℕ) (r : Option Wanted)
+    → Keeps first window sent count os fl fr ll lr → IsWantedOr first os r → SameWaited os r
+    → Keeps first window sent count (places_wanted os r) fl fr ll lr
+wanted_kept first window sent count os fl fr ll lr None is w s = is
+wanted_kept first window sent count os fl fr ll lr (Some x) is w s =
+    keeps_same first window sent count os x.open_places fl fr ll lr is w.same (same_waits os x.open_places s)
 
-pub keeps_wanted : (first window sent count : ℕ) (os : List OpenPlace) (fl fr : ℕ)
-    → Keeps first window sent count os fl fr
-    → Keeps first window sent count (places_wanted os (wanted first os)) fl fr
-keeps_wanted first window sent count os fl fr is =
-    wanted_kept first window sent count os fl fr (wanted first os) is (wanted_is first os) (wanted_waited first os)
+pub keeps_wanted : (first window sent count : ℕ) (os : List OpenPlace) (fl fr ll lr : ℕ)
+    → Keeps first window sent count os fl fr ll lr
+    → Keeps first window sent count (places_wanted os (wanted first os)) fl fr ll lr
+keeps_wanted first window sent count os fl fr ll lr is =
+    wanted_kept first window sent count os fl fr ll lr (wanted first os) is (wanted_is first os)
+    (wanted_waited first os)
 
-pub keeps_abandoned : (first window sent count : ℕ) (os : List OpenPlace) (fl fr count2 fl2 fr2 : ℕ)
-    → Keeps first window sent count os fl fr → count2 ≡ sent → fl2 ≡ fl + waits os + (count - sent) → fr ≤ fr2
-    → Keeps first window sent count2 (map abandoned os) fl2 fr2
-keeps_abandoned first window sent count os fl fr count2 fl2 fr2 is cut told grown =
+pub keeps_abandoned : (first window sent count : ℕ) (os : List OpenPlace) (fl fr ll lr count2 fl2 fr2 : ℕ)
+    → Keeps first window sent count os fl fr ll lr → count2 ≡ sent → fl2 ≡ fl + waits os + (count - sent) → fr ≤ fr2
+    → Keeps first window sent count2 (map abandoned os) fl2 fr2 ll lr
+keeps_abandoned first window sent count os fl fr ll lr count2 fl2 fr2 is cut told grown =
     let w = waits_abandoned os in
     record {
       identifier = is.identifier;
@@ -203,6 +209,7 @@ keeps_abandoned first window sent count os fl fr count2 fl2 fr2 is cut told grow
       few = omega (arith, is.within, is.few);
       in_window = rw (places_map abandoned os (λ _. refl)) is.in_window;
       fates_fit = omega (arith, is.fates_fit);
+      lates_fit = omega (arith, is.lates_fit, length-map os abandoned);
     }
 
 rising_length : (from past : ℕ) (ps : List ℕ) → AreRising from past ps → from + length ps ≤ past
@@ -216,11 +223,11 @@ window_length window sent os is =
     let len = length-map os place_of in
     omega (arith, is.within)
 
-pub keeps_offer : (first window sent count : ℕ) (os : List OpenPlace) (fl fr count2 fr2 : ℕ)
-    → Keeps first window sent count os fl fr → count2 ≡ count + 1 → count < 2 ^ 62
-    → fl + (window + (count - sent) + 1) ≤ fr2
-    → Keeps first window sent count2 os fl fr2
-keeps_offer first window sent count os fl fr count2 fr2 is more few fate_room =
+pub keeps_offer : (first window sent count : ℕ) (os : List OpenPlace) (fl fr ll lr count2 fr2 lr2 : ℕ)
+    → Keeps first window sent count os fl fr ll lr → count2 ≡ count + 1 → count < 2 ^ 62
+    → fl + (window + (count - sent) + 1) ≤ fr2 → ll + (window + (count - sent) + 1) ≤ lr2
+    → Keeps first window sent count2 os fl fr2 ll lr2
+keeps_offer first window sent count os fl fr ll lr count2 fr2 lr2 is more few fate_room late_room =
     let w = waits_few os in
     let open_few = window_length window sent os is.in_window in
     record {
@@ -229,4 +236,5 @@ keeps_offer first window sent count os fl fr count2 fr2 is more few fate_room =
       few = omega arith;
       in_window = is.in_window;
       fates_fit = omega (arith, is.within);
+      lates_fit = omega (arith, is.within);
     }

@@ -15,3 +15,4 @@ mod TagAccounts
 mod FateOrder
 mod SendOrder
 mod FateBodies
+mod Lates

@@ -155,7 +155,7 @@ first_placed place before h x is =
 
 event_placed : (place before : ℕ) (h : Hub) (event : HubEvent) → IsPlaced place before h
     → Placed place before (handed h event) (after_event h event)
-event_placed place before h event is = after_is (Placed place before) h (record {
+event_placed place before h event is = after_is (λ now. Placed place before now.fates) h (record {
   offered = λ x. either (λ (os : List OpenPlace). times place (places_to (length h.sent)) ≡ before + 0
       + (fates_at place h.fates + place_waits place os)) h.gave_up (map want_control h.open_places) h.open_places
       (λ _. omega (arith, is, ap (times place) (waited_map want_control h.open_places (λ _. refl) (λ _. refl))))
@@ -183,6 +183,7 @@ event_placed place before h event is = after_is (Placed place before) h (record 
     ap (fates_at place) (take-append-drop 1 h.fates),
     count_append (fates_at place) (at_count place) (take 1 h.fates) (drop 1 h.fates),
   );
+  late_handed = omega (arith, is);
 }) event
 
 placed : (place before : ℕ) (h : Hub) (events : List HubEvent) → IsPlaced place before h

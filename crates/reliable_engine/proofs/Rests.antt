@@ -16,7 +16,8 @@ use Rattle.world_model.specs.Hub.{is_waiting, some_waited}
 use Rattle.world_model.specs.Sends.{Next, first_send, wanted_or_first, next_send}
 use Rattle.world_model.specs.Facts.{has, AreRising}
 use Rattle.reliable_engine.specs.Answers.{IsQuiet, NamesOpenPlace, hub_next}
-use Rattle.reliable_engine.specs.Events.{HubEvent, Offer, Status, Reply, Quiet, Send, HandOut, after_event}
+use Rattle.reliable_engine.specs.Events.{HubEvent, Offer, Status, Reply, Quiet, Send, HandOut, HandOutLate}
+use Rattle.reliable_engine.specs.Events.{after_event}
 use Rattle.reliable_engine.specs.Events.{after_events}
 use Rattle.reliable_engine.specs.Events.{IsAllowed, AreAllowed, SettlesAlone, IsAtRest, quiets, IsOutOfRounds}
 use Rattle.reliable_engine.specs.Events.{SettleNone, SettlesNone}
@@ -216,6 +217,13 @@ event_rests h HandOut can rest = λ gave. let is = rest gave in record {
   status = is.status;
   quiet = is.quiet;
 }
+event_rests h HandOutLate can rest = λ gave. let is = rest gave in record {
+  queue = is.queue;
+  waited = is.waited;
+  round = is.round;
+  status = is.status;
+  quiet = is.quiet;
+}
 
 pub stays_at_rest : (h : Hub) (events : List HubEvent) → AreAllowed h events → RestsAfter h
     → RestsAfter (after_events h events)
@@ -256,6 +264,7 @@ event_rounds h Quiet = quiet_cases (λ after. after.status_requests ≤ h.status
     (λ _. omega arith) (λ _. omega arith)
 event_rounds h Send = omega (arith, send_rounds h)
 event_rounds h HandOut = omega arith
+event_rounds h HandOutLate = omega arith
 
 quiets_more : (event : HubEvent) (events : List HubEvent)
     → quiets (event ∷ events) ≡ quiets (event ∷ []) + quiets events
@@ -265,6 +274,7 @@ quiets_more (Reply id words) events = omega arith
 quiets_more Quiet events = omega arith
 quiets_more Send events = omega arith
 quiets_more HandOut events = omega arith
+quiets_more HandOutLate events = omega arith
 
 pub rounds_counted : (h : Hub) (events : List HubEvent)
     → (after_events h events).status_requests ≤ h.status_requests + quiets events
@@ -296,6 +306,7 @@ round_begun h (Reply id words) none few =
 round_begun h Quiet none few = ap (λ (x : Hub). x.status_requests) (quiet_begins h (omega arith))
 round_begun h Send none few = omega (arith, send_rounds h)
 round_begun h HandOut none few = omega arith
+round_begun h HandOutLate none few = omega arith
 
 pub rounds_begun : (h : Hub) (events : List HubEvent) → SettleNone h events
     → h.status_requests + quiets events ≤ h.rounds

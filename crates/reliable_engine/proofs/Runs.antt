@@ -49,6 +49,7 @@ step_of h event = after_is (λ _ after. IsStep h after) h (record {
   sent_first = λ x later queue room. sent_one x refl
       (map-append place_of h.open_places (opened (length h.sent + 1) ∷ [])) room;
   handed = same refl refl;
+  late_handed = same refl refl;
 }) event
 
 -- ---- the numbers of the hub
@@ -72,6 +73,7 @@ numbers_of h event =
       wished = λ w told. record { first = refl; window = refl; rounds = refl };
       sent_first = λ x later queue room. record { first = refl; window = refl; rounds = refl };
       handed = record { first = refl; window = refl; rounds = refl };
+      late_handed = record { first = refl; window = refl; rounds = refl };
     }) event
 
 pub same_first : (h : Hub) (events : List HubEvent) → (after_events h events).first ≡ h.first

@@ -10,7 +10,8 @@ use Rattle.world_model.specs.History.{tag_of_fate, times}
 use Rattle.world_model.proofs.Accounts.{IsBalanced, count_append, message_balanced, offer_balanced, placed_count}
 use Rattle.world_model.proofs.Accounts.{placed_fates, quiet_balanced, sends_balanced, tagged_count, tagged_fates}
 use Rattle.reliable_engine.specs.Answers.{told_first}
-use Rattle.reliable_engine.specs.Events.{HubEvent, Offer, Status, Reply, Quiet, Send, HandOut, after_event}
+use Rattle.reliable_engine.specs.Events.{HubEvent, Offer, Status, Reply, Quiet, Send, HandOut, HandOutLate}
+use Rattle.reliable_engine.specs.Events.{after_event}
 use Rattle.reliable_engine.specs.Events.{after_events}
 use Rattle.reliable_engine.specs.ToldFates.{IsAccounted, all_fates, handed, handed_out, offered_tags}
 use Rattle.reliable_engine.proofs.Cases.{next_is}
@@ -65,6 +66,8 @@ event_balanced tag offered told h Send is = none_more tag offered told _
 event_balanced tag offered told h HandOut is =
     balanced_as tag offered (offered + 0) (told ++ take 1 h.fates) _ (told_first h) (omega arith) refl
     (hand_out_balanced tag offered told h is)
+event_balanced tag offered told h HandOutLate is =
+    none_more tag offered told _ (record { up_to = is.up_to; all = is.all; placed = is.placed })
 
 tags_cons : (tag : ℕ) (event : HubEvent) (events : List HubEvent)
     → times tag (offered_tags (event ∷ events))
@@ -75,6 +78,7 @@ tags_cons tag (Reply id words) events = omega arith
 tags_cons tag Quiet events = omega arith
 tags_cons tag Send events = omega arith
 tags_cons tag HandOut events = omega arith
+tags_cons tag HandOutLate events = omega arith
 
 events_balanced : (tag offered : ℕ) (told : List (ℕ × Fate)) (h : Hub) (events : List HubEvent)
     → IsBalanced tag offered told h

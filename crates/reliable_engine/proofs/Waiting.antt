@@ -5,7 +5,8 @@ use Rattle.world_model.specs.Hub.{Hub, is_waiting}
 use Rattle.world_model.specs.Sends.{next_send}
 use Rattle.world_model.proofs.Flushing.{quiet_cases, reply_cases, status_cases}
 use Rattle.reliable_engine.specs.Answers.{hub_next}
-use Rattle.reliable_engine.specs.Events.{HubEvent, Offer, Status, Reply, Quiet, Send, HandOut, IsAllowed, AreAllowed}
+use Rattle.reliable_engine.specs.Events.{HubEvent, Offer, Status, Reply, Quiet, Send, HandOut, HandOutLate}
+use Rattle.reliable_engine.specs.Events.{IsAllowed, AreAllowed}
 use Rattle.reliable_engine.specs.Events.{WasAsked, after_event, after_events}
 use Rattle.reliable_engine.proofs.Cases.{after_send}
 
@@ -37,6 +38,7 @@ asks h Quiet can asked = inr (
 )
 asks h Send can asked = absurd (let none = send_by h h.status_wanted refl in let bad = sym none ∙ asked in cc)
 asks h HandOut can asked = inl (asked, λ bad. absurd (cc))
+asks h HandOutLate can asked = inl (asked, λ bad. absurd (cc))
 
 pub asked_while_waiting : (h : Hub) (event : HubEvent) → IsAllowed h event → h.status_wanted ≡ false
     → (after_event h event).status_wanted ≡ true → is_waiting (after_event h event) ≡ true

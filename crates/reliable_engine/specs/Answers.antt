@@ -71,3 +71,7 @@ IsSendOf hub (sends.Control place id) = IsOpen hub place
 -- the hub whose first fate was handed out
 abbrev pub told_first : Hub → Hub
 told_first hub = record hub { fates = drop 1 hub.fates }
+
+-- the hub whose first late answer was handed out
+abbrev pub told_first_late : Hub → Hub
+told_first_late hub = record hub { lates = drop 1 hub.lates }

@@ -8,9 +8,10 @@ use Rattle.world_model.specs.Hub.{Hub, offer, hear_status, hear_reply, hear_quie
 use Rattle.world_model.specs.Hub.{some_waited}
 use Rattle.world_model.specs.Sends.{next_send}
 use Rattle.reliable_engine.specs.Answers.{IsOpen, IsQuiet, NamesOpenPlace, TellsPlace, hub_next, told_first}
+use Rattle.reliable_engine.specs.Answers.{told_first_late}
 
 -- a body is offered; a status reply with this identifier, the reply with this identifier, or nothing at all is heard;
--- the next send is taken; the first fate is handed out
+-- the next send is taken; the first fate or the first late answer is handed out
 pub data HubEvent : Type 0 where
   Offer : Offered → HubEvent
   Status : ℕ → HubEvent
@@ -18,6 +19,7 @@ pub data HubEvent : Type 0 where
   Quiet : HubEvent
   Send : HubEvent
   HandOut : HubEvent
+  HandOutLate : HubEvent
 
 abbrev pub after_event : Hub → HubEvent → Hub
 after_event hub (Offer offered) = offer hub offered
@@ -26,6 +28,7 @@ after_event hub (Reply id words) = hear_reply hub id words
 after_event hub Quiet = hear_quiet hub
 after_event hub Send = hub_next hub (next_send hub)
 after_event hub HandOut = told_first hub
+after_event hub HandOutLate = told_first_late hub
 
 abbrev pub after_events : Hub → List HubEvent → Hub
 after_events hub [] = hub
@@ -39,6 +42,7 @@ IsAllowed hub (Reply id words) = Unit {0}
 IsAllowed hub Quiet = is_waiting hub ≡ true
 IsAllowed hub Send = Unit {0}
 IsAllowed hub HandOut = Unit {0}
+IsAllowed hub HandOutLate = Unit {0}
 
 abbrev pub AreAllowed : Hub → List HubEvent → Type 0
 AreAllowed hub [] = Unit {0}
@@ -82,6 +86,7 @@ SettlesNone hub (Reply id words) = ¬ NamesOpenPlace hub id
 SettlesNone hub Quiet = Unit {0}
 SettlesNone hub Send = Unit {0}
 SettlesNone hub HandOut = Unit {0}
+SettlesNone hub HandOutLate = Unit {0}
 
 -- no place is settled by these events
 abbrev pub SettleNone : Hub → List HubEvent → Type 0
@@ -105,6 +110,7 @@ quiets (Reply id words ∷ events) = quiets events
 quiets (Quiet ∷ events) = quiets events + 1
 quiets (Send ∷ events) = quiets events
 quiets (HandOut ∷ events) = quiets events
+quiets (HandOutLate ∷ events) = quiets events
 
 -- how many of the events hand a fate out
 abbrev pub handouts : List HubEvent → ℕ
@@ -115,6 +121,7 @@ handouts (Reply id words ∷ events) = handouts events
 handouts (Quiet ∷ events) = handouts events
 handouts (Send ∷ events) = handouts events
 handouts (HandOut ∷ events) = handouts events + 1
+handouts (HandOutLate ∷ events) = handouts events
 
 -- a fate is one of these
 abbrev pub IsAmong : ℕ × Fate → List (ℕ × Fate) → Type 0

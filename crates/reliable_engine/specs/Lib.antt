@@ -6,4 +6,5 @@ pub mod SendOrder
 pub mod Slots
 pub mod Steps
 pub mod ToldFates
+pub mod ToldLates
 pub mod View

@@ -7,8 +7,8 @@ use Rattle.world_model.specs.declared.offered.Fate.TheVariants.{Replied, TimedOu
 use Rattle.world_model.specs.Hub.{Hub}
 use Rattle.world_model.specs.Facts.{IsTagged}
 use Rattle.world_model.specs.History.{placed_tags, tag_of_fate, tag_of_offered, times, waited_tags}
-use Rattle.reliable_engine.specs.Events.{HubEvent, Offer, Status, Reply, Quiet, Send, HandOut, after_event}
-use Rattle.reliable_engine.specs.Events.{after_events}
+use Rattle.reliable_engine.specs.Events.{HubEvent, Offer, Status, Reply, Quiet, Send, HandOut, HandOutLate}
+use Rattle.reliable_engine.specs.Events.{after_event, after_events}
 
 -- the fate that an event hands out
 abbrev pub handed : Hub → HubEvent → List (ℕ × Fate)
@@ -18,6 +18,7 @@ handed hub (Reply id words) = []
 handed hub Quiet = []
 handed hub Send = []
 handed hub HandOut = take 1 hub.fates
+handed hub HandOutLate = []
 
 -- those that all the events hand out, in order
 abbrev pub handed_out : Hub → List HubEvent → List (ℕ × Fate)
@@ -84,6 +85,7 @@ offered_tags (Reply id words ∷ events) = offered_tags events
 offered_tags (Quiet ∷ events) = offered_tags events
 offered_tags (Send ∷ events) = offered_tags events
 offered_tags (HandOut ∷ events) = offered_tags events
+offered_tags (HandOutLate ∷ events) = offered_tags events
 
 -- Every offered body stands once among the fates, the bodies that are waited for and those that are queued; and every
 -- body that was sent stands once among the fates with a place and the bodies that are waited for.

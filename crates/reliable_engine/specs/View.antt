@@ -19,16 +19,20 @@ hub_of e = record {
   status_wanted = e.status_wanted;
   gave_up = e.gave_up;
   fates = e.fates.items;
+  lates = e.lates.items;
 }
 
 -- The bodies that were offered are `count` in all, without those that were never sent; the first `sent` of them have a
 -- place. There is room for the fates of all.
-pub record Keeps (first window sent count : ℕ) (os : List OpenPlace) (fates fate_room : ℕ) : Type 0 where
-  pub identifier : IsIdentifier first
-  pub within : sent ≤ count
-  pub few : count ≤ 2 ^ 62
-  pub in_window : IsWindow window sent (places os)
-  pub fates_fit : fates + waits os + (count - sent) ≤ fate_room
+pub record Keeps (first window sent count : ℕ) (os : List OpenPlace) (fates fate_room lates late_room : ℕ) : Type 0
+  where
+    pub identifier : IsIdentifier first
+    pub within : sent ≤ count
+    pub few : count ≤ 2 ^ 62
+    pub in_window : IsWindow window sent (places os)
+    pub fates_fit : fates + waits os + (count - sent) ≤ fate_room
+    pub lates_fit : lates + length os + (count - sent) ≤ late_room
 
 abbrev pub IsKept : Inside → Type 0
 IsKept e = Keeps e.first e.window e.sent (length e.bodies.items) e.open_places e.fates.len e.fates.cap
+    e.lates.len e.lates.cap

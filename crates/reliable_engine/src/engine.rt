@@ -1,6 +1,6 @@
 //! The engine: what it hears, what it sends, and what became of the bodies.
 
-ghost use Rattle.std.specs.Prelude.{◌≡◌, ◌↔◌, ◌≤◌, ◌<◌, ◌+◌, ◌^◌, true, length, min};
+ghost use Rattle.std.specs.Prelude.{◌≡◌, ◌↔◌, ◌≤◌, ◌<◌, ◌+◌, ◌^◌, true, [], length, min};
 ghost use Rattle.std.specs.List.{slice_get};
 ghost use Rattle.std.specs.Prelude.{IfOk, OnOk, IfErr, OnErr, IfSome, IsTrue, IsNone};
 ghost use Rattle.world_model.specs.Places.{at_place};
@@ -9,9 +9,10 @@ ghost use Rattle.world_model.specs.Hub.{low, told_place, words_of};
 ghost use Rattle.world_model.specs.Sends.{first_send, next_send};
 ghost use Rattle.reliable_engine.specs.Answers.{HasNothingToSend, IsOpen, IsSendOf, NamesOpenPlace, TellsPlace};
 ghost use Rattle.reliable_engine.specs.Answers.{body_count, hub_next, sent_next, tag_there, told_first};
+ghost use Rattle.reliable_engine.specs.Answers.{told_first_late};
 ghost use Rattle.reliable_engine.specs.Steps.{resumed};
 
-use crate::fates::{put_fate, put_unsent};
+use crate::fates::{put_fate, put_late, put_unsent};
 use crate::open_places::OpenPlaces;
 use ipb_base::{NoMemory, Words};
 use packet_ids::{Id, id_at, place_of};
@@ -22,8 +23,8 @@ use std::marker::Model;
 use world_model::{Fate, Offered, Sending, Settings};
 
 /// The hub's side of one board (IPbus 2.0, reliability mechanism). Contracts see it as `world_model`'s hub: the bodies
-/// that were sent, by place, those that wait, the open places, the round that is under way, and the fates that are not
-/// handed out.
+/// that were sent, by place, those that wait, the open places, the round that is under way, and the fates and late
+/// answers that are not handed out.
 #[derive(Drop)]
 pub struct Engine {
     first: Id,
@@ -36,6 +37,7 @@ pub struct Engine {
     status_wanted: bool,
     gave_up: bool,
     fates: VecDeque<(u64, Fate)>,
+    lates: VecDeque<(u64, Words)>,
 }
 
 impl Model for Engine {
@@ -67,12 +69,13 @@ impl Engine {
             status_wanted: false,
             gave_up: false,
             fates: VecDeque::new(alloc),
+            lates: VecDeque::new(alloc),
         })
     }
 
     /// Offers a body under a tag. The first offer since a give-up has the control packet of each open place sent again
-    /// (profile). It takes the room that the body and its fate will need, so no later call takes memory.
-    /// Where memory ran out the body is given back, and nothing changed. At most 2^62 bodies are offered.
+    /// (profile). Room for all that will be told of the body is taken here; other calls take no memory. Where memory ran
+    /// out the body is given back, and nothing changed. At most 2^62 bodies are offered.
     pub fn offer(&mut self, tag: u64, body: Words) -> Result<(), Words>
         requires few { body_count self.old < 2 ^ 62 }
         ensures offered { OnOk result (self.new ≡ offer self.old (record { tag = tag; body = body })) }
@@ -81,8 +84,11 @@ impl Engine {
         ensures counted { body_count self.new ≤ body_count self.old + 1 }
     {
         let queued = self.bodies.len() - self.sent;
-        // of the bodies that were sent, at most `window` have no fate yet
+        // of the bodies that were sent, at most `window` have no fate yet, and at most as many are open
         let Ok(()) = self.fates.reserve(self.window as usize + queued + 1) else {
+            return Err(body);
+        };
+        let Ok(()) = self.lates.reserve(self.window as usize + queued + 1) else {
             return Err(body);
         };
         if let Err(refused) = self.bodies.push(Offered { tag, body }) {
@@ -113,8 +119,8 @@ impl Engine {
     }
 
     /// Hears the reply to a control packet (IPbus 2.0, reliability mechanism). It settles the open place with its
-    /// identifier, whenever it comes; the words go to whoever waits for them. Where no open place has the identifier
-    /// nothing changes.
+    /// identifier, whenever it comes. The words go to whoever waits for them; where nobody does any more, they are the
+    /// late answer of that place. Where no open place has the identifier nothing changes.
     pub fn on_reply(&mut self, id: Id, words: Words) -> bool
         ensures hub { self.new ≡ hear_reply self.old id words }
         ensures taken { IsTrue result ↔ NamesOpenPlace self.old id }
@@ -128,6 +134,8 @@ impl Engine {
             let tag = self.bodies[(settled.place - 1) as usize].tag;
             let place = settled.place;
             put_fate(&mut self.fates, place, tag, Fate::Replied { place, words });
+        } else {
+            put_late(&mut self.lates, settled.place, words);
         }
         true
     }
@@ -211,6 +219,16 @@ impl Engine {
         ensures counted { body_count self.new ≡ body_count self.old }
     {
         self.fates.pop_front()
+    }
+
+    /// Hands out the first late answer that was not handed out, by place. `None` where there is none.
+    pub fn late(&mut self) -> Option<(u64, Words)>
+        ensures late { result ≡ slice_get self.old.lates 0 }
+        ensures none { IsNone result ↔ (self.old.lates ≡ []) }
+        ensures hub { self.new ≡ told_first_late self.old }
+        ensures counted { body_count self.new ≡ body_count self.old }
+    {
+        self.lates.pop_front()
     }
 
     /// Goes on after a give-up: the control packet of each open place is sent again (profile).

@@ -1,14 +1,15 @@
-//! The fates that are not handed out yet: by place, and then those of bodies that were never sent.
+//! What is not handed out yet: fates by place, then those of bodies that were never sent; and late answers by place.
 
-ghost use Rattle.std.specs.Prelude.{◌≡◌, ◌≤◌, ◌<◌, ◌+◌, ℕ, length, map, ◌++◌, ◌∷◌, []};
+ghost use Rattle.std.specs.Prelude.{◌≡◌, ◌≤◌, ◌<◌, ◌+◌, ℕ, List, length, map, ◌++◌, ◌∷◌, []};
 ghost use Rattle.std.specs.List.{insert};
 ghost use Rattle.std.specs.VecDeque.{deque_len, deque_capacity};
 ghost use Rattle.world_model.specs.declared.offered.Fate.{Fate as FateValue};
-ghost use Rattle.world_model.specs.Hub.{insert_fate, goes_before, time_out, unsent};
+ghost use Rattle.world_model.specs.Hub.{insert_fate, insert_late, goes_before, time_out, unsent};
 ghost use Rattle.reliable_engine.specs.Slots.{AreUpTo, EndsAt, open_from};
 ghost use Rattle.reliable_engine.specs.Steps.{waits};
 
 use crate::slots::{Flags, SLOTS, read_slot};
+use ipb_base::Words;
 use std::collections::VecDeque;
 use world_model::{Fate, Offered, OpenPlace};
 
@@ -46,6 +47,32 @@ pub(crate) fn put_fate(fates: &mut VecDeque<(u64, Fate)>, place: u64, tag: u64, 
 {
     let at = fate_index(fates, place);
     fates.insert(at, (tag, fate)).unwrap();
+}
+
+/// Where a late answer at this place is put.
+fn late_index(lates: &VecDeque<(u64, Words)>, place: u64) -> usize
+    ensures within { result ≤ deque_len lates.now }
+    ensures index { (words : List ℕ) → insert_late (place, words) lates.now.items
+        ≡ insert lates.now.items result (place, words) }
+{
+    for at in 0..lates.len() {
+        let told = &lates[at];
+        if place < told.0 {
+            return at;
+        }
+    }
+    lates.len()
+}
+
+/// Puts the late answer of a place among the others, for which there is room.
+pub(crate) fn put_late(lates: &mut VecDeque<(u64, Words)>, place: u64, words: Words)
+    requires room { deque_len lates.old < deque_capacity lates.old }
+    ensures items { lates.new.items ≡ insert_late (place, words) lates.old.items }
+    ensures len { deque_len lates.new ≡ deque_len lates.old + 1 }
+    ensures capacity { deque_capacity lates.old ≤ deque_capacity lates.new }
+{
+    let at = late_index(lates, place);
+    lates.insert(at, (place, words)).unwrap();
 }
 
 /// Gives each place that is waited for the fate of a time-out, where the open places are from `low` on and below `end`.

@@ -15,6 +15,7 @@ ghost use Rattle.world_model.specs.Hub.{Hub, give_up, hear_quiet, hear_status, n
 ghost use Rattle.world_model.specs.Hub.{is_waiting, low, places, recover, want_status};
 ghost use Rattle.world_model.specs.Sends.{Next, next_send, pending};
 ghost use Rattle.world_model.specs.History.{tag_of_fate, times};
+ghost use Rattle.world_model.specs.LateAnswers.{AreOfTimedOut};
 ghost use Rattle.world_model.specs.declared.settings.TheConstants.{MAX_WINDOW};
 ghost use Rattle.reliable_engine.specs.Answers.{IsOpen, IsSendOf, TellsPlace, sent_next};
 ghost use Rattle.reliable_engine.specs.Events.{AreAllowed, HubEvent, IsAllowed, IsAmong, IsAtRest, IsInWindow};
@@ -23,6 +24,7 @@ ghost use Rattle.reliable_engine.specs.Events.{IfTold, SettleNone, SettlesAlone,
 ghost use Rattle.reliable_engine.specs.SendOrder.{GoesByPlace, HasNothingWanted};
 ghost use Rattle.reliable_engine.specs.ToldFates.{AreByPlace, IsAccounted, IsOfItsBody, IsSentPlace, StandsIn};
 ghost use Rattle.reliable_engine.specs.ToldFates.{all_fates, fate_places, handed_out, offered_tags, tellings};
+ghost use Rattle.reliable_engine.specs.ToldLates.{AreLatesByPlace, all_lates, handed_out_by, lates_handed_out};
 ghost use Rattle.reliable_engine.specs.Examples.{given_up, one_word, settled_while_asked, three_told, two_sent};
 ghost use Rattle.reliable_engine.specs.Examples.{two_settled};
 
@@ -159,6 +161,29 @@ pub fn a_fate_never_changes()
 pub fn fates_wait_by_place()
     ensures { (first window rounds : ℕ) (events : List HubEvent)
         → AreByPlace 0 (after_events (new_hub first window rounds) events).fates }
+{}
+
+/// A late answer never changes, and waits until it is handed out. Whatever events follow, all late answers that were
+/// told stand among those told then, in the same order; those that were handed out come first.
+pub fn a_late_answer_never_changes()
+    ensures in_order { (hub : Hub) (events more : List HubEvent)
+        → StandsIn (all_lates hub events) (all_lates hub (events ++ more)) }
+    ensures handed_out { (hub : Hub) (events more : List HubEvent)
+        → IsPrefix (lates_handed_out hub events) (lates_handed_out hub (events ++ more)) }
+{}
+
+/// Late answers wait in the order of their places.
+pub fn late_answers_wait_by_place()
+    ensures { (first window rounds : ℕ) (events : List HubEvent)
+        → AreLatesByPlace 0 (after_events (new_hub first window rounds) events).lates }
+{}
+
+/// Each late answer, handed out or waiting, is of a body that was timed out; its place is open no more, and no place
+/// has two. Each place that was sent is open, was replied or has its late answer.
+pub fn a_late_answer_is_told_once()
+    ensures { (first window rounds : ℕ) (events : List HubEvent)
+        → AreOfTimedOut (handed_out_by (new_hub first window rounds) events)
+        (after_events (new_hub first window rounds) events) }
 {}
 
 /// A status request becomes wanted only while a body has no fate: where one is wanted, a quiet receive came while a

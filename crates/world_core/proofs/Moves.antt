@@ -7,7 +7,6 @@ use Rattle.std.proofs.lemmas.List.{drop_all, drop_more, take_all}
 use Rattle.std.proofs.lemmas.List.Elements.{All-from_recursion, All-more, recursion_from_All}
 use Rattle.reliable_engine.specs.Answers.{body_count}
 use Rattle.world_model.specs.declared.datagram.Datagram.{Datagram}
-use Rattle.world_model.specs.declared.offered.Fate.{Fate}
 use Rattle.world_model.specs.declared.moves.WorldEnd.{WorldEnd}
 use Rattle.world_model.specs.declared.moves.WorldMove.{WorldMove}
 use Rattle.std.proofs.Common.{map, min}
@@ -17,8 +16,8 @@ use Rattle.board_bus.specs.Cells.{HoldsWords}
 use Rattle.world_model.specs.declared.settings.TheConstants.{MAX_WINDOW}
 use Rattle.world_model.specs.declared.heard.LogEntry.{LogEntry}
 use Rattle.world_model.specs.Board.{Board, body_of, executed, expected, numbered}
-use Rattle.world_model.specs.Hub.{Hub, new_hub}
-use Rattle.world_model.specs.World.{World, moves_on, run_moves, start, step}
+use Rattle.world_model.specs.Hub.{Hub, new_hub, none_handed_out}
+use Rattle.world_model.specs.World.{World, moves_on, run_moves, start, step, told_in, with_told}
 use Rattle.world_model.specs.Facts.{IsStart}
 use Rattle.world_model.specs.History.{IsMove, IsRun}
 use Rattle.world_core.specs.Steps.{HasSpellings, IsRunning}
@@ -110,15 +109,17 @@ new_bodies first window rounds hub is = ap body_count is
 -- the hub of a board that has executed nothing knows the first identifier of it
 pub begun_there : (window rounds : ℕ) (old : Board) (next buffers : ℕ) (w : World) → executed old ≡ []
     → identifier_at old.first 1 ≡ old.first → next ≡ expected old → buffers ≡ old.buffers → w.board ≡ old
-    → w.hub ≡ new_hub next (min window buffers) rounds → w.air ≡ [] → w.fates ≡ [] → w ≡ start window rounds old []
-begun_there window rounds old next buffers w none at_first next_is buffers_are board hub air fates =
+    → w.hub ≡ new_hub next (min window buffers) rounds → w.air ≡ [] → told_in w ≡ none_handed_out
+    → w ≡ start window rounds old []
+begun_there window rounds old next buffers w none at_first next_is buffers_are board hub air told =
     let first : next ≡ old.first = next_is
     ∙ (ap (λ (log : List LogEntry). identifier_at old.first (numbered log + 1)) (nothing_logged old.log none)
     ∙ at_first) in
     let new : w.hub ≡ new_hub old.first (min window old.buffers) rounds = hub
     ∙ (ap (λ (n : ℕ). new_hub n (min window buffers) rounds) first
     ∙ ap (λ (b : ℕ). new_hub old.first (min window b) rounds) buffers_are) in
+    let begins = start window rounds old [] in
     ap (λ (b : Board). record w { board = b }) board
     ∙ (ap (λ (h : Hub). record w { board = old; hub = h }) new
-    ∙ (ap (λ (a : List Datagram). record w { board = old; hub = new_hub old.first (min window old.buffers) rounds; air = a }) air
-    ∙ ap (λ (f : List (ℕ × Fate)). record { board = old; hub = new_hub old.first (min window old.buffers) rounds; air = []; fates = f }) fates))
+    ∙ (ap (λ (a : List Datagram). record w { board = old; hub = begins.hub; air = a }) air
+    ∙ ap (with_told begins) told))

@@ -19,6 +19,7 @@ use Rattle.world_model.specs.declared.moves.WorldMove.{WorldMove}
 use Rattle.world_model.specs.declared.moves.WorldMove.TheVariants.{BoardHears, HubHears, Quiet}
 use Rattle.world_model.specs.Messages.{ToHub as ToTheHub, Reply, StatusReply, to_hub}
 use Rattle.world_model.specs.Board.{Board, hear}
+use Rattle.world_model.specs.Hub.{HandedOut, IsDrained, drained, hands_out, none_handed_out}
 use Rattle.world_model.specs.Hub.{Hub, give_up, hear_quiet, hear_status, is_waiting, low, new_hub, offer, open_with}
 use Rattle.world_model.specs.Hub.{recovered, settle, some_waited, take_message, told_place, want_status, without}
 use Rattle.world_model.specs.Sends.{Next, Wanted, bytes_to_send, first_send, next_send, pending, wanted}
@@ -108,25 +109,32 @@ message_gave_up hub (Some (Reply id words)) = settle_gave_up hub words (open_wit
 
 -- ---- a send leaves that as it was, and the fates
 
+-- a send leaves what is to be handed out, and whether the hub gave up
+pub record LeavesTold (hub : Hub) (next : Next) : Type 0 where
+  pub gave_up : next.hub.gave_up ≡ hub.gave_up
+  pub fates : next.hub.fates ≡ hub.fates
+  pub lates : next.hub.lates ≡ hub.lates
+
 abbrev pub Leaves : Hub → Option Next → Type 0
 Leaves hub None = Unit {0}
-Leaves hub (Some next) = (next.hub.gave_up ≡ hub.gave_up) × (next.hub.fates ≡ hub.fates)
+Leaves hub (Some next) = LeavesTold hub next
 
 first_leaves : (hub : Hub) (queue : List Offered) → Leaves hub (first_send hub queue)
 first_leaves hub [] = tt
 first_leaves hub (o ∷ later) = either (Leaves hub)
-    (nat_le (length hub.sent + 1 + 1) (hub.window + low hub)) _ _ (λ _. (refl, refl)) (λ _. tt)
+    (nat_le (length hub.sent + 1 + 1) (hub.window + low hub)) _ _
+    (λ _. record { gave_up = refl; fates = refl; lates = refl }) (λ _. tt)
 
 wanted_leaves : (hub : Hub) (r : Option Wanted) → Leaves hub (wanted_or_first hub r)
 wanted_leaves hub None = first_leaves hub hub.queue
-wanted_leaves hub (Some w) = (refl, refl)
+wanted_leaves hub (Some w) = record { gave_up = refl; fates = refl; lates = refl }
 
 send_leaves : (hub : Hub) → Leaves hub (next_send hub)
-send_leaves hub = either (Leaves hub) hub.status_wanted _ _ (λ _. (refl, refl))
+send_leaves hub = either (Leaves hub) hub.status_wanted _ _ (λ _. record { gave_up = refl; fates = refl; lates = refl })
     (λ _. wanted_leaves hub (wanted hub.first hub.open_places))
 
 pub one_leaves : (hub : Hub) (next : Next) → next_send hub ≡ Some next
-    → (next.hub.gave_up ≡ hub.gave_up) × (next.hub.fates ≡ hub.fates)
+    → LeavesTold hub next
 one_leaves hub next is = subst (Leaves hub) is (send_leaves hub)
 
 -- ---- what the sends that wait leave as it was
@@ -135,17 +143,28 @@ pub record SameTold (old new : World) : Type 0 where
   pub board : new.board ≡ old.board
   pub fates : new.fates ≡ old.fates
   pub waiting : new.hub.fates ≡ old.hub.fates
+  pub lates : new.lates ≡ old.lates
+  pub waiting_lates : new.hub.lates ≡ old.hub.lates
+
+same_told : (w : World) → SameTold w w
+same_told w = record { board = refl; fates = refl; waiting = refl; lates = refl; waiting_lates = refl }
 
 flush_case : (most : ℕ) (w : World) (r : Option Next) → Leaves w.hub r
     → ((next : Next) → SameTold (sent_into w next) (flush most (sent_into w next)))
     → SameTold w (flush_on r (λ next. flush most (sent_into w next)) w)
-flush_case most w None leaves later = record { board = refl; fates = refl; waiting = refl }
+flush_case most w None leaves later = same_told w
 flush_case most w (Some next) leaves later =
     let is = later next in
-    record { board = is.board; fates = is.fates; waiting = is.waiting ∙ leaves.1 }
+    record {
+      board = is.board;
+      fates = is.fates;
+      waiting = is.waiting ∙ leaves.fates;
+      lates = is.lates;
+      waiting_lates = is.waiting_lates ∙ leaves.lates;
+    }
 
 flush_same : (most : ℕ) (w : World) → SameTold w (flush most w)
-flush_same zero w = record { board = refl; fates = refl; waiting = refl }
+flush_same zero w = same_told w
 flush_same (suc most) w =
     flush_case most w (next_send w.hub) (send_leaves w.hub) (λ next. flush_same most (sent_into w next))
 
@@ -154,6 +173,12 @@ all_fates w =
     let same = flush_same (pending w.hub) w in
     ap (λ (fates : List (ℕ × Fate)). fates ++ (flush (pending w.hub) w).hub.fates) same.fates
     ∙ ap (λ (fates : List (ℕ × Fate)). w.fates ++ fates) same.waiting
+
+pub all_lates : (w : World) → (caught_up w).lates ≡ w.lates ++ w.hub.lates
+all_lates w =
+    let same = flush_same (pending w.hub) w in
+    ap (λ (lates : List (ℕ × List ℕ)). lates ++ (flush (pending w.hub) w).hub.lates) same.lates
+    ∙ ap (λ (lates : List (ℕ × List ℕ)). w.lates ++ lates) same.waiting_lates
 
 pub same_board : (w : World) → (caught_up w).board ≡ w.board
 same_board w = (flush_same (pending w.hub) w).board
@@ -190,17 +215,18 @@ moved_on begin w new move can is leads = record {
 abbrev pub SendsEnd : Type 0
 SendsEnd = (w : World) → next_send w.hub ≡ None → flush (pending w.hub) w ≡ w
 
-nothing_handed : (w : World) → w.hub.fates ≡ [] → handed_out w ≡ w
-nothing_handed w none =
-    ap (λ (fates : List (ℕ × Fate)). record w { hub = record w.hub { fates = [] }; fates = w.fates ++ fates }) none
-    ∙ (ap (λ (fates : List (ℕ × Fate)). record w { hub = record w.hub { fates = [] }; fates = fates })
-    (append-nil w.fates)
-    ∙ ap (λ (fates : List (ℕ × Fate)). record w { hub = record w.hub { fates = fates } }) (sym none))
+told_nil : (w : World) → (fates : List (ℕ × Fate)) → (lates : List (ℕ × List ℕ)) → fates ≡ [] → lates ≡ []
+    → record w { hub = record w.hub { fates = []; lates = [] }; fates = w.fates ++ fates; lates = w.lates ++ lates }
+    ≡ record w { hub = record w.hub { fates = fates; lates = lates } }
+told_nil w fates lates a b = rw (a, b, append-nil w.fates, append-nil w.lates) refl
 
-pub caught_up_here : SendsEnd → (w : World) → next_send w.hub ≡ None → w.hub.fates ≡ [] → caught_up w ≡ w
+nothing_handed : (w : World) → IsDrained w.hub → handed_out w ≡ w
+nothing_handed w none = told_nil w w.hub.fates w.hub.lates none.fates none.lates
+
+pub caught_up_here : SendsEnd → (w : World) → next_send w.hub ≡ None → IsDrained w.hub → caught_up w ≡ w
 caught_up_here law w none told = ap handed_out (law w none) ∙ nothing_handed w told
 
-state_here : SendsEnd → (begin w : World) → next_send w.hub ≡ None → w.hub.fates ≡ [] → IsLaneState begin w
+state_here : SendsEnd → (begin w : World) → next_send w.hub ≡ None → IsDrained w.hub → IsLaneState begin w
     → IsState begin w
 state_here law begin w none told is = subst (IsState begin) (caught_up_here law w none told) is.state
 
@@ -209,17 +235,17 @@ state_here law begin w none told is = subst (IsState begin) (caught_up_here law 
 pub begins_reached : (window rounds : ℕ) (board : Board) (air : List Datagram)
     → IsJoined (new_hub board.first (min window board.buffers) rounds) (record { board = board; air = air })
     → IsLaneState (start window rounds board air) (start window rounds board air)
-    → IsReached (start window rounds board air) [] (new_hub board.first (min window board.buffers) rounds)
+    → IsReached (start window rounds board air) none_handed_out (new_hub board.first (min window board.buffers) rounds)
     (record { board = board; air = air })
 begins_reached window rounds board air joined state =
     record { joined = joined; rest = λ e. absurd cc; state = state }
 
-pub offered_reached : (begin : World) (fates : List (ℕ × Fate)) (hub : Hub) (told : Told) (offered : Offered)
-    → (is : IsReached begin fates hub told)
+pub offered_reached : (begin : World) (so_far : HandedOut) (hub : Hub) (told : Told) (offered : Offered)
+    → (is : IsReached begin so_far hub told)
     → IsJoined (offer hub offered) told
-    → IsLaneState begin (with_hub (world_of_both hub told fates) (offer hub offered))
-    → IsReached begin fates (offer hub offered) told
-offered_reached begin fates hub told offered is joined state =
+    → IsLaneState begin (with_hub (world_of_both hub told so_far) (offer hub offered))
+    → IsReached begin so_far (offer hub offered) told
+offered_reached begin so_far hub told offered is joined state =
     record { joined = joined; rest = λ e. absurd cc; state = state }
 
 -- ---- sends
@@ -245,23 +271,23 @@ NothingToSend = (hub : Hub) → IsAtRest hub → next_send hub ≡ None
 no_send_at_rest : NothingToSend → (hub : Hub) (next : Next) → next_send hub ≡ Some next
     → (hub.gave_up ≡ true → IsAtRest hub) → next.hub.gave_up ≡ true → IsAtRest next.hub
 no_send_at_rest law hub next is rest gave_up =
-    let kept : next.hub.gave_up ≡ hub.gave_up = (one_leaves hub next is).0 in
+    let kept : next.hub.gave_up ≡ hub.gave_up = (one_leaves hub next is).gave_up in
     let none = law hub (rest (sym kept ∙ gave_up)) in
     absurd cc
 
-pub sent_reached : NothingToSend → (begin : World) (fates : List (ℕ × Fate)) (hub : Hub) (told : Told) (next : Next)
-    → (is : IsReached begin fates hub told) → next_send hub ≡ Some next
+pub sent_reached : NothingToSend → (begin : World) (so_far : HandedOut) (hub : Hub) (told : Told) (next : Next)
+    → (is : IsReached begin so_far hub told) → next_send hub ≡ Some next
     → IsJoined next.hub (sent_on told (bytes_to_send next.hub next.send))
-    → IsLaneState begin (sent_into (world_of_both hub told fates) next)
-    → IsReached begin fates next.hub (sent_on told (bytes_to_send next.hub next.send))
-sent_reached law begin fates hub told next is send joined state =
+    → IsLaneState begin (sent_into (world_of_both hub told so_far) next)
+    → IsReached begin so_far next.hub (sent_on told (bytes_to_send next.hub next.send))
+sent_reached law begin so_far hub told next is send joined state =
     let bytes = bytes_to_send next.hub next.send in
     let birth = born_alike next.hub told bytes joined in
     record {
       joined = joined;
       rest = no_send_at_rest law hub next send is.rest;
       state = subst (IsLaneState begin)
-          (ap (air_with (world_of_both hub told fates) next.hub bytes) (sym birth)) state;
+          (ap (air_with (world_of_both hub told so_far) next.hub bytes) (sym birth)) state;
     }
 
 -- ---- what is heard
@@ -284,12 +310,12 @@ alive_alike : (hub : Hub) (told : Told) (datagram : Datagram) → IsJoined hub t
 alive_alike hub told datagram joined alive = ap (λ (n : ℕ). is_alive n datagram) (sym joined.counts) ∙ alive
 
 -- the board hears a datagram, as a move
-heard_step : (n place : ℕ) (hub : Hub) (told new : Told) (fates : List (ℕ × Fate)) (r : Option Datagram)
+heard_step : (n place : ℕ) (hub : Hub) (told new : Told) (so_far : HandedOut) (r : Option Datagram)
     → IsJoined hub told → slice_get told.air place ≡ r → heard_by told r ≡ Some new
-    → step n (world_of_both hub told fates) (BoardHears place) ≡ Ok (world_of_both hub new fates)
-heard_step n place hub told new fates None joined there heard = absurd cc
-heard_step n place hub told new fates (Some datagram) joined there heard =
-    let w = world_of_both hub told fates in
+    → step n (world_of_both hub told so_far) (BoardHears place) ≡ Ok (world_of_both hub new so_far)
+heard_step n place hub told new so_far None joined there heard = absurd cc
+heard_step n place hub told new so_far (Some datagram) joined there heard =
+    let w = world_of_both hub told so_far in
     let way = if_some (goes_to ToBoard datagram.direction) _ new heard in
     let alive = if_some (is_alive (first_sends told) datagram) _ new way.1 in
     let same : heard_on told datagram.bytes ≡ new = cc in
@@ -299,65 +325,66 @@ heard_step n place hub told new fates (Some datagram) joined there heard =
       board = (hear told.board datagram.bytes).board;
       hub = hub;
       air = told.air ++ answered birth (hear told.board datagram.bytes).answer;
-      fates = fates;
+      fates = so_far.fates;
+      lates = so_far.lates;
     })) (sym joined.counts)
-    ∙ ap (λ (t : Told). Ok (world_of_both hub t fates)) same)
+    ∙ ap (λ (t : Told). Ok (world_of_both hub t so_far)) same)
 
 abbrev pub MoveLaw : Type 0
 MoveLaw = (begin w new : World) (at : ℕ) (move : WorldMove) → IsMove move → IsLaneState begin w
-    → next_send w.hub ≡ None → w.hub.fates ≡ [] → step at w move ≡ Ok new → IsLaneState begin new
+    → next_send w.hub ≡ None → IsDrained w.hub → step at w move ≡ Ok new → IsLaneState begin new
 
 abbrev pub HeardLaw : Type 0
 HeardLaw = (hub : Hub) (old new : Told) → IsJoined hub old → IsHeard old new → IsJoined hub new
 
-one_heard : MoveLaw → HeardLaw → (begin : World) (fates : List (ℕ × Fate)) (hub : Hub) (told new : Told)
+one_heard : MoveLaw → HeardLaw → (begin : World) (so_far : HandedOut) (hub : Hub) (told new : Told)
     (place : ℕ)
-    → IsReached begin fates hub told → next_send hub ≡ None → hub.fates ≡ []
-    → heard_by told (slice_get told.air place) ≡ Some new → IsReached begin fates hub new
-one_heard move join begin fates hub told new place is none out heard = record {
+    → IsReached begin so_far hub told → next_send hub ≡ None → IsDrained hub
+    → heard_by told (slice_get told.air place) ≡ Some new → IsReached begin so_far hub new
+one_heard move join begin so_far hub told new place is none out heard = record {
   joined = join hub told new is.joined
       (record { places = place ∷ []; heard = ap (λ (r : Option Told). then_told r (λ after. Some after)) heard });
   rest = is.rest;
-  state = move begin (world_of_both hub told fates) (world_of_both hub new fates) 0 (BoardHears place) tt is.state
-      none out (heard_step 0 place hub told new fates (slice_get told.air place) is.joined refl heard);
+  state = move begin (world_of_both hub told so_far) (world_of_both hub new so_far) 0 (BoardHears place) tt is.state
+      none out (heard_step 0 place hub told new so_far (slice_get told.air place) is.joined refl heard);
 }
 
-then_heard : (begin : World) (fates : List (ℕ × Fate)) (hub : Hub) (new : Told) (r : Option Told)
+then_heard : (begin : World) (so_far : HandedOut) (hub : Hub) (new : Told) (r : Option Told)
     (later : Told → Option Told)
     → then_told r later ≡ Some new
-    → ((after : Told) → r ≡ Some after → later after ≡ Some new → IsReached begin fates hub new)
-    → IsReached begin fates hub new
-then_heard begin fates hub new None later heard go = absurd cc
-then_heard begin fates hub new (Some after) later heard go = go after refl heard
+    → ((after : Told) → r ≡ Some after → later after ≡ Some new → IsReached begin so_far hub new)
+    → IsReached begin so_far hub new
+then_heard begin so_far hub new None later heard go = absurd cc
+then_heard begin so_far hub new (Some after) later heard go = go after refl heard
 
-all_heard : MoveLaw → HeardLaw → (begin : World) (fates : List (ℕ × Fate)) (hub : Hub) (told new : Told)
+all_heard : MoveLaw → HeardLaw → (begin : World) (so_far : HandedOut) (hub : Hub) (told new : Told)
     (places : List ℕ)
-    → IsReached begin fates hub told → next_send hub ≡ None → hub.fates ≡ [] → hears_all told places ≡ Some new
-    → IsReached begin fates hub new
-all_heard move join begin fates hub told new [] is none out heard =
+    → IsReached begin so_far hub told → next_send hub ≡ None → IsDrained hub → hears_all told places ≡ Some new
+    → IsReached begin so_far hub new
+all_heard move join begin so_far hub told new [] is none out heard =
     let same : told ≡ new = cc in
-    subst (IsReached begin fates hub) same is
-all_heard move join begin fates hub told new (place ∷ places) is none out heard =
-    then_heard begin fates hub new (heard_by told (slice_get told.air place)) (λ after. hears_all after places) heard
-    (λ after one later. all_heard move join begin fates hub after new places
-    (one_heard move join begin fates hub told after place is none out one) none out later)
+    subst (IsReached begin so_far hub) same is
+all_heard move join begin so_far hub told new (place ∷ places) is none out heard =
+    then_heard begin so_far hub new (heard_by told (slice_get told.air place)) (λ after. hears_all after places) heard
+    (λ after one later. all_heard move join begin so_far hub after new places
+    (one_heard move join begin so_far hub told after place is none out one) none out later)
 
-pub heard_reached : MoveLaw → HeardLaw → (begin : World) (fates : List (ℕ × Fate)) (hub : Hub) (old new : Told)
-    → IsReached begin fates hub old → next_send hub ≡ None → hub.fates ≡ [] → IsHeard old new
-    → IsReached begin fates hub new
-heard_reached move join begin fates hub old new is none out heard =
-    all_heard move join begin fates hub old new heard.places is none out heard.heard
+pub heard_reached : MoveLaw → HeardLaw → (begin : World) (so_far : HandedOut) (hub : Hub) (old new : Told)
+    → IsReached begin so_far hub old → next_send hub ≡ None → IsDrained hub → IsHeard old new
+    → IsReached begin so_far hub new
+heard_reached move join begin so_far hub old new is none out heard =
+    all_heard move join begin so_far hub old new heard.places is none out heard.heard
 
 -- ---- the hub
 
 -- a hub after a move of a run
-hub_reached : SendsEnd → (begin : World) (fates : List (ℕ × Fate)) (hub after : Hub) (told : Told) (move : WorldMove)
-    → (is : IsReached begin fates hub told) → next_send hub ≡ None → hub.fates ≡ [] → IsMove move
+hub_reached : SendsEnd → (begin : World) (so_far : HandedOut) (hub after : Hub) (told : Told) (move : WorldMove)
+    → (is : IsReached begin so_far hub told) → next_send hub ≡ None → IsDrained hub → IsMove move
     → IsJoined after told → (after.gave_up ≡ true → IsAtRest after)
-    → ((n : ℕ) → step n (world_of_both hub told fates) move ≡ Ok (go_on (world_of_both hub told fates) after))
-    → IsReached begin fates after told
-hub_reached law begin fates hub after told move is none out can joined rest leads =
-    let w = world_of_both hub told fates in
+    → ((n : ℕ) → step n (world_of_both hub told so_far) move ≡ Ok (go_on (world_of_both hub told so_far) after))
+    → IsReached begin so_far after told
+hub_reached law begin so_far hub after told move is none out can joined rest leads =
+    let w = world_of_both hub told so_far in
     record {
       joined = joined;
       rest = rest;
@@ -367,14 +394,15 @@ hub_reached law begin fates hub after told move is none out can joined rest lead
       };
     }
 
-pub handed_reached : SendsEnd → (begin : World) (fates : List (ℕ × Fate)) (hub : Hub) (told : Told)
-    (bytes : List ℕ) → IsReached begin fates hub told
-    → next_send hub ≡ None → hub.fates ≡ [] → IsHanded told bytes → IsJoined (take_message hub (to_hub bytes)) told
-    → IsReached begin fates (take_message hub (to_hub bytes)) told
-handed_reached law begin fates hub told bytes is none out handed joined =
+pub handed_reached : SendsEnd → (begin : World) (so_far : HandedOut) (hub : Hub) (told : Told)
+    (bytes : List ℕ) → IsReached begin so_far hub told
+    → next_send hub ≡ None → IsDrained hub → IsHanded told bytes → IsJoined (take_message hub (to_hub bytes)) told
+    → IsReached begin so_far (take_message hub (to_hub bytes)) told
+handed_reached law begin so_far hub told bytes is none out handed joined =
     let datagram : Datagram = record { direction = ToHub; bytes = bytes; birth = handed.at.birth } in
-    let w = world_of_both hub told fates in
-    hub_reached law begin fates hub (take_message hub (to_hub bytes)) told (HubHears handed.place) is none out tt joined
+    let w = world_of_both hub told so_far in
+    hub_reached law begin so_far hub (take_message hub (to_hub bytes)) told (HubHears handed.place) is none out tt
+    joined
     (λ e. message_rests hub (to_hub bytes) (is.rest (sym (message_gave_up hub (to_hub bytes)) ∙ e)))
     (λ n. ap (λ (r : Result (List ℕ) WorldEnd). when_taken r (hub_hears w))
     (taken_ok n (length hub.sent) ToHub _ datagram handed.at.there refl
@@ -393,12 +421,12 @@ quiet_rests at_once nobody hub rest waiting = either (λ (h : Hub). h.gave_up �
     (λ _ e. absurd (let none = nobody hub (rest e) in cc))
     (λ _ _. at_once hub)
 
-pub quiet_reached : SendsEnd → RestAtOnce → NobodyWaits → (begin : World) (fates : List (ℕ × Fate)) (hub : Hub)
-    (told : Told) → IsReached begin fates hub told → next_send hub ≡ None → hub.fates ≡ [] → is_waiting hub ≡ true
-    → IsJoined (hear_quiet hub) told → IsReached begin fates (hear_quiet hub) told
-quiet_reached law at_once nobody begin fates hub told is none out waiting joined =
-    let w = world_of_both hub told fates in
-    hub_reached law begin fates hub (hear_quiet hub) told Quiet is none out tt joined
+pub quiet_reached : SendsEnd → RestAtOnce → NobodyWaits → (begin : World) (so_far : HandedOut) (hub : Hub)
+    (told : Told) → IsReached begin so_far hub told → next_send hub ≡ None → IsDrained hub → is_waiting hub ≡ true
+    → IsJoined (hear_quiet hub) told → IsReached begin so_far (hear_quiet hub) told
+quiet_reached law at_once nobody begin so_far hub told is none out waiting joined =
+    let w = world_of_both hub told so_far in
+    hub_reached law begin so_far hub (hear_quiet hub) told Quiet is none out tt joined
     (quiet_rests at_once nobody hub is.rest waiting)
     (λ n. ap (λ (b : Bool). cond b (Ok (go_on w (hear_quiet hub))) (Err (NotThere n))) waiting)
 
@@ -408,6 +436,10 @@ abbrev pub FateLaw : Type 0
 FateLaw = (hub : Hub) (told : Told) (fate : ℕ × Fate) (fates : List (ℕ × Fate)) → IsJoined hub told
     → hub.fates ≡ fate ∷ fates → IsJoined (record hub { fates = fates }) told
 
+abbrev pub LateLaw : Type 0
+LateLaw = (hub : Hub) (told : Told) (late : ℕ × List ℕ) (lates : List (ℕ × List ℕ)) → IsJoined hub told
+    → hub.lates ≡ late ∷ lates → IsJoined (record hub { lates = lates }) told
+
 out_joined : FateLaw → (hub : Hub) (told : Told) (fates : List (ℕ × Fate)) → hub.fates ≡ fates → IsJoined hub told
     → IsJoined (record hub { fates = [] }) told
 out_joined law hub told [] is joined =
@@ -415,11 +447,19 @@ out_joined law hub told [] is joined =
 out_joined law hub told (fate ∷ fates) is joined =
     out_joined law (record hub { fates = fates }) told fates refl (law hub told fate fates joined is)
 
-pub out_reached : FateLaw → (begin : World) (fates : List (ℕ × Fate)) (hub : Hub) (told : Told)
-    → (is : IsReached begin fates hub told) → IsLaneState begin (handed_out (world_of_both hub told fates))
-    → IsReached begin (fates ++ hub.fates) (record hub { fates = [] }) told
-out_reached law begin fates hub told is state = record {
-  joined = out_joined law hub told hub.fates refl is.joined;
+lates_out : LateLaw → (hub : Hub) (told : Told) (lates : List (ℕ × List ℕ)) → hub.lates ≡ lates → IsJoined hub told
+    → IsJoined (record hub { lates = [] }) told
+lates_out law hub told [] is joined =
+    subst (λ (h : Hub). IsJoined h told) (ap (λ (lates : List (ℕ × List ℕ)). record hub { lates = lates }) is) joined
+lates_out law hub told (late ∷ lates) is joined =
+    lates_out law (record hub { lates = lates }) told lates refl (law hub told late lates joined is)
+
+pub out_reached : FateLaw → LateLaw → (begin : World) (so_far : HandedOut) (hub : Hub) (told : Told)
+    → (is : IsReached begin so_far hub told) → IsLaneState begin (handed_out (world_of_both hub told so_far))
+    → IsReached begin (hands_out so_far hub) (drained hub) told
+out_reached law late begin so_far hub told is state = record {
+  joined = lates_out late (record hub { fates = [] }) told hub.lates refl
+      (out_joined law hub told hub.fates refl is.joined);
   rest = λ e. let rest = is.rest e in record {
     queue = rest.queue;
     waited = rest.waited;
@@ -432,10 +472,10 @@ out_reached law begin fates hub told is state = record {
 
 -- ---- the run of a state
 
-pub run_of : (window rounds : ℕ) (board : Board) (air : List Datagram) (fates : List (ℕ × Fate)) (hub : Hub)
-    (told : Told) → IsStart window board air → IsReached (start window rounds board air) fates hub told
-    → (moves : List WorldMove) × IsRun window rounds board air moves (caught_up (world_of_both hub told fates))
-run_of window rounds board air fates hub told begins is =
+pub run_of : (window rounds : ℕ) (board : Board) (air : List Datagram) (so_far : HandedOut) (hub : Hub)
+    (told : Told) → IsStart window board air → IsReached (start window rounds board air) so_far hub told
+    → (moves : List WorldMove) × IsRun window rounds board air moves (caught_up (world_of_both hub told so_far))
+run_of window rounds board air so_far hub told begins is =
     let state = is.state.state in (
       state.moves,
       record { begins = begins; leads = record { sendable = state.sendable; at = 0; ran = state.ran } },

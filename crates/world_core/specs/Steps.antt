@@ -20,7 +20,13 @@ pub record HasSpellings (hub : Hub) : Type 0 where
   pub queue : AreSendable hub.queue
 
 abbrev pub world_of : Run → World
-world_of run = record { board = run.board; hub = run.hub; air = run.air; fates = run.fates.items }
+world_of run = record {
+  board = run.board;
+  hub = run.hub;
+  air = run.air;
+  fates = run.fates.items;
+  lates = run.lates.items;
+}
 
 -- a send joins the air; the hub has counted it before
 abbrev pub put_into : World → Sending → World

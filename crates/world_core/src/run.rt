@@ -19,19 +19,20 @@ use crate::datagrams::Datagrams;
 use crate::message::{Message, read_for_hub};
 use crate::sending::{copy_words, write_sending};
 use board_node::Board;
-use ipb_base::NoMemory;
+use ipb_base::{NoMemory, Words};
 use reliable_engine::{Engine, Fate, Sending};
 use std::alloc::Global;
 use world_model::laws::sends::{only_an_offer_makes_more_bodies, sends_go_one_by_one};
 use world_model::{Direction, WorldEnd, WorldMove};
 
-/// A board, the hub of it, the air between them, and the fates that were handed out.
+/// A board, the hub of it, the air between them, and the fates and late answers that were handed out.
 #[derive(Drop)]
 pub(crate) struct Run {
     pub(crate) board: Board,
     pub(crate) hub: Engine,
     pub(crate) air: Datagrams,
     pub(crate) fates: Vec<(u64, Fate)>,
+    pub(crate) lates: Vec<(u64, Words)>,
 }
 
 impl Run {
@@ -60,12 +61,15 @@ impl Run {
         Ok(())
     }
 
-    /// Takes the fates that the hub hands out.
+    /// Takes the fates and late answers that the hub hands out.
     fn hand_out(&mut self) -> Result<(), NoMemory>
         ensures handed { OnOk result (world_of self.new ≡ handed_out (world_of self.old)) }
     {
         while let Some(fate) = self.hub.settled() {
             self.fates.push(fate)?;
+        }
+        while let Some(late) = self.hub.late() {
+            self.lates.push(late)?;
         }
         Ok(())
     }

@@ -1,13 +1,15 @@
 //! The world that moves lead to.
 
-ghost use Rattle.std.specs.Prelude.{◌≡◌, ◌≢◌, ◌↔◌, ◌≤◌, ◌^◌, ℕ, List, [], length, IfOk, IfErr, OnOk, IsTrue, Ok, Err};
-ghost use Rattle.std.specs.List.{AllByRecursion};
+ghost use Rattle.std.specs.Prelude.{◌≡◌, ◌≢◌, ◌↔◌, ◌≤◌, ◌^◌, ℕ, List, [], length, IfOk, IfErr, OnOk, IsTrue};
+ghost use Rattle.std.specs.Prelude.{Some, Ok, Err};
+ghost use Rattle.std.specs.List.{AllByRecursion, slice_get};
 ghost use Rattle.reliable_engine.specs.Answers.{body_count};
 ghost use Rattle.world_model.specs.declared.moves.WorldEnd.TheVariants.{NotThere, TooOld, NoMemory as no_memory};
 ghost use Rattle.world_model.specs.declared.offered.Fate.TheVariants.{Replied, TimedOut};
 ghost use Rattle.world_model.specs.Board.{executed, expected};
 ghost use Rattle.world_model.specs.World.{run_moves, start};
-ghost use Rattle.world_model.specs.History.{IsExecutedAtMostOnce, IsExecutedThere, IsHandedOut, IsRun, IsTrueHistory};
+ghost use Rattle.world_model.specs.History.{IsAnsweredLate, IsExecutedAtMostOnce, IsExecutedThere, IsHandedOut};
+ghost use Rattle.world_model.specs.History.{IsLateAnswer, IsRun, IsTrueHistory};
 ghost use Rattle.world_core.specs.Runs.{IsNotThere, IsShortMove, IsTooOld, StopsAt};
 ghost use Rattle.world_core.specs.Steps.{HasSpellings, world_of};
 
@@ -15,7 +17,7 @@ use crate::datagrams::Datagrams;
 use crate::laws::a_run_stops_at_the_first_move_that_is_not_allowed;
 use crate::run::Run;
 use board_node::Board;
-use ipb_base::NoMemory;
+use ipb_base::{NoMemory, Words};
 use packet_codec::MAX_BODY_WORDS;
 use packet_ids::laws::identifiers_follow_each_other;
 use reliable_engine::{Engine, Fate, Settings};
@@ -24,10 +26,11 @@ use status_packet::{Status, read_status_reply, write_status_request};
 use std::alloc::Global;
 use std::marker::Model;
 use world_model::laws::history::{a_fate_is_that_of_its_place, each_body_is_executed_once};
+use world_model::laws::late_answers::a_late_answer_of_a_run_is_of_a_timed_out_body;
 use world_model::{WorldEnd, WorldMove};
 
-/// A board, the hub of it, the air between them and the fates that were handed out, after some moves. Contracts see it
-/// as `world_model`'s world.
+/// A board, the hub of it, the air between them and what was handed out, after some moves. Contracts see it as
+/// `world_model`'s world.
 #[derive(Drop)]
 pub struct World {
     run: Run,
@@ -63,6 +66,14 @@ impl World {
         ensures { result.now ≡ self.now.fates }
     {
         self.run.fates.as_slice()
+    }
+
+    /// The late answers, in the order in which they came, each with its place: the words of replies that came after
+    /// their bodies were timed out.
+    pub fn lates(&self) -> &[(u64, Words)]
+        ensures { result.now ≡ self.now.lates }
+    {
+        self.run.lates.as_slice()
     }
 }
 
@@ -104,8 +115,8 @@ pub fn run_world(
         → StopsAt (start settings.window settings.rounds board []) moves.now at IsNotThere }
     ensures too_old { (at : ℕ) → result ≡ Err (TooOld at)
         → StopsAt (start settings.window settings.rounds board []) moves.now at IsTooOld }
-    // The executed bodies are the front of those that were sent first, in order, and each reply that was handed out is
-    // the one that a bus with a single thread gives at its place.
+    // The executed bodies are the front of those that were sent first, in order, and each reply that was handed out, in
+    // time or late, is the one that a bus with a single thread gives at its place.
     ensures history { IfOk result IsTrueHistory }
     // A body whose reply was handed out was sent and executed at the place of that reply.
     ensures replied { IfOk result (λ w. (tag place : ℕ) (words : List ℕ) → IsHandedOut w tag (Replied place words)
@@ -113,7 +124,15 @@ pub fn run_world(
     // A body that timed out was executed at its place or not at all.
     ensures timed_out { IfOk result (λ w. (tag place rounds : ℕ) → IsHandedOut w tag (TimedOut place rounds)
         → IsExecutedAtMostOnce w tag place) }
+    // A body with a late answer timed out at its place, and was executed there all the same.
+    ensures late { IfOk result (λ w. (place : ℕ) (words : List ℕ) → IsLateAnswer w place words
+        → IsAnsweredLate w place) }
+    // No place has two late answers.
+    ensures late_once { IfOk result (λ w. (place one other : ℕ) (words again : List ℕ)
+        → slice_get w.lates one ≡ Some (place, words) → slice_get w.lates other ≡ Some (place, again)
+        → one ≡ other) }
 {
+    a_late_answer_of_a_run_is_of_a_timed_out_body();
     each_body_is_executed_once();
     a_fate_is_that_of_its_place();
     a_run_stops_at_the_first_move_that_is_not_allowed();
@@ -161,6 +180,7 @@ fn begin(alloc: Global, settings: Settings, board: Board) -> Result<Run, NoMemor
         board,
         air: Datagrams::new(alloc),
         fates: Vec::new(alloc),
+        lates: Vec::new(alloc),
     })
 }
 

@@ -20,7 +20,7 @@ use Rattle.world_model.specs.Messages.{ToHub, to_hub}
 use Rattle.world_model.specs.Board.{Board}
 use Rattle.world_model.specs.Hub.{Hub, want_control, offer, goes_before, insert_fate, tag_of, open_with, without}
 use Rattle.world_model.specs.Hub.{settle, recover, take_message, abandoned, time_out, unsent, give_up, hear_quiet}
-use Rattle.world_model.specs.Hub.{places}
+use Rattle.world_model.specs.Hub.{insert_late, places}
 use Rattle.world_model.specs.Sends.{Next, Wanted, after_open, wanted, opened, next_send, pending}
 use Rattle.world_model.specs.World.{World, flush, handed_out, with_hub, go_on, step, run_moves, start}
 use Rattle.world_model.specs.History.{IsMove, IsRun, IsHandedOut, IsAccounted, IsOffered, offers, times, tag_of_offered}
@@ -305,12 +305,14 @@ settle_balanced tag offered told h id words o e is =
       open_places = gone;
       status_requests = 0;
       fates = cond b (insert_fate o.place new h.fates) h.fates;
+      lates = cond b h.lates (insert_late (o.place, words) h.lates);
     }) =
     λ b. elim b as (λ (x : Bool). waits tag h.sent h.open_places ≡ cond x (times tag (t ∷ [])) 0 + waits tag h.sent gone
     → IsBalanced tag offered told (record h {
       open_places = gone;
       status_requests = 0;
       fates = cond x (insert_fate o.place new h.fates) h.fates;
+      lates = cond x h.lates (insert_late (o.place, words) h.lates);
     })) [
       | true ↦ λ k. record {
         up_to = all_without (λ (p : ℕ). p ≤ length h.sent) o.place h.open_places is.up_to;
@@ -462,7 +464,7 @@ accounted window rounds board air moves w tag is =
     (λ (v : World). Unit {0} × Balances tag moves (start window rounds board air) v)) is.leads.ran
     (run_balances tag is.leads.at (start window rounds board air) moves is.leads.sendable) in
     let all = ran.1 0 (record { up_to = tt; all = refl; placed = refl }) in
-    let out = (run_out window rounds board air moves w is).1 in
+    let out = (run_out window rounds board air moves w is).1.fates in
     let tagged = ap (tagged_fates tag) out in
     let placed = ap (placed_fates tag) out in
     record {

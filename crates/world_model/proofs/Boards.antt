@@ -33,7 +33,7 @@ use Rattle.world_model.specs.Board.{send_again, execute, hear_control, hear_mess
 use Rattle.world_model.specs.Air.{LIFETIME}
 use Rattle.world_model.specs.Facts.{IsWindow, IsExecuted, IsBoard, IsLogged, IsDatagram, IsSaid, IsSaidToBoard}
 use Rattle.world_model.specs.Facts.{IsSaidToHub, IsControlOf, IsReplyOf, IsToldOf, IsSendable, IsTagged, IsRightFate}
-use Rattle.world_model.specs.Facts.{AreRight, MOST_OPEN}
+use Rattle.world_model.specs.Facts.{AreLateReplies, AreRight, MOST_OPEN}
 use Rattle.world_model.proofs.Lists.{at_front, at_seam, at_from_one, at_within, get_drop, front_grows, front_length}
 use Rattle.world_model.proofs.Lists.{either, all_get}
 use Rattle.world_model.proofs.Places.{sent_near, executed_next, one_place, not_zero, id_fits, is_identifier}
@@ -162,6 +162,7 @@ module _ (below : Below) where
         place = s.place;
         at = at_front answers later s.place words s.at;
         identifier = s.identifier;
+        sent = s.sent;
         recent = s.recent;
       }
 
@@ -202,6 +203,10 @@ module _ (below : Below) where
   pub fates_grow : (sent more : List Offered) (answers later : List (List ℕ)) (fates : List (ℕ × Fate))
       → AreRight sent answers fates → AreRight (sent ++ more) (answers ++ later) fates
   fates_grow sent more answers later fates is = all-map _ _ fates (fate_grows sent more answers later) is
+
+  pub lates_grow : (answers more : List (List ℕ)) (lates : List (ℕ × List ℕ)) → AreLateReplies answers lates
+      → AreLateReplies (answers ++ more) lates
+  lates_grow answers more lates is = all-map _ _ lates (λ l e. at_front answers more l.0 l.1 e) is
 
   -- ---- what the board answers
 
@@ -298,6 +303,7 @@ module _ (below : Below) where
         place = 1 + (skipped + f.past);
         at = here;
         identifier = ap (λ (k : ℕ). identifier_at k (1 + (skipped + f.past))) (sym is.node.same_first);
+        sent = omega (arith, within, same, front_length (executed b) all is.log.front);
         recent = omega (arith, is.node.buffers.1);
       } in
       record {
@@ -345,6 +351,7 @@ module _ (below : Below) where
         at = subst (λ (rs : List (List ℕ)). at_place rs (length (replies b) + 1) ≡ Some reply) (sym (replies_entry b e))
             (at_seam (replies b) [] reply);
         identifier = named ∙ ap (λ (k : ℕ). identifier_at first (k + 1)) (sym same);
+        sent = omega (arith, same, at_within all (length (executed b) + 1) body at);
         recent = omega arith;
       } in
       let can = reply_sendable below b.mtu (present_bus b) body is.node.mtu

@@ -15,8 +15,8 @@ use Rattle.world_model.specs.Messages.{ToHub, StatusReply, Reply, to_hub}
 use Rattle.world_model.specs.Board.{Board}
 use Rattle.world_model.specs.declared.offered.Offered.{Offered}
 use Rattle.world_model.specs.declared.offered.OpenPlace.{OpenPlace}
-use Rattle.world_model.specs.declared.offered.Fate.{Fate}
 use Rattle.world_model.specs.Hub.{Hub, low, offer, open_with, settle, recovered, told_place, take_message, want_status}
+use Rattle.world_model.specs.Hub.{HandedOut, IsDrained, none_handed_out}
 use Rattle.world_model.specs.Hub.{give_up, hear_quiet, hear_reply, hear_status, is_waiting}
 use Rattle.world_model.specs.Sends.{Next, Wanted, after_open, wanted, opened, first_send, wanted_or_first, next_send}
 use Rattle.world_model.specs.Sends.{pending, wishes}
@@ -260,19 +260,20 @@ run_by Q R none more one at w (m ∷ ms) can is =
     (λ v moved. ok_map (run_moves (at + 1) v ms) (λ (x : World). Q x × R ms v x) (λ (x : World). Q x × R (m ∷ ms) w x)
     (λ x later. (later.0, more m ms w v x moved.1 later.1)) (run_by Q R none more one (at + 1) v ms can.1 moved.0))
 
--- ---- fates change no send
+-- ---- what waits to be handed out changes no send
 
-abbrev pub with_fates : List (ℕ × Fate) → Hub → Hub
-with_fates fates h = record h { fates = fates }
+-- the hub, with this to hand out
+abbrev pub with_waiting : HandedOut → Hub → Hub
+with_waiting held h = record h { fates = held.fates; lates = held.lates }
 
-abbrev pub ToldAlike : List (ℕ × Fate) → Option Next → Option Next → Type 0
-ToldAlike fates None r = r ≡ None
-ToldAlike fates (Some n) r = r ≡ Some (record { send = n.send; hub = with_fates fates n.hub })
+abbrev pub ToldAlike : HandedOut → Option Next → Option Next → Type 0
+ToldAlike held None r = r ≡ None
+ToldAlike held (Some n) r = r ≡ Some (record { send = n.send; hub = with_waiting held n.hub })
 
-first_told : (fates : List (ℕ × Fate)) (h : Hub) (queue : List Offered)
-    → ToldAlike fates (first_send h queue) (first_send (with_fates fates h) queue)
-first_told fates h [] = refl
-first_told fates h (o ∷ later) =
+first_told : (held : HandedOut) (h : Hub) (queue : List Offered)
+    → ToldAlike held (first_send h queue) (first_send (with_waiting held h) queue)
+first_told held h [] = refl
+first_told held h (o ∷ later) =
     let next : Next = record {
       send = sends.Control (length h.sent + 1) (identifier_at h.first (length h.sent + 1));
       hub = record h {
@@ -282,43 +283,45 @@ first_told fates h (o ∷ later) =
       };
     } in
     elim (nat_le (length h.sent + 1 + 1) (h.window + low h))
-    as (λ b. ToldAlike fates (cond b (Some next) None) (cond b
-    (Some (record { send = next.send; hub = with_fates fates next.hub })) None)) [
+    as (λ b. ToldAlike held (cond b (Some next) None) (cond b
+    (Some (record { send = next.send; hub = with_waiting held next.hub })) None)) [
       | true ↦ refl
       | false ↦ refl
     ]
 
-or_told : (fates : List (ℕ × Fate)) (h : Hub) (r : Option Wanted)
-    → ToldAlike fates (wanted_or_first h r) (wanted_or_first (with_fates fates h) r)
-or_told fates h None = first_told fates h h.queue
-or_told fates h (Some w) = refl
+or_told : (held : HandedOut) (h : Hub) (r : Option Wanted)
+    → ToldAlike held (wanted_or_first h r) (wanted_or_first (with_waiting held h) r)
+or_told held h None = first_told held h h.queue
+or_told held h (Some w) = refl
 
-pub send_told : (fates : List (ℕ × Fate)) (h : Hub) → ToldAlike fates (next_send h) (next_send (with_fates fates h))
-send_told fates h =
+pub send_told : (held : HandedOut) (h : Hub) → ToldAlike held (next_send h) (next_send (with_waiting held h))
+send_told held h =
     let next : Next = record { send = sends.Status; hub = record h { status_wanted = false } } in
-    elim h.status_wanted as (λ b. ToldAlike fates (cond b (Some next)
+    elim h.status_wanted as (λ b. ToldAlike held (cond b (Some next)
     (wanted_or_first h (wanted h.first h.open_places)))
-    (cond b (Some (record { send = next.send; hub = with_fates fates next.hub }))
-    (wanted_or_first (with_fates fates h) (wanted h.first h.open_places)))) [
+    (cond b (Some (record { send = next.send; hub = with_waiting held next.hub }))
+    (wanted_or_first (with_waiting held h) (wanted h.first h.open_places)))) [
       | true ↦ refl
-      | false ↦ or_told fates h (wanted h.first h.open_places)
+      | false ↦ or_told held h (wanted h.first h.open_places)
     ]
 
-told_none : (fates : List (ℕ × Fate)) (r s : Option Next) → ToldAlike fates r s → r ≡ None → s ≡ None
-told_none fates None s alike e = alike
-told_none fates (Some n) s alike e = absurd (cc)
+told_none : (held : HandedOut) (r s : Option Next) → ToldAlike held r s → r ≡ None → s ≡ None
+told_none held None s alike e = alike
+told_none held (Some n) s alike e = absurd (cc)
 
-pub send_none : (fates : List (ℕ × Fate)) (h : Hub) → next_send h ≡ None → next_send (with_fates fates h) ≡ None
-send_none fates h e = told_none fates (next_send h) (next_send (with_fates fates h)) (send_told fates h) e
+pub send_none : (held : HandedOut) (h : Hub) → next_send h ≡ None → next_send (with_waiting held h) ≡ None
+send_none held h e = told_none held (next_send h) (next_send (with_waiting held h)) (send_told held h) e
 
--- ---- after each move all sends are out and all fates handed out
+-- ---- after each move all sends are out, and all that there is is handed out
 
 abbrev pub IsOut : World → Type 0
-IsOut w = (next_send w.hub ≡ None) × (w.hub.fates ≡ [])
+IsOut w = (next_send w.hub ≡ None) × IsDrained w.hub
 
 pub go_on_out : (w : World) (h : Hub) → IsOut (go_on w h)
-go_on_out w h = let sent = flush (pending h) (with_hub w h) in
-    (send_none [] sent.hub (flush_sends_all (pending h) (with_hub w h) (omega arith)), refl)
+go_on_out w h = let sent = flush (pending h) (with_hub w h) in (
+  send_none none_handed_out sent.hub (flush_sends_all (pending h) (with_hub w h) (omega arith)),
+  record { fates = refl; lates = refl },
+)
 
 pub step_out : (at : ℕ) (w : World) (m : WorldMove) → IsOut w → IfOk (step at w m) IsOut
 step_out at w m is = step_cases IsOut at w m
@@ -332,4 +335,5 @@ run_out window rounds board air moves w is =
     (run_by IsOut (λ _ _ _. Unit {0}) (λ _. tt) (λ _ _ _ _ _ _ _. tt)
     (λ at v m _ out. ok_map (step at v m) IsOut (λ (x : World). IsOut x × Unit {0})
     (λ x o. (o, tt)) (step_out at v m out))
-    is.leads.at (start window rounds board air) moves is.leads.sendable (refl, refl))).0
+    is.leads.at (start window rounds board air) moves is.leads.sendable
+    (refl, record { fates = refl; lates = refl }))).0

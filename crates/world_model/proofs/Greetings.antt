@@ -254,6 +254,8 @@ module _ (below : Below) where
         said = front_of_all (IsDatagram n.hub.first (bodies_of n.hub.sent) (replies t.board)) t.air _ s.said;
         waiting_fates = s.waiting_fates;
         told_fates = s.told_fates;
+        waiting_lates = s.waiting_lates;
+        told_lates = s.told_lates;
       }
 
   -- ---- the length of a send

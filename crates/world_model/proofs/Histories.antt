@@ -1,5 +1,5 @@
 -- What follows from the facts.
-use Rattle.std.proofs.Common.{◌≡◌, ℕ, ◌+◌, ◌<◌, ◌≤◌, List, [], length, Some}
+use Rattle.std.proofs.Common.{◌≡◌, ℕ, ◌+◌, ◌<◌, ◌≤◌, List, length, Some}
 use Rattle.std.proofs.Common.{Result, sym, ap, ◌∙◌, subst, arith, inl, inr}
 use Rattle.std.specs.Prelude.{IfOk, ◌⊎◌}
 use Rattle.std.proofs.lemmas.Bool.{cases_lt}
@@ -16,9 +16,10 @@ use Rattle.world_model.proofs.Places.{one_place}
 use Rattle.world_model.specs.Board.{Board, executed, replies}
 use Rattle.world_model.specs.Hub.{low}
 use Rattle.world_model.specs.World.{World, start}
-use Rattle.world_model.specs.Facts.{IsSound, IsTagged, IsRightFate, IsReplyOf, IsSaidToHub, bodies_of, offered_body}
+use Rattle.world_model.specs.Facts.{IsLateReply, IsSound, IsTagged, IsRightFate, IsReplyOf, IsSaidToHub, bodies_of}
+use Rattle.world_model.specs.Facts.{offered_body}
 use Rattle.world_model.specs.History.{IsRun, IsHandedOut, IsAliveInAir, IsTrueHistory, IsExecutedThere}
-use Rattle.world_model.specs.History.{IsExecutedAtMostOnce}
+use Rattle.world_model.specs.History.{IsExecutedAtMostOnce, IsLateAnswer}
 use Rattle.world_model.proofs.Lists.{at_front, at_from_one, at_within, at_exists, at_map, front_length, all_get}
 use Rattle.world_model.proofs.Boards.{replies_length}
 use Rattle.world_model.proofs.Worlds.{run_holds, start_holds}
@@ -37,10 +38,16 @@ module _ (below : Below) where
   right_fate w tag fate is told = all_get (IsRightFate w.hub.sent (replies w.board)) w.fates told.number
       (tag, fate) is.told_fates told.there
 
+  late_reply : (w : World) (place : ℕ) (words : List ℕ) → IsSound w → IsLateAnswer w place words
+      → at_place (replies w.board) place ≡ Some words
+  late_reply w place words is told = all_get (IsLateReply (replies w.board)) w.lates told.number (place, words)
+      is.told_lates told.there
+
   pub history : (w : World) → IsSound w → IsTrueHistory w
   history w is = record {
     in_order = is.log.front;
     replied = λ tag place words told. (right_fate w tag (Replied place words) is told).1;
+    late = λ place words told. late_reply w place words is told;
   }
 
   pub in_order : (w : World) (place : ℕ) (body : List ℕ) → IsSound w → at_place (executed w.board) place ≡ Some body
@@ -78,6 +85,20 @@ module _ (below : Below) where
             (omega (arith, replies_length below w.board));
       }
 
+  -- a body that timed out and has a late answer
+  pub late_there : (w : World) (tag place rounds : ℕ) (words : List ℕ) → IsSound w
+      → IsHandedOut w tag (TimedOut place rounds) → IsLateAnswer w place words → IsExecutedThere w tag place
+  late_there w tag place rounds words is timed_out told =
+      let r : IsTagged w.hub.sent tag place = right_fate w tag (TimedOut place rounds) is timed_out in
+      let within = at_within (replies w.board) place words (late_reply w place words is told) in
+      record {
+        body = r.offered;
+        sent = r.at;
+        tag_is = r.tag_is;
+        there = executed_body w place r.offered is r.at (at_from_one w.hub.sent place r.offered r.at)
+            (omega (arith, replies_length below w.board));
+      }
+
   there_or_nowhere : (w : World) (place : ℕ) (o : Offered) → IsSound w → at_place w.hub.sent place ≡ Some o
       → (length (executed w.board) < place) ⊎ (at_place (executed w.board) place ≡ Some o.body)
   there_or_nowhere w place o is at = elim (cases_lt (length (executed w.board)) place) [
@@ -97,6 +118,12 @@ module _ (below : Below) where
       let mine = (right_fate w tag (Replied place words) is told).1 in
       let yours = (right_fate w other (Replied place again) is told_again).1 in
       let same : Some words ≡ Some again = sym mine ∙ yours in cc
+
+  pub one_late_reply : (w : World) (place : ℕ) (words again : List ℕ) → IsSound w
+      → IsLateAnswer w place words → IsLateAnswer w place again → words ≡ again
+  one_late_reply w place words again is told told_again =
+      let same : Some words ≡ Some again =
+      sym (late_reply w place words is told) ∙ late_reply w place again is told_again in cc
 
   -- ---- what may still be heard
 

@@ -23,15 +23,16 @@ use Rattle.world_model.specs.Messages.{control_packet, to_board}
 use Rattle.world_model.specs.Hub.{Hub, low, want_control, offer, goes_before, insert_fate, tag_of, words_of, open_with}
 use Rattle.world_model.specs.Hub.{without, settle, hear_reply, recover, recovered, told_place, hear_status}
 use Rattle.world_model.specs.Hub.{abandoned, time_out, unsent, give_up, want_status, hear_quiet, places}
-use Rattle.world_model.specs.Hub.{place_of, least}
+use Rattle.world_model.specs.Hub.{HandedOut, insert_late, place_of, least, to_hand_out}
 use Rattle.world_model.specs.Sends.{Next, Wanted, after_open, wanted, opened, first_send, wanted_or_first, next_send}
 use Rattle.world_model.specs.Sends.{bytes_to_send}
 use Rattle.world_model.specs.Board.{Board, executed, replies}
 use Rattle.world_model.specs.Air.{LIFETIME}
-use Rattle.world_model.specs.World.{World, sent_into, with_hub}
+use Rattle.world_model.specs.World.{World, sent_into, told_in, with_hub}
 use Rattle.world_model.specs.Facts.{IsExecuted, IsDatagram, IsSaidToBoard, IsControlOf, IsReplyOf}
 use Rattle.world_model.specs.Facts.{IsSendable, AreSendable, IsTagged, IsRightFate, AreRight, MOST_OPEN}
-use Rattle.world_model.specs.Facts.{Holds, IsSound, bodies_of, offered_body, has, AreRising}
+use Rattle.world_model.specs.Facts.{AreLateReplies, IsLateReply, Holds, IsSound, bodies_of, offered_body, has}
+use Rattle.world_model.specs.Facts.{AreRising}
 use Rattle.world_model.proofs.Lists.{at_seam, at_from_one, at_within, at_exists, at_map, either, front_length}
 use Rattle.world_model.proofs.Lists.{all_get}
 use Rattle.world_model.proofs.Places.{less, has_from, has_below, rising_end, window_push, window_less}
@@ -129,6 +130,13 @@ all_inserted P place new (f ∷ fs) is all = either (AllByRecursion P) (goes_bef
     (λ _. (is, all))
     (λ _. (all.0, all_inserted P place new fs is all.1))
 
+pub all_late : (P : ℕ × List ℕ → Type 0) (new : ℕ × List ℕ) (lates : List (ℕ × List ℕ)) → P new
+    → AllByRecursion P lates → AllByRecursion P (insert_late new lates)
+all_late P new [] is all = (is, tt)
+all_late P new (l ∷ ls) is all = either (AllByRecursion P) (nat_lt new.0 l.0) _ _
+    (λ _. (is, all))
+    (λ _. (all.0, all_late P new ls is all.1))
+
 -- what holds of each time-out holds after a give-up
 pub all_timed_out : (P : ℕ × Fate → Type 0) (from rounds : ℕ) (sent : List Offered) (os : List OpenPlace)
     (fates : List (ℕ × Fate))
@@ -176,11 +184,14 @@ module _ (below : Below) where
   -- ---- events that leave the places
 
   same_places : (first window : ℕ) (sent queue queued : List Offered) (ps qs : List ℕ) (fates fresh : List (ℕ × Fate))
-      (b : Board) (air : List Datagram) (told : List (ℕ × Fate))
+      (lates : List (ℕ × List ℕ)) (b : Board) (air : List Datagram) (told : HandedOut)
       → qs ≡ ps → AreSendable queued → AreRight sent (replies b) fresh
-      → Holds first window sent queue ps fates b air told → Holds first window sent queued qs fresh b air told
-  same_places first window sent queue queued ps qs fates fresh b air told same can right is = subst
-      (λ (xs : List ℕ). Holds first window sent queued xs fresh b air told) (sym same) (record {
+      → Holds first window sent queue ps (record { fates = fates; lates = lates }) b air told
+      → Holds first window sent queued qs (record { fates = fresh; lates = lates }) b air told
+  same_places first window sent queue queued ps qs fates fresh lates b air told same can right is = subst
+      (λ (xs : List ℕ). Holds first window sent queued xs (record { fates = fresh; lates = lates }) b air told)
+      (sym same)
+      (record {
         hub = is.hub;
         sent_bodies = is.sent_bodies;
         queued_bodies = can;
@@ -189,10 +200,12 @@ module _ (below : Below) where
         said = is.said;
         waiting_fates = right;
         told_fates = is.told_fates;
+        waiting_lates = is.waiting_lates;
+        told_lates = is.told_lates;
       })
 
   pub offer_holds : (w : World) (o : Offered) → IsSendable o.body → IsSound w → IsSound (with_hub w (offer w.hub o))
-  offer_holds w o can is = same_places _ _ _ _ _ _ _ _ _ _ _ _
+  offer_holds w o can is = same_places _ _ _ _ _ _ _ _ _ _ _ _ _
       (either (λ (os : List OpenPlace). places os ≡ places w.hub.open_places) w.hub.gave_up _ _
       (λ _. places_map want_control w.hub.open_places (λ _. refl)) (λ _. refl))
       (AllByRecursion-append _ w.hub.queue (o ∷ []) is.queued_bodies (can, tt))
@@ -201,8 +214,8 @@ module _ (below : Below) where
   pub quiet_holds : (w : World) → IsSound w → IsSound (with_hub w (hear_quiet w.hub))
   quiet_holds w is = either (λ (h : Hub). IsSound (with_hub w h)) (nat_lt w.hub.status_requests w.hub.rounds)
       (want_status w.hub) (give_up w.hub)
-      (λ _. same_places _ _ _ _ _ _ _ _ _ _ _ _ refl is.queued_bodies is.waiting_fates is)
-      (λ _. same_places _ _ _ _ _ _ _ _ _ _ _ _ (places_map abandoned w.hub.open_places (λ _. refl)) tt
+      (λ _. same_places _ _ _ _ _ _ _ _ _ _ _ _ _ refl is.queued_bodies is.waiting_fates is)
+      (λ _. same_places _ _ _ _ _ _ _ _ _ _ _ _ _ (places_map abandoned w.hub.open_places (λ _. refl)) tt
       (AllByRecursion-append _ _ _ (all_timed_out (IsRightFate w.hub.sent (replies w.board))
       (least (places w.hub.open_places) (length w.hub.sent + 1)) w.hub.rounds w.hub.sent w.hub.open_places
       w.hub.fates (tagged w.hub.sent) is.hub.from_one is.hub.rising is.waiting_fates)
@@ -210,7 +223,7 @@ module _ (below : Below) where
 
   recovered_holds : (w : World) (e : Option ℕ) → IsSound w → IsSound (with_hub w (recovered w.hub e))
   recovered_holds w None is = is
-  recovered_holds w (Some e) is = same_places _ _ _ _ _ _ _ _ _ _ _ _
+  recovered_holds w (Some e) is = same_places _ _ _ _ _ _ _ _ _ _ _ _ _
       (places_map (recover e) w.hub.open_places (recover_place e)) is.queued_bodies is.waiting_fates is
 
   pub status_holds : (w : World) (next : ℕ) → IsSound w → IsSound (with_hub w (hear_status w.hub next))
@@ -254,6 +267,10 @@ module _ (below : Below) where
             (tag, Replied o.place words) w.hub.fates new is.waiting_fates)
             (λ _. is.waiting_fates);
         told_fates = is.told_fates;
+        waiting_lates = either (AreLateReplies (replies w.board)) o.waited _ _
+            (λ _. is.waiting_lates)
+            (λ _. all_late (IsLateReply (replies w.board)) (o.place, words) w.hub.lates right is.waiting_lates);
+        told_lates = is.told_lates;
       }
 
   settle_holds : (w : World) (id : ℕ) (words : List ℕ) (r : Option OpenPlace) (birth : ℕ) → IsSound w
@@ -326,14 +343,14 @@ module _ (below : Below) where
   first_holds : (w : World) (o : Offered) (later : List Offered) → IsSound w → IsSendable o.body → AreSendable later
       → length w.hub.sent + 1 + 1 ≤ w.hub.window + least (places w.hub.open_places) (length w.hub.sent + 1)
       → Holds w.hub.first w.hub.window (w.hub.sent ++ o ∷ []) later
-      (places (w.hub.open_places ++ opened (length w.hub.sent + 1) ∷ [])) w.hub.fates w.board
+      (places (w.hub.open_places ++ opened (length w.hub.sent + 1) ∷ [])) (to_hand_out w.hub) w.board
       (w.air ++ record {
         direction = goes.ToBoard;
         bytes =
             packet_bytes (control_packet Big (identifier_at w.hub.first (length w.hub.sent + 1))
             (words_of (at_place (w.hub.sent ++ o ∷ []) (length w.hub.sent + 1))));
         birth = length (w.hub.sent ++ o ∷ []);
-      } ∷ []) w.fates
+      } ∷ []) (told_in w)
   first_holds w o later is can rest room =
       let ps = places w.hub.open_places in
       let sent = length w.hub.sent in
@@ -365,6 +382,8 @@ module _ (below : Below) where
         });
         waiting_fates = right w.hub.fates is.waiting_fates;
         told_fates = right w.fates is.told_fates;
+        waiting_lates = is.waiting_lates;
+        told_lates = is.told_lates;
       }
 
   first_send_holds : (w : World) (queue : List Offered) → IsSound w → AreSendable queue
@@ -380,7 +399,7 @@ module _ (below : Below) where
   wanted_holds w None is want = first_send_holds w w.hub.queue is is.queued_bodies
   wanted_holds w (Some x) is want =
       let len = length-map w.hub.sent offered_body in
-      same_places _ _ _ _ _ _ _ _ _ _ _ _ want.same is.queued_bodies is.waiting_fates (record {
+      same_places _ _ _ _ _ _ _ _ _ _ _ _ _ want.same is.queued_bodies is.waiting_fates (record {
         hub = is.hub;
         sent_bodies = is.sent_bodies;
         queued_bodies = is.queued_bodies;
@@ -389,6 +408,8 @@ module _ (below : Below) where
         said = joined _ _ _ w.air _ is.said (record { born = omega arith; said = wish_said w x.send is want.wish });
         waiting_fates = is.waiting_fates;
         told_fates = is.told_fates;
+        waiting_lates = is.waiting_lates;
+        told_lates = is.told_lates;
       })
 
   pub send_holds : (w : World) → IsSound w → IsSendSound w (next_send w.hub)
@@ -405,5 +426,7 @@ module _ (below : Below) where
         });
         waiting_fates = is.waiting_fates;
         told_fates = is.told_fates;
+        waiting_lates = is.waiting_lates;
+        told_lates = is.told_lates;
       })
       (λ _. wanted_holds w (wanted w.hub.first w.hub.open_places) is (wanted_is w.hub.first w.hub.open_places))

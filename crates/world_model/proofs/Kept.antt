@@ -64,6 +64,7 @@ pub record Grew (old new : World) : Type 0 where
   pub log : IsPrefix {T = LogEntry} old.board.log new.board.log
   pub air : IsPrefix {T = Datagram} old.air new.air
   pub fates : IsPrefix {T = ℕ × Fate} old.fates new.fates
+  pub lates : IsPrefix {T = ℕ × List ℕ} old.lates new.lates
 
 pub grew_same : (w : World) → Grew w w
 grew_same w = record {
@@ -71,6 +72,7 @@ grew_same w = record {
   log = prefix_same w.board.log w.board.log refl;
   air = prefix_same w.air w.air refl;
   fates = prefix_same w.fates w.fates refl;
+  lates = prefix_same w.lates w.lates refl;
 }
 
 pub grew_then : (a b c : World) → Grew a b → Grew b c → Grew a c
@@ -79,6 +81,7 @@ grew_then a b c one two = record {
   log = prefix_then a.board.log b.board.log c.board.log one.log two.log;
   air = prefix_then a.air b.air c.air one.air two.air;
   fates = prefix_then a.fates b.fates c.fates one.fates two.fates;
+  lates = prefix_then a.lates b.lates c.lates one.lates two.lates;
 }
 
 abbrev pub SendsMore : Hub → Option Next → Type 0
@@ -108,6 +111,7 @@ flush_by later w (Some n) more f =
       log = prefix_same w.board.log w.board.log refl;
       air = (_, refl);
       fates = prefix_same w.fates w.fates refl;
+      lates = prefix_same w.lates w.lates refl;
     }) (f n)
 
 pub flush_grew : (most : ℕ) (w : World) → Grew w (flush most w)
@@ -121,6 +125,7 @@ handed_grew w = record {
   log = prefix_same w.board.log w.board.log refl;
   air = prefix_same w.air w.air refl;
   fates = (w.hub.fates, refl);
+  lates = (w.hub.lates, refl);
 }
 
 -- an event of the hub that sends nothing
@@ -134,6 +139,7 @@ go_on_grew w h same =
       log = prefix_same w.board.log w.board.log refl;
       air = prefix_same w.air w.air refl;
       fates = prefix_same w.fates w.fates refl;
+      lates = prefix_same w.lates w.lates refl;
     })
     (flush_grew (pending h) (with_hub w h)))
     (handed_grew sent)
@@ -163,6 +169,7 @@ board_grew w bytes = record {
   log = message_logs w.board (to_board bytes);
   air = (answered (length w.hub.sent) (hear w.board bytes).answer, refl);
   fates = prefix_same w.fates w.fates refl;
+  lates = prefix_same w.lates w.lates refl;
 }
 
 -- ---- moves

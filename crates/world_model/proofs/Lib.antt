@@ -11,7 +11,11 @@ mod Kept
 mod Grammar
 mod Greetings
 pub mod Flushing
+pub mod OpenPlaces
 mod Waiting
 pub mod Accounts
 mod Patience
 mod Bodies
+pub mod LateAnswers
+mod AnsweredLate
+mod Answered

@@ -23,12 +23,12 @@ use Rattle.world_model.specs.Messages.{to_board, to_hub}
 use Rattle.world_model.specs.Board.{Board, Hearing, expected, held, with_id, is_too_long, send_again}
 use Rattle.world_model.specs.Board.{hear_message, hear, replies}
 use Rattle.world_model.specs.Hub.{Hub, low, words_of, offer}
-use Rattle.world_model.specs.Hub.{take_message, hear_quiet, new_hub, places, least}
+use Rattle.world_model.specs.Hub.{none_handed_out, to_hand_out, take_message, hear_quiet, new_hub, places, least}
 use Rattle.world_model.specs.Sends.{Next, Wanted, wanted, first_send, wanted_or_first, next_send, bytes_to_send}
 use Rattle.world_model.specs.Air.{is_alive, goes_to}
 use Rattle.world_model.specs.World.{World, answered}
 use Rattle.world_model.specs.Facts.{IsSound, Holds, IsSendable, AreSendable, IsStart, IsSaid, IsGreeting, IsGreetingOf}
-use Rattle.world_model.specs.Facts.{AreRight, bodies_of, has}
+use Rattle.world_model.specs.Facts.{AreLateReplies, AreRight, bodies_of, has}
 use Rattle.world_model.specs.Links.{Told, IsHeard, IsHanded, is_first_message, is_first_send}
 use Rattle.world_model.specs.Links.{first_sends_from, first_sends, birth_of, sent_on, heard_on, heard_by, then_told}
 use Rattle.world_model.specs.Links.{hears_all, together, IsJoined}
@@ -156,8 +156,8 @@ module _ (below : Below) where
   heard_joined : (hub : Hub) (t : Told) (bytes : List ℕ) → IsJoined hub t
       → IsTaken below (together hub t) goes.ToBoard bytes → IsJoined hub (heard_on t bytes)
   heard_joined hub t bytes is taken = record {
-    sound = subst (λ (n : ℕ). Holds hub.first hub.window hub.sent hub.queue (places hub.open_places) hub.fates
-        (hear t.board bytes).board (t.air ++ answered n (hear t.board bytes).answer) []) (sym is.counts)
+    sound = subst (λ (n : ℕ). Holds hub.first hub.window hub.sent hub.queue (places hub.open_places) (to_hand_out hub)
+        (hear t.board bytes).board (t.air ++ answered n (hear t.board bytes).answer) none_handed_out) (sym is.counts)
         (board_goes_on below (together hub t) bytes is.sound taken);
     counts = ap (λ (f : ℕ). first_sends_from f 0 (t.air ++ answered (first_sends t) (hear t.board bytes).answer))
         (hear_first t.board bytes)
@@ -221,8 +221,8 @@ module _ (below : Below) where
       let born = count_is hub t n is counted in
       record {
         sound = subst (λ (b : ℕ). Holds n.hub.first n.hub.window n.hub.sent n.hub.queue
-            (places n.hub.open_places) n.hub.fates t.board (t.air ++ record
-            { direction = goes.ToBoard; bytes = bytes; birth = b } ∷ []) []) (sym born) sound;
+            (places n.hub.open_places) (to_hand_out n.hub) t.board (t.air ++ record
+            { direction = goes.ToBoard; bytes = bytes; birth = b } ∷ []) none_handed_out) (sym born) sound;
         counts = count_more t.board.first 0 t.air (record {
           direction = goes.ToBoard;
           bytes = bytes;
@@ -270,6 +270,26 @@ module _ (below : Below) where
       said = is.sound.said;
       waiting_fates = (subst (AreRight hub.sent (replies t.board)) e is.sound.waiting_fates).1;
       told_fates = tt;
+      waiting_lates = is.sound.waiting_lates;
+      told_lates = tt;
+    };
+    counts = is.counts;
+  }
+
+  pub late_joined : (hub : Hub) (t : Told) (late : ℕ × List ℕ) (lates : List (ℕ × List ℕ)) → IsJoined hub t
+      → hub.lates ≡ late ∷ lates → IsJoined (record hub { lates = lates }) t
+  late_joined hub t late lates is e = record {
+    sound = record {
+      hub = is.sound.hub;
+      sent_bodies = is.sound.sent_bodies;
+      queued_bodies = is.sound.queued_bodies;
+      log = is.sound.log;
+      node = is.sound.node;
+      said = is.sound.said;
+      waiting_fates = is.sound.waiting_fates;
+      told_fates = tt;
+      waiting_lates = (subst (AreLateReplies (replies t.board)) e is.sound.waiting_lates).1;
+      told_lates = tt;
     };
     counts = is.counts;
   }

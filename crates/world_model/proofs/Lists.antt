@@ -89,7 +89,7 @@ pub at_exists : {A : Type 0} (xs : List A) (k : ℕ) → 1 ≤ k → k ≤ lengt
 at_exists xs zero one h = absurd (omega arith)
 at_exists xs (suc k) one h = get_exists xs k (omega arith)
 
-get_map : {A B : Type 0} (f : A → B) (xs : List A) (k : ℕ) (x : A) → slice_get xs k ≡ Some x
+pub get_map : {A B : Type 0} (f : A → B) (xs : List A) (k : ℕ) (x : A) → slice_get xs k ≡ Some x
     → slice_get (map f xs) k ≡ Some (f x)
 get_map f [] k x e = absurd (cc)
 get_map f (y ∷ xs) zero x e = let same : y ≡ x = cc in ap (λ z. Some (f z)) same

@@ -17,6 +17,7 @@ use Rattle.world_model.specs.declared.moves.WorldEnd.{WorldEnd}
 use Rattle.world_model.specs.Places.{at_place}
 use Rattle.world_model.specs.Messages.{to_hub}
 use Rattle.world_model.specs.Board.{Board}
+use Rattle.world_model.specs.Hub.{HandedOut}
 use Rattle.world_model.specs.Hub.{Hub, offer, goes_before, insert_fate, tag_of, settle, recovered, take_message}
 use Rattle.world_model.specs.Hub.{time_out, unsent, want_status, give_up, hear_quiet, places, place_of, least}
 use Rattle.world_model.specs.Sends.{Next, pending}
@@ -28,6 +29,7 @@ use Rattle.world_model.proofs.Lists.{either, all_get}
 use Rattle.world_model.proofs.Worlds.{step_holds, start_holds}
 use Rattle.world_model.proofs.Flushing.{send_cases, flush_keeps, message_cases, quiet_cases, step_cases, run_by, ok_map}
 use Rattle.world_model.proofs.Flushing.{ok_is, run_out}
+use Rattle.world_model.proofs.Waiting.{flush_held, flush_told_in}
 use Rattle.world_model.proofs.Accounts.{IsCount, count_inserted, count_append}
 
 -- ---- what sends leave alone
@@ -135,6 +137,35 @@ pub settled_ends : (old new : World) (at number : ℕ) → old.hub.fates ≡ [] 
     → new.fates ≢ old.fates → new.hub.status_requests ≡ 0
 settled_ends old new at number none e other = elim (ok_is (IsSettledOr old) (step at old (HubHears number)) new e
     (heard_settles old (HubHears number) at number refl none)) [
+      | inl same ↦ absurd (other same)
+      | inr ended ↦ ended
+    ]
+
+-- the same of a late answer
+no_late : (w : World) (h : Hub) → h.lates ≡ [] → (go_on w h).lates ≡ w.lates
+no_late w h none =
+    let v = flush (pending h) (with_hub w h) in
+    let told = ap (λ (t : HandedOut). t.lates) (flush_told_in (pending h) (with_hub w h)) in
+    let held = ap (λ (t : HandedOut). t.lates) (flush_held (pending h) (with_hub w h)) in
+    ap (λ (lates : List (ℕ × List ℕ)). lates ++ v.hub.lates) told
+    ∙ (ap (λ (lates : List (ℕ × List ℕ)). w.lates ++ lates) (held ∙ none) ∙ append-nil w.lates)
+
+abbrev pub IsLateOr : World → World → Type 0
+IsLateOr w new = (new.lates ≡ w.lates) ⊎ (new.hub.status_requests ≡ 0)
+
+late_settles : (w : World) (m : WorldMove) (at number : ℕ) → m ≡ HubHears number → w.hub.lates ≡ []
+    → IfOk (step at w m) (IsLateOr w)
+late_settles w m at number is none = step_cases (IsLateOr w) at w m
+    (λ tag body e. absurd (cc)) (λ e. absurd (cc))
+    (λ i bytes _. message_cases (λ (h : Hub). IsLateOr w (go_on w h)) w.hub (to_hub bytes)
+    (inl (no_late w w.hub none)) (λ told. inl (no_late w (recovered w.hub (Some told)) none))
+    (λ id words o _. inr ((after_event w (settle w.hub words (Some o))).requests)))
+    (λ i bytes e. absurd (cc))
+
+pub late_ends : (old new : World) (at number : ℕ) → old.hub.lates ≡ [] → step at old (HubHears number) ≡ Ok new
+    → new.lates ≢ old.lates → new.hub.status_requests ≡ 0
+late_ends old new at number none e other = elim (ok_is (IsLateOr old) (step at old (HubHears number)) new e
+    (late_settles old (HubHears number) at number refl none)) [
       | inl same ↦ absurd (other same)
       | inr ended ↦ ended
     ]
@@ -451,7 +482,7 @@ module _ (below : Below) where
       is.leads.ran
       (run_costs n rounds is.leads.at (start window rounds board air) moves is.leads.sendable
       (start_holds below window rounds board air is.begins, record { window_is = refl; rounds_is = refl }))).1 in
-      let out = ap timeouts (run_out window rounds board air moves w is).1 in
+      let out = ap timeouts (run_out window rounds board air moves w is).1.fates in
       let late : late_of w ≡ timeouts w.fates = omega (arith, out) in
       let all = ap (λ (count : ℕ). (rounds + 1) * count) late in
       omega (arith, ran, all)

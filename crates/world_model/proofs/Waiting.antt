@@ -1,5 +1,4 @@
--- A hub whose sends wait: an offer, a send and the handing out of fates keep what the state will be, and a move makes
--- the next.
+-- A hub whose sends wait: an offer, a send and handing out keep what the state will be, and a move makes the next.
 use Rattle.std.proofs.Common.{◌≡◌, ℕ, zero, suc, ◌+◌, ◌≤◌, Bool, true, false, cond, List, [], ◌∷◌, ◌++◌, length, map}
 use Rattle.std.proofs.Common.{Option, Some, None, Result, Ok, Err, refl, sym, ap, ◌∙◌, subst, arith}
 use Rattle.std.specs.Prelude.{nat_le, IfSome, IfOk}
@@ -12,7 +11,6 @@ use Rattle.world_model.specs.declared.datagram.Direction.{Direction}
 use Rattle.world_model.specs.declared.datagram.Direction.TheVariants as goes
 use Rattle.world_model.specs.declared.offered.Offered.{Offered}
 use Rattle.world_model.specs.declared.offered.OpenPlace.{OpenPlace}
-use Rattle.world_model.specs.declared.offered.Fate.{Fate}
 use Rattle.world_model.specs.declared.sending.Sending.{Sending}
 use Rattle.world_model.specs.declared.sending.Sending.TheVariants as sends
 use Rattle.world_model.specs.declared.moves.WorldMove.{WorldMove}
@@ -20,19 +18,20 @@ use Rattle.world_model.specs.declared.moves.WorldMove.TheVariants.{Offer, Quiet,
 use Rattle.world_model.specs.declared.moves.WorldEnd.{WorldEnd}
 use Rattle.world_model.specs.declared.moves.WorldEnd.TheVariants.{NotThere, TooOld}
 use Rattle.world_model.specs.Messages.{to_hub}
-use Rattle.world_model.specs.Hub.{Hub, low, want_control, offer, take_message, hear_quiet, is_waiting}
+use Rattle.world_model.specs.Hub.{HandedOut, and_then, none_handed_out, to_hand_out}
+use Rattle.world_model.specs.Hub.{Hub, IsDrained, low, want_control, offer, take_message, hear_quiet, is_waiting}
 use Rattle.world_model.specs.Sends.{Next, Wanted, after_open, wanted, opened, first_send, wanted_or_first, next_send}
 use Rattle.world_model.specs.Sends.{pending, wishes, bytes_to_send}
 use Rattle.world_model.specs.Air.{is_alive, goes_to}
 use Rattle.world_model.specs.World.{World, sent_into, flush_on, flush, handed_out, with_hub, go_on, taken, hub_hears}
-use Rattle.world_model.specs.World.{board_hears, when_taken, step, moves_on, run_moves}
+use Rattle.world_model.specs.World.{told_in, with_told, board_hears, when_taken, step, moves_on, run_moves}
 use Rattle.world_model.specs.Facts.{IsSendable}
 use Rattle.world_model.specs.History.{IsMove}
 use Rattle.world_model.specs.Lanes.{IsState, caught_up, IsLaneState}
 use Rattle.world_model.proofs.Lists.{either}
 use Rattle.world_model.proofs.Flushing.{Falls, send_falls, some_falls, flush_step, flush_end, send_cases, flush_keeps}
-use Rattle.world_model.proofs.Flushing.{message_cases, quiet_cases, step_cases, ok_is, with_fates, ToldAlike, send_told}
-use Rattle.world_model.proofs.Flushing.{IsOut, step_out}
+use Rattle.world_model.proofs.Flushing.{message_cases, quiet_cases, step_cases, ok_is, with_waiting, ToldAlike}
+use Rattle.world_model.proofs.Flushing.{send_told, IsOut, step_out}
 
 -- ---- an offer, and the sends before it
 
@@ -122,55 +121,65 @@ queued_later zero w o few = refl
 queued_later (suc most) w o few = later_case most w o (next_send w.hub) refl (send_falls w.hub) (send_alike w.hub o) few
     (λ v h. queued_later most v o h)
 
--- ---- sends leave fates as they are
+-- ---- sends leave what waits and what was handed out as it is
 
-abbrev pub told_as : List (ℕ × Fate) → List (ℕ × Fate) → World → World
-told_as kept told w = record w { hub = with_fates kept w.hub; fates = told }
+abbrev pub told_as : HandedOut → HandedOut → World → World
+told_as held told w = with_told (with_hub w (with_waiting held w.hub)) told
 
-bytes_told : (kept : List (ℕ × Fate)) (h : Hub) (s : Sending) → bytes_to_send (with_fates kept h) s ≡ bytes_to_send h s
-bytes_told kept h sends.Status = refl
-bytes_told kept h (sends.Resend id) = refl
-bytes_told kept h (sends.Control place id) = refl
+bytes_told : (held : HandedOut) (h : Hub) (s : Sending) → bytes_to_send (with_waiting held h) s ≡ bytes_to_send h s
+bytes_told held h sends.Status = refl
+bytes_told held h (sends.Resend id) = refl
+bytes_told held h (sends.Control place id) = refl
 
-sent_told : (kept told : List (ℕ × Fate)) (w : World) (n : Next)
-    → sent_into (told_as kept told w) (record { send = n.send; hub = with_fates kept n.hub }) ≡ told_as kept told
+sent_told : (held told : HandedOut) (w : World) (n : Next)
+    → sent_into (told_as held told w) (record { send = n.send; hub = with_waiting held n.hub }) ≡ told_as held told
     (sent_into w n)
-sent_told kept told w n = ap (λ (bytes : List ℕ). record w {
-  hub = with_fates kept n.hub;
+sent_told held told w n = ap (λ (bytes : List ℕ). record w {
+  hub = with_waiting held n.hub;
   air = w.air ++ record { direction = goes.ToBoard; bytes = bytes; birth = length n.hub.sent } ∷ [];
-  fates = told;
-}) (bytes_told kept n.hub n.send)
+  fates = told.fates;
+  lates = told.lates;
+}) (bytes_told held n.hub n.send)
 
-told_case : (kept told : List (ℕ × Fate)) (most : ℕ) (w : World) (r s : Option Next) → ToldAlike kept r s
-    → ((v : World) → flush most (told_as kept told v) ≡ told_as kept told (flush most v))
-    → flush_on s (λ next. flush most (sent_into (told_as kept told w) next)) (told_as kept told w) ≡ told_as kept told
+told_case : (held told : HandedOut) (most : ℕ) (w : World) (r s : Option Next) → ToldAlike held r s
+    → ((v : World) → flush most (told_as held told v) ≡ told_as held told (flush most v))
+    → flush_on s (λ next. flush most (sent_into (told_as held told w) next)) (told_as held told w) ≡ told_as held told
     (flush_on r (λ next. flush most (sent_into w next)) w)
-told_case kept told most w None s alike later =
-    ap (λ (x : Option Next). flush_on x (λ next. flush most (sent_into (told_as kept told w) next))
-    (told_as kept told w)) alike
-told_case kept told most w (Some n) s alike later =
-    ap (λ (x : Option Next). flush_on x (λ next. flush most (sent_into (told_as kept told w) next))
-    (told_as kept told w)) alike
-    ∙ (ap (flush most) (sent_told kept told w n) ∙ later (sent_into w n))
+told_case held told most w None s alike later =
+    ap (λ (x : Option Next). flush_on x (λ next. flush most (sent_into (told_as held told w) next))
+    (told_as held told w)) alike
+told_case held told most w (Some n) s alike later =
+    ap (λ (x : Option Next). flush_on x (λ next. flush most (sent_into (told_as held told w) next))
+    (told_as held told w)) alike
+    ∙ (ap (flush most) (sent_told held told w n) ∙ later (sent_into w n))
 
-flush_told : (kept told : List (ℕ × Fate)) (most : ℕ) (w : World)
-    → flush most (told_as kept told w) ≡ told_as kept told (flush most w)
-flush_told kept told zero w = refl
-flush_told kept told (suc most) w = told_case kept told most w (next_send w.hub) (next_send (with_fates kept w.hub))
-    (send_told kept w.hub) (flush_told kept told most)
+flush_told : (held told : HandedOut) (most : ℕ) (w : World)
+    → flush most (told_as held told w) ≡ told_as held told (flush most w)
+flush_told held told zero w = refl
+flush_told held told (suc most) w = told_case held told most w (next_send w.hub) (next_send (with_waiting held w.hub))
+    (send_told held w.hub) (flush_told held told most)
 
--- no fate is waiting
-handed_same : (w : World) → w.hub.fates ≡ [] → handed_out w ≡ w
+told_nil : (a : HandedOut) → and_then a none_handed_out ≡ a
+told_nil a = rw (append-nil a.fates, append-nil a.lates) refl
+
+held_none : (h : Hub) → IsDrained h → to_hand_out h ≡ none_handed_out
+held_none h is = rw (is.fates, is.lates) refl
+
+-- nothing is waiting
+handed_same : (w : World) → to_hand_out w.hub ≡ none_handed_out → handed_out w ≡ w
 handed_same w e =
-    ap (λ (fates : List (ℕ × Fate)). told_as [] (w.fates ++ fates) w) e
-    ∙ (ap (λ (fates : List (ℕ × Fate)). told_as [] fates w) (append-nil w.fates)
-    ∙ ap (λ (fates : List (ℕ × Fate)). told_as fates w.fates w) (sym e))
+    ap (λ (t : HandedOut). told_as none_handed_out (and_then (told_in w) t) w) e
+    ∙ (ap (λ (t : HandedOut). told_as none_handed_out t w) (told_nil (told_in w))
+    ∙ ap (λ (t : HandedOut). told_as t (told_in w) w) (sym e))
 
-flush_fates : (most : ℕ) (w : World) → (flush most w).hub.fates ≡ w.hub.fates
-flush_fates most w = ap (λ (v : World). v.hub.fates) (flush_told w.hub.fates w.fates most w)
+pub flush_held : (most : ℕ) (w : World) → to_hand_out (flush most w).hub ≡ to_hand_out w.hub
+flush_held most w = ap (λ (v : World). to_hand_out v.hub) (flush_told (to_hand_out w.hub) (told_in w) most w)
+
+pub flush_told_in : (most : ℕ) (w : World) → told_in (flush most w) ≡ told_in w
+flush_told_in most w = ap (λ (v : World). told_in v) (flush_told (to_hand_out w.hub) (told_in w) most w)
 
 pub flush_told_fates : (most : ℕ) (w : World) → (flush most w).fates ≡ w.fates
-flush_told_fates most w = ap (λ (v : World). v.fates) (flush_told w.hub.fates w.fates most w)
+flush_told_fates most w = ap (λ (t : HandedOut). t.fates) (flush_told_in most w)
 
 -- ---- moves after moves
 
@@ -233,10 +242,10 @@ moved_on begin w new number m can is e = record {
 
 -- ---- nothing waits
 
-caught_up_same : (w : World) → next_send w.hub ≡ None → w.hub.fates ≡ [] → caught_up w ≡ w
+caught_up_same : (w : World) → next_send w.hub ≡ None → to_hand_out w.hub ≡ none_handed_out → caught_up w ≡ w
 caught_up_same w none told = ap handed_out (flush_end w none) ∙ handed_same w told
 
-nothing_pends : (w : World) → pending w.hub ≡ 0 → w.hub.fates ≡ [] → caught_up w ≡ w
+nothing_pends : (w : World) → pending w.hub ≡ 0 → to_hand_out w.hub ≡ none_handed_out → caught_up w ≡ w
 nothing_pends w none told = ap (λ (most : ℕ). handed_out (flush most w)) none ∙ handed_same w told
 
 -- ---- the clauses
@@ -247,17 +256,18 @@ gave_up_kept most w b e =
     flush_keeps Q (λ v is. send_cases (λ (n : Next). Q (sent_into v n)) v.hub is (λ _ _. is) (λ _ _ _ _. is)) most w e
 
 pub offered_same : (w : World) (o : Offered) (b : Bool) → w.hub.gave_up ≡ b → (w.hub.gave_up ≡ true → pending w.hub ≡ 0)
-    → w.hub.fates ≡ []
+    → IsDrained w.hub
     → go_on (caught_up w) (offer (caught_up w).hub o) ≡ caught_up (with_hub w (offer w.hub o))
-offered_same w o true e given_up told = ap (λ (v : World). go_on v (offer v.hub o)) (nothing_pends w (given_up e) told)
+offered_same w o true e given_up told = ap (λ (v : World). go_on v (offer v.hub o))
+    (nothing_pends w (given_up e) (held_none w.hub told))
 offered_same w o false e given_up told =
     let v = all_sent w in
-    ap (λ (x : World). go_on x (offer x.hub o)) (handed_same v (flush_fates (pending w.hub) w ∙ told))
+    ap (λ (x : World). go_on x (offer x.hub o)) (handed_same v (flush_held (pending w.hub) w ∙ held_none w.hub told))
     ∙ (ap (go_on v) (offer_plain v.hub o (gave_up_kept (pending w.hub) w false e))
     ∙ (ap handed_out (sym (queued_later (pending w.hub) w o (omega arith)))
     ∙ ap (go_on w) (sym (offer_plain w.hub o e))))
 
-pub offered_waits : (begin w : World) (o : Offered) → IsSendable o.body → IsLaneState begin w → w.hub.fates ≡ []
+pub offered_waits : (begin w : World) (o : Offered) → IsSendable o.body → IsLaneState begin w → IsDrained w.hub
     → IsLaneState begin (with_hub w (offer w.hub o))
 offered_waits begin w o can is told = record {
   given_up = λ e. absurd (cc);
@@ -284,12 +294,12 @@ sent_waits begin w n is e =
 caught_up_handed : (w : World) → caught_up (handed_out w) ≡ caught_up w
 caught_up_handed w =
     let v = all_sent w in
-    let told = w.fates ++ w.hub.fates in
-    let same : v.fates ++ v.hub.fates ≡ told = ap (λ (fates : List (ℕ × Fate)). fates ++ v.hub.fates)
-    (flush_told_fates (pending w.hub) w) ∙ ap (λ (fates : List (ℕ × Fate)). w.fates ++ fates)
-    (flush_fates (pending w.hub) w) in
-    ap handed_out (flush_told [] told (pending w.hub) w) ∙ ap
-    (λ (fates : List (ℕ × Fate)). told_as [] fates v) (append-nil told ∙ sym same)
+    let told = and_then (told_in w) (to_hand_out w.hub) in
+    let same : and_then (told_in v) (to_hand_out v.hub) ≡ told =
+    ap (λ (t : HandedOut). and_then t (to_hand_out v.hub)) (flush_told_in (pending w.hub) w)
+    ∙ ap (λ (t : HandedOut). and_then (told_in w) t) (flush_held (pending w.hub) w) in
+    ap handed_out (flush_told none_handed_out told (pending w.hub) w) ∙ ap
+    (λ (t : HandedOut). told_as none_handed_out t v) (told_nil told ∙ sym same)
 
 pub fates_wait : (begin w : World) → IsLaneState begin w → IsLaneState begin (handed_out w)
 fates_wait begin w is = record {
@@ -347,13 +357,14 @@ step_empty at w m is = step_cases (λ (v : World). EmptyOnceGivenUp v.hub) at w 
     (λ i bytes _. is)
 
 pub moved_waits : (begin w new : World) (at : ℕ) (m : WorldMove) → IsMove m → IsLaneState begin w
-    → next_send w.hub ≡ None → w.hub.fates ≡ [] → step at w m ≡ Ok new → IsLaneState begin new
+    → next_send w.hub ≡ None → IsDrained w.hub → step at w m ≡ Ok new → IsLaneState begin new
 moved_waits begin w new at m can is none told e =
     let out = ok_is IsOut (step at w m) new e (step_out at w m (none, told)) in
     let empty = ok_is (λ (v : World). EmptyOnceGivenUp v.hub) (step at w m) new e
     (step_empty at w m (λ g. let few = is.given_up g in omega arith)) in
     record {
       given_up = λ g. none_pending new.hub out.0 (empty g);
-      state = subst (IsState begin) (sym (caught_up_same new out.0 out.1))
-          (moved_on begin w new at m can (subst (IsState begin) (caught_up_same w none told) is.state) e);
+      state = subst (IsState begin) (sym (caught_up_same new out.0 (held_none new.hub out.1)))
+          (moved_on begin w new at m can (subst (IsState begin) (caught_up_same w none (held_none w.hub told))
+          is.state) e);
     }

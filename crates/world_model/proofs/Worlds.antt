@@ -27,7 +27,7 @@ use Rattle.world_model.specs.Facts.{IsSendable, IsGreetingOf, IsGreeting, IsStar
 use Rattle.world_model.specs.History.{IsMove}
 use Rattle.world_model.proofs.Lists.{either, all_get}
 use Rattle.world_model.proofs.Readings.{status_read}
-use Rattle.world_model.proofs.Boards.{air_grows, fates_grow, board_heard, IsAnswered, IsHere}
+use Rattle.world_model.proofs.Boards.{air_grows, fates_grow, lates_grow, board_heard, IsAnswered, IsHere}
 use Rattle.world_model.proofs.Hubs.{offer_holds, quiet_holds, status_holds, reply_holds, send_holds, IsSendSound}
 use Rattle.world_model.specs.Below.{Below}
 
@@ -52,6 +52,8 @@ module _ (below : Below) where
     said = is.said;
     waiting_fates = tt;
     told_fates = AllByRecursion-append _ w.fates w.hub.fates is.told_fates is.waiting_fates;
+    waiting_lates = tt;
+    told_lates = AllByRecursion-append _ w.lates w.hub.lates is.told_lates is.waiting_lates;
   }
 
   pub goes_on : (w : World) (h : Hub) → IsSound (with_hub w h) → IsSound (go_on w h)
@@ -146,6 +148,8 @@ module _ (below : Below) where
             (hear w.board bytes).answer (sym len) grown h.answer;
         waiting_fates = rw (h.grew) (right w.hub.fates is.waiting_fates);
         told_fates = rw (h.grew) (right w.fates is.told_fates);
+        waiting_lates = rw (h.grew) (lates_grow below (replies w.board) h.later w.hub.lates is.waiting_lates);
+        told_lates = rw (h.grew) (lates_grow below (replies w.board) h.later w.lates is.told_lates);
       }
 
   -- ---- moves
@@ -228,4 +232,6 @@ module _ (below : Below) where
         said = all-map _ _ air (λ d g. greeted window board air d is g) is.greetings;
         waiting_fates = tt;
         told_fates = tt;
+        waiting_lates = tt;
+        told_lates = tt;
       }

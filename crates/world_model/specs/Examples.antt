@@ -34,11 +34,12 @@ add_one = 0x2000015f ∷ 8 ∷ 1 ∷ []
 abbrev pub one_added : List ℕ
 one_added = 0x20000150 ∷ 0 ∷ []
 
--- how a world stands: the bodies that its board executed, the fates that were handed out, the places that are open, and
--- the bytes in the air
+-- how a world stands: the bodies that its board executed, the fates and late answers that were handed out, the places
+-- that are open, and the bytes in the air
 pub record Standing : Type 0 where
   pub executed_bodies : List (List ℕ)
   pub fates : List (ℕ × Fate)
+  pub lates : List (ℕ × List ℕ)
   pub open_places : List OpenPlace
   pub air : List (List ℕ)
 
@@ -49,6 +50,7 @@ abbrev pub standing : Result World WorldEnd → Result Standing WorldEnd
 standing (Ok w) = Ok (record {
   executed_bodies = executed w.board;
   fates = w.fates;
+  lates = w.lates;
   open_places = w.hub.open_places;
   air = map bytes_of w.air;
 })

@@ -34,8 +34,8 @@ use Rattle.world_model.specs.Places.{at_place}
 use Rattle.world_model.specs.Messages.{ToBoard as MessageToBoard, ToHub as MessageToHub, StatusRequest, ResendRequest}
 use Rattle.world_model.specs.Messages.{ControlPacket, StatusReply, Reply, to_board, to_hub}
 use Rattle.world_model.specs.Board.{Board, executed, replies}
-use Rattle.world_model.specs.Hub.{Hub, least, places}
-use Rattle.world_model.specs.World.{World}
+use Rattle.world_model.specs.Hub.{Hub, HandedOut, least, places, to_hand_out}
+use Rattle.world_model.specs.World.{World, told_in}
 
 -- the greatest window, and the most buffers of a board
 abbrev pub MOST_OPEN : ℕ
@@ -114,6 +114,7 @@ pub record IsReplyOf (first : ℕ) (answers : List (List ℕ)) (birth id : ℕ) 
   pub place : ℕ
   pub at : at_place answers place ≡ Some words
   pub identifier : id ≡ identifier_at first place
+  pub sent : place ≤ birth
   pub recent : birth < place + (MOST_OPEN + MOST_HELD)
 
 -- a status reply tells a place up to the next one
@@ -159,21 +160,30 @@ IsRightFate sent answers (tag, Unsent) = Unit {0}
 abbrev pub AreRight : List Offered → List (List ℕ) → List (ℕ × Fate) → Type 0
 AreRight sent answers fates = AllByRecursion (IsRightFate sent answers) fates
 
--- all of it, of the parts of a world
-pub record Holds (first window : ℕ) (sent queue : List Offered) (ps : List ℕ) (to_hand_out : List (ℕ × Fate))
-    (board : Board) (air : List Datagram) (told : List (ℕ × Fate)) : Type 0 where
+-- a late answer is the reply that was given at its place
+abbrev pub IsLateReply : List (List ℕ) → ℕ × List ℕ → Type 0
+IsLateReply answers late = at_place answers late.0 ≡ Some late.1
+
+abbrev pub AreLateReplies : List (List ℕ) → List (ℕ × List ℕ) → Type 0
+AreLateReplies answers lates = AllByRecursion (IsLateReply answers) lates
+
+-- all of it, of the parts of a world; `told` was handed out, and `waiting` is still to be
+pub record Holds (first window : ℕ) (sent queue : List Offered) (ps : List ℕ) (waiting : HandedOut)
+    (board : Board) (air : List Datagram) (told : HandedOut) : Type 0 where
   pub hub : IsWindow window (length sent) ps
   pub sent_bodies : AreSendable sent
   pub queued_bodies : AreSendable queue
   pub log : IsExecuted (bodies_of sent) (executed board) ps
   pub node : IsBoard first board
   pub said : AllByRecursion (IsDatagram first (bodies_of sent) (replies board)) air
-  pub waiting_fates : AreRight sent (replies board) to_hand_out
-  pub told_fates : AreRight sent (replies board) told
+  pub waiting_fates : AreRight sent (replies board) waiting.fates
+  pub told_fates : AreRight sent (replies board) told.fates
+  pub waiting_lates : AreLateReplies (replies board) waiting.lates
+  pub told_lates : AreLateReplies (replies board) told.lates
 
 abbrev pub IsSound : World → Type 0
 IsSound w = Holds w.hub.first w.hub.window w.hub.sent w.hub.queue
-    (places w.hub.open_places) w.hub.fates w.board w.air w.fates
+    (places w.hub.open_places) (to_hand_out w.hub) w.board w.air (told_in w)
 
 -- a datagram of a greeting: a status request, or the reply to one of a board that has executed nothing
 abbrev pub IsGreetingOf : Board → Direction → List ℕ → Type 0

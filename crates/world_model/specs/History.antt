@@ -43,6 +43,11 @@ pub record IsHandedOut (w : World) (tag : ℕ) (fate : Fate) : Type 0 where
   pub number : ℕ
   pub there : slice_get w.fates number ≡ Some (tag, fate)
 
+-- a late answer that was handed out, with its place
+pub record IsLateAnswer (w : World) (place : ℕ) (words : List ℕ) : Type 0 where
+  pub number : ℕ
+  pub there : slice_get w.lates number ≡ Some (place, words)
+
 -- bytes that the hub may still hear
 pub record IsAliveInAir (w : World) (bytes : List ℕ) : Type 0 where
   pub number : ℕ
@@ -51,11 +56,13 @@ pub record IsAliveInAir (w : World) (bytes : List ℕ) : Type 0 where
   pub alive : length w.hub.sent ≤ birth + LIFETIME
 
 -- The theorem. The executed bodies are the front of the bodies that were sent first, in order; and each place whose
--- fate is Replied has the reply that a bus with a single thread gives there, when the executed bodies are replayed by
--- place over the bus that the board opened with.
+-- fate is Replied, and each place with a late answer, has the reply that a bus with a single thread gives there, when
+-- the executed bodies are replayed by place over the bus that the board opened with.
 pub record IsTrueHistory (w : World) : Type 0 where
   pub in_order : IsPrefix (executed w.board) (bodies_of w.hub.sent)
   pub replied : (tag place : ℕ) (words : List ℕ) → IsHandedOut w tag (Replied place words)
+      → at_place (replay w.board.opening (executed w.board)).replies place ≡ Some words
+  pub late : (place : ℕ) (words : List ℕ) → IsLateAnswer w place words
       → at_place (replay w.board.opening (executed w.board)).replies place ≡ Some words
 
 -- the body of this tag was sent at this place and executed there
@@ -71,6 +78,13 @@ pub record IsExecutedAtMostOnce (w : World) (tag place : ℕ) : Type 0 where
   pub sent : at_place w.hub.sent place ≡ Some body
   pub tag_is : body.tag ≡ tag
   pub there : (length (executed w.board) < place) ⊎ (at_place (executed w.board) place ≡ Some body.body)
+
+-- a body was timed out at this place, and was executed there all the same
+pub record IsAnsweredLate (w : World) (place : ℕ) : Type 0 where
+  pub tag : ℕ
+  pub rounds : ℕ
+  pub timed_out : IsHandedOut w tag (TimedOut place rounds)
+  pub there : IsExecutedThere w tag place
 
 -- ---- the fates of offered bodies
 

@@ -1,7 +1,8 @@
 -- The hub of one board: a machine of events without time, threads or bytes. IPbus 2.0, reliability mechanism; that one
 -- control path keeps each board and does its recovery is a ControlHub's; the window, the rounds and the give-up are the
 -- profile's.
-use Rattle.std.specs.Prelude.{ℕ, zero, suc, ◌+◌, ◌-◌, nat_lt, ◌==◌, ◌||◌, Bool, true, false, if◌then◌else◌, List, []}
+use Rattle.std.specs.Prelude.{◌≡◌, ℕ, zero, suc, ◌+◌, ◌-◌, nat_lt, ◌==◌, ◌||◌, Bool, true, false, if◌then◌else◌, List}
+use Rattle.std.specs.Prelude.{[]}
 use Rattle.std.specs.Prelude.{◌∷◌, ◌++◌, length, map, Option, Some, None}
 use Rattle.packet_ids.specs.Identifier.{identifier_at}
 use Rattle.world_model.specs.declared.offered.Offered.{Offered}
@@ -14,7 +15,8 @@ use Rattle.world_model.specs.Messages.{ToHub, StatusReply, Reply}
 -- The first identifier that the board expects, the window and the rounds; the bodies that were sent, by place, and
 -- those that were not, in the order of offers; the open places, by place: sent, and no reply taken; how many status
 -- requests were wanted since the last settled place, and whether one is to be sent; whether the hub gave up and
--- nothing was offered since; and the fates that are not handed out yet, each under the tag of its body.
+-- nothing was offered since; and what is not handed out yet: fates, each under the tag of its body, and late answers,
+-- each with its place.
 pub record Hub : Type 0 where
   pub first : ℕ
   pub window : ℕ
@@ -26,6 +28,7 @@ pub record Hub : Type 0 where
   pub status_wanted : Bool
   pub gave_up : Bool
   pub fates : List (ℕ × Fate)
+  pub lates : List (ℕ × List ℕ)
 
 -- the places of open bodies
 abbrev pub place_of : OpenPlace → ℕ
@@ -73,8 +76,8 @@ abbrev pub words_of : Option Offered → List ℕ
 words_of None = []
 words_of (Some offered) = offered.body
 
--- A reply is that of the open place with its identifier. The place is closed, and its round with it; the words go to
--- whoever waits for them, and to nobody where nobody does.
+-- A reply is that of the open place with its identifier. The place is closed, and its round with it. The words go to
+-- whoever waits for them; words that come after the give-up are kept as its late answer.
 abbrev pub open_with : ℕ → ℕ → List OpenPlace → Option OpenPlace
 open_with first id [] = None
 open_with first id (o ∷ os) = if identifier_at first o.place == id then Some o else open_with first id os
@@ -82,6 +85,11 @@ open_with first id (o ∷ os) = if identifier_at first o.place == id then Some o
 abbrev pub without : ℕ → List OpenPlace → List OpenPlace
 without place [] = []
 without place (o ∷ os) = if o.place == place then os else o ∷ without place os
+
+-- Late answers are handed out by place.
+abbrev pub insert_late : ℕ × List ℕ → List (ℕ × List ℕ) → List (ℕ × List ℕ)
+insert_late new [] = new ∷ []
+insert_late new (late ∷ lates) = if nat_lt new.0 late.0 then new ∷ late ∷ lates else late ∷ insert_late new lates
 
 abbrev pub settle : Hub → List ℕ → Option OpenPlace → Hub
 settle hub words None = hub
@@ -91,6 +99,7 @@ settle hub words (Some o) = record hub {
   fates = if o.waited
       then insert_fate o.place (tag_of (at_place hub.sent o.place), Replied o.place words) hub.fates
       else hub.fates;
+  lates = if o.waited then hub.lates else insert_late (o.place, words) hub.lates;
 }
 
 abbrev pub hear_reply : Hub → ℕ → List ℕ → Hub
@@ -167,6 +176,34 @@ some_waited (o ∷ os) = o.waited || some_waited os
 abbrev pub is_waiting : Hub → Bool
 is_waiting hub = some_queued hub.queue || some_waited hub.open_places
 
+-- What a hub has handed out: fates, each under the tag of its body, and late answers, each with its place.
+pub record HandedOut : Type 0 where
+  pub fates : List (ℕ × Fate)
+  pub lates : List (ℕ × List ℕ)
+
+abbrev pub none_handed_out : HandedOut
+none_handed_out = record { fates = []; lates = [] }
+
+-- what the hub has to hand out
+abbrev pub to_hand_out : Hub → HandedOut
+to_hand_out hub = record { fates = hub.fates; lates = hub.lates }
+
+-- what was handed out before, and then what the hub has
+abbrev pub and_then : HandedOut → HandedOut → HandedOut
+and_then before later = record { fates = before.fates ++ later.fates; lates = before.lates ++ later.lates }
+
+abbrev pub hands_out : HandedOut → Hub → HandedOut
+hands_out before hub = and_then before (to_hand_out hub)
+
+-- the hub after it handed out what it has
+abbrev pub drained : Hub → Hub
+drained hub = record hub { fates = []; lates = [] }
+
+-- no fate and no late answer waits to be handed out
+pub record IsDrained (hub : Hub) : Type 0 where
+  pub fates : hub.fates ≡ []
+  pub lates : hub.lates ≡ []
+
 -- a hub that knows a board and has sent nothing
 abbrev pub new_hub : ℕ → ℕ → ℕ → Hub
 new_hub first window rounds = record {
@@ -180,4 +217,5 @@ new_hub first window rounds = record {
   status_wanted = false;
   gave_up = false;
   fates = [];
+  lates = [];
 }

@@ -13,7 +13,7 @@ pub record IsState (start w : World) : Type 0 where
   pub sendable : AllByRecursion IsMove moves
   pub ran : run_moves 0 start moves ≡ Ok w
 
--- the waiting sends in the air, and the fates handed out
+-- the waiting sends in the air, and fates and late answers handed out
 abbrev pub caught_up : World → World
 caught_up w = go_on w w.hub
 

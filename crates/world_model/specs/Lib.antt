@@ -12,3 +12,5 @@ pub mod Facts
 pub mod History
 pub mod Lanes
 pub mod Examples
+pub mod LateAnswers
+pub mod Answered

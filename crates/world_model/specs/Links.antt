@@ -88,7 +88,7 @@ pub record IsHanded (told : Told) (bytes : List ℕ) : Type 0 where
 
 -- the world of a hub and a link that tells, with nothing handed out yet
 abbrev pub together : Hub → Told → World
-together hub told = record { board = told.board; hub = hub; air = told.air; fates = [] }
+together hub told = record { board = told.board; hub = hub; air = told.air; fates = []; lates = [] }
 
 -- The joint fact of a hub and a link that tells: their world is sound, and the link counts the hub's first sends.
 pub record IsJoined (hub : Hub) (told : Told) : Type 0 where

@@ -13,16 +13,19 @@ use Rattle.world_model.specs.declared.moves.WorldEnd.{WorldEnd}
 use Rattle.world_model.specs.declared.moves.WorldEnd.TheVariants.{NotThere, TooOld}
 use Rattle.world_model.specs.Messages.{to_hub}
 use Rattle.world_model.specs.Board.{Board, hear}
-use Rattle.world_model.specs.Hub.{Hub, offer, take_message, hear_quiet, is_waiting, new_hub}
+use Rattle.world_model.specs.Hub.{Hub, HandedOut, drained, hands_out}
+use Rattle.world_model.specs.Hub.{offer, take_message, hear_quiet, is_waiting, new_hub}
 use Rattle.world_model.specs.Sends.{Next, next_send, pending, bytes_to_send}
 use Rattle.world_model.specs.Air.{is_alive, goes_to}
 
--- a board, the hub of it, the air, and the fates that were handed out, in order, each under its tag
+-- A board, the hub of it, the air, and what was handed out, in order: fates, each under its tag, and late answers, each
+-- with its place.
 pub record World : Type 0 where
   pub board : Board
   pub hub : Hub
   pub air : List Datagram
   pub fates : List (ℕ × Fate)
+  pub lates : List (ℕ × List ℕ)
 
 -- A send joins the air. It is itself counted among the first sends at its birth, where it is one.
 abbrev pub sent_into : World → Next → World
@@ -44,14 +47,21 @@ abbrev pub flush : ℕ → World → World
 flush zero w = w
 flush (suc most) w = flush_on (next_send w.hub) (λ next. flush most (sent_into w next)) w
 
--- fates are handed out
+-- what was handed out in a world, and a world in which this was
+abbrev pub told_in : World → HandedOut
+told_in w = record { fates = w.fates; lates = w.lates }
+
+abbrev pub with_told : World → HandedOut → World
+with_told w told = record w { fates = told.fates; lates = told.lates }
+
+-- fates and late answers are handed out
 abbrev pub handed_out : World → World
-handed_out w = record w { hub = record w.hub { fates = [] }; fates = w.fates ++ w.hub.fates }
+handed_out w = with_told (record w { hub = drained w.hub }) (hands_out (told_in w) w.hub)
 
 abbrev pub with_hub : World → Hub → World
 with_hub w hub = record w { hub = hub }
 
--- after an event of the hub it sends what there is to send, and its fates are handed out
+-- after an event of the hub it sends what there is to send, and its fates and late answers are handed out
 abbrev pub go_on : World → Hub → World
 go_on w hub = handed_out (flush (pending hub) (with_hub w hub))
 
@@ -104,4 +114,5 @@ start window rounds board air = record {
   hub = new_hub board.first (min window board.buffers) rounds;
   air = air;
   fates = [];
+  lates = [];
 }

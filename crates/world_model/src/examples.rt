@@ -35,6 +35,7 @@ pub fn replies_heard_in_the_other_order()
         ≡ Ok (record {
           executed_bodies = read_four ∷ add_one ∷ [];
           fates = (8, Replied 2 one_added) ∷ (7, Replied 1 four_read) ∷ [];
+          lates = [];
           open_places = [];
           air = big_endian (0x20fffff0 ∷ read_four) ∷ big_endian (0x200001f0 ∷ add_one)
               ∷ big_endian (0x20fffff0 ∷ four_read) ∷ big_endian (0x200001f0 ∷ one_added) ∷ [];
@@ -48,6 +49,7 @@ pub fn one_packet_heard_twice()
         ≡ Ok (record {
           executed_bodies = read_four ∷ [];
           fates = (0, Replied 1 four_read) ∷ [];
+          lates = [];
           open_places = [];
           air = big_endian (0x200001f0 ∷ read_four) ∷ big_endian (0x200001f0 ∷ four_read) ∷ [];
         }) }
@@ -67,6 +69,7 @@ pub fn a_lost_reply_is_sent_again()
         ≡ Ok (record {
           executed_bodies = read_four ∷ [];
           fates = (0, Replied 1 four_read) ∷ [];
+          lates = [];
           open_places = [];
           air = big_endian (0x200001f0 ∷ read_four) ∷ big_endian (0x200001f0 ∷ four_read)
               ∷ big_endian (0x200000f1 ∷ replicate 15 0)
@@ -83,6 +86,7 @@ pub fn a_lost_request_is_sent_again()
         ≡ Ok (record {
           executed_bodies = read_four ∷ [];
           fates = (0, Replied 1 four_read) ∷ [];
+          lates = [];
           open_places = [];
           air = big_endian (0x200001f0 ∷ read_four) ∷ big_endian (0x200000f1 ∷ replicate 15 0)
               ∷ big_endian (0x200000f1 ∷ 1500 ∷ 16 ∷ 0x200001f0 ∷ replicate 12 0)
@@ -90,13 +94,14 @@ pub fn a_lost_request_is_sent_again()
         }) }
 {}
 
-/// After two rounds without a reply the hub gives up. The late reply closes the place and goes to nobody.
+/// After two rounds without a reply the hub gives up. The late reply closes the place, and is kept as its late answer.
 #[tactic(auto, unfolding(crate::specs::Messages::to_board, crate::specs::Messages::to_hub, packet_codec::specs::Reading::packet_of, packet_codec::specs::Reading::start_of, transaction_codec::specs::Request::request_at))]
-pub fn a_late_reply_goes_to_nobody()
+pub fn a_reply_after_two_rounds_is_a_late_answer()
     ensures given_up { after 16 2 (board_with 1500 16 1) (Offer 0 read_four ∷ Quiet ∷ Quiet ∷ Quiet ∷ [])
         ≡ Ok (record {
           executed_bodies = [];
           fates = (0, TimedOut 1 2) ∷ [];
+          lates = [];
           open_places = record { place = 1; waited = false; resend = false; control = false } ∷ [];
           air = big_endian (0x200001f0 ∷ read_four) ∷ big_endian (0x200000f1 ∷ replicate 15 0)
               ∷ big_endian (0x200000f1 ∷ replicate 15 0) ∷ [];
@@ -106,8 +111,23 @@ pub fn a_late_reply_goes_to_nobody()
         ≡ Ok (record {
           executed_bodies = read_four ∷ [];
           fates = (0, TimedOut 1 2) ∷ [];
+          lates = (1, four_read) ∷ [];
           open_places = [];
           air = big_endian (0x200001f0 ∷ read_four) ∷ big_endian (0x200000f1 ∷ replicate 15 0)
               ∷ big_endian (0x200000f1 ∷ replicate 15 0) ∷ big_endian (0x200001f0 ∷ four_read) ∷ [];
+        }) }
+{}
+
+/// The same with one round: the second quiet receive gives up, and the reply comes after it.
+#[tactic(auto, unfolding(crate::specs::Messages::to_board, crate::specs::Messages::to_hub, packet_codec::specs::Reading::packet_of, packet_codec::specs::Reading::start_of, transaction_codec::specs::Request::request_at))]
+pub fn a_reply_after_one_round_is_a_late_answer()
+    ensures { after 16 1 (board_with 1500 16 1) (Offer 0 read_four ∷ Quiet ∷ Quiet ∷ BoardHears 0 ∷ HubHears 2 ∷ [])
+        ≡ Ok (record {
+          executed_bodies = read_four ∷ [];
+          fates = (0, TimedOut 1 1) ∷ [];
+          lates = (1, four_read) ∷ [];
+          open_places = [];
+          air = big_endian (0x200001f0 ∷ read_four) ∷ big_endian (0x200000f1 ∷ replicate 15 0)
+              ∷ big_endian (0x200001f0 ∷ four_read) ∷ [];
         }) }
 {}

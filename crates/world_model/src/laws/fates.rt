@@ -63,6 +63,8 @@ pub fn a_give_up_comes_only_after_its_rounds()
         → new.hub.status_requests ≤ old.hub.status_requests + quiets moves }
     ensures settled { (old new : World) (at number : ℕ) → old.hub.fates ≡ []
         → step at old (HubHears number) ≡ Ok new → new.fates ≢ old.fates → new.hub.status_requests ≡ 0 }
+    ensures late { (old new : World) (at number : ℕ) → old.hub.lates ≡ []
+        → step at old (HubHears number) ≡ Ok new → new.lates ≢ old.lates → new.hub.status_requests ≡ 0 }
     ensures after { (moves : List WorldMove) (old last new : World) (at : ℕ) → Leads moves old last
         → old.hub.status_requests ≡ 0 → last.hub.fates ≡ [] → step at last Quiet ≡ Ok new → new.fates ≢ last.fates
         → last.hub.rounds ≤ quiets moves }

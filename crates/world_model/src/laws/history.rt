@@ -15,7 +15,7 @@ ghost use Rattle.world_model.specs.Sends.{next_send};
 ghost use Rattle.world_model.specs.World.{World};
 ghost use Rattle.world_model.specs.Facts.{IsSound, bodies_of};
 ghost use Rattle.world_model.specs.History.{Leads, IsRun, IsHandedOut, IsAliveInAir, IsTrueHistory};
-ghost use Rattle.world_model.specs.History.{IsExecutedThere, IsExecutedAtMostOnce};
+ghost use Rattle.world_model.specs.History.{IsExecutedThere, IsExecutedAtMostOnce, IsLateAnswer};
 
 use crate::below::laws_below;
 
@@ -53,7 +53,8 @@ pub fn a_fate_is_that_of_its_place()
     laws_below();
 }
 
-/// A place has one reply: any two replies to it that may still be heard, and any two fates, have the same words.
+/// A place has one reply: any two replies to it that may still be heard, any two fates, and any two late answers have
+/// the same words.
 pub fn replies_of_one_place_are_equal()
     ensures heard { (window rounds : ℕ) (board : Board) (air : List Datagram) (moves : List WorldMove) (w : World)
         (id : ℕ) (one other : List ℕ) (words again : List ℕ) → IsRun window rounds board air moves w
@@ -62,12 +63,15 @@ pub fn replies_of_one_place_are_equal()
     ensures fates { (window rounds : ℕ) (board : Board) (air : List Datagram) (moves : List WorldMove) (w : World)
         (tag other place : ℕ) (words again : List ℕ) → IsRun window rounds board air moves w
         → IsHandedOut w tag (Replied place words) → IsHandedOut w other (Replied place again) → words ≡ again }
+    ensures lates { (window rounds : ℕ) (board : Board) (air : List Datagram) (moves : List WorldMove) (w : World)
+        (place : ℕ) (words again : List ℕ) → IsRun window rounds board air moves w
+        → IsLateAnswer w place words → IsLateAnswer w place again → words ≡ again }
 {
     laws_below();
 }
 
-/// Whatever moves follow, a place keeps its body, what was executed stays executed, the air forgets nothing, and a fate
-/// never changes.
+/// Whatever moves follow, a place keeps its body, what was executed stays executed, the air forgets nothing, and no
+/// fate and no late answer ever changes.
 pub fn what_was_is_kept()
     ensures places { (moves : List WorldMove) (old new : World) → Leads moves old new
         → IsPrefix {T = Offered} old.hub.sent new.hub.sent }
@@ -77,6 +81,8 @@ pub fn what_was_is_kept()
         → IsPrefix {T = Datagram} old.air new.air }
     ensures fates { (moves : List WorldMove) (old new : World) → Leads moves old new
         → IsPrefix old.fates new.fates }
+    ensures lates { (moves : List WorldMove) (old new : World) → Leads moves old new
+        → IsPrefix old.lates new.lates }
 {
     laws_below();
 }

@@ -13,7 +13,7 @@ ghost use Rattle.world_model.specs.Messages.{StatusReply, to_hub};
 ghost use Rattle.world_model.specs.Board.{Board, executed, replies};
 ghost use Rattle.world_model.specs.Hub.{Hub, offer, take_message, hear_quiet, new_hub};
 ghost use Rattle.world_model.specs.Sends.{Next, next_send, bytes_to_send};
-ghost use Rattle.world_model.specs.Facts.{IsSendable, IsSound, IsStart, AreRight, bodies_of};
+ghost use Rattle.world_model.specs.Facts.{IsSendable, IsSound, IsStart, AreLateReplies, AreRight, bodies_of};
 ghost use Rattle.world_model.specs.Links.{Told, IsJoined, IsHeard, IsHanded, sent_on, together};
 
 use crate::below::laws_below;
@@ -27,7 +27,8 @@ pub fn a_greeting_joins()
 }
 
 /// Each event of the hub and each call of the link keeps the joint fact: an offer, a send that the link carried, what
-/// the board heard in one receive, a datagram that was handed out, a quiet receive, and a fate that was handed out.
+/// the board heard in one receive, a datagram that was handed out, a quiet receive, and a fate or a late answer that
+/// was handed out.
 pub fn each_event_keeps_them_joined()
     ensures offered { (hub : Hub) (told : Told) (offered : Offered) → IsJoined hub told → IsSendable offered.body
         → IsJoined (offer hub offered) told }
@@ -39,16 +40,20 @@ pub fn each_event_keeps_them_joined()
     ensures quiet { (hub : Hub) (told : Told) → IsJoined hub told → IsJoined (hear_quiet hub) told }
     ensures handed_out { (hub : Hub) (told : Told) (fate : ℕ × Fate) (fates : List (ℕ × Fate)) → IsJoined hub told
         → hub.fates ≡ fate ∷ fates → IsJoined (record hub { fates = fates }) told }
+    ensures late { (hub : Hub) (told : Told) (late : ℕ × List ℕ) (lates : List (ℕ × List ℕ)) → IsJoined hub told
+        → hub.lates ≡ late ∷ lates → IsJoined (record hub { lates = lates }) told }
 {
     laws_below();
 }
 
-/// What joined ones tell: the executed bodies are the front of those sent, and each fate is that of its place.
+/// What joined ones tell: the executed bodies are the front of those sent, each fate is that of its place, and each
+/// late answer is the reply at its place.
 pub fn joined_ones_tell_the_truth()
     ensures executed { (hub : Hub) (told : Told) → IsJoined hub told
         → IsPrefix (executed told.board) (bodies_of hub.sent) }
     ensures fates { (hub : Hub) (told : Told) → IsJoined hub told
         → AreRight hub.sent (replies told.board) hub.fates }
+    ensures lates { (hub : Hub) (told : Told) → IsJoined hub told → AreLateReplies (replies told.board) hub.lates }
 {
     laws_below();
 }

@@ -15,18 +15,19 @@ laws c = record {
   handed = c.each_event_keeps_them_joined.ensures.handed;
   quiet = c.each_event_keeps_them_joined.ensures.quiet;
   handed_out = c.each_event_keeps_them_joined.ensures.handed_out;
+  late = c.each_event_keeps_them_joined.ensures.late;
   log = c.a_link_forgets_nothing.ensures.log;
   says_status = c.what_a_hub_reads.ensures.status;
   says_reply = c.what_a_hub_reads.ensures.reply;
 }
 
 pub returns-clause-sent : goal.returns-clause-sent
-returns-clause-sent c = λ stopped limits hub outcomes t items is traffic.
-    (lane_shows (laws c) stopped limits hub outcomes t items is traffic).sent
+returns-clause-sent c = λ stopped limits hub outcomes lates t items is traffic.
+    (lane_shows (laws c) stopped limits hub outcomes lates t items is traffic).sent
 
 pub returns-clause-executed : goal.returns-clause-executed
-returns-clause-executed c = λ stopped limits hub outcomes t items is traffic.
-    (lane_shows (laws c) stopped limits hub outcomes t items is traffic).executed'
+returns-clause-executed c = λ stopped limits hub outcomes lates t items is traffic.
+    (lane_shows (laws c) stopped limits hub outcomes lates t items is traffic).executed'
 
 by_proof : (proved most : ℕ) (Shown : ℕ → Type 0) → ((place : ℕ) → Shown place → place ≤ most)
     → (proved ≡ 0) ⊎ Shown proved → proved ≤ most
@@ -34,6 +35,6 @@ by_proof proved most Shown all (inl none) = omega arith
 by_proof proved most Shown all (inr shown) = all proved shown
 
 pub returns-clause-proved : goal.returns-clause-proved
-returns-clause-proved c = λ stopped limits hub outcomes t items proved is traffic fits p.
-    let s = lane_shows (laws c) stopped limits hub outcomes t items is traffic in
+returns-clause-proved c = λ stopped limits hub outcomes lates t items proved is traffic fits p.
+    let s = lane_shows (laws c) stopped limits hub outcomes lates t items is traffic in
     by_proof proved (length (executed t.told.board)) (HasProof t.told.board.first 0 items) (s.shown fits) p.shown

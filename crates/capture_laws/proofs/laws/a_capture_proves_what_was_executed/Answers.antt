@@ -19,6 +19,7 @@ laws c = record {
   handed = c.each_event_keeps_them_joined.ensures.handed;
   quiet = c.each_event_keeps_them_joined.ensures.quiet;
   handed_out = c.each_event_keeps_them_joined.ensures.handed_out;
+  late = c.each_event_keeps_them_joined.ensures.late;
   log = c.a_link_forgets_nothing.ensures.log;
   says_status = c.what_a_hub_reads.ensures.status;
   says_reply = c.what_a_hub_reads.ensures.reply;

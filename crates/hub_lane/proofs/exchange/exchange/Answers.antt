@@ -1,13 +1,16 @@
 use Rattle.std.proofs.Common.{◌∙◌, sym, arith}
 use Rattle.hub_lane.proofs.Carrying.{carried}
-use Rattle.hub_lane.proofs.Ready.{exchanged, ready_sent, same_sent}
+use Rattle.hub_lane.proofs.Ready.{exchanged, exchanged_unanswered, ready_sent, same_sent}
 use Rattle.hub_lane.proofs.Rounds.{exchanged_pays}
 use Rattle.hub_lane.proofs.InRounds.{round_exchanged}
 use Rattle.hub_lane.proofs.exchange.exchange.Goals as goal
 
 pub receive-requires-clause-drained : goal.receive-requires-clause-drained
 receive-requires-clause-drained g c =
-    (ready_sent c.a_send_leaves_the_fates.ensures.fates c.only_an_offer_makes_more_bodies.ensures.sent _ c.args.hub.now
+    (ready_sent (record {
+      fates = c.a_send_leaves_the_fates.ensures.fates;
+      lates = c.a_send_leaves_the_fates.ensures.lates;
+    }) c.only_an_offer_makes_more_bodies.ensures.sent _ c.args.hub.now
     c.send_all.new.hub c.send_all.ensures.some c.requires.ready).drained
 
 pub receive-requires-clause-waits : goal.receive-requires-clause-waits
@@ -20,12 +23,18 @@ receive-requires-clause-first g c =
 
 pub receive-requires-clause-window : goal.receive-requires-clause-window
 receive-requires-clause-window g c =
-    (ready_sent c.a_send_leaves_the_fates.ensures.fates c.only_an_offer_makes_more_bodies.ensures.sent _ c.args.hub.now
+    (ready_sent (record {
+      fates = c.a_send_leaves_the_fates.ensures.fates;
+      lates = c.a_send_leaves_the_fates.ensures.lates;
+    }) c.only_an_offer_makes_more_bodies.ensures.sent _ c.args.hub.now
     c.send_all.new.hub c.send_all.ensures.some c.requires.ready).window
 
 pub receive-requires-clause-few : goal.receive-requires-clause-few
 receive-requires-clause-few g c =
-    let is = (ready_sent c.a_send_leaves_the_fates.ensures.fates c.only_an_offer_makes_more_bodies.ensures.sent _
+    let is = (ready_sent (record {
+      fates = c.a_send_leaves_the_fates.ensures.fates;
+      lates = c.a_send_leaves_the_fates.ensures.lates;
+    }) c.only_an_offer_makes_more_bodies.ensures.sent _
     c.args.hub.now c.send_all.new.hub c.send_all.ensures.some c.requires.ready).bodies.few in
     let few = c.requires.few in
     omega (arith, is, few)
@@ -33,9 +42,18 @@ receive-requires-clause-few g c =
 pub returns-clause-running : goal.returns-clause-running
 returns-clause-running g c =
     exchanged c.each_event_leads_to_a_state_of_a_run.ensures.handed_out c.args.hub.now c.send_all.new.hub
-    c.receive.new.hub c.settle.new.hub c.args.outcomes.now.items c.settle.new.outcomes.items
+    c.receive.new.hub c.settle.new.hub c.args.outcomes.now.items c.settle.new.outcomes.items c.args.outcomes.now.lates
+    c.settle.new.outcomes.lates (g.L.Link.telling c.args.link.now) (g.L.Link.telling c.send_all.new.link)
+    (g.L.Link.telling c.receive.new.link)
+    c.settle.ensures.hub c.settle.ensures.outcomes c.settle.ensures.lates c.in_ok-send_all.ensures.running
+    c.receive.ensures.running
+
+pub returns-clause-unanswered : goal.returns-clause-unanswered
+returns-clause-unanswered g c =
+    exchanged_unanswered c.args.hub.now c.send_all.new.hub c.receive.new.hub c.settle.new.hub
     (g.L.Link.telling c.args.link.now) (g.L.Link.telling c.send_all.new.link) (g.L.Link.telling c.receive.new.link)
-    c.settle.ensures.hub c.settle.ensures.outcomes c.in_ok-send_all.ensures.running c.receive.ensures.running
+    c.settle.ensures.hub c.in_ok-send_all.ensures.running c.send_all.ensures.unanswered
+    c.in_ok-pumped.ensures.unanswered
 
 pub returns-clause-carries : goal.returns-clause-carries
 returns-clause-carries g c =
@@ -46,7 +64,8 @@ returns-clause-carries g c =
 pub returns-clause-pays : goal.returns-clause-pays
 returns-clause-pays g c = λ limits mtu start paid.
     exchanged_pays c.in_ok-pumped.pumped c.args.hub.now c.send_all.new.hub c.receive.new.hub c.settle.new.hub
-    c.args.outcomes.now.items (g.L.Link.telling c.args.link.now) (g.L.Link.telling c.send_all.new.link)
+    c.args.outcomes.now.items c.args.outcomes.now.lates (g.L.Link.telling c.args.link.now) (g.L.Link.telling
+    c.send_all.new.link)
     (g.L.Link.telling c.receive.new.link) (g.L.Link.held c.args.link.now) (g.L.Link.held c.send_all.new.link)
     (g.L.Link.held c.receive.new.link) c.args.give_ups.now c.settle.new.give_ups
     (same_sent c.args.hub.now c.send_all.new.hub c.send_all.ensures.some).rounds c.settle.ensures.hub

@@ -6,9 +6,10 @@ use Rattle.world_model.specs.Messages.{to_hub}
 use Rattle.hub_lane.specs.Hearing.{IsHeardAs}
 use Rattle.hub_lane.specs.declared.answers.Pumped.TheVariants.{Quiet}
 use Rattle.hub_lane.specs.Rounds.{PaysFor, Pumps, RoundFor}
-use Rattle.hub_lane.specs.Standing.{GoesOn}
+use Rattle.hub_lane.specs.Standing.{GoesOn, StaysUnanswered}
 use Rattle.hub_lane.proofs.Carrying.{got_brings, quiet_brings}
-use Rattle.hub_lane.proofs.Linked.{fault_on, got_on, quiet_on, received_board, unheard_on, was_received}
+use Rattle.hub_lane.proofs.Linked.{fault_on, got_on, got_stays, quiet_on, quiet_stays, received_board, unheard_on}
+use Rattle.hub_lane.proofs.Linked.{was_received}
 use Rattle.hub_lane.proofs.Rounds.{got_for, quiet_for}
 use Rattle.hub_lane.proofs.InRounds.{round_got, round_quiet}
 use Rattle.hub_lane.proofs.exchange.receive.Goals as goal
@@ -185,3 +186,33 @@ returns-in-Quiet-clause-round g c =
     (telling c.receive.new.self) h (held c.receive.new.self)) (sym c.on_quiet.ensures.hub)
     (round_quiet c.laws_of_ways.ensures c.args.hub.now (held c.args.link.now) (held c.receive.new.self)
     (telling c.args.link.now) (telling c.receive.new.self) c.requires.none quiet)
+
+pub returns-in_ok-hear-in-Got-clause-unanswered : goal.returns-in_ok-hear-in-Got-clause-unanswered
+returns-in_ok-hear-in-Got-clause-unanswered g c =
+    let telling = g.L.Link.telling in
+    let held = g.L.Link.held in
+    let bytes = c.receive.new.into.items in
+    let got = subst (λ (r : Received). IfTelling (telling c.args.link.now) (telling c.receive.new.self)
+    (Receives (Ok r) bytes (held c.args.link.now) (held c.receive.new.self))) c.in-Got.is
+    c.in_ok-receive.ensures.received in
+    subst (λ (h : Hub). StaysUnanswered (telling c.args.link.now) c.args.hub.now (telling c.receive.new.self) h)
+    (sym (c.in_ok-hear-in-Got.ensures.hub
+    ∙ ap (λ (heard : List ℕ). take_message c.args.hub.now (to_hub heard)) c.deref.ensures.value))
+    (got_stays c.each_event_leads_to_a_state_of_a_run.ensures.heard c.a_link_forgets_nothing.ensures.air
+    c.a_link_forgets_nothing.ensures.board c.args.hub.now bytes
+    (held c.args.link.now) (held c.receive.new.self) (telling c.args.link.now)
+    (telling c.receive.new.self) c.requires.none c.requires.drained got)
+
+pub returns-in-Quiet-clause-unanswered : goal.returns-in-Quiet-clause-unanswered
+returns-in-Quiet-clause-unanswered g c =
+    let telling = g.L.Link.telling in
+    let held = g.L.Link.held in
+    let bytes = c.receive.new.into.items in
+    let quiet = subst (λ (r : Received). IfTelling (telling c.args.link.now) (telling c.receive.new.self)
+    (Receives (Ok r) bytes (held c.args.link.now) (held c.receive.new.self))) c.in-Quiet.is
+    c.in_ok-receive.ensures.received in
+    subst (λ (h : Hub). StaysUnanswered (telling c.args.link.now) c.args.hub.now (telling c.receive.new.self) h)
+    (sym c.on_quiet.ensures.hub)
+    (quiet_stays c.each_event_leads_to_a_state_of_a_run.ensures.heard c.a_link_forgets_nothing.ensures.air
+    c.a_link_forgets_nothing.ensures.board c.args.hub.now (held c.args.link.now) (held c.receive.new.self)
+    (telling c.args.link.now) (telling c.receive.new.self) quiet)

@@ -4,7 +4,8 @@ use Rattle.world_core.specs.Telling.{IfTelling, IsSent}
 use Rattle.hub_lane.proofs.Sends.{all_out, next_is, none_is, one_less, same_hub, sent_more}
 use Rattle.hub_lane.specs.Carrying.{HasPut}
 use Rattle.hub_lane.proofs.Carrying.{put_more, put_none_by}
-use Rattle.hub_lane.proofs.Linked.{sent_on, sent_board, still_spelled}
+use Rattle.hub_lane.proofs.Linked.{refused_stays, sent_board, sent_on, sent_stays, stays_here, still_spelled}
+use Rattle.hub_lane.proofs.Standing.{SendLeaves}
 use Rattle.hub_lane.proofs.Rounds.{pays_sent}
 use Rattle.hub_lane.proofs.InRounds.{none_sent, round_sent, same_link}
 use Rattle.hub_lane.proofs.exchange.send_all.Goals as goal
@@ -25,12 +26,13 @@ loop-send-init g c =
       queue = c.requires.queue;
       all = refl;
       some = record { count = 0; sends = refl };
-      running = λ limits outcomes is. is;
+      running = λ limits outcomes lates is. is;
+      unanswered = stays_here c.args.hub.now telling;
       fault = omega arith;
       quiet = refl;
       got = refl;
       hold = omega arith;
-      pays = λ limits outcomes mtu rounds given_up start paid. paid;
+      pays = λ limits outcomes lates mtu rounds given_up start paid. paid;
       round = none_sent c.args.hub.now (g.L.Link.held c.args.link.now) telling;
       board = refl;
       put = same_link (HasPut c.args.hub.now c.args.hub.now) telling (put_none_by c.args.hub.now);
@@ -51,14 +53,21 @@ loop-send-preserved g c =
     c.in_ok-send.ensures.sent in
     let spelled = still_spelled c.only_an_offer_makes_more_bodies.ensures.sent old new c.next_send.ensures.hub
     before.invariant.sent before.invariant.queue in
+    let leaves : SendLeaves = record {
+      fates = c.a_send_leaves_the_fates.ensures.fates;
+      lates = c.a_send_leaves_the_fates.ensures.lates;
+    } in
     record {
       sent = spelled.0;
       queue = spelled.1;
       all = one_less c.draining_ends.ensures.fewer old next is ∙ before.invariant.all;
       some = sent_more c.args.hub.now old new c.next_send.ensures.hub before.invariant.some;
-      running = sent_on c.each_event_leads_to_a_state_of_a_run.ensures.sent c.a_send_leaves_the_fates.ensures.fates
+      running = sent_on c.each_event_leads_to_a_state_of_a_run.ensures.sent leaves
           c.args.hub.now old next (held before.link) (held c.send.new.self) (telling c.args.link.now)
           (telling before.link) (telling c.send.new.self) is before.invariant.running call;
+      unanswered = sent_stays c.args.hub.now old next (held before.link) (held c.send.new.self)
+          (telling c.args.link.now) (telling before.link) (telling c.send.new.self) is before.invariant.running
+          before.invariant.unanswered call;
       fault = (let a = before.invariant.fault in let b = c.send.ensures.faults in omega (arith, a, b));
       pays = pays_sent c.laws_of_rounds.ensures
           c.args.hub.now old next (held c.args.link.now) (held before.link) (held c.send.new.self)
@@ -81,3 +90,22 @@ returns-clause-all g c =
     let told = sym c.in_default.is ∙ c.next_send.ensures.send in
     let same = same_hub c.loop-send.hub c.next_send.new.self told c.next_send.ensures.hub in
     same ∙ (sym (all_out c.loop-send.hub (none_is c.loop-send.hub told)) ∙ c.loop-send.invariant.all)
+
+pub returns-in_err-write_send-clause-unanswered : goal.returns-in_err-write_send-clause-unanswered
+returns-in_err-write_send-clause-unanswered g c =
+    let before = c.loop-send in
+    let telling = g.L.Link.telling in
+    let next : Next = record { send = c.in-Some.send; hub = c.next_send.new.self } in
+    let is = next_is before.hub c.next_send.new.self c.in-Some.send c.in-Some.ensures.send c.next_send.ensures.hub in
+    refused_stays c.args.hub.now before.hub next (telling c.args.link.now) (telling before.link) (telling before.link)
+    is
+    before.invariant.running before.invariant.unanswered refl
+
+pub returns-in_err-send-clause-unanswered : goal.returns-in_err-send-clause-unanswered
+returns-in_err-send-clause-unanswered g c =
+    let before = c.loop-send in
+    let telling = g.L.Link.telling in
+    let next : Next = record { send = c.in-Some.send; hub = c.next_send.new.self } in
+    let is = next_is before.hub c.next_send.new.self c.in-Some.send c.in-Some.ensures.send c.next_send.ensures.hub in
+    refused_stays c.args.hub.now before.hub next (telling c.args.link.now) (telling before.link)
+    (telling c.send.new.self) is before.invariant.running before.invariant.unanswered c.in_err-send.ensures.refused

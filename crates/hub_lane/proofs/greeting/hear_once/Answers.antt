@@ -6,19 +6,22 @@ use Rattle.hub_lane.proofs.greeting.hear_once.Goals as goal
 
 pub returns-in_err-receive-clause-fresh : goal.returns-in_err-receive-clause-fresh
 returns-in_err-receive-clause-fresh g c =
-    fresh_on c.a_greeting_goes_on.ensures.heard c.args.settings c.receive.result c.receive.new.into.items
+    fresh_on c.a_greeting_goes_on.ensures.heard c.a_link_forgets_nothing.ensures.air c.args.settings c.receive.result
+    c.receive.new.into.items
     (g.L.Link.held c.args.link.now) (g.L.Link.held c.receive.new.self) (g.L.Link.telling c.args.link.now)
     (g.L.Link.telling c.receive.new.self) c.requires.begins c.receive.ensures.received
 
 pub returns-in-Quiet-clause-fresh : goal.returns-in-Quiet-clause-fresh
 returns-in-Quiet-clause-fresh g c =
-    fresh_on c.a_greeting_goes_on.ensures.heard c.args.settings c.receive.result c.receive.new.into.items
+    fresh_on c.a_greeting_goes_on.ensures.heard c.a_link_forgets_nothing.ensures.air c.args.settings c.receive.result
+    c.receive.new.into.items
     (g.L.Link.held c.args.link.now) (g.L.Link.held c.receive.new.self) (g.L.Link.telling c.args.link.now)
     (g.L.Link.telling c.receive.new.self) c.requires.begins c.receive.ensures.received
 
 pub returns-in-Got-clause-fresh : goal.returns-in-Got-clause-fresh
 returns-in-Got-clause-fresh g c =
-    fresh_on c.a_greeting_goes_on.ensures.heard c.args.settings c.receive.result c.receive.new.into.items
+    fresh_on c.a_greeting_goes_on.ensures.heard c.a_link_forgets_nothing.ensures.air c.args.settings c.receive.result
+    c.receive.new.into.items
     (g.L.Link.held c.args.link.now) (g.L.Link.held c.receive.new.self) (g.L.Link.telling c.args.link.now)
     (g.L.Link.telling c.receive.new.self) c.requires.begins c.receive.ensures.received
 
@@ -40,7 +43,8 @@ returns-in-Got-clause-told g c =
     let got = subst (λ (r : Received). IfTelling (telling c.args.link.now) (telling c.receive.new.self)
     (Receives (Ok r) c.receive.new.into.items (held c.args.link.now) (held c.receive.new.self))) c.in-Got.is
     c.in_ok-receive.ensures.received in
-    got_told c.a_greeting_goes_on.ensures.heard c.what_is_written_is_known.ensures.reply c.args.settings
+    got_told c.a_greeting_goes_on.ensures.heard c.a_link_forgets_nothing.ensures.air
+    c.what_is_written_is_known.ensures.reply c.args.settings
     c.receive.new.into.items c.tell.result
     (subst (λ (bytes : List ℕ). TellsAll bytes c.tell.result) c.deref.ensures.value c.tell.ensures.only)
     (held c.args.link.now) (held c.receive.new.self) (telling c.args.link.now)

@@ -7,3 +7,4 @@ abbrev pub invariant-loop-ask : goal.invariant-loop-ask
 invariant-loop-ask l = (lost_from l.ask l.place l.sent l.outcomes.items
     ≡ lost_after 0 l.sent l.fn.outcomes.items) × (l.place ≤ l.ask) × (length l.outcomes.items
     ≡ length l.fn.outcomes.items) × (l.outcomes.bodies ≡ l.fn.outcomes.bodies)
+    × (l.outcomes.lates ≡ l.fn.outcomes.lates)

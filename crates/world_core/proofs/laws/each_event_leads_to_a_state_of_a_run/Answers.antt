@@ -9,31 +9,32 @@ returns-clause-begins c = λ window rounds board air begins. begins_reached wind
     (c.waiting_sends_change_no_run.ensures.begins window rounds board air)
 
 pub returns-clause-offered : goal.returns-clause-offered
-returns-clause-offered c = λ begin fates hub told offered is can out. offered_reached begin fates hub told offered is
+returns-clause-offered c = λ begin so_far hub told offered is can out. offered_reached begin so_far hub told offered is
     (c.each_event_keeps_them_joined.ensures.offered hub told offered is.joined can)
-    (c.waiting_sends_change_no_run.ensures.offered begin (world_of_both hub told fates) offered can is.state out)
+    (c.waiting_sends_change_no_run.ensures.offered begin (world_of_both hub told so_far) offered can is.state out)
 
 pub returns-clause-sent : goal.returns-clause-sent
-returns-clause-sent c = λ begin fates hub told next is send.
-    sent_reached c.a_give_up_ends_all_waiting.ensures.nothing_to_send begin fates hub told next is send
+returns-clause-sent c = λ begin so_far hub told next is send.
+    sent_reached c.a_give_up_ends_all_waiting.ensures.nothing_to_send begin so_far hub told next is send
     (c.each_event_keeps_them_joined.ensures.sent hub told next is.joined send)
-    (c.waiting_sends_change_no_run.ensures.sent begin (world_of_both hub told fates) next is.state send)
+    (c.waiting_sends_change_no_run.ensures.sent begin (world_of_both hub told so_far) next is.state send)
 
 pub returns-clause-heard : goal.returns-clause-heard
 returns-clause-heard c = heard_reached c.waiting_sends_change_no_run.ensures.moved
     c.each_event_keeps_them_joined.ensures.heard
 
 pub returns-clause-handed : goal.returns-clause-handed
-returns-clause-handed c = λ begin fates hub told bytes is none out handed.
-    handed_reached c.sends_go_one_by_one.ensures.end begin fates hub told bytes is none out handed
+returns-clause-handed c = λ begin so_far hub told bytes is none out handed.
+    handed_reached c.sends_go_one_by_one.ensures.end begin so_far hub told bytes is none out handed
     (c.each_event_keeps_them_joined.ensures.handed hub told bytes is.joined handed)
 
 pub returns-clause-quiet : goal.returns-clause-quiet
-returns-clause-quiet c = λ begin fates hub told is none out waiting. quiet_reached c.sends_go_one_by_one.ensures.end
-    c.a_give_up_ends_all_waiting.ensures.at_once c.a_give_up_ends_all_waiting.ensures.nobody_waits begin fates hub told
+returns-clause-quiet c = λ begin so_far hub told is none out waiting. quiet_reached c.sends_go_one_by_one.ensures.end
+    c.a_give_up_ends_all_waiting.ensures.at_once c.a_give_up_ends_all_waiting.ensures.nobody_waits begin so_far hub told
     is none out waiting (c.each_event_keeps_them_joined.ensures.quiet hub told is.joined)
 
 pub returns-clause-handed_out : goal.returns-clause-handed_out
-returns-clause-handed_out c = λ begin fates hub told is.
-    out_reached c.each_event_keeps_them_joined.ensures.handed_out begin fates hub told is
-    (c.waiting_sends_change_no_run.ensures.fates begin (world_of_both hub told fates) is.state)
+returns-clause-handed_out c = λ begin so_far hub told is.
+    out_reached c.each_event_keeps_them_joined.ensures.handed_out c.each_event_keeps_them_joined.ensures.late begin
+    so_far hub told is
+    (c.waiting_sends_change_no_run.ensures.fates begin (world_of_both hub told so_far) is.state)

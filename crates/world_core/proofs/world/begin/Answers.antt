@@ -1,4 +1,4 @@
-use Rattle.std.proofs.Common.{min}
+use Rattle.std.proofs.Common.{min, refl}
 use Rattle.world_core.specs.Steps.{world_of}
 use Rattle.world_core.proofs.Moves.{begun_there, new_bodies, new_spellings}
 use Rattle.world_core.proofs.world.begin.Goals as goal
@@ -12,10 +12,11 @@ returns-clause-begun c =
       hub = c.in_ok-new.field-0;
       air = c.new-2.result;
       fates = c.new-3.result;
+      lates = c.new-4.result;
     }))
     c.requires (c.identifiers_follow_each_other.ensures.first c.args.board.first c.keeps_its_ranges.ensures.first)
     status.ensures.next status.ensures.buffers status.ensures.board c.in_ok-new.ensures c.new-2.ensures
-    c.new-3.ensures.items
+    (rw (c.new-3.ensures.items, c.new-4.ensures.items) refl)
 
 pub returns-clause-spellings : goal.returns-clause-spellings
 returns-clause-spellings c =

@@ -16,3 +16,14 @@ pub returns-clause-timed_out : goal.returns-clause-timed_out
 returns-clause-timed_out c = IfOk-weaker c.run.result _ _
     (λ w ran tag place after. c.a_fate_is_that_of_its_place.ensures.timed_out c.args.settings.window
     c.args.settings.rounds c.args.board [] c.args.moves.now w tag place after ran) c.run.ensures.ran
+
+pub returns-clause-late : goal.returns-clause-late
+returns-clause-late c = IfOk-weaker c.run.result _ _
+    (λ w ran place words. c.a_late_answer_of_a_run_is_of_a_timed_out_body.ensures.late c.args.settings.window
+    c.args.settings.rounds c.args.board [] c.args.moves.now w place words ran) c.run.ensures.ran
+
+pub returns-clause-late_once : goal.returns-clause-late_once
+returns-clause-late_once c = IfOk-weaker c.run.result _ _
+    (λ w ran place one other words again. c.a_late_answer_of_a_run_is_of_a_timed_out_body.ensures.once
+    c.args.settings.window c.args.settings.rounds c.args.board [] c.args.moves.now w place one other words again ran)
+    c.run.ensures.ran

@@ -10,13 +10,13 @@ use Rattle.hub_lane.proofs.lane.Lane.new.Goals as goal
 
 pub invariant_of-result : goal.invariant_of-result
 invariant_of-result g c = (
-  lane_begun c.each_event_leads_to_a_state_of_a_run.ensures.begins c.args.settings
-      (status_of c.args.status) c.in-Ok-new.engine c.in-Ok.book.items c.new-4.result.items (g.L.Link.telling
-      c.args.link)
+  lane_begun c.each_event_leads_to_a_state_of_a_run.ensures.begins c.laws_of_late_answers.ensures c.args.settings
+      (status_of c.args.status) c.in-Ok-new.engine c.in-Ok.book.items c.new-4.result.items c.new-4.result.lates
+      (g.L.Link.telling c.args.link)
       (g.L.Link.faults c.args.link) (g.L.Link.quiets c.args.link) c.an_ask_is_an_offer.ensures.begins
       c.entries_go_into_the_book.ensures.begins c.window-window.ensures.range c.args.status.mtu_in_range
       c.args.status.buffers_in_range c.get-first.ensures.range c.requires.greeted c.in-Ok-new.ensures c.in-Ok.ensures
-      c.new-4.ensures.items,
+      c.new-4.ensures.items c.new-4.ensures.lates,
   pays_begun c.laws_of_rounds.ensures c.args.settings (status_of c.args.status) c.in-Ok-new.engine
       (g.L.Link.telling c.args.link) (g.L.Link.held c.args.link) c.window-window.ensures.range
       c.args.status.buffers_in_range

@@ -1,7 +1,7 @@
 use Rattle.std.proofs.Common.{◌≡◌, ◌∙◌, ℕ, List, sym, ap, subst, refl, length, ◌++◌, ◌∷◌, [], Some, None, ◌≤◌}
 use Rattle.std.proofs.Common.{if◌then◌else◌, ◌||◌}
 use Rattle.world_core.specs.Telling.{IfTelling}
-use Rattle.world_model.specs.Hub.{offer}
+use Rattle.world_model.specs.Hub.{Hub, offer}
 use Rattle.lane_record.specs.declared.outcome.Outcome.TheVariants.{LinkLost}
 use Rattle.world_model.specs.Facts.{IsSendable}
 use Rattle.lane_record.specs.declared.item.Item.{Item}
@@ -14,7 +14,7 @@ use Rattle.ipb_base.specs.Numbers.{payload_of}
 use Rattle.hub_lane.proofs.Lanes.{body_sendable, found_fits, lane_asks}
 use Rattle.hub_lane.proofs.Rounds.{pays_asked}
 use Rattle.hub_lane.proofs.Datagrams.{asked_unheard, heard_asked}
-use Rattle.lane_tables.specs.OutcomeTable.{AreAskedIn, IsAsked, asked_body}
+use Rattle.lane_tables.specs.OutcomeTable.{AreAskedIn, IsAsked, TableState, asked_body}
 use Rattle.hub_lane.proofs.AskedBodies.{asked_more, not_asked_yet}
 use Rattle.hub_lane.proofs.lane.Lane.offer_next.Goals as goal
 
@@ -49,10 +49,11 @@ invariant_of-self-2 g c =
     let entry : c.ask.new.self.items ≡ items ++ ask_of client seq l.give_ups ∷ [] = c.ask.ensures
     ∙ (ap (λ (xs : List Item). xs ++ ask_of client c.asked-seq.result l.give_ups ∷ []) c.in_ok-reserve.ensures.items
     ∙ ap (λ (n : ℕ). items ++ ask_of client n l.give_ups ∷ []) number) in (
-      lane_asks c.each_event_leads_to_a_state_of_a_run.ensures.offered c.only_an_offer_makes_more_bodies.ensures.offered
+      lane_asks c.each_event_leads_to_a_state_of_a_run.ensures.offered c.laws_of_late_answers.ensures
+          c.only_an_offer_makes_more_bodies.ensures.offered
           c.an_ask_is_an_offer.ensures.offered c.a_failed_link_loses_what_waits.ensures.later l.settings status l.engine
-          c.offer.new.engine items c.ask.new.self.items l.outcomes.items c.offer.new.self.items l.give_ups l.down
-          l.spent
+          c.offer.new.engine items c.ask.new.self.items l.outcomes.items c.offer.new.self.items
+          l.outcomes.lates c.offer.new.self.lates l.give_ups l.down l.spent
           (g.L.Link.telling l.link) (g.L.Link.faults l.link) (g.L.Link.quiets l.link) client seq c.in_ok-body.body
           (λ kept. c.entries_go_into_the_book.ensures.ask items l.outcomes.items l.engine.window l.give_ups client seq
           kept
@@ -61,7 +62,7 @@ invariant_of-self-2 g c =
           client seq
           kept may) there can c.if-self.false
           hub_is entry
-          c.in_ok-offer.ensures.items c.self.invariant.0,
+          c.in_ok-offer.ensures.items c.in_ok-offer.ensures.lates c.self.invariant.0,
       pays_asked c.laws_of_rounds.ensures l.down l.spent l.mtu l.settings.rounds l.give_ups l.engine c.offer.new.engine
           (length l.outcomes.items) c.in_ok-body.body (g.L.Link.held l.link) (g.L.Link.telling l.link) c.if-self.false
           fits
@@ -105,6 +106,61 @@ returns-clause-round g c =
       told = u;
       held = held l.link;
     }))) c.self.view_is
-    (offered_round l.down l.spent l.settings l.outcomes.items l.engine c.offer.new.engine
+    (offered_round l.down l.spent l.settings l.outcomes.items l.outcomes.lates l.engine c.offer.new.engine
     (record { tag = length l.outcomes.items; body = c.in_ok-body.body }) (held l.link) (telling l.link)
     c.in_ok-offer.ensures.engine c.self.invariant.0.standing)
+
+-- where memory ran out the lane is the same
+pub returns-in_err-reserve-clause-round : goal.returns-in_err-reserve-clause-round
+returns-in_err-reserve-clause-round g c =
+    let l = c.self.inside in
+    same_lane_sends g.L.Link.telling g.L.Link.held c.args.self.now _ (ap (λ (xs : List Item). record {
+      link = l.link;
+      settings = l.settings;
+      status = record { mtu = l.mtu; buffers = l.buffers; next = l.first };
+      hub = l.engine;
+      items = xs;
+      outcomes = l.outcomes.items;
+      lates = l.outcomes.lates;
+      give_ups = l.give_ups;
+      down = l.down;
+      spent = l.spent;
+    }) c.reserve.ensures.items ∙ c.self.view_is)
+
+pub returns-in_err-offer-clause-round : goal.returns-in_err-offer-clause-round
+returns-in_err-offer-clause-round g c =
+    let l = c.self.inside in
+    same_lane_sends g.L.Link.telling g.L.Link.held c.args.self.now _ (ap (λ (xs : List Item). record {
+      link = l.link;
+      settings = l.settings;
+      status = record { mtu = l.mtu; buffers = l.buffers; next = l.first };
+      hub = c.offer.new.engine;
+      items = xs;
+      outcomes = c.offer.new.self.items;
+      lates = c.offer.new.self.lates;
+      give_ups = l.give_ups;
+      down = l.down;
+      spent = l.spent;
+    }) c.in_ok-reserve.ensures.items ∙ (ap (λ (table : TableState). record {
+      link = l.link;
+      settings = l.settings;
+      status = record { mtu = l.mtu; buffers = l.buffers; next = l.first };
+      hub = c.offer.new.engine;
+      items = l.book.items;
+      outcomes = table.items;
+      lates = table.lates;
+      give_ups = l.give_ups;
+      down = l.down;
+      spent = l.spent;
+    }) c.in_err-offer.ensures.unchanged ∙ (ap (λ (hub : Hub). record {
+      link = l.link;
+      settings = l.settings;
+      status = record { mtu = l.mtu; buffers = l.buffers; next = l.first };
+      hub = hub;
+      items = l.book.items;
+      outcomes = l.outcomes.items;
+      lates = l.outcomes.lates;
+      give_ups = l.give_ups;
+      down = l.down;
+      spent = l.spent;
+    }) c.in_err-offer.ensures.same_engine ∙ c.self.view_is)))

@@ -23,9 +23,10 @@ invariant_of-self-2 g c =
     let entry : c.plan.new.self.items ≡ items ++ x ∷ [] = c.in_ok-plan.ensures.entry
     ∙ ap (λ (xs : List Item). xs ++ plan_of c.args.client (planned c.args.client xs) c.args.body ∷ [])
     c.in_ok-reserve.ensures.items in (
-      subst (λ (xs : List Item). IsLane l.settings status l.engine xs l.outcomes.items l.give_ups l.down l.spent
+      subst (λ (xs : List Item). IsLane l.settings status l.engine xs l.outcomes.items l.outcomes.lates l.give_ups
+          l.down l.spent
           (g.L.Link.telling l.link) (g.L.Link.faults l.link) (g.L.Link.quiets l.link)) (sym entry)
-          (lane_entry l.settings status l.engine items l.outcomes.items l.give_ups l.down l.spent
+          (lane_entry l.settings status l.engine items l.outcomes.items l.outcomes.lates l.give_ups l.down l.spent
           (g.L.Link.telling l.link) (g.L.Link.faults l.link) (g.L.Link.quiets l.link) x refl can.fits
           (λ kept. c.entries_go_into_the_book.ensures.plan items l.outcomes.items l.engine.window l.give_ups
           c.args.client

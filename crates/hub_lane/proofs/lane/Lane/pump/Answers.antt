@@ -1,4 +1,5 @@
-use Rattle.std.proofs.Common.{◌∙◌, sym, subst, refl, Bool, true, ◌||◌}
+use Rattle.std.proofs.Common.{◌∙◌, ℕ, List, Option, ap, arith, sym, subst, refl, Bool, true, ◌||◌, inr}
+use Rattle.lane_record.specs.Lates.{late_in}
 use Rattle.std.specs.Prelude.{IfSome}
 use Rattle.world_core.specs.Telling.{IfTelling}
 use Rattle.hub_lane.specs.Calls.{IsSameRecord}
@@ -7,7 +8,7 @@ use Rattle.hub_lane.specs.Lanes.{BoardStatus, LaneState}
 use Rattle.hub_lane.proofs.Carrying.{pumping}
 use Rattle.hub_lane.specs.Rounds.{HasPaid, Pumps, RoundAfter, round_of}
 use Rattle.hub_lane.proofs.Datagrams.{heard_down, heard_still}
-use Rattle.hub_lane.proofs.Pumps.{PumpLaws, pump_down, pump_heard, pump_received, pump_spent}
+use Rattle.hub_lane.proofs.Pumps.{PumpLaws, lost_keeps, pump_down, pump_heard, pump_received, pump_spent}
 use Rattle.hub_lane.proofs.Rounds.{pays_pumped, pays_stopped, still_up}
 use Rattle.hub_lane.proofs.InRounds.{lane_round, same_lane_idle}
 use Rattle.hub_lane.proofs.lane.Lane.pump.Goals as goal
@@ -15,7 +16,11 @@ use Rattle.hub_lane.proofs.lane.Lane.pump.Goals as goal
 pub invariant_of-self : goal.invariant_of-self
 invariant_of-self g c =
     let laws : PumpLaws = record {
-      fates = c.a_send_leaves_the_fates.ensures.fates;
+      fates = record {
+        fates = c.a_send_leaves_the_fates.ensures.fates;
+        lates = c.a_send_leaves_the_fates.ensures.lates;
+      };
+      late = c.laws_of_late_answers.ensures;
       bodies = c.only_an_offer_makes_more_bodies.ensures.sent;
       agrees = c.a_send_settles_nothing.ensures.agrees;
       message_bodies = c.only_an_offer_makes_more_bodies.ensures.message;
@@ -34,21 +39,25 @@ invariant_of-self g c =
     let telling = g.L.Link.telling in
     let faults = g.L.Link.faults in
     let quiets = g.L.Link.quiets in (
-      (pump_received laws l.settings status l.engine l.book.items l.outcomes.items l.give_ups l.down l.spent
+      (pump_received laws l.settings status l.engine l.book.items l.outcomes.items l.outcomes.lates l.give_ups l.down
+          l.spent
           (telling l.link) (faults l.link) (quiets l.link) c.if-self-2.false c.if-self.false c.self.invariant.0
           c.exchange.new.hub c.exchange.new.buffer.items c.in-Ok.pumped c.exchange.new.outcomes.items
-          c.exchange.new.give_ups
+          c.exchange.new.outcomes.lates c.exchange.new.give_ups
           (telling c.exchange.new.link) (faults c.exchange.new.link) (quiets c.exchange.new.link)
           (sym c.waiting.ensures ∙ c.if-not-waiting.false) c.in-Ok.ensures.event c.in-Ok.ensures.hub
-          c.in-Ok.ensures.outcomes
-          c.in-Ok.ensures.give_ups c.in-Ok.ensures.quiets c.in-Ok.ensures.running c.exchange.ensures.board).lane,
+          c.in-Ok.ensures.outcomes c.in-Ok.ensures.lates
+          c.in-Ok.ensures.give_ups c.in-Ok.ensures.quiets c.in-Ok.ensures.running c.in-Ok.ensures.unanswered
+          c.exchange.ensures.board).lane,
       pays_pumped l.down l.spent l.mtu l.settings.rounds l.give_ups c.exchange.new.give_ups l.engine c.exchange.new.hub
           (g.L.Link.held l.link) (g.L.Link.held c.exchange.new.link) (telling l.link) (telling c.exchange.new.link)
           c.if-self-2.false c.if-self.false c.self.invariant.0.knows.rounds (c.in-Ok.ensures.pays l.settings l.mtu
-          (still_up l.down l.spent l.settings l.engine l.outcomes.items (telling l.link) c.if-self-2.false
+          (still_up l.down l.spent l.settings l.engine l.outcomes.items l.outcomes.lates (telling l.link)
+          c.if-self-2.false
           c.if-self.false
           c.self.invariant.0.standing)) c.self.invariant.1,
-      pump_heard laws l.settings status l.engine l.book.items l.outcomes.items l.give_ups l.down l.spent
+      pump_heard laws l.settings status l.engine l.book.items l.outcomes.items l.outcomes.lates l.give_ups l.down
+          l.spent
           (telling l.link) (faults l.link) (quiets l.link) c.if-self-2.false c.if-self.false c.self.invariant.0
           c.exchange.new.buffer.items c.in-Ok.pumped c.exchange.new.outcomes.items (g.L.Link.gots l.link)
           (g.L.Link.gots c.exchange.new.link) c.in-Ok.ensures.event c.in-Ok.ensures.outcomes c.in-Ok.ensures.gots
@@ -59,7 +68,11 @@ invariant_of-self g c =
 pub invariant_of-self-in-Err-Failed : goal.invariant_of-self-in-Err-Failed
 invariant_of-self-in-Err-Failed g c =
     let laws : PumpLaws = record {
-      fates = c.a_send_leaves_the_fates.ensures.fates;
+      fates = record {
+        fates = c.a_send_leaves_the_fates.ensures.fates;
+        lates = c.a_send_leaves_the_fates.ensures.lates;
+      };
+      late = c.laws_of_late_answers.ensures;
       bodies = c.only_an_offer_makes_more_bodies.ensures.sent;
       agrees = c.a_send_settles_nothing.ensures.agrees;
       message_bodies = c.only_an_offer_makes_more_bodies.ensures.message;
@@ -78,14 +91,16 @@ invariant_of-self-in-Err-Failed g c =
     let telling = g.L.Link.telling in
     let faults = g.L.Link.faults in
     let quiets = g.L.Link.quiets in (
-      pump_down laws l.settings status l.engine l.book.items l.outcomes.items l.give_ups l.down l.spent
+      pump_down laws l.settings status l.engine l.book.items l.outcomes.items l.outcomes.lates l.give_ups l.down l.spent
           (telling l.link) (faults l.link) (quiets l.link) c.if-self-2.false c.if-self.false c.self.invariant.0
-          c.exchange.new.hub c.exchange.new.outcomes.items c.lose_all.new.outcomes.items c.exchange.new.give_ups
-          c.sent.result
+          c.exchange.new.hub c.exchange.new.outcomes.items c.lose_all.new.outcomes.items c.lose_all.new.outcomes.lates
+          c.exchange.new.give_ups c.sent.result
           (telling c.exchange.new.link) (faults c.exchange.new.link) (quiets c.exchange.new.link)
-          c.in-Err-Failed.ensures.sent c.in-Err-Failed.ensures.stopped (c.exchange.ensures.failed (cc))
+          c.in-Err-Failed.ensures.sent c.in-Err-Failed.ensures.stopped (c.exchange.ensures.failed_unanswered (cc))
+          (c.exchange.ensures.failed (cc))
           (c.exchange.ensures.failed_quiets (cc))
-          c.in-Err-Failed.ensures.same_give_ups c.in-Err-Failed.ensures.same_outcomes c.sent.ensures
+          c.in-Err-Failed.ensures.same_give_ups c.in-Err-Failed.ensures.same_outcomes
+          (c.lose_all.ensures.lates ∙ c.in-Err-Failed.ensures.same_lates) c.sent.ensures
           c.lose_all.ensures.outcomes
           c.exchange.ensures.board,
       pays_stopped c.laws_of_rounds.ensures (l.down || l.spent) l.mtu l.settings.rounds l.give_ups
@@ -103,7 +118,11 @@ invariant_of-self-in-Err-Failed g c =
 pub invariant_of-self-in-Err-NoMemory : goal.invariant_of-self-in-Err-NoMemory
 invariant_of-self-in-Err-NoMemory g c =
     let laws : PumpLaws = record {
-      fates = c.a_send_leaves_the_fates.ensures.fates;
+      fates = record {
+        fates = c.a_send_leaves_the_fates.ensures.fates;
+        lates = c.a_send_leaves_the_fates.ensures.lates;
+      };
+      late = c.laws_of_late_answers.ensures;
       bodies = c.only_an_offer_makes_more_bodies.ensures.sent;
       agrees = c.a_send_settles_nothing.ensures.agrees;
       message_bodies = c.only_an_offer_makes_more_bodies.ensures.message;
@@ -122,12 +141,15 @@ invariant_of-self-in-Err-NoMemory g c =
     let telling = g.L.Link.telling in
     let faults = g.L.Link.faults in
     let quiets = g.L.Link.quiets in (
-      pump_spent laws l.settings status l.engine l.book.items l.outcomes.items l.give_ups l.down l.spent
+      pump_spent laws l.settings status l.engine l.book.items l.outcomes.items l.outcomes.lates l.give_ups l.down
+          l.spent
           (telling l.link) (faults l.link) (quiets l.link) c.if-self-2.false c.if-self.false c.self.invariant.0
-          c.exchange.new.hub c.exchange.new.outcomes.items c.exchange.new.give_ups
+          c.exchange.new.hub c.exchange.new.outcomes.items c.exchange.new.outcomes.lates c.exchange.new.give_ups
           (telling c.exchange.new.link) (faults c.exchange.new.link) (quiets c.exchange.new.link)
-          c.in-Err-NoMemory.ensures.sent c.in-Err-NoMemory.ensures.stopped c.exchange.ensures.quiets_rise
-          c.in-Err-NoMemory.ensures.same_give_ups c.in-Err-NoMemory.ensures.same_outcomes c.exchange.ensures.board,
+          c.in-Err-NoMemory.ensures.sent c.in-Err-NoMemory.ensures.stopped
+          (inr (sym c.waiting.ensures ∙ c.if-not-waiting.false)) c.exchange.ensures.quiets_rise
+          c.in-Err-NoMemory.ensures.same_give_ups c.in-Err-NoMemory.ensures.same_outcomes
+          c.in-Err-NoMemory.ensures.same_lates c.exchange.ensures.board,
       subst (λ (b : Bool). IfSome (telling c.exchange.new.link) (HasPaid (b || true) l.mtu l.settings.rounds
           c.exchange.new.give_ups c.exchange.new.hub (g.L.Link.held c.exchange.new.link))) (sym c.if-self-2.false)
           (pays_stopped c.laws_of_rounds.ensures (l.down || l.spent) l.mtu l.settings.rounds l.give_ups
@@ -144,7 +166,11 @@ invariant_of-self-in-Err-NoMemory g c =
 pub returns-in-Ok-clause-same : goal.returns-in-Ok-clause-same
 returns-in-Ok-clause-same g c =
     let laws : PumpLaws = record {
-      fates = c.a_send_leaves_the_fates.ensures.fates;
+      fates = record {
+        fates = c.a_send_leaves_the_fates.ensures.fates;
+        lates = c.a_send_leaves_the_fates.ensures.lates;
+      };
+      late = c.laws_of_late_answers.ensures;
       bodies = c.only_an_offer_makes_more_bodies.ensures.sent;
       agrees = c.a_send_settles_nothing.ensures.agrees;
       message_bodies = c.only_an_offer_makes_more_bodies.ensures.message;
@@ -163,13 +189,15 @@ returns-in-Ok-clause-same g c =
     let telling = g.L.Link.telling in
     let faults = g.L.Link.faults in
     let quiets = g.L.Link.quiets in
-    let done = pump_received laws l.settings status l.engine l.book.items l.outcomes.items l.give_ups l.down l.spent
+    let done = pump_received laws l.settings status l.engine l.book.items l.outcomes.items l.outcomes.lates l.give_ups
+    l.down l.spent
     (telling l.link) (faults l.link) (quiets l.link) c.if-self-2.false c.if-self.false c.self.invariant.0
-    c.exchange.new.hub c.exchange.new.buffer.items c.in-Ok.pumped c.exchange.new.outcomes.items c.exchange.new.give_ups
+    c.exchange.new.hub c.exchange.new.buffer.items c.in-Ok.pumped c.exchange.new.outcomes.items
+    c.exchange.new.outcomes.lates c.exchange.new.give_ups
     (telling c.exchange.new.link) (faults c.exchange.new.link) (quiets c.exchange.new.link)
     (sym c.waiting.ensures ∙ c.if-not-waiting.false) c.in-Ok.ensures.event c.in-Ok.ensures.hub c.in-Ok.ensures.outcomes
-    c.in-Ok.ensures.give_ups c.in-Ok.ensures.quiets c.in-Ok.ensures.running
-    c.exchange.ensures.board in
+    c.in-Ok.ensures.lates c.in-Ok.ensures.give_ups c.in-Ok.ensures.quiets c.in-Ok.ensures.running
+    c.in-Ok.ensures.unanswered c.exchange.ensures.board in
     subst (λ (v : LaneState _). IsSameRecord v (record {
       link = c.exchange.new.link;
       settings = l.settings;
@@ -177,11 +205,19 @@ returns-in-Ok-clause-same g c =
       hub = c.exchange.new.hub;
       items = l.book.items;
       outcomes = c.exchange.new.outcomes.items;
+      lates = c.exchange.new.outcomes.lates;
       give_ups = c.exchange.new.give_ups;
       down = l.down;
       spent = l.spent;
     })) c.self.view_is
-    (record { settings = refl; status = refl; items = refl; outcomes = done.keeps; give_ups = done.more })
+    (record {
+      settings = refl;
+      status = refl;
+      items = refl;
+      outcomes = done.keeps;
+      lates = done.keeps_lates;
+      give_ups = done.more;
+    })
 
 pub returns-in-Ok-clause-link : goal.returns-in-Ok-clause-link
 returns-in-Ok-clause-link g c =
@@ -204,10 +240,38 @@ returns-in-Ok-clause-round g c =
       told = u;
       held = held c.exchange.new.link;
     }))) c.self.view_is
-    (lane_round (Pumps c.in-Ok.pumped) l.down l.spent l.settings l.outcomes.items l.mtu l.give_ups l.engine
+    (lane_round (Pumps c.in-Ok.pumped) l.down l.spent l.settings l.outcomes.items l.outcomes.lates l.mtu l.give_ups
+    l.engine
     c.exchange.new.hub (held l.link) (held c.exchange.new.link) (telling l.link) (telling c.exchange.new.link)
     c.if-self-2.false c.if-self.false c.in-Ok.ensures.round c.self.invariant.0.standing c.self.invariant.1)
 
 pub returns-then-not-waiting-clause-round : goal.returns-then-not-waiting-clause-round
 returns-then-not-waiting-clause-round g c =
     same_lane_idle g.L.Link.telling g.L.Link.held c.args.self.now c.args.self.now refl
+
+pub returns-in-Err-Failed-clause-same : goal.returns-in-Err-Failed-clause-same
+returns-in-Err-Failed-clause-same g c =
+    let l = c.self.inside in
+    let same_give_ups = c.in-Err-Failed.ensures.same_give_ups in
+    subst (λ (v : LaneState _). IsSameRecord v (record {
+      link = c.exchange.new.link;
+      settings = l.settings;
+      status = record { mtu = l.mtu; buffers = l.buffers; next = l.first };
+      hub = c.exchange.new.hub;
+      items = l.book.items;
+      outcomes = c.lose_all.new.outcomes.items;
+      lates = c.lose_all.new.outcomes.lates;
+      give_ups = c.exchange.new.give_ups;
+      down = true;
+      spent = l.spent;
+    })) c.self.view_is (record {
+      settings = refl;
+      status = refl;
+      items = refl;
+      outcomes = lost_keeps c.a_failed_link_loses_what_waits.ensures.keeps c.sent.result l.outcomes.items
+          c.exchange.new.outcomes.items c.lose_all.new.outcomes.items c.in-Err-Failed.ensures.same_outcomes
+          c.lose_all.ensures.outcomes;
+      lates = λ place words there. ap (λ (ls : List (Option (List ℕ))). late_in ls place)
+          (c.lose_all.ensures.lates ∙ c.in-Err-Failed.ensures.same_lates) ∙ there;
+      give_ups = omega (arith, same_give_ups);
+    })

@@ -1,10 +1,12 @@
-use Rattle.std.proofs.Common.{◌∙◌, ap, arith, refl, sym, subst, Bool, true, ◌||◌}
+use Rattle.std.proofs.Common.{◌∙◌, ℕ, List, Option, ap, arith, refl, sym, subst, Bool, true, ◌||◌, inl}
+use Rattle.lane_record.specs.Lates.{late_in}
 use Rattle.std.specs.Prelude.{IfSome}
+use Rattle.hub_lane.specs.Calls.{IsSameRecord}
 use Rattle.hub_lane.specs.Lanes.{BoardStatus, LaneState}
 use Rattle.world_core.specs.Telling.{IfTelling}
 use Rattle.hub_lane.specs.Rounds.{HasPaid, RoundAfter, Sends, round_of}
 use Rattle.hub_lane.proofs.Datagrams.{heard_down, heard_still}
-use Rattle.hub_lane.proofs.Pumps.{PumpLaws, pump_down, pump_sent, pump_spent}
+use Rattle.hub_lane.proofs.Pumps.{PumpLaws, lost_keeps, pump_down, pump_sent, pump_spent}
 use Rattle.hub_lane.proofs.Rounds.{pays_pumped, pays_stopped, still_up}
 use Rattle.hub_lane.proofs.InRounds.{lane_round}
 use Rattle.hub_lane.proofs.lane.Lane.send_wanted.Goals as goal
@@ -12,7 +14,11 @@ use Rattle.hub_lane.proofs.lane.Lane.send_wanted.Goals as goal
 pub invariant_of-self : goal.invariant_of-self
 invariant_of-self g c =
     let laws : PumpLaws = record {
-      fates = c.a_send_leaves_the_fates.ensures.fates;
+      fates = record {
+        fates = c.a_send_leaves_the_fates.ensures.fates;
+        lates = c.a_send_leaves_the_fates.ensures.lates;
+      };
+      late = c.laws_of_late_answers.ensures;
       bodies = c.only_an_offer_makes_more_bodies.ensures.sent;
       agrees = c.a_send_settles_nothing.ensures.agrees;
       message_bodies = c.only_an_offer_makes_more_bodies.ensures.message;
@@ -33,15 +39,16 @@ invariant_of-self g c =
     let quiets = g.L.Link.quiets in
     let sent = c.send_all.ensures in
     let up = c.if-self.false in (
-      pump_sent laws l.settings status l.engine l.book.items l.outcomes.items l.give_ups l.down l.spent
+      pump_sent laws l.settings status l.engine l.book.items l.outcomes.items l.outcomes.lates l.give_ups l.down l.spent
           (telling l.link) (faults l.link) (quiets l.link) c.if-self-2.false up c.self.invariant.0
           c.send_all.new.hub (telling c.send_all.new.link) (faults c.send_all.new.link) (quiets c.send_all.new.link)
-          sent.some c.in-Ok.ensures.running sent.quiets sent.board,
+          sent.some c.in-Ok.ensures.running sent.unanswered sent.quiets sent.board,
       pays_pumped l.down l.spent l.mtu l.settings.rounds l.give_ups l.give_ups l.engine c.send_all.new.hub
           (g.L.Link.held l.link) (g.L.Link.held c.send_all.new.link) (telling l.link) (telling c.send_all.new.link)
           c.if-self-2.false up c.self.invariant.0.knows.rounds
-          (c.in-Ok.ensures.pays l.settings l.outcomes.items l.mtu l.engine.rounds l.give_ups
-          (still_up l.down l.spent l.settings l.engine l.outcomes.items (telling l.link) c.if-self-2.false
+          (c.in-Ok.ensures.pays l.settings l.outcomes.items l.outcomes.lates l.mtu l.engine.rounds l.give_ups
+          (still_up l.down l.spent l.settings l.engine l.outcomes.items l.outcomes.lates (telling l.link)
+          c.if-self-2.false
           up c.self.invariant.0.standing)) c.self.invariant.1,
       heard_still l.outcomes.items l.outcomes.items (g.L.Link.gots l.link) (g.L.Link.gots c.send_all.new.link)
           (let same = sent.gots in omega (arith, same)) refl c.self.invariant.2,
@@ -51,7 +58,11 @@ invariant_of-self g c =
 pub invariant_of-self-in-Err-Failed : goal.invariant_of-self-in-Err-Failed
 invariant_of-self-in-Err-Failed g c =
     let laws : PumpLaws = record {
-      fates = c.a_send_leaves_the_fates.ensures.fates;
+      fates = record {
+        fates = c.a_send_leaves_the_fates.ensures.fates;
+        lates = c.a_send_leaves_the_fates.ensures.lates;
+      };
+      late = c.laws_of_late_answers.ensures;
       bodies = c.only_an_offer_makes_more_bodies.ensures.sent;
       agrees = c.a_send_settles_nothing.ensures.agrees;
       message_bodies = c.only_an_offer_makes_more_bodies.ensures.message;
@@ -72,12 +83,13 @@ invariant_of-self-in-Err-Failed g c =
     let quiets = g.L.Link.quiets in
     let sent = c.send_all.ensures in
     let up = c.if-self.false in (
-      pump_down laws l.settings status l.engine l.book.items l.outcomes.items l.give_ups l.down l.spent
+      pump_down laws l.settings status l.engine l.book.items l.outcomes.items l.outcomes.lates l.give_ups l.down l.spent
           (telling l.link) (faults l.link) (quiets l.link) c.if-self-2.false up c.self.invariant.0
-          c.send_all.new.hub l.outcomes.items c.lose_all.new.outcomes.items l.give_ups c.sent.result
+          c.send_all.new.hub l.outcomes.items c.lose_all.new.outcomes.items c.lose_all.new.outcomes.lates l.give_ups
+          c.sent.result
           (telling c.send_all.new.link) (faults c.send_all.new.link) (quiets c.send_all.new.link)
-          sent.some c.in-Err-Failed.ensures.stopped (sent.failed (cc)) sent.quiets refl refl c.sent.ensures
-          c.lose_all.ensures.outcomes sent.board,
+          sent.some c.in-Err-Failed.ensures.stopped sent.unanswered (sent.failed (cc)) sent.quiets refl refl
+          c.lose_all.ensures.lates c.sent.ensures c.lose_all.ensures.outcomes sent.board,
       pays_stopped c.laws_of_rounds.ensures (l.down || l.spent) l.mtu l.settings.rounds l.give_ups l.give_ups
           l.engine c.send_all.new.hub (g.L.Link.held l.link) (g.L.Link.held c.send_all.new.link) (telling l.link)
           (telling c.send_all.new.link) sent.board refl sent.held c.self.invariant.1,
@@ -90,7 +102,11 @@ invariant_of-self-in-Err-Failed g c =
 pub invariant_of-self-in-Err-NoMemory : goal.invariant_of-self-in-Err-NoMemory
 invariant_of-self-in-Err-NoMemory g c =
     let laws : PumpLaws = record {
-      fates = c.a_send_leaves_the_fates.ensures.fates;
+      fates = record {
+        fates = c.a_send_leaves_the_fates.ensures.fates;
+        lates = c.a_send_leaves_the_fates.ensures.lates;
+      };
+      late = c.laws_of_late_answers.ensures;
       bodies = c.only_an_offer_makes_more_bodies.ensures.sent;
       agrees = c.a_send_settles_nothing.ensures.agrees;
       message_bodies = c.only_an_offer_makes_more_bodies.ensures.message;
@@ -111,12 +127,13 @@ invariant_of-self-in-Err-NoMemory g c =
     let quiets = g.L.Link.quiets in
     let sent = c.send_all.ensures in
     let up = c.if-self.false in (
-      pump_spent laws l.settings status l.engine l.book.items l.outcomes.items l.give_ups l.down l.spent
+      pump_spent laws l.settings status l.engine l.book.items l.outcomes.items l.outcomes.lates l.give_ups l.down
+          l.spent
           (telling l.link) (faults l.link) (quiets l.link) c.if-self-2.false up c.self.invariant.0
-          c.send_all.new.hub l.outcomes.items l.give_ups
+          c.send_all.new.hub l.outcomes.items l.outcomes.lates l.give_ups
           (telling c.send_all.new.link) (faults c.send_all.new.link) (quiets c.send_all.new.link)
-          sent.some c.in-Err-NoMemory.ensures.stopped (let same = sent.quiets in omega (arith, same)) refl refl
-          sent.board,
+          sent.some c.in-Err-NoMemory.ensures.stopped (inl sent.unanswered)
+          (let same = sent.quiets in omega (arith, same)) refl refl refl sent.board,
       subst (λ (b : Bool). IfSome (telling c.send_all.new.link) (HasPaid (b || true) l.mtu l.settings.rounds
           l.give_ups c.send_all.new.hub (g.L.Link.held c.send_all.new.link))) (sym c.if-self-2.false)
           (pays_stopped c.laws_of_rounds.ensures (l.down || l.spent) l.mtu l.settings.rounds l.give_ups l.give_ups
@@ -139,6 +156,32 @@ returns-in-Ok-clause-round g c =
       told = u;
       held = held c.send_all.new.link;
     }))) c.self.view_is
-    (lane_round Sends l.down l.spent l.settings l.outcomes.items l.mtu l.give_ups l.engine c.send_all.new.hub
+    (lane_round Sends l.down l.spent l.settings l.outcomes.items l.outcomes.lates l.mtu l.give_ups l.engine
+    c.send_all.new.hub
     (held l.link) (held c.send_all.new.link) (telling l.link) (telling c.send_all.new.link) c.if-self-2.false
     c.if-self.false c.in-Ok.ensures.round c.self.invariant.0.standing c.self.invariant.1)
+
+pub returns-in-Err-Failed-clause-same : goal.returns-in-Err-Failed-clause-same
+returns-in-Err-Failed-clause-same g c =
+    let l = c.self.inside in
+    subst (λ (v : LaneState _). IsSameRecord v (record {
+      link = c.send_all.new.link;
+      settings = l.settings;
+      status = record { mtu = l.mtu; buffers = l.buffers; next = l.first };
+      hub = c.send_all.new.hub;
+      items = l.book.items;
+      outcomes = c.lose_all.new.outcomes.items;
+      lates = c.lose_all.new.outcomes.lates;
+      give_ups = l.give_ups;
+      down = true;
+      spent = l.spent;
+    })) c.self.view_is (record {
+      settings = refl;
+      status = refl;
+      items = refl;
+      outcomes = lost_keeps c.a_failed_link_loses_what_waits.ensures.keeps c.sent.result l.outcomes.items
+          l.outcomes.items c.lose_all.new.outcomes.items refl c.lose_all.ensures.outcomes;
+      lates = λ place words there. ap (λ (ls : List (Option (List ℕ))). late_in ls place) c.lose_all.ensures.lates
+          ∙ there;
+      give_ups = omega arith;
+    })

@@ -75,9 +75,10 @@ invariant_of-self-2 g c =
     (c.in-Some.is ∙ ap (λ (o : Outcome). Some o) (sym c.in_ok-kept.ensures)) in
     let entry : c.take.new.self.items ≡ items ++ x ∷ [] =
     c.take.ensures ∙ ap (λ (xs : List Item). xs ++ x ∷ []) c.in_ok-reserve.ensures.items in (
-      subst (λ (xs : List Item). IsLane l.settings status l.engine xs outcomes l.give_ups l.down l.spent
+      subst (λ (xs : List Item). IsLane l.settings status l.engine xs outcomes l.outcomes.lates l.give_ups l.down
+          l.spent
           (g.L.Link.telling l.link) (g.L.Link.faults l.link) (g.L.Link.quiets l.link)) (sym entry)
-          (lane_entry l.settings status l.engine items outcomes l.give_ups l.down l.spent
+          (lane_entry l.settings status l.engine items outcomes l.outcomes.lates l.give_ups l.down l.spent
           (g.L.Link.telling l.link) (g.L.Link.faults l.link) (g.L.Link.quiets l.link) x refl tt
           (λ kept. c.entries_go_into_the_book.ensures.took items outcomes l.engine.window l.give_ups c.args.client
           c.args.seq
@@ -122,6 +123,7 @@ returns-clause-taken g c =
       hub = l.engine;
       items = c.take.new.self.items;
       outcomes = outcomes;
+      lates = l.outcomes.lates;
       give_ups = l.give_ups;
       down = l.down;
       spent = l.spent;
@@ -137,6 +139,7 @@ returns-clause-taken g c =
         hub = l.engine;
         items = xs;
         outcomes = outcomes;
+        lates = l.outcomes.lates;
         give_ups = l.give_ups;
         down = l.down;
         spent = l.spent;

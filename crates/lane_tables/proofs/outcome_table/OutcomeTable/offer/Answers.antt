@@ -1,4 +1,4 @@
-use Rattle.std.proofs.Common.{◌∙◌, List, [], ◌∷◌, ◌++◌, Option, sym, ap, subst}
+use Rattle.std.proofs.Common.{◌∙◌, List, [], ◌∷◌, ◌++◌, Option, refl, sym, ap, subst}
 use Rattle.lane_record.specs.declared.outcome.Outcome.{Outcome}
 use Rattle.lane_tables.specs.declared.outcome_table.Spot.{Spot}
 use Rattle.lane_tables.specs.OutcomeTable.{AreSpots, IsAsked, TableState, asked_body, bodies_of, items_of}
@@ -15,8 +15,8 @@ pub returns-in_err-spot-clause-unchanged : goal.returns-in_err-spot-clause-uncha
 returns-in_err-spot-clause-unchanged c =
     let t = c.self.inside in
     on_err_holds c.from_residual.result
-    (view_extended t.rows.items c.make_spot.new.rows.items t.spots.items c.self.invariant c.make_spot.ensures.extended
-    ∙ c.self.view_is)
+    (view_extended t.rows.items c.make_spot.new.rows.items t.spots.items t.lates.items c.self.invariant
+    c.make_spot.ensures.extended ∙ c.self.view_is)
 
 pub invariant_of-self-in_err-reserve : goal.invariant_of-self-in_err-reserve
 invariant_of-self-in_err-reserve c =
@@ -28,8 +28,22 @@ pub returns-in_err-reserve-clause-unchanged : goal.returns-in_err-reserve-clause
 returns-in_err-reserve-clause-unchanged c =
     let t = c.self.inside in
     on_err_holds c.from_residual-in_err-reserve.result
-    (view_reserved t.rows.items c.make_spot.new.rows.items t.spots.items c.reserve.new.self.items
-    c.reserve.ensures.items c.self.invariant c.make_spot.ensures.extended ∙ c.self.view_is)
+    (view_reserved t.rows.items c.make_spot.new.rows.items t.spots.items c.reserve.new.self.items t.lates.items
+    t.lates.items c.reserve.ensures.items refl c.self.invariant c.make_spot.ensures.extended ∙ c.self.view_is)
+
+pub invariant_of-self-in_err-reserve-2 : goal.invariant_of-self-in_err-reserve-2
+invariant_of-self-in_err-reserve-2 c =
+    let t = c.self.inside in
+    spots_reserved t.rows.items c.make_spot.new.rows.items t.spots.items c.reserve.new.self.items
+    c.reserve.ensures.items c.self.invariant c.make_spot.ensures.extended
+
+pub returns-in_err-reserve-2-clause-unchanged : goal.returns-in_err-reserve-2-clause-unchanged
+returns-in_err-reserve-2-clause-unchanged c =
+    let t = c.self.inside in
+    on_err_holds c.from_residual-in_err-reserve-2.result
+    (view_reserved t.rows.items c.make_spot.new.rows.items t.spots.items c.reserve.new.self.items t.lates.items
+    c.reserve-2.new.self.items c.reserve.ensures.items c.reserve-2.ensures.items c.self.invariant
+    c.make_spot.ensures.extended ∙ c.self.view_is)
 
 pub invariant_of-self-in_err-outcome : goal.invariant_of-self-in_err-outcome
 invariant_of-self-in_err-outcome c =
@@ -41,8 +55,9 @@ pub returns-in_err-outcome-clause-unchanged : goal.returns-in_err-outcome-clause
 returns-in_err-outcome-clause-unchanged c =
     let t = c.self.inside in
     on_err_holds c.from_residual-in_err-outcome.result
-    (view_reserved t.rows.items c.make_spot.new.rows.items t.spots.items c.reserve.new.self.items
-    c.reserve.ensures.items c.self.invariant c.make_spot.ensures.extended ∙ c.self.view_is)
+    (view_reserved t.rows.items c.make_spot.new.rows.items t.spots.items c.reserve.new.self.items t.lates.items
+    c.reserve-2.new.self.items c.reserve.ensures.items c.reserve-2.ensures.items c.self.invariant
+    c.make_spot.ensures.extended ∙ c.self.view_is)
 
 pub invariant_of-self-2 : goal.invariant_of-self-2
 invariant_of-self-2 c =

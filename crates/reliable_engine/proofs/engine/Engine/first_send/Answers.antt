@@ -23,7 +23,8 @@ invariant_of-self c =
     let is = c.self.invariant in
     let low = low_of i c.args.self.now c.self.view_is is in
     rw c.open.ensures
-    (keeps_push i.first i.window i.sent (length i.bodies.items) i.open_places i.fates.len i.fates.cap is
+    (keeps_push i.first i.window i.sent (length i.bodies.items) i.open_places i.fates.len i.fates.cap
+    i.lates.len i.lates.cap is
     (omega (arith, c.len.ensures, is.within, c.if-self-len.false))
     (omega (arith, c.if-place-self.false, c.low.ensures.low, low)))
 

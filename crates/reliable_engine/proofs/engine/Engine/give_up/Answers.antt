@@ -22,6 +22,7 @@ invariant_of-self c =
     length-drop i.sent c.deref-2.result.now
     ∙ ap (λ (xs : List Offered). length xs - i.sent) c.deref-2.ensures.value in
     rw c.abandon_all.ensures
-    (keeps_abandoned i.first i.window i.sent (length i.bodies.items) i.open_places i.fates.len i.fates.cap _ _ _ is
+    (keeps_abandoned i.first i.window i.sent (length i.bodies.items) i.open_places i.fates.len i.fates.cap
+    i.lates.len i.lates.cap _ _ _ is
     cut (omega (arith, c.put_unsent.ensures.len, c.put_time_outs.ensures.len))
     (omega (arith, c.put_unsent.ensures.capacity, c.put_time_outs.ensures.capacity)))

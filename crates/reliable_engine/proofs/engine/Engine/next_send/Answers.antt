@@ -16,6 +16,7 @@ invariant_of-self-in-Some c =
     let i = c.self.inside in
     rw c.take_wanted.ensures.after
     (keeps_wanted i.first i.window i.sent (length i.bodies.items) i.open_places i.fates.len i.fates.cap
+    i.lates.len i.lates.cap
     c.self.invariant)
 
 pub returns-in-Some-clause-open_place : goal.returns-in-Some-clause-open_place

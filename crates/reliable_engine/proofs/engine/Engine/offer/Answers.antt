@@ -15,5 +15,8 @@ invariant_of-self-2 c =
     let queue : c.len.result - i.sent ≡ length all - i.sent = omega (arith, c.len.ensures) in
     let room : i.fates.len + (i.window + (length all - i.sent) + 1) ≤ c.reserve.new.self.cap =
     omega (arith, c.in-Ok.ensures.ok, c.reserve.ensures.len) in
-    rw c.reserve.ensures.len
-    (keeps_offer i.first i.window i.sent (length all) i.open_places i.fates.len i.fates.cap _ _ is more few room)
+    let late : i.lates.len + (i.window + (length all - i.sent) + 1) ≤ c.reserve-2.new.self.cap =
+    omega (arith, c.in-Ok-reserve.ensures.ok, c.reserve-2.ensures.len) in
+    rw (c.reserve.ensures.len, c.reserve-2.ensures.len)
+    (keeps_offer i.first i.window i.sent (length all) i.open_places i.fates.len i.fates.cap
+    i.lates.len i.lates.cap _ _ _ is more few room late)

@@ -12,6 +12,7 @@ invariant_of-self c =
     let told = c.in-Some.told in
     rw c.recover_all.ensures
     (keeps_same i.first i.window i.sent (length i.bodies.items) os (map (recover told) os) i.fates.len i.fates.cap
+    i.lates.len i.lates.cap
     c.self.invariant (places_map (recover told) os (recover_place told))
     (waits_map (recover told) os (recover_place told) (recover_waits told)))
 

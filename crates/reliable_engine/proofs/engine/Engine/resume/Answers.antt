@@ -10,4 +10,5 @@ invariant_of-self c =
     let os = i.open_places in
     rw c.want_all.ensures
     (keeps_same i.first i.window i.sent (length i.bodies.items) os (map want_control os) i.fates.len i.fates.cap
+    i.lates.len i.lates.cap
     c.self.invariant (places_map want_control os (λ _. refl)) (waits_map want_control os (λ _. refl) (λ _. refl)))

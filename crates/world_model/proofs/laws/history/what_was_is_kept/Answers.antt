@@ -12,3 +12,6 @@ returns-clause-air c = λ moves old new is. (run_was is.at moves old new is.ran)
 
 pub returns-clause-fates : goal.returns-clause-fates
 returns-clause-fates c = λ moves old new is. (run_was is.at moves old new is.ran).fates
+
+pub returns-clause-lates : goal.returns-clause-lates
+returns-clause-lates c = λ moves old new is. (run_was is.at moves old new is.ran).lates

@@ -1,4 +1,5 @@
 use Rattle.world_model.proofs.Links.{offer_joined, send_joined, heard_in_one, handed_joined, quiet_joined, fate_joined}
+use Rattle.world_model.proofs.Links.{late_joined}
 use Rattle.world_model.proofs.laws.links.each_event_keeps_them_joined.Goals as goal
 
 pub returns-clause-offered : goal.returns-clause-offered
@@ -18,3 +19,6 @@ returns-clause-quiet c = quiet_joined c.laws_below.ensures
 
 pub returns-clause-handed_out : goal.returns-clause-handed_out
 returns-clause-handed_out c = fate_joined c.laws_below.ensures
+
+pub returns-clause-late : goal.returns-clause-late
+returns-clause-late c = late_joined c.laws_below.ensures
